@@ -1,0 +1,5 @@
+pub mod Header
+pub mod Matching
+pub mod Setups
+pub mod Sizes
+pub mod Valid

@@ -1,0 +1,116 @@
+//! The one list of plain data, which contracts see as a list.
+ghost use Rattle.std.specs.Prelude.{◌≡◌, ◌++◌, [], ◌∷◌, length, IfOk, OnOk, OnErr, if◌then◌else◌, is_ok, ◌==◌};
+
+use crate::message::Command;
+use crate::setup::{Link, Rule};
+use std::alloc::{AllocError, AllocFailed, Global};
+use std::marker::Model;
+
+/// A list of values, in order. It keeps its allocator.
+#[derive(Clone, Drop)]
+pub struct Items<T> {
+    items: Vec<T>,
+}
+
+/// A list of bytes.
+pub type Octets = Items<u8>;
+
+/// Output ports, in the order in which they are done.
+pub type Actions = Items<u32>;
+
+/// What an application asks of switches, in order.
+pub type Commands = Items<Command>;
+
+/// How many ports each switch has, by its number.
+pub type PortCounts = Items<u32>;
+
+/// The wires between ports of switches.
+pub type Links = Items<Link>;
+
+/// What the firewall denies, in order.
+pub type Rules = Items<Rule>;
+
+impl<T> Model for Items<T> {
+    ghost use Rattle.std.specs.Prelude.{List};
+
+    ghost Value = { List T };
+
+    ghost view = { λ a. a.items.items };
+}
+
+impl<T> Items<T> {
+    /// The empty list, which takes no memory.
+    pub fn new(alloc: Global) -> Items<T>
+        ensures { result ≡ [] }
+    {
+        Items {
+            items: Vec::new(alloc),
+        }
+    }
+
+    /// The values of a vector, which takes no memory.
+    pub fn from_vec(items: Vec<T>) -> Items<T>
+        ensures { result ≡ items.items }
+    {
+        Items { items }
+    }
+
+    /// Gives the vector back, which takes no memory.
+    pub fn into_vec(self) -> Vec<T>
+        ensures { result.items ≡ self }
+    {
+        self.items
+    }
+
+    /// Appends a value. An `Err` changes nothing and gives the value back.
+    pub fn push(&mut self, value: T) -> Result<(), AllocFailed<T>>
+        ensures { self.new ≡ (if is_ok result then self.old ++ value ∷ [] else self.old) }
+    {
+        self.items.push(value)
+    }
+
+    /// The values, in order.
+    pub fn as_slice(&self) -> &[T]
+        ensures { result.now ≡ self.now }
+    {
+        self.items.as_slice()
+    }
+
+    pub fn len(&self) -> usize
+        ensures { result ≡ length self.now }
+    {
+        self.items.len()
+    }
+
+    pub fn is_empty(&self) -> bool
+        ensures { result ≡ (length self.now == 0) }
+    {
+        self.items.is_empty()
+    }
+}
+
+impl Items<u8> {
+    /// The same bytes.
+    pub fn from_slice(alloc: Global, bytes: &[u8]) -> Result<Octets, AllocError>
+        ensures { IfOk result (λ octets. octets ≡ bytes.now) }
+    {
+        let items = Vec::from_slice(alloc, bytes)?;
+        Ok(Items { items })
+    }
+
+    /// Appends bytes. An `Err` changes nothing.
+    pub fn append(&mut self, bytes: &[u8]) -> Result<(), AllocError>
+        ensures ok { OnOk result (self.new ≡ self.old ++ bytes.now) }
+        ensures err { OnErr result (self.new ≡ self.old) }
+    {
+        self.items.extend_from_slice(bytes)
+    }
+
+    /// An equal list.
+    pub fn copy(&self) -> Result<Octets, AllocError>
+        ensures { IfOk result (λ octets. octets ≡ self.now) }
+    {
+        let items = self.items.clone()?;
+        Ok(Items { items })
+    }
+}

@@ -1,0 +1,5 @@
+pub mod Lists
+pub mod Pools
+pub mod Fitting
+pub mod Kept
+pub mod Turning

@@ -1,0 +1,10 @@
+pub mod Actors
+pub mod Causes
+pub mod Limits
+pub mod Pool
+pub mod Part
+pub mod Orderly
+pub mod Turns
+pub mod Answers
+pub mod Ledger
+pub mod Memory

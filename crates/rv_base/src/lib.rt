@@ -1,0 +1,21 @@
+//! What every crate above stands on: actors, letters, packets and the journal; the journal beside
+//! its pool, on which actors take their turns; the source and the sink of a run.
+#![tactic(auto)]
+
+mod journal;
+mod ledger;
+mod memory;
+mod outside;
+mod pool;
+mod standard;
+#[cfg(test)]
+mod tests;
+mod wire;
+
+pub use journal::{
+    Actor, Journal, JournalEntry, Letter, Letters, Local, Packet, SaveResult, Turn, Weight,
+};
+pub use memory::{MemorySink, MemorySource};
+pub use outside::{Failed, Sink, Source};
+pub use standard::{StdSink, StdSource};
+pub use wire::{BYTES_LIMIT, Drawn, LETTERS_LIMIT, POOL_BYTES, POOL_PACKETS, Refused, Stop, Wire};

@@ -1,0 +1,6 @@
+pub mod State
+pub mod Fence
+pub mod Table
+pub mod Buffer
+pub mod Results
+pub mod Rules

@@ -1,0 +1,6 @@
+pub mod Learning
+pub mod Chain
+pub mod Log
+pub mod State
+pub mod Marks
+pub mod Rules

@@ -1,0 +1,311 @@
+//! The learning application over a list of hosts, and its reactions to a list of events.
+ghost use Rattle.std.specs.Prelude.{ℕ, ◌≡◌, ◌≤◌, ◌<◌, ◌+◌, ◌++◌, [], ◌∷◌, length, take, drop, IfOk, OnOk};
+ghost use Rattle.of_types.specs.Header.{number_at};
+ghost use Rattle.controller_core.specs.Chain.{reactions, learning_alone};
+ghost use Rattle.controller_core.specs.Learning.{is_single, seen_at, seen_destination, learned, with_source, forgotten, packet_out, forwarding_row, forgetting_rows, forwarded, hosts_after, learning_commands, hosts_next, commands_next};
+
+use of_types::{
+    ANY_GROUP, ANY_PORT, Command, Commands, Event, FLOOD, FlowCommand, FlowMod, Happening, Items,
+    Masked48, Match, NO_BUFFER, Octets, Order, PacketIn, PacketOut, Setup, any_match, fields,
+};
+use std::alloc::{AllocError, Global};
+
+/// Where an address was seen.
+#[derive(Clone, Copy, PartialEq, Eq, Debug)]
+pub struct Host {
+    pub switch: u8,
+    pub address: u64,
+    pub port: u32,
+}
+
+/// Whether an address is that of one host: its first byte is even.
+fn is_single(address: u64) -> bool
+    ensures { result ≡ is_single address }
+{
+    (address / (1 << 40)) % 2 == 0
+}
+
+/// Where an address was seen at a switch.
+fn seen_at(hosts: &[Host], switch: u8, address: u64) -> Option<u32>
+    ensures { result ≡ seen_at hosts.now switch address }
+{
+    for host in hosts {
+        if host.switch == switch && host.address == address {
+            return Some(host.port);
+        }
+    }
+    None
+}
+
+fn seen_destination(hosts: &[Host], switch: u8, address: Option<u64>) -> Option<u32>
+    ensures { result ≡ seen_destination hosts.now switch address }
+{
+    match address {
+        None => None,
+        Some(address) => seen_at(hosts, switch, address),
+    }
+}
+
+/// The place of an address at a switch, or the number of hosts.
+fn place_of(hosts: &[Host], switch: u8, address: u64) -> usize
+    ensures within { result ≤ length hosts.now }
+    ensures known { (port : ℕ) → result < length hosts.now → learned hosts.now switch address port ≡ take result hosts.now ++ record { switch = switch; address = address; port = port } ∷ drop (result + 1) hosts.now }
+    ensures new { (port : ℕ) → result ≡ length hosts.now → learned hosts.now switch address port ≡ hosts.now ++ record { switch = switch; address = address; port = port } ∷ [] }
+{
+    for (place, host) in hosts.iter().enumerate() {
+        if host.switch == switch && host.address == address {
+            return place;
+        }
+    }
+    hosts.len()
+}
+
+/// Sets an address to a port, in its place where it was known.
+fn learn(hosts: &mut Vec<Host>, switch: u8, address: u64, port: u32) -> Result<(), AllocError>
+    ensures { IfOk result (λ _. hosts.new.items ≡ learned hosts.old.items switch address port) }
+{
+    let place = place_of(hosts.as_slice(), switch, address);
+    let host = Host {
+        switch,
+        address,
+        port,
+    };
+    if place < hosts.len() {
+        hosts[place] = host;
+    } else {
+        hosts.push(host)?;
+    }
+    Ok(())
+}
+
+/// The source of a frame is seen at the port that it came in by.
+fn learn_source(
+    hosts: &mut Vec<Host>,
+    switch: u8,
+    port: u32,
+    address: Option<u64>,
+) -> Result<(), AllocError>
+    ensures { IfOk result (λ _. hosts.new.items ≡ with_source hosts.old.items switch port address) }
+{
+    match address {
+        None => Ok(()),
+        Some(address) => {
+            if is_single(address) {
+                learn(hosts, switch, address, port)
+            } else {
+                Ok(())
+            }
+        }
+    }
+}
+
+/// The addresses that were seen at a port are forgotten.
+fn forget(hosts: &mut Vec<Host>, switch: u8, port: u32)
+    ensures { hosts.new.items ≡ forgotten hosts.old.items switch port }
+{
+    hosts.retain(|h| !(h.switch == switch && h.port == port));
+}
+
+/// A frame to be sent to an output.
+fn packet_out(
+    alloc: Global,
+    switch: u8,
+    in_port: u32,
+    payload: &Octets,
+    output: u32,
+) -> Result<Command, AllocError>
+    ensures { IfOk result (λ command. command ≡ packet_out switch in_port payload.now output) }
+{
+    let mut actions = Items::new(alloc);
+    actions.push(output)?;
+    let payload = payload.copy()?;
+    Ok(Command {
+        switch,
+        order: Order::PacketOut(PacketOut {
+            buffer: NO_BUFFER,
+            in_port,
+            actions,
+            payload,
+        }),
+    })
+}
+
+/// The row for frames to an address that come in by a port.
+fn forwarding_row(
+    alloc: Global,
+    switch: u8,
+    port: u32,
+    address: u64,
+    output: u32,
+) -> Result<Command, AllocError>
+    ensures { IfOk result (λ command. command ≡ forwarding_row switch port address output) }
+{
+    let mut actions = Items::new(alloc);
+    actions.push(output)?;
+    let matching = Match {
+        in_port: Some(port),
+        eth_dst: Some(Masked48 {
+            value: address,
+            mask: (1 << 48) - 1,
+        }),
+        ..any_match()
+    };
+    Ok(Command {
+        switch,
+        order: Order::FlowMod(FlowMod {
+            cookie: 2,
+            cookie_mask: 0,
+            table: 0,
+            command: FlowCommand::Add,
+            idle: 0,
+            hard: 0,
+            priority: 10,
+            buffer: NO_BUFFER,
+            out_port: ANY_PORT,
+            out_group: ANY_GROUP,
+            flags: 0,
+            matching,
+            actions,
+        }),
+    })
+}
+
+/// The rows that send to a port go.
+fn forgetting_rows(alloc: Global, switch: u8, port: u32) -> Command
+    ensures { result ≡ forgetting_rows switch port }
+{
+    Command {
+        switch,
+        order: Order::FlowMod(FlowMod {
+            cookie: 0,
+            cookie_mask: 0,
+            table: 0,
+            command: FlowCommand::Delete,
+            idle: 0,
+            hard: 0,
+            priority: 0,
+            buffer: NO_BUFFER,
+            out_port: port,
+            out_group: ANY_GROUP,
+            flags: 0,
+            matching: any_match(),
+            actions: Items::new(alloc),
+        }),
+    }
+}
+
+/// What is sent for a frame whose destination was seen there.
+fn forward(
+    alloc: Global,
+    switch: u8,
+    port: u32,
+    frame: &Octets,
+    seen: Option<u32>,
+) -> Result<Commands, AllocError>
+    ensures { IfOk result (λ commands. commands ≡ forwarded switch port frame.now seen) }
+{
+    let mut commands = Items::new(alloc);
+    match seen {
+        None => {
+            commands.push(packet_out(alloc, switch, port, frame, FLOOD)?)?;
+            Ok(commands)
+        }
+        Some(output) => {
+            if output == port {
+                return Ok(commands);
+            }
+            let address = fields(frame.as_slice()).eth_dst.unwrap_or(0);
+            commands.push(forwarding_row(alloc, switch, port, address, output)?)?;
+            commands.push(packet_out(alloc, switch, port, frame, output)?)?;
+            Ok(commands)
+        }
+    }
+}
+
+/// A packet-in: its source is learned, and then its destination is looked up.
+fn on_packet_in(
+    alloc: Global,
+    hosts: &mut Vec<Host>,
+    switch: u8,
+    packet: &PacketIn,
+) -> Result<Commands, AllocError>
+    ensures known { OnOk result (hosts.new.items ≡ with_source hosts.old.items switch packet.now.in_port (number_at 6 6 packet.now.payload)) }
+    ensures asked { IfOk result (λ commands. commands ≡ forwarded switch packet.now.in_port packet.now.payload (seen_destination hosts.new.items switch (number_at 6 0 packet.now.payload))) }
+{
+    let found = fields(packet.payload.as_slice());
+    learn_source(hosts, switch, packet.in_port, found.eth_src)?;
+    let seen = seen_destination(hosts.as_slice(), switch, found.eth_dst);
+    forward(alloc, switch, packet.in_port, &packet.payload, seen)
+}
+
+/// A port changed: the addresses of one that went down are forgotten.
+fn on_port(
+    alloc: Global,
+    hosts: &mut Vec<Host>,
+    switch: u8,
+    port: u32,
+) -> Result<Commands, AllocError>
+    ensures known { OnOk result (hosts.new.items ≡ forgotten hosts.old.items switch port) }
+    ensures asked { IfOk result (λ commands. commands ≡ forgetting_rows switch port ∷ []) }
+{
+    forget(hosts, switch, port);
+    let mut commands = Items::new(alloc);
+    commands.push(forgetting_rows(alloc, switch, port))?;
+    Ok(commands)
+}
+
+/// What learning does with something that happened at a switch.
+fn on_happening(
+    alloc: Global,
+    hosts: &mut Vec<Host>,
+    switch: u8,
+    what: &Happening,
+) -> Result<Commands, AllocError>
+    ensures known { OnOk result (hosts.new.items ≡ hosts_after hosts.old.items switch what.now) }
+    ensures asked { IfOk result (λ commands. commands ≡ learning_commands hosts.new.items switch what.now) }
+{
+    match what {
+        Happening::PacketIn(packet) => on_packet_in(alloc, hosts, switch, packet),
+        Happening::PortStatus(status) => {
+            if status.up {
+                Ok(Items::new(alloc))
+            } else {
+                on_port(alloc, hosts, switch, status.port)
+            }
+        }
+    }
+}
+
+/// One event of the setup's switches.
+fn react(
+    alloc: Global,
+    setup: &Setup,
+    hosts: &mut Vec<Host>,
+    event: &Event,
+) -> Result<Commands, AllocError>
+    ensures known { OnOk result (hosts.new.items ≡ hosts_next setup.now hosts.old.items event.now) }
+    ensures asked { IfOk result (λ commands. commands ≡ commands_next setup.now hosts.old.items event.now) }
+{
+    if usize::from(event.switch) < setup.ports.len() {
+        on_happening(alloc, hosts, event.switch, &event.what)
+    } else {
+        Ok(Items::new(alloc))
+    }
+}
+
+/// The commands for each event, in order.
+#[tactic(auto, unfolding(crate::specs::Chain::reactions))]
+pub fn reactions_to(
+    alloc: Global,
+    setup: &Setup,
+    events: &[Event],
+) -> Result<Vec<Commands>, AllocError>
+    ensures { IfOk result (λ lists. lists.items ≡ reactions learning_alone setup.now events.now) }
+{
+    let mut lists = Vec::new(alloc);
+    let mut hosts = Vec::new(alloc);
+    for event in events {
+        lists.push(react(alloc, setup, &mut hosts, event)?)?;
+    }
+    Ok(lists)
+}

@@ -1,0 +1,373 @@
+ghost use Rattle.std.specs.Prelude.{◌≤◌, length, IfOk};
+
+use crate::{Controller, ControllerInput, ControllerSays, Entry, Numbered, reactions_to};
+use of_types::{
+    ANY_PORT, Commands, Event, Extension, FLOOD, FlowCommand, Happening, Items, MASTER, Masked48,
+    Match, NO_BUFFER, OfMessage, Order, Outcome, PacketIn, PacketOut, Setup, Spoken, any_match,
+};
+use rv_base::{Actor, Letter, Local};
+use std::alloc::{AllocError, Global};
+use std::process::Abort;
+use std::test::Fail;
+
+/// What a switch is asked to do.
+#[derive(Clone, Copy, PartialEq, Eq, Debug)]
+enum Asked {
+    Row {
+        command: FlowCommand,
+        priority: u16,
+        cookie: u64,
+        matching: Match,
+        out_port: u32,
+        output: Option<u32>,
+    },
+    Packet {
+        buffer: u32,
+        in_port: u32,
+        output: Option<u32>,
+        len: usize,
+    },
+}
+
+/// What a switch is told.
+#[derive(Clone, Copy, PartialEq, Eq, Debug)]
+enum Told {
+    RoleRequest {
+        role: u32,
+        generation: u64,
+    },
+    Command {
+        generation: u64,
+        number: u64,
+        settled: u64,
+        asked: Asked,
+    },
+    EventAck {
+        through: u64,
+    },
+    Clear {
+        through: u64,
+    },
+    Other,
+}
+
+/// A frame from A, which is 02:00:00:00:00:01, to B, which is 02:00:00:00:00:02.
+const A_TO_B: [u8; 14] = [2, 0, 0, 0, 0, 2, 2, 0, 0, 0, 0, 1, 0x88, 0xb5];
+
+/// A frame from B to A.
+const B_TO_A: [u8; 14] = [2, 0, 0, 0, 0, 1, 2, 0, 0, 0, 0, 2, 0x88, 0xb5];
+
+/// A frame that came in by port 1 goes to all other ports.
+const FLOODED: Asked = Asked::Packet {
+    buffer: NO_BUFFER,
+    in_port: 1,
+    output: Some(FLOOD),
+    len: 14,
+};
+
+/// A frame that came in by port 2 goes out by port 1.
+const SENT_BACK: Asked = Asked::Packet {
+    buffer: NO_BUFFER,
+    in_port: 2,
+    output: Some(1),
+    len: 14,
+};
+
+/// A controller alone, and one switch of two ports.
+fn one_switch(alloc: Global) -> Result<Setup, AllocError>
+    ensures { IfOk result (λ setup. length setup.ports ≤ 256) }
+{
+    let mut ports = Items::new(alloc);
+    ports.push(2)?;
+    Ok(Setup {
+        controllers: 1,
+        ports,
+        links: Items::new(alloc),
+        deny: Items::new(alloc),
+    })
+}
+
+/// A frame came in by a port, and no row fitted it.
+fn packet_in(alloc: Global, in_port: u32, frame: &[u8]) -> Result<Happening, AllocError> {
+    let payload = Items::from_slice(alloc, frame)?;
+    Ok(Happening::PacketIn(PacketIn {
+        reason: 0,
+        cookie: 0,
+        in_port,
+        payload,
+    }))
+}
+
+/// A frame from A to B comes in by port 1, and one from B to A by port 2.
+fn two_frames(alloc: Global) -> Result<Vec<Event>, AllocError> {
+    let mut events = Vec::new(alloc);
+    for (number, in_port, frame) in [(0, 1, &A_TO_B), (1, 2, &B_TO_A)] {
+        let what = packet_in(alloc, in_port, frame)?;
+        events.push(Event {
+            switch: 0,
+            life: 0,
+            number,
+            what,
+        })?;
+    }
+    Ok(events)
+}
+
+fn asking(order: &Order) -> Asked {
+    match order {
+        Order::FlowMod(change) => Asked::Row {
+            command: change.command,
+            priority: change.priority,
+            cookie: change.cookie,
+            matching: change.matching,
+            out_port: change.out_port,
+            output: change.actions.as_slice().first().copied(),
+        },
+        Order::PacketOut(out) => Asked::Packet {
+            buffer: out.buffer,
+            in_port: out.in_port,
+            output: out.actions.as_slice().first().copied(),
+            len: out.payload.len(),
+        },
+    }
+}
+
+/// What a command at a place of those for an event asks of the switch.
+fn asked_at(lists: &[Commands], event: usize, place: usize) -> Option<Asked> {
+    let command = lists.get(event)?.as_slice().get(place)?;
+    Some(asking(&command.order))
+}
+
+fn telling(message: &Spoken) -> Told {
+    match message {
+        Spoken::Plain(OfMessage::RoleRequest { role, generation }) => Told::RoleRequest {
+            role: *role,
+            generation: *generation,
+        },
+        Spoken::Ravana(
+            Extension::Command {
+                generation,
+                number,
+                settled,
+                order,
+                ..
+            },
+        ) => Told::Command {
+            generation: *generation,
+            number: *number,
+            settled: *settled,
+            asked: asking(order),
+        },
+        Spoken::Ravana(Extension::EventAck { through, .. }) => Told::EventAck { through: *through },
+        Spoken::Ravana(Extension::Clear { through, .. }) => Told::Clear { through: *through },
+        _ => Told::Other,
+    }
+}
+
+/// What a letter tells the first switch, if it goes there.
+fn first_told(letter: &Letter<ControllerSays>) -> Option<Told> {
+    let ControllerSays::Of { message, .. } = &letter.body;
+    match letter.to {
+        Actor::Switch(0) => Some(telling(message)),
+        _ => None,
+    }
+}
+
+/// A controller says this to an input.
+fn hears(
+    rt: &impl Abort,
+    controller: &mut Controller,
+    setup: &Setup,
+    input: ControllerInput,
+    wants: &[Told],
+) -> Result<(), AllocError>
+    requires { length setup.now.ports ≤ 256 }
+{
+    let letters = controller.turn(setup, &input)?;
+    assert_eq!(rt; letters.len(), wants.len());
+    for (letter, want) in letters.as_slice().iter().zip(wants) {
+        assert_eq!(rt; first_told(letter), Some(*want));
+    }
+    Ok(())
+}
+
+fn suspect(view: u32) -> ControllerInput {
+    ControllerInput::Local(Local::Suspect { view })
+}
+
+/// The switch takes the controller as master.
+fn role_reply(generation: u64) -> ControllerInput {
+    let message = Spoken::Plain(OfMessage::RoleReply {
+        role: MASTER,
+        generation,
+    });
+    ControllerInput::Of {
+        switch: 0,
+        xid: 0,
+        message,
+    }
+}
+
+fn extension(message: Extension) -> ControllerInput {
+    let message = Spoken::Ravana(message);
+    ControllerInput::Of {
+        switch: 0,
+        xid: 0,
+        message,
+    }
+}
+
+/// The first event of the switch: a frame from A to B came in by port 1.
+fn first_event(alloc: Global) -> Result<ControllerInput, AllocError> {
+    let what = packet_in(alloc, 1, &A_TO_B)?;
+    Ok(extension(Extension::Event {
+        life: 0,
+        number: 0,
+        what,
+    }))
+}
+
+/// The switch has done its first command.
+fn first_done() -> ControllerInput {
+    extension(Extension::CmdAck {
+        life: 0,
+        number: 0,
+        outcome: Outcome::Done,
+    })
+}
+
+/// Frames to A that come in by port 2 go out by port 1.
+fn row_to_a() -> Asked {
+    Asked::Row {
+        command: FlowCommand::Add,
+        priority: 10,
+        cookie: 2,
+        matching: Match {
+            in_port: Some(2),
+            eth_dst: Some(Masked48 {
+                value: 0x0200_0000_0001,
+                mask: 0xffff_ffff_ffff,
+            }),
+            ..any_match()
+        },
+        out_port: ANY_PORT,
+        output: Some(1),
+    }
+}
+
+#[test]
+fn learns_where_addresses_are(rt: HostRuntime) -> Result<(), Fail> {
+    let setup = one_switch(rt.alloc())?;
+    let events = two_frames(rt.alloc())?;
+    let lists = reactions_to(rt.alloc(), &setup, events.as_slice())?;
+    assert_eq!(rt; lists.len(), 2);
+    assert_eq!(rt; asked_at(lists.as_slice(), 0, 0), Some(FLOODED));
+    assert_eq!(rt; asked_at(lists.as_slice(), 0, 1), None);
+    assert_eq!(rt; asked_at(lists.as_slice(), 1, 0), Some(row_to_a()));
+    assert_eq!(rt; asked_at(lists.as_slice(), 1, 1), Some(SENT_BACK));
+    assert_eq!(rt; asked_at(lists.as_slice(), 1, 2), None);
+    Ok(())
+}
+
+/// The controller becomes master of the switch in view 1.
+fn becomes_master(
+    rt: &impl Abort,
+    controller: &mut Controller,
+    setup: &Setup,
+) -> Result<(), AllocError>
+    requires { length setup.now.ports ≤ 256 }
+{
+    let role = Told::RoleRequest {
+        role: MASTER,
+        generation: 1,
+    };
+    hears(rt, controller, setup, suspect(1), &[role])?;
+    hears(rt, controller, setup, role_reply(1), &[])
+}
+
+/// The first event comes, its command is sent and done, and the event comes again.
+fn first_event_comes_twice(
+    rt: &impl Abort,
+    alloc: Global,
+    controller: &mut Controller,
+    setup: &Setup,
+) -> Result<(), AllocError>
+    requires { length setup.now.ports ≤ 256 }
+{
+    let command = Told::Command {
+        generation: 1,
+        number: 0,
+        settled: 0,
+        asked: FLOODED,
+    };
+    let processed = Told::EventAck { through: 1 };
+    let settled = Told::Clear { through: 1 };
+    hears(rt, controller, setup, first_event(alloc)?, &[command])?;
+    hears(rt, controller, setup, first_done(), &[processed, settled])?;
+    hears(rt, controller, setup, first_event(alloc)?, &[processed])
+}
+
+/// The controller crashes, and drops a suspicion.
+fn crashes(rt: &impl Abort, controller: &mut Controller, setup: &Setup) -> Result<(), AllocError>
+    requires { length setup.now.ports ≤ 256 }
+{
+    hears(
+        rt,
+        controller,
+        setup,
+        ControllerInput::Local(Local::Crash),
+        &[],
+    )?;
+    hears(rt, controller, setup, suspect(2), &[])
+}
+
+#[test]
+fn processes_an_event_once(rt: HostRuntime) -> Result<(), Fail> {
+    let setup = one_switch(rt.alloc())?;
+    let mut controller = Controller::new(rt.alloc(), 0, 1);
+    becomes_master(&rt, &mut controller, &setup)?;
+    first_event_comes_twice(&rt, rt.alloc(), &mut controller, &setup)?;
+    assert_eq!(rt; controller.committed().len(), 2);
+    assert_eq!(rt; controller.view(), 1);
+    assert_eq!(rt; controller.full(), None);
+    crashes(&rt, &mut controller, &setup)?;
+    assert!(rt; !controller.is_up());
+    assert_eq!(rt; controller.promise(), 1);
+    assert_eq!(rt; controller.committed().len(), 0);
+    Ok(())
+}
+
+/// The place that a copy of an entry names.
+fn copied_place(entry: &Entry) -> Result<Option<u64>, AllocError> {
+    match entry.copy()? {
+        Entry::Processed(place) => Ok(Some(place)),
+        Entry::Received(_) => Ok(None),
+    }
+}
+
+/// A command that floods a frame, beside its number.
+fn numbered(alloc: Global) -> Result<Numbered, AllocError> {
+    let mut actions = Items::new(alloc);
+    actions.push(FLOOD)?;
+    let payload = Items::from_slice(alloc, &A_TO_B)?;
+    let what = Order::PacketOut(PacketOut {
+        buffer: NO_BUFFER,
+        in_port: 1,
+        actions,
+        payload,
+    });
+    Ok(Numbered {
+        switch: 0,
+        number: 3,
+        what,
+    })
+}
+
+#[test]
+fn entries_and_commands_are_copied(rt: HostRuntime) -> Result<(), Fail> {
+    assert_eq!(rt; copied_place(&Entry::Processed(7))?, Some(7));
+    let copied = numbered(rt.alloc())?.copy()?;
+    assert_eq!(rt; copied.number, 3);
+    assert_eq!(rt; asking(&copied.what), FLOODED);
+    Ok(())
+}

@@ -1,0 +1,4 @@
+pub mod Hex
+pub mod Members
+pub mod Text
+pub mod Form

@@ -1,0 +1,191 @@
+-- The report of a run, line by line.
+use Rattle.std.specs.Prelude.{ℕ, ◌+◌, ◌/◌, ◌%◌, Bool, true, false, nat_le, List, [], ◌∷◌, ◌++◌, length, sum_by, Option, Some, None, codes, if◌then◌else◌}
+use Rattle.std.specs.Fmt.{decimal}
+use Rattle.of_types.specs.declared.message.Event.{Event}
+use Rattle.of_types.specs.declared.message.Executed.{Executed}
+use Rattle.of_types.specs.declared.setup.Link.{Link}
+use Rattle.of_types.specs.declared.setup.Rule.{Rule}
+use Rattle.of_types.specs.declared.setup.Setup.{Setup}
+use Rattle.rv_base.specs.declared.journal.Actor.{Actor}
+use Rattle.rv_base.specs.declared.journal.Actor.TheVariants.{Controller, Switch}
+use Rattle.rv_base.specs.declared.journal.JournalEntry.{JournalEntry}
+use Rattle.rv_base.specs.declared.journal.JournalEntry.TheVariants as entry
+use Rattle.rv_base.specs.declared.journal.Letter.{Letter}
+use Rattle.rv_base.specs.declared.journal.Local.{Local}
+use Rattle.rv_base.specs.declared.journal.Local.TheVariants as local
+use Rattle.controller_core.specs.declared.says.Entry.{Entry}
+use Rattle.controller_core.specs.declared.says.Entry.TheVariants.{Received, Processed}
+use Rattle.controller_core.specs.Log.{log_size}
+use Rattle.report.specs.declared.record.Record.{Record}
+use Rattle.report.specs.declared.record.Shown.{Shown}
+use Rattle.report.specs.declared.record.Told.{Told}
+use Rattle.report.specs.Canonical.{canonical_happening, canonical_order, canonical_bare_match, actions_of}
+
+-- a digit of base sixteen, in lower case
+abbrev pub hex_digit : ℕ → ℕ
+hex_digit n = if nat_le 10 n then n + 87 else n + 48
+
+abbrev pub hex_of : List ℕ → List ℕ
+hex_of [] = []
+hex_of (b ∷ bytes) = hex_digit (b / 16) ∷ hex_digit (b % 16) ∷ hex_of bytes
+
+-- a dash for no bytes
+unfoldable pub hex : List ℕ → List ℕ
+hex [] = codes "-"
+hex (b ∷ bytes) = hex_of (b ∷ bytes)
+
+-- a number as a word
+unfoldable pub number : ℕ → List ℕ
+number n = decimal n
+
+-- a word behind a space, and the end of a line
+unfoldable pub word : List ℕ → List ℕ
+word text = 32 ∷ text
+
+abbrev pub newline : List ℕ
+newline = 10 ∷ []
+
+-- a line: its first word, and further ones
+abbrev pub further : List (List ℕ) → List ℕ
+further [] = newline
+further (text ∷ words) = word text ++ further words
+
+unfoldable pub line : List ℕ → List (List ℕ) → List ℕ
+line first words = first ++ further words
+
+unfoldable pub actor_word : Actor → List ℕ
+actor_word (Controller c) = 99 ∷ decimal c
+actor_word (Switch s) = 115 ∷ decimal s
+
+unfoldable pub flag : Bool → List ℕ
+flag true = codes "1"
+flag false = codes "0"
+
+-- a dash for a number that is not there
+unfoldable pub number_or_dash : Option ℕ → List ℕ
+number_or_dash None = codes "-"
+number_or_dash (Some n) = decimal n
+
+unfoldable pub master_word : Option ℕ → List ℕ
+master_word None = codes "-"
+master_word (Some c) = actor_word (Controller c)
+
+-- an address as its four bytes
+unfoldable pub address_word : ℕ → List ℕ
+address_word a =
+    decimal (a / 16777216 % 256) ++ 46 ∷ decimal (a / 65536 % 256) ++ 46 ∷ decimal (a / 256 % 256) ++ 46 ∷ decimal (a % 256)
+
+-- the setup
+unfoldable pub port_line : ℕ → ℕ → List ℕ
+port_line s count = line (codes "ports") (number s ∷ number count ∷ [])
+
+unfoldable pub port_lines : ℕ → List ℕ → List ℕ
+port_lines s [] = []
+port_lines s (count ∷ counts) = port_line s count ++ port_lines (s + 1) counts
+
+abbrev pub link_line : Link → List ℕ
+link_line l = line (codes "link") (number l.switch ∷ number l.port ∷ number l.peer ∷ number l.peer_port ∷ [])
+
+abbrev pub deny_line : Rule → List ℕ
+deny_line r =
+    line (codes "deny") (number r.proto ∷ address_word r.src.address ∷ number r.src.length ∷ address_word r.dst.address
+    ∷ number r.dst.length ∷ number_or_dash r.port ∷ [])
+
+-- the lines of each, one after another
+unfoldable pub lines_of : {A : Type 0} → (A → List ℕ) → List A → List ℕ
+lines_of text [] = []
+lines_of text (x ∷ xs) = text x ++ lines_of text xs
+
+unfoldable pub setup_line : Setup → List ℕ
+setup_line setup = line (codes "setup") (number setup.controllers ∷ number (length setup.ports) ∷ [])
+
+unfoldable pub setup_lines : Setup → List ℕ
+setup_lines setup =
+    setup_line setup ++ (port_lines 0 setup.ports ++ (lines_of link_line setup.links ++ lines_of deny_line setup.deny))
+
+-- the journal
+abbrev pub letter_line : Letter (List ℕ) → List ℕ
+letter_line l = line (codes "letter") (actor_word l.to ∷ hex l.body ∷ [])
+
+abbrev pub input_words : Local → List (List ℕ)
+input_words (local.Frame port bytes) = codes "frame" ∷ number port ∷ hex bytes ∷ []
+input_words (local.Port port up) = codes "port" ∷ number port ∷ flag up ∷ []
+input_words local.Tick = codes "tick" ∷ []
+input_words (local.Suspect view) = codes "suspect" ∷ number view ∷ []
+input_words local.Crash = codes "crash" ∷ []
+input_words local.Restart = codes "restart" ∷ []
+
+abbrev pub entry_lines : JournalEntry (List ℕ) → List ℕ
+entry_lines (entry.Post a first letters lost) =
+    line (codes "post") (actor_word a ∷ number first ∷ number (length letters) ∷ number lost ∷ []) ++ lines_of letter_line letters
+entry_lines (entry.Draw a id keep) = line (codes "draw") (actor_word a ∷ number id ∷ flag keep ∷ [])
+entry_lines (entry.Lose a id) = line (codes "lose") (actor_word a ∷ number id ∷ [])
+entry_lines (entry.Local a input) = line (codes "local") (actor_word a ∷ input_words input)
+entry_lines (entry.Idle a) = line (codes "idle") (actor_word a ∷ [])
+entry_lines (entry.Refused a) = []
+
+-- an event: who had it and when, and the message that it tells
+abbrev pub event_words : Event → List (List ℕ)
+event_words e = number e.switch ∷ number e.life ∷ number e.number ∷ hex (canonical_happening e.what) ∷ []
+
+-- the committed log
+abbrev pub log_line : Entry → List ℕ
+log_line (Received e) = line (codes "received") (event_words e)
+log_line (Processed j) = line (codes "processed") (number j ∷ [])
+
+unfoldable pub log_lines : List Entry → List ℕ
+log_lines log = line (codes "log") (number (length log) ∷ number (log_size log) ∷ []) ++ lines_of log_line log
+
+-- a switch
+abbrev pub event_line : Event → List ℕ
+event_line e = line (codes "event") (event_words e)
+
+abbrev pub executed_line : ℕ → Executed → List ℕ
+executed_line s x =
+    line (codes "executed") (number s ∷ number x.life ∷ number x.number ∷ number x.generation ∷ actor_word (Controller x.from)
+    ∷ hex (canonical_order x.order) ∷ [])
+
+abbrev pub row_line : ℕ → Shown → List ℕ
+row_line s r = line (codes "row") (number s ∷ number r.priority ∷ hex (canonical_bare_match r.matching) ∷ hex (actions_of r.actions) ∷ [])
+
+-- a name, and what stands behind it
+unfoldable pub labelled : List ℕ → List ℕ → List ℕ
+labelled name text = word name ++ word text
+
+unfoldable pub role_words : Told → List ℕ
+role_words t =
+    labelled (codes "generation") (number_or_dash t.generation)
+    ++ (labelled (codes "master") (master_word t.master) ++ labelled (codes "life") (number t.life))
+
+unfoldable pub count_words : Told → List ℕ
+count_words t =
+    labelled (codes "events") (number (length t.events)) ++ (labelled (codes "held") (number t.held)
+    ++ (labelled (codes "executed") (number (length t.executed)) ++ (labelled (codes "rows") (number (length t.rows))
+    ++ labelled (codes "sent") (number t.sent))))
+
+unfoldable pub switch_line : ℕ → Told → List ℕ
+switch_line s t = codes "switch" ++ (word (number s) ++ (role_words t ++ (count_words t ++ newline)))
+
+unfoldable pub told_lines : ℕ → Told → List ℕ
+told_lines s t =
+    switch_line s t ++ (lines_of event_line t.events ++ (lines_of (executed_line s) t.executed ++ lines_of (row_line s) t.rows))
+
+unfoldable pub switch_lines : ℕ → List Told → List ℕ
+switch_lines s [] = []
+switch_lines s (t ∷ switches) = told_lines s t ++ switch_lines (s + 1) switches
+
+-- the last line: the turns, and the sums over all switches
+unfoldable pub sum_words : Record → List ℕ
+sum_words r =
+    labelled (codes "events") (number (sum_by (λ t. length t.events) r.switches)) ++ (labelled (codes "log") (number (length r.log))
+    ++ (labelled (codes "commands") (number (sum_by (λ t. length t.executed) r.switches))
+    ++ labelled (codes "rows") (number (sum_by (λ t. length t.rows) r.switches))))
+
+unfoldable pub end_line : Record → List ℕ
+end_line r =
+    codes "end" ++ (labelled (codes "script") (number r.script) ++ (labelled (codes "closing") (number r.closing) ++ (sum_words r ++ newline)))
+
+-- the report
+unfoldable pub text : Record → List ℕ
+text r =
+    codes "ravana report 1" ++ (newline ++ (setup_lines r.setup ++ (lines_of entry_lines r.journal ++ (log_lines r.log ++ (switch_lines 0 r.switches ++ end_line r)))))

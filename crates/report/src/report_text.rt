@@ -1,0 +1,148 @@
+//! The text of a report.
+ghost use Rattle.std.specs.Prelude.{◌≡◌, ◌≤◌, ◌^◌, ◌++◌, length, sum_by, IfOk, OnOk};
+ghost use Rattle.controller_core.specs.Log.{entry_size, log_size};
+ghost use Rattle.report.specs.Report.{port_line, port_lines, setup_line, setup_lines, log_lines, sum_words, end_line, text};
+
+use crate::lines::write_each;
+use crate::record::{Record, Told};
+use crate::switches::{write_labelled, write_switches};
+use crate::words::{write_newline, write_number};
+use controller_core::Entry;
+use of_types::{Happening, Octets, Setup};
+use std::alloc::{AllocError, Global};
+
+#[tactic(auto, unfolding(crate::specs::Report::line, crate::specs::Report::number, crate::specs::Report::port_line))]
+fn write_port_line(out: &mut Octets, switch: usize, count: u32) -> Result<(), AllocError>
+    ensures { OnOk result (out.new ≡ out.old ++ port_line switch count) }
+{
+    out.append(b"ports")?;
+    write_number(out, switch)?;
+    write_number(out, count)?;
+    write_newline(out)?;
+    Ok(())
+}
+
+/// Writes how many ports each switch has.
+#[tactic(auto, unfolding(crate::specs::Report::port_lines))]
+fn write_ports(out: &mut Octets, counts: &[u32]) -> Result<(), AllocError>
+    ensures { OnOk result (out.new ≡ out.old ++ port_lines 0 counts.now) }
+{
+    for (switch, count) in counts.iter().enumerate() {
+        write_port_line(out, switch, *count)?;
+    }
+    Ok(())
+}
+
+#[tactic(auto, unfolding(crate::specs::Report::line, crate::specs::Report::number, crate::specs::Report::setup_line))]
+fn write_setup_line(out: &mut Octets, setup: &Setup) -> Result<(), AllocError>
+    ensures { OnOk result (out.new ≡ out.old ++ setup_line setup.now) }
+{
+    out.append(b"setup")?;
+    write_number(out, setup.controllers)?;
+    write_number(out, setup.ports.len())?;
+    write_newline(out)?;
+    Ok(())
+}
+
+#[tactic(auto, unfolding(crate::specs::Report::setup_lines))]
+fn write_setup(alloc: Global, out: &mut Octets, setup: &Setup) -> Result<(), AllocError>
+    ensures { OnOk result (out.new ≡ out.old ++ setup_lines setup.now) }
+{
+    write_setup_line(out, setup)?;
+    write_ports(out, setup.ports.as_slice())?;
+    write_each(alloc, out, setup.links.as_slice())?;
+    write_each(alloc, out, setup.deny.as_slice())?;
+    Ok(())
+}
+
+/// The bytes of an entry of the log.
+fn size_of_entry(entry: &Entry) -> u128
+    ensures exact { result ≡ entry_size entry.now }
+    ensures small { result ≤ 2 ^ 65 }
+{
+    match entry {
+        Entry::Processed(_) => 9,
+        Entry::Received(event) => match &event.what {
+            Happening::PacketIn(packet) => 60 + packet.payload.len() as u128,
+            Happening::PortStatus(_) => 98,
+        },
+    }
+}
+
+/// The bytes of a log.
+fn size_of_log(log: &[Entry]) -> u128
+    ensures { result ≡ log_size log.now }
+{
+    let mut size = 0u128;
+    for entry in log {
+        size += size_of_entry(entry);
+    }
+    size
+}
+
+#[tactic(auto, unfolding(crate::specs::Report::line, crate::specs::Report::number, crate::specs::Report::log_lines))]
+fn write_log(alloc: Global, out: &mut Octets, log: &[Entry]) -> Result<(), AllocError>
+    ensures { OnOk result (out.new ≡ out.old ++ log_lines log.now) }
+{
+    out.append(b"log")?;
+    write_number(out, log.len())?;
+    write_number(out, size_of_log(log))?;
+    write_newline(out)?;
+    write_each(alloc, out, log)?;
+    Ok(())
+}
+
+/// How many events, executed commands and rows the switches have.
+fn sums(switches: &[Told]) -> (u128, u128, u128)
+    ensures events { result.0 ≡ sum_by (λ t. length t.events) switches.now }
+    ensures executed { result.1 ≡ sum_by (λ t. length t.executed) switches.now }
+    ensures rows { result.2 ≡ sum_by (λ t. length t.rows) switches.now }
+{
+    let (mut events, mut executed, mut rows) = (0u128, 0u128, 0u128);
+    for told in switches {
+        events += told.events.len() as u128;
+        executed += told.executed.len() as u128;
+        rows += told.rows.len() as u128;
+    }
+    (events, executed, rows)
+}
+
+#[tactic(auto, unfolding(crate::specs::Report::number, crate::specs::Report::sum_words))]
+fn write_sum_words(out: &mut Octets, told: &Record) -> Result<(), AllocError>
+    ensures { OnOk result (out.new ≡ out.old ++ sum_words told.now) }
+{
+    let (events, executed, rows) = sums(told.switches.as_slice());
+    write_labelled(out, b"events", events)?;
+    write_labelled(out, b"log", told.log.len())?;
+    write_labelled(out, b"commands", executed)?;
+    write_labelled(out, b"rows", rows)?;
+    Ok(())
+}
+
+#[tactic(auto, unfolding(crate::specs::Report::number, crate::specs::Report::end_line))]
+fn write_end(out: &mut Octets, told: &Record) -> Result<(), AllocError>
+    ensures { OnOk result (out.new ≡ out.old ++ end_line told.now) }
+{
+    out.append(b"end")?;
+    write_labelled(out, b"script", told.script)?;
+    write_labelled(out, b"closing", told.closing)?;
+    write_sum_words(out, told)?;
+    write_newline(out)?;
+    Ok(())
+}
+
+/// The text of a report. It is made in a fixed number of passes over the record.
+#[tactic(auto, unfolding(crate::specs::Report::text))]
+pub fn text(alloc: Global, told: &Record) -> Result<Octets, AllocError>
+    ensures { IfOk result (λ bytes. bytes ≡ text told.now) }
+{
+    let mut out = Octets::new(alloc);
+    out.append(b"ravana report 1")?;
+    write_newline(&mut out)?;
+    write_setup(alloc, &mut out, &told.setup)?;
+    write_each(alloc, &mut out, told.journal.as_slice())?;
+    write_log(alloc, &mut out, told.log.as_slice())?;
+    write_switches(alloc, &mut out, told.switches.as_slice())?;
+    write_end(&mut out, told)?;
+    Ok(out)
+}

@@ -1,0 +1,401 @@
+use crate::words::write_hex;
+use crate::{
+    Record, Shown, Told, WriteFault, canonical, canonical_happening, canonical_order, text,
+    write_all, write_report,
+};
+use controller_core::Entry;
+use of_types::{
+    Actions, Event, Executed, Extension, FLOOD, FlowCommand, FlowMod, Happening, Items, Link,
+    Links, MASTER, Masked48, Match, NO_BUFFER, Octets, OfMessage, Order, Outcome, PacketIn,
+    PacketOut, PortCounts, Prefix, Rule, Rules, Setup, Spoken, TO_CONTROLLER, any_match,
+};
+use rv_base::{Actor, Journal, JournalEntry, Letter, Letters, Local, MemorySink};
+use std::alloc::{AllocError, Global};
+use std::test::Fail;
+
+/// The frame that the messages hold.
+const FRAME: &[u8] = b"\x02\0\0\0\0\x02\x02\0\0\0\0\x01\x88\xb5";
+
+const CONTROLLER: Actor = Actor::Controller(0);
+
+const SWITCH: Actor = Actor::Switch(0);
+
+const ROLE_REQUEST: &[u8] = b" 041800180000000000000002000000000000000000000001";
+
+const PACKET_IN: &[u8] =
+    b" 040a003800000000ffffffff000e000000000000000000000001000c800000040000000100000000000002000000000202000000000188b5";
+
+const EVENT: &[u8] =
+    b" 0404005800000000000252560000000100000000000000000000000000000000040a003800000000ffffffff000e000000000000000000000001000c800000040000000100000000000002000000000202000000000188b5";
+
+const COMMAND: &[u8] =
+    b" 040400660000000000025256000000030000000000000000000000000000000100000000000000000000000000000000040d003600000000ffffffff00000001001000000000000000000010fffffffb000000000000000002000000000202000000000188b5";
+
+const CMD_ACK: &[u8] =
+    b" 04040028000000000002525600000004000000000000000000000000000000000000000000000000";
+
+const EVENT_ACK: &[u8] = b" 0404002000000000000252560000000200000000000000000000000000000001";
+
+const FLOW_MOD: &[u8] =
+    b" 040e00600000000000000000000000020000000000000000000000000000000affffffffffffffffffffffff00000000000100168000000400000002800006060200000000010000000400180000000000000010000000010000000000000000";
+
+const SHORTEST_REPORT: &[u8] = b"\
+ravana report 1
+setup 1 1
+ports 0 2
+local c0 suspect 1
+post c0 0 1 0
+letter s0 041800180000000000000002000000000000000000000001
+draw s0 0 0
+post s0 1 1 0
+letter c0 041900180000000000000002000000000000000000000001
+draw c0 1 0
+log 0 0
+switch 0 generation 1 master c0 life 0 events 0 held 0 executed 0 rows 1 sent 0
+row 0 0 00010004 00000010fffffffdffff000000000000
+end script 0 closing 3 events 0 log 0 commands 0 rows 1
+";
+
+const REPORT: &[u8] = b"\
+ravana report 1
+setup 1 1
+ports 0 2
+link 0 2 0 1
+deny 6 10.0.0.0 8 10.0.0.2 31 80
+local s0 frame 1 02000000000202000000000188b5
+local s0 port 1 0
+local c0 tick
+local c0 crash
+local c0 restart
+draw c0 3 1
+lose s0 0
+idle s0
+log 2 83
+received 0 0 0 040a003800000000ffffffff000e000000000000000000000001000c800000040000000100000000000002000000000202000000000188b5
+processed 0
+switch 0 generation 1 master c0 life 0 events 1 held 0 executed 1 rows 1 sent 1
+event 0 0 0 040a003800000000ffffffff000e000000000000000000000001000c800000040000000100000000000002000000000202000000000188b5
+executed 0 0 0 1 c0 040d003600000000ffffffff00000001001000000000000000000010fffffffb000000000000000002000000000202000000000188b5
+row 0 0 00010004 00000010fffffffdffff000000000000
+end script 0 closing 3 events 1 log 2 commands 1 rows 1
+";
+
+fn packet_in(alloc: Global) -> Result<PacketIn, AllocError> {
+    Ok(PacketIn {
+        reason: 0,
+        cookie: 0,
+        in_port: 1,
+        payload: Octets::from_slice(alloc, FRAME)?,
+    })
+}
+
+fn output(alloc: Global, port: u32) -> Result<Actions, AllocError> {
+    let mut actions = Actions::new(alloc);
+    actions.push(port)?;
+    Ok(actions)
+}
+
+fn packet_out(alloc: Global) -> Result<PacketOut, AllocError> {
+    Ok(PacketOut {
+        buffer: NO_BUFFER,
+        in_port: 1,
+        actions: output(alloc, FLOOD)?,
+        payload: Octets::from_slice(alloc, FRAME)?,
+    })
+}
+
+fn flow_mod(alloc: Global) -> Result<FlowMod, AllocError> {
+    let destination = Masked48 {
+        value: 0x0200_0000_0001,
+        mask: (1 << 48) - 1,
+    };
+    Ok(FlowMod {
+        cookie: 2,
+        cookie_mask: 0,
+        table: 0,
+        command: FlowCommand::Add,
+        idle: 0,
+        hard: 0,
+        priority: 10,
+        buffer: NO_BUFFER,
+        out_port: 0xffff_ffff,
+        out_group: 0xffff_ffff,
+        flags: 0,
+        matching: Match {
+            in_port: Some(2),
+            eth_dst: Some(destination),
+            ..any_match()
+        },
+        actions: output(alloc, 1)?,
+    })
+}
+
+/// Writes bytes as a word of a report.
+fn word(alloc: Global, bytes: &Octets) -> Result<Octets, AllocError> {
+    let mut out = Octets::new(alloc);
+    write_hex(&mut out, bytes.as_slice())?;
+    Ok(out)
+}
+
+fn word_of(alloc: Global, message: &Spoken) -> Result<Octets, AllocError> {
+    let bytes = canonical(alloc, 0, message)?;
+    word(alloc, &bytes)
+}
+
+#[test]
+fn orders_and_happenings(rt: HostRuntime) -> Result<(), Fail> {
+    let alloc = rt.alloc();
+    let arrival = canonical_happening(alloc, &Happening::PacketIn(packet_in(alloc)?))?;
+    assert_eq!(rt; word(alloc, &arrival)?.as_slice(), PACKET_IN);
+    let change = canonical_order(alloc, &Order::FlowMod(flow_mod(alloc)?))?;
+    assert_eq!(rt; word(alloc, &change)?.as_slice(), FLOW_MOD);
+    Ok(())
+}
+
+#[test]
+fn messages(rt: HostRuntime) -> Result<(), Fail> {
+    let alloc = rt.alloc();
+    let cases: [(Spoken, &[u8]); 5] = [
+        (role_request(), ROLE_REQUEST),
+        (event(packet_in(alloc)?), EVENT),
+        (command(packet_out(alloc)?), COMMAND),
+        (
+            Spoken::Ravana(Extension::CmdAck {
+                life: 0,
+                number: 0,
+                outcome: Outcome::Done,
+            }),
+            CMD_ACK,
+        ),
+        (
+            Spoken::Ravana(Extension::EventAck {
+                life: 0,
+                through: 1,
+            }),
+            EVENT_ACK,
+        ),
+    ];
+    for (message, expected) in &cases {
+        assert_eq!(rt; word_of(alloc, message)?.as_slice(), *expected);
+    }
+    Ok(())
+}
+
+fn role_request() -> Spoken {
+    Spoken::Plain(OfMessage::RoleRequest {
+        role: MASTER,
+        generation: 1,
+    })
+}
+
+fn event(packet: PacketIn) -> Spoken {
+    Spoken::Ravana(Extension::Event {
+        life: 0,
+        number: 0,
+        what: Happening::PacketIn(packet),
+    })
+}
+
+fn command(packet: PacketOut) -> Spoken {
+    Spoken::Ravana(Extension::Command {
+        life: 0,
+        generation: 1,
+        number: 0,
+        settled: 0,
+        order: Order::PacketOut(packet),
+    })
+}
+
+fn setup(alloc: Global) -> Result<Setup, AllocError> {
+    let mut ports = PortCounts::new(alloc);
+    ports.push(2)?;
+    Ok(Setup {
+        controllers: 1,
+        ports,
+        links: Links::new(alloc),
+        deny: Rules::new(alloc),
+    })
+}
+
+fn post(
+    alloc: Global,
+    actor: Actor,
+    first: u64,
+    to: Actor,
+    bytes: &[u8],
+) -> Result<JournalEntry<Octets>, AllocError> {
+    let body = Octets::from_slice(alloc, bytes)?;
+    let mut letters = Letters::new(alloc);
+    letters.push(Letter { to, body })?;
+    Ok(JournalEntry::Post {
+        actor,
+        first,
+        letters,
+        lost: 0,
+    })
+}
+
+fn draw(actor: Actor, id: u64, keep: bool) -> JournalEntry<Octets> {
+    JournalEntry::Draw { actor, id, keep }
+}
+
+fn local(actor: Actor, input: Local) -> JournalEntry<Octets> {
+    JournalEntry::Local { actor, input }
+}
+
+/// A controller becomes the master of a switch.
+fn add_roles(alloc: Global, journal: &mut Journal<Octets>) -> Result<(), AllocError> {
+    let request = b"\x04\x18\0\x18\0\0\0\0\0\0\0\x02\0\0\0\0\0\0\0\0\0\0\0\x01";
+    let reply = b"\x04\x19\0\x18\0\0\0\0\0\0\0\x02\0\0\0\0\0\0\0\0\0\0\0\x01";
+    journal.push(local(CONTROLLER, Local::Suspect { view: 1 }))?;
+    journal.push(post(alloc, CONTROLLER, 0, SWITCH, request)?)?;
+    journal.push(draw(SWITCH, 0, false))?;
+    journal.push(post(alloc, SWITCH, 1, CONTROLLER, reply)?)?;
+    journal.push(draw(CONTROLLER, 1, false))?;
+    Ok(())
+}
+
+/// The inputs of each kind, and what the wire does besides.
+fn add_inputs(alloc: Global, journal: &mut Journal<Octets>) -> Result<(), AllocError> {
+    let bytes = Octets::from_slice(alloc, FRAME)?;
+    journal.push(local(SWITCH, Local::Frame { port: 1, bytes }))?;
+    journal.push(local(SWITCH, Local::Port { port: 1, up: false }))?;
+    journal.push(local(CONTROLLER, Local::Tick))?;
+    journal.push(local(CONTROLLER, Local::Crash))?;
+    journal.push(local(CONTROLLER, Local::Restart))?;
+    journal.push(draw(CONTROLLER, 3, true))?;
+    add_losses(journal)
+}
+
+fn add_losses(journal: &mut Journal<Octets>) -> Result<(), AllocError> {
+    journal.push(JournalEntry::Refused { actor: SWITCH })?;
+    journal.push(JournalEntry::Lose {
+        actor: SWITCH,
+        id: 0,
+    })?;
+    journal.push(JournalEntry::Idle { actor: SWITCH })?;
+    Ok(())
+}
+
+fn add_links(setup: &mut Setup) -> Result<(), AllocError> {
+    setup.links.push(Link {
+        switch: 0,
+        port: 2,
+        peer: 0,
+        peer_port: 1,
+    })?;
+    setup.deny.push(Rule {
+        proto: 6,
+        src: Prefix {
+            address: 0x0a00_0000,
+            length: 8,
+        },
+        dst: Prefix {
+            address: 0x0a00_0002,
+            length: 31,
+        },
+        port: Some(80),
+    })?;
+    Ok(())
+}
+
+fn arrived(alloc: Global) -> Result<Event, AllocError> {
+    Ok(Event {
+        switch: 0,
+        life: 0,
+        number: 0,
+        what: Happening::PacketIn(packet_in(alloc)?),
+    })
+}
+
+fn flooded(alloc: Global) -> Result<Executed, AllocError> {
+    Ok(Executed {
+        life: 0,
+        number: 0,
+        generation: 1,
+        from: 0,
+        order: Order::PacketOut(packet_out(alloc)?),
+    })
+}
+
+/// What a run has come to with no step.
+fn run(alloc: Global) -> Result<Record, AllocError> {
+    Ok(Record {
+        setup: setup(alloc)?,
+        journal: Items::new(alloc),
+        log: Items::new(alloc),
+        switches: Items::new(alloc),
+        script: 0,
+        closing: 3,
+    })
+}
+
+/// A switch with the row that stands at its start.
+fn switch(alloc: Global) -> Result<Told, AllocError> {
+    let mut rows = Items::new(alloc);
+    rows.push(Shown {
+        priority: 0,
+        matching: any_match(),
+        actions: output(alloc, TO_CONTROLLER)?,
+    })?;
+    Ok(Told {
+        generation: Some(1),
+        master: Some(0),
+        life: 0,
+        held: 0,
+        sent: 0,
+        events: Items::new(alloc),
+        executed: Items::new(alloc),
+        rows,
+    })
+}
+
+fn shortest_run(alloc: Global) -> Result<Record, AllocError> {
+    let mut told = run(alloc)?;
+    add_roles(alloc, &mut told.journal)?;
+    told.switches.push(switch(alloc)?)?;
+    Ok(told)
+}
+
+#[test]
+fn shortest_report_in_pieces(rt: HostRuntime) -> Result<(), Fail> {
+    let alloc = rt.alloc();
+    let told = shortest_run(alloc)?;
+    let mut sink = MemorySink::new(alloc, 7, Vec::new(alloc));
+    assert_eq!(rt; write_report(alloc, &told, &mut sink), Ok(()));
+    assert_eq!(rt; sink.taken(), SHORTEST_REPORT);
+    let mut failing = MemorySink::new(alloc, 7, [2].to_vec(alloc)?);
+    assert_eq!(rt;
+        write_report(alloc, &told, &mut failing),
+        Err(WriteFault::Failed)
+    );
+    assert!(rt; write_all(&mut failing, b"1\n").is_ok());
+    assert_eq!(rt; failing.taken(), b"ravana report 1\n".as_slice());
+    Ok(())
+}
+
+#[test]
+fn lines_of_each_kind(rt: HostRuntime) -> Result<(), Fail> {
+    let alloc = rt.alloc();
+    let mut told = run(alloc)?;
+    add_links(&mut told.setup)?;
+    add_inputs(alloc, &mut told.journal)?;
+    add_entries(alloc, &mut told.log)?;
+    told.switches.push(busy_switch(alloc)?)?;
+    assert_eq!(rt; text(alloc, &told)?.as_slice(), REPORT);
+    Ok(())
+}
+
+fn add_entries(alloc: Global, log: &mut Items<Entry>) -> Result<(), AllocError> {
+    log.push(Entry::Received(arrived(alloc)?))?;
+    log.push(Entry::Processed(0))?;
+    Ok(())
+}
+
+fn busy_switch(alloc: Global) -> Result<Told, AllocError> {
+    let mut told = switch(alloc)?;
+    told.events.push(arrived(alloc)?)?;
+    told.executed.push(flooded(alloc)?)?;
+    told.sent = 1;
+    Ok(told)
+}

@@ -1,0 +1,144 @@
+//! The words of a line, each behind a space.
+ghost use Rattle.std.specs.Prelude.{◌≡◌, ◌<◌, ◌∷◌, ◌++◌, OnOk};
+ghost use Rattle.std.specs.Fmt.{decimal};
+ghost use Rattle.report.specs.Report.{hex_digit, hex_of, hex, word, newline, actor_word, flag, number_or_dash, master_word, address_word};
+
+use itoa::{Buffer, Integer};
+use of_types::Octets;
+use rv_base::Actor;
+use std::alloc::AllocError;
+
+/// Writes the digits of a number.
+fn write_digits<N: Integer>(out: &mut Octets, n: N) -> Result<(), AllocError>
+    ensures { OnOk result (out.new ≡ out.old ++ N.text n) }
+{
+    out.append(Buffer::new().format(n).as_bytes())
+}
+
+/// Writes a space and a word.
+#[tactic(auto, unfolding(crate::specs::Report::word))]
+pub fn write_word(out: &mut Octets, text: &[u8]) -> Result<(), AllocError>
+    ensures { OnOk result (out.new ≡ out.old ++ word text.now) }
+{
+    out.append(b" ")?;
+    out.append(text)?;
+    Ok(())
+}
+
+#[tactic(auto, unfolding(crate::specs::Report::word))]
+pub fn write_number<N: Integer>(out: &mut Octets, n: N) -> Result<(), AllocError>
+    ensures { OnOk result (out.new ≡ out.old ++ word (N.text n)) }
+{
+    out.append(b" ")?;
+    write_digits(out, n)?;
+    Ok(())
+}
+
+/// Writes the end of a line.
+pub fn write_newline(out: &mut Octets) -> Result<(), AllocError>
+    ensures { OnOk result (out.new ≡ out.old ++ newline) }
+{
+    out.append(b"\n")
+}
+
+#[tactic(auto, unfolding(crate::specs::Report::word, crate::specs::Report::actor_word))]
+pub fn write_actor(out: &mut Octets, actor: Actor) -> Result<(), AllocError>
+    ensures { OnOk result (out.new ≡ out.old ++ word (actor_word actor)) }
+{
+    match actor {
+        Actor::Controller(c) => {
+            out.append(b" c")?;
+            write_digits(out, c)?;
+            Ok(())
+        }
+        Actor::Switch(s) => {
+            out.append(b" s")?;
+            write_digits(out, s)?;
+            Ok(())
+        }
+    }
+}
+
+#[tactic(auto, unfolding(crate::specs::Report::flag))]
+pub fn write_flag(out: &mut Octets, is_set: bool) -> Result<(), AllocError>
+    ensures { OnOk result (out.new ≡ out.old ++ word (flag is_set)) }
+{
+    if is_set {
+        write_word(out, b"1")
+    } else {
+        write_word(out, b"0")
+    }
+}
+
+/// Writes a number, or a dash for none.
+#[tactic(auto, unfolding(crate::specs::Report::number_or_dash))]
+pub fn write_number_or_dash(out: &mut Octets, n: Option<u64>) -> Result<(), AllocError>
+    ensures { OnOk result (out.new ≡ out.old ++ word (number_or_dash n)) }
+{
+    match n {
+        None => write_word(out, b"-"),
+        Some(n) => write_number(out, n),
+    }
+}
+
+/// Writes a controller, or a dash for none.
+#[tactic(auto, unfolding(crate::specs::Report::master_word))]
+pub fn write_master(out: &mut Octets, master: Option<u8>) -> Result<(), AllocError>
+    ensures { OnOk result (out.new ≡ out.old ++ word (master_word master)) }
+{
+    match master {
+        None => write_word(out, b"-"),
+        Some(c) => write_actor(out, Actor::Controller(c)),
+    }
+}
+
+/// Writes a byte of an address, behind a dot.
+fn write_dotted(out: &mut Octets, byte: u8) -> Result<(), AllocError>
+    ensures { OnOk result (out.new ≡ out.old ++ 46 ∷ decimal byte) }
+{
+    out.append(b".")?;
+    write_digits(out, byte)?;
+    Ok(())
+}
+
+/// Writes an IPv4 address as its four bytes.
+#[tactic(auto, unfolding(crate::specs::Report::word, crate::specs::Report::address_word))]
+pub fn write_address(out: &mut Octets, address: u32) -> Result<(), AllocError>
+    ensures { OnOk result (out.new ≡ out.old ++ word (address_word address)) }
+{
+    let [a, b, c, d] = address.to_be_bytes();
+    write_number(out, a)?;
+    write_dotted(out, b)?;
+    write_dotted(out, c)?;
+    write_dotted(out, d)?;
+    Ok(())
+}
+
+fn hex_digit(n: u8) -> u8
+    requires { n < 16 }
+    ensures { result ≡ hex_digit n }
+{
+    if n >= 10 { n + 87 } else { n + 48 }
+}
+
+fn write_digit_pairs(out: &mut Octets, bytes: &[u8]) -> Result<(), AllocError>
+    ensures { OnOk result (out.new ≡ out.old ++ hex_of bytes.now) }
+{
+    for byte in bytes {
+        out.append(&[hex_digit(byte / 16), hex_digit(byte % 16)])?;
+    }
+    Ok(())
+}
+
+/// Writes bytes as digits of base sixteen in lower case, or a dash for none.
+#[tactic(auto, unfolding(crate::specs::Report::word, crate::specs::Report::hex))]
+pub fn write_hex(out: &mut Octets, bytes: &[u8]) -> Result<(), AllocError>
+    ensures { OnOk result (out.new ≡ out.old ++ word (hex bytes.now)) }
+{
+    if bytes.is_empty() {
+        return write_word(out, b"-");
+    }
+    out.append(b" ")?;
+    write_digit_pairs(out, bytes)?;
+    Ok(())
+}

@@ -1,0 +1,4 @@
+pub mod Tellings
+pub mod Endings
+pub mod Steps
+pub mod Firsts

@@ -1,0 +1,5 @@
+pub mod Shows
+pub mod Play
+pub mod Outcome
+pub mod Ending
+pub mod Cause

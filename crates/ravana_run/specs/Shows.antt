@@ -1,0 +1,72 @@
+-- What a report tells of a run.
+use Rattle.std.specs.Prelude.{◌≡◌, ℕ, List, [], ◌∷◌, length, map}
+use Rattle.of_types.specs.declared.message.Row.{Row}
+use Rattle.of_types.specs.declared.setup.Setup.{Setup}
+use Rattle.rv_base.specs.declared.journal.JournalEntry.{JournalEntry}
+use Rattle.rv_base.specs.declared.journal.JournalEntry.TheVariants.{Post, Draw, Lose, Local, Idle, Refused}
+use Rattle.rv_base.specs.declared.journal.Letter.{Letter}
+use Rattle.rv_base.specs.Pool.{past}
+use Rattle.switch_core.specs.Buffer.{held_of}
+use Rattle.switch_core.specs.State.{SwitchState}
+use Rattle.controller_core.specs.Rules.{numbers_below}
+use Rattle.rv_world.specs.declared.says.Message.{Message}
+use Rattle.rv_world.specs.declared.says.Message.TheVariants as message
+use Rattle.rv_world.specs.declared.typed.Typed.{Typed}
+use Rattle.rv_world.specs.Committed.{switch_state}
+use Rattle.rv_world.specs.Messages.{said_on, message_size}
+use Rattle.rv_world.specs.World.{scene_of}
+use Rattle.report.specs.Canonical.{canonical}
+use Rattle.rv_world.specs.States.{Scene}
+use Rattle.report.specs.declared.record.Record.{Record}
+use Rattle.report.specs.declared.record.Shown.{Shown}
+use Rattle.report.specs.declared.record.Told.{Told}
+
+-- the bytes of a message that is its own body
+abbrev pub typed_bytes : Typed → List ℕ
+typed_bytes t = message_bytes t.message
+  where
+    message_bytes : Message → List ℕ
+    message_bytes (message.Of xid said) = canonical xid said
+
+-- the runs of a setup over messages
+abbrev pub scene_typed : Setup → Scene Typed
+scene_typed setup = scene_of setup (λ m. record { message = m }) (λ way t. said_on way t.message) (λ t. message_size t.message)
+
+-- a journal with each body as its bytes
+abbrev pub bare_letters : {B : Type 0} → (B → List ℕ) → List (Letter B) → List (Letter (List ℕ))
+bare_letters bytes letters = map (λ l. record { to = l.to; body = bytes l.body }) letters
+
+abbrev pub bare_entry : {B : Type 0} → (B → List ℕ) → JournalEntry B → JournalEntry (List ℕ)
+bare_entry bytes (Post actor first letters lost) = Post actor first (bare_letters bytes letters) lost
+bare_entry bytes (Draw actor id keep) = Draw actor id keep
+bare_entry bytes (Lose actor id) = Lose actor id
+bare_entry bytes (Local actor input) = Local actor input
+bare_entry bytes (Idle actor) = Idle actor
+bare_entry bytes (Refused actor) = Refused actor
+
+abbrev pub bare : {B : Type 0} → (B → List ℕ) → List (JournalEntry B) → List (JournalEntry (List ℕ))
+bare bytes journal = map (λ e. bare_entry bytes e) journal
+
+-- a row without its cookie
+abbrev pub shown_row : Row → Shown
+shown_row r = record { priority = r.priority; matching = r.matching; actions = r.actions }
+
+-- what is told of a switch
+abbrev pub told_of : SwitchState → Told
+told_of s =
+    record {
+      generation = s.fence.generation;
+      master = s.fence.master;
+      life = s.life;
+      held = length (held_of s);
+      sent = s.sent;
+      events = s.events;
+      executed = s.executed;
+      rows = map shown_row s.rows;
+    }
+
+-- a record tells of this journal: its setup, each entry, and each switch as the journal leaves it
+pub record Shows {B : Type 0} (scene : Scene B) (bytes : B → List ℕ) (journal : List (JournalEntry B)) (told : Record) : Type 0 where
+  pub setup : told.setup ≡ scene.setup
+  pub journal_is : told.journal ≡ bare bytes journal
+  pub switches : told.switches ≡ map (λ s. told_of (switch_state scene s (past journal))) (numbers_below (length scene.setup.ports))

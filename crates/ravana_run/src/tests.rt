@@ -1,0 +1,263 @@
+use crate::top::ravana;
+use of_types::Octets;
+use rv_base::{MemorySink, MemorySource};
+use std::alloc::{AllocError, Global};
+use std::test::Fail;
+
+const USAGE: &[u8] = b"fault 2 usage: sim, run, audit or gen NUMBER CONTROLLERS SWITCHES FRAMES\n";
+
+const UNREAD: &[u8] = b"fault 4 read\n";
+
+const LATER: &[u8] = b"fault 3 later top\n";
+
+/// A frame to an unknown host: one event, one flood.
+const ONE_FRAME: &str =
+    r#"{"controllers": 1, "switches": [{"ports": 2}], "steps": [{"do": "frame", "switch": 0, "port": 1, "bytes": "02000000000202000000000188b5"}]}"#;
+
+const UNKNOWN_HOST: &str = r"ravana report 1
+setup 1 1
+ports 0 2
+local s0 frame 1 02000000000202000000000188b5
+local c0 suspect 1
+post c0 0 1 0
+letter s0 041800180000000000000002000000000000000000000001
+draw s0 0 0
+post s0 1 2 0
+letter c0 041900180000000000000002000000000000000000000001
+letter c0 0404005800000000000252560000000100000000000000000000000000000000040a003800000000ffffffff000e000000000000000000000001000c800000040000000100000000000002000000000202000000000188b5
+draw c0 1 0
+draw c0 2 0
+post c0 3 1 0
+letter s0 040400660000000000025256000000030000000000000000000000000000000100000000000000000000000000000000040d003600000000ffffffff00000001001000000000000000000010fffffffb000000000000000002000000000202000000000188b5
+draw s0 3 0
+post s0 4 1 0
+letter c0 04040028000000000002525600000004000000000000000000000000000000000000000000000000
+draw c0 4 0
+post c0 5 2 0
+letter s0 0404002000000000000252560000000200000000000000000000000000000001
+letter s0 0404002000000000000252560000000500000000000000000000000000000001
+draw s0 5 0
+draw s0 6 0
+log 2 83
+received 0 0 0 040a003800000000ffffffff000e000000000000000000000001000c800000040000000100000000000002000000000202000000000188b5
+processed 0
+switch 0 generation 1 master c0 life 0 events 1 held 0 executed 1 rows 1 sent 1
+event 0 0 0 040a003800000000ffffffff000e000000000000000000000001000c800000040000000100000000000002000000000202000000000188b5
+executed 0 0 0 1 c0 040d003600000000ffffffff00000001001000000000000000000010fffffffb000000000000000002000000000202000000000188b5
+row 0 0 00010004 00000010fffffffdffff000000000000
+end script 1 closing 8 events 1 log 2 commands 1 rows 1
+";
+
+const HIGH_PORT: &str = r"ravana report 1
+setup 1 1
+ports 0 48
+local s0 frame 12 8d5d7d7ca565bfb875c1ce76886a
+local c0 suspect 1
+post c0 0 1 0
+letter s0 041800180000000000000002000000000000000000000001
+draw s0 0 0
+post s0 1 2 0
+letter c0 041900180000000000000002000000000000000000000001
+letter c0 0404005800000000000252560000000100000000000000000000000000000000040a003800000000ffffffff000e000000000000000000000001000c800000040000000c0000000000008d5d7d7ca565bfb875c1ce76886a
+draw c0 1 0
+draw c0 2 0
+post c0 3 1 0
+letter s0 040400660000000000025256000000030000000000000000000000000000000100000000000000000000000000000000040d003600000000ffffffff0000000c001000000000000000000010fffffffb00000000000000008d5d7d7ca565bfb875c1ce76886a
+draw s0 3 0
+post s0 4 1 0
+letter c0 04040028000000000002525600000004000000000000000000000000000000000000000000000000
+draw c0 4 0
+post c0 5 2 0
+letter s0 0404002000000000000252560000000200000000000000000000000000000001
+letter s0 0404002000000000000252560000000500000000000000000000000000000001
+draw s0 5 0
+draw s0 6 0
+log 2 83
+received 0 0 0 040a003800000000ffffffff000e000000000000000000000001000c800000040000000c0000000000008d5d7d7ca565bfb875c1ce76886a
+processed 0
+switch 0 generation 1 master c0 life 0 events 1 held 0 executed 1 rows 1 sent 47
+event 0 0 0 040a003800000000ffffffff000e000000000000000000000001000c800000040000000c0000000000008d5d7d7ca565bfb875c1ce76886a
+executed 0 0 0 1 c0 040d003600000000ffffffff0000000c001000000000000000000010fffffffb00000000000000008d5d7d7ca565bfb875c1ce76886a
+row 0 0 00010004 00000010fffffffdffff000000000000
+end script 1 closing 8 events 1 log 2 commands 1 rows 1
+";
+
+const NOTHING: &str = r"ravana report 1
+setup 1 1
+ports 0 2
+local c0 suspect 1
+post c0 0 1 0
+letter s0 041800180000000000000002000000000000000000000001
+draw s0 0 0
+post s0 1 1 0
+letter c0 041900180000000000000002000000000000000000000001
+draw c0 1 0
+log 0 0
+switch 0 generation 1 master c0 life 0 events 0 held 0 executed 0 rows 1 sent 0
+row 0 0 00010004 00000010fffffffdffff000000000000
+end script 0 closing 3 events 0 log 0 commands 0 rows 1
+";
+
+const MANY_PORTS: &str = r"ravana report 1
+setup 1 1
+ports 0 47
+local c0 suspect 1
+post c0 0 1 0
+letter s0 041800180000000000000002000000000000000000000001
+draw s0 0 0
+post s0 1 1 0
+letter c0 041900180000000000000002000000000000000000000001
+draw c0 1 0
+log 0 0
+switch 0 generation 1 master c0 life 0 events 0 held 0 executed 0 rows 1 sent 0
+row 0 0 00010004 00000010fffffffdffff000000000000
+end script 0 closing 3 events 0 log 0 commands 0 rows 1
+";
+
+/// What a source and a sink do: how many bytes a call moves, and which calls fail.
+#[derive(Clone, Copy)]
+struct Ends {
+    most: usize,
+    failing_reads: &'static [u64],
+    failing_writes: &'static [u64],
+}
+
+const WHOLE: Ends = Ends {
+    most: 65_536,
+    failing_reads: &[],
+    failing_writes: &[],
+};
+
+/// Serves a call, and tells its status and the first bytes that it wrote.
+fn serve(
+    alloc: Global,
+    words: &[&str],
+    input: &[u8],
+    ends: Ends,
+) -> Result<(u8, Octets), AllocError> {
+    let mut texts = Vec::new(alloc);
+    for word in words {
+        texts.push(String::from_str(alloc, word)?)?;
+    }
+    let bytes = Octets::from_slice(alloc, input)?;
+    let most = ends.most.max(1);
+    let mut source = MemorySource::new(bytes, most, ends.failing_reads.to_vec(alloc)?);
+    let mut sink = MemorySink::new(alloc, most, ends.failing_writes.to_vec(alloc)?);
+    let status = ravana(alloc, &texts, &mut source, &mut sink);
+    Ok((status, Octets::from_slice(alloc, sink.taken())?))
+}
+
+#[test]
+fn serves_the_first_form(rt: HostRuntime) -> Result<(), Fail> {
+    let cases: [(&str, u8, &[u8]); 13] = [
+        (ONE_FRAME, 0, UNKNOWN_HOST.as_bytes()),
+        (
+            r#"{"controllers": 1, "switches": [{"ports": 48}], "steps": [{"do": "frame", "switch": 0, "port": 12, "bytes": "8d5d7d7ca565bfb875c1ce76886a"}]}"#,
+            0,
+            HIGH_PORT.as_bytes(),
+        ),
+        (
+            r#"{"\u0063ontrollers":1,"switches":[{"ports":2}],"steps":[]}"#,
+            0,
+            NOTHING.as_bytes(),
+        ),
+        (
+            r#"{"controllers":9,"controllers":1,"switches":[{"ports":2}],"steps":[]}"#,
+            0,
+            NOTHING.as_bytes(),
+        ),
+        (
+            r#"{"controllers": 1, "switches": [{"ports": 47}], "steps": []}"#,
+            0,
+            MANY_PORTS.as_bytes(),
+        ),
+        (
+            r#"{"controllers":1,"controllers":9,"switches":[{"ports":2}],"steps":[]}"#,
+            3,
+            LATER,
+        ),
+        (
+            r#"{"controllers": 1, "switches": [{"ports": 2}], "steps": [null]}"#,
+            3,
+            LATER,
+        ),
+        (
+            r#"{"controllers": 1, "switches": [{"ports": 47}], "steps": [], "links": []}"#,
+            3,
+            LATER,
+        ),
+        (
+            r#"{"controllers": 0, "switches": [{"ports": 3}], "steps": [{"do": "frame", "switch": 0, "port": 1, "bytes": "9440817f664dc1b873e10eb80bcb"}]}"#,
+            3,
+            LATER,
+        ),
+        (
+            r#"{"controllers": 1, "switches": [{"ports": 47}], "steps": [{"do": "frame", "switch": 0, "port": 16, "bytes": "6b6f003700240c882c0969e030a2ed"}], "deny": []}"#,
+            3,
+            LATER,
+        ),
+        (
+            r#"{"controllers": 1, "switches": [{"ports": 4}]}"#,
+            3,
+            LATER,
+        ),
+        (
+            r#"{"controllers":1,"switches":[{"ports":2e0}],"steps":[]}"#,
+            3,
+            LATER,
+        ),
+        (
+            r#"{"controllers":1,"switches":[{"ports":2}],"steps":[{"do":"frame","switch":0,"port":1,"bytes":"02000000000202000000000188b5"},{"do":"frame","switch":0,"port":1,"bytes":"02000000000202000000000188b5"}]}"#,
+            3,
+            LATER,
+        ),
+    ];
+    for (input, status, text) in cases {
+        for most in [1, 65_536] {
+            let ends = Ends { most, ..WHOLE };
+            let (found, written) = serve(rt.alloc(), &["sim"], input.as_bytes(), ends)?;
+            assert_eq!(rt; found, status);
+            assert_eq!(rt; written.as_slice(), text);
+        }
+    }
+    Ok(())
+}
+
+#[test]
+fn refuses_other_words(rt: HostRuntime) -> Result<(), Fail> {
+    let words: [&[&str]; 5] = [
+        &[],
+        &["--help"],
+        &["sim", "sim"],
+        &["gen", "7", "2", "16", "10"],
+        &["Sim"],
+    ];
+    for words in words {
+        let (status, written) = serve(rt.alloc(), words, ONE_FRAME.as_bytes(), WHOLE)?;
+        assert_eq!(rt; status, 2);
+        assert_eq!(rt; written.as_slice(), USAGE);
+    }
+    Ok(())
+}
+
+#[test]
+fn tells_failing_ends(rt: HostRuntime) -> Result<(), Fail> {
+    let unread = Ends {
+        most: 64,
+        failing_reads: &[1],
+        ..WHOLE
+    };
+    let (status, written) = serve(rt.alloc(), &["sim"], ONE_FRAME.as_bytes(), unread)?;
+    assert_eq!(rt; status, 4);
+    assert_eq!(rt; written.as_slice(), UNREAD);
+
+    let unwritten = Ends {
+        most: 64,
+        failing_writes: &[1],
+        ..WHOLE
+    };
+    let (status, written) = serve(rt.alloc(), &["sim"], ONE_FRAME.as_bytes(), unwritten)?;
+    assert_eq!(rt; status, 5);
+    assert_eq!(rt; written.as_slice(), &UNKNOWN_HOST.as_bytes()[..64]);
+    Ok(())
+}

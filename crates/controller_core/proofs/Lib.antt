@@ -1,2 +1,4 @@
 pub mod Chains
 pub mod Finishing
+pub mod Moves
+pub mod Growth

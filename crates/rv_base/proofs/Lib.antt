@@ -3,3 +3,4 @@ pub mod Pools
 pub mod Fitting
 pub mod Kept
 pub mod Turning
+pub mod Among

@@ -1,0 +1,68 @@
+-- Beginnings and places of lists.
+use Rattle.std.proofs.Common.{◌≡◌, ◌≤◌, ◌<◌, ℕ, ◌+◌, List, [], ◌∷◌, ◌++◌, length, take, drop, map, zero, suc, refl, sym, ◌∙◌, ap, subst, inl, inr, ◌⊎◌, append-nil, append_assoc, arith, length-append}
+use Rattle.std.specs.Prelude.{slice_get, Option, Some, None}
+use Rattle.std.proofs.lemmas.Option.{slice_get_within}
+use Rattle.rv_base.proofs.Among.{Among}
+use Rattle.rv_world.specs.Laws.{IsPrefix}
+
+pub prefix_same : {A : Type 0} (xs : List A) → IsPrefix xs xs
+prefix_same xs = record { rest = []; joined = sym (append-nil xs) }
+
+pub prefix_is : {A : Type 0} (xs ys : List A) → ys ≡ xs → IsPrefix xs ys
+prefix_is xs ys e = record { rest = []; joined = e ∙ sym (append-nil xs) }
+
+pub prefix_on : {A : Type 0} {xs ys zs : List A} → IsPrefix xs ys → IsPrefix ys zs → IsPrefix xs zs
+prefix_on {xs = xs} p q = record { rest = p.rest ++ q.rest; joined = q.joined ∙ ap (λ l. l ++ q.rest) p.joined ∙ append_assoc xs p.rest q.rest }
+
+pub prefix_push : {A : Type 0} (xs : List A) (y : A) → IsPrefix xs (xs ++ y ∷ [])
+prefix_push xs y = record { rest = y ∷ []; joined = refl }
+
+pub prefix_length : {A : Type 0} {xs ys : List A} → IsPrefix xs ys → length xs ≤ length ys
+prefix_length {xs = xs} p = omega (arith, ap length p.joined, length-append xs p.rest)
+
+get_front : {A : Type 0} (xs ys : List A) (i : ℕ) (x : A) → slice_get xs i ≡ Some x → slice_get (xs ++ ys) i ≡ Some x
+get_front [] ys i x h = cc
+get_front (y ∷ xs) ys zero x h = h
+get_front (y ∷ xs) ys (suc i) x h = get_front xs ys i x h
+
+-- what stands at a place stays there
+pub get_prefix : {A : Type 0} {xs ys : List A} (i : ℕ) (x : A) → IsPrefix xs ys → slice_get xs i ≡ Some x → slice_get ys i ≡ Some x
+get_prefix {xs = xs} i x p h = subst (λ l. slice_get l i ≡ Some x) (sym p.joined) (get_front xs p.rest i x h)
+
+-- a place of a list with one more
+pub get_push : {A : Type 0} (xs : List A) (y x : A) (i : ℕ) → slice_get (xs ++ y ∷ []) i ≡ Some x → (slice_get xs i ≡ Some x) ⊎ ((i ≡ length xs) × (x ≡ y))
+get_push [] y x zero h = inr (refl, cc)
+get_push [] y x (suc i) h = cc
+get_push (z ∷ xs) y x zero h = inl h
+get_push (z ∷ xs) y x (suc i) h = elim (get_push xs y x i h) [ inl k ↦ inl k | inr k ↦ inr (ap suc k.0, k.1) ]
+
+pub get_seam : {A : Type 0} (xs : List A) (y : A) → slice_get (xs ++ y ∷ []) (length xs) ≡ Some y
+get_seam [] y = refl
+get_seam (x ∷ xs) y = get_seam xs y
+
+pub among_get : {A : Type 0} (xs : List A) (x : A) → Among x xs → (i : ℕ) × (slice_get xs i ≡ Some x)
+among_get [] x h = absurd h
+among_get (y ∷ xs) x (inl e) = (0, ap Some (sym e))
+among_get (y ∷ xs) x (inr h) = let r = among_get xs x h in (suc r.0, r.1)
+
+pub get_among : {A : Type 0} (xs : List A) (x : A) (i : ℕ) → slice_get xs i ≡ Some x → Among x xs
+get_among [] x i h = cc
+get_among (y ∷ xs) x zero h = inl (cc)
+get_among (y ∷ xs) x (suc i) h = inr (get_among xs x i h)
+
+-- a list that holds what another one holds, at the same places, begins with it
+pub prefix_by_places : {A : Type 0} (xs ys : List A) → ((i : ℕ) (x : A) → slice_get xs i ≡ Some x → slice_get ys i ≡ Some x) → IsPrefix xs ys
+prefix_by_places [] ys h = record { rest = ys; joined = refl }
+prefix_by_places (x ∷ xs) [] h = let k : slice_get [] 0 ≡ Some x = h 0 x refl in absurd cc
+prefix_by_places {A = A} (x ∷ xs) (y ∷ ys) h =
+    let k : slice_get (y ∷ ys) 0 ≡ Some x = h 0 x refl in
+    let r = prefix_by_places xs ys (λ i z e. h (suc i) z e) in
+    let same : y ≡ x = cc in
+    record { rest = r.rest; joined = ap (λ l. y ∷ l) r.joined ∙ ap (λ (z : A). z ∷ (xs ++ r.rest)) same }
+
+pub prefix_map : {A B : Type 0} (f : A → B) {xs ys : List A} → IsPrefix xs ys → IsPrefix (map f xs) (map f ys)
+prefix_map f {xs = xs} p = record { rest = map f p.rest; joined = ap (λ l. map f l) p.joined ∙ map_append xs p.rest }
+  where
+    map_append : (xs ys : List _) → map f (xs ++ ys) ≡ map f xs ++ map f ys
+    map_append [] ys = refl
+    map_append (x ∷ xs) ys = ap (λ l. f x ∷ l) (map_append xs ys)

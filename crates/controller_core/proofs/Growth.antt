@@ -1,9 +1,11 @@
 -- The committed log of a controller only grows while it is up.
-use Rattle.std.proofs.Common.{◌≡◌, ℕ, ◌+◌, Bool, true, false, List, [], ◌∷◌, ◌++◌, length, take, drop, refl, sym, ◌∙◌, ap, subst, append-nil, append_assoc, arith, take_all, length-append, take-append-drop}
+use Rattle.std.proofs.Common.{◌⊎◌, inl, inr, ◌≡◌, ℕ, ◌+◌, Bool, true, false, List, [], ◌∷◌, ◌++◌, length, take, drop, refl, sym, ◌∙◌, ap, subst, append-nil, append_assoc, arith, take_all, length-append, take-append-drop}
 use Rattle.of_types.specs.declared.setup.Setup.{Setup}
+use Rattle.rv_base.specs.declared.journal.Local.TheVariants as local
 use Rattle.controller_core.specs.declared.says.ControllerInput.{ControllerInput}
+use Rattle.controller_core.specs.declared.says.ControllerInput.TheVariants as controller_input
 use Rattle.controller_core.specs.declared.says.Entry.{Entry}
-use Rattle.controller_core.specs.State.{ControllerState, Work, committed, appended, is_up, leaving}
+use Rattle.controller_core.specs.State.{ControllerState, Work, resting, down, committed, appended, is_up, leaving}
 use Rattle.controller_core.specs.Rules.{controller_work}
 use Rattle.controller_core.proofs.Moves.{Move, Receives, Processes, Says, Marks, Notes, Starts, turn_keeps, down_rests}
 
@@ -26,10 +28,10 @@ committed_front c more k is =
       joined = take_all k (c.log ++ more) (omega arith) ∙ ap (λ l. l ++ more) (sym (take-append-drop c.commit c.log)) ∙ append_assoc (take c.commit c.log) (drop c.commit c.log) more;
     }
 
-grows_appended : (c : ControllerState) (e : Entry) → Grows (committed c) (committed (appended c e))
+pub grows_appended : (c : ControllerState) (e : Entry) → Grows (committed c) (committed (appended c e))
 grows_appended c e = committed_front c (e ∷ []) (length c.log + 1) (sym (length-append c.log (e ∷ [])))
 
-grows_started : (c : ControllerState) → Grows (committed c) (take (length c.log) c.log)
+pub grows_started : (c : ControllerState) → Grows (committed c) (take (length c.log) c.log)
 grows_started c = subst (λ l. Grows (committed c) (take (length c.log) l)) (append-nil c.log) (committed_front c [] (length c.log) (sym (ap length (append-nil c.log))))
 
 -- up with more committed, or not up
@@ -61,3 +63,34 @@ turn_grows kinds setup c x up = by_status (is_up c.status) refl
     by_status false off =
         let e : is_up c.status ≡ true = ap (λ w. is_up w.state.status) (sym (down_rests kinds setup c x off)) ∙ up in
         absurd cc
+
+crash_or : (x : ControllerInput) → (x ≡ controller_input.Local local.Crash) ⊎ (x ≡ controller_input.Local local.Crash → ⊥)
+crash_or (controller_input.Local local.Crash) = inl refl
+crash_or (controller_input.Local (local.Frame port bytes)) = inr (λ h. absurd cc)
+crash_or (controller_input.Local (local.Port port up)) = inr (λ h. absurd cc)
+crash_or (controller_input.Local local.Tick) = inr (λ h. absurd cc)
+crash_or (controller_input.Local (local.Suspect view)) = inr (λ h. absurd cc)
+crash_or (controller_input.Local local.Restart) = inr (λ h. absurd cc)
+crash_or (controller_input.Of s xid message) = inr (λ h. absurd cc)
+crash_or (controller_input.Malformed from) = inr (λ h. absurd cc)
+
+move_up : (kinds : List ℕ) (setup : Setup) (x : ControllerInput) (w w' : Work) → Move kinds setup x w w' → is_up w.state.status ≡ true → is_up w'.state.status ≡ true
+move_up kinds setup x w w' (Receives s xid life number what is next leaves) up = ap (λ v. is_up v.state.status) leaves ∙ up
+move_up kinds setup x w w' (Processes ready leaves) up = ap (λ v. is_up v.state.status) leaves ∙ up
+move_up kinds setup x w w' (Says ls all leaves) up = ap (λ v. is_up v.state.status) leaves ∙ up
+move_up kinds setup x w w' (Marks s xid life number outcome is waits leaves) up = ap (λ v. is_up v.state.status) leaves ∙ up
+move_up kinds setup x w w' (Notes confirmed told full leaves) up = ap (λ v. is_up v.state.status) leaves ∙ up
+move_up kinds setup x w w' (Starts view is on higher leaves) up = ap (λ v. is_up v.state.status) leaves
+
+crashes : (kinds : List ℕ) (setup : Setup) (c : ControllerState) → is_up c.status ≡ true → controller_work kinds setup c (controller_input.Local local.Crash) ≡ resting (down c c.promise c.life)
+unfolding controller_work
+crashes kinds setup c up = rw up refl
+
+-- a controller that is up ends a turn up, or went down by a crash
+pub turn_ends : (kinds : List ℕ) (setup : Setup) (c : ControllerState) (x : ControllerInput) → is_up c.status ≡ true →
+    (is_up (controller_work kinds setup c x).state.status ≡ true) ⊎ (controller_work kinds setup c x ≡ resting (down c c.promise c.life))
+turn_ends kinds setup c x up =
+    elim (crash_or x) [
+      | inl crash ↦ inr (ap (λ y. controller_work kinds setup c y) crash ∙ crashes kinds setup c up)
+      | inr other ↦ inl (turn_keeps kinds setup x (λ w. is_up w.state.status ≡ true) (move_up kinds setup x) c up up (λ crash. absurd (other crash)))
+    ]

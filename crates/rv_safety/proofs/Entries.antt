@@ -1,4 +1,4 @@
--- What one entry does to a controller.
+-- What one entry does to an actor.
 use Rattle.std.proofs.Common.{◌≡◌, ◌⊎◌, inl, inr, ℕ, Bool, true, false, List, [], ◌∷◌, refl, sym, subst}
 use Rattle.std.specs.Prelude.{Option, Some, None, slice_index_or}
 use Rattle.rv_base.specs.declared.journal.Actor.{Actor}
@@ -15,7 +15,10 @@ use Rattle.controller_core.specs.declared.says.ControllerInput.{ControllerInput}
 use Rattle.controller_core.specs.declared.says.ControllerInput.TheVariants as controller_input
 use Rattle.controller_core.specs.State.{ControllerState, down}
 use Rattle.controller_core.specs.Rules.{controller_work, controller_turn}
-use Rattle.rv_world.specs.States.{Scene, ControllerAt, controller_at, controller_step, controller_took, controller_saved, controller_hears, content}
+use Rattle.switch_core.specs.declared.says.SwitchInput.{SwitchInput}
+use Rattle.switch_core.specs.declared.says.SwitchInput.TheVariants as switch_input
+use Rattle.switch_core.specs.Rules.{switch_turn}
+use Rattle.rv_world.specs.States.{SwitchAt, switch_at, switch_step, switch_took, switch_hears, Scene, ControllerAt, controller_at, controller_step, controller_took, controller_saved, controller_hears, content}
 
 -- the input that a controller takes with an entry
 pub data IsHeard {B : Type 0} (scene : Scene B) (e : JournalEntry B) (found : Option (Packet B)) (x : ControllerInput) : Type 0 where
@@ -69,3 +72,36 @@ controller_after {B = B} scene results c e before = by_actor (same_actor (actor_
         Own h own (subst (λ (p : List (JournalEntry B × Option (Packet B))). ControllerGoes scene e (drawn e before) (controller_at scene results c (part (actor.Controller c) before)) (controller_at scene results c p)) (sym own)
         (step_goes scene results (controller_at scene results c (part (actor.Controller c) before)) e (drawn e before)))
     by_actor false h = Other h (rw h refl)
+
+-- the input that a switch takes with an entry
+pub data IsHeardAt {B : Type 0} (scene : Scene B) (e : JournalEntry B) (found : Option (Packet B)) (x : SwitchInput) : Type 0 where
+  From_draw : (a : Actor) (id : ℕ) (keep : Bool) (p : Packet B) → e ≡ Draw a id keep → found ≡ Some p → x ≡ switch_hears p.from (content scene.sealing p) → IsHeardAt scene e found x
+  From_local : (a : Actor) (input : LocalInput) → e ≡ Local a input → x ≡ switch_input.Local input → IsHeardAt scene e found x
+
+-- what an entry of a switch does to it
+pub data SwitchGoes {B : Type 0} (scene : Scene B) (e : JournalEntry B) (found : Option (Packet B)) (w w' : SwitchAt) : Type 0 where
+  Takes : (x : SwitchInput) → IsHeardAt scene e found x → w' ≡ switch_took w (switch_turn w.now x) → SwitchGoes scene e found w w'
+  Rests : w' ≡ record w { fresh = false } → SwitchGoes scene e found w w'
+  Posts : w' ≡ record w { owed = []; fresh = false } → SwitchGoes scene e found w w'
+  Refuses : (a : Actor) → e ≡ Refused a → w' ≡ record w { now = w.before; owed = []; fresh = false } → SwitchGoes scene e found w w'
+
+pub switch_goes : {B : Type 0} (scene : Scene B) (w : SwitchAt) (e : JournalEntry B) (found : Option (Packet B)) → SwitchGoes scene e found w (switch_step scene w e found)
+switch_goes scene w (Draw a id keep) (Some p) = Takes _ (From_draw a id keep p refl refl refl) refl
+switch_goes scene w (Draw a id keep) None = Rests refl
+switch_goes scene w (Local a input) found = Takes _ (From_local a input refl refl) refl
+switch_goes scene w (Post a first letters lost) found = Posts refl
+switch_goes scene w (Refused a) found = Refuses a refl refl
+switch_goes scene w (Lose a id) found = Rests refl
+switch_goes scene w (Idle a) found = Rests refl
+
+-- an entry is one of a switch, or leaves it
+pub data SwitchAfter {B : Type 0} (scene : Scene B) (s : ℕ) (e : JournalEntry B) (before : List (JournalEntry B)) : Type 0 where
+  Mine : same_actor (actor_of e) (actor.Switch s) ≡ true → part (actor.Switch s) (e ∷ before) ≡ (e, drawn e before) ∷ part (actor.Switch s) before → SwitchAfter scene s e before
+  Another : same_actor (actor_of e) (actor.Switch s) ≡ false → part (actor.Switch s) (e ∷ before) ≡ part (actor.Switch s) before → SwitchAfter scene s e before
+
+pub switch_after : {B : Type 0} (scene : Scene B) (s : ℕ) (e : JournalEntry B) (before : List (JournalEntry B)) → SwitchAfter scene s e before
+switch_after {B = B} scene s e before = by_actor (same_actor (actor_of e) (actor.Switch s)) refl
+  where
+    by_actor : (b : Bool) → same_actor (actor_of e) (actor.Switch s) ≡ b → SwitchAfter scene s e before
+    by_actor true h = Mine h (rw h refl)
+    by_actor false h = Another h (rw h refl)

@@ -12,7 +12,7 @@ use Rattle.controller_core.specs.declared.says.Numbered.{Numbered}
 use Rattle.controller_core.specs.Chain.{concat, chain_next, chain_after, starting_chain, reactions_from, reactions, single, orders_for, issued}
 use Rattle.controller_core.specs.Marks.{with_numbers, commands_of}
 use Rattle.rv_world.specs.Laws.{IsPrefix}
-use Rattle.rv_safety.proofs.Lists.{prefix_on, get_prefix}
+use Rattle.rv_safety.proofs.Lists.{get_prefix, front_prefix}
 
 concat-append : {A : Type 0} (xs ys : List (List A)) → concat (xs ++ ys) ≡ concat xs ++ concat ys
 concat-append [] ys = refl
@@ -76,11 +76,6 @@ next_commands : {A : Type 0} (xs : List (List A)) (j : ℕ) → j < length xs �
 next_commands xs j lt =
     ap (λ l. concat l) (take_more xs j [] lt) ∙ concat-append (take j xs) (get_or xs j [] ∷ []) ∙ ap (λ l. concat (take j xs) ++ l) (append-nil (get_or xs j []))
 
-take_prefix : {A : Type 0} (n : ℕ) (xs : List A) → IsPrefix (take n xs) xs
-take_prefix zero xs = record { rest = xs; joined = refl }
-take_prefix (suc n) [] = record { rest = []; joined = refl }
-take_prefix (suc n) (x ∷ xs) = let r = take_prefix n xs in record { rest = r.rest; joined = ap (λ l. x ∷ l) r.joined }
-
 order_choice : (b : Bool) (o : Order) (xs ys : List Order) → b ≡ true → slice_get (xs ++ (if b then o ∷ ys else ys)) (length xs) ≡ Some o
 order_choice true o [] ys h = refl
 order_choice true o (x ∷ xs) ys h = order_choice true o xs ys h
@@ -106,7 +101,7 @@ command_stands kinds setup es j n h =
           let at = numbered_stands (concat (take j (reactions kinds setup es))) (get_or (reactions kinds setup es) j []) n h in
           let here : slice_get (orders_for n.switch (concat (take (j + 1) (reactions kinds setup es)))) n.number ≡ Some n.what =
           ap (λ l. slice_get (orders_for n.switch l) n.number) (next_commands (reactions kinds setup es) j lt) ∙ at in
-          get_prefix n.number n.what (orders_prefix n.switch _ _ (concat_prefix (take (j + 1) (reactions kinds setup es)) (reactions kinds setup es) (take_prefix (j + 1) (reactions kinds setup es)))) here
+          get_prefix n.number n.what (orders_prefix n.switch _ _ (concat_prefix (take (j + 1) (reactions kinds setup es)) (reactions kinds setup es) (front_prefix (j + 1) (reactions kinds setup es)))) here
       | inr past ↦ absurd (subst (λ l. Among n (with_numbers (concat (take j (reactions kinds setup es))) l)) (get_or_past (reactions kinds setup es) j [] past) h)
     ]
 
@@ -134,3 +129,8 @@ done_through kinds setup s bound j es lt few all =
     let new = numbered_below s bound (concat (take j rs)) (get_or rs j []) old all in
     let whole : length (orders_for s (concat (take (j + 1) rs))) ≤ bound = subst (λ l. length (orders_for s l) ≤ bound) (sym (next_commands rs j there)) new in
     subst (λ l. length (orders_for s (concat l)) ≤ bound) (sym (reactions-take kinds setup (j + 1) es)) whole
+
+-- nothing is issued on nothing
+pub issued_none : (kinds : List ℕ) (setup : Setup) (s : ℕ) → issued kinds setup s [] ≡ []
+unfolding reactions
+issued_none kinds setup s = refl

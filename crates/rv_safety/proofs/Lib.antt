@@ -4,3 +4,8 @@ pub mod Decided
 pub mod Issued
 pub mod Invariant
 pub mod More
+pub mod Orders
+pub mod Switches
+pub mod Controllers
+pub mod Packets
+pub mod Journals

@@ -66,3 +66,25 @@ prefix_map f {xs = xs} p = record { rest = map f p.rest; joined = ap (λ l. map 
     map_append : (xs ys : List _) → map f (xs ++ ys) ≡ map f xs ++ map f ys
     map_append [] ys = refl
     map_append (x ∷ xs) ys = ap (λ l. f x ∷ l) (map_append xs ys)
+
+-- the front of a list begins it
+pub front_prefix : {A : Type 0} (n : ℕ) (xs : List A) → IsPrefix (take n xs) xs
+front_prefix zero xs = record { rest = xs; joined = refl }
+front_prefix (suc n) [] = record { rest = []; joined = refl }
+front_prefix (suc n) (x ∷ xs) = let r = front_prefix n xs in record { rest = r.rest; joined = ap (λ l. x ∷ l) r.joined }
+
+
+-- where a list with one more is split
+pub push_split : {A : Type 0} (xs : List A) (y : A) (front : List A) (x : A) (back : List A) → xs ++ y ∷ [] ≡ front ++ x ∷ back →
+    ((xs ≡ front) × (y ≡ x)) ⊎ ((rest : List A) × (xs ≡ front ++ x ∷ rest))
+push_split [] y [] x back h = inl (refl, cc)
+push_split (z ∷ xs) y [] x back h = inr (xs, let e : z ≡ x = cc in ap (λ w. w ∷ xs) e)
+push_split [] y (w ∷ []) x back h = absurd cc
+push_split [] y (w ∷ (v ∷ front)) x back h = absurd cc
+push_split {A = A} (z ∷ xs) y (w ∷ front) x back h =
+    let first : z ≡ w = cc in
+    let rest : xs ++ y ∷ [] ≡ front ++ x ∷ back = cc in
+    elim (push_split xs y front x back rest) [
+      | inl k ↦ inl (ap (λ (l : List A). z ∷ l) k.0 ∙ ap (λ (v : A). v ∷ front) first, k.1)
+      | inr k ↦ inr (k.0, ap (λ (l : List A). z ∷ l) k.1 ∙ ap (λ (v : A). v ∷ (front ++ x ∷ k.0)) first)
+    ]

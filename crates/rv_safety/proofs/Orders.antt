@@ -1,0 +1,164 @@
+-- Each order that is issued for events with good frames can be spelled.
+use Rattle.std.proofs.Common.{◌≡◌, ◌≤◌, ◌<◌, ℕ, ◌+◌, ◌*◌, ◌-◌, ◌^◌, ◌%◌, Bool, true, false, not, List, [], ◌∷◌, ◌++◌, length, drop, get_or, zero, suc, refl, sym, ◌∙◌, ap, subst, inl, inr, ◌⊎◌, arith, pow-suc, mul-le-mul_right, mod-eq_of_lt}
+use Rattle.std.specs.Prelude.{slice_get, nat_eq, nat_le, nat_lt, Option, Some, None, unwrap_or, if◌then◌else◌}
+use Rattle.std.specs.List.{AllByRecursion}
+use Rattle.std.proofs.lemmas.Bool.{and_parts, cond_both, leb-true}
+use Rattle.std.proofs.lemmas.Nat.{and_mask}
+use Rattle.byteorder.specs.Endian.{big_from}
+use Rattle.of_types.specs.declared.message.Command.{Command}
+use Rattle.of_types.specs.declared.message.Event.{Event}
+use Rattle.of_types.specs.declared.message.Extension.TheVariants as extension
+use Rattle.of_types.specs.declared.message.Happening.{Happening}
+use Rattle.of_types.specs.declared.message.Happening.TheVariants as happening
+use Rattle.of_types.specs.declared.message.Order.{Order}
+use Rattle.of_types.specs.declared.message.Spoken.TheVariants as spoken
+use Rattle.of_types.specs.declared.numbers.TheConstants.{FLOOD}
+use Rattle.of_types.specs.declared.setup.Setup.{Setup}
+use Rattle.of_types.specs.Header.{number_at}
+use Rattle.of_types.specs.Sizes.{order_size}
+use Rattle.of_types.specs.Valid.{IsValidOrder, IsValid}
+use Rattle.rv_base.proofs.Among.{Among, among_append}
+use Rattle.controller_core.specs.declared.learning.Host.{Host}
+use Rattle.controller_core.specs.Chain.{concat, PartStep, ChainStep, hosts_of, passes_on, learning_step, learning, part_next, chain_next, starting_chain, reactions_from, reactions, single, orders_for, issued}
+use Rattle.controller_core.specs.Learning.{forwarding_row, forgetting_rows, packet_out, forwarded, seen_destination, hosts_after, learning_commands}
+use Rattle.switch_core.specs.Rules.{is_frame}
+use Rattle.rv_safety.specs.Truths.{IsGoodFrame, IsGoodHappening}
+use Rattle.rv_safety.proofs.Lists.{get_among}
+
+bytes_at : (xs : List ℕ) → AllByRecursion (λ b. b < 256) xs → (k : ℕ) → get_or xs k 0 < 256
+bytes_at [] h k = omega arith
+bytes_at (x ∷ xs) h zero = h.0
+bytes_at (x ∷ xs) h (suc k) = bytes_at xs h.1 k
+
+next_digit : (digit rest place : ℕ) → digit < 256 → rest < place → digit * place + rest < place * 256
+next_digit digit rest place d r =
+    let few : digit ≤ 255 = omega arith in
+    let m : digit * place ≤ 255 * place = mul-le-mul_right place few in
+    omega (arith, m)
+
+big_below : (i n : ℕ) (xs : List ℕ) → ((k : ℕ) → get_or xs k 0 < 256) → big_from i n xs < 256 ^ n
+big_below i zero xs h = omega arith
+big_below i (suc n) xs h = rw pow-suc (next_digit (get_or xs i 0) (big_from (suc i) n xs) (256 ^ n) (h i) (big_below (suc i) n xs h))
+
+address_below : (frame : List ℕ) → AllByRecursion (λ b. b < 256) frame → unwrap_or (number_at 6 0 frame) 0 < 2 ^ 48
+address_below frame bytes =
+    cond_both (nat_le (0 + 6) (length frame)) (Some (big_from 0 6 frame)) None (λ o. unwrap_or o 0 < 2 ^ 48) (λ _. big_below 0 6 frame (bytes_at frame bytes)) (λ _. omega arith)
+
+frame_short : (frame : List ℕ) → is_frame frame ≡ true → length frame ≤ 1514
+frame_short frame h = leb-true (length frame) 1514 (and_parts _ _ h).1
+
+-- an order that fits a command
+abbrev pub IsSendable : Order → Type 0
+IsSendable what = IsValidOrder what × (order_size what ≤ 65000)
+
+
+row_sendable : (switch port address output : ℕ) → address < 2 ^ 48 → IsSendable (forwarding_row switch port address output).order
+row_sendable switch port address output below = (
+  record {
+    eth_dst = record { fits = omega arith; some = omega arith; inside = and_mask address 48 ∙ mod-eq_of_lt below };
+    eth_src = tt;
+    ipv4_src = tt;
+    ipv4_dst = tt;
+    proto = λ h. absurd (h refl);
+    source = λ h. absurd (h refl);
+    destination = λ h. absurd (h refl);
+    tcp_source = λ h. absurd (h refl);
+    tcp_destination = λ h. absurd (h refl);
+    udp_source = λ h. absurd (h refl);
+    udp_destination = λ h. absurd (h refl);
+  },
+  omega arith,
+)
+
+delete_sendable : (switch port : ℕ) → IsSendable (forgetting_rows switch port).order
+delete_sendable switch port = (
+  record {
+    eth_dst = tt;
+    eth_src = tt;
+    ipv4_src = tt;
+    ipv4_dst = tt;
+    proto = λ h. absurd (h refl);
+    source = λ h. absurd (h refl);
+    destination = λ h. absurd (h refl);
+    tcp_source = λ h. absurd (h refl);
+    tcp_destination = λ h. absurd (h refl);
+    udp_source = λ h. absurd (h refl);
+    udp_destination = λ h. absurd (h refl);
+  },
+  omega arith,
+)
+
+out_sendable : (switch port : ℕ) (frame : List ℕ) (output : ℕ) → IsGoodFrame frame → IsSendable (packet_out switch port frame output).order
+out_sendable switch port frame output good = (tt, omega (arith, frame_short frame good.0))
+
+
+forwarded_sendable : (switch port : ℕ) (frame : List ℕ) (seen : Option ℕ) → IsGoodFrame frame → (c : Command) → Among c (forwarded switch port frame seen) → IsSendable c.order
+forwarded_sendable switch port frame None good c (inl e) = subst (λ (x : Command). IsSendable x.order) (sym e) (out_sendable switch port frame FLOOD good)
+forwarded_sendable switch port frame None good c (inr h) = absurd h
+forwarded_sendable switch port frame (Some output) good c h =
+    cond_both (nat_eq output port) [] (forwarding_row switch port (unwrap_or (number_at 6 0 frame) 0) output ∷ packet_out switch port frame output ∷ [])
+    (λ (l : List Command). Among c l → IsSendable c.order) (λ _ k. absurd k)
+    (λ _ k. elim k [
+      | inl e ↦ subst (λ (x : Command). IsSendable x.order) (sym e) (row_sendable switch port _ output (address_below frame good.1))
+      | inr m ↦ elim m [ inl e ↦ subst (λ (x : Command). IsSendable x.order) (sym e) (out_sendable switch port frame output good) | inr n ↦ absurd n ]
+    ])
+    h
+
+commands_sendable : (hosts : List Host) (switch : ℕ) (what : Happening) → IsGoodHappening what → (c : Command) → Among c (learning_commands hosts switch what) → IsSendable c.order
+commands_sendable hosts switch (happening.PacketIn p) good c h = forwarded_sendable switch p.in_port p.payload (seen_destination hosts switch (number_at 6 0 p.payload)) good c h
+commands_sendable hosts switch (happening.PortStatus p) good c h =
+    cond_both p.up [] (forgetting_rows switch p.port ∷ []) (λ (l : List Command). Among c l → IsSendable c.order) (λ _ k. absurd k)
+    (λ _ k. elim k [ inl e ↦ subst (λ (x : Command). IsSendable x.order) (sym e) (delete_sendable switch p.port) | inr m ↦ absurd m ]) h
+
+part_sendable : (kind : ℕ) (setup : Setup) (state : List ℕ) (e : Event) → IsGoodHappening e.what → (c : Command) → Among c (part_next kind setup state e).commands → IsSendable c.order
+part_sendable kind setup state e good c h =
+    cond_both (not (nat_lt e.switch (length setup.ports))) (passes_on state) (if nat_eq kind learning then learning_step (hosts_of state) e else passes_on state)
+    (λ (s : PartStep). Among c s.commands → IsSendable c.order) (λ _ k. absurd k)
+    (λ _ k. cond_both (nat_eq kind learning) (learning_step (hosts_of state) e) (passes_on state) (λ (s : PartStep). Among c s.commands → IsSendable c.order)
+        (λ _ m. commands_sendable (hosts_after (hosts_of state) e.switch e.what) e.switch e.what good c m) (λ _ m. absurd m) k)
+    h
+
+chain_sendable : (kinds : List ℕ) (setup : Setup) (states : List (List ℕ)) (e : Event) → IsGoodHappening e.what → (c : Command) → Among c (chain_next kinds setup states e).commands → IsSendable c.order
+chain_sendable [] setup states e good c h = absurd h
+chain_sendable (kind ∷ kinds) setup [] e good c h = absurd h
+chain_sendable (kind ∷ kinds) setup (state ∷ states) e good c h =
+    cond_both (part_next kind setup state e).stops
+    (record { states = (part_next kind setup state e).state ∷ states; commands = (part_next kind setup state e).commands })
+    (record { states = (part_next kind setup state e).state ∷ (chain_next kinds setup states e).states; commands = (part_next kind setup state e).commands ++ (chain_next kinds setup states e).commands })
+    (λ (s : ChainStep). Among c s.commands → IsSendable c.order)
+    (λ _ k. part_sendable kind setup state e good c k)
+    (λ _ k. elim (among_append c (part_next kind setup state e).commands (chain_next kinds setup states e).commands k) [
+      | inl m ↦ part_sendable kind setup state e good c m
+      | inr m ↦ chain_sendable kinds setup states e good c m
+    ])
+    h
+
+reactions_sendable : (kinds : List ℕ) (setup : Setup) (states : List (List ℕ)) (es : List Event) → ((e : Event) → Among e es → IsGoodHappening e.what) →
+    (c : Command) → Among c (concat (reactions_from kinds setup states es)) → IsSendable c.order
+reactions_sendable kinds setup states [] good c h = absurd h
+reactions_sendable kinds setup states (e ∷ es) good c h =
+    elim (among_append c (chain_next kinds setup states e).commands (concat (reactions_from kinds setup (chain_next kinds setup states e).states es)) h) [
+      | inl m ↦ chain_sendable kinds setup states e (good e (inl refl)) c m
+      | inr m ↦ reactions_sendable kinds setup (chain_next kinds setup states e).states es (λ x k. good x (inr k)) c m
+    ]
+
+single_sendable : (kinds : List ℕ) (setup : Setup) (es : List Event) → ((e : Event) → Among e es → IsGoodHappening e.what) → (c : Command) → Among c (single kinds setup es) → IsSendable c.order
+unfolding reactions
+single_sendable kinds setup es good c h = reactions_sendable kinds setup (starting_chain kinds) es good c h
+
+orders_choice : (b : Bool) (c : Command) (cs : List Command) (os : List Order) (o : Order) → ((d : Command) → Among d (c ∷ cs) → IsSendable d.order) → (Among o os → IsSendable o) →
+    Among o (if b then c.order ∷ os else os) → IsSendable o
+orders_choice true c cs os o all rest (inl e) = subst (λ x. IsSendable x) (sym e) (all c (inl refl))
+orders_choice true c cs os o all rest (inr h) = rest h
+orders_choice false c cs os o all rest h = rest h
+
+orders_sendable : (s : ℕ) (cs : List Command) → ((c : Command) → Among c cs → IsSendable c.order) → (o : Order) → Among o (orders_for s cs) → IsSendable o
+orders_sendable s [] all o h = absurd h
+orders_sendable s (c ∷ cs) all o h = orders_choice (nat_eq c.switch s) c cs (orders_for s cs) o all (λ k. orders_sendable s cs (λ d m. all d (inr m)) o k) h
+
+-- a command with an order that is issued can be spelled
+pub command_valid : (kinds : List ℕ) (setup : Setup) (s : ℕ) (es : List Event) → ((e : Event) → Among e es → IsGoodHappening e.what) → (i : ℕ) (what : Order) → slice_get (issued kinds setup s es) i ≡ Some what →
+    (life generation number settled : ℕ) → IsValid (spoken.Ravana (extension.Command life generation number settled what))
+command_valid kinds setup s es good i what at life generation number settled =
+    let r = orders_sendable s (single kinds setup es) (single_sendable kinds setup es good) what (get_among (issued kinds setup s es) what i at) in
+    (r.0, omega (arith, r.1))

@@ -75,7 +75,7 @@ module _ {B : Type 0} (scene : Scene B) (results : List (List SaveResult)) (one 
   kept_down : (entries : List (JournalEntry B)) → is_up (controller_state scene results 0 entries).status ≡ false → kept scene results 0 entries ≡ []
   kept_down entries off = rw off refl
 
-  decided_none : decided scene results [] ≡ []
+  pub decided_none : decided scene results [] ≡ []
   unfolding decided
   decided_none = refl
 

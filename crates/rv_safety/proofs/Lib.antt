@@ -9,3 +9,6 @@ pub mod Switches
 pub mod Controllers
 pub mod Packets
 pub mod Journals
+pub mod Orderings
+pub mod Onces
+pub mod OneController

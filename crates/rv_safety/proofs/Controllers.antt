@@ -1,36 +1,33 @@
 -- A turn of a controller that hears the truth keeps it honest, and it says the truth.
-use Rattle.std.proofs.Common.{◌≡◌, ◌≤◌, ◌<◌, ℕ, ◌+◌, ◌%◌, ◌^◌, Bool, true, false, not, ◌&&◌, ◌||◌, List, [], ◌∷◌, ◌++◌, length, take, zero, suc, refl, sym, ◌∙◌, ap, subst, inl, inr, ◌⊎◌, arith, length-append, le_trans, filter, add-one, append_assoc}
-use Rattle.std.specs.Prelude.{slice_get, nat_eq, nat_le, nat_lt, Option, Some, if◌then◌else◌}
+use Rattle.std.proofs.Common.{◌≡◌, ◌≤◌, ◌<◌, ℕ, ◌+◌, ◌%◌, ◌^◌, Bool, true, false, not, ◌&&◌, List, [], ◌∷◌, ◌++◌, length, take, zero, suc, refl, sym, ◌∙◌, ap, subst, inl, inr, ◌⊎◌, arith, le_trans, filter, add-one}
+use Rattle.std.specs.Prelude.{nat_eq, nat_le, if◌then◌else◌}
 use Rattle.std.specs.List.{list_any}
 use Rattle.std.proofs.lemmas.Bool.{eqb-true, ltb-true, leb-true, and_parts, or_cases}
 use Rattle.std.proofs.lemmas.List.Sums.{sum_by-cons}
 use Rattle.of_types.specs.declared.message.Event.{Event}
 use Rattle.of_types.specs.declared.message.Extension.TheVariants as extension
 use Rattle.of_types.specs.declared.message.OfMessage.TheVariants as plain
-use Rattle.of_types.specs.declared.message.Spoken.{Spoken}
 use Rattle.of_types.specs.declared.message.Spoken.TheVariants as spoken
 use Rattle.of_types.specs.declared.numbers.TheConstants.{MASTER}
 use Rattle.of_types.specs.declared.setup.Setup.{Setup}
 use Rattle.rv_base.specs.declared.journal.Letter.{Letter}
-use Rattle.rv_base.specs.declared.journal.Local.TheVariants as local
 use Rattle.rv_base.proofs.Among.{Among, among_append, among_take}
 use Rattle.controller_core.specs.declared.says.ControllerInput.{ControllerInput}
-use Rattle.controller_core.specs.declared.says.ControllerInput.TheVariants as controller_input
 use Rattle.controller_core.specs.declared.says.ControllerSays.{ControllerSays}
 use Rattle.controller_core.specs.declared.says.Entry.{Entry}
 use Rattle.controller_core.specs.declared.says.Entry.TheVariants.{Received, Processed}
 use Rattle.controller_core.specs.declared.says.Numbered.{Numbered}
 use Rattle.controller_core.specs.Chain.{issued}
-use Rattle.controller_core.specs.Log.{received, processed, is_processed, count_from}
+use Rattle.controller_core.specs.Log.{received, processed, count_from}
 use Rattle.controller_core.specs.Marks.{commands_of, settled_commands, is_acked, unacknowledged, has_unprocessed, is_finished}
-use Rattle.controller_core.specs.State.{ControllerState, Work, committed, appended, with_no_met_limit, down, is_up, resting, posting, leaving}
+use Rattle.controller_core.specs.State.{ControllerState, Work, committed, appended, is_up, leaving}
 use Rattle.controller_core.specs.Rules.{started_view, acknowledged, processed_from, controller_work}
 use Rattle.controller_core.proofs.Moves.{IsSaid, Asks, Commands, Acks, Clears, Echoes, Move, Receives, Processes, Says, Marks, Notes, Starts, turn_keeps}
 use Rattle.controller_core.proofs.Growth.{Grows, grows_appended, grows_started}
 use Rattle.rv_world.specs.Laws.{IsPrefix}
 use Rattle.rv_safety.specs.Facts.{Facts, Later}
-use Rattle.rv_safety.specs.Truths.{IsMade, IsGenuine, IsDoneThrough, IsTrueEntry, IsNumbered, IsTold, IsReported, IsGoodHappening, processed_of}
-use Rattle.rv_safety.proofs.Lists.{prefix_same, prefix_on, prefix_length, get_prefix, front_prefix, push_split}
+use Rattle.rv_safety.specs.Truths.{IsGenuine, IsDoneThrough, IsTrueEntry, IsReported, IsGoodHappening}
+use Rattle.rv_safety.proofs.Lists.{prefix_on, prefix_length, get_prefix, front_prefix, push_split}
 use Rattle.rv_safety.proofs.Issued.{issued_prefix, issued_none, command_stands, done_through}
 use Rattle.rv_safety.proofs.More.{received_prefix, processed_prefix, processed_count, take_same, genuine_more, honest_more}
 use Rattle.rv_safety.proofs.Orders.{command_valid}
@@ -170,7 +167,7 @@ module _ (kinds : List ℕ) (setup : Setup) (f g : Facts) (later : Later f g) (c
 
       count_is : processed (committed state) ≡ processed state.log
       count_is =
-          let most : processed state.log ≤ processed (committed state) = leb-true _ _ (and_parts _ _ (and_parts (has_unprocessed state && nat_le (processed state.log) (processed (committed state))) _ ready).0).1 in
+          let most : processed state.log ≤ processed (committed state) = leb-true (processed state.log) (processed (committed state)) (and_parts (has_unprocessed state) (nat_le (processed state.log) (processed (committed state))) (and_parts (has_unprocessed state && nat_le (processed state.log) (processed (committed state))) _ ready).0).1 in
           let least = processed_prefix (front_prefix state.commit state.log) in
           omega (arith, most, least)
 
@@ -189,9 +186,9 @@ module _ (kinds : List ℕ) (setup : Setup) (f g : Facts) (later : Later f g) (c
             there = omega (arith, lt, longer);
             all = λ s.
                 let few = before_done s (processed (committed state)) (omega arith)
-                    (λ i less. h.entries (Processed i) (processed_stands state.log i h.valid (let e = count_is in omega (arith, e, less)))) in
+                (λ i less. h.entries (Processed i) (processed_stands state.log i h.valid (let e = count_is in omega (arith, e, less)))) in
                 let own = done_through kinds setup s (length (g.executed s)) (processed (committed state)) (received (committed state)) lt few
-                    (λ n k same. subst (λ (t : ℕ). n.number < length (g.executed t)) same (acked n k)) in
+                (λ n k same. subst (λ (t : ℕ). n.number < length (g.executed t)) same (acked n k)) in
                 subst (λ (l : List Event). length (issued kinds setup s l) ≤ length (g.executed s)) (sym (take_same (processed (committed state) + 1) short taken_prefix)) own;
           }
 
@@ -279,7 +276,7 @@ controller_keeps kinds setup f c owns x heard state up honest =
     (λ w w' move old g later front. kept_by kinds setup f g later c owns x heard w w' move front (λ p. old g later p))
     state up
     (λ g later front. let m = honest_more kinds setup later state front honest in
-      record { honest = record { entries = m.entries; valid = m.valid; marks = m.marks; view = m.view; committed = m.committed }; said = λ l k. absurd k })
+    record { honest = record { entries = m.entries; valid = m.valid; marks = m.marks; view = m.view; committed = m.committed }; said = λ l k. absurd k })
     (λ crash g later front. record {
       honest = record {
         entries = λ e k. absurd k;

@@ -1,6 +1,6 @@
 -- What was decided lasts, for one controller: its committed log grows as long as it is up, and once
 -- down it stays so.
-use Rattle.std.proofs.Common.{◌≡◌, ◌≤◌, ℕ, ◌+◌, Bool, true, false, List, [], ◌∷◌, ◌++◌, length, drop, map, zero, suc, refl, sym, ◌∙◌, ap, subst, append-nil, append_assoc, arith, length-append, drop-drop, add_comm}
+use Rattle.std.proofs.Common.{◌≡◌, ◌≤◌, ℕ, ◌+◌, Bool, true, false, List, [], ◌∷◌, ◌++◌, length, drop, map, zero, suc, refl, sym, ◌∙◌, ap, subst, append-nil, arith, length-append, drop-drop, add_comm}
 use Rattle.std.specs.Prelude.{nat_lt, if◌then◌else◌}
 use Rattle.std.proofs.lemmas.Bool.{ltb-true, ltb-false, cond_both}
 use Rattle.rv_base.specs.declared.journal.JournalEntry.{JournalEntry}

@@ -18,7 +18,7 @@ use Rattle.controller_core.specs.Rules.{controller_work, controller_turn}
 use Rattle.switch_core.specs.declared.says.SwitchInput.{SwitchInput}
 use Rattle.switch_core.specs.declared.says.SwitchInput.TheVariants as switch_input
 use Rattle.switch_core.specs.Rules.{switch_turn}
-use Rattle.rv_world.specs.States.{SwitchAt, switch_at, switch_step, switch_took, switch_hears, Scene, ControllerAt, controller_at, controller_step, controller_took, controller_saved, controller_hears, content}
+use Rattle.rv_world.specs.States.{SwitchAt, switch_step, switch_took, switch_hears, Scene, ControllerAt, controller_at, controller_step, controller_took, controller_saved, controller_hears, content}
 
 -- the input that a controller takes with an entry
 pub data IsHeard {B : Type 0} (scene : Scene B) (e : JournalEntry B) (found : Option (Packet B)) (x : ControllerInput) : Type 0 where

@@ -1,7 +1,6 @@
 -- What holds after each past, clause by clause: of each switch, of each controller, and of each packet. Each
 -- clause is about one entry of a log, one letter or one switch, wherever it stands.
-use Rattle.std.specs.Prelude.{◌≡◌, ◌<◌, ◌≤◌, ℕ, ◌%◌, ◌^◌, true, List, [], ◌∷◌, ◌++◌, length, slice_get, Option, Some}
-use Rattle.std.specs.List.{AllByRecursion}
+use Rattle.std.specs.Prelude.{◌≡◌, ◌<◌, ◌≤◌, ℕ, ◌^◌, true, List, ◌∷◌, ◌++◌, length, slice_get, Some}
 use Rattle.of_types.specs.declared.message.Event.{Event}
 use Rattle.of_types.specs.declared.message.Executed.{Executed}
 use Rattle.of_types.specs.declared.message.Spoken.{Spoken}
@@ -9,10 +8,7 @@ use Rattle.of_types.specs.declared.setup.Setup.{Setup}
 use Rattle.rv_base.specs.declared.journal.Actor.{Actor}
 use Rattle.rv_base.specs.declared.journal.Actor.TheVariants as actor
 use Rattle.rv_base.specs.declared.journal.JournalEntry.{JournalEntry}
-use Rattle.rv_base.specs.declared.journal.JournalEntry.TheVariants as entry
 use Rattle.rv_base.specs.declared.journal.Letter.{Letter}
-use Rattle.rv_base.specs.declared.journal.Local.{Local}
-use Rattle.rv_base.specs.declared.journal.Local.TheVariants as local
 use Rattle.rv_base.specs.declared.journal.Packet.{Packet}
 use Rattle.rv_base.specs.declared.journal.SaveResult.{SaveResult}
 use Rattle.rv_base.specs.Part.{part}
@@ -30,29 +26,15 @@ use Rattle.controller_core.specs.declared.says.Entry.{Entry}
 use Rattle.controller_core.specs.declared.says.Entry.TheVariants.{Received, Processed}
 use Rattle.controller_core.specs.Log.{received, processed, count_from}
 use Rattle.controller_core.specs.State.{ControllerState, committed, to_switch}
-use Rattle.rv_world.specs.declared.says.Message.{Message}
 use Rattle.rv_world.specs.declared.says.Message.TheVariants as message
 use Rattle.rv_world.specs.declared.says.Unsealed.{Unsealed}
 use Rattle.rv_world.specs.declared.says.Unsealed.TheVariants as unsealed
-use Rattle.rv_world.specs.Messages.{IsValidMessage, way_of_message}
-use Rattle.rv_world.specs.States.{Scene, Sealing, SwitchAt, ControllerAt, switch_at, controller_at, content}
+use Rattle.rv_world.specs.States.{Scene, SwitchAt, ControllerAt, switch_at, controller_at, content}
 use Rattle.rv_world.specs.Legal.{IsTurn, FitsTypes, results_of}
 use Rattle.rv_world.specs.Laws.{IsPrefix}
 use Rattle.rv_safety.specs.Facts.{Facts, facts_of}
+use Rattle.rv_safety.specs.Premises.{AreBytes}
 use Rattle.rv_safety.specs.Truths.{IsMade, IsTrueEntry, IsNumbered, IsTold, IsReported, processed_of}
-
--- a body says what was sealed in it
-abbrev pub IsFaithful : {B : Type 0} → Sealing B → Type 0
-IsFaithful sealing = (m : Message) → IsValidMessage m → sealing.spelled (way_of_message m) (sealing.sealed m) ≡ unsealed.Message m
-
--- the frames that come in are of bytes
-abbrev pub AreBytes : Local → Type 0
-AreBytes (local.Frame port frame) = AllByRecursion (λ b. b < 256) frame
-AreBytes _ = Unit {0}
-
-abbrev pub HasBytes : {B : Type 0} → JournalEntry B → Type 0
-HasBytes (entry.Local a input) = AreBytes input
-HasBytes _ = Unit {0}
 
 -- a switch holds the events that it made, in order; it carried out the commands that were issued to it, in
 -- order; and only processed events have left its buffer

@@ -1,7 +1,7 @@
 -- All that holds after a past holds after one more entry, and so after every legal past. Of the committed
 -- logs it is asked that they agree with what is decided, and that this lasts.
-use Rattle.std.proofs.Common.{◌≡◌, ◌≢◌, ◌≤◌, ◌<◌, ℕ, ◌+◌, ◌%◌, Bool, true, false, List, [], ◌∷◌, ◌++◌, length, zero, suc, refl, sym, ◌∙◌, ap, subst, inl, inr, ◌⊎◌, arith}
-use Rattle.std.specs.Prelude.{slice_get, Option, Some, None, slice_index_or, if◌then◌else◌}
+use Rattle.std.proofs.Common.{◌≡◌, ◌≢◌, ◌<◌, ℕ, ◌%◌, Bool, true, false, List, [], ◌∷◌, ◌++◌, length, refl, sym, ◌∙◌, ap, subst, inl, inr, arith}
+use Rattle.std.specs.Prelude.{slice_get, Option, Some, slice_index_or, if◌then◌else◌}
 use Rattle.std.specs.List.{AllByRecursion}
 use Rattle.std.proofs.lemmas.Bool.{cases_Bool, eq-eqb}
 use Rattle.rv_base.specs.Orderly.{IsOrderly}
@@ -15,34 +15,32 @@ use Rattle.rv_base.specs.declared.journal.Letter.{Letter}
 use Rattle.rv_base.specs.declared.journal.Packet.{Packet}
 use Rattle.rv_base.specs.declared.journal.SaveResult.{SaveResult}
 use Rattle.rv_base.specs.Actors.{same_actor, actor_of, IsActor}
-use Rattle.rv_base.specs.Part.{part, drawn, packet_of}
+use Rattle.rv_base.specs.Part.{part, drawn}
 use Rattle.rv_base.specs.Pool.{pool}
 use Rattle.rv_base.proofs.Among.{Among}
 use Rattle.switch_core.specs.declared.says.SwitchInput.{SwitchInput}
-use Rattle.switch_core.specs.declared.says.SwitchSays.{SwitchSays}
 use Rattle.switch_core.specs.State.{SwitchState, starting_switch}
 use Rattle.switch_core.specs.Rules.{switch_turn}
 use Rattle.controller_core.specs.declared.says.ControllerInput.{ControllerInput}
 use Rattle.controller_core.specs.declared.says.ControllerSays.{ControllerSays}
-use Rattle.controller_core.specs.declared.says.Entry.{Entry}
-use Rattle.controller_core.specs.State.{ControllerState, Work, committed, down, resting, is_up}
+use Rattle.controller_core.specs.State.{ControllerState, Work, committed, down, is_up}
 use Rattle.controller_core.specs.Rules.{controller_work}
 use Rattle.controller_core.proofs.Moves.{down_rests}
 use Rattle.controller_core.proofs.Growth.{turn_ends}
-use Rattle.rv_world.specs.States.{Scene, SwitchAt, ControllerAt, switch_at, switch_step, switch_took, controller_at, sealed_letters, switch_message, controller_message, content}
-use Rattle.rv_world.specs.Legal.{Fits, IsTurn, IsSoundSwitch, IsSoundController, EntryFits, FitsTypes, IsLegalPast, results_of}
+use Rattle.rv_world.specs.States.{Scene, SwitchAt, ControllerAt, switch_at, switch_step, controller_at, sealed_letters, switch_message, controller_message, content}
+use Rattle.rv_world.specs.Legal.{Fits, IsTurn, IsSoundSwitch, IsSoundController, EntryFits, IsLegalPast, results_of}
 use Rattle.rv_world.specs.Committed.{controller_state, decided}
 use Rattle.rv_world.specs.Laws.{IsPrefix}
 use Rattle.rv_world.proofs.Posting.{one_actor}
-use Rattle.rv_safety.specs.Facts.{Facts, Later, firm, facts_of}
-use Rattle.rv_safety.specs.Truths.{IsTold, IsReported}
+use Rattle.rv_safety.specs.Facts.{Later, firm, facts_of}
 use Rattle.rv_safety.proofs.Lists.{prefix_same, prefix_is, prefix_on}
-use Rattle.rv_safety.proofs.Entries.{IsHeard, By_draw, By_local, ControllerGoes, Turns, Falls, Stays, ControllerAfter, Own, Other, controller_after, IsHeardAt, From_draw, From_local, SwitchGoes, Takes, Rests, Posts, Refuses, switch_goes, SwitchAfter, Mine, Another, switch_after}
-use Rattle.rv_safety.proofs.Invariant.{IsFaithful, AreBytes, HasBytes, IsSound, IsSoundAt, IsReport, IsHonest, IsHonestAt, IsOrder, IsTrueBetween, IsHeardBySwitch, IsHeardByController, IsValidLog, Holds}
-use Rattle.rv_safety.proofs.More.{later_same, sound_more, honest_more, order_more, sound_at_more, honest_at_more, between_more, report_more}
-use Rattle.rv_safety.proofs.Switches.{SwitchKeeps, switch_keeps}
-use Rattle.rv_safety.proofs.Controllers.{ControllerKeeps, controller_keeps}
-use Rattle.rv_safety.proofs.Packets.{orderly_before, IsFound, drawn_found, IsPosted, PoolAfter, Was, New, pool_after, heard_by_switch, heard_by_controller, switch_packet, controller_packet}
+use Rattle.rv_safety.proofs.Entries.{IsHeard, By_draw, By_local, ControllerGoes, Turns, Falls, Stays, Own, Other, controller_after, IsHeardAt, From_draw, From_local, SwitchGoes, Takes, Rests, Posts, Refuses, switch_goes, Mine, Another, switch_after}
+use Rattle.rv_safety.specs.Premises.{IsFaithful, HasBytes}
+use Rattle.rv_safety.proofs.Invariant.{IsSound, IsSoundAt, IsReport, IsHonest, IsHonestAt, IsOrder, IsTrueBetween, IsHeardBySwitch, IsHeardByController, Holds}
+use Rattle.rv_safety.proofs.More.{sound_more, honest_more, order_more, sound_at_more, honest_at_more, between_more}
+use Rattle.rv_safety.proofs.Switches.{switch_keeps}
+use Rattle.rv_safety.proofs.Controllers.{controller_keeps}
+use Rattle.rv_safety.proofs.Packets.{orderly_before, drawn_found, IsPosted, Was, New, pool_after, heard_by_switch, heard_by_controller, switch_packet, controller_packet}
 
 -- what is firm is a beginning of what a switch has now
 firm_events : (w : SwitchAt) (b : Bool) → IsPrefix w.before.events w.now.events → IsPrefix (if b then w.before else w.now).events w.now.events
@@ -99,27 +97,29 @@ self_switch s = eq-eqb s s refl
 self_controller : (c : ℕ) → same_actor (actor.Controller c) (actor.Controller c) ≡ true
 self_controller c = eq-eqb c c refl
 
+-- a draw of a legal journal finds its packet
+pub legal_finds : {B : Type 0} (scene : Scene B) (results : List (List SaveResult)) (e : JournalEntry B) (before : List (JournalEntry B)) → IsLegalPast scene results (e ∷ before) →
+    (a : Actor) (id : ℕ) (keep : Bool) → e ≡ Draw a id keep → (p : Packet B) × (drawn e before ≡ Some p)
+legal_finds {B = B} scene results e before legal a id keep is =
+    let r = drawn_found scene.sealing.size a id keep before (subst (λ (x : JournalEntry B). IsOrderly scene.sealing.size (x ∷ before)) is legal.orderly) in
+    (r.packet, ap (λ (x : JournalEntry B). drawn x before) is ∙ r.found)
+
 module _ {B : Type 0} (scene : Scene B) (results : List (List SaveResult)) (faithful : IsFaithful scene.sealing)
     (grows : (e : JournalEntry B) (before : List (JournalEntry B)) → IsPrefix (decided scene results before) (decided scene results (e ∷ before)))
     (front : (c : ℕ) (entries : List (JournalEntry B)) → c < scene.setup.controllers → is_up (controller_state scene results c entries).status ≡ true →
-        IsPrefix (committed (controller_state scene results c entries)) (decided scene results entries))
+    IsPrefix (committed (controller_state scene results c entries)) (decided scene results entries))
     (owns : (c view : ℕ) → c < scene.setup.controllers → view % scene.setup.controllers ≡ c) where
   module _ (e : JournalEntry B) (before : List (JournalEntry B)) (legal : IsLegalPast scene results (e ∷ before)) (bytes : HasBytes e) (holds : Holds scene results before) where
-    named_switch : (s : ℕ) → same_actor (actor_of e) (actor.Switch s) ≡ true → s < length scene.setup.ports
+    pub named_switch : (s : ℕ) → same_actor (actor_of e) (actor.Switch s) ≡ true → s < length scene.setup.ports
     named_switch s h = subst (λ (a : Actor). IsActor scene.setup a) (one_actor (actor_of e) (actor.Switch s) h) legal.named.0
 
     named_controller : (c : ℕ) → same_actor (actor_of e) (actor.Controller c) ≡ true → c < scene.setup.controllers
     named_controller c h = subst (λ (a : Actor). IsActor scene.setup a) (one_actor (actor_of e) (actor.Controller c) h) legal.named.0
 
     finds : (a : Actor) (id : ℕ) (keep : Bool) → e ≡ Draw a id keep → (p : Packet B) × (drawn e before ≡ Some p)
-    finds a id keep is =
-        let r = drawn_found scene.sealing.size a id keep before (subst (λ (x : JournalEntry B). IsOrderly scene.sealing.size (x ∷ before)) is legal.orderly) in
-        (r.packet, ap (λ (x : JournalEntry B). drawn x before) is ∙ r.found)
+    finds a id keep is = legal_finds scene results e before legal a id keep is
 
-    -- a switch and a step of its own
-    was : (s : ℕ) → SwitchAt
-    was s = switch_at scene s (part (actor.Switch s) before)
-
+    -- a switch after a step of its own, and of another actor
     stepped : (s : ℕ) → part (actor.Switch s) (e ∷ before) ≡ (e, drawn e before) ∷ part (actor.Switch s) before →
         switch_at scene s (part (actor.Switch s) (e ∷ before)) ≡ switch_step scene (switch_at scene s (part (actor.Switch s) before)) e (drawn e before)
     stepped s is = ap (λ (p : List (JournalEntry B × Option (Packet B))). switch_at scene s p) is
@@ -174,7 +174,7 @@ module _ {B : Type 0} (scene : Scene B) (results : List (List SaveResult)) (fait
     later = record { decided = grows e before; events = λ s. (firm_grows s).0; executed = λ s. (firm_grows s).1 }
 
     -- what a switch hears is true
-    switch_hears_truth : (s : ℕ) (x : SwitchInput) → same_actor (actor_of e) (actor.Switch s) ≡ true → IsHeardAt scene e (drawn e before) x → IsHeardBySwitch scene.kinds scene.setup (facts_of scene results before) s x
+    pub switch_hears_truth : (s : ℕ) (x : SwitchInput) → same_actor (actor_of e) (actor.Switch s) ≡ true → IsHeardAt scene e (drawn e before) x → IsHeardBySwitch scene.kinds scene.setup (facts_of scene results before) s x
     switch_hears_truth s x same (From_draw a id keep p is found hears) =
         let r = drawn_found scene.sealing.size a id keep before (subst (λ (y : JournalEntry B). IsOrderly scene.sealing.size (y ∷ before)) is legal.orderly) in
         let it : r.packet ≡ p = from_some r.packet p (sym r.found ∙ ap (λ (y : JournalEntry B). drawn y before) (sym is) ∙ found) in
@@ -182,7 +182,7 @@ module _ {B : Type 0} (scene : Scene B) (results : List (List SaveResult)) (fait
         let goes : p.to ≡ actor.Switch s = ap (λ (y : Packet B). y.to) (sym it) ∙ r.goes_to ∙ mine in
         subst (λ (y : SwitchInput). IsHeardBySwitch scene.kinds scene.setup (facts_of scene results before) s y) (sym hears)
         (heard_by_switch scene.kinds scene.setup (facts_of scene results before) s p.from p.to (content scene.sealing p) goes
-            (holds.packets p (subst (λ (y : Packet B). Among y (pool before)) it r.among)))
+        (holds.packets p (subst (λ (y : Packet B). Among y (pool before)) it r.among)))
     switch_hears_truth s x same (From_local a input is hears) =
         subst (λ (y : SwitchInput). IsHeardBySwitch scene.kinds scene.setup (facts_of scene results before) s y) (sym hears) (subst (λ (y : JournalEntry B). HasBytes y) is bytes)
 
@@ -194,7 +194,7 @@ module _ {B : Type 0} (scene : Scene B) (results : List (List SaveResult)) (fait
         let goes : p.to ≡ actor.Controller c = ap (λ (y : Packet B). y.to) (sym it) ∙ r.goes_to ∙ mine in
         subst (λ (y : ControllerInput). IsHeardByController scene.setup (facts_of scene results before) y) (sym hears)
         (heard_by_controller scene.kinds scene.setup (facts_of scene results before) c p.from p.to (content scene.sealing p) goes
-            (holds.packets p (subst (λ (y : Packet B). Among y (pool before)) it r.among)))
+        (holds.packets p (subst (λ (y : Packet B). Among y (pool before)) it r.among)))
     controller_hears_truth c x same (By_local a input is hears) =
         subst (λ (y : ControllerInput). IsHeardByController scene.setup (facts_of scene results before) y) (sym hears) (subst (λ (y : JournalEntry B). EntryFits y) is legal.views.0)
 
@@ -271,7 +271,7 @@ module _ {B : Type 0} (scene : Scene B) (results : List (List SaveResult)) (fait
         elim (cases_Bool (is_up w.now.status)) [
           | inl up ↦
               let k = controller_keeps scene.kinds scene.setup (facts_of scene results before) c (λ view. owns c view there) x (controller_hears_truth c x same heard) w.now up h.now
-                  (facts_of scene results (e ∷ before)) later (work_front c x there up now) in
+              (facts_of scene results (e ∷ before)) later (work_front c x there up now) in
               record {
                 now = subst (λ (y : ControllerState). IsHonest scene.kinds scene.setup (facts_of scene results (e ∷ before)) y) (sym now) k.honest;
                 owed = subst (λ (ls : List (Letter ControllerSays)). (l : Letter ControllerSays) → Among l ls → IsOrder scene.kinds scene.setup (facts_of scene results (e ∷ before)) c l) (sym owed) k.said;
@@ -328,7 +328,7 @@ module _ {B : Type 0} (scene : Scene B) (results : List (List SaveResult)) (fait
               let executed_are : w.now.executed ≡ (firm (switch_at scene s (part (actor.Switch s) (e ∷ before)))).executed = ap (λ (v : SwitchAt). (firm v).executed) (sym stepped_to) in
               switch_packet scene.sealing faithful scene.kinds scene.setup (facts_of scene results (e ∷ before)) p s there w.owed
               (λ l k. subst (λ (xs : List Executed). IsReport s (firm (switch_at scene s (part (actor.Switch s) (e ∷ before)))).events xs l) executed_are
-                  (subst (λ (xs : List Event). IsReport s xs w.now.executed l) events_are ((holds.switches s there).owed l k)))
+              (subst (λ (xs : List Event). IsReport s xs w.now.executed l) events_are ((holds.switches s there).owed l k)))
               (subst (λ (ls : List (Letter B)). IsPosted (actor.Switch s) ls p) fits.0 posted)
           | Another other part_is ↦ let no : true ≡ false = sym mine ∙ other in absurd cc
         ]

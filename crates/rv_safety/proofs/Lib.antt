@@ -11,4 +11,6 @@ pub mod Packets
 pub mod Journals
 pub mod Orderings
 pub mod Onces
+pub mod Generations
+pub mod Fencing
 pub mod OneController

@@ -1,7 +1,6 @@
 -- Beginnings and places of lists.
-use Rattle.std.proofs.Common.{◌≡◌, ◌≤◌, ◌<◌, ℕ, ◌+◌, List, [], ◌∷◌, ◌++◌, length, take, drop, map, zero, suc, refl, sym, ◌∙◌, ap, subst, inl, inr, ◌⊎◌, append-nil, append_assoc, arith, length-append}
-use Rattle.std.specs.Prelude.{slice_get, Option, Some, None}
-use Rattle.std.proofs.lemmas.Option.{slice_get_within}
+use Rattle.std.proofs.Common.{◌≡◌, ◌≤◌, ℕ, List, [], ◌∷◌, ◌++◌, length, take, map, zero, suc, refl, sym, ◌∙◌, ap, subst, inl, inr, ◌⊎◌, append-nil, append_assoc, arith, length-append}
+use Rattle.std.specs.Prelude.{slice_get, Some}
 use Rattle.rv_base.proofs.Among.{Among}
 use Rattle.rv_world.specs.Laws.{IsPrefix}
 
@@ -72,7 +71,6 @@ pub front_prefix : {A : Type 0} (n : ℕ) (xs : List A) → IsPrefix (take n xs)
 front_prefix zero xs = record { rest = xs; joined = refl }
 front_prefix (suc n) [] = record { rest = []; joined = refl }
 front_prefix (suc n) (x ∷ xs) = let r = front_prefix n xs in record { rest = r.rest; joined = ap (λ l. x ∷ l) r.joined }
-
 
 -- where a list with one more is split
 pub push_split : {A : Type 0} (xs : List A) (y : A) (front : List A) (x : A) (back : List A) → xs ++ y ∷ [] ≡ front ++ x ∷ back →

@@ -1,6 +1,5 @@
 -- What is true stays true.
-use Rattle.std.proofs.Common.{◌≡◌, ◌≤◌, ◌<◌, ℕ, ◌+◌, Bool, true, false, List, [], ◌∷◌, ◌++◌, length, take, zero, suc, refl, sym, ◌∙◌, ap, subst, arith, length-append, add-one, take-append-drop, le_trans}
-use Rattle.std.specs.Prelude.{slice_get, nat_eq, Option, Some, count_by}
+use Rattle.std.proofs.Common.{◌≡◌, ◌≤◌, ℕ, ◌+◌, List, [], ◌∷◌, ◌++◌, length, take, zero, suc, refl, sym, ◌∙◌, ap, subst, arith, le_trans}
 use Rattle.std.proofs.lemmas.List.Sums.{sum_by-append}
 use Rattle.std.proofs.lemmas.List.{take-append-le}
 use Rattle.of_types.specs.declared.message.Event.{Event}
@@ -20,7 +19,7 @@ use Rattle.controller_core.specs.declared.says.ControllerSays.{ControllerSays}
 use Rattle.controller_core.specs.declared.says.Entry.{Entry}
 use Rattle.controller_core.specs.declared.says.Entry.TheVariants.{Received, Processed}
 use Rattle.controller_core.specs.Chain.{issued}
-use Rattle.controller_core.specs.Log.{received, processed, is_processed, count_from}
+use Rattle.controller_core.specs.Log.{received, processed, count_from}
 use Rattle.controller_core.specs.State.{ControllerState, committed}
 use Rattle.rv_world.specs.declared.says.Message.TheVariants as message
 use Rattle.rv_world.specs.declared.says.Unsealed.{Unsealed}
@@ -28,7 +27,7 @@ use Rattle.rv_world.specs.declared.says.Unsealed.TheVariants as unsealed
 use Rattle.rv_world.specs.States.{SwitchAt, ControllerAt}
 use Rattle.rv_world.specs.Laws.{IsPrefix}
 use Rattle.rv_safety.specs.Facts.{Facts, Later}
-use Rattle.rv_safety.specs.Truths.{IsMade, IsGenuine, IsDoneThrough, IsTrueEntry, IsNumbered, IsTold, IsReported, processed_of}
+use Rattle.rv_safety.specs.Truths.{IsGenuine, IsDoneThrough, IsTrueEntry, IsNumbered, IsTold, IsReported, processed_of}
 use Rattle.rv_safety.proofs.Lists.{prefix_same, prefix_on, prefix_length, get_prefix}
 use Rattle.rv_safety.proofs.Issued.{issued_prefix}
 use Rattle.rv_safety.proofs.Invariant.{IsSound, IsReport, IsSoundAt, IsHonest, IsOrder, IsHonestAt, IsTrueBetween}

@@ -1,28 +1,27 @@
 -- Each command once and in order, from what holds after a past.
-use Rattle.std.proofs.Common.{◌≡◌, ◌≤◌, ◌<◌, ℕ, ◌+◌, Bool, true, false, List, [], ◌∷◌, ◌++◌, length, take, map, refl, sym, ◌∙◌, ap, subst, inl, inr, ◌⊎◌, arith, le_trans}
+use Rattle.std.proofs.Common.{◌≡◌, ◌<◌, ℕ, Bool, true, false, List, [], ◌∷◌, ◌++◌, length, take, map, sym, subst, inl, inr, ◌⊎◌, arith, le_trans}
 use Rattle.std.specs.Prelude.{slice_get, Some, if◌then◌else◌}
 use Rattle.std.specs.List.{AllByRecursion}
-use Rattle.of_types.specs.declared.message.Event.{Event}
 use Rattle.of_types.specs.declared.message.Executed.{Executed}
 use Rattle.rv_base.specs.declared.journal.Actor.TheVariants as actor
 use Rattle.rv_base.specs.declared.journal.JournalEntry.{JournalEntry}
 use Rattle.rv_base.specs.declared.journal.SaveResult.{SaveResult}
 use Rattle.rv_base.specs.Part.{part}
-use Rattle.rv_base.proofs.Among.{Among, among_take}
+use Rattle.rv_base.proofs.Among.{among_take}
 use Rattle.controller_core.specs.declared.says.Entry.{Entry}
-use Rattle.controller_core.specs.declared.says.Entry.TheVariants.{Received, Processed}
+use Rattle.controller_core.specs.declared.says.Entry.TheVariants.{Processed}
 use Rattle.controller_core.specs.Chain.{issued}
 use Rattle.controller_core.specs.Log.{received, processed}
-use Rattle.controller_core.specs.State.{ControllerState, committed}
-use Rattle.switch_core.specs.State.{SwitchState}
+use Rattle.controller_core.specs.State.{committed}
 use Rattle.rv_world.specs.States.{Scene, SwitchAt, switch_at}
 use Rattle.rv_world.specs.Legal.{IsLegalPast}
 use Rattle.rv_world.specs.Committed.{controller_state, switch_state, decided}
-use Rattle.rv_world.specs.Laws.{IsPrefix, IsExactlyOnce, events_from}
-use Rattle.rv_safety.specs.Facts.{Facts, Later, firm, facts_of}
-use Rattle.rv_safety.specs.Truths.{IsTrueEntry, IsDoneThrough}
+use Rattle.rv_world.specs.Laws.{IsPrefix, IsExactlyOnce}
+use Rattle.rv_safety.specs.Facts.{Later, firm, facts_of}
+use Rattle.rv_safety.specs.Truths.{IsDoneThrough}
 use Rattle.rv_safety.proofs.Lists.{prefix_same, prefix_on, prefix_length, prefix_by_places, front_prefix}
-use Rattle.rv_safety.proofs.Invariant.{HasBytes, IsValidLog, IsSoundAt, Holds}
+use Rattle.rv_safety.specs.Premises.{HasBytes}
+use Rattle.rv_safety.proofs.Invariant.{IsSoundAt, Holds}
 use Rattle.rv_safety.proofs.More.{entry_more}
 use Rattle.rv_safety.proofs.Controllers.{processed_stands}
 use Rattle.rv_safety.proofs.Orderings.{IsTrueLog, valid_front, ordered_log, get_map, numbers_are, processed_among}
@@ -30,11 +29,11 @@ use Rattle.rv_safety.proofs.Journals.{legal_before}
 
 module _ {B : Type 0} (scene : Scene B) (results : List (List SaveResult))
     (later : (e : JournalEntry B) (before : List (JournalEntry B)) → IsLegalPast scene results (e ∷ before) → AllByRecursion (λ (x : JournalEntry B). HasBytes x) (e ∷ before) →
-        Later (facts_of scene results before) (facts_of scene results (e ∷ before)))
+    Later (facts_of scene results before) (facts_of scene results (e ∷ before)))
     (all : (entries : List (JournalEntry B)) → IsLegalPast scene results entries → AllByRecursion (λ (x : JournalEntry B). HasBytes x) entries → Holds scene results entries)
     (none : decided scene results [] ≡ [])
     (chosen : (e : JournalEntry B) (before : List (JournalEntry B)) → (decided scene results (e ∷ before) ≡ decided scene results before)
-        ⊎ ((c : ℕ) × (c < scene.setup.controllers) × (decided scene results (e ∷ before) ≡ committed (controller_state scene results c (e ∷ before))))) where
+    ⊎ ((c : ℕ) × (c < scene.setup.controllers) × (decided scene results (e ∷ before) ≡ committed (controller_state scene results c (e ∷ before))))) where
   -- what is decided tells the truth
   pub decided_true : (entries : List (JournalEntry B)) → IsLegalPast scene results entries → AllByRecursion (λ (x : JournalEntry B). HasBytes x) entries →
       IsTrueLog scene.kinds scene.setup (facts_of scene results entries) (decided scene results entries)

@@ -1,20 +1,21 @@
 -- The laws of one controller: what is asked of committed logs is given by their lasting.
-use Rattle.std.proofs.Common.{◌≡◌, ◌≤◌, ◌<◌, ℕ, ◌%◌, Bool, true, false, List, [], ◌∷◌, length, refl, sym, ◌∙◌, ap, subst, inl, inr, ◌⊎◌, arith}
+use Rattle.std.proofs.Common.{◌≡◌, ◌<◌, ℕ, ◌%◌, true, List, ◌∷◌, sym, subst, inl, inr, ◌⊎◌, arith}
 use Rattle.std.specs.List.{AllByRecursion}
 use Rattle.std.proofs.lemmas.Bool.{cases_Bool}
 use Rattle.rv_base.specs.declared.journal.JournalEntry.{JournalEntry}
 use Rattle.rv_base.specs.declared.journal.SaveResult.{SaveResult}
-use Rattle.controller_core.specs.declared.says.Entry.{Entry}
-use Rattle.controller_core.specs.State.{ControllerState, committed, is_up}
+use Rattle.controller_core.specs.State.{committed, is_up}
 use Rattle.rv_world.specs.States.{Scene}
 use Rattle.rv_world.specs.Legal.{IsLegalPast}
 use Rattle.rv_world.specs.Committed.{controller_state, decided}
-use Rattle.rv_world.specs.Laws.{IsPrefix, IsExactlyOnce}
+use Rattle.rv_world.specs.Laws.{IsPrefix, IsExactlyOnce, IsFenced}
 use Rattle.rv_safety.specs.Facts.{Later, facts_of}
 use Rattle.rv_safety.proofs.Lists.{prefix_is}
 use Rattle.rv_safety.proofs.Decided.{decided_none, decided_up, decided_down, decided_grows}
-use Rattle.rv_safety.proofs.Invariant.{IsFaithful, HasBytes, Holds}
-use Rattle.rv_safety.proofs.Journals.{legal_before, later, all_holds}
+use Rattle.rv_safety.specs.Premises.{IsFaithful, HasBytes}
+use Rattle.rv_safety.proofs.Invariant.{Holds}
+use Rattle.rv_safety.proofs.Journals.{legal_before, later, all_holds, switch_hears_truth}
+use Rattle.rv_safety.proofs.Fencing.{all_fenced}
 use Rattle.rv_safety.proofs.Onces.{once}
 
 module _ {B : Type 0} (scene : Scene B) (results : List (List SaveResult)) (one : scene.setup.controllers ≡ 1) where
@@ -56,3 +57,11 @@ module _ {B : Type 0} (scene : Scene B) (results : List (List SaveResult)) (one 
     -- exactly once
     pub one_once : (entries : List (JournalEntry B)) → IsLegalPast scene results entries → AllByRecursion (λ (x : JournalEntry B). HasBytes x) entries → IsExactlyOnce scene results entries
     one_once entries legal bytes = once scene results one_later one_holds (decided_none scene results one) chosen entries legal bytes
+
+    -- and no stale generation's command
+    pub one_fenced : (entries : List (JournalEntry B)) → IsLegalPast scene results entries → AllByRecursion (λ (x : JournalEntry B). HasBytes x) entries → IsFenced scene entries
+    one_fenced entries legal bytes =
+        all_fenced scene results (facts_of scene results)
+        (λ e before whole all s x same heard. switch_hears_truth scene results faithful (decided_grows scene results one) front owns e before whole all.0
+        (one_holds before (legal_before scene results e before whole) all.1) s x same heard)
+        entries legal bytes

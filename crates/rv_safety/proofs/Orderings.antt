@@ -1,25 +1,24 @@
 -- Exactly once, from what holds after a past.
-use Rattle.std.proofs.Common.{◌≡◌, ◌≤◌, ◌<◌, ℕ, ◌+◌, Bool, true, false, List, [], ◌∷◌, ◌++◌, length, take, drop, map, get_or, zero, suc, refl, sym, ◌∙◌, ap, subst, inl, inr, ◌⊎◌, arith, le_trans, length-append, append_assoc, append-nil, add-zero}
-use Rattle.std.specs.Prelude.{slice_get, nat_eq, Option, Some, None, Contains, if◌then◌else◌, cond}
-use Rattle.std.proofs.lemmas.Bool.{cases_Bool, eqb-true}
+use Rattle.std.proofs.Common.{◌≡◌, ◌<◌, ℕ, ◌+◌, Bool, true, false, List, [], ◌∷◌, ◌++◌, length, take, map, zero, suc, refl, sym, ◌∙◌, ap, subst, inl, inr, arith, length-append, append_assoc, append-nil, add-zero}
+use Rattle.std.specs.Prelude.{slice_get, nat_eq, Some, Contains, if◌then◌else◌, cond}
+use Rattle.std.proofs.lemmas.Bool.{eqb-true}
 use Rattle.std.proofs.lemmas.List.Sums.{sum_by_push, sum_by-cons}
 use Rattle.std.proofs.lemmas.Option.{slice_get_within, get_or_from_slice_get}
 use Rattle.of_types.specs.declared.message.Event.{Event}
 use Rattle.of_types.specs.declared.message.Executed.{Executed}
 use Rattle.of_types.specs.declared.setup.Setup.{Setup}
-use Rattle.rv_base.proofs.Among.{Among, among_left, among_take}
+use Rattle.rv_base.proofs.Among.{Among}
 use Rattle.controller_core.specs.declared.says.Entry.{Entry}
 use Rattle.controller_core.specs.declared.says.Entry.TheVariants.{Received, Processed}
-use Rattle.controller_core.specs.Chain.{issued}
-use Rattle.controller_core.specs.Log.{received, processed, count_from}
+use Rattle.controller_core.specs.Log.{received, count_from}
 use Rattle.controller_core.specs.Rules.{numbers_below}
 use Rattle.rv_world.specs.Laws.{IsPrefix, events_from}
 use Rattle.rv_world.proofs.Starts.{length-numbers_below, slice_get-numbers_below}
 use Rattle.rv_safety.specs.Facts.{Facts}
-use Rattle.rv_safety.specs.Truths.{IsGenuine, IsTrueEntry, IsNumbered}
-use Rattle.rv_safety.proofs.Lists.{prefix_same, prefix_on, prefix_length, get_prefix, among_get, get_among, prefix_by_places, front_prefix}
+use Rattle.rv_safety.specs.Truths.{IsGenuine, IsTrueEntry}
+use Rattle.rv_safety.proofs.Lists.{prefix_on, get_prefix, among_get, get_among, prefix_by_places, front_prefix}
 use Rattle.rv_safety.proofs.More.{received-append}
-use Rattle.rv_safety.proofs.Invariant.{MayFollow, IsValidLog}
+use Rattle.rv_safety.proofs.Invariant.{IsValidLog}
 
 -- a valid log and its entries, which tell the truth
 pub record IsTrueLog (kinds : List ℕ) (setup : Setup) (f : Facts) (log : List Entry) : Type 0 where
@@ -79,10 +78,10 @@ next_of log valid s front (Received e ∷ rest) is i x at =
 pub ordered_log : (kinds : List ℕ) (setup : Setup) (f : Facts) (log : List Entry) → IsTrueLog kinds setup f log → (s : ℕ) → IsPrefix (events_from s (received log)) (f.events s)
 ordered_log kinds setup f log t s =
     prefix_by_places (events_from s (received log)) (f.events s) (λ i x at.
-        let r = next_of log t.valid s [] log refl i x at in
-        let g : IsGenuine setup f x = t.entries (Received x) r.among in
-        let place : x.number ≡ i = number_from_none s i x r.number_is in
-        subst (λ (k : ℕ). slice_get (f.events s) k ≡ Some x) place (subst (λ (k : ℕ). slice_get (f.events k) x.number ≡ Some x) r.switch_is g.stands))
+    let r = next_of log t.valid s [] log refl i x at in
+    let g : IsGenuine setup f x = t.entries (Received x) r.among in
+    let place : x.number ≡ i = number_from_none s i x r.number_is in
+    subst (λ (k : ℕ). slice_get (f.events s) k ≡ Some x) place (subst (λ (k : ℕ). slice_get (f.events k) x.number ≡ Some x) r.switch_is g.stands))
   where
     number_from_none : (s i : ℕ) (x : Event) → x.number ≡ count_from s (received []) + i → x.number ≡ i
     number_from_none s i x h = omega (arith, h)
@@ -109,9 +108,9 @@ pub numbers_are : (xs : List Executed) → ((i : ℕ) (x : Executed) → slice_g
 numbers_are xs h =
     prefix_whole (map (λ (x : Executed). x.number) xs) (numbers_below (length xs))
     (prefix_by_places (map (λ (x : Executed). x.number) xs) (numbers_below (length xs)) (λ i y at.
-        let r = get_map (λ (x : Executed). x.number) xs i y at in
-        let place : y ≡ i = r.2 ∙ h i r.0 r.1 in
-        slice_get-numbers_below (length xs) i (slice_get_within xs i r.0 r.1) ∙ ap (λ (k : ℕ). Some k) (sym place)))
+    let r = get_map (λ (x : Executed). x.number) xs i y at in
+    let place : y ≡ i = r.2 ∙ h i r.0 r.1 in
+    slice_get-numbers_below (length xs) i (slice_get_within xs i r.0 r.1) ∙ ap (λ (k : ℕ). Some k) (sym place)))
     (length_map (λ (x : Executed). x.number) xs ∙ sym (length-numbers_below (length xs)))
 
 events_from-append : (s : ℕ) (xs ys : List Event) → events_from s (xs ++ ys) ≡ events_from s xs ++ events_from s ys

@@ -1,5 +1,5 @@
 -- Each order that is issued for events with good frames can be spelled.
-use Rattle.std.proofs.Common.{◌≡◌, ◌≤◌, ◌<◌, ℕ, ◌+◌, ◌*◌, ◌-◌, ◌^◌, ◌%◌, Bool, true, false, not, List, [], ◌∷◌, ◌++◌, length, drop, get_or, zero, suc, refl, sym, ◌∙◌, ap, subst, inl, inr, ◌⊎◌, arith, pow-suc, mul-le-mul_right, mod-eq_of_lt}
+use Rattle.std.proofs.Common.{◌≡◌, ◌≤◌, ◌<◌, ℕ, ◌+◌, ◌*◌, ◌^◌, Bool, true, false, not, List, [], ◌∷◌, ◌++◌, length, get_or, zero, suc, refl, sym, ◌∙◌, subst, inl, inr, arith, pow-suc, mul-le-mul_right, mod-eq_of_lt}
 use Rattle.std.specs.Prelude.{slice_get, nat_eq, nat_le, nat_lt, Option, Some, None, unwrap_or, if◌then◌else◌}
 use Rattle.std.specs.List.{AllByRecursion}
 use Rattle.std.proofs.lemmas.Bool.{and_parts, cond_both, leb-true}
@@ -51,7 +51,6 @@ frame_short frame h = leb-true (length frame) 1514 (and_parts _ _ h).1
 abbrev pub IsSendable : Order → Type 0
 IsSendable what = IsValidOrder what × (order_size what ≤ 65000)
 
-
 row_sendable : (switch port address output : ℕ) → address < 2 ^ 48 → IsSendable (forwarding_row switch port address output).order
 row_sendable switch port address output below = (
   record {
@@ -91,7 +90,6 @@ delete_sendable switch port = (
 out_sendable : (switch port : ℕ) (frame : List ℕ) (output : ℕ) → IsGoodFrame frame → IsSendable (packet_out switch port frame output).order
 out_sendable switch port frame output good = (tt, omega (arith, frame_short frame good.0))
 
-
 forwarded_sendable : (switch port : ℕ) (frame : List ℕ) (seen : Option ℕ) → IsGoodFrame frame → (c : Command) → Among c (forwarded switch port frame seen) → IsSendable c.order
 forwarded_sendable switch port frame None good c (inl e) = subst (λ (x : Command). IsSendable x.order) (sym e) (out_sendable switch port frame FLOOD good)
 forwarded_sendable switch port frame None good c (inr h) = absurd h
@@ -115,7 +113,7 @@ part_sendable kind setup state e good c h =
     cond_both (not (nat_lt e.switch (length setup.ports))) (passes_on state) (if nat_eq kind learning then learning_step (hosts_of state) e else passes_on state)
     (λ (s : PartStep). Among c s.commands → IsSendable c.order) (λ _ k. absurd k)
     (λ _ k. cond_both (nat_eq kind learning) (learning_step (hosts_of state) e) (passes_on state) (λ (s : PartStep). Among c s.commands → IsSendable c.order)
-        (λ _ m. commands_sendable (hosts_after (hosts_of state) e.switch e.what) e.switch e.what good c m) (λ _ m. absurd m) k)
+    (λ _ m. commands_sendable (hosts_after (hosts_of state) e.switch e.what) e.switch e.what good c m) (λ _ m. absurd m) k)
     h
 
 chain_sendable : (kinds : List ℕ) (setup : Setup) (states : List (List ℕ)) (e : Event) → IsGoodHappening e.what → (c : Command) → Among c (chain_next kinds setup states e).commands → IsSendable c.order

@@ -1,7 +1,7 @@
 -- What is drawn stood in the pool, and what stands in the pool was posted and says what was sealed.
-use Rattle.std.proofs.Common.{◌≡◌, ◌≤◌, ◌<◌, ℕ, ◌+◌, Bool, true, false, ◌&&◌, ◌||◌, List, [], ◌∷◌, ◌++◌, length, zero, suc, refl, sym, ◌∙◌, ap, subst, inl, inr, ◌⊎◌, arith}
-use Rattle.std.specs.Prelude.{slice_get, nat_eq, nat_le, Option, Some, None, map, IsTrue, if◌then◌else◌}
-use Rattle.std.specs.List.{list_any, AllByRecursion}
+use Rattle.std.proofs.Common.{◌≡◌, ◌≤◌, ◌<◌, ℕ, ◌+◌, Bool, true, false, ◌&&◌, List, [], ◌∷◌, length, suc, refl, sym, ◌∙◌, ap, subst, inl, inr, arith}
+use Rattle.std.specs.Prelude.{slice_get, nat_eq, nat_le, Some, if◌then◌else◌}
+use Rattle.std.specs.List.{list_any}
 use Rattle.std.proofs.lemmas.Bool.{and_parts, or_cases, eqb-true, leb-true}
 use Rattle.of_types.specs.declared.message.Extension.TheVariants as extension
 use Rattle.of_types.specs.declared.message.Happening.{Happening}
@@ -21,23 +21,23 @@ use Rattle.rv_base.specs.declared.journal.JournalEntry.TheVariants.{Post, Draw, 
 use Rattle.rv_base.specs.declared.journal.Letter.{Letter}
 use Rattle.rv_base.specs.declared.journal.Packet.{Packet}
 use Rattle.rv_base.specs.Actors.{same_actor}
-use Rattle.rv_base.specs.Orderly.{IsOrderly, IsWaiting}
-use Rattle.rv_base.specs.Part.{packet_of, drawn}
+use Rattle.rv_base.specs.Orderly.{IsOrderly}
+use Rattle.rv_base.specs.Part.{packet_of}
 use Rattle.rv_base.specs.Pool.{pool, numbered, fitting, without}
 use Rattle.rv_base.proofs.Among.{Among, among_append, among_filter, among_map, among_take}
 use Rattle.rv_base.proofs.Pools.{Rising-pool, packet_of-at}
 use Rattle.switch_core.specs.declared.says.SwitchSays.{SwitchSays}
-use Rattle.switch_core.specs.Rules.{is_frame}
 use Rattle.controller_core.specs.declared.says.ControllerSays.{ControllerSays}
 use Rattle.rv_world.specs.declared.says.Message.TheVariants as message
 use Rattle.rv_world.specs.declared.says.Unsealed.{Unsealed}
 use Rattle.rv_world.specs.declared.says.Unsealed.TheVariants as unsealed
-use Rattle.rv_world.specs.States.{Scene, Sealing, content, switch_hears, controller_hears, sealed_letters, switch_message, controller_message}
+use Rattle.rv_world.specs.States.{Sealing, content, switch_hears, controller_hears, sealed_letters, switch_message, controller_message}
 use Rattle.rv_world.proofs.Posting.{one_actor}
 use Rattle.rv_safety.specs.Facts.{Facts}
 use Rattle.rv_safety.specs.Truths.{IsGoodHappening, IsTold, IsReported}
 use Rattle.rv_safety.proofs.Lists.{get_among}
-use Rattle.rv_safety.proofs.Invariant.{IsFaithful, IsReport, IsOrder, IsTrueBetween, IsHeardBySwitch, IsHeardByController}
+use Rattle.rv_safety.specs.Premises.{IsFaithful}
+use Rattle.rv_safety.proofs.Invariant.{IsReport, IsOrder, IsTrueBetween, IsHeardBySwitch, IsHeardByController}
 
 -- the journal without its newest entry
 pub orderly_before : {B : Type 0} (size : B → ℕ) (e : JournalEntry B) (before : List (JournalEntry B)) → IsOrderly size (e ∷ before) → IsOrderly size before
@@ -135,7 +135,7 @@ heard_by_controller kinds setup f c (actor.Switch t) (actor.Controller d) (unsea
 heard_by_controller kinds setup f c from to u is h = absurd h
 
 happening_short : (what : Happening) → IsGoodHappening what → happening_size what ≤ 60000
-happening_short (happening.PacketIn p) good = let short = leb-true (length p.payload) 1514 (and_parts _ _ good.0).1 in omega arith
+happening_short (happening.PacketIn p) good = let short : length p.payload ≤ 1514 = leb-true (length p.payload) 1514 (and_parts (nat_le 14 (length p.payload)) (nat_le (length p.payload) 1514) good.0).1 in omega arith
 happening_short (happening.PortStatus p) good = omega arith
 
 -- what is told and reported can be spelled

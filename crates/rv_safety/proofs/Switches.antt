@@ -1,6 +1,6 @@
 -- A turn of a switch that hears the truth keeps it sound, and it says the truth.
-use Rattle.std.proofs.Common.{◌≡◌, ◌≤◌, ◌<◌, ℕ, ◌+◌, Bool, true, false, List, [], ◌∷◌, ◌++◌, length, zero, suc, refl, sym, ◌∙◌, ap, subst, inl, inr, ◌⊎◌, arith, length-append}
-use Rattle.std.specs.Prelude.{slice_get, nat_eq, nat_le, Option, Some, max, min}
+use Rattle.std.proofs.Common.{◌≡◌, ℕ, true, List, [], length, refl, sym, ◌∙◌, ap, subst, inl, inr, arith}
+use Rattle.std.specs.Prelude.{slice_get, Some}
 use Rattle.std.proofs.lemmas.Bool.{eqb-true}
 use Rattle.of_types.specs.declared.message.Event.{Event}
 use Rattle.of_types.specs.declared.message.Executed.{Executed}
@@ -8,29 +8,24 @@ use Rattle.of_types.specs.declared.message.Extension.TheVariants as extension
 use Rattle.of_types.specs.declared.message.Happening.TheVariants as happening
 use Rattle.of_types.specs.declared.message.OfMessage.{OfMessage}
 use Rattle.of_types.specs.declared.message.OfMessage.TheVariants as plain
-use Rattle.of_types.specs.declared.message.Order.{Order}
-use Rattle.of_types.specs.declared.message.Outcome.{Outcome}
-use Rattle.of_types.specs.declared.message.Spoken.{Spoken}
 use Rattle.of_types.specs.declared.message.Spoken.TheVariants as spoken
 use Rattle.of_types.specs.declared.setup.Setup.{Setup}
-use Rattle.rv_base.specs.declared.journal.Actor.TheVariants as actor
 use Rattle.rv_base.specs.declared.journal.Letter.{Letter}
 use Rattle.rv_base.specs.declared.journal.Local.TheVariants as local
 use Rattle.rv_base.proofs.Among.{Among, among_append}
 use Rattle.switch_core.specs.declared.says.SwitchInput.{SwitchInput}
-use Rattle.switch_core.specs.declared.says.SwitchInput.TheVariants as switch_input
 use Rattle.switch_core.specs.declared.says.SwitchSays.{SwitchSays}
-use Rattle.switch_core.specs.declared.says.SwitchSays.TheVariants as switch_says
-use Rattle.switch_core.specs.State.{SwitchState, SwitchTurn, quiet, to_controller}
-use Rattle.switch_core.specs.Buffer.{next_event, event_letter}
-use Rattle.switch_core.specs.Rules.{role_reply, result_letter, switch_turn}
+use Rattle.switch_core.specs.State.{SwitchState, SwitchTurn}
+use Rattle.switch_core.specs.Buffer.{next_event}
+use Rattle.switch_core.specs.Rules.{switch_turn}
 use Rattle.switch_core.proofs.Moves.{is_question, IsSaid, Tells, Results, Roles, Refuses, Answers, Explains, Move, Raises, Says, Notes, Clears, Executes, Masters, Fences, turn_keeps}
 use Rattle.rv_world.specs.Laws.{IsPrefix}
 use Rattle.rv_safety.specs.Facts.{Facts}
-use Rattle.rv_safety.specs.Truths.{IsMade, IsNumbered, IsTold, IsReported, processed_of}
-use Rattle.rv_safety.proofs.Lists.{prefix_same, prefix_on, prefix_push, get_push, get_seam, among_get}
+use Rattle.rv_safety.specs.Truths.{IsMade, IsNumbered, IsTold}
+use Rattle.rv_safety.proofs.Lists.{prefix_same, prefix_on, prefix_push, get_push, among_get}
 use Rattle.rv_safety.proofs.More.{report_more}
-use Rattle.rv_safety.proofs.Invariant.{AreBytes, IsSound, IsReport, IsHeardBySwitch}
+use Rattle.rv_safety.specs.Premises.{AreBytes}
+use Rattle.rv_safety.proofs.Invariant.{IsSound, IsReport, IsHeardBySwitch}
 
 -- a switch in the midst of a turn
 pub record SwitchKeeps (kinds : List ℕ) (setup : Setup) (f : Facts) (s : ℕ) (start : SwitchState) (t : SwitchTurn) : Type 0 where

@@ -1,6 +1,6 @@
 -- When an entry of a log, and a message on its way, tells the truth: what it says is among the facts, and
 -- stays so.
-use Rattle.std.specs.Prelude.{◌≡◌, ◌<◌, ◌≤◌, ℕ, ◌+◌, ◌%◌, ◌^◌, true, List, [], ◌∷◌, length, take, slice_get, Some}
+use Rattle.std.specs.Prelude.{◌≡◌, ◌<◌, ◌≤◌, ℕ, ◌+◌, ◌%◌, ◌^◌, true, List, [], length, take, slice_get, Some}
 use Rattle.std.specs.List.{AllByRecursion}
 use Rattle.of_types.specs.declared.message.Event.{Event}
 use Rattle.of_types.specs.declared.message.Executed.{Executed}

@@ -2,12 +2,20 @@
 #![tactic(auto)]
 
 ghost use Rattle.std.specs.Prelude.{◌≡◌, true, []};
+ghost use Rattle.std.specs.List.{AllByRecursion};
 ghost use Rattle.rv_base.specs.Pool.{past};
 ghost use Rattle.controller_core.specs.State.{committed, is_up};
 ghost use Rattle.rv_world.specs.Committed.{controller_state, decided};
-ghost use Rattle.rv_world.specs.Laws.{IsLasting};
+ghost use Rattle.rv_world.specs.Laws.{IsLasting, IsFenced, IsExactlyOnce};
+ghost use Rattle.rv_world.specs.Legal.{IsLegalPast};
 ghost use Rattle.rv_world.specs.World.{scene_of};
+ghost use Rattle.rv_safety.specs.Premises.{HasBytes};
 
+mod bytes;
+#[cfg(test)]
+mod tests;
+
+use crate::bytes::frames_are_of_bytes;
 use rv_world::{Body, World};
 
 /// What was decided stays decided, under one controller.
@@ -25,3 +33,32 @@ pub fn committed_log<B: Body>(world: &World<B>)
     ensures { decided (scene_of world.now.setup B.sealed B.spelled B.size) [] (past world.now.journal)
         ≡ committed (controller_state (scene_of world.now.setup B.sealed B.spelled B.size) [] 0 (past world.now.journal)) }
 {}
+
+/// What the laws stand on: the journal is that of a run, and its frames are of bytes.
+fn grounds<B: Body>(world: &World<B>)
+    requires { world.now.whole ≡ true }
+    ensures legal { IsLegalPast (scene_of world.now.setup B.sealed B.spelled B.size) [] (past world.now.journal) }
+    ensures bytes { AllByRecursion (λ e. HasBytes e) (past world.now.journal) }
+{
+    world.lawful();
+    frames_are_of_bytes(world.journal());
+}
+
+/// No switch carried out a command of a stale generation, under one controller.
+pub fn fence<B: Body>(world: &World<B>)
+    requires whole { world.now.whole ≡ true }
+    requires one { world.now.setup.controllers ≡ 1 }
+    ensures { IsFenced (scene_of world.now.setup B.sealed B.spelled B.size) (past world.now.journal) }
+{
+    grounds(world);
+}
+
+/// Each switch carried out, each once and in order, a prefix of what one fault-free controller issues on
+/// the decided log, and dropped an event only once it was processed; under one controller.
+pub fn exactly_once<B: Body>(world: &World<B>)
+    requires whole { world.now.whole ≡ true }
+    requires one { world.now.setup.controllers ≡ 1 }
+    ensures { IsExactlyOnce (scene_of world.now.setup B.sealed B.spelled B.size) [] (past world.now.journal) }
+{
+    grounds(world);
+}

@@ -1,0 +1,111 @@
+-- No stale generation's command is carried out: the fence over every legal past.
+use Rattle.std.proofs.Common.{◌≡◌, ℕ, Bool, true, false, List, [], ◌∷◌, ◌++◌, refl, sym, ◌∙◌, ap, subst}
+use Rattle.std.specs.Prelude.{Option, Some, None}
+use Rattle.std.specs.List.{AllByRecursion}
+use Rattle.std.proofs.lemmas.Bool.{eq-eqb}
+use Rattle.of_types.specs.declared.setup.Setup.{Setup}
+use Rattle.rv_base.specs.declared.journal.Actor.{Actor}
+use Rattle.rv_base.specs.declared.journal.Actor.TheVariants as actor
+use Rattle.rv_base.specs.declared.journal.JournalEntry.{JournalEntry}
+use Rattle.rv_base.specs.declared.journal.JournalEntry.TheVariants.{Post, Draw, Lose, Local, Idle, Refused}
+use Rattle.rv_base.specs.declared.journal.Local.{Local as LocalInput}
+use Rattle.rv_base.specs.declared.journal.Packet.{Packet}
+use Rattle.rv_base.specs.declared.journal.SaveResult.{SaveResult}
+use Rattle.rv_base.specs.Actors.{same_actor, actor_of}
+use Rattle.rv_base.specs.Part.{part, drawn}
+use Rattle.switch_core.specs.declared.says.SwitchInput.{SwitchInput}
+use Rattle.switch_core.specs.declared.says.SwitchInput.TheVariants as switch_input
+use Rattle.switch_core.specs.State.{SwitchState, Fence}
+use Rattle.switch_core.specs.Rules.{switch_turn}
+use Rattle.rv_world.specs.declared.says.Message.TheVariants as message
+use Rattle.rv_world.specs.declared.says.Unsealed.{Unsealed}
+use Rattle.rv_world.specs.declared.says.Unsealed.TheVariants as unsealed
+use Rattle.rv_world.specs.States.{Scene, SwitchAt, switch_at, switch_step, switch_hears, content}
+use Rattle.rv_world.specs.Legal.{IsLegalPast}
+use Rattle.rv_world.specs.Committed.{switch_state}
+use Rattle.rv_world.specs.Laws.{Asked, asked_step, master_asked, masters_asked, IsFenced, IsFencedEntry}
+use Rattle.rv_safety.specs.Facts.{Facts}
+use Rattle.rv_safety.proofs.Entries.{IsHeardAt, From_draw, Mine, Another, switch_after}
+use Rattle.rv_safety.specs.Premises.{HasBytes}
+use Rattle.rv_safety.proofs.Invariant.{IsHeardBySwitch}
+use Rattle.rv_safety.proofs.Generations.{AsksRole, IsFenceOf, Unasked, fence_stays, may_pass, passes_greatest, told_turn}
+use Rattle.rv_safety.proofs.Journals.{legal_before, legal_finds}
+
+-- the fence of a switch now, and before what may be its open input
+pub record FencesAt (controllers : ℕ) (asked : Asked) (w : SwitchAt) : Type 0 where
+  pub now : IsFenceOf controllers asked.now w.now.fence
+  pub before : IsFenceOf controllers asked.before w.before.fence
+
+local_asks : (input : LocalInput) → AsksRole (switch_input.Local input)
+local_asks input c xid role g asks = absurd cc
+
+module _ (kinds : List ℕ) (setup : Setup) (f : Facts) (s : ℕ) where
+  -- after what a switch hears from a packet
+  heard_turn : (asked : List ℕ) (start : SwitchState) (from : Actor) (u : Unsealed) → IsHeardBySwitch kinds setup f s (switch_hears from u) → IsFenceOf setup.controllers asked start.fence →
+      IsFenceOf setup.controllers (master_asked u ++ asked) (switch_turn start (switch_hears from u)).state.fence
+  heard_turn asked start (actor.Controller c) (unsealed.Message (message.Of xid m)) h k = told_turn kinds setup f c s xid m asked start h k
+  heard_turn asked start (actor.Switch t) (unsealed.Message (message.Of xid m)) h k = absurd h
+  heard_turn asked start from (unsealed.Malformed kind code xid head) h k = absurd h
+
+  module _ {B : Type 0} (scene : Scene B) (is : scene.setup ≡ setup) where
+    -- after an entry of the switch
+    step_fences : (asked : Asked) (w : SwitchAt) (e : JournalEntry B) (found : Option (Packet B)) → ((x : SwitchInput) → IsHeardAt scene e found x → IsHeardBySwitch kinds setup f s x) →
+        FencesAt setup.controllers asked w → FencesAt setup.controllers (asked_step scene.sealing asked e found) (switch_step scene w e found)
+    step_fences asked w (Draw a id keep) (Some p) hears h =
+        record { now = heard_turn asked.now w.now p.from (content scene.sealing p) (hears _ (From_draw a id keep p refl refl refl)) h.now; before = h.now }
+    step_fences asked w (Draw a id keep) None hears h = record { now = h.now; before = h.before }
+    step_fences asked w (Local a input) found hears h =
+        record {
+          now = subst (λ (y : Fence). IsFenceOf setup.controllers asked.now y) (sym (fence_stays (switch_input.Local input) w.now (local_asks input))) h.now;
+          before = h.now;
+        }
+    step_fences asked w (Post a first letters lost) found hears h = record { now = h.now; before = h.before }
+    step_fences asked w (Refused a) found hears h = record { now = h.before; before = h.before }
+    step_fences asked w (Lose a id) found hears h = record { now = h.now; before = h.before }
+    step_fences asked w (Idle a) found hears h = record { now = h.now; before = h.before }
+
+module _ {B : Type 0} (scene : Scene B) (results : List (List SaveResult)) (facts : List (JournalEntry B) → Facts)
+    (truth : (e : JournalEntry B) (before : List (JournalEntry B)) → IsLegalPast scene results (e ∷ before) → AllByRecursion (λ (x : JournalEntry B). HasBytes x) (e ∷ before) →
+    (s : ℕ) (x : SwitchInput) → same_actor (actor_of e) (actor.Switch s) ≡ true → IsHeardAt scene e (drawn e before) x → IsHeardBySwitch scene.kinds scene.setup (facts before) s x) where
+  fences : (entries : List (JournalEntry B)) → IsLegalPast scene results entries → AllByRecursion (λ (x : JournalEntry B). HasBytes x) entries → (s : ℕ) →
+      FencesAt scene.setup.controllers (masters_asked scene.sealing (part (actor.Switch s) entries)) (switch_at scene s (part (actor.Switch s) entries))
+  fences [] legal bytes s = record { now = Unasked refl refl refl; before = Unasked refl refl refl }
+  fences (e ∷ before) legal bytes s =
+      let old = fences before (legal_before scene results e before legal) bytes.1 s in
+      elim (switch_after scene s e before) [
+        | Mine same is ↦
+            subst (λ (p : List (JournalEntry B × Option (Packet B))). FencesAt scene.setup.controllers (masters_asked scene.sealing p) (switch_at scene s p)) (sym is)
+            (step_fences scene.kinds scene.setup (facts before) s scene refl (masters_asked scene.sealing (part (actor.Switch s) before)) (switch_at scene s (part (actor.Switch s) before)) e (drawn e before)
+            (λ x heard. truth e before legal bytes s x same heard) old)
+        | Another other is ↦
+            subst (λ (p : List (JournalEntry B × Option (Packet B))). FencesAt scene.setup.controllers (masters_asked scene.sealing p) (switch_at scene s p)) (sym is) old
+      ]
+
+  drawn_fenced : (s id : ℕ) (keep : Bool) (before : List (JournalEntry B)) → IsLegalPast scene results (Draw (actor.Switch s) id keep ∷ before) →
+      AllByRecursion (λ (x : JournalEntry B). HasBytes x) (Draw (actor.Switch s) id keep ∷ before) → IsFencedEntry scene (Draw (actor.Switch s) id keep) before
+  drawn_fenced s id keep before legal bytes x grown =
+      let e : JournalEntry B = Draw (actor.Switch s) id keep in
+      let w : SwitchAt = switch_at scene s (part (actor.Switch s) before) in
+      let old = fences before (legal_before scene results e before legal) bytes.1 s in
+      elim (switch_after scene s e before) [
+        | Mine same is ↦
+            let r = legal_finds scene results e before legal (actor.Switch s) id keep refl in
+            let to : switch_state scene s (e ∷ before) ≡ (switch_turn w.now (switch_hears r.0.from (content scene.sealing r.0))).state =
+            ap (λ (p : List (JournalEntry B × Option (Packet B))). (switch_at scene s p).now) is ∙ ap (λ (o : Option (Packet B)). (switch_step scene w e o).now) r.1 in
+            let grows : (switch_turn w.now (switch_hears r.0.from (content scene.sealing r.0))).state.executed ≡ w.now.executed ++ x ∷ [] = ap (λ (y : SwitchState). y.executed) (sym to) ∙ grown in
+            passes_greatest scene.setup.controllers (masters_asked scene.sealing (part (actor.Switch s) before)).now w.now.fence x.from x.generation old.now (may_pass (switch_hears r.0.from (content scene.sealing r.0)) w.now x grows)
+        | Another other is ↦ let no_way : true ≡ false = sym (eq-eqb s s refl) ∙ other in absurd cc
+      ]
+
+  entry_fenced : (e : JournalEntry B) (before : List (JournalEntry B)) → IsLegalPast scene results (e ∷ before) → AllByRecursion (λ (x : JournalEntry B). HasBytes x) (e ∷ before) → IsFencedEntry scene e before
+  entry_fenced (Draw (actor.Switch s) id keep) before legal bytes = drawn_fenced s id keep before legal bytes
+  entry_fenced (Draw (actor.Controller c) id keep) before legal bytes = tt
+  entry_fenced (Post a first letters lost) before legal bytes = tt
+  entry_fenced (Lose a id) before legal bytes = tt
+  entry_fenced (Local a input) before legal bytes = tt
+  entry_fenced (Idle a) before legal bytes = tt
+  entry_fenced (Refused a) before legal bytes = tt
+
+  pub all_fenced : (entries : List (JournalEntry B)) → IsLegalPast scene results entries → AllByRecursion (λ (x : JournalEntry B). HasBytes x) entries → IsFenced scene entries
+  all_fenced [] legal bytes = tt
+  all_fenced (e ∷ before) legal bytes = (entry_fenced e before legal bytes, all_fenced before (legal_before scene results e before legal) bytes.1)

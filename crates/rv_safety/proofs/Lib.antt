@@ -14,3 +14,4 @@ pub mod Onces
 pub mod Generations
 pub mod Fencing
 pub mod OneController
+pub mod Closings

@@ -91,12 +91,12 @@ get_map f [] i y h = absurd cc
 get_map f (x ∷ xs) zero y h = (x, refl, let e : f x ≡ y = cc in sym e)
 get_map f (x ∷ xs) (suc i) y h = get_map f xs i y h
 
-length_map : {A B : Type 0} (f : A → B) (xs : List A) → length (map f xs) ≡ length xs
+pub length_map : {A B : Type 0} (f : A → B) (xs : List A) → length (map f xs) ≡ length xs
 length_map f [] = refl
 length_map f (x ∷ xs) = ap suc (length_map f xs)
 
 -- a prefix of its length is the whole
-prefix_whole : {A : Type 0} (xs ys : List A) → IsPrefix xs ys → length xs ≡ length ys → xs ≡ ys
+pub prefix_whole : {A : Type 0} (xs ys : List A) → IsPrefix xs ys → length xs ≡ length ys → xs ≡ ys
 prefix_whole xs ys p same = by_rest p.rest p.joined
   where
     by_rest : (rest : List _) → ys ≡ xs ++ rest → xs ≡ ys

@@ -1,9 +1,8 @@
 -- At the end of a closing the pool is empty. Where each received event is processed by then, and each event
 -- has left its buffer, all is done.
-use Rattle.std.proofs.Common.{◌≡◌, ◌≤◌, ◌<◌, ℕ, ◌+◌, ◌-◌, Bool, true, false, List, [], ◌∷◌, ◌++◌, length, take, drop, map, zero, suc, refl, sym, ◌∙◌, ap, subst, inl, inr, ◌⊎◌, arith, take_all, le_trans}
-use Rattle.std.specs.Prelude.{slice_get, reverse, nat_lt, Option, Some, None, if◌then◌else◌}
+use Rattle.std.proofs.Common.{◌≡◌, ◌≤◌, ◌<◌, ℕ, ◌+◌, List, [], ◌∷◌, ◌++◌, length, take, map, zero, suc, refl, sym, ◌∙◌, ap, subst, arith, take_all}
+use Rattle.std.specs.Prelude.{reverse, Option}
 use Rattle.std.specs.List.{AllByRecursion}
-use Rattle.std.proofs.lemmas.Bool.{cond_both}
 use Rattle.std.proofs.lemmas.List.{drop_all}
 use Rattle.of_types.specs.declared.message.Executed.{Executed}
 use Rattle.rv_base.specs.declared.journal.Actor.TheVariants as actor
@@ -12,9 +11,8 @@ use Rattle.rv_base.specs.declared.journal.Packet.{Packet}
 use Rattle.rv_base.specs.declared.journal.SaveResult.{SaveResult}
 use Rattle.rv_base.specs.Part.{part, drawn}
 use Rattle.rv_base.specs.Pool.{pool}
-use Rattle.controller_core.specs.declared.says.Entry.{Entry}
 use Rattle.controller_core.specs.Chain.{issued}
-use Rattle.controller_core.specs.Log.{received, processed, count_from}
+use Rattle.controller_core.specs.Log.{received, processed}
 use Rattle.controller_core.specs.State.{ControllerState}
 use Rattle.switch_core.specs.declared.says.SwitchInput.{SwitchInput}
 use Rattle.switch_core.specs.State.{SwitchState, SwitchTurn}
@@ -24,10 +22,10 @@ use Rattle.rv_world.specs.States.{Scene, SwitchAt, switch_at, switch_step}
 use Rattle.rv_world.specs.Legal.{IsLegalPast}
 use Rattle.rv_world.specs.Committed.{switch_state, states_of, decided}
 use Rattle.rv_world.specs.Laws.{IsPrefix, IsExactlyOnce, IsClosed, events_from}
-use Rattle.rv_world.specs.Schedule.{Phase, Losing, Suspecting, Draining, Met, Answer, Done, Move as ClosingMove, next_drained, next_suspicion, next_view, next_lost, next_move, IsEnd, Closes}
+use Rattle.rv_world.specs.Schedule.{Phase, Losing, Suspecting, Draining, Met, Done, next_drained, next_suspicion, next_lost, next_move, IsEnd, Closes}
 use Rattle.rv_safety.specs.Premises.{IsFaithful, HasBytes}
 use Rattle.rv_safety.proofs.Lists.{prefix_length, front_prefix}
-use Rattle.rv_safety.proofs.Entries.{SwitchGoes, Takes, Rests, Posts, Refuses, switch_goes, SwitchAfter, Mine, Another, switch_after}
+use Rattle.rv_safety.proofs.Entries.{SwitchGoes, Takes, Rests, Posts, Refuses, switch_goes, Mine, Another, switch_after}
 use Rattle.rv_safety.proofs.Issued.{issued_none}
 use Rattle.rv_safety.proofs.More.{count_prefix}
 use Rattle.rv_safety.proofs.Orderings.{length-events_from, prefix_whole, length_map}

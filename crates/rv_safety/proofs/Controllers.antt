@@ -4,6 +4,7 @@ use Rattle.std.specs.Prelude.{nat_eq, nat_le, if◌then◌else◌}
 use Rattle.std.specs.List.{list_any}
 use Rattle.std.proofs.lemmas.Bool.{eqb-true, ltb-true, leb-true, and_parts, or_cases}
 use Rattle.std.proofs.lemmas.List.Sums.{sum_by-cons}
+use Rattle.of_types.specs.declared.message.Command.{Command}
 use Rattle.of_types.specs.declared.message.Event.{Event}
 use Rattle.of_types.specs.declared.message.Extension.TheVariants as extension
 use Rattle.of_types.specs.declared.message.OfMessage.TheVariants as plain
@@ -17,7 +18,7 @@ use Rattle.controller_core.specs.declared.says.ControllerSays.{ControllerSays}
 use Rattle.controller_core.specs.declared.says.Entry.{Entry}
 use Rattle.controller_core.specs.declared.says.Entry.TheVariants.{Received, Processed}
 use Rattle.controller_core.specs.declared.says.Numbered.{Numbered}
-use Rattle.controller_core.specs.Chain.{issued}
+use Rattle.controller_core.specs.Chain.{issued, concat, orders_for}
 use Rattle.controller_core.specs.Log.{received, processed, count_from}
 use Rattle.controller_core.specs.Marks.{commands_of, settled_commands, is_acked, unacknowledged, has_unprocessed, is_finished}
 use Rattle.controller_core.specs.State.{ControllerState, Work, committed, appended, is_up, leaving}
@@ -26,10 +27,10 @@ use Rattle.controller_core.proofs.Moves.{IsSaid, Asks, Commands, Acks, Clears, E
 use Rattle.controller_core.proofs.Growth.{Grows, grows_appended, grows_started}
 use Rattle.rv_world.specs.Laws.{IsPrefix}
 use Rattle.rv_safety.specs.Facts.{Facts, Later}
-use Rattle.rv_safety.specs.Truths.{IsGenuine, IsDoneThrough, IsTrueEntry, IsReported, IsGoodHappening}
+use Rattle.rv_safety.specs.Truths.{IsGenuine, IsDoneThrough, IsTrueEntry, IsReported, IsGoodHappening, IsCommand}
 use Rattle.rv_safety.proofs.Lists.{prefix_on, prefix_length, get_prefix, front_prefix, push_split}
-use Rattle.rv_safety.proofs.Issued.{issued_prefix, issued_none, command_stands, done_through}
-use Rattle.rv_safety.proofs.More.{received_prefix, processed_prefix, processed_count, take_same, genuine_more, honest_more}
+use Rattle.rv_safety.proofs.Issued.{issued_prefix, issued_none, command_stands, done_through, command_between, reactions-take}
+use Rattle.rv_safety.proofs.More.{received_prefix, processed_prefix, processed_count, take_same, genuine_more, honest_more, settled_count}
 use Rattle.rv_safety.proofs.Orders.{command_valid}
 use Rattle.rv_safety.proofs.Invariant.{MayFollow, IsValidLog, IsHonest, IsOrder, IsHeardByController}
 
@@ -129,6 +130,27 @@ module _ (kinds : List ℕ) (setup : Setup) (f g : Facts) (later : Later f g) (c
         let t : IsGenuine setup g e = h.entries (Received e) (among_take state.commit state.log (Received e) (among_received (committed state) e k)) in
         t.made.good
 
+    settled_are : (s : ℕ) → settled_commands kinds setup (committed state) s ≡ length (issued kinds setup s (take (processed (committed state)) (received (committed state))))
+    settled_are s = ap (λ (l : List (List Command)). length (orders_for s (concat l))) (sym (reactions-take kinds setup (processed (committed state)) (received (committed state))))
+
+    -- a command of the first unprocessed event
+    command : (n : Numbered) → Among n (commands_of kinds setup (received (committed state)) (processed (committed state))) →
+        IsCommand kinds setup g n.switch (settled_commands kinds setup (committed state) n.switch) n.number n.what
+    command n among =
+        let between = command_between kinds setup (received (committed state)) (processed (committed state)) n among in
+        let longer = prefix_length taken_prefix in
+        let before : processed (committed state) ≤ length (received (committed state)) = omega (arith, between.there) in
+        let after : processed (committed state) + 1 ≤ length (received (committed state)) = omega (arith, between.there) in
+        record {
+          place = processed (committed state);
+          there = omega (arith, between.there, longer);
+          reached = processed_prefix h.committed;
+          settled_is = settled_are n.switch ∙ ap (λ (l : List Event). length (issued kinds setup n.switch l)) (sym (take_same (processed (committed state)) before taken_prefix));
+          least = omega (arith, between.least, settled_are n.switch);
+          most = subst (λ (l : List Event). n.number < length (issued kinds setup n.switch l)) (sym (take_same (processed (committed state) + 1) after taken_prefix)) between.most;
+          stands = get_prefix n.number n.what (issued_prefix kinds setup n.switch _ _ taken_prefix) (command_stands kinds setup (received (committed state)) (processed (committed state)) n among);
+        }
+
     -- what it says is true
     order : (l : Letter ControllerSays) → IsSaid kinds setup x state l → IsOrder kinds setup g c l
     order l (Asks s is) = record { switch = s; xid = 0; said = spoken.Plain (plain.RoleRequest MASTER state.view); is = is; told = (refl, h.view, owns state.view) }
@@ -141,13 +163,21 @@ module _ (kinds : List ℕ) (setup : Setup) (f g : Facts) (later : Later f g) (c
           is = is;
           told = (
             refl,
-            get_prefix n.number n.what (issued_prefix kinds setup n.switch _ _ taken_prefix) at,
+            command n among,
             command_valid kinds setup n.switch (received (committed state)) good_events n.number n.what at 0 state.view n.number (settled_commands kinds setup (committed state) n.switch),
           );
         }
     order l (Acks s is) =
         record { switch = s; xid = 0; said = spoken.Ravana (extension.EventAck 0 (processed_from state s)); is = is; told = (refl, processed_count s h.committed) }
-    order l (Clears s is) = record { switch = s; xid = 0; said = spoken.Ravana (extension.Clear 0 (settled_commands kinds setup (committed state) s)); is = is; told = tt }
+    order l (Clears s is) =
+        let counted = settled_count kinds setup s h.committed in
+        record {
+          switch = s;
+          xid = 0;
+          said = spoken.Ravana (extension.Clear 0 (settled_commands kinds setup (committed state) s));
+          is = is;
+          told = omega (arith, counted, settled_are s);
+        }
     order l (Echoes s xid body asks is) =
         let t : (s < length setup.ports) × IsReported s (f.events s) (f.executed s) (spoken.Plain (plain.EchoRequest body)) = subst (λ (y : ControllerInput). IsHeardByController setup f y) asks heard in
         absurd t.1

@@ -3,6 +3,7 @@ use Rattle.std.proofs.Common.{◌≡◌, ◌≤◌, ◌<◌, ℕ, ◌+◌, Bool,
 use Rattle.std.specs.Prelude.{slice_get, nat_eq, Some, if◌then◌else◌}
 use Rattle.std.proofs.lemmas.Bool.{eq-eqb, eqb-true, cases_lt}
 use Rattle.std.proofs.lemmas.List.{take_more, get_or_past}
+use Rattle.std.proofs.lemmas.Option.{slice_get_within}
 use Rattle.of_types.specs.declared.message.Command.{Command}
 use Rattle.of_types.specs.declared.message.Event.{Event}
 use Rattle.of_types.specs.declared.message.Order.{Order}
@@ -102,6 +103,38 @@ command_stands kinds setup es j n h =
           let here : slice_get (orders_for n.switch (concat (take (j + 1) (reactions kinds setup es)))) n.number ≡ Some n.what =
           ap (λ l. slice_get (orders_for n.switch l) n.number) (next_commands (reactions kinds setup es) j lt) ∙ at in
           get_prefix n.number n.what (orders_prefix n.switch _ _ (concat_prefix (take (j + 1) (reactions kinds setup es)) (reactions kinds setup es) (front_prefix (j + 1) (reactions kinds setup es)))) here
+      | inr past ↦ absurd (subst (λ l. Among n (with_numbers (concat (take j (reactions kinds setup es))) l)) (get_or_past (reactions kinds setup es) j [] past) h)
+    ]
+
+-- a number is no less than the count of orders before
+pub numbered_from : (before cs : List Command) (n : Numbered) → Among n (with_numbers before cs) → length (orders_for n.switch before) ≤ n.number
+numbered_from before [] n h = absurd h
+numbered_from before (c ∷ cs) n (inl e) = subst (λ (m : Numbered). length (orders_for m.switch before) ≤ m.number) (sym e) (omega arith)
+numbered_from before (c ∷ cs) n (inr h) =
+    let r = numbered_from (before ++ c ∷ []) cs n h in
+    let more : length (orders_for n.switch before) ≤ length (orders_for n.switch (before ++ c ∷ [])) = omega (arith, ap (λ l. length l) (orders_for-append n.switch before (c ∷ [])), length-append (orders_for n.switch before) (orders_for n.switch (c ∷ []))) in
+    omega (arith, r, more)
+
+-- the commands of an event are those between the counts before it and with it
+pub record IsBetween (kinds : List ℕ) (setup : Setup) (es : List Event) (j : ℕ) (n : Numbered) : Type 0 where
+  pub there : j < length es
+  pub least : length (issued kinds setup n.switch (take j es)) ≤ n.number
+  pub most : n.number < length (issued kinds setup n.switch (take (j + 1) es))
+
+pub command_between : (kinds : List ℕ) (setup : Setup) (es : List Event) (j : ℕ) (n : Numbered) → Among n (commands_of kinds setup es j) → IsBetween kinds setup es j n
+command_between kinds setup es j n h =
+    elim (cases_lt j (length (reactions kinds setup es))) [
+      | inl lt ↦
+          let rs = reactions kinds setup es in
+          let low = numbered_from (concat (take j rs)) (get_or rs j []) n h in
+          let at = numbered_stands (concat (take j rs)) (get_or rs j []) n h in
+          let here : slice_get (orders_for n.switch (concat (take (j + 1) rs))) n.number ≡ Some n.what = ap (λ l. slice_get (orders_for n.switch l) n.number) (next_commands rs j lt) ∙ at in
+          let high = slice_get_within (orders_for n.switch (concat (take (j + 1) rs))) n.number n.what here in
+          record {
+            there = omega (arith, lt, length-reactions kinds setup es);
+            least = subst (λ l. length (orders_for n.switch (concat l)) ≤ n.number) (sym (reactions-take kinds setup j es)) low;
+            most = subst (λ l. n.number < length (orders_for n.switch (concat l))) (sym (reactions-take kinds setup (j + 1) es)) high;
+          }
       | inr past ↦ absurd (subst (λ l. Among n (with_numbers (concat (take j (reactions kinds setup es))) l)) (get_or_past (reactions kinds setup es) j [] past) h)
     ]
 

@@ -1,5 +1,5 @@
 -- What is true stays true.
-use Rattle.std.proofs.Common.{◌≡◌, ◌≤◌, ℕ, ◌+◌, List, [], ◌∷◌, ◌++◌, length, take, zero, suc, refl, sym, ◌∙◌, ap, subst, arith, le_trans}
+use Rattle.std.proofs.Common.{◌<◌, ◌≡◌, ◌≤◌, ℕ, ◌+◌, List, [], ◌∷◌, ◌++◌, length, take, zero, suc, refl, sym, ◌∙◌, ap, subst, arith, le_trans}
 use Rattle.std.proofs.lemmas.List.Sums.{sum_by-append}
 use Rattle.std.proofs.lemmas.List.{take-append-le}
 use Rattle.of_types.specs.declared.message.Event.{Event}
@@ -27,7 +27,7 @@ use Rattle.rv_world.specs.declared.says.Unsealed.TheVariants as unsealed
 use Rattle.rv_world.specs.States.{SwitchAt, ControllerAt}
 use Rattle.rv_world.specs.Laws.{IsPrefix}
 use Rattle.rv_safety.specs.Facts.{Facts, Later}
-use Rattle.rv_safety.specs.Truths.{IsGenuine, IsDoneThrough, IsTrueEntry, IsNumbered, IsTold, IsReported, processed_of}
+use Rattle.rv_safety.specs.Truths.{IsGenuine, IsDoneThrough, IsTrueEntry, IsCommand, IsNumbered, settled_of, IsTold, IsReported, processed_of}
 use Rattle.rv_safety.proofs.Lists.{prefix_same, prefix_on, prefix_length, get_prefix}
 use Rattle.rv_safety.proofs.Issued.{issued_prefix}
 use Rattle.rv_safety.proofs.Invariant.{IsSound, IsReport, IsSoundAt, IsHonest, IsOrder, IsHonestAt, IsTrueBetween}
@@ -70,6 +70,11 @@ count_prefix s {xs = xs} {ys = ys} p =
 pub processed_count : (s : ℕ) {xs ys : List Entry} → IsPrefix xs ys → count_from s (take (processed xs) (received xs)) ≤ count_from s (take (processed ys) (received ys))
 processed_count s p = count_prefix s (take_prefix _ _ (processed_prefix p) (received_prefix p))
 
+-- the count of settled commands, over a longer log
+pub settled_count : (kinds : List ℕ) (setup : Setup) (s : ℕ) {xs ys : List Entry} → IsPrefix xs ys →
+    length (issued kinds setup s (take (processed xs) (received xs))) ≤ length (issued kinds setup s (take (processed ys) (received ys)))
+settled_count kinds setup s p = prefix_length (issued_prefix kinds setup s _ _ (take_prefix _ _ (processed_prefix p) (received_prefix p)))
+
 module _ (kinds : List ℕ) (setup : Setup) {f g : Facts} (later : Later f g) where
   pub processed_more : (s : ℕ) → processed_of f s ≤ processed_of g s
   processed_more s = processed_count s later.decided
@@ -95,11 +100,30 @@ module _ (kinds : List ℕ) (setup : Setup) {f g : Facts} (later : Later f g) wh
   entry_more (Received e) h = genuine_more e h
   entry_more (Processed j) h = done_more j h
 
+  pub command_more : (s settled i : ℕ) (what : Order) → IsCommand kinds setup f s settled i what → IsCommand kinds setup g s settled i what
+  command_more s settled i what h =
+      let grows = received_prefix later.decided in
+      let longer = prefix_length grows in
+      let before : h.place ≤ length (received f.decided) = omega (arith, h.there) in
+      let after : h.place + 1 ≤ length (received f.decided) = omega (arith, h.there) in
+      record {
+        place = h.place;
+        there = omega (arith, h.there, longer);
+        reached = le_trans h.reached (processed_prefix later.decided);
+        settled_is = h.settled_is ∙ ap (λ (l : List Event). length (issued kinds setup s l)) (sym (take_same h.place before grows));
+        least = h.least;
+        most = subst (λ (l : List Event). i < length (issued kinds setup s l)) (sym (take_same (h.place + 1) after grows)) h.most;
+        stands = numbered_more s i what h.stands;
+      }
+
+  pub settled_more : (s : ℕ) → settled_of kinds setup f s ≤ settled_of kinds setup g s
+  settled_more s = settled_count kinds setup s later.decided
+
   pub told_more : (c s : ℕ) (m : Spoken) → IsTold kinds setup f c s m → IsTold kinds setup g c s m
   told_more c s (spoken.Plain (plain.RoleRequest role generation)) h = h
-  told_more c s (spoken.Ravana (extension.Command life generation number settled what)) h = (h.0, numbered_more s number what h.1, h.2)
+  told_more c s (spoken.Ravana (extension.Command life generation number settled what)) h = (h.0, command_more s settled number what h.1, h.2)
   told_more c s (spoken.Ravana (extension.EventAck life through)) h = (h.0, le_trans h.1 (processed_more s))
-  told_more c s (spoken.Ravana (extension.Clear life through)) h = tt
+  told_more c s (spoken.Ravana (extension.Clear life through)) h = le_trans h (settled_more s)
   told_more c s _ h = absurd h
 
   pub order_more : (c : ℕ) (l : Letter ControllerSays) → IsOrder kinds setup f c l → IsOrder kinds setup g c l

@@ -122,7 +122,7 @@ module _ (kinds : List ℕ) (setup : Setup) (f : Facts) (s : ℕ) (x : SwitchInp
             | inl old ↦ h.sound.done i y old
             | inr e ↦
                 let here : number ≡ i = place ∙ sym e.0 in
-                (ap (λ (z : Executed). z.number) e.1 ∙ here, subst (λ (z : Executed). IsNumbered kinds setup f s i z.order) (sym e.1) (subst (λ (k : ℕ). IsNumbered kinds setup f s k what) here told.1))
+                (ap (λ (z : Executed). z.number) e.1 ∙ here, subst (λ (z : Executed). IsNumbered kinds setup f s i z.order) (sym e.1) (subst (λ (k : ℕ). IsNumbered kinds setup f s k what) here told.1.stands))
           ];
           dropped = h.sound.dropped;
         })

@@ -52,9 +52,24 @@ abbrev pub IsTrueEntry : List ℕ → Setup → Facts → Entry → Type 0
 IsTrueEntry kinds setup f (Received e) = IsGenuine setup f e
 IsTrueEntry kinds setup f (Processed j) = IsDoneThrough kinds setup f j
 
+-- a command is one of the first unprocessed event of some moment: its number is its place among the orders that
+-- one fault-free controller issues to the switch, and those of the events before are settled
+pub record IsCommand (kinds : List ℕ) (setup : Setup) (f : Facts) (s settled i : ℕ) (what : Order) : Type 0 where
+  pub place : ℕ
+  pub there : place < length (received f.decided)
+  pub reached : place ≤ processed f.decided
+  pub settled_is : settled ≡ length (issued kinds setup s (take place (received f.decided)))
+  pub least : settled ≤ i
+  pub most : i < length (issued kinds setup s (take (place + 1) (received f.decided)))
+  pub stands : slice_get (issued kinds setup s (received f.decided)) i ≡ Some what
+
 -- an order has this number among those that one fault-free controller issues to a switch on the decided log
 abbrev pub IsNumbered : List ℕ → Setup → Facts → ℕ → ℕ → Order → Type 0
 IsNumbered kinds setup f s i what = slice_get (issued kinds setup s (received f.decided)) i ≡ Some what
+
+-- how many commands for the processed events were issued to a switch
+abbrev pub settled_of : List ℕ → Setup → Facts → ℕ → ℕ
+settled_of kinds setup f s = length (issued kinds setup s (take (processed f.decided) (received f.decided)))
 
 -- how many events of a switch are processed
 abbrev pub processed_of : Facts → ℕ → ℕ
@@ -65,9 +80,9 @@ abbrev pub IsTold : List ℕ → Setup → Facts → ℕ → ℕ → Spoken → 
 IsTold kinds setup f c s (spoken.Plain (plain.RoleRequest role generation)) =
     (role ≡ MASTER) × (generation < 2 ^ 32) × (generation % setup.controllers ≡ c)
 IsTold kinds setup f c s (spoken.Ravana (extension.Command life generation number settled what)) =
-    (life ≡ 0) × IsNumbered kinds setup f s number what × IsValid (spoken.Ravana (extension.Command life generation number settled what))
+    (life ≡ 0) × IsCommand kinds setup f s settled number what × IsValid (spoken.Ravana (extension.Command life generation number settled what))
 IsTold kinds setup f c s (spoken.Ravana (extension.EventAck life through)) = (life ≡ 0) × (through ≤ processed_of f s)
-IsTold kinds setup f c s (spoken.Ravana (extension.Clear life through)) = Unit {0}
+IsTold kinds setup f c s (spoken.Ravana (extension.Clear life through)) = through ≤ settled_of kinds setup f s
 IsTold kinds setup f c s _ = ⊥
 
 -- what a switch with these lists may say to a controller

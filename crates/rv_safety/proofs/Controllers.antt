@@ -28,7 +28,7 @@ use Rattle.controller_core.proofs.Growth.{Grows, grows_appended, grows_started}
 use Rattle.rv_world.specs.Laws.{IsPrefix}
 use Rattle.rv_safety.specs.Facts.{Facts, Later}
 use Rattle.rv_safety.specs.Truths.{IsGenuine, IsDoneThrough, IsTrueEntry, IsReported, IsGoodHappening, IsCommand}
-use Rattle.rv_safety.proofs.Lists.{prefix_on, prefix_length, get_prefix, front_prefix, push_split}
+use Rattle.rv_safety.proofs.Lists.{prefix_on, prefix_length, get_prefix, front_prefix, push_split, no_split}
 use Rattle.rv_safety.proofs.Issued.{issued_prefix, issued_none, command_stands, done_through, command_between, reactions-take}
 use Rattle.rv_safety.proofs.More.{received_prefix, processed_prefix, processed_count, take_same, genuine_more, honest_more, settled_count}
 use Rattle.rv_safety.proofs.Orders.{command_valid}
@@ -310,14 +310,10 @@ controller_keeps kinds setup f c owns x heard state up honest =
     (λ crash g later front. record {
       honest = record {
         entries = λ e k. absurd k;
-        valid = λ front back e is. absurd (nothing front back e is);
+        valid = λ front back e is. absurd (no_split front back e is);
         marks = λ s i k. absurd k;
         view = omega arith;
         committed = front;
       };
       said = λ l k. absurd k;
     })
-  where
-    nothing : (front back : List Entry) (e : Entry) → [] ≡ front ++ e ∷ back → ⊥
-    nothing [] back e is = cc
-    nothing (y ∷ front) back e is = cc

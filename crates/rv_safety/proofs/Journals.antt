@@ -1,7 +1,7 @@
 -- All that holds after a past holds after one more entry, and so after every legal past. Of the committed
 -- logs it is asked that they agree with what is decided, and that this lasts.
-use Rattle.std.proofs.Common.{◌≡◌, ◌≢◌, ◌<◌, ℕ, ◌%◌, Bool, true, false, List, [], ◌∷◌, ◌++◌, length, refl, sym, ◌∙◌, ap, subst, inl, inr, arith}
-use Rattle.std.specs.Prelude.{slice_get, Option, Some, slice_index_or, if◌then◌else◌}
+use Rattle.std.proofs.Common.{◌≡◌, ◌≢◌, ◌<◌, ℕ, ◌%◌, Bool, true, false, List, [], ◌∷◌, length, refl, sym, ◌∙◌, ap, subst, inl, inr, arith}
+use Rattle.std.specs.Prelude.{Option, Some, slice_index_or, if◌then◌else◌}
 use Rattle.std.specs.List.{AllByRecursion}
 use Rattle.std.proofs.lemmas.Bool.{cases_Bool, eq-eqb}
 use Rattle.rv_base.specs.Orderly.{IsOrderly}
@@ -33,7 +33,7 @@ use Rattle.rv_world.specs.Committed.{controller_state, decided}
 use Rattle.rv_world.specs.Laws.{IsPrefix}
 use Rattle.rv_world.proofs.Posting.{one_actor}
 use Rattle.rv_safety.specs.Facts.{Later, firm, facts_of}
-use Rattle.rv_safety.proofs.Lists.{prefix_same, prefix_is, prefix_on}
+use Rattle.rv_safety.proofs.Lists.{prefix_same, prefix_is, prefix_on, no_split, none_at}
 use Rattle.rv_safety.proofs.Entries.{IsHeard, By_draw, By_local, ControllerGoes, Turns, Falls, Stays, Own, Other, controller_after, IsHeardAt, From_draw, From_local, SwitchGoes, Takes, Rests, Posts, Refuses, switch_goes, Mine, Another, switch_after}
 use Rattle.rv_safety.specs.Premises.{IsFaithful, HasBytes}
 use Rattle.rv_safety.proofs.Invariant.{IsSound, IsSoundAt, IsReport, IsHonest, IsHonestAt, IsOrder, IsTrueBetween, IsHeardBySwitch, IsHeardByController, Holds}
@@ -43,11 +43,11 @@ use Rattle.rv_safety.proofs.Controllers.{controller_keeps}
 use Rattle.rv_safety.proofs.Packets.{orderly_before, drawn_found, IsPosted, Was, New, pool_after, heard_by_switch, heard_by_controller, switch_packet, controller_packet}
 
 -- what is firm is a beginning of what a switch has now
-firm_events : (w : SwitchAt) (b : Bool) → IsPrefix w.before.events w.now.events → IsPrefix (if b then w.before else w.now).events w.now.events
+pub firm_events : (w : SwitchAt) (b : Bool) → IsPrefix w.before.events w.now.events → IsPrefix (if b then w.before else w.now).events w.now.events
 firm_events w true p = p
 firm_events w false p = prefix_same w.now.events
 
-firm_executed : (w : SwitchAt) (b : Bool) → IsPrefix w.before.executed w.now.executed → IsPrefix (if b then w.before else w.now).executed w.now.executed
+pub firm_executed : (w : SwitchAt) (b : Bool) → IsPrefix w.before.executed w.now.executed → IsPrefix (if b then w.before else w.now).executed w.now.executed
 firm_executed w true p = p
 firm_executed w false p = prefix_same w.now.executed
 
@@ -83,13 +83,6 @@ legal_before {B = B} scene results e before legal =
 
 from_some : {A : Type 0} (x y : A) → Some x ≡ Some y → x ≡ y
 from_some x y h = cc
-
-no_split : {A : Type 0} (front back : List A) (e : A) → [] ≡ front ++ e ∷ back → ⊥
-no_split [] back e is = cc
-no_split (y ∷ front) back e is = cc
-
-none_at : {A : Type 0} (i : ℕ) (x : A) → slice_get [] i ≡ Some x → ⊥
-none_at i x h = cc
 
 self_switch : (s : ℕ) → same_actor (actor.Switch s) (actor.Switch s) ≡ true
 self_switch s = eq-eqb s s refl

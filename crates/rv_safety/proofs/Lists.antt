@@ -86,3 +86,11 @@ push_split {A = A} (z ∷ xs) y (w ∷ front) x back h =
       | inl k ↦ inl (ap (λ (l : List A). z ∷ l) k.0 ∙ ap (λ (v : A). v ∷ front) first, k.1)
       | inr k ↦ inr (k.0, ap (λ (l : List A). z ∷ l) k.1 ∙ ap (λ (v : A). v ∷ (front ++ x ∷ k.0)) first)
     ]
+
+-- nothing has no place
+pub no_split : {A : Type 0} (front back : List A) (e : A) → [] ≡ front ++ e ∷ back → ⊥
+no_split [] back e is = cc
+no_split (y ∷ front) back e is = cc
+
+pub none_at : {A : Type 0} (i : ℕ) (x : A) → slice_get [] i ≡ Some x → ⊥
+none_at i x h = cc

@@ -1,6 +1,6 @@
 -- Each command once and in order, from what holds after a past.
-use Rattle.std.proofs.Common.{◌≡◌, ◌<◌, ℕ, Bool, true, false, List, [], ◌∷◌, ◌++◌, length, take, map, sym, subst, inl, inr, ◌⊎◌, arith, le_trans}
-use Rattle.std.specs.Prelude.{slice_get, Some, if◌then◌else◌}
+use Rattle.std.proofs.Common.{◌≡◌, ◌<◌, ℕ, List, [], ◌∷◌, length, take, map, sym, subst, inl, inr, ◌⊎◌, arith, le_trans}
+use Rattle.std.specs.Prelude.{slice_get, Some}
 use Rattle.std.specs.List.{AllByRecursion}
 use Rattle.of_types.specs.declared.message.Executed.{Executed}
 use Rattle.rv_base.specs.declared.journal.Actor.TheVariants as actor
@@ -13,19 +13,19 @@ use Rattle.controller_core.specs.declared.says.Entry.TheVariants.{Processed}
 use Rattle.controller_core.specs.Chain.{issued}
 use Rattle.controller_core.specs.Log.{received, processed}
 use Rattle.controller_core.specs.State.{committed}
-use Rattle.rv_world.specs.States.{Scene, SwitchAt, switch_at}
+use Rattle.rv_world.specs.States.{Scene, switch_at}
 use Rattle.rv_world.specs.Legal.{IsLegalPast}
 use Rattle.rv_world.specs.Committed.{controller_state, switch_state, decided}
 use Rattle.rv_world.specs.Laws.{IsPrefix, IsExactlyOnce}
 use Rattle.rv_safety.specs.Facts.{Later, firm, facts_of}
 use Rattle.rv_safety.specs.Truths.{IsDoneThrough}
-use Rattle.rv_safety.proofs.Lists.{prefix_same, prefix_on, prefix_length, prefix_by_places, front_prefix}
+use Rattle.rv_safety.proofs.Lists.{prefix_on, prefix_length, prefix_by_places, front_prefix, no_split}
 use Rattle.rv_safety.specs.Premises.{HasBytes}
 use Rattle.rv_safety.proofs.Invariant.{IsSoundAt, Holds}
 use Rattle.rv_safety.proofs.More.{entry_more}
 use Rattle.rv_safety.proofs.Controllers.{processed_stands}
 use Rattle.rv_safety.proofs.Orderings.{IsTrueLog, valid_front, ordered_log, get_map, numbers_are, processed_among}
-use Rattle.rv_safety.proofs.Journals.{legal_before}
+use Rattle.rv_safety.proofs.Journals.{legal_before, firm_events, firm_executed}
 
 module _ {B : Type 0} (scene : Scene B) (results : List (List SaveResult))
     (later : (e : JournalEntry B) (before : List (JournalEntry B)) → IsLegalPast scene results (e ∷ before) → AllByRecursion (λ (x : JournalEntry B). HasBytes x) (e ∷ before) →
@@ -39,10 +39,6 @@ module _ {B : Type 0} (scene : Scene B) (results : List (List SaveResult))
       IsTrueLog scene.kinds scene.setup (facts_of scene results entries) (decided scene results entries)
   decided_true [] legal bytes = subst (λ (l : List Entry). IsTrueLog scene.kinds scene.setup (facts_of scene results []) l) (sym none)
       (record { entries = λ e k. absurd k; valid = λ front back e is. absurd (no_split front back e is) })
-    where
-      no_split : (front back : List Entry) (e : Entry) → [] ≡ front ++ e ∷ back → ⊥
-      no_split [] back e is = cc
-      no_split (y ∷ front) back e is = cc
   decided_true (e ∷ before) legal bytes =
       elim (chosen e before) [
         | inl same ↦
@@ -58,19 +54,11 @@ module _ {B : Type 0} (scene : Scene B) (results : List (List SaveResult))
 
   firm_events_now : (s : ℕ) (entries : List (JournalEntry B)) → IsSoundAt scene.kinds scene.setup (facts_of scene results entries) s (switch_at scene s (part (actor.Switch s) entries)) →
       IsPrefix (firm (switch_at scene s (part (actor.Switch s) entries))).events (switch_state scene s entries).events
-  firm_events_now s entries h = by_fresh (switch_at scene s (part (actor.Switch s) entries)) (switch_at scene s (part (actor.Switch s) entries)).fresh h.events
-    where
-      by_fresh : (w : SwitchAt) (b : Bool) → IsPrefix w.before.events w.now.events → IsPrefix (if b then w.before else w.now).events w.now.events
-      by_fresh w true p = p
-      by_fresh w false p = prefix_same w.now.events
+  firm_events_now s entries h = firm_events (switch_at scene s (part (actor.Switch s) entries)) (switch_at scene s (part (actor.Switch s) entries)).fresh h.events
 
   firm_executed_now : (s : ℕ) (entries : List (JournalEntry B)) → IsSoundAt scene.kinds scene.setup (facts_of scene results entries) s (switch_at scene s (part (actor.Switch s) entries)) →
       IsPrefix (firm (switch_at scene s (part (actor.Switch s) entries))).executed (switch_state scene s entries).executed
-  firm_executed_now s entries h = by_fresh (switch_at scene s (part (actor.Switch s) entries)) (switch_at scene s (part (actor.Switch s) entries)).fresh h.executed
-    where
-      by_fresh : (w : SwitchAt) (b : Bool) → IsPrefix w.before.executed w.now.executed → IsPrefix (if b then w.before else w.now).executed w.now.executed
-      by_fresh w true p = p
-      by_fresh w false p = prefix_same w.now.executed
+  firm_executed_now s entries h = firm_executed (switch_at scene s (part (actor.Switch s) entries)) (switch_at scene s (part (actor.Switch s) entries)).fresh h.executed
 
   pub once : (entries : List (JournalEntry B)) → IsLegalPast scene results entries → AllByRecursion (λ (x : JournalEntry B). HasBytes x) entries → IsExactlyOnce scene results entries
   once entries legal bytes =

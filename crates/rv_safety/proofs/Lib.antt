@@ -15,3 +15,4 @@ pub mod Generations
 pub mod Fencing
 pub mod OneController
 pub mod Closings
+pub mod Draining

@@ -119,9 +119,6 @@ as_prefix g = record { rest = g.rest; joined = g.joined }
 module _ (kinds : List ℕ) (setup : Setup) (f g : Facts) (later : Later f g) (c : ℕ) (owns : (view : ℕ) → view % setup.controllers ≡ c) (x : ControllerInput) (heard : IsHeardByController setup f x) where
   module _ (state : ControllerState) (h : IsHonest kinds setup g state) where
     -- what is committed
-    taken : List Event
-    taken = received (committed state)
-
     taken_prefix : IsPrefix (received (committed state)) (received g.decided)
     taken_prefix = received_prefix h.committed
 

@@ -28,12 +28,9 @@ use Rattle.rv_world.specs.States.{SwitchAt, ControllerAt}
 use Rattle.rv_world.specs.Laws.{IsPrefix}
 use Rattle.rv_safety.specs.Facts.{Facts, Later}
 use Rattle.rv_safety.specs.Truths.{IsGenuine, IsDoneThrough, IsTrueEntry, IsCommand, IsNumbered, settled_of, IsTold, IsReported, processed_of}
-use Rattle.rv_safety.proofs.Lists.{prefix_same, prefix_on, prefix_length, get_prefix}
+use Rattle.rv_safety.proofs.Lists.{prefix_on, prefix_length, get_prefix}
 use Rattle.rv_safety.proofs.Issued.{issued_prefix}
 use Rattle.rv_safety.proofs.Invariant.{IsSound, IsReport, IsSoundAt, IsHonest, IsOrder, IsHonestAt, IsTrueBetween}
-
-pub later_same : (f : Facts) → Later f f
-later_same f = record { decided = prefix_same f.decided; events = λ s. prefix_same (f.events s); executed = λ s. prefix_same (f.executed s) }
 
 pub received-append : (xs ys : List Entry) → received (xs ++ ys) ≡ received xs ++ received ys
 received-append [] ys = refl

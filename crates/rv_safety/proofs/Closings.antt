@@ -12,7 +12,7 @@ use Rattle.rv_base.specs.declared.journal.SaveResult.{SaveResult}
 use Rattle.rv_base.specs.Part.{part, drawn}
 use Rattle.rv_base.specs.Pool.{pool}
 use Rattle.controller_core.specs.Chain.{issued}
-use Rattle.controller_core.specs.Log.{received, processed}
+use Rattle.controller_core.specs.Log.{received, processed, count_from}
 use Rattle.controller_core.specs.State.{ControllerState}
 use Rattle.switch_core.specs.declared.says.SwitchInput.{SwitchInput}
 use Rattle.switch_core.specs.State.{SwitchState, SwitchTurn}
@@ -26,6 +26,7 @@ use Rattle.rv_world.specs.Schedule.{Phase, Losing, Suspecting, Draining, Met, Do
 use Rattle.rv_safety.specs.Premises.{IsFaithful, HasBytes}
 use Rattle.rv_safety.proofs.Lists.{prefix_length, front_prefix}
 use Rattle.rv_safety.proofs.Entries.{SwitchGoes, Takes, Rests, Posts, Refuses, switch_goes, Mine, Another, switch_after}
+use Rattle.rv_safety.proofs.Invariant.{Holds}
 use Rattle.rv_safety.proofs.Issued.{issued_none}
 use Rattle.rv_safety.proofs.More.{count_prefix}
 use Rattle.rv_safety.proofs.Orderings.{length-events_from, prefix_whole, length_map}
@@ -92,22 +93,41 @@ pub record IsSettled {B : Type 0} (scene : Scene B) (results : List (List SaveRe
   pub processed_all : processed (decided scene results entries) ≡ length (received (decided scene results entries))
   pub cleared_all : (s : ℕ) → s < length scene.setup.ports → length (switch_state scene s entries).events ≤ (switch_state scene s entries).cleared
 
-module _ {B : Type 0} (scene : Scene B) (results : List (List SaveResult)) (entries : List (JournalEntry B)) (once : IsExactlyOnce scene results entries) (settled : IsSettled scene results entries) where
-  all_issued : (s : ℕ) → s < length scene.setup.ports → (n : ℕ) → n ≡ length (received (decided scene results entries)) →
+-- the counts of a switch, in their order: the events that left its buffer, those that are processed, those that are
+-- received, and all that it made; and the commands that are settled, and those that it carried out
+pub record AreInOrder {B : Type 0} (scene : Scene B) (results : List (List SaveResult)) (entries : List (JournalEntry B)) (s : ℕ) : Type 0 where
+  pub cleared : (switch_state scene s entries).cleared ≤ count_from s (take (processed (decided scene results entries)) (received (decided scene results entries)))
+  pub processed_count : count_from s (take (processed (decided scene results entries)) (received (decided scene results entries))) ≤ count_from s (received (decided scene results entries))
+  pub received_count : count_from s (received (decided scene results entries)) ≤ length (switch_state scene s entries).events
+  pub settled : length (issued scene.kinds scene.setup s (take (processed (decided scene results entries)) (received (decided scene results entries)))) ≤ length (switch_state scene s entries).executed
+
+module _ {B : Type 0} (scene : Scene B) (results : List (List SaveResult)) (entries : List (JournalEntry B)) (once : IsExactlyOnce scene results entries) where
+  settled_done : (s : ℕ) → s < length scene.setup.ports → (n : ℕ) → n ≡ processed (decided scene results entries) →
       length (issued scene.kinds scene.setup s (take n (received (decided scene results entries)))) ≤ length (switch_state scene s entries).executed
-  all_issued s there zero is = subst (λ (l : List _). length l ≤ length (switch_state scene s entries).executed) (sym (issued_none scene.kinds scene.setup s)) (omega arith)
-  all_issued s there (suc j) is =
-      let all = settled.processed_all in
+  settled_done s there zero is = subst (λ (l : List _). length l ≤ length (switch_state scene s entries).executed) (sym (issued_none scene.kinds scene.setup s)) (omega arith)
+  settled_done s there (suc j) is =
       let count : j + 1 ≡ suc j = omega arith in
       subst (λ (k : ℕ). length (issued scene.kinds scene.setup s (take k (received (decided scene results entries)))) ≤ length (switch_state scene s entries).executed) count
-      (once.done j s there (omega (arith, all, is)))
+      (once.done j s there (omega (arith, is)))
 
-  -- each command that is issued is carried out
-  pub executed_all : (s : ℕ) → s < length scene.setup.ports → length (switch_state scene s entries).executed ≡ length (issued scene.kinds scene.setup s (received (decided scene results entries)))
-  executed_all s there =
+  pub in_order : Holds scene results entries → (s : ℕ) → s < length scene.setup.ports → AreInOrder scene results entries s
+  in_order holds s there =
+      let log = decided scene results entries in
+      record {
+        cleared = (holds.switches s there).now.dropped;
+        processed_count = count_prefix s (front_prefix (processed log) (received log));
+        received_count = omega (arith, length-events_from s (received log), prefix_length (once.ordered s there));
+        settled = settled_done s there (processed log) refl;
+      }
+
+  -- each command that is issued is carried out, where all is settled
+  pub executed_all : IsSettled scene results entries → (s : ℕ) → s < length scene.setup.ports →
+      length (switch_state scene s entries).executed ≡ length (issued scene.kinds scene.setup s (received (decided scene results entries)))
+  executed_all settled s there =
       let log = received (decided scene results entries) in
       let least : length (issued scene.kinds scene.setup s log) ≤ length (switch_state scene s entries).executed =
-      subst (λ (l : List _). length (issued scene.kinds scene.setup s l) ≤ length (switch_state scene s entries).executed) (take_all (length log) log (omega arith)) (all_issued s there (length log) refl) in
+      subst (λ (l : List _). length (issued scene.kinds scene.setup s l) ≤ length (switch_state scene s entries).executed) (take_all (length log) log (omega arith))
+      (settled_done s there (length log) (sym settled.processed_all)) in
       let most : length (map (λ (x : Executed). x.order) (switch_state scene s entries).executed) ≤ length (issued scene.kinds scene.setup s log) = prefix_length (once.orders s there) in
       let counted = length_map (λ (x : Executed). x.order) (switch_state scene s entries).executed in
       omega (arith, least, most, counted)
@@ -129,8 +149,9 @@ module _ {B : Type 0} (scene : Scene B) (results : List (List SaveResult)) (one 
         executed = λ s there. executed_all scene results entries once settled s there;
         logged = λ s there.
             let p : IsPrefix (events_from s (received log)) (switch_state scene s entries).events = once.ordered s there in
-            let dropped = (holds.switches s there).now.dropped in
-            let fewer = count_prefix s (front_prefix (processed log) (received log)) in
+            let order = in_order scene results entries once holds s there in
+            let dropped = order.cleared in
+            let fewer = order.processed_count in
             let counted = length-events_from s (received log) in
             let gone = settled.cleared_all s there in
             let most = prefix_length p in

@@ -58,16 +58,17 @@ module _ (words : List (List ℕ)) (unread : Type 0) where
 
   -- all that there was, was read
   read_all : (input rest : List ℕ) (e : Ending) → words ≡ accepted → rest ≡ [] → EndsRead input e → Outcome words input rest unread (ending_status e) (ending_text e)
-  read_all input rest (ending.Report written) said none (scenario, is, (journal, run, (told, shows, text))) =
-      outcome.Closed said none (record { scenario = scenario; journal = journal; told = told; said = is; run = run; shows = shows; wrote = text })
+  read_all input rest (ending.Report written) said none (scenario, is, e) =
+      outcome.Closed said none
+      (record { scenario = scenario; script = e.script; closing = e.closing; journal = e.journal; primary = e.primary; told = e.told; said = is; run = e.run; shows = e.shows; wrote = e.wrote })
   read_all input rest ending.Usage said none (scenario, is, never) = absurd never
   read_all input rest (ending.Refused fault) said none is =
       outcome.Refused fault said (subst (λ r. HasRead input r) (sym none) To_the_end) is
   read_all input rest ending.Unread said none (scenario, is, never) = absurd never
-  read_all input rest (ending.Overfull limit) said none (scenario, is, (journal, run)) =
-      outcome.Overfull said none (record { scenario = scenario; journal = journal; limit = limit; said = is; run = run; wrote = refl })
-  read_all input rest (ending.Unposted bytes letters) said none (scenario, is, (journal, run, full)) =
-      outcome.Unposted said none (record { scenario = scenario; journal = journal; bytes = bytes; letters = letters; said = is; run = run; full = full; wrote = refl })
+  read_all input rest (ending.Overfull limit) said none (scenario, is, e) =
+      outcome.Overfull said none (record { scenario = scenario; script = e.script; closing = e.closing; journal = e.journal; limit = limit; said = is; run = e.run; wrote = refl })
+  read_all input rest (ending.Unposted bytes letters) said none (scenario, is, e) =
+      outcome.Unposted said none (record { scenario = scenario; journal = e.journal; bytes = bytes; letters = letters; said = is; run = e.run; wrote = refl })
 
   -- a scenario was found in bytes that are none
   never_found : {A : Type 0} (bytes : List ℕ) {scenario : _} → scenario_of bytes ≡ Err not_yet → scenario_of bytes ≡ Ok scenario → A

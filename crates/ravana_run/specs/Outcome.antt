@@ -6,7 +6,9 @@ use Rattle.rv_base.specs.Turns.{IsWithinLimits}
 use Rattle.controller_core.specs.declared.says.LogFull.{LogFull}
 use Rattle.rv_world.specs.declared.typed.Typed.{Typed}
 use Rattle.rv_world.specs.Legal.{IsLegal}
-use Rattle.rv_world.specs.Schedule.{IsJournalFull}
+use Rattle.rv_world.specs.Laws.{IsExactlyOnce, IsFenced, IsLasting}
+use Rattle.rv_world.specs.Schedule.{Answer, FollowsInOrder, Closes, IsBegun}
+use Rattle.rv_world.specs.Schedule as schedule
 use Rattle.rv_world.specs.States.{Scene}
 use Rattle.scenario.specs.declared.scenario.Fault.{Fault}
 use Rattle.scenario.specs.declared.scenario.FaultKind.{FaultKind}
@@ -29,19 +31,41 @@ IsTold _ _ _ _ P = Unit {0}
 abbrev pub scene_for : Scenario → Scene Typed
 scene_for scenario = scene_typed scenario.setup
 
--- a journal of a scenario: that of a run of its setup, within the limits
-pub record IsRun (scenario : Scenario) (journal : List (JournalEntry Typed)) : Type 0 where
+-- the headline: each event and each command exactly once, no command of a stale generation, and what was
+-- decided lasts
+pub record IsLawful {B : Type 0} (scene : Scene B) (entries : List (JournalEntry B)) : Type 0 where
+  pub exactly_once : IsExactlyOnce scene [] entries
+  pub fenced : IsFenced scene entries
+  pub lasting : IsLasting scene [] entries
+
+-- a run of a scenario up to the answer of its closing: a legal journal within the limits, in which the
+-- script follows the steps in order, and the entries behind it are those of the closing schedule
+pub record IsRun (scenario : Scenario) (script closing journal : List (JournalEntry Typed)) (answer : Answer) : Type 0 where
+  pub joined : journal ≡ script ++ closing
   pub legal : IsLegal (scene_for scenario) [] journal
   pub within : IsWithinLimits (scene_for scenario).sealing.size (past journal)
+  pub follows : FollowsInOrder (scene_for scenario) [] scenario.steps (past script)
+  pub closes : Closes (scene_for scenario) [] (past script) closing answer
+  pub lawful : IsLawful (scene_for scenario) (past journal)
+
+-- a run that is cut short where an outbox passes the limits of the journal, in the script or in the closing
+pub record IsCutShort (scenario : Scenario) (bytes letters : ℕ) (journal : List (JournalEntry Typed)) : Type 0 where
+  pub legal : IsLegal (scene_for scenario) [] journal
+  pub within : IsWithinLimits (scene_for scenario).sealing.size (past journal)
+  pub begun : IsBegun (scene_for scenario) [] scenario.steps bytes letters (past journal)
+  pub lawful : IsLawful (scene_for scenario) (past journal)
 
 -- a run to its end and its report
 pub record IsDone (input written : List ℕ) : Type 0 where
   pub scenario : Scenario
+  pub script : List (JournalEntry Typed)
+  pub closing : List (JournalEntry Typed)
   pub journal : List (JournalEntry Typed)
+  pub primary : ℕ
   pub told : Record
   pub said : scenario_of input ≡ Ok scenario
-  pub run : IsRun scenario journal
-  pub shows : Shows (scene_for scenario) typed_bytes journal told
+  pub run : IsRun scenario script closing journal (schedule.Done primary)
+  pub shows : Shows (scene_for scenario) typed_bytes (length scenario.steps) closing journal told
   pub wrote : written ≡ text told
 
 -- the lines of the answers that are no report
@@ -68,13 +92,15 @@ unfoldable pub unposted_line : ℕ → ℕ → List ℕ
 unposted_line bytes letters =
     line (codes "fault") (codes "10" ∷ codes "bytes" ∷ number bytes ∷ codes "letters" ∷ number letters ∷ [])
 
--- a run that ended since a proposal found no room in the log
+-- a run that ended since a proposal in the closing found no room in the log
 pub record IsOverfull (input written : List ℕ) : Type 0 where
   pub scenario : Scenario
+  pub script : List (JournalEntry Typed)
+  pub closing : List (JournalEntry Typed)
   pub journal : List (JournalEntry Typed)
   pub limit : LogFull
   pub said : scenario_of input ≡ Ok scenario
-  pub run : IsRun scenario journal
+  pub run : IsRun scenario script closing journal (schedule.Overfull limit)
   pub wrote : written ≡ overfull_line limit
 
 -- a run that was cut short since an outbox found no room in the journal
@@ -84,8 +110,7 @@ pub record IsUnposted (input written : List ℕ) : Type 0 where
   pub bytes : ℕ
   pub letters : ℕ
   pub said : scenario_of input ≡ Ok scenario
-  pub run : IsRun scenario journal
-  pub full : IsJournalFull (scene_for scenario) [] (past journal) bytes letters
+  pub run : IsCutShort scenario bytes letters journal
   pub wrote : written ≡ unposted_line bytes letters
 
 -- the source was read to its end, or one byte past the most that a scenario has

@@ -12,10 +12,12 @@ use Rattle.controller_core.specs.Rules.{numbers_below}
 use Rattle.rv_world.specs.declared.says.Message.{Message}
 use Rattle.rv_world.specs.declared.says.Message.TheVariants as message
 use Rattle.rv_world.specs.declared.typed.Typed.{Typed}
-use Rattle.rv_world.specs.Committed.{switch_state}
+use Rattle.rv_world.specs.Committed.{decided, switch_state}
+use Rattle.rv_world.specs.Schedule.{count_turns}
 use Rattle.rv_world.specs.Messages.{said_on, message_size}
 use Rattle.rv_world.specs.World.{scene_of}
 use Rattle.report.specs.Canonical.{canonical}
+use Rattle.report.specs.Report.{text}
 use Rattle.rv_world.specs.States.{Scene}
 use Rattle.report.specs.declared.record.Record.{Record}
 use Rattle.report.specs.declared.record.Shown.{Shown}
@@ -65,8 +67,18 @@ told_of s =
       rows = map shown_row s.rows;
     }
 
--- a record tells of this journal: its setup, each entry, and each switch as the journal leaves it
-pub record Shows {B : Type 0} (scene : Scene B) (bytes : B → List ℕ) (journal : List (JournalEntry B)) (told : Record) : Type 0 where
+-- a record tells of this journal, with so many steps of a script and this closing: its setup, each
+-- entry, what was decided, each switch as the journal leaves it, and how many turns there were
+pub record Shows {B : Type 0} (scene : Scene B) (bytes : B → List ℕ) (steps : ℕ) (closing journal : List (JournalEntry B)) (told : Record) : Type 0 where
   pub setup : told.setup ≡ scene.setup
   pub journal_is : told.journal ≡ bare bytes journal
+  pub log : told.log ≡ decided scene [] (past journal)
+  pub script : told.script ≡ steps
+  pub closing_is : told.closing ≡ count_turns closing
   pub switches : told.switches ≡ map (λ s. told_of (switch_state scene s (past journal))) (numbers_below (length scene.setup.ports))
+
+-- words are the report of this journal
+pub record ShowsReport (scene : Scene Typed) (steps : ℕ) (closing journal : List (JournalEntry Typed)) (words : List ℕ) : Type 0 where
+  pub told : Record
+  pub shows : Shows scene typed_bytes steps closing journal told
+  pub wrote : words ≡ text told

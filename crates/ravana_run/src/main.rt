@@ -8,6 +8,7 @@ mod telling;
 #[cfg(test)]
 mod tests;
 mod top;
+mod turning;
 
 use rv_base::{StdSink, StdSource};
 use std::env;

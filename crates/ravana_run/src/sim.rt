@@ -1,18 +1,26 @@
 //! Playing a scenario from its first step to its report.
-ghost use Rattle.std.specs.Prelude.{◌≡◌, true, OnOk, IfOk, IfErr};
+ghost use Rattle.std.specs.Prelude.{◌≡◌, ◌≤◌, true, false, [], length, drop, OnOk, IfOk, IfErr};
 ghost use Rattle.std.specs.List.{AllByRecursion};
 ghost use Rattle.rv_base.specs.Actors.{IsActor};
-ghost use Rattle.rv_base.specs.Turns.{turn_actor};
-ghost use Rattle.rv_world.specs.World.{StopsAt};
+ghost use Rattle.rv_base.specs.Pool.{past};
+ghost use Rattle.rv_base.specs.Turns.{turn_actor, IsCalm};
+ghost use Rattle.controller_core.specs.State.{is_up};
+ghost use Rattle.rv_world.specs.Committed.{controller_state};
+ghost use Rattle.rv_world.specs.Schedule.{FollowsInOrder};
 ghost use Rattle.scenario.specs.Scenario.{IsPlayable};
-ghost use Rattle.ravana_run.specs.Ending.{EndsRun, IsReportOf};
-ghost use Rattle.ravana_run.specs.Shows.{scene_typed};
+ghost use Rattle.ravana_run.specs.Ending.{EndsRun};
+ghost use Rattle.ravana_run.specs.Outcome.{IsLawful};
+ghost use Rattle.ravana_run.specs.Play.{HasPlayed, RunStops, answer_of};
+ghost use Rattle.ravana_run.specs.Shows.{ShowsReport, scene_typed};
 
 use crate::closing::{self, Closed};
 use crate::ending::Ending;
 use crate::telling::record_of;
+use crate::turning::take_turn;
+use of_types::Octets;
 use report::text;
 use rv_base::{Stop, Turn};
+use rv_safety::{exactly_once, fence, lasting};
 use rv_world::{Typed, World};
 use scenario::Scenario;
 use std::alloc::{AllocError, Global};
@@ -20,14 +28,18 @@ use std::alloc::{AllocError, Global};
 /// Does the steps of a script in order.
 fn do_steps(world: &mut World<Typed>, steps: &[Turn]) -> Result<(), Stop>
     requires whole { world.old.whole ≡ true }
+    requires rests { world.old.owes ≡ false }
+    requires fresh { world.old.journal ≡ [] }
     requires named { AllByRecursion (λ t. IsActor world.old.setup (turn_actor t)) steps.now }
     ensures setup { world.new.setup ≡ world.old.setup }
     ensures whole { OnOk result (world.new.whole ≡ true) }
-    ensures stops { IfErr result (StopsAt (scene_typed world.old.setup) world.new) }
+    ensures follows { OnOk result (FollowsInOrder (scene_typed world.old.setup) [] steps.now (past world.new.journal)) }
+    ensures stops { IfErr result (RunStops (scene_typed world.old.setup) steps.now world.new) }
 {
     for step in steps {
-        world.apply(step)?;
+        take_turn(world, step)?;
     }
+    world.lawful();
     Ok(())
 }
 
@@ -35,16 +47,32 @@ fn do_steps(world: &mut World<Typed>, steps: &[Turn]) -> Result<(), Stop>
 /// script made.
 fn play(world: &mut World<Typed>, steps: &[Turn]) -> Result<(Closed, usize), Stop>
     requires whole { world.old.whole ≡ true }
+    requires rests { world.old.owes ≡ false }
+    requires fresh { world.old.journal ≡ [] }
     requires one { world.old.setup.controllers ≡ 1 }
     requires named { AllByRecursion (λ t. IsActor world.old.setup (turn_actor t)) steps.now }
+    requires calm { AllByRecursion IsCalm steps.now }
     ensures setup { world.new.setup ≡ world.old.setup }
     ensures whole { OnOk result (world.new.whole ≡ true) }
-    ensures stops { IfErr result (StopsAt (scene_typed world.old.setup) world.new) }
+    ensures up { OnOk result (is_up (controller_state (scene_typed world.old.setup) [] 0 (past world.new.journal)).status ≡ true) }
+    ensures played { IfOk result (λ played. HasPlayed (scene_typed world.old.setup) steps.now played.1 (answer_of played.0) world.new.journal) }
+    ensures stops { IfErr result (RunStops (scene_typed world.old.setup) steps.now world.new) }
 {
     do_steps(world, steps)?;
     let script = world.journal().len();
     let closed = closing::run(world)?;
     Ok((closed, script))
+}
+
+/// The laws of the run so far.
+fn laws(world: &World<Typed>)
+    requires whole { world.now.whole ≡ true }
+    requires one { world.now.setup.controllers ≡ 1 }
+    ensures { IsLawful (scene_typed world.now.setup) (past world.now.journal) }
+{
+    exactly_once(world);
+    fence(world);
+    lasting(world);
 }
 
 /// The report of a run that came to rest.
@@ -53,14 +81,15 @@ fn report_of(
     world: &World<Typed>,
     steps: usize,
     script: usize,
-) -> Result<Ending, AllocError>
+) -> Result<Octets, AllocError>
     requires whole { world.now.whole ≡ true }
-    requires some { world.now.setup.controllers ≡ 1 }
-    ensures { IfOk result (λ ending. IsReportOf world.now.setup world.now.journal ending) }
+    requires one { world.now.setup.controllers ≡ 1 }
+    requires up { is_up (controller_state (scene_typed world.now.setup) [] 0 (past world.now.journal)).status ≡ true }
+    requires script { script ≤ length world.now.journal }
+    ensures { IfOk result (λ words. ShowsReport (scene_typed world.now.setup) steps (drop script world.now.journal) world.now.journal words) }
 {
     let told = record_of(alloc, world, steps, script)?;
-    let text = text(alloc, &told)?;
-    Ok(Ending::Report(text))
+    text(alloc, &told)
 }
 
 /// Plays a scenario.
@@ -72,14 +101,18 @@ pub fn simulate(alloc: Global, scenario: &Scenario) -> Result<Ending, AllocError
     match play(&mut world, scenario.steps.as_slice()) {
         Ok((Closed::Overfull(limit), _)) => {
             world.lawful();
+            laws(&world);
             Ok(Ending::Overfull(limit))
         }
         Ok((Closed::Done { .. }, script)) => {
             world.lawful();
-            report_of(alloc, &world, scenario.steps.len(), script)
+            laws(&world);
+            let report = report_of(alloc, &world, scenario.steps.len(), script)?;
+            Ok(Ending::Report(report))
         }
         Err(Stop::JournalFull { bytes, letters }) => {
             world.lawful();
+            laws(&world);
             Ok(Ending::Unposted { bytes, letters })
         }
         Err(Stop::OutOfMemory) => Err(AllocError),

@@ -1,8 +1,9 @@
 //! What a report tells of a run.
-ghost use Rattle.std.specs.Prelude.{◌≡◌, ◌<◌, ◌≤◌, true, length, map, IfOk};
+ghost use Rattle.std.specs.Prelude.{◌≡◌, ◌≤◌, true, [], length, drop, map, IfOk};
 ghost use Rattle.rv_base.specs.Pool.{past};
 ghost use Rattle.controller_core.specs.Rules.{numbers_below};
-ghost use Rattle.rv_world.specs.Committed.{switch_state};
+ghost use Rattle.controller_core.specs.State.{is_up};
+ghost use Rattle.rv_world.specs.Committed.{switch_state, controller_state};
 ghost use Rattle.rv_world.specs.Schedule.{count_turns, is_turn};
 ghost use Rattle.ravana_run.specs.Shows.{bare_letters, bare_entry, bare, shown_row, told_of, Shows, scene_typed, typed_bytes};
 
@@ -10,6 +11,7 @@ use controller_core::Entry;
 use of_types::{Event, Executed, Items, Octets, Row};
 use report::{Record, Shown, Told, canonical};
 use rv_base::{Journal, JournalEntry, Letter, Letters};
+use rv_safety::committed_log;
 use rv_world::{Message, Typed, World};
 use std::alloc::{AllocError, Global};
 use switch_core::Switch;
@@ -176,8 +178,16 @@ fn told_all(alloc: Global, world: &World<Typed>) -> Result<Items<Told>, AllocErr
 }
 
 /// How many turns entries are: suspicions and draws.
-fn count_turns(entries: &[JournalEntry<Typed>]) -> u64 {
-    entries.iter().filter(|entry| is_turn(entry)).count() as u64
+fn count_turns(entries: &[JournalEntry<Typed>]) -> u64
+    ensures { result ≡ count_turns entries.now }
+{
+    let mut turns = 0;
+    for entry in entries {
+        if is_turn(entry) {
+            turns += 1;
+        }
+    }
+    turns
 }
 
 fn is_turn(entry: &JournalEntry<Typed>) -> bool
@@ -201,15 +211,13 @@ pub fn record_of(
     script: usize,
 ) -> Result<Record, AllocError>
     requires whole { world.now.whole ≡ true }
-    requires some { 0 < world.now.setup.controllers }
-    ensures { IfOk result (λ told. Shows (scene_typed world.now.setup) typed_bytes world.now.journal told) }
+    requires one { world.now.setup.controllers ≡ 1 }
+    requires up { is_up (controller_state (scene_typed world.now.setup) [] 0 (past world.now.journal)).status ≡ true }
+    requires script { script ≤ length world.now.journal }
+    ensures { IfOk result (λ told. Shows (scene_typed world.now.setup) typed_bytes steps (drop script world.now.journal) world.now.journal told) }
 {
+    committed_log(world);
     let entries = world.journal();
-    let closing = if script < entries.len() {
-        count_turns(&entries[script..])
-    } else {
-        0
-    };
     let setup = world.setup().copy()?;
     let journal = bare(alloc, entries)?;
     let log = copy_log(alloc, world.controller(0).committed())?;
@@ -220,6 +228,6 @@ pub fn record_of(
         log,
         switches,
         script: steps as u64,
-        closing,
+        closing: count_turns(&entries[script..]),
     })
 }

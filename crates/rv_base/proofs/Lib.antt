@@ -4,3 +4,4 @@ pub mod Fitting
 pub mod Kept
 pub mod Turning
 pub mod Among
+pub mod All

@@ -16,3 +16,4 @@ pub mod Fencing
 pub mod OneController
 pub mod Closings
 pub mod Draining
+pub mod Frames

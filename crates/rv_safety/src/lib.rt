@@ -11,11 +11,9 @@ ghost use Rattle.rv_world.specs.Legal.{IsLegalPast};
 ghost use Rattle.rv_world.specs.World.{scene_of};
 ghost use Rattle.rv_safety.specs.Premises.{HasBytes};
 
-mod bytes;
 #[cfg(test)]
 mod tests;
 
-use crate::bytes::frames_are_of_bytes;
 use rv_world::{Body, World};
 
 /// What was decided stays decided, under one controller.
@@ -41,7 +39,6 @@ fn grounds<B: Body>(world: &World<B>)
     ensures bytes { AllByRecursion (λ e. HasBytes e) (past world.now.journal) }
 {
     world.lawful();
-    frames_are_of_bytes(world.journal());
 }
 
 /// No switch carried out a command of a stale generation, under one controller.

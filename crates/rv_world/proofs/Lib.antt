@@ -4,3 +4,7 @@ pub mod Worlds
 pub mod Posting
 pub mod Starts
 pub mod Rest
+pub mod Following
+pub mod Closings
+pub mod Addressed
+pub mod Standing

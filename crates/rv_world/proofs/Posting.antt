@@ -25,7 +25,7 @@ use Rattle.rv_world.specs.declared.debt.Debt.{Debt}
 use Rattle.rv_world.specs.declared.debt.Debt.TheVariants as debt
 use Rattle.rv_world.specs.States.{Scene, Sealing, sealed_letters, switch_message, controller_message, switch_at, controller_at}
 use Rattle.rv_base.specs.Actors.{IsActor}
-use Rattle.rv_world.specs.Schedule.{IsInputOf, IsJournalFull, owed_of}
+use Rattle.rv_world.specs.Schedule.{IsInputOf, IsJournalFull, IsPosted, owed_of}
 use Rattle.rv_world.specs.World.{IsWorld, WorldState, is_owing, sealed_debt, switch_debt, controller_debt, IsDebtor, PostedFrom, Nothing_owed, One_post, IsStuck, PostStops}
 use Rattle.rv_base.proofs.Lists.{past-push}
 use Rattle.rv_world.proofs.Worlds.{switch_posted, controller_posted}
@@ -146,10 +146,29 @@ module _ {B : Type 0} (scene : Scene B) (entries : List (JournalEntry B)) (cs : 
       own s letters = rw (eq-eqb s s refl) refl
 
 -- a posting adds nothing, or one entry
-pub posted_from : {B : Type 0} (size : B → ℕ) (a : Actor) (letters : List (Letter B)) (journal : List (JournalEntry B)) →
-    PostedFrom journal (journal ++ posting size a letters (past journal))
-posted_from size a [] journal = subst (λ l. PostedFrom journal l) (sym (append-nil journal)) Nothing_owed
-posted_from size a (l ∷ letters) journal = One_post a _ _ (l ∷ letters)
+pub posted_from : {B : Type 0} (size : B → ℕ) (a : Actor) (letters : List (Letter B)) (journal : List (JournalEntry B)) (owes : Bool) →
+    owes ≡ true → IsInputOf a (past journal) → PostedFrom owes journal (journal ++ posting size a letters (past journal))
+posted_from size a [] journal owes owed input = subst (λ l. PostedFrom owes journal l) (sym (append-nil journal)) Nothing_owed
+posted_from size a (l ∷ letters) journal owes owed input = One_post a _ _ (l ∷ letters) owed input
+
+-- a sealed debt is owed, by the actor of the newest input
+pub debtor_of : {B : Type 0} (sealing : Sealing B) (owed : Debt) (a : Actor) (letters : List (Letter B)) (entries : List (JournalEntry B)) →
+    Some (a, letters) ≡ sealed_debt sealing owed → IsDebtor owed entries → (is_owing owed ≡ true) × IsInputOf a entries
+debtor_of sealing debt.Nothing a letters entries is debtor = cc
+debtor_of sealing (debt.Controller c owed) a letters entries is debtor = (refl, subst (λ x. IsInputOf x entries) (sym (same_pair _ _ is).0) debtor)
+debtor_of sealing (debt.Switch s owed) a letters entries is debtor = (refl, subst (λ x. IsInputOf x entries) (sym (same_pair _ _ is).0) debtor)
+
+-- who owes nothing has posted its newest input
+pub posted_newest : {B : Type 0} (scene : Scene B) (entries : List (JournalEntry B)) (cs : List ControllerState) (ss : List SwitchState) (owed : Debt) →
+    IsWorld scene entries cs ss owed → is_owing owed ≡ false → IsPosted scene [] entries
+posted_newest scene [] cs ss owed w rests = tt
+posted_newest scene (e ∷ before) cs ss (debt.Controller c letters) w rests = cc
+posted_newest scene (e ∷ before) cs ss (debt.Switch s letters) w rests = cc
+posted_newest scene (e ∷ before) cs ss debt.Nothing w rests = by_actor (actor_of e) w.legal.named.0
+  where
+    by_actor : (a : Actor) → IsActor scene.setup a → owed_of scene [] a (e ∷ before) ≡ []
+    by_actor (actor.Controller c) there = ap (λ l. sealed_letters controller_message scene.sealing l) (w.controller_debts c there)
+    by_actor (actor.Switch s) there = ap (λ l. sealed_letters switch_message scene.sealing l) (w.switch_debts s there)
 
 -- the past once an outbox was posted
 pub past_posted : {B : Type 0} (size : B → ℕ) (a : Actor) (letters : List (Letter B)) (journal : List (JournalEntry B)) →

@@ -51,9 +51,9 @@ pub record Goes {B : Type 0} (old new : List (JournalEntry B)) : Type 0 where
 post_counts : (limit p k pool fit : ℕ) → fit ≤ k → p + k ≤ limit → (limit - (p + k)) + (pool + fit) ≤ (limit - p) + pool
 post_counts limit p k pool fit few within = omega arith
 
-pub goes_posted : {B : Type 0} (old new : List (JournalEntry B)) → PostedFrom old new → Goes old new
-goes_posted old _ Nothing_owed = record { more = omega arith; less = λ _. omega arith }
-goes_posted old _ (One_post a first lost letters) =
+pub goes_posted : {B : Type 0} (owes : Bool) (old new : List (JournalEntry B)) → PostedFrom owes old new → Goes old new
+goes_posted owes old _ Nothing_owed = record { more = omega arith; less = λ _. omega arith }
+goes_posted owes old _ (One_post a first lost letters owed input) =
     let pushed = past-push old (entry.Post a first letters lost) in
     let counted : letters_posted (past (old ++ entry.Post a first letters lost ∷ [])) ≡ letters_posted (past old) + length letters = ap letters_posted pushed in
     let waits : length (pool (past (old ++ entry.Post a first letters lost ∷ []))) ≡ length (pool (past old)) + length (fitting first a letters lost) =
@@ -63,9 +63,9 @@ goes_posted old _ (One_post a first lost letters) =
       less = λ within. omega (arith, post_counts letters_limit (letters_posted (past old)) (length letters) (length (pool (past old))) (length (fitting first a letters lost)) (fitting_few first a letters lost) (omega arith));
     }
 
-stays_first : {B : Type 0} (old new : List (JournalEntry B)) (p : Packet B) → PostedFrom old new → IsFirst p (past old) → IsFirst p (past new)
-stays_first old _ p Nothing_owed f = f
-stays_first old _ p (One_post a first lost letters) f =
+stays_first : {B : Type 0} (owes : Bool) (old new : List (JournalEntry B)) (p : Packet B) → PostedFrom owes old new → IsFirst p (past old) → IsFirst p (past new)
+stays_first owes old _ p Nothing_owed f = f
+stays_first owes old _ p (One_post a first lost letters owed input) f =
     record { others = f.others ++ fitting first a letters lost; first = ap pool (past-push old (entry.Post a first letters lost)) ∙ ap (λ l. l ++ fitting first a letters lost) f.first }
 
 same_self : (a : Actor) → same_actor a a ≡ true
@@ -82,10 +82,10 @@ pub without_first : {B : Type 0} (p : Packet B) (others : List (Packet B)) → l
 without_first p others = rw (eq-eqb p.id p.id refl) (filter_short (λ q. not (nat_eq q.id p.id)) others)
 
 module _ {B : Type 0} (old : List (JournalEntry B)) (p : Packet B) (f : IsFirst p (past old)) where
-  took_lose : entry_of (turn.Lose p.to 0) (past old) ≡ entry.Lose p.to p.id
+  pub took_lose : entry_of (turn.Lose p.to 0) (past old) ≡ entry.Lose p.to p.id
   took_lose = rw (picked_first p (past old) f) refl
 
-  took_draw : entry_of (turn.Draw p.to 0 false) (past old) ≡ entry.Draw p.to p.id false
+  pub took_draw : entry_of (turn.Draw p.to 0 false) (past old) ≡ entry.Draw p.to p.id false
   took_draw = rw (picked_first p (past old) f) refl
 
   -- a packet was taken out
@@ -112,23 +112,23 @@ module _ {B : Type 0} (old : List (JournalEntry B)) (p : Packet B) (f : IsFirst 
 
 -- the whole turn leaves less to do
 module _ {B : Type 0} (size : B → ℕ) (old new : List (JournalEntry B)) (p : Packet B) (step : Turn) where
-  finish_turn : (between : List (JournalEntry B)) → PostedFrom old between → PostedFrom (between ++ entry_of step (past between) ∷ []) new → IsWithinLimits size (past new) →
+  finish_turn : (owes owing : Bool) (between : List (JournalEntry B)) → PostedFrom owes old between → PostedFrom owing (between ++ entry_of step (past between) ∷ []) new → IsWithinLimits size (past new) →
       ((f : IsFirst p (past between)) → TakesOut between p f (between ++ entry_of step (past between) ∷ [])) → IsFirst p (past old) → work_left (past new) < work_left (past old)
-  finish_turn between before after within out f =
-      let first = stays_first old between p before f in
+  finish_turn owes owing between before after within out f =
+      let first = stays_first owes old between p before f in
       let taken = out first in
-      let a = goes_posted old between before in
-      let b = goes_posted (between ++ entry_of step (past between) ∷ []) new after in
+      let a = goes_posted owes old between before in
+      let b = goes_posted owing (between ++ entry_of step (past between) ∷ []) new after in
       let c = b.less within.letters in
       let d = a.less (omega (arith, taken.same, b.more, within.letters)) in
       omega (arith, c, d, taken.same, taken.fewer)
 
-pub lose_leaves_less : {B : Type 0} (size : B → ℕ) (old new : List (JournalEntry B)) (p : Packet B) → IsFirst p (past old) → Applies (turn.Lose p.to 0) old new →
+pub lose_leaves_less : {B : Type 0} (size : B → ℕ) (owes : Bool) (old new : List (JournalEntry B)) (p : Packet B) → IsFirst p (past old) → Applies (turn.Lose p.to 0) owes old new →
     IsWithinLimits size (past new) → work_left (past new) < work_left (past old)
-lose_leaves_less size old new p f t within =
-    finish_turn size old new p (turn.Lose p.to 0) t.takes.between t.takes.posted (rw t.takes.taken at t.posted) within (λ g. lose_takes_out t.takes.between p g) f
+lose_leaves_less size owes old new p f t within =
+    finish_turn size old new p (turn.Lose p.to 0) owes t.owing t.takes.between t.takes.posted (rw t.takes.taken at t.posted) within (λ g. lose_takes_out t.takes.between p g) f
 
-pub draw_leaves_less : {B : Type 0} (size : B → ℕ) (old new : List (JournalEntry B)) (p : Packet B) → IsFirst p (past old) → Applies (turn.Draw p.to 0 false) old new →
+pub draw_leaves_less : {B : Type 0} (size : B → ℕ) (owes : Bool) (old new : List (JournalEntry B)) (p : Packet B) → IsFirst p (past old) → Applies (turn.Draw p.to 0 false) owes old new →
     IsWithinLimits size (past new) → work_left (past new) < work_left (past old)
-draw_leaves_less size old new p f t within =
-    finish_turn size old new p (turn.Draw p.to 0 false) t.takes.between t.takes.posted (rw t.takes.taken at t.posted) within (λ g. draw_takes_out t.takes.between p g) f
+draw_leaves_less size owes old new p f t within =
+    finish_turn size old new p (turn.Draw p.to 0 false) owes t.owing t.takes.between t.takes.posted (rw t.takes.taken at t.posted) within (λ g. draw_takes_out t.takes.between p g) f

@@ -159,7 +159,7 @@ no_debtor (debt.Controller number letters) entries h = absurd (differ h)
 no_debtor (debt.Switch number letters) entries h = absurd (differ h)
 
 -- a save with no result listed counts as saved
-took-saved : (w : ControllerAt) (turn : ControllerTurn) → ((controller_took [] w turn).now ≡ turn.work.state) × ((controller_took [] w turn).owed ≡ turn.work.letters)
+pub took-saved : (w : ControllerAt) (turn : ControllerTurn) → ((controller_took [] w turn).now ≡ turn.work.state) × ((controller_took [] w turn).owed ≡ turn.work.letters)
 took-saved w turn = by_save turn.save refl
   where
     by_save : (o : Option (ℕ × ℕ)) → turn.save ≡ o → ((controller_took [] w turn).now ≡ turn.work.state) × ((controller_took [] w turn).owed ≡ turn.work.letters)

@@ -50,6 +50,7 @@ IsSoundController scene results c (step ∷ before) =
 -- the numbers of a local input fit their types
 abbrev pub FitsTypes : LocalInput → Type 0
 FitsTypes (local.Suspect view) = view < 2 ^ 32
+FitsTypes (local.Frame port bytes) = AllByRecursion (λ b. b < 2 ^ 8) bytes
 FitsTypes _ = Unit {0}
 
 abbrev pub EntryFits : {B : Type 0} → JournalEntry B → Type 0

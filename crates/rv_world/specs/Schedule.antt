@@ -12,7 +12,7 @@ use Rattle.rv_base.specs.declared.journal.SaveResult.{SaveResult}
 use Rattle.rv_base.specs.declared.journal.Turn.{Turn}
 use Rattle.rv_base.specs.Actors.{same_actor, actor_of, is_input}
 use Rattle.rv_base.specs.Part.{part}
-use Rattle.rv_base.specs.Pool.{pool}
+use Rattle.rv_base.specs.Pool.{pool, past}
 use Rattle.rv_base.specs.Turns.{entry_of, IsFull}
 use Rattle.controller_core.specs.declared.says.LogFull.{LogFull}
 use Rattle.controller_core.specs.State.{ControllerState, is_up}
@@ -177,6 +177,12 @@ ClosesTo scene results phase before (Post a first letters lost ∷ rest) last =
 ClosesTo scene results phase before (e ∷ rest) last =
     IsPosted scene results before
     × ((next : Phase) × IsMove (next_move scene results phase before) e next × ClosesTo scene results (after_move scene results e before next) (e ∷ before) rest last)
+
+-- a journal whose closing, which began behind the script's part, stands at this phase
+pub record ClosesAt {B : Type 0} (scene : Scene B) (results : List (List SaveResult)) (script journal : List (JournalEntry B)) (phase : Phase) : Type 0 where
+  pub entries : List (JournalEntry B)
+  pub joined : journal ≡ script ++ entries
+  pub steps : ClosesTo scene results Losing (past script) entries phase
 
 -- a closing up to its answer
 pub record Closes {B : Type 0} (scene : Scene B) (results : List (List SaveResult)) (before entries : List (JournalEntry B)) (answer : Answer) : Type 0 where

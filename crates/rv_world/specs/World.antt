@@ -89,22 +89,24 @@ pub record Works (rule : ControllerState → Work) (before : List ControllerStat
   pub state : (c : ControllerState) → slice_get before number ≡ Some c → after ≡ slice_set before number (rule c).state
   pub says : (c : ControllerState) → slice_get before number ≡ Some c → letters ≡ (rule c).letters
 
--- what was owed is posted, if anything was
-pub data PostedFrom {B : Type 0} (old : List (JournalEntry B)) : List (JournalEntry B) → Type 0 where
-  Nothing_owed : PostedFrom old old
-  One_post : (a : Actor) (first lost : ℕ) (letters : List (Letter B)) → PostedFrom old (old ++ Post a first letters lost ∷ [])
+-- what was owed is posted directly after its input, if anything was
+pub data PostedFrom {B : Type 0} (owes : Bool) (old : List (JournalEntry B)) : List (JournalEntry B) → Type 0 where
+  Nothing_owed : PostedFrom owes old old
+  One_post : (a : Actor) (first lost : ℕ) (letters : List (Letter B)) → owes ≡ true → IsInputOf a (past old) →
+      PostedFrom owes old (old ++ Post a first letters lost ∷ [])
 
 -- a turn was taken, once what was owed was posted
-pub record TakesTurnOf {B : Type 0} (turn : Turn) (old new : List (JournalEntry B)) : Type 0 where
+pub record TakesTurnOf {B : Type 0} (turn : Turn) (owes : Bool) (old new : List (JournalEntry B)) : Type 0 where
   pub between : List (JournalEntry B)
-  pub posted : PostedFrom old between
+  pub posted : PostedFrom owes old between
   pub taken : new ≡ between ++ entry_of turn (past between) ∷ []
 
--- and its own outbox was posted
-pub record Applies {B : Type 0} (turn : Turn) (old new : List (JournalEntry B)) : Type 0 where
+-- and its own outbox was posted, if it had one
+pub record Applies {B : Type 0} (turn : Turn) (owes : Bool) (old new : List (JournalEntry B)) : Type 0 where
   pub middle : List (JournalEntry B)
-  pub takes : TakesTurnOf turn old middle
-  pub posted : PostedFrom middle new
+  pub takes : TakesTurnOf turn owes old middle
+  pub owing : Bool
+  pub posted : PostedFrom owing middle new
 
 -- the journal is full: the outbox of its newest entry stays unposted, and the two numbers tell why
 pub record IsStuck {B : Type 0} (scene : Scene B) (bytes letters : ℕ) (new : WorldState B) : Type 0 where
@@ -126,7 +128,7 @@ PostStops scene old new (JournalFull bytes letters) = IsStuck scene bytes letter
 abbrev pub TurnStops : {B : Type 0} → Scene B → Turn → WorldState B → WorldState B → Stop → Type 0
 TurnStops scene turn old new OutOfMemory = Unit {0}
 TurnStops scene turn old new (JournalFull bytes letters) =
-    IsStuck scene bytes letters new × ((new ≡ old) ⊎ TakesTurnOf turn old.journal new.journal)
+    IsStuck scene bytes letters new × ((new ≡ old) ⊎ TakesTurnOf turn old.owes old.journal new.journal)
 
 -- switches of these counts of ports as they start, numbered from there on
 abbrev pub starting_switches : ℕ → List ℕ → List SwitchState

@@ -1,5 +1,6 @@
 //! What the parts of a world do in a turn.
-ghost use Rattle.std.specs.Prelude.{◌≡◌, [], ◌∷◌, ◌++◌, ◌<◌, ◌≤◌, length, map, IfOk, OnOk};
+ghost use Rattle.std.specs.Prelude.{◌≡◌, ◌^◌, [], ◌∷◌, ◌++◌, ◌<◌, ◌≤◌, length, map, IfOk, OnOk};
+ghost use Rattle.std.specs.List.{AllByRecursion};
 ghost use Rattle.rv_base.specs.Pool.{past, pick};
 ghost use Rattle.rv_base.specs.Answers.{drawn_as};
 ghost use Rattle.rv_base.specs.Turns.{drawn_entry, lost_entry};
@@ -65,12 +66,23 @@ pub fn lose<B: Body>(
     }
 }
 
+/// Bytes have eight bits.
+fn are_bytes(bytes: &[u8])
+    ensures { AllByRecursion (λ b. b < 2 ^ 8) bytes.now }
+{}
+
 /// The numbers of an input fit their types.
 fn fits_types(input: &Local)
     ensures { FitsTypes input.now }
 {
-    if let Local::Suspect { view } = input {
-        let _view = *view;
+    match input {
+        Local::Suspect { view } => {
+            let _view = *view;
+        }
+        Local::Frame { bytes, .. } => {
+            are_bytes(bytes.as_slice());
+        }
+        _ => {}
     }
 }
 

@@ -1,5 +1,6 @@
 //! A world: its journal, its actors, and turns.
 ghost use Rattle.std.specs.Prelude.{◌≡◌, ◌↔◌, true, false, [], ◌∷◌, ◌++◌, ◌<◌, length, IsTrue, IfOk, OnOk, IfErr};
+ghost use Rattle.std.specs.List.{AllByRecursion};
 ghost use Rattle.rv_base.specs.Pool.{past, pool, pick};
 ghost use Rattle.rv_base.specs.Turns.{drawn_entry, lost_entry, entry_of, turn_actor, IsWithinLimits};
 ghost use Rattle.rv_base.specs.declared.journal.Actor.TheVariants as actor;
@@ -7,6 +8,7 @@ ghost use Rattle.rv_base.specs.declared.journal.JournalEntry.TheVariants as entr
 ghost use Rattle.of_types.specs.Setups.{IsSetup};
 ghost use Rattle.rv_world.specs.Committed.{switch_state, controller_state};
 ghost use Rattle.rv_world.specs.Legal.{IsLegal};
+ghost use Rattle.rv_world.specs.Schedule.{IsPosted};
 ghost use Rattle.rv_base.specs.Actors.{IsActor};
 ghost use Rattle.rv_world.specs.World.{WorldState, scene_of, PostedFrom, Applies, PostStops, TurnStops};
 
@@ -73,12 +75,15 @@ impl<B: Body> World<B> {
         })
     }
 
-    /// The journal is that of a run, and within its limits.
+    /// The journal is that of a run, and within its limits. What waits goes to actors of the setup, and
+    /// where nothing is owed, the newest input is posted.
     pub fn lawful(&self)
         requires { self.now.whole ≡ true }
         ensures setup { IsSetup self.now.setup }
         ensures legal { IsLegal (scene_of self.now.setup B.sealed B.spelled B.size) [] self.now.journal }
         ensures within { IsWithinLimits B.size (past self.now.journal) }
+        ensures addressed { AllByRecursion (λ p. IsActor self.now.setup p.to) (pool (past self.now.journal)) }
+        ensures posted { self.now.owes ≡ false → IsPosted (scene_of self.now.setup B.sealed B.spelled B.size) [] (past self.now.journal) }
     {
         self.wire.lawful();
     }
@@ -135,7 +140,7 @@ impl<B: Body> World<B> {
     pub fn post_owed(&mut self) -> Result<(), Stop>
         requires { self.old.whole ≡ true }
         ensures setup { self.new.setup ≡ self.old.setup }
-        ensures posted { OnOk result (PostedFrom self.old.journal self.new.journal) }
+        ensures posted { OnOk result (PostedFrom self.old.owes self.old.journal self.new.journal) }
         ensures rests { OnOk result (self.new.owes ≡ false) }
         ensures whole { OnOk result (self.new.whole ≡ true) }
         ensures stops { IfErr result (PostStops (scene_of self.old.setup B.sealed B.spelled B.size) self.old self.new) }
@@ -315,7 +320,7 @@ impl<B: Body> World<B> {
         requires whole { self.old.whole ≡ true }
         requires named { IsActor self.old.setup (turn_actor turn.now) }
         ensures setup { self.new.setup ≡ self.old.setup }
-        ensures applies { OnOk result (Applies turn.now self.old.journal self.new.journal) }
+        ensures applies { OnOk result (Applies turn.now self.old.owes self.old.journal self.new.journal) }
         ensures rests { OnOk result (self.new.owes ≡ false) }
         ensures whole { OnOk result (self.new.whole ≡ true) }
         ensures stops { IfErr result (TurnStops (scene_of self.old.setup B.sealed B.spelled B.size) turn.now self.old self.new) }

@@ -7,14 +7,25 @@ use Rattle.of_types.specs.Setups.{IsSetup}
 use Rattle.rv_base.specs.declared.journal.Actor.{Actor}
 use Rattle.rv_base.specs.declared.journal.Actor.TheVariants as actor
 use Rattle.rv_base.specs.declared.journal.Turn.{Turn}
+use Rattle.rv_base.specs.declared.journal.Turn.TheVariants as turn
 use Rattle.rv_base.specs.Actors.{IsActor}
-use Rattle.rv_base.specs.Turns.{turn_actor}
+use Rattle.rv_base.specs.Turns.{turn_actor, IsCalm}
 use Rattle.scenario.specs.declared.scenario.Scenario.{Scenario}
 use Rattle.scenario.specs.Scenario.{IsPlayable, one_switch, AreByOne}
 
 by_actors : (setup : Setup) (steps : List Turn) → 0 < length setup.ports → AreByOne steps → AllByRecursion (λ t. IsActor setup (turn_actor t)) steps
 by_actors setup [] some by = tt
 by_actors setup (t ∷ steps) some by = (subst (λ a. IsActor setup a) (sym by.0) some, by_actors setup steps some by.1)
+
+switch_calm : (s : ℕ) (t : Turn) → turn_actor t ≡ actor.Switch s → IsCalm t
+switch_calm s (turn.Draw a choice keep) by = tt
+switch_calm s (turn.Lose a choice) by = tt
+switch_calm s (turn.Local (actor.Switch n) input) by = tt
+switch_calm s (turn.Local (actor.Controller c) input) by = cc
+
+all_calm : (steps : List Turn) → AreByOne steps → AllByRecursion IsCalm steps
+all_calm [] by = tt
+all_calm (t ∷ steps) by = (switch_calm 0 t by.0, all_calm steps by.1)
 
 only_count : (ports : ℕ) → 1 ≤ ports → ports ≤ 48 → All (λ count. (1 ≤ count) × (count ≤ 48)) (ports ∷ [])
 only_count ports some few zero d lt = (some, few)
@@ -39,4 +50,4 @@ pub playable : (setup : Setup) (ports : ℕ) (steps : List Turn) → setup ≡ o
     IsPlayable (record { setup = setup; steps = steps })
 playable setup ports steps is within by =
     subst (λ u. IsPlayable (record { setup = u; steps = steps })) (sym is)
-    (record { setup = IsSetup-one ports within.0 within.1; actors = by_actors (one_switch ports) steps (omega arith) by; one = refl })
+    (record { setup = IsSetup-one ports within.0 within.1; actors = by_actors (one_switch ports) steps (omega arith) by; calm = all_calm steps by; one = refl })

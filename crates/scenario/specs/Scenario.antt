@@ -13,7 +13,7 @@ use Rattle.rv_base.specs.declared.journal.Local.TheVariants as local
 use Rattle.rv_base.specs.declared.journal.Turn.{Turn}
 use Rattle.rv_base.specs.declared.journal.Turn.TheVariants as turn
 use Rattle.rv_base.specs.Actors.{IsActor}
-use Rattle.rv_base.specs.Turns.{turn_actor}
+use Rattle.rv_base.specs.Turns.{turn_actor, IsCalm}
 use Rattle.scenario.specs.declared.scenario.Scenario.{Scenario}
 use Rattle.scenario.specs.declared.scenario.Fault.{Fault}
 use Rattle.scenario.specs.declared.scenario.FaultKind.TheVariants.{Later}
@@ -145,8 +145,10 @@ one_switch ports = record { controllers = 1; ports = ports ∷ []; links = []; d
 abbrev pub AreByOne : List Turn → Type 0
 AreByOne steps = AllByRecursion (λ t. turn_actor t ≡ actor.Switch 0) steps
 
--- a scenario that can be played: its setup is one, and its steps are those of its actors
+-- a scenario that can be played: its setup is one, its steps are those of its actors, and each
+-- controller stays up and in its view
 pub record IsPlayable (scenario : Scenario) : Type 0 where
   pub setup : IsSetup scenario.setup
   pub actors : AllByRecursion (λ t. IsActor scenario.setup (turn_actor t)) scenario.steps
+  pub calm : AllByRecursion IsCalm scenario.steps
   pub one : scenario.setup.controllers ≡ 1

@@ -1,12 +1,11 @@
 -- A turn of a switch is a chain of moves. What each move keeps, each turn keeps.
-use Rattle.std.proofs.Common.{◌≡◌, ◌⊎◌, inl, inr, ◌<◌, ◌≤◌, ℕ, ◌+◌, ◌-◌, Bool, true, false, not, ◌&&◌, ◌||◌, List, [], ◌∷◌, ◌++◌, length, map, take, drop, zero, suc, refl, sym, ◌∙◌, ap, subst, arith, length-append}
-use Rattle.std.specs.Prelude.{nat_eq, nat_lt, nat_le, Option, Some, None, if◌then◌else◌}
+use Rattle.std.proofs.Common.{◌≡◌, inl, inr, ◌<◌, ℕ, Bool, true, false, ◌&&◌, List, [], ◌∷◌, ◌++◌, length, refl, sym, ◌∙◌, ap, subst, arith, length-append}
+use Rattle.std.specs.Prelude.{nat_eq, nat_lt, Option, Some, None, if◌then◌else◌}
 use Rattle.std.proofs.lemmas.Bool.{and_parts, cond_both, ltb-true, eqb-true}
 use Rattle.of_types.specs.declared.message.Event.{Event}
 use Rattle.of_types.specs.declared.message.Executed.{Executed}
 use Rattle.of_types.specs.declared.message.Extension.{Extension}
 use Rattle.of_types.specs.declared.message.Extension.TheVariants as extension
-use Rattle.of_types.specs.declared.message.Happening.{Happening}
 use Rattle.of_types.specs.declared.message.Happening.TheVariants as happening
 use Rattle.of_types.specs.declared.message.OfMessage.{OfMessage}
 use Rattle.of_types.specs.declared.message.OfMessage.TheVariants as plain
@@ -15,7 +14,6 @@ use Rattle.of_types.specs.declared.message.Order.TheVariants as order
 use Rattle.of_types.specs.declared.message.Outcome.{Outcome}
 use Rattle.of_types.specs.declared.message.Outcome.TheVariants as outcome
 use Rattle.of_types.specs.declared.message.Row.{Row}
-use Rattle.of_types.specs.declared.message.Spoken.{Spoken}
 use Rattle.of_types.specs.declared.message.Spoken.TheVariants as spoken
 use Rattle.of_types.specs.declared.numbers.TheConstants.{NO_CHANGE, EQUAL, MASTER, SLAVE, TO_CONTROLLER}
 use Rattle.rv_base.specs.declared.journal.Actor.{Actor}
@@ -23,18 +21,17 @@ use Rattle.rv_base.specs.declared.journal.Actor.TheVariants as actor
 use Rattle.rv_base.specs.declared.journal.Letter.{Letter}
 use Rattle.rv_base.specs.declared.journal.Local.{Local}
 use Rattle.rv_base.specs.declared.journal.Local.TheVariants as local
-use Rattle.rv_base.proofs.Among.{Among, among_append, among_right, among_map, among_take, among_drop}
+use Rattle.rv_base.proofs.Among.{Among, among_right, among_map, among_take, among_drop}
 use Rattle.switch_core.specs.declared.says.SwitchInput.{SwitchInput}
 use Rattle.switch_core.specs.declared.says.SwitchInput.TheVariants as switch_input
 use Rattle.switch_core.specs.declared.says.SwitchSays.{SwitchSays}
 use Rattle.switch_core.specs.declared.switch.Offer.{Offer}
-use Rattle.switch_core.specs.declared.switch.Offer.TheVariants.{Execute, Repeat, Ahead, Full}
-use Rattle.switch_core.specs.State.{SwitchState, SwitchTurn, Fence, quiet, posts, then_turn, to_controller, answers, error_letter, refuses}
+use Rattle.switch_core.specs.State.{SwitchState, SwitchTurn, Fence, quiet, posts, then_turn, to_controller, error_letter, refuses}
 use Rattle.switch_core.specs.Fence.{is_stale, may_execute, as_equal, as_master, as_slave}
 use Rattle.switch_core.specs.Table.{chosen_row, fields_at, is_table_miss}
-use Rattle.switch_core.specs.Buffer.{held_of, has_window, is_full, first_held, event_letter, event_letters, next_event, raised, packet_raised, cleared_to, coming, on_event_ack}
-use Rattle.switch_core.specs.Results.{most_kept, without_results_below, kept_result, offer_of}
-use Rattle.switch_core.specs.Rules.{is_port, is_frame, sends, counts_sent, packet_in, puts_out, puts_all, through_row, on_frame, on_tick, on_local, fenced, role_reply, takes_role, on_master, on_slave, on_role_request, on_plain, result_of, does, done_as, executes, result_letter, on_offer, on_command, on_own_life, life_of, on_extension, on_malformed, switch_turn}
+use Rattle.switch_core.specs.Buffer.{held_of, has_window, is_full, first_held, event_letter, event_letters, next_event, cleared_to}
+use Rattle.switch_core.specs.Results.{most_kept, without_results_below, offer_of}
+use Rattle.switch_core.specs.Rules.{is_port, is_frame, packet_in, puts_out, puts_all, through_row, on_frame, on_local, fenced, role_reply, takes_role, on_master, on_role_request, on_plain, result_of, done_as, executes, result_letter, on_offer, on_command, on_own_life, life_of, on_extension, on_malformed, switch_turn}
 
 -- a message that only asks
 abbrev pub is_question : OfMessage → Bool

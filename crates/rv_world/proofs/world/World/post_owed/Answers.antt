@@ -1,6 +1,6 @@
 use Rattle.std.proofs.Common.{◌≡◌, sym, ◌∙◌, ap, subst, refl, true}
 use Rattle.rv_world.specs.World.{Nothing_owed}
-use Rattle.rv_world.proofs.Posting.{IsWorld-posted, posted_from, past_posted, post_stops}
+use Rattle.rv_world.proofs.Posting.{IsWorld-posted, posted_from, debtor_of, past_posted, post_stops}
 use Rattle.rv_world.proofs.world.World.post_owed.Goals as goal
 
 pub returns-in-None-clause-posted : goal.returns-in-None-clause-posted
@@ -8,7 +8,9 @@ returns-in-None-clause-posted g c = Nothing_owed
 
 pub returns-in-Ok-clause-posted : goal.returns-in-Ok-clause-posted
 returns-in-Ok-clause-posted g c =
-    rw (c.in-Ok.ensures.ok, ← c.self.view_is) (posted_from g.B.Weight.size c.in-Some.actor c.in-Some.letters c.self.inside.wire)
+    let w = c.self.invariant (ap (λ v. v.whole) c.self.view_is ∙ c.requires) in
+    let debtor = debtor_of (record { sealed = g.B.Body.sealed; spelled = g.B.Body.spelled; size = g.B.Weight.size }) c.self.inside.debt c.in-Some.actor c.in-Some.letters _ (sym c.in-Some.is ∙ c.in_ok-sealed_debt.ensures) w.debtor in
+    rw (c.in-Ok.ensures.ok, ← c.self.view_is) (posted_from g.B.Weight.size c.in-Some.actor c.in-Some.letters c.self.inside.wire _ debtor.0 debtor.1)
 
 pub invariant_of-self : goal.invariant_of-self
 invariant_of-self g c = λ whole.

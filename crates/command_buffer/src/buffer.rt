@@ -1,5 +1,5 @@
 //! The command buffer (Ravana, 4.2).
-ghost use Rattle.std.specs.Prelude.{◌≡◌, ◌≢◌, ◌≤◌, ◌<◌, ◌-◌, ◌^◌, ◌↔◌, length, IfOk};
+ghost use Rattle.std.specs.Prelude.{◌≡◌, ◌≢◌, ◌<◌, ◌-◌, ◌^◌, ◌↔◌, length, IfOk};
 ghost use Rattle.of_types.specs.declared.message.Outcome.TheVariants as outcomes;
 ghost use Rattle.command_buffer.specs.declared.buffer.Offer.TheVariants as offers;
 ghost use Rattle.command_buffer.specs.Results.{most_kept, no_results, first_kept, without_results_below, with_result, kept_result, offer_of, AreResults};

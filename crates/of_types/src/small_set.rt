@@ -1,5 +1,5 @@
 //! A set of small numbers, as ports and controllers have, which contracts see as an ascending list.
-ghost use Rattle.std.specs.Prelude.{◌≡◌, [], ◌∷◌, nat_eq, IfOk};
+ghost use Rattle.std.specs.Prelude.{◌≡◌, [], nat_eq, IfOk};
 ghost use Rattle.std.specs.List.{list_any};
 ghost use Rattle.of_types.specs.SmallSets.{with_number, without_number};
 

@@ -3,3 +3,4 @@ pub mod Matching
 pub mod Setups
 pub mod Sizes
 pub mod Valid
+pub mod SmallSets

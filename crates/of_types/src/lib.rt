@@ -10,6 +10,7 @@ mod message;
 mod numbers;
 mod setup;
 mod sizes;
+mod small_set;
 #[cfg(test)]
 mod tests;
 
@@ -27,3 +28,4 @@ pub use numbers::{
 };
 pub use setup::{Link, Prefix, Rule, Setup};
 pub use sizes::{size_of_extension, size_of_happening, size_of_plain};
+pub use small_set::SmallSet;

@@ -128,3 +128,17 @@ fn lists_are_copied(rt: HostRuntime) -> Result<(), Fail> {
     assert_eq!(rt; same.ports.as_slice(), [2].as_slice());
     Ok(())
 }
+
+#[test]
+fn lists_a_set_in_order(rt: HostRuntime) -> Result<(), Fail> {
+    let mut set = SmallSet::new();
+    for number in [255, 48, 1, 48, 0, 2] {
+        set.insert(number);
+    }
+    set.remove(2);
+    set.remove(3);
+    assert!(rt; set.contains(48) && !set.contains(2));
+    let numbers = set.to_vec(rt.alloc())?;
+    assert_eq!(rt; numbers.as_slice(), [0, 1, 48, 255].as_slice());
+    Ok(())
+}

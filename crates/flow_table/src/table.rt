@@ -1,0 +1,99 @@
+//! A flow table as a list of rows.
+ghost use Rattle.std.specs.Prelude.{◌≡◌, false, [], IfOk, OnOk, OnErr};
+ghost use Rattle.flow_table.specs.Table.{table_step, table_after, is_delete};
+
+use crate::changes::{add_row, delete_rows, modified_rows};
+use crate::faults::table_fault;
+use crate::rows::{Rows, TableFault};
+use of_types::{Fields, FlowCommand, FlowMod, Items, Row, TO_CONTROLLER, any_match, matches};
+use std::alloc::{AllocError, Global};
+use std::marker::Model;
+
+/// The most rows that a table has.
+pub const MOST_ROWS: usize = 2048;
+
+/// A flow table that goes through all its rows.
+#[derive(Drop)]
+pub struct FlowTable {
+    rows: Vec<Row>,
+}
+
+impl Model for FlowTable {
+    ghost use Rattle.std.specs.Prelude.{List};
+    ghost use Rattle.of_types.specs.declared.message.Row.{Row};
+
+    ghost Value = { List Row };
+
+    ghost view = { λ a. a.rows.items };
+}
+
+impl FlowTable {
+    /// The table as it starts: the table-miss row alone.
+    pub fn new(alloc: Global) -> Result<FlowTable, AllocError>
+        ensures { IfOk result (λ table. table ≡ table_after []) }
+    {
+        let mut actions = Items::new(alloc);
+        actions.push(TO_CONTROLLER)?;
+        let table_miss = Row {
+            priority: 0,
+            cookie: 0,
+            matching: any_match(),
+            actions,
+        };
+        let mut rows = Vec::new(alloc);
+        rows.push(table_miss)?;
+        Ok(FlowTable { rows })
+    }
+
+    /// Does an accepted change. An `Err` changes nothing.
+    fn change(&mut self, change: &FlowMod) -> Result<(), AllocError>
+        ensures ok { OnOk result (self.new ≡ table_step self.old change.now) }
+        ensures err { OnErr result (self.new ≡ self.old) }
+        ensures memory { OnErr result (is_delete change.now.command ≡ false) }
+    {
+        match change.command {
+            FlowCommand::Add => add_row(&mut self.rows, change),
+            FlowCommand::Modify | FlowCommand::ModifyStrict => {
+                self.rows = modified_rows(*self.rows.allocator(), &self.rows, change)?;
+                Ok(())
+            }
+            FlowCommand::Delete | FlowCommand::DeleteStrict => {
+                delete_rows(&mut self.rows, change);
+                Ok(())
+            }
+        }
+    }
+}
+
+impl Rows for FlowTable {
+    ghost rows_of = { λ rows. rows };
+
+    fn apply(&mut self, change: &FlowMod, ports: u32) -> Result<(), TableFault> {
+        if let Some(fault) = table_fault(&self.rows, ports, change) {
+            return Err(fault);
+        }
+        self.change(change)?;
+        Ok(())
+    }
+
+    fn look_up(&self, fields: &Fields) -> Option<&Row> {
+        let mut chosen: Option<&Row> = None;
+        for row in &self.rows {
+            if matches(&row.matching, fields) {
+                chosen = match chosen {
+                    Some(earlier) if row.priority <= earlier.priority => Some(earlier),
+                    _ => Some(row),
+                };
+            }
+        }
+        chosen
+    }
+
+    fn rows(&self) -> Result<Vec<Row>, AllocError> {
+        let mut rows = Vec::with_capacity(*self.rows.allocator(), self.rows.len())?;
+        for row in &self.rows {
+            rows.push(row.copy()?)?;
+        }
+        Ok(rows)
+    }
+}

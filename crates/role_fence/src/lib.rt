@@ -1,0 +1,8 @@
+//! The role fence of a switch: which controller may command it (OpenFlow 1.3, 6.3.5).
+#![tactic(auto)]
+
+mod fence;
+#[cfg(test)]
+mod tests;
+
+pub use fence::{RoleAnswer, RoleFence};

@@ -15,7 +15,7 @@ use Rattle.rv_world.specs.declared.typed.Typed.{Typed}
 use Rattle.rv_world.specs.Committed.{switch_state}
 use Rattle.rv_world.specs.Messages.{said_on, message_size}
 use Rattle.rv_world.specs.World.{scene_of}
-use Rattle.report.specs.Canonical.{canonical}
+use Rattle.of_ravana.specs.Canonical.{canonical}
 use Rattle.rv_world.specs.States.{Scene}
 use Rattle.report.specs.declared.record.Record.{Record}
 use Rattle.report.specs.declared.record.Shown.{Shown}

@@ -1,6 +1,5 @@
 //! Writing what a controller and a switch say in its one form.
 ghost use Rattle.std.specs.Prelude.{◌≡◌, ◌≤◌, ◌+◌, ◌++◌, length, IfOk, OnOk};
-ghost use Rattle.of_messages.specs.Grammar.{Spells};
 ghost use Rattle.of_types.specs.Sizes.{extension_size};
 ghost use Rattle.of_types.specs.Valid.{IsValid, IsValidExtension};
 ghost use Rattle.of_ravana.specs.Canonical.{canonical_happening, canonical_order, result_bytes, outcome_bytes, command_front, extension_rest, extension_type, extension_life, extension_body, canonical_extension, spoken_message, canonical};

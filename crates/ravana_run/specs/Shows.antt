@@ -16,7 +16,7 @@ use Rattle.rv_world.specs.Committed.{decided, switch_state}
 use Rattle.rv_world.specs.Schedule.{count_turns}
 use Rattle.rv_world.specs.Messages.{said_on, message_size}
 use Rattle.rv_world.specs.World.{scene_of}
-use Rattle.report.specs.Canonical.{canonical}
+use Rattle.of_ravana.specs.Canonical.{canonical}
 use Rattle.report.specs.Report.{text}
 use Rattle.rv_world.specs.States.{Scene}
 use Rattle.report.specs.declared.record.Record.{Record}

@@ -9,7 +9,8 @@ ghost use Rattle.ravana_run.specs.Shows.{bare_letters, bare_entry, bare, shown_r
 
 use controller_core::Entry;
 use of_types::{Event, Executed, Items, Octets, Row};
-use report::{Record, Shown, Told, canonical};
+use of_ravana::canonical;
+use report::{Record, Shown, Told};
 use rv_base::{Journal, JournalEntry, Letter, Letters};
 use rv_safety::committed_log;
 use rv_world::{Message, Typed, World};

@@ -19,7 +19,9 @@ use Rattle.controller_core.specs.Log.{log_size}
 use Rattle.report.specs.declared.record.Record.{Record}
 use Rattle.report.specs.declared.record.Shown.{Shown}
 use Rattle.report.specs.declared.record.Told.{Told}
-use Rattle.report.specs.Canonical.{canonical_happening, canonical_order, canonical_bare_match, actions_of}
+use Rattle.of_match.specs.Writing.{canonical_bare_match}
+use Rattle.of_messages.specs.Canonical.{actions_of}
+use Rattle.of_ravana.specs.Canonical.{canonical_happening, canonical_order}
 
 -- a digit of base sixteen, in lower case
 abbrev pub hex_digit : ℕ → ℕ

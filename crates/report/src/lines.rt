@@ -2,12 +2,12 @@
 ghost use Rattle.std.specs.Prelude.{◌≡◌, ◌++◌, ℕ, List, OnOk};
 ghost use Rattle.report.specs.Report.{lines_of, newline, word, further, input_words, event_words};
 
-use crate::messages::canonical_happening;
 use crate::words::{
     write_actor, write_address, write_flag, write_hex, write_newline, write_number,
     write_number_or_dash, write_word,
 };
 use controller_core::Entry;
+use of_ravana::canonical_happening;
 use of_types::{Event, Link, Octets, Rule};
 use rv_base::{JournalEntry, Letter, Local};
 use std::alloc::{AllocError, Global};

@@ -2,15 +2,16 @@
 ghost use Rattle.std.specs.Prelude.{◌≡◌, ◌++◌, OnOk};
 ghost use Rattle.report.specs.Report.{lines_of, executed_line, row_line, labelled, role_words, count_words, switch_line, told_lines, switch_lines};
 
-use crate::fields::{actions_of, bare_match};
 use crate::lines::write_each;
-use crate::messages::canonical_order;
 use crate::record::{Shown, Told};
 use crate::words::{
     write_actor, write_hex, write_master, write_newline, write_number, write_number_or_dash,
     write_word,
 };
 use itoa::Integer;
+use of_match::bare_match;
+use of_messages::actions_of;
+use of_ravana::canonical_order;
 use of_types::{Executed, Octets};
 use rv_base::Actor;
 use std::alloc::{AllocError, Global};

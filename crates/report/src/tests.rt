@@ -1,13 +1,8 @@
-use crate::words::write_hex;
-use crate::{
-    Record, Shown, Told, WriteFault, canonical, canonical_happening, canonical_order, text,
-    write_all, write_report,
-};
+use crate::{Record, Shown, Told, WriteFault, text, write_all, write_report};
 use controller_core::Entry;
 use of_types::{
-    Actions, Event, Executed, Extension, FLOOD, FlowCommand, FlowMod, Happening, Items, Link,
-    Links, MASTER, Masked48, Match, NO_BUFFER, Octets, OfMessage, Order, Outcome, PacketIn,
-    PacketOut, PortCounts, Prefix, Rule, Rules, Setup, Spoken, TO_CONTROLLER, any_match,
+    Actions, Event, Executed, FLOOD, Happening, Items, Link, Links, NO_BUFFER, Octets, Order,
+    PacketIn, PacketOut, PortCounts, Prefix, Rule, Rules, Setup, TO_CONTROLLER, any_match,
 };
 use rv_base::{Actor, Journal, JournalEntry, Letter, Letters, Local, MemorySink};
 use std::alloc::{AllocError, Global};
@@ -19,25 +14,6 @@ const FRAME: &[u8] = b"\x02\0\0\0\0\x02\x02\0\0\0\0\x01\x88\xb5";
 const CONTROLLER: Actor = Actor::Controller(0);
 
 const SWITCH: Actor = Actor::Switch(0);
-
-const ROLE_REQUEST: &[u8] = b" 041800180000000000000002000000000000000000000001";
-
-const PACKET_IN: &[u8] =
-    b" 040a003800000000ffffffff000e000000000000000000000001000c800000040000000100000000000002000000000202000000000188b5";
-
-const EVENT: &[u8] =
-    b" 0404005800000000000252560000000100000000000000000000000000000000040a003800000000ffffffff000e000000000000000000000001000c800000040000000100000000000002000000000202000000000188b5";
-
-const COMMAND: &[u8] =
-    b" 040400660000000000025256000000030000000000000000000000000000000100000000000000000000000000000000040d003600000000ffffffff00000001001000000000000000000010fffffffb000000000000000002000000000202000000000188b5";
-
-const CMD_ACK: &[u8] =
-    b" 04040028000000000002525600000004000000000000000000000000000000000000000000000000";
-
-const EVENT_ACK: &[u8] = b" 0404002000000000000252560000000200000000000000000000000000000001";
-
-const FLOW_MOD: &[u8] =
-    b" 040e00600000000000000000000000020000000000000000000000000000000affffffffffffffffffffffff00000000000100168000000400000002800006060200000000010000000400180000000000000010000000010000000000000000";
 
 const SHORTEST_REPORT: &[u8] = b"\
 ravana report 1
@@ -101,108 +77,6 @@ fn packet_out(alloc: Global) -> Result<PacketOut, AllocError> {
         in_port: 1,
         actions: output(alloc, FLOOD)?,
         payload: Octets::from_slice(alloc, FRAME)?,
-    })
-}
-
-fn flow_mod(alloc: Global) -> Result<FlowMod, AllocError> {
-    let destination = Masked48 {
-        value: 0x0200_0000_0001,
-        mask: (1 << 48) - 1,
-    };
-    Ok(FlowMod {
-        cookie: 2,
-        cookie_mask: 0,
-        table: 0,
-        command: FlowCommand::Add,
-        idle: 0,
-        hard: 0,
-        priority: 10,
-        buffer: NO_BUFFER,
-        out_port: 0xffff_ffff,
-        out_group: 0xffff_ffff,
-        flags: 0,
-        matching: Match {
-            in_port: Some(2),
-            eth_dst: Some(destination),
-            ..any_match()
-        },
-        actions: output(alloc, 1)?,
-    })
-}
-
-/// Writes bytes as a word of a report.
-fn word(alloc: Global, bytes: &Octets) -> Result<Octets, AllocError> {
-    let mut out = Octets::new(alloc);
-    write_hex(&mut out, bytes.as_slice())?;
-    Ok(out)
-}
-
-fn word_of(alloc: Global, message: &Spoken) -> Result<Octets, AllocError> {
-    let bytes = canonical(alloc, 0, message)?;
-    word(alloc, &bytes)
-}
-
-#[test]
-fn orders_and_happenings(rt: HostRuntime) -> Result<(), Fail> {
-    let alloc = rt.alloc();
-    let arrival = canonical_happening(alloc, &Happening::PacketIn(packet_in(alloc)?))?;
-    assert_eq!(rt; word(alloc, &arrival)?.as_slice(), PACKET_IN);
-    let change = canonical_order(alloc, &Order::FlowMod(flow_mod(alloc)?))?;
-    assert_eq!(rt; word(alloc, &change)?.as_slice(), FLOW_MOD);
-    Ok(())
-}
-
-#[test]
-fn messages(rt: HostRuntime) -> Result<(), Fail> {
-    let alloc = rt.alloc();
-    let cases: [(Spoken, &[u8]); 5] = [
-        (role_request(), ROLE_REQUEST),
-        (event(packet_in(alloc)?), EVENT),
-        (command(packet_out(alloc)?), COMMAND),
-        (
-            Spoken::Ravana(Extension::CmdAck {
-                life: 0,
-                number: 0,
-                outcome: Outcome::Done,
-            }),
-            CMD_ACK,
-        ),
-        (
-            Spoken::Ravana(Extension::EventAck {
-                life: 0,
-                through: 1,
-            }),
-            EVENT_ACK,
-        ),
-    ];
-    for (message, expected) in &cases {
-        assert_eq!(rt; word_of(alloc, message)?.as_slice(), *expected);
-    }
-    Ok(())
-}
-
-fn role_request() -> Spoken {
-    Spoken::Plain(OfMessage::RoleRequest {
-        role: MASTER,
-        generation: 1,
-    })
-}
-
-fn event(packet: PacketIn) -> Spoken {
-    Spoken::Ravana(Extension::Event {
-        life: 0,
-        number: 0,
-        what: Happening::PacketIn(packet),
-    })
-}
-
-fn command(packet: PacketOut) -> Spoken {
-    Spoken::Ravana(Extension::Command {
-        life: 0,
-        generation: 1,
-        number: 0,
-        settled: 0,
-        order: Order::PacketOut(packet),
     })
 }
 

@@ -1,16 +1,14 @@
 -- A scenario of the form that is read today can be played.
-use Rattle.std.proofs.Common.{◌≡◌, ◌≤◌, ◌<◌, ℕ, false, List, [], ◌∷◌, length, refl, sym, subst, zero, suc, arith}
-use Rattle.std.specs.Prelude.{Option, Some, None, All, Contains}
+use Rattle.std.proofs.Common.{◌≡◌, ◌≤◌, ◌<◌, ℕ, List, [], ◌∷◌, length, refl, sym, subst, zero, suc, arith}
+use Rattle.std.specs.Prelude.{All}
 use Rattle.std.specs.List.{AllByRecursion}
 use Rattle.of_types.specs.declared.setup.Setup.{Setup}
 use Rattle.of_types.specs.Setups.{IsSetup}
-use Rattle.rv_base.specs.declared.journal.Actor.{Actor}
 use Rattle.rv_base.specs.declared.journal.Actor.TheVariants as actor
 use Rattle.rv_base.specs.declared.journal.Turn.{Turn}
 use Rattle.rv_base.specs.declared.journal.Turn.TheVariants as turn
 use Rattle.rv_base.specs.Actors.{IsActor}
 use Rattle.rv_base.specs.Turns.{turn_actor, IsCalm}
-use Rattle.scenario.specs.declared.scenario.Scenario.{Scenario}
 use Rattle.scenario.specs.Scenario.{IsPlayable, one_switch, AreByOne}
 
 by_actors : (setup : Setup) (steps : List Turn) → 0 < length setup.ports → AreByOne steps → AllByRecursion (λ t. IsActor setup (turn_actor t)) steps

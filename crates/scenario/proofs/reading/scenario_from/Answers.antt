@@ -1,6 +1,3 @@
-use Rattle.std.proofs.Common.{◌≡◌, subst}
-use Rattle.std.specs.Prelude.{IfSome}
-use Rattle.scenario.specs.Scenario.{AreByOne}
 use Rattle.scenario.proofs.Form.{playable}
 use Rattle.scenario.proofs.reading.scenario_from.Goals as goal
 

@@ -1,0 +1,9 @@
+pub mod Loop
+pub mod Spelled
+pub mod Fields
+pub mod Matches
+pub mod Whole
+pub mod Valid
+pub mod Canonical
+pub mod Sizes
+pub mod Laws

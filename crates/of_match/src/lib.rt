@@ -1,0 +1,13 @@
+//! Matches as bytes of OpenFlow.
+#![tactic(auto)]
+
+mod fault;
+mod kind;
+mod kinds;
+mod reading;
+mod writing;
+
+pub use fault::MatchFault;
+pub use kind::{FieldHeader, FieldKind};
+pub use reading::{match_law, read_match};
+pub use writing::{bare_match, write_match};

@@ -1,0 +1,234 @@
+//! Reading a match from left to right.
+
+ghost use Rattle.std.specs.Prelude.{◌≡◌, ◌<◌, ◌≤◌, ◌++◌, ℕ, List, Ok, length, take, IfOk, true};
+ghost use Rattle.of_types.specs.declared.message.Match.{Match};
+ghost use Rattle.of_match.specs.Writing.{canonical_match};
+ghost use Rattle.of_match.specs.Spelling.{IsSpelled, Fits};
+ghost use Rattle.of_types.specs.Valid.{IsValidMatch};
+ghost use Rattle.of_types.specs.Sizes.{match_size};
+ghost use Rattle.of_bytes.specs.Reading.{Gives};
+ghost use Rattle.of_match.specs.Field.{width_of, can_mask};
+ghost use Rattle.of_match.specs.Reading.{header_at, payload_length, masked48_at, masked32_at, put_at, said_at, body_at, match_at, needs, is_ipv4, has_protocol, has_prerequisites};
+
+use crate::fault::MatchFault;
+use crate::kind::{FieldHeader, FieldKind};
+use crate::kinds::KindSet;
+use of_bytes::{u16_at, u32_at, u48_at};
+use of_types::{Masked32, Masked48, Match, any_match};
+
+const OPENFLOW_BASIC: u16 = 0x8000;
+
+/// The next field's header, its value and mask, and what comes after it.
+#[tactic(auto, unfolding(crate::specs::Reading::header_at))]
+fn header_at(bytes: &[u8]) -> Result<(FieldHeader, &[u8], &[u8]), MatchFault>
+    ensures field { Gives (λ x. (x.0, x.1.now, x.2.now)) result (header_at bytes.now) }
+    ensures payload { IfOk result (λ x. length x.1.now ≡ payload_length x.0) }
+    ensures shorter { IfOk result (λ x. length x.2.now < length bytes.now) }
+{
+    if bytes.len() < 4 {
+        return Err(MatchFault::BadLength);
+    }
+    let (front, rest) = bytes.split_at(4);
+    if u16_at(front, 0) != OPENFLOW_BASIC {
+        return Err(MatchFault::BadField);
+    }
+    let Some(kind) = FieldKind::from_number(front[2] / 2) else {
+        return Err(MatchFault::BadField);
+    };
+    let header = FieldHeader {
+        kind,
+        has_mask: front[2] % 2 == 1,
+    };
+    let len = usize::from(front[3]);
+    if rest.len() < len || len != header.payload_length() {
+        return Err(MatchFault::BadLength);
+    }
+    let (payload, rest) = rest.split_at(len);
+    Ok((header, payload, rest))
+}
+
+pub const ONES48: u64 = 0xffff_ffff_ffff;
+
+pub const ONES32: u32 = 0xffff_ffff;
+
+/// An Ethernet address under its mask, or none under a mask of zero.
+#[tactic(auto, unfolding(crate::specs::Reading::value_at, crate::specs::Reading::masked48_at))]
+fn read_masked48(header: FieldHeader, payload: &[u8]) -> Result<Option<Masked48>, MatchFault>
+    requires width { width_of header.kind ≡ 6 }
+    requires can_mask { can_mask header.kind ≡ true }
+    requires length { length payload.now ≡ payload_length header }
+    ensures { Gives (λ x. x) result (masked48_at header payload.now) }
+{
+    let value = u48_at(payload, 0);
+    if !header.has_mask {
+        return Ok(Some(Masked48 {
+            value,
+            mask: ONES48,
+        }));
+    }
+    let mask = u48_at(payload, 6);
+    if value & mask != value {
+        return Err(MatchFault::BadWildcard);
+    }
+    Ok((mask != 0).then_some(Masked48 { value, mask }))
+}
+
+/// An IPv4 address under its mask, or none under a mask of zero.
+#[tactic(auto, unfolding(crate::specs::Reading::value_at, crate::specs::Reading::masked32_at))]
+fn read_masked32(header: FieldHeader, payload: &[u8]) -> Result<Option<Masked32>, MatchFault>
+    requires width { width_of header.kind ≡ 4 }
+    requires can_mask { can_mask header.kind ≡ true }
+    requires length { length payload.now ≡ payload_length header }
+    ensures { Gives (λ x. x) result (masked32_at header payload.now) }
+{
+    let value = u32_at(payload, 0);
+    if !header.has_mask {
+        return Ok(Some(Masked32 {
+            value,
+            mask: ONES32,
+        }));
+    }
+    let mask = u32_at(payload, 4);
+    if value & mask != value {
+        return Err(MatchFault::BadWildcard);
+    }
+    Ok((mask != 0).then_some(Masked32 { value, mask }))
+}
+
+/// Sets what the field asks for.
+#[tactic(auto, unfolding(crate::specs::Reading::value_at, crate::specs::Reading::put_at, crate::specs::Reading::masked48_at, crate::specs::Reading::masked32_at))]
+fn put_field(matching: &mut Match, header: FieldHeader, payload: &[u8]) -> Result<(), MatchFault>
+    requires { length payload.now ≡ payload_length header }
+    ensures { Gives (λ _. matching.new) result (put_at matching.old header payload.now) }
+{
+    if header.has_mask && !header.kind.can_mask() {
+        return Err(MatchFault::BadMask);
+    }
+    match header.kind {
+        FieldKind::InPort => matching.in_port = Some(u32_at(payload, 0)),
+        FieldKind::EthDst => matching.eth_dst = read_masked48(header, payload)?,
+        FieldKind::EthSrc => matching.eth_src = read_masked48(header, payload)?,
+        FieldKind::EthType => matching.eth_type = Some(u16_at(payload, 0)),
+        FieldKind::IpProto => matching.ip_proto = Some(payload[0]),
+        FieldKind::Ipv4Src => matching.ipv4_src = read_masked32(header, payload)?,
+        FieldKind::Ipv4Dst => matching.ipv4_dst = read_masked32(header, payload)?,
+        FieldKind::TcpSrc => matching.tcp_src = Some(u16_at(payload, 0)),
+        FieldKind::TcpDst => matching.tcp_dst = Some(u16_at(payload, 0)),
+        FieldKind::UdpSrc => matching.udp_src = Some(u16_at(payload, 0)),
+        FieldKind::UdpDst => matching.udp_dst = Some(u16_at(payload, 0)),
+    }
+    Ok(())
+}
+
+/// The bytes of the fields, and how many bytes the match takes with its padding.
+#[tactic(auto, unfolding(crate::specs::Reading::body_at))]
+fn body_of(bytes: &[u8]) -> Result<(&[u8], usize), MatchFault>
+    ensures { Gives (λ x. (x.0.now, x.1)) result (body_at bytes.now) }
+{
+    if bytes.len() >= 2 && u16_at(bytes, 0) != 1 {
+        return Err(MatchFault::BadType);
+    }
+    if bytes.len() < 4 {
+        return Err(MatchFault::BadLength);
+    }
+    let len = usize::from(u16_at(bytes, 2));
+    let padded = len.div_ceil(8) * 8;
+    if len < 4 || bytes.len() < padded {
+        return Err(MatchFault::BadLength);
+    }
+    Ok((&bytes[4..len], padded))
+}
+
+/// The match that these fields make, without its prerequisites.
+fn read_fields(body: &[u8]) -> Result<Match, MatchFault>
+    ensures { Gives (λ m. m) result (said_at body.now) }
+{
+    let mut matching = any_match();
+    let mut seen = KindSet::new();
+    let mut rest = body;
+    'fields: while !rest.is_empty() {
+        let (header, payload, after) = header_at(rest)?;
+        if !seen.insert(header.kind) {
+            return Err(MatchFault::Repeated);
+        }
+        put_field(&mut matching, header, payload)?;
+        rest = after;
+    }
+    Ok(matching)
+}
+
+const IPV4: u16 = 0x0800;
+
+const TCP: u8 = 6;
+
+const UDP: u8 = 17;
+
+/// Where the field stands, the condition holds.
+fn needs<T>(field: &Option<T>, condition: bool) -> bool
+    ensures { result ≡ needs field.now condition }
+{
+    field.is_none() || condition
+}
+
+fn is_ipv4(matching: &Match) -> bool
+    ensures { result ≡ is_ipv4 matching.now }
+{
+    matching.eth_type == Some(IPV4)
+}
+
+fn has_protocol(protocol: u8, matching: &Match) -> bool
+    requires { 0 < protocol }
+    ensures { result ≡ has_protocol protocol matching.now }
+{
+    matching.ip_proto == Some(protocol)
+}
+
+/// Whether each field that needs another stands with it.
+fn has_prerequisites(matching: &Match) -> bool
+    ensures { result ≡ has_prerequisites matching.now }
+{
+    let is_ipv4 = is_ipv4(matching);
+    let is_tcp = has_protocol(TCP, matching);
+    let is_udp = has_protocol(UDP, matching);
+    needs(&matching.ip_proto, is_ipv4)
+        && needs(&matching.ipv4_src, is_ipv4)
+        && needs(&matching.ipv4_dst, is_ipv4)
+        && needs(&matching.tcp_src, is_tcp)
+        && needs(&matching.tcp_dst, is_tcp)
+        && needs(&matching.udp_src, is_udp)
+        && needs(&matching.udp_dst, is_udp)
+}
+
+#[tactic(auto, unfolding(crate::specs::Reading::match_at))]
+fn first_match(bytes: &[u8]) -> Result<(Match, usize), MatchFault>
+    ensures { result ≡ match_at bytes.now }
+{
+    let (body, taken) = body_of(bytes)?;
+    let matching = read_fields(body)?;
+    if !has_prerequisites(&matching) {
+        return Err(MatchFault::Prerequisite);
+    }
+    Ok((matching, taken))
+}
+
+/// Reads one match with its padding, and tells how many bytes it takes. Bytes may follow it.
+pub fn read_match(bytes: &[u8]) -> Result<(Match, usize), MatchFault>
+    // What is read is spelled so.
+    ensures found { IfOk result (λ x. (x.1 ≤ length bytes.now) × IsSpelled (take x.1 bytes.now) x.0) }
+    // What is spelled so is read, whatever follows.
+    ensures only { (m : Match) (text rest : List ℕ) → bytes.now ≡ text ++ rest → IsSpelled text m → result ≡ Ok (m, length text) }
+    // Which fault it is.
+    ensures exact { result ≡ match_at bytes.now }
+{
+    first_match(bytes)
+}
+
+/// Laws of the one written form of a match.
+pub fn match_law()
+    // It is read again, whatever follows it.
+    ensures again { (m : Match) (rest : List ℕ) → IsValidMatch m → Fits m → match_at (canonical_match m ++ rest) ≡ Ok (m, match_size m) }
+    // It is one of the forms that spell the match.
+    ensures spelled { (m : Match) → IsValidMatch m → Fits m → IsSpelled (canonical_match m) m }
+    // It has the stated size.
+    ensures size { (m : Match) → length (canonical_match m) ≡ match_size m }
+{}

@@ -1,0 +1,5 @@
+pub mod Ports
+pub mod Again
+pub mod Takes
+pub mod Laws
+pub mod Written

@@ -1,0 +1,17 @@
+//! The messages of OpenFlow 1.3 as bytes: what is read, what is refused, and the one way in which each
+//! is written.
+#![tactic(auto)]
+
+mod actions;
+mod bodies;
+mod fault;
+mod fitting;
+mod reading;
+mod writing;
+
+pub use fault::{BodyFault, OfFault, Refusal};
+pub use fitting::{flow_mod_fits, packet_in_fits, packet_out_fits, port_status_fits};
+pub use reading::{decode, message_law, read_message, xid_of};
+pub use writing::{
+    actions_of, encode, encode_flow_mod, encode_packet_in, encode_packet_out, encode_port_status,
+};

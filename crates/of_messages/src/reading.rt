@@ -1,0 +1,137 @@
+//! Reading a message from left to right.
+ghost use Rattle.std.specs.Prelude.{◌≡◌, ◌≤◌, ◌<◌, ◌^◌, ℕ, List, Ok, IfOk};
+ghost use Rattle.of_types.specs.declared.message.OfMessage.{OfMessage};
+ghost use Rattle.of_bytes.specs.Reading.{Gives};
+ghost use Rattle.of_messages.specs.Answers.{GivesBody, IsFirst, IsRead};
+ghost use Rattle.of_types.specs.Sizes.{plain_size};
+ghost use Rattle.of_types.specs.Valid.{IsValidPlain};
+ghost use Rattle.of_messages.specs.Canonical.{canonical};
+ghost use Rattle.of_messages.specs.Fits.{FitsPlain};
+ghost use Rattle.of_messages.specs.Grammar.{Spells};
+ghost use Rattle.of_messages.specs.Reading.{role_at, body_at, message_at, xid_of};
+
+use crate::bodies::{
+    read_empty, read_error, read_experimenter, read_features, read_flow_mod, read_packet_in,
+    read_packet_out, read_port_status,
+};
+use crate::fault::{BodyFault, OfFault, Refusal};
+use of_bytes::{u8_at, u16_at, u32_at, u64_at};
+use of_types::{Octets, OfMessage};
+use std::alloc::Global;
+
+const BAD_VERSION: Refusal = Refusal { kind: 1, code: 0 };
+
+const BAD_TYPE: Refusal = Refusal { kind: 1, code: 1 };
+
+const BAD_LENGTH: Refusal = Refusal { kind: 1, code: 6 };
+
+/// The version of OpenFlow 1.3.
+const VERSION: u8 = 4;
+
+/// The length of a header.
+const HEADER: usize = 8;
+
+/// A role and a generation.
+#[tactic(auto, unfolding(crate::specs::Reading::role_at))]
+fn read_role(body: &[u8]) -> Result<(u32, u64), Refusal>
+    ensures { Gives (λ x. x) result (role_at body.now) }
+{
+    if body.len() != 16 {
+        return Err(BAD_LENGTH);
+    }
+    Ok((u32_at(body, 0), u64_at(body, 8)))
+}
+
+/// The body of a message of this type.
+#[tactic(auto, unfolding(crate::specs::Reading::body_at))]
+fn read_body(alloc: Global, kind: u8, body: &[u8]) -> Result<OfMessage, BodyFault>
+    ensures { GivesBody (λ m. m) result (body_at kind body.now) }
+{
+    match kind {
+        0 => Ok(OfMessage::Hello),
+        1 => read_error(alloc, body),
+        2 => Ok(OfMessage::EchoRequest {
+            body: Octets::from_slice(alloc, body)?,
+        }),
+        3 => Ok(OfMessage::EchoReply {
+            body: Octets::from_slice(alloc, body)?,
+        }),
+        4 => read_experimenter(alloc, body),
+        5 => read_empty(OfMessage::FeaturesRequest, body),
+        6 => read_features(body),
+        10 => Ok(OfMessage::PacketIn(read_packet_in(alloc, body)?)),
+        12 => Ok(OfMessage::PortStatus(read_port_status(body)?)),
+        13 => Ok(OfMessage::PacketOut(read_packet_out(alloc, body)?)),
+        14 => Ok(OfMessage::FlowMod(read_flow_mod(alloc, body)?)),
+        20 => read_empty(OfMessage::BarrierRequest, body),
+        21 => read_empty(OfMessage::BarrierReply, body),
+        24 => {
+            let (role, generation) = read_role(body)?;
+            Ok(OfMessage::RoleRequest { role, generation })
+        }
+        25 => {
+            let (role, generation) = read_role(body)?;
+            Ok(OfMessage::RoleReply { role, generation })
+        }
+        _ => Err(BodyFault::Wire(BAD_TYPE)),
+    }
+}
+
+/// Reads a message without the number of its request, with the errors of `decode`.
+#[tactic(auto, unfolding(crate::specs::Reading::message_at))]
+pub fn read_message(alloc: Global, bytes: &[u8]) -> Result<OfMessage, BodyFault>
+    ensures { GivesBody (λ m. m) result (message_at bytes.now) }
+{
+    if !bytes.is_empty() && u8_at(bytes, 0) != VERSION {
+        return Err(BodyFault::Wire(BAD_VERSION));
+    }
+    if bytes.len() < HEADER || usize::from(u16_at(bytes, 2)) != bytes.len() {
+        return Err(BodyFault::Wire(BAD_LENGTH));
+    }
+    read_body(alloc, u8_at(bytes, 1), &bytes[HEADER..])
+}
+
+/// The number of a request, and 0 where there is no header.
+#[tactic(auto, unfolding(crate::specs::Reading::xid_of))]
+pub fn xid_of(bytes: &[u8]) -> u32
+    ensures { result ≡ xid_of bytes.now }
+{
+    if bytes.len() < HEADER {
+        return 0;
+    }
+    u32_at(bytes, 4)
+}
+
+fn first_answer(alloc: Global, frame: &[u8]) -> Result<(u32, OfMessage), OfFault>
+    ensures { IsFirst frame.now result }
+{
+    let xid = xid_of(frame);
+    match read_message(alloc, frame) {
+        Ok(message) => Ok((xid, message)),
+        Err(BodyFault::Wire(Refusal { kind, code })) => Err(OfFault::Wire { kind, code, xid }),
+        Err(BodyFault::OutOfMemory) => Err(OfFault::OutOfMemory),
+    }
+}
+
+/// Reads a message, which is all of the frame, and the number of its request. The first error that
+/// holds is the answer, in this order: the version; the length of the whole; the type; the length of
+/// the body; and then what the body has, from left to right. What stands behind the header of an
+/// EXPERIMENTER is passed on unread.
+pub fn decode(alloc: Global, frame: &[u8]) -> Result<(u32, OfMessage), OfFault>
+    // What is read is spelled so.
+    ensures found { IfOk result (λ x. Spells frame.now x.0 x.1) }
+    // What is spelled so is read, unless memory runs out.
+    ensures only { (xid : ℕ) (m : OfMessage) → Spells frame.now xid m → IsRead (xid, m) result }
+    // Which answer it is.
+    ensures exact { IsFirst frame.now result }
+{
+    first_answer(alloc, frame)
+}
+
+/// Laws of messages as bytes.
+pub fn message_law()
+    // What is written is read again.
+    ensures again { (xid : ℕ) (m : OfMessage) → IsValidPlain m → FitsPlain m → plain_size m ≤ 65535 → xid < 2 ^ 32 → message_at (canonical xid m) ≡ Ok m }
+    // Bytes spell at most one message.
+    ensures one { (bytes : List ℕ) (xid other : ℕ) (m n : OfMessage) → Spells bytes xid m → Spells bytes other n → (xid ≡ other) × (m ≡ n) }
+{}

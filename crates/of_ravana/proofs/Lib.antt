@@ -1,0 +1,4 @@
+pub mod Again
+pub mod Takes
+pub mod Written
+pub mod Laws

@@ -1,0 +1,231 @@
+//! Reading a message of the extension from left to right.
+ghost use Rattle.std.specs.Prelude.{◌≡◌, ◌≤◌, ℕ, List, Ok, length, IfOk};
+ghost use Rattle.of_bytes.specs.Reading.{Gives};
+ghost use Rattle.of_messages.specs.Answers.{GivesBody, IsRead};
+ghost use Rattle.of_types.specs.declared.message.Extension.{Extension};
+ghost use Rattle.of_types.specs.Sizes.{extension_size};
+ghost use Rattle.of_types.specs.Valid.{IsValidExtension};
+ghost use Rattle.of_ravana.specs.Answers.{IsFirst};
+ghost use Rattle.of_ravana.specs.Canonical.{canonical_extension};
+ghost use Rattle.of_ravana.specs.Fits.{FitsExtension};
+ghost use Rattle.of_ravana.specs.Grammar.{SpellsExtension};
+ghost use Rattle.of_ravana.specs.Reading.{inner_at, as_happening, as_order, happening_at, order_at, event_at, through_at, command_at, outcome_at, cmd_ack_at, body_at, extension_at};
+
+use crate::writing::RAVANA;
+use of_bytes::{u8_at, u16_at, u32_at, u64_at};
+use of_messages::{BodyFault, OfFault, Refusal, read_message};
+use of_types::{Extension, Happening, OfMessage, Order, Outcome};
+use std::alloc::Global;
+
+const BAD_TYPE: Refusal = Refusal { kind: 1, code: 1 };
+
+const BAD_EXPERIMENTER: Refusal = Refusal { kind: 1, code: 3 };
+
+const BAD_EXPERIMENTER_TYPE: Refusal = Refusal { kind: 1, code: 4 };
+
+const NOT_PERMITTED: Refusal = Refusal { kind: 1, code: 5 };
+
+const BAD_LENGTH: Refusal = Refusal { kind: 1, code: 6 };
+
+/// A message inside another one, which has one of two types.
+#[tactic(auto, unfolding(crate::specs::Reading::inner_at))]
+fn read_inner(
+    alloc: Global,
+    types: (u8, u8),
+    wrong_type: Refusal,
+    bytes: &[u8],
+) -> Result<OfMessage, BodyFault>
+    ensures { GivesBody (λ m. m) result (inner_at types.0 types.1 wrong_type bytes.now) }
+{
+    if bytes.len() < 4 || usize::from(u16_at(bytes, 2)) != bytes.len() {
+        return Err(BodyFault::Wire(BAD_LENGTH));
+    }
+    let kind = u8_at(bytes, 1);
+    if kind != types.0 && kind != types.1 {
+        return Err(BodyFault::Wire(wrong_type));
+    }
+    read_message(alloc, bytes)
+}
+
+fn as_happening(message: OfMessage) -> Result<Happening, Refusal>
+    ensures { result ≡ as_happening message }
+{
+    match message {
+        OfMessage::PacketIn(packet) => Ok(Happening::PacketIn(packet)),
+        OfMessage::PortStatus(status) => Ok(Happening::PortStatus(status)),
+        _ => Err(BAD_TYPE),
+    }
+}
+
+fn as_order(message: OfMessage) -> Result<Order, Refusal>
+    ensures { result ≡ as_order message }
+{
+    match message {
+        OfMessage::FlowMod(change) => Ok(Order::FlowMod(change)),
+        OfMessage::PacketOut(packet) => Ok(Order::PacketOut(packet)),
+        _ => Err(NOT_PERMITTED),
+    }
+}
+
+#[tactic(auto, unfolding(crate::specs::Reading::happening_at))]
+fn read_happening(alloc: Global, bytes: &[u8]) -> Result<Happening, BodyFault>
+    ensures { GivesBody (λ what. what) result (happening_at bytes.now) }
+{
+    let message = read_inner(alloc, (10, 12), BAD_TYPE, bytes)?;
+    let what = as_happening(message)?;
+    Ok(what)
+}
+
+#[tactic(auto, unfolding(crate::specs::Reading::order_at))]
+fn read_order(alloc: Global, bytes: &[u8]) -> Result<Order, BodyFault>
+    ensures { GivesBody (λ what. what) result (order_at bytes.now) }
+{
+    let message = read_inner(alloc, (13, 14), NOT_PERMITTED, bytes)?;
+    let what = as_order(message)?;
+    Ok(what)
+}
+
+#[tactic(auto, unfolding(crate::specs::Reading::event_at))]
+fn read_event(alloc: Global, body: &[u8]) -> Result<Extension, BodyFault>
+    ensures { GivesBody (λ said. said) result (event_at body.now) }
+{
+    if body.len() < 24 {
+        return Err(BodyFault::Wire(BAD_LENGTH));
+    }
+    let (_, inner) = body.split_at(24);
+    let what = read_happening(alloc, inner)?;
+    Ok(Extension::Event {
+        life: u32_at(body, 8),
+        number: u64_at(body, 16),
+        what,
+    })
+}
+
+/// A life, and the number up to which it is meant.
+#[tactic(auto, unfolding(crate::specs::Reading::through_at))]
+fn read_through(body: &[u8]) -> Result<(u32, u64), Refusal>
+    ensures { Gives (λ x. x) result (through_at body.now) }
+{
+    if body.len() != 24 {
+        return Err(BAD_LENGTH);
+    }
+    Ok((u32_at(body, 8), u64_at(body, 16)))
+}
+
+#[tactic(auto, unfolding(crate::specs::Reading::command_at))]
+fn read_command(alloc: Global, body: &[u8]) -> Result<Extension, BodyFault>
+    ensures { GivesBody (λ said. said) result (command_at body.now) }
+{
+    if body.len() < 40 {
+        return Err(BodyFault::Wire(BAD_LENGTH));
+    }
+    let (_, inner) = body.split_at(40);
+    let order = read_order(alloc, inner)?;
+    Ok(Extension::Command {
+        life: u32_at(body, 8),
+        generation: u64_at(body, 16),
+        number: u64_at(body, 24),
+        settled: u64_at(body, 32),
+        order,
+    })
+}
+
+#[tactic(auto, unfolding(crate::specs::Reading::outcome_at))]
+fn read_outcome(body: &[u8]) -> Result<Outcome, Refusal>
+    requires { 32 ≤ length body.now }
+    ensures { result ≡ outcome_at body.now }
+{
+    match u16_at(body, 24) {
+        0 => Ok(Outcome::Done),
+        1 => Ok(Outcome::Failed {
+            kind: u16_at(body, 26),
+            code: u16_at(body, 28),
+        }),
+        2 => Ok(Outcome::Cleared),
+        _ => Err(BAD_LENGTH),
+    }
+}
+
+#[tactic(auto, unfolding(crate::specs::Reading::cmd_ack_at))]
+fn read_cmd_ack(body: &[u8]) -> Result<Extension, Refusal>
+    ensures { Gives (λ said. said) result (cmd_ack_at body.now) }
+{
+    if body.len() != 32 {
+        return Err(BAD_LENGTH);
+    }
+    let outcome = read_outcome(body)?;
+    Ok(Extension::CmdAck {
+        life: u32_at(body, 8),
+        number: u64_at(body, 16),
+        outcome,
+    })
+}
+
+/// The body of a message of this type.
+#[tactic(auto, unfolding(crate::specs::Reading::body_at))]
+fn read_body(alloc: Global, kind: u32, body: &[u8]) -> Result<Extension, BodyFault>
+    ensures { GivesBody (λ said. said) result (body_at kind body.now) }
+{
+    match kind {
+        1 => read_event(alloc, body),
+        2 => {
+            let (life, through) = read_through(body)?;
+            Ok(Extension::EventAck { life, through })
+        }
+        3 => read_command(alloc, body),
+        4 => {
+            let said = read_cmd_ack(body)?;
+            Ok(said)
+        }
+        5 => {
+            let (life, through) = read_through(body)?;
+            Ok(Extension::Clear { life, through })
+        }
+        _ => Err(BodyFault::Wire(BAD_EXPERIMENTER_TYPE)),
+    }
+}
+
+#[tactic(auto, unfolding(crate::specs::Reading::extension_at))]
+fn read_extension(alloc: Global, body: &[u8]) -> Result<Extension, BodyFault>
+    ensures { GivesBody (λ said. said) result (extension_at body.now) }
+{
+    if body.len() < 8 {
+        return Err(BodyFault::Wire(BAD_LENGTH));
+    }
+    if u32_at(body, 0) != RAVANA {
+        return Err(BodyFault::Wire(BAD_EXPERIMENTER));
+    }
+    read_body(alloc, u32_at(body, 4), body)
+}
+
+fn first_answer(alloc: Global, body: &[u8]) -> Result<Extension, OfFault>
+    ensures { IsFirst body.now result }
+{
+    match read_extension(alloc, body) {
+        Ok(said) => Ok(said),
+        Err(BodyFault::Wire(Refusal { kind, code })) => Err(OfFault::Wire { kind, code, xid: 0 }),
+        Err(BodyFault::OutOfMemory) => Err(OfFault::OutOfMemory),
+    }
+}
+
+/// Reads what stands behind the header of an EXPERIMENTER. The first error that holds is the answer, in
+/// this order: the number and the type of the experimenter; the length of the body; and of a message
+/// inside it the length, the type, and then its own first error. Errors have no number of a request.
+pub fn decode_extension(alloc: Global, body: &[u8]) -> Result<Extension, OfFault>
+    // What is read is spelled so.
+    ensures found { IfOk result (λ said. SpellsExtension body.now said) }
+    // What is spelled so is read, unless memory runs out.
+    ensures only { (said : Extension) → SpellsExtension body.now said → IsRead said result }
+    // Which answer it is.
+    ensures exact { IsFirst body.now result }
+{
+    first_answer(alloc, body)
+}
+
+/// Laws of the extension's messages as bytes.
+pub fn extension_law()
+    // What is written is read again.
+    ensures again { (said : Extension) → IsValidExtension said → FitsExtension said → extension_size said ≤ 65535 → extension_at (canonical_extension said) ≡ Ok said }
+    // Bytes spell at most one message.
+    ensures one { (body : List ℕ) (said other : Extension) → SpellsExtension body said → SpellsExtension body other → said ≡ other }
+{}

@@ -8,8 +8,8 @@ ghost use Rattle.rv_world.specs.Schedule.{count_turns, is_turn};
 ghost use Rattle.ravana_run.specs.Shows.{bare_letters, bare_entry, bare, shown_row, told_of, Shows, scene_typed, typed_bytes};
 
 use controller_core::Entry;
-use of_types::{Event, Executed, Items, Octets, Row};
 use of_ravana::canonical;
+use of_types::{Event, Executed, Items, Octets, Row};
 use report::{Record, Shown, Told};
 use rv_base::{Journal, JournalEntry, Letter, Letters};
 use rv_safety::committed_log;

@@ -48,6 +48,9 @@ enum Told {
     Clear {
         through: u64,
     },
+    Echo {
+        len: usize,
+    },
     Other,
 }
 
@@ -160,6 +163,7 @@ fn telling(message: &Spoken) -> Told {
         },
         Spoken::Ravana(Extension::EventAck { through, .. }) => Told::EventAck { through: *through },
         Spoken::Ravana(Extension::Clear { through, .. }) => Told::Clear { through: *through },
+        Spoken::Plain(OfMessage::EchoReply { body }) => Told::Echo { len: body.len() },
         _ => Told::Other,
     }
 }
@@ -193,6 +197,10 @@ fn hears(
 
 fn suspect(view: u32) -> ControllerInput {
     ControllerInput::Local(Local::Suspect { view })
+}
+
+fn tick() -> ControllerInput {
+    ControllerInput::Local(Local::Tick)
 }
 
 /// The switch takes the controller as master.
@@ -269,7 +277,7 @@ fn learns_where_addresses_are(rt: HostRuntime) -> Result<(), Fail> {
     Ok(())
 }
 
-/// The controller becomes master of the switch in view 1.
+/// The controller becomes master of the switch in view 1, and asks for it until it is told so.
 fn becomes_master(
     rt: &impl Abort,
     controller: &mut Controller,
@@ -282,10 +290,12 @@ fn becomes_master(
         generation: 1,
     };
     hears(rt, controller, setup, suspect(1), &[role])?;
-    hears(rt, controller, setup, role_reply(1), &[])
+    hears(rt, controller, setup, tick(), &[role])?;
+    hears(rt, controller, setup, role_reply(1), &[])?;
+    hears(rt, controller, setup, tick(), &[])
 }
 
-/// The first event comes, its command is sent and done, and the event comes again.
+/// The first event comes, its command is sent twice and done, and the event comes again.
 fn first_event_comes_twice(
     rt: &impl Abort,
     alloc: Global,
@@ -303,6 +313,7 @@ fn first_event_comes_twice(
     let processed = Told::EventAck { through: 1 };
     let settled = Told::Clear { through: 1 };
     hears(rt, controller, setup, first_event(alloc)?, &[command])?;
+    hears(rt, controller, setup, tick(), &[command])?;
     hears(rt, controller, setup, first_done(), &[processed, settled])?;
     hears(rt, controller, setup, first_event(alloc)?, &[processed])
 }
@@ -337,12 +348,33 @@ fn processes_an_event_once(rt: HostRuntime) -> Result<(), Fail> {
     Ok(())
 }
 
-/// The place that a copy of an entry names.
-fn copied_place(entry: &Entry) -> Result<Option<u64>, AllocError> {
-    match entry.copy()? {
-        Entry::Processed(place) => Ok(Some(place)),
-        Entry::Received(_) => Ok(None),
-    }
+/// The switch asks for an echo of three bytes.
+fn echo_request(alloc: Global) -> Result<ControllerInput, AllocError> {
+    let body = Items::from_slice(alloc, &[1, 2, 3])?;
+    let message = Spoken::Plain(OfMessage::EchoRequest { body });
+    Ok(ControllerInput::Of {
+        switch: 0,
+        xid: 7,
+        message,
+    })
+}
+
+#[test]
+fn answers_an_echo(rt: HostRuntime) -> Result<(), Fail> {
+    let setup = one_switch(rt.alloc())?;
+    let mut controller = Controller::new(rt.alloc(), 0, 1);
+    let echo = Told::Echo { len: 3 };
+    let from = Actor::Switch(0);
+    let malformed = ControllerInput::Malformed { from };
+    hears(
+        &rt,
+        &mut controller,
+        &setup,
+        echo_request(rt.alloc())?,
+        &[echo],
+    )?;
+    hears(&rt, &mut controller, &setup, malformed, &[])?;
+    Ok(())
 }
 
 /// A command that floods a frame, beside its number.
@@ -357,17 +389,32 @@ fn numbered(alloc: Global) -> Result<Numbered, AllocError> {
         payload,
     });
     Ok(Numbered {
-        switch: 0,
+        switch: 2,
         number: 3,
         what,
     })
 }
 
+/// Whether a frame from A to B came in by port 4.
+fn is_first_frame(what: &Happening) -> bool {
+    matches!(what, Happening::PacketIn(PacketIn { reason: 0, cookie: 0, in_port: 4, payload }) if payload.as_slice() == A_TO_B.as_slice())
+}
+
 #[test]
 fn entries_and_commands_are_copied(rt: HostRuntime) -> Result<(), Fail> {
-    assert_eq!(rt; copied_place(&Entry::Processed(7))?, Some(7));
+    assert!(rt; matches!(&Entry::Processed(7).copy()?, Entry::Processed(7)));
+    let event = Event {
+        switch: 1,
+        life: 2,
+        number: 3,
+        what: packet_in(rt.alloc(), 4, &A_TO_B)?,
+    };
+    let copied = Entry::Received(event).copy()?;
+    assert!(rt;
+        matches!(&copied, Entry::Received(Event { switch: 1, life: 2, number: 3, what }) if is_first_frame(what))
+    );
     let copied = numbered(rt.alloc())?.copy()?;
-    assert_eq!(rt; copied.number, 3);
+    assert_eq!(rt; (copied.switch, copied.number), (2, 3));
     assert_eq!(rt; asking(&copied.what), FLOODED);
     Ok(())
 }

@@ -1,4 +1,5 @@
 use super::*;
+use std::alloc::{AllocError, Global};
 use std::test::Fail;
 
 #[test]
@@ -107,25 +108,271 @@ fn sizes_are_those_of_the_vectors(rt: HostRuntime) -> Result<(), Fail> {
 
 #[test]
 fn lists_are_copied(rt: HostRuntime) -> Result<(), Fail> {
-    let octets = Octets::from_slice(rt.alloc(), b"abc")?;
+    let mut octets = Octets::from_slice(rt.alloc(), b"abc")?;
+    octets.append(b"de")?;
     let copied = octets.copy()?;
-    assert_eq!(rt; copied.as_slice(), b"abc".as_slice());
-    assert_eq!(rt; copied.len(), 3);
-    assert!(rt; !copied.is_empty());
+    assert_eq!(rt; copied.as_slice(), b"abcde".as_slice());
+    assert_eq!(rt; copied.len(), 5);
+    assert!(rt; !copied.is_empty() && Octets::new(rt.alloc()).is_empty());
     assert_eq!(rt;
         Octets::from_vec(copied.into_vec()).as_slice(),
-        b"abc".as_slice()
+        b"abcde".as_slice()
     );
-    let mut ports = PortCounts::new(rt.alloc());
-    ports.push(2)?;
-    let setup = Setup {
-        controllers: 1,
-        ports,
+    Ok(())
+}
+
+#[test]
+fn setups_are_copied(rt: HostRuntime) -> Result<(), Fail> {
+    let link = Link {
+        switch: 0,
+        port: 2,
+        peer: 1,
+        peer_port: 4,
+    };
+    let rule = Rule {
+        proto: 6,
+        src: Prefix {
+            address: 0x0a00_0000,
+            length: 8,
+        },
+        dst: Prefix {
+            address: 0x0a00_0002,
+            length: 31,
+        },
+        port: Some(80),
+    };
+    let mut setup = Setup {
+        controllers: 3,
+        ports: PortCounts::new(rt.alloc()),
         links: Links::new(rt.alloc()),
         deny: Rules::new(rt.alloc()),
     };
-    let same = setup.copy()?;
-    assert_eq!(rt; same.ports.as_slice(), [2].as_slice());
+    setup.ports.push(2)?;
+    setup.ports.push(4)?;
+    setup.links.push(link)?;
+    setup.deny.push(rule)?;
+    let copied = setup.copy()?;
+    assert_eq!(rt; copied.controllers, 3);
+    assert_eq!(rt; copied.ports.as_slice(), [2, 4].as_slice());
+    assert_eq!(rt; copied.links.as_slice(), [link].as_slice());
+    assert_eq!(rt; copied.deny.as_slice(), [rule].as_slice());
+    Ok(())
+}
+
+/// Output by ports 1 and 2.
+fn outputs(alloc: Global) -> Result<Actions, AllocError> {
+    let mut actions = Actions::new(alloc);
+    actions.push(1)?;
+    actions.push(2)?;
+    Ok(actions)
+}
+
+/// A change that has no two equal fields of one type.
+fn change(alloc: Global) -> Result<Order, AllocError> {
+    Ok(Order::FlowMod(FlowMod {
+        cookie: 11,
+        cookie_mask: 12,
+        table: 13,
+        command: FlowCommand::DeleteStrict,
+        idle: 14,
+        hard: 15,
+        priority: 16,
+        buffer: 17,
+        out_port: 18,
+        out_group: 19,
+        flags: 20,
+        matching: Match {
+            in_port: Some(2),
+            ..any_match()
+        },
+        actions: outputs(alloc)?,
+    }))
+}
+
+fn packet_out(alloc: Global) -> Result<Order, AllocError> {
+    Ok(Order::PacketOut(PacketOut {
+        buffer: 21,
+        in_port: 22,
+        actions: outputs(alloc)?,
+        payload: Octets::from_slice(alloc, b"out")?,
+    }))
+}
+
+fn arrival(alloc: Global) -> Result<Happening, AllocError> {
+    Ok(Happening::PacketIn(PacketIn {
+        reason: 1,
+        cookie: 31,
+        in_port: 32,
+        payload: Octets::from_slice(alloc, b"in")?,
+    }))
+}
+
+fn same_change(a: &FlowMod, b: &FlowMod) -> bool {
+    a.cookie == b.cookie
+        && a.cookie_mask == b.cookie_mask
+        && a.table == b.table
+        && a.command == b.command
+        && a.idle == b.idle
+        && a.hard == b.hard
+        && a.priority == b.priority
+        && a.buffer == b.buffer
+        && a.out_port == b.out_port
+        && a.out_group == b.out_group
+        && a.flags == b.flags
+        && a.matching == b.matching
+        && a.actions.as_slice() == b.actions.as_slice()
+}
+
+fn same_order(a: &Order, b: &Order) -> bool {
+    match (a, b) {
+        (Order::FlowMod(a), Order::FlowMod(b)) => same_change(a, b),
+        (Order::PacketOut(a), Order::PacketOut(b)) => {
+            a.buffer == b.buffer
+                && a.in_port == b.in_port
+                && a.actions.as_slice() == b.actions.as_slice()
+                && a.payload.as_slice() == b.payload.as_slice()
+        }
+        _ => false,
+    }
+}
+
+fn is_copied(order: &Order) -> Result<bool, AllocError> {
+    Ok(same_order(&order.copy()?, order))
+}
+
+fn is_command_copied(command: &Command) -> Result<bool, AllocError> {
+    let copied = command.copy()?;
+    Ok(copied.switch == command.switch && same_order(&copied.order, &command.order))
+}
+
+fn is_executed_copied(executed: &Executed) -> Result<bool, AllocError> {
+    let copied = executed.copy()?;
+    Ok(
+        copied.life == executed.life
+            && copied.number == executed.number
+            && copied.generation == executed.generation
+            && copied.from == executed.from
+            && same_order(&copied.order, &executed.order),
+    )
+}
+
+fn is_row_copied(row: &Row) -> Result<bool, AllocError> {
+    let copied = row.copy()?;
+    Ok(
+        copied.priority == row.priority
+            && copied.cookie == row.cookie
+            && copied.matching == row.matching
+            && copied.actions.as_slice() == row.actions.as_slice(),
+    )
+}
+
+#[test]
+fn orders_are_copied(rt: HostRuntime) -> Result<(), Fail> {
+    let command = Command {
+        switch: 3,
+        order: change(rt.alloc())?,
+    };
+    assert!(rt; is_copied(&command.order)?);
+    assert!(rt; is_command_copied(&command)?);
+    Ok(())
+}
+
+#[test]
+fn executed_commands_are_copied(rt: HostRuntime) -> Result<(), Fail> {
+    let executed = Executed {
+        life: 1,
+        number: 2,
+        generation: 3,
+        from: 4,
+        order: packet_out(rt.alloc())?,
+    };
+    assert!(rt; is_executed_copied(&executed)?);
+    Ok(())
+}
+
+#[test]
+fn rows_are_copied(rt: HostRuntime) -> Result<(), Fail> {
+    let row = Row {
+        priority: 5,
+        cookie: 6,
+        matching: any_match(),
+        actions: outputs(rt.alloc())?,
+    };
+    assert!(rt; is_row_copied(&row)?);
+    Ok(())
+}
+
+/// An ERROR.
+fn refusal(alloc: Global) -> Result<OfMessage, AllocError> {
+    Ok(OfMessage::Error {
+        kind: 1,
+        code: 6,
+        head: Octets::from_slice(alloc, b"head")?,
+    })
+}
+
+fn is_refusal(message: &OfMessage) -> bool {
+    matches!(message, OfMessage::Error { kind: 1, code: 6, head } if head.as_slice() == b"head".as_slice())
+}
+
+/// An event of a frame.
+fn telling(alloc: Global) -> Result<Extension, AllocError> {
+    Ok(Extension::Event {
+        life: 1,
+        number: 2,
+        what: arrival(alloc)?,
+    })
+}
+
+fn is_arrival(what: &Happening) -> bool {
+    matches!(what, Happening::PacketIn(PacketIn { reason: 1, cookie: 31, in_port: 32, payload }) if payload.as_slice() == b"in".as_slice())
+}
+
+fn is_event_copied(event: &Event) -> Result<bool, AllocError> {
+    let copied = event.copy()?;
+    Ok(
+        copied.switch == event.switch
+            && copied.life == event.life
+            && copied.number == event.number
+            && is_arrival(&copied.what),
+    )
+}
+
+#[test]
+fn events_are_copied(rt: HostRuntime) -> Result<(), Fail> {
+    let event = Event {
+        switch: 1,
+        life: 2,
+        number: 3,
+        what: arrival(rt.alloc())?,
+    };
+    assert!(rt; is_arrival(&event.what.copy()?));
+    assert!(rt; is_event_copied(&event)?);
+    Ok(())
+}
+
+fn is_telling(message: &Extension) -> bool {
+    matches!(message, Extension::Event { life: 1, number: 2, what } if is_arrival(what))
+}
+
+fn is_spoken_copied(message: &Spoken) -> Result<bool, AllocError> {
+    match &message.copy()? {
+        Spoken::Plain(plain) => Ok(is_refusal(plain)),
+        Spoken::Ravana(extension) => Ok(is_telling(extension)),
+    }
+}
+
+#[test]
+fn messages_are_copied(rt: HostRuntime) -> Result<(), Fail> {
+    assert!(rt; is_refusal(&refusal(rt.alloc())?.copy()?));
+    assert!(rt; is_spoken_copied(&Spoken::Plain(refusal(rt.alloc())?))?);
+    Ok(())
+}
+
+#[test]
+fn extensions_are_copied(rt: HostRuntime) -> Result<(), Fail> {
+    assert!(rt; is_telling(&telling(rt.alloc())?.copy()?));
+    assert!(rt; is_spoken_copied(&Spoken::Ravana(telling(rt.alloc())?))?);
     Ok(())
 }
 

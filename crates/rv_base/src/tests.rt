@@ -1,6 +1,6 @@
 use crate::{
-    Actor, Drawn, JournalEntry, Letter, Letters, Local, MemorySink, MemorySource, Sink, Source,
-    StdSink, StdSource, Stop, Turn, Weight, Wire,
+    Actor, Drawn, Failed, JournalEntry, Letter, Letters, Local, MemorySink, MemorySource, Sink,
+    Source, StdSink, StdSource, Stop, Turn, Weight, Wire,
 };
 use of_types::{Items, Octets};
 use std::alloc::{AllocError, Global};
@@ -58,6 +58,23 @@ fn pieces_and_faults(rt: HostRuntime) -> Result<(), Fail> {
 }
 
 #[test]
+fn each_call_tells_its_count(rt: HostRuntime) -> Result<(), Fail> {
+    let bytes = Octets::from_slice(rt.alloc(), b"pieces")?;
+    let mut source = MemorySource::new(bytes, 5, [1].to_vec(rt.alloc())?);
+    let mut piece = [0; 4];
+    for want in [Ok(4), Err(Failed), Ok(2), Ok(0)] {
+        assert_eq!(rt; source.read(&mut piece), want);
+    }
+    assert_eq!(rt; piece.as_slice(), b"esec".as_slice());
+    let mut sink = MemorySink::new(rt.alloc(), 2, [1].to_vec(rt.alloc())?);
+    for want in [Ok(2), Err(Failed), Ok(2)] {
+        assert_eq!(rt; sink.write(b"abc"), want);
+    }
+    assert_eq!(rt; sink.taken(), b"abab".as_slice());
+    Ok(())
+}
+
+#[test]
 fn std_streams(rt: HostRuntime) {
     let mut stdin = StdSource::new(rt.stdin());
     let mut stdout = StdSink::new(rt.stdout());
@@ -84,6 +101,105 @@ fn letters(alloc: Global, to: [u8; 2], text: &[u8]) -> Result<Letters<Octets>, A
         })?;
     }
     Ok(letters)
+}
+
+/// What an entry tells, but for its letters.
+#[derive(Clone, Copy, PartialEq, Eq, Debug)]
+enum Told {
+    Post {
+        by: Actor,
+        first: u64,
+        letters: usize,
+        lost: u64,
+    },
+    Draw {
+        by: Actor,
+        id: u64,
+        keep: bool,
+    },
+    Lose {
+        by: Actor,
+        id: u64,
+    },
+    Tick {
+        by: Actor,
+    },
+    Idle {
+        by: Actor,
+    },
+    Other,
+}
+
+/// What the entries of the journal below tell.
+const TOLD: [Told; 6] = [
+    Told::Post {
+        by: Actor::Controller(0),
+        first: 0,
+        letters: 2,
+        lost: 0,
+    },
+    Told::Draw {
+        by: Actor::Switch(1),
+        id: 0,
+        keep: true,
+    },
+    Told::Post {
+        by: Actor::Switch(2),
+        first: 2,
+        letters: 2,
+        lost: 0,
+    },
+    Told::Lose {
+        by: Actor::Switch(2),
+        id: 2,
+    },
+    Told::Tick {
+        by: Actor::Switch(3),
+    },
+    Told::Idle {
+        by: Actor::Controller(0),
+    },
+];
+
+fn telling(entry: &JournalEntry<Octets>) -> Told {
+    match entry {
+        JournalEntry::Post {
+            actor,
+            first,
+            letters,
+            lost,
+        } => Told::Post {
+            by: *actor,
+            first: *first,
+            letters: letters.len(),
+            lost: *lost,
+        },
+        JournalEntry::Draw { actor, id, keep } => Told::Draw {
+            by: *actor,
+            id: *id,
+            keep: *keep,
+        },
+        JournalEntry::Lose { actor, id } => Told::Lose {
+            by: *actor,
+            id: *id,
+        },
+        JournalEntry::Local {
+            actor,
+            input: Local::Tick,
+        } => Told::Tick { by: *actor },
+        JournalEntry::Idle { actor } => Told::Idle { by: *actor },
+        _ => Told::Other,
+    }
+}
+
+/// Whether an entry posts this text to each of these switches.
+fn is_post_of(entry: &JournalEntry<Octets>, to: [u8; 2], text: &[u8]) -> bool {
+    let JournalEntry::Post { letters, .. } = entry else {
+        return false;
+    };
+    letters.as_slice().iter().zip(&to).all(|(letter, switch)| {
+        letter.to.is(Actor::Switch(*switch)) && letter.body.as_slice() == text
+    })
 }
 
 #[test]
@@ -117,35 +233,34 @@ fn turns_of_a_journal(rt: HostRuntime) -> Result<(), Fail> {
         (Some(0), Some(1), Some(3), None)
     );
     wire.lawful();
-    assert_eq!(rt; wire.entries().len(), 6);
+    assert_eq!(rt; wire.entries().len(), TOLD.len());
     let journal = wire.into_journal();
-    assert_eq!(rt; journal.len(), 6);
-    let entries = journal.as_slice();
-    assert!(rt;
-        matches!(
-            entries[2],
-            JournalEntry::Post {
-                first: 2,
-                lost: 0,
-                ..
-            }
-        )
-    );
-    assert!(rt; matches!(entries[3], JournalEntry::Lose { id: 2, .. }));
-    assert!(rt; matches!(entries[5], JournalEntry::Idle { .. }));
+    assert_eq!(rt; journal.len(), TOLD.len());
+    for (entry, want) in journal.as_slice().iter().zip(&TOLD) {
+        assert_eq!(rt; telling(entry), *want);
+    }
+    assert!(rt; is_post_of(&journal.as_slice()[0], [1, 2], b"ab"));
+    assert!(rt; is_post_of(&journal.as_slice()[2], [2, 3], b"c"));
     Ok(())
+}
+
+/// Whether an input is the frame of the test below.
+fn is_frame(input: &Local) -> bool {
+    matches!(input, Local::Frame { port: 3, bytes } if bytes.as_slice() == b"frame".as_slice())
 }
 
 #[test]
 fn copies(rt: HostRuntime) -> Result<(), Fail> {
     let bytes = Octets::from_slice(rt.alloc(), b"frame")?;
+    assert_eq!(rt; Weight::copy(&bytes)?.as_slice(), b"frame".as_slice());
+    assert_eq!(rt; Weight::size(&bytes), 5);
     let input = Local::Frame { port: 3, bytes };
-    let step = Turn::Local {
-        actor: Actor::Switch(2),
-        input: input.copy()?,
-    };
-    assert!(rt; step.copy()?.actor().is(Actor::Switch(2)));
-    assert!(rt; matches!(&input, Local::Frame { port: 3, bytes } if Weight::size(bytes) == 5));
+    assert!(rt; is_frame(&input.copy()?));
+    let actor = Actor::Switch(2);
+    let step = Turn::Local { actor, input };
+    let copied = step.copy()?;
+    assert_eq!(rt; copied.actor(), actor);
+    assert!(rt; matches!(&copied, Turn::Local { input, .. } if is_frame(input)));
     Ok(())
 }
 

@@ -1,7 +1,7 @@
 use crate::{Switch, SwitchInput, SwitchSays};
 use of_types::{
     EQUAL, Extension, FLOOD, Happening, Items, MASTER, NO_BUFFER, NO_CHANGE, OfMessage, Order,
-    Outcome, PacketOut, SLAVE, Spoken,
+    Outcome, PacketOut, SLAVE, Spoken, TO_CONTROLLER, any_match,
 };
 use rv_base::{Actor, Letters, Local};
 use std::alloc::{AllocError, Global};
@@ -31,6 +31,8 @@ enum Told {
     Echo {
         len: usize,
     },
+    Datapath(u64),
+    Barrier,
     Other,
 }
 
@@ -48,6 +50,8 @@ fn telling(message: &Spoken) -> Told {
             code: *code,
         },
         Spoken::Plain(OfMessage::EchoReply { body }) => Told::Echo { len: body.len() },
+        Spoken::Plain(OfMessage::FeaturesReply { datapath }) => Told::Datapath(*datapath),
+        Spoken::Plain(OfMessage::BarrierReply) => Told::Barrier,
         Spoken::Ravana(
             Extension::CmdAck {
                 number,
@@ -85,7 +89,7 @@ fn first(letters: &Letters<SwitchSays>) -> Option<(u8, u32, Told)> {
     }
 }
 
-/// A switch says this first to an input.
+/// A switch says this and no more to an input.
 fn hears(
     rt: &impl Abort,
     switch: &mut Switch,
@@ -93,6 +97,7 @@ fn hears(
     want: Option<(u8, u32, Told)>,
 ) -> Result<(), AllocError> {
     let letters = switch.turn(&input)?;
+    assert_eq!(rt; letters.len(), usize::from(want.is_some()));
     assert_eq!(rt; first(&letters), want);
     Ok(())
 }
@@ -290,18 +295,74 @@ fn executes_once(rt: HostRuntime) -> Result<(), Fail> {
     Ok(())
 }
 
+/// Controller 0 asks for a frame to be sent out, with no command about it.
+fn bare_order(alloc: Global) -> Result<SwitchInput, AllocError> {
+    match flood(alloc)? {
+        Order::PacketOut(out) => Ok(plain(0, 7, OfMessage::PacketOut(out))),
+        Order::FlowMod(change) => Ok(plain(0, 7, OfMessage::FlowMod(change))),
+    }
+}
+
+/// A switch answers this and no more to a request of controller 0.
+fn answers(
+    rt: &impl Abort,
+    switch: &mut Switch,
+    request: SwitchInput,
+    want: Told,
+) -> Result<(), AllocError> {
+    hears(rt, switch, request, Some((0, 7, want)))
+}
+
 #[test]
 fn answers_requests(rt: HostRuntime) -> Result<(), Fail> {
     let mut switch = Switch::new(rt.alloc(), 5, 2)?;
-    hears(
+    let echo = echo_request(rt.alloc())?;
+    answers(&rt, &mut switch, echo, Told::Echo { len: 3 })?;
+    let malformed = malformed_body(rt.alloc());
+    answers(
         &rt,
         &mut switch,
-        echo_request(rt.alloc())?,
-        Some((0, 7, Told::Echo { len: 3 })),
+        malformed,
+        Told::Error { kind: 1, code: 6 },
     )?;
-    let malformed = Some((0, 7, Told::Error { kind: 1, code: 6 }));
-    hears(&rt, &mut switch, malformed_body(rt.alloc()), malformed)?;
-    assert_eq!(rt; switch.life(), 0);
-    assert_eq!(rt; switch.rows().len(), 1);
+    let order = bare_order(rt.alloc())?;
+    answers(&rt, &mut switch, order, Told::Error { kind: 1, code: 5 })?;
+    let features = plain(0, 7, OfMessage::FeaturesRequest);
+    answers(&rt, &mut switch, features, Told::Datapath(5))?;
+    let barrier = plain(0, 7, OfMessage::BarrierRequest);
+    answers(&rt, &mut switch, barrier, Told::Barrier)?;
+    let reply = plain(0, 7, OfMessage::BarrierReply);
+    answers(&rt, &mut switch, reply, Told::Error { kind: 1, code: 1 })?;
+    Ok(())
+}
+
+/// A controller knows the results below a number, in a life of the switch.
+fn clear(life: u32) -> SwitchInput {
+    extension(0, 7, Extension::Clear { life, through: 1 })
+}
+
+#[test]
+fn says_nothing(rt: HostRuntime) -> Result<(), Fail> {
+    let mut switch = Switch::new(rt.alloc(), 5, 2)?;
+    hears(&rt, &mut switch, SwitchInput::Local(Local::Tick), None)?;
+    hears(&rt, &mut switch, SwitchInput::Local(Local::Crash), None)?;
+    hears(&rt, &mut switch, plain(0, 7, OfMessage::Hello), None)?;
+    hears(&rt, &mut switch, clear(0), None)?;
+    hears(&rt, &mut switch, clear(1), None)?;
+    Ok(())
+}
+
+#[test]
+fn starts_with_one_row(rt: HostRuntime) -> Result<(), Fail> {
+    let switch = Switch::new(rt.alloc(), 5, 2)?;
+    let [row] = switch.rows() else {
+        return Err(Fail::new("not one row"));
+    };
+    assert_eq!(rt; (row.priority, row.cookie), (0, 0));
+    assert_eq!(rt; row.matching, any_match());
+    assert_eq!(rt; row.actions.as_slice(), [TO_CONTROLLER].as_slice());
+    assert_eq!(rt; (switch.life(), switch.sent(), switch.held()), (0, 0, 0));
+    assert_eq!(rt; (switch.generation(), switch.master()), (None, None));
+    assert!(rt; switch.events().is_empty() && switch.executed().is_empty());
     Ok(())
 }

@@ -60,7 +60,7 @@ module _ (words : List (List ℕ)) (unread : Type 0) where
   read_all : (input rest : List ℕ) (e : Ending) → words ≡ accepted → rest ≡ [] → EndsRead input e → Outcome words input rest unread (ending_status e) (ending_text e)
   read_all input rest (ending.Report written) said none (scenario, is, e) =
       outcome.Closed said none
-      (record { scenario = scenario; script = e.script; closing = e.closing; journal = e.journal; primary = e.primary; told = e.told; said = is; run = e.run; shows = e.shows; wrote = e.wrote })
+      (record { scenario = scenario; script = e.script; closing = e.closing; journal = e.journal; primary = e.primary; told = e.told; said = is; run = e.run; closed = e.closed; shows = e.shows; wrote = e.wrote })
   read_all input rest ending.Usage said none (scenario, is, never) = absurd never
   read_all input rest (ending.Refused fault) said none is =
       outcome.Refused fault said (subst (λ r. HasRead input r) (sym none) To_the_end) is

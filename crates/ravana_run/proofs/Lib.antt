@@ -4,3 +4,4 @@ pub mod Steps
 pub mod Firsts
 pub mod Resting
 pub mod Playing
+pub mod Small

@@ -2,7 +2,6 @@
 use Rattle.std.proofs.Common.{◌≡◌, ◌⊎◌, inl, inr, ◌<◌, ◌≤◌, ℕ, suc, zero, Bool, true, false, List, [], ◌∷◌, ◌++◌, length, refl, sym, ◌∙◌, ap, subst, arith}
 use Rattle.std.specs.Prelude.{◌%◌, nat_eq, max, map, Option, Some, None, IfErr, OnOk, Result, Ok, Err, if◌then◌else◌}
 use Rattle.std.specs.List.{list_any}
-use Rattle.std.proofs.Math.Nat.{mod-one, max-zero}
 use Rattle.rv_base.specs.declared.journal.Actor.{Actor}
 use Rattle.rv_base.specs.declared.journal.Actor.TheVariants as actor
 use Rattle.rv_base.specs.declared.journal.JournalEntry.{JournalEntry}
@@ -27,6 +26,7 @@ use Rattle.rv_world.specs.World.{WorldState, IsFirst, TakesTurnOf, Applies, Post
 use Rattle.rv_world.proofs.Closings.{closes_first, closes_post, closes_step, closes_turn, closes_last}
 use Rattle.rv_world.proofs.Following.{turn_past}
 use Rattle.rv_world.proofs.Rest.{took_lose, took_draw}
+use Rattle.rv_world.proofs.Suspecting.{no_rest, one_suspects}
 use Rattle.rv_world.proofs.Standing.{state_lost, state_posted, state_stands}
 use Rattle.ravana_run.specs.declared.closing.Closed.{Closed}
 use Rattle.ravana_run.specs.declared.closing.Closed.TheVariants as closed
@@ -188,27 +188,9 @@ module _ {B : Type 0} (scene : Scene B) where
   drains_from view phase start draining = record { last = phase; draining = draining; goes = λ script c. c }
 
   -- a majority of one takes part, and suspects
-  no_rest : (n : ℕ) → n % 1 ≡ 0
-  no_rest n = mod-one n
-
-  first_is : (view : ℕ) → first_view 1 1 (0 ∷ []) view ≡ view
-  first_is view = by_rest (view % 1) (no_rest view)
-    where
-      by_rest : (rest : ℕ) → rest ≡ 0 → (if list_any (λ c. nat_eq c rest) (0 ∷ []) then view else first_view 0 1 (0 ∷ []) (suc view)) ≡ view
-      by_rest rest is = rw is refl
-
-  quorum_is : (primary : ℕ) → primary ≡ 0 → quorum_of primary 0 (0 ∷ []) ≡ 0 ∷ []
-  quorum_is primary is = rw is refl
-
-  one_suspects : (c : ControllerState) → is_up c.status ≡ true → c.me ≡ 0 →
-      IsMove {B = B} (next_view 1 (c ∷ [])) (Local (actor.Controller 0) (local.Suspect (suc (max c.view c.promise)))) (Suspecting (suc (max c.view c.promise)) (0 ∷ []) [])
-  one_suspects c up me =
-      let bound = suc (max c.view c.promise) in
-      rw (up, me, max-zero, first_is bound, quorum_is (bound % 1) (no_rest bound)) (refl, refl)
-
   group_suspects : (group view : ℕ) (states : List ControllerState) (c : ControllerState) → group ≡ 1 → states ≡ c ∷ [] → is_up c.status ≡ true → c.me ≡ 0 → view ≡ suc (max c.view c.promise) →
       IsMove {B = B} (next_lost group states []) (Local (actor.Controller 0) (local.Suspect view)) (Suspecting view (0 ∷ []) [])
-  group_suspects group view states c one only up me is = rw (one, only, is) (one_suspects c up me)
+  group_suspects group view states c one only up me is = rw (one, only, is, one_suspects {B = B} c up me) (refl, refl)
 
   suspect_move : (entries : List (JournalEntry B)) (view : ℕ) → scene.setup.controllers ≡ 1 → pool entries ≡ [] →
       is_up (controller_state scene [] 0 entries).status ≡ true → (controller_state scene [] 0 entries).me ≡ 0 →

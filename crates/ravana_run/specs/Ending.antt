@@ -1,7 +1,9 @@
 -- The status and the text of an ending, and the runs that end so.
 use Rattle.std.specs.Prelude.{◌≡◌, ℕ, List, [], length, Ok, Err}
 use Rattle.rv_base.specs.declared.journal.JournalEntry.{JournalEntry}
+use Rattle.rv_base.specs.Pool.{past}
 use Rattle.rv_world.specs.declared.typed.Typed.{Typed}
+use Rattle.rv_world.specs.Laws.{IsClosed}
 use Rattle.controller_core.specs.declared.says.LogFull.{LogFull}
 use Rattle.rv_world.specs.Schedule as schedule
 use Rattle.scenario.specs.declared.scenario.Scenario.{Scenario}
@@ -37,6 +39,7 @@ pub record EndsDone (scenario : Scenario) (words : List ℕ) : Type 0 where
   pub primary : ℕ
   pub told : Record
   pub run : IsRun scenario script closing journal (schedule.Done primary)
+  pub closed : IsClosed (scene_for scenario) [] (past journal)
   pub shows : Shows (scene_for scenario) typed_bytes (length scenario.steps) closing journal told
   pub wrote : words ≡ text told
 

@@ -6,7 +6,7 @@ use Rattle.rv_base.specs.Turns.{IsWithinLimits}
 use Rattle.controller_core.specs.declared.says.LogFull.{LogFull}
 use Rattle.rv_world.specs.declared.typed.Typed.{Typed}
 use Rattle.rv_world.specs.Legal.{IsLegal}
-use Rattle.rv_world.specs.Laws.{IsExactlyOnce, IsFenced, IsLasting}
+use Rattle.rv_world.specs.Laws.{IsExactlyOnce, IsFenced, IsLasting, IsClosed}
 use Rattle.rv_world.specs.Schedule.{Answer, FollowsInOrder, Closes, IsBegun}
 use Rattle.rv_world.specs.Schedule as schedule
 use Rattle.rv_world.specs.States.{Scene}
@@ -55,7 +55,7 @@ pub record IsCutShort (scenario : Scenario) (bytes letters : ℕ) (journal : Lis
   pub begun : IsBegun (scene_for scenario) [] scenario.steps bytes letters (past journal)
   pub lawful : IsLawful (scene_for scenario) (past journal)
 
--- a run to its end and its report
+-- a run to its end and its report. Nothing was left undone
 pub record IsDone (input written : List ℕ) : Type 0 where
   pub scenario : Scenario
   pub script : List (JournalEntry Typed)
@@ -65,6 +65,7 @@ pub record IsDone (input written : List ℕ) : Type 0 where
   pub told : Record
   pub said : scenario_of input ≡ Ok scenario
   pub run : IsRun scenario script closing journal (schedule.Done primary)
+  pub closed : IsClosed (scene_for scenario) [] (past journal)
   pub shows : Shows (scene_for scenario) typed_bytes (length scenario.steps) closing journal told
   pub wrote : written ≡ text told
 

@@ -20,7 +20,7 @@ use crate::turning::take_turn;
 use of_types::Octets;
 use report::text;
 use rv_base::{Stop, Turn};
-use rv_safety::{exactly_once, fence, lasting};
+use rv_safety::{closed, exactly_once, fence, lasting};
 use rv_world::{Typed, World};
 use scenario::Scenario;
 use std::alloc::{AllocError, Global};
@@ -107,6 +107,7 @@ pub fn simulate(alloc: Global, scenario: &Scenario) -> Result<Ending, AllocError
         Ok((Closed::Done { .. }, script)) => {
             world.lawful();
             laws(&world);
+            closed(&world, script);
             let report = report_of(alloc, &world, scenario.steps.len(), script)?;
             Ok(Ending::Report(report))
         }

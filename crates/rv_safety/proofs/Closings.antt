@@ -39,9 +39,9 @@ ports_stay x start = turn_keeps x (λ (t : SwitchTurn). t.state.dirty ≡ start.
     stays : (t t' : SwitchTurn) → Move x t t' → t.state.dirty ≡ start.dirty → t'.state.dirty ≡ start.dirty
     stays t t' (Raises reason cookie port frame asks fits is) h = ap (λ (y : SwitchTurn). y.state.dirty) is ∙ h
     stays t t' (Says ls all is) h = ap (λ (y : SwitchTurn). y.state.dirty) is ∙ h
-    stays t t' (Notes outcomes rows sent is) h = ap (λ (y : SwitchTurn). y.state.dirty) is ∙ h
+    stays t t' (Notes outcomes rows sent few is) h = ap (λ (y : SwitchTurn). y.state.dirty) is ∙ h
     stays t t' (Clears c xid life through asks own is) h = ap (λ (y : SwitchTurn). y.state.dirty) is ∙ h
-    stays t t' (Executes c xid life generation number settled what asks own may next is) h = ap (λ (y : SwitchTurn). y.state.dirty) is ∙ h
+    stays t t' (Executes c xid life generation number settled what result asks own may next is) h = ap (λ (y : SwitchTurn). y.state.dirty) is ∙ h
     stays t t' (Masters c xid role generation asks master fresh is) h = ap (λ (y : SwitchTurn). y.state.dirty) is ∙ h
     stays t t' (Fences c xid role generation fence asks otherwise is) h = ap (λ (y : SwitchTurn). y.state.dirty) is ∙ h
 

@@ -43,14 +43,14 @@ valid_push log e valid may front back x is =
     ]
 
 -- where an event of this place stands as processed
-record IsFound (log : List Entry) (j : ℕ) : Type 0 where
+pub record IsFound (log : List Entry) (j : ℕ) : Type 0 where
   pub front : List Entry
   pub back : List Entry
   pub place : ℕ
   pub is : log ≡ front ++ Processed place ∷ back
   pub count : processed front ≡ j
 
-find_processed : (log : List Entry) (j : ℕ) → j < processed log → IsFound log j
+pub find_processed : (log : List Entry) (j : ℕ) → j < processed log → IsFound log j
 find_processed [] j lt = absurd (omega arith)
 find_processed (Received e ∷ log) j lt =
     let r = find_processed log j lt in
@@ -86,7 +86,7 @@ among_received (Received x ∷ log) e (inl is) = inl (ap (λ (y : Event). Receiv
 among_received (Received x ∷ log) e (inr h) = inr (among_received log e h)
 among_received (Processed j ∷ log) e h = inr (among_received log e h)
 
-any_among : (acked : List (ℕ × ℕ)) (s i : ℕ) → list_any (λ (a : ℕ × ℕ). nat_eq a.0 s && nat_eq a.1 i) acked ≡ true → Among (s, i) acked
+pub any_among : (acked : List (ℕ × ℕ)) (s i : ℕ) → list_any (λ (a : ℕ × ℕ). nat_eq a.0 s && nat_eq a.1 i) acked ≡ true → Among (s, i) acked
 any_among [] s i h = absurd cc
 any_among (a ∷ acked) s i h =
     elim (or_cases (nat_eq a.0 s && nat_eq a.1 i) _ h) [
@@ -104,7 +104,7 @@ none_choice true y x xs zs p is none rest (inr h) = rest none h
 none_choice false y x xs zs p is none rest h = absurd (omega arith)
 
 -- where no element is left that fails a test, each passes it
-none_left : {A : Type 0} (p : A → Bool) (xs : List A) (x : A) → length (filter (λ y. not (p y)) xs) ≡ 0 → Among x xs → p x ≡ true
+pub none_left : {A : Type 0} (p : A → Bool) (xs : List A) (x : A) → length (filter (λ y. not (p y)) xs) ≡ 0 → Among x xs → p x ≡ true
 none_left p [] x none h = absurd h
 none_left p (y ∷ xs) x none h = none_choice (p y) y x xs (filter (λ z. not (p z)) xs) p refl none (λ k m. none_left p xs x k m) h
 

@@ -67,7 +67,7 @@ module _ (kinds : List ℕ) (setup : Setup) (f : Facts) (s : ℕ) where
 module _ {B : Type 0} (scene : Scene B) (results : List (List SaveResult)) (facts : List (JournalEntry B) → Facts)
     (truth : (e : JournalEntry B) (before : List (JournalEntry B)) → IsLegalPast scene results (e ∷ before) → AllByRecursion (λ (x : JournalEntry B). HasBytes x) (e ∷ before) →
     (s : ℕ) (x : SwitchInput) → same_actor (actor_of e) (actor.Switch s) ≡ true → IsHeardAt scene e (drawn e before) x → IsHeardBySwitch scene.kinds scene.setup (facts before) s x) where
-  fences : (entries : List (JournalEntry B)) → IsLegalPast scene results entries → AllByRecursion (λ (x : JournalEntry B). HasBytes x) entries → (s : ℕ) →
+  pub fences : (entries : List (JournalEntry B)) → IsLegalPast scene results entries → AllByRecursion (λ (x : JournalEntry B). HasBytes x) entries → (s : ℕ) →
       FencesAt scene.setup.controllers (masters_asked scene.sealing (part (actor.Switch s) entries)) (switch_at scene s (part (actor.Switch s) entries))
   fences [] legal bytes s = record { now = Unasked refl refl refl; before = Unasked refl refl refl }
   fences (e ∷ before) legal bytes s =

@@ -37,9 +37,9 @@ fence_stays x start other = turn_keeps x (λ (t : SwitchTurn). t.state.fence ≡
     stays : (t t' : SwitchTurn) → Move x t t' → t.state.fence ≡ start.fence → t'.state.fence ≡ start.fence
     stays t t' (Raises reason cookie port frame asks fits is) h = ap (λ (y : SwitchTurn). y.state.fence) is ∙ h
     stays t t' (Says ls all is) h = ap (λ (y : SwitchTurn). y.state.fence) is ∙ h
-    stays t t' (Notes outcomes rows sent is) h = ap (λ (y : SwitchTurn). y.state.fence) is ∙ h
+    stays t t' (Notes outcomes rows sent few is) h = ap (λ (y : SwitchTurn). y.state.fence) is ∙ h
     stays t t' (Clears c xid life through asks own is) h = ap (λ (y : SwitchTurn). y.state.fence) is ∙ h
-    stays t t' (Executes c xid life generation number settled what asks own may next is) h = ap (λ (y : SwitchTurn). y.state.fence) is ∙ h
+    stays t t' (Executes c xid life generation number settled what result asks own may next is) h = ap (λ (y : SwitchTurn). y.state.fence) is ∙ h
     stays t t' (Masters c xid role generation asks master fresh is) h = absurd (other c xid role generation asks)
     stays t t' (Fences c xid role generation fence asks otherwise is) h = absurd (other c xid role generation asks)
 
@@ -88,11 +88,11 @@ module _ (x : SwitchInput) (start : SwitchState) where
   carries_move : (t t' : SwitchTurn) → Move x t t' → Carries x start t → Carries x start t'
   carries_move t t' (Raises reason cookie port frame asks fits is) h = same_carries t t' _ (ap (λ (y : SwitchTurn). y.state) is) refl refl h
   carries_move t t' (Says ls all is) h = same_carries t t' _ (ap (λ (y : SwitchTurn). y.state) is) refl refl h
-  carries_move t t' (Notes outcomes rows sent is) h = same_carries t t' _ (ap (λ (y : SwitchTurn). y.state) is) refl refl h
+  carries_move t t' (Notes outcomes rows sent few is) h = same_carries t t' _ (ap (λ (y : SwitchTurn). y.state) is) refl refl h
   carries_move t t' (Clears c xid life through asks own is) h = same_carries t t' _ (ap (λ (y : SwitchTurn). y.state) is) refl refl h
   carries_move t t' (Masters c xid role generation asks master fresh is) h = role_carries t t' _ c xid role generation is asks h
   carries_move t t' (Fences c xid role generation fence asks otherwise is) h = role_carries t t' fence c xid role generation is asks h
-  carries_move t t' (Executes c xid life generation number settled what asks own may next is) h =
+  carries_move t t' (Executes c xid life generation number settled what result asks own may next is) h =
       record {
         fence = λ other. ap (λ (y : SwitchTurn). y.state.fence) is ∙ h.fence other;
         grown = grows h.grown;
@@ -166,7 +166,7 @@ stale_below m g below less =
     let it : (g + 2 ^ 64 - m) % 2 ^ 64 ≡ g + 2 ^ 64 - m = mod-eq_of_lt small in
     le-leb (2 ^ 63) ((g + 2 ^ 64 - m) % 2 ^ 64) (omega (arith, it))
 
-fresh_above : (m g : ℕ) → g < 2 ^ 32 → m ≤ g → is_stale (Some m) g ≡ false
+pub fresh_above : (m g : ℕ) → g < 2 ^ 32 → m ≤ g → is_stale (Some m) g ≡ false
 fresh_above m g below above =
     let small : g - m < 2 ^ 64 = omega arith in
     let sum : g + 2 ^ 64 - m ≡ 1 * 2 ^ 64 + (g - m) = omega arith in

@@ -53,7 +53,7 @@ pub reactions-take : (kinds : List ℕ) (setup : Setup) (n : ℕ) (es : List Eve
 unfolding reactions
 reactions-take kinds setup n es = reactions_from-take kinds setup (starting_chain kinds) n es
 
-reactions_prefix : (kinds : List ℕ) (setup : Setup) (es fs : List Event) → IsPrefix es fs → IsPrefix (reactions kinds setup es) (reactions kinds setup fs)
+pub reactions_prefix : (kinds : List ℕ) (setup : Setup) (es fs : List Event) → IsPrefix es fs → IsPrefix (reactions kinds setup es) (reactions kinds setup fs)
 unfolding reactions
 reactions_prefix kinds setup es fs p =
     record {
@@ -73,7 +73,7 @@ issued_prefix kinds setup s es fs p =
     orders_prefix s (single kinds setup es) (single kinds setup fs) (concat_prefix (reactions kinds setup es) (reactions kinds setup fs) (reactions_prefix kinds setup es fs p))
 
 -- the commands of one more event
-next_commands : {A : Type 0} (xs : List (List A)) (j : ℕ) → j < length xs → concat (take (j + 1) xs) ≡ concat (take j xs) ++ get_or xs j []
+pub next_commands : {A : Type 0} (xs : List (List A)) (j : ℕ) → j < length xs → concat (take (j + 1) xs) ≡ concat (take j xs) ++ get_or xs j []
 next_commands xs j lt =
     ap (λ l. concat l) (take_more xs j [] lt) ∙ concat-append (take j xs) (get_or xs j [] ∷ []) ∙ ap (λ l. concat (take j xs) ++ l) (append-nil (get_or xs j []))
 

@@ -81,13 +81,13 @@ legal_before {B = B} scene results e before legal =
       ];
     }
 
-from_some : {A : Type 0} (x y : A) → Some x ≡ Some y → x ≡ y
+pub from_some : {A : Type 0} (x y : A) → Some x ≡ Some y → x ≡ y
 from_some x y h = cc
 
-self_switch : (s : ℕ) → same_actor (actor.Switch s) (actor.Switch s) ≡ true
+pub self_switch : (s : ℕ) → same_actor (actor.Switch s) (actor.Switch s) ≡ true
 self_switch s = eq-eqb s s refl
 
-self_controller : (c : ℕ) → same_actor (actor.Controller c) (actor.Controller c) ≡ true
+pub self_controller : (c : ℕ) → same_actor (actor.Controller c) (actor.Controller c) ≡ true
 self_controller c = eq-eqb c c refl
 
 -- a draw of a legal journal finds its packet
@@ -106,7 +106,7 @@ module _ {B : Type 0} (scene : Scene B) (results : List (List SaveResult)) (fait
     pub named_switch : (s : ℕ) → same_actor (actor_of e) (actor.Switch s) ≡ true → s < length scene.setup.ports
     named_switch s h = subst (λ (a : Actor). IsActor scene.setup a) (one_actor (actor_of e) (actor.Switch s) h) legal.named.0
 
-    named_controller : (c : ℕ) → same_actor (actor_of e) (actor.Controller c) ≡ true → c < scene.setup.controllers
+    pub named_controller : (c : ℕ) → same_actor (actor_of e) (actor.Controller c) ≡ true → c < scene.setup.controllers
     named_controller c h = subst (λ (a : Actor). IsActor scene.setup a) (one_actor (actor_of e) (actor.Controller c) h) legal.named.0
 
     finds : (a : Actor) (id : ℕ) (keep : Bool) → e ≡ Draw a id keep → (p : Packet B) × (drawn e before ≡ Some p)
@@ -179,7 +179,7 @@ module _ {B : Type 0} (scene : Scene B) (results : List (List SaveResult)) (fait
     switch_hears_truth s x same (From_local a input is hears) =
         subst (λ (y : SwitchInput). IsHeardBySwitch scene.kinds scene.setup (facts_of scene results before) s y) (sym hears) (subst (λ (y : JournalEntry B). HasBytes y) is bytes)
 
-    controller_hears_truth : (c : ℕ) (x : ControllerInput) → same_actor (actor_of e) (actor.Controller c) ≡ true → IsHeard scene e (drawn e before) x → IsHeardByController scene.setup (facts_of scene results before) x
+    pub controller_hears_truth : (c : ℕ) (x : ControllerInput) → same_actor (actor_of e) (actor.Controller c) ≡ true → IsHeard scene e (drawn e before) x → IsHeardByController scene.setup (facts_of scene results before) x
     controller_hears_truth c x same (By_draw a id keep p is found hears) =
         let r = drawn_found scene.sealing.size a id keep before (subst (λ (y : JournalEntry B). IsOrderly scene.sealing.size (y ∷ before)) is legal.orderly) in
         let it : r.packet ≡ p = from_some r.packet p (sym r.found ∙ ap (λ (y : JournalEntry B). drawn y before) (sym is) ∙ found) in

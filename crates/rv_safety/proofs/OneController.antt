@@ -2,20 +2,25 @@
 use Rattle.std.proofs.Common.{◌≡◌, ◌<◌, ℕ, ◌%◌, true, List, ◌∷◌, sym, subst, inl, inr, ◌⊎◌, arith}
 use Rattle.std.specs.List.{AllByRecursion}
 use Rattle.std.proofs.lemmas.Bool.{cases_Bool}
+use Rattle.rv_base.specs.declared.journal.Actor.TheVariants as actor
 use Rattle.rv_base.specs.declared.journal.JournalEntry.{JournalEntry}
 use Rattle.rv_base.specs.declared.journal.SaveResult.{SaveResult}
+use Rattle.rv_base.specs.Actors.{same_actor, actor_of}
+use Rattle.rv_base.specs.Part.{part, drawn}
+use Rattle.switch_core.specs.declared.says.SwitchInput.{SwitchInput}
 use Rattle.controller_core.specs.State.{committed, is_up}
-use Rattle.rv_world.specs.States.{Scene}
+use Rattle.rv_world.specs.States.{Scene, switch_at}
 use Rattle.rv_world.specs.Legal.{IsLegalPast}
 use Rattle.rv_world.specs.Committed.{controller_state, decided}
-use Rattle.rv_world.specs.Laws.{IsPrefix, IsExactlyOnce, IsFenced}
+use Rattle.rv_world.specs.Laws.{IsPrefix, IsExactlyOnce, IsFenced, masters_asked}
 use Rattle.rv_safety.specs.Facts.{Later, facts_of}
 use Rattle.rv_safety.proofs.Lists.{prefix_is}
 use Rattle.rv_safety.proofs.Decided.{decided_none, decided_up, decided_down, decided_grows}
 use Rattle.rv_safety.specs.Premises.{IsFaithful, HasBytes}
-use Rattle.rv_safety.proofs.Invariant.{Holds}
+use Rattle.rv_safety.proofs.Entries.{IsHeardAt}
+use Rattle.rv_safety.proofs.Invariant.{Holds, IsHeardBySwitch}
 use Rattle.rv_safety.proofs.Journals.{legal_before, later, all_holds, switch_hears_truth}
-use Rattle.rv_safety.proofs.Fencing.{all_fenced}
+use Rattle.rv_safety.proofs.Fencing.{FencesAt, fences, all_fenced}
 use Rattle.rv_safety.proofs.Onces.{once}
 
 module _ {B : Type 0} (scene : Scene B) (results : List (List SaveResult)) (one : scene.setup.controllers ≡ 1) where
@@ -58,10 +63,17 @@ module _ {B : Type 0} (scene : Scene B) (results : List (List SaveResult)) (one 
     pub one_once : (entries : List (JournalEntry B)) → IsLegalPast scene results entries → AllByRecursion (λ (x : JournalEntry B). HasBytes x) entries → IsExactlyOnce scene results entries
     one_once entries legal bytes = once scene results one_later one_holds (decided_none scene results one) chosen entries legal bytes
 
+    one_hears : (e : JournalEntry B) (before : List (JournalEntry B)) → IsLegalPast scene results (e ∷ before) → AllByRecursion (λ (x : JournalEntry B). HasBytes x) (e ∷ before) →
+        (s : ℕ) (x : SwitchInput) → same_actor (actor_of e) (actor.Switch s) ≡ true → IsHeardAt scene e (drawn e before) x → IsHeardBySwitch scene.kinds scene.setup (facts_of scene results before) s x
+    one_hears e before whole all s x same heard =
+        switch_hears_truth scene results faithful (decided_grows scene results one) front owns e before whole all.0
+        (one_holds before (legal_before scene results e before whole) all.1) s x same heard
+
+    -- the fence of each switch is that of the generations that asked it
+    pub one_fences : (entries : List (JournalEntry B)) → IsLegalPast scene results entries → AllByRecursion (λ (x : JournalEntry B). HasBytes x) entries → (s : ℕ) →
+        FencesAt scene.setup.controllers (masters_asked scene.sealing (part (actor.Switch s) entries)) (switch_at scene s (part (actor.Switch s) entries))
+    one_fences entries legal bytes s = fences scene results (facts_of scene results) one_hears entries legal bytes s
+
     -- and no stale generation's command
     pub one_fenced : (entries : List (JournalEntry B)) → IsLegalPast scene results entries → AllByRecursion (λ (x : JournalEntry B). HasBytes x) entries → IsFenced scene entries
-    one_fenced entries legal bytes =
-        all_fenced scene results (facts_of scene results)
-        (λ e before whole all s x same heard. switch_hears_truth scene results faithful (decided_grows scene results one) front owns e before whole all.0
-        (one_holds before (legal_before scene results e before whole) all.1) s x same heard)
-        entries legal bytes
+    one_fenced entries legal bytes = all_fenced scene results (facts_of scene results) one_hears entries legal bytes

@@ -141,7 +141,7 @@ among_events s (x ∷ xs) e h = choice (nat_eq x.switch s) (λ k. among_events s
     choice true go (inr k) = inr (go k)
     choice false go k = inr (go k)
 
-get_within : {A : Type 0} (xs : List A) (i : ℕ) → i < length xs → (x : A) × (slice_get xs i ≡ Some x)
+pub get_within : {A : Type 0} (xs : List A) (i : ℕ) → i < length xs → (x : A) × (slice_get xs i ≡ Some x)
 get_within [] i lt = absurd (omega arith)
 get_within (x ∷ xs) zero lt = (x, refl)
 get_within (x ∷ xs) (suc i) lt = get_within xs i (omega arith)

@@ -139,14 +139,14 @@ happening_short (happening.PacketIn p) good = let short : length p.payload ≤ 1
 happening_short (happening.PortStatus p) good = omega arith
 
 -- what is told and reported can be spelled
-reported_valid : (s : ℕ) (events : List Event) (executed : List Executed) (m : Spoken) → IsReported s events executed m → IsValid m
+pub reported_valid : (s : ℕ) (events : List Event) (executed : List Executed) (m : Spoken) → IsReported s events executed m → IsValid m
 reported_valid s events executed (spoken.Plain (plain.RoleReply role generation)) h = (tt, omega arith)
 reported_valid s events executed (spoken.Plain (plain.Error kind code head)) h = (tt, omega (arith, ap (λ (l : List ℕ). length l) h))
 reported_valid s events executed (spoken.Ravana (extension.Event life number what)) h = (tt, omega (arith, happening_short what h.1.good))
 reported_valid s events executed (spoken.Ravana (extension.CmdAck life number result)) h = (tt, omega arith)
 reported_valid s events executed _ h = absurd h
 
-told_valid : (kinds : List ℕ) (setup : Setup) (f : Facts) (c s : ℕ) (m : Spoken) → IsTold kinds setup f c s m → IsValid m
+pub told_valid : (kinds : List ℕ) (setup : Setup) (f : Facts) (c s : ℕ) (m : Spoken) → IsTold kinds setup f c s m → IsValid m
 told_valid kinds setup f c s (spoken.Plain (plain.RoleRequest role generation)) h = (tt, omega arith)
 told_valid kinds setup f c s (spoken.Ravana (extension.Command life generation number settled what)) h = h.2
 told_valid kinds setup f c s (spoken.Ravana (extension.EventAck life through)) h = (tt, omega arith)

@@ -98,7 +98,7 @@ module _ (kinds : List ℕ) (setup : Setup) (f : Facts) (s : ℕ) (x : SwitchInp
           executed = h.executed;
           said = λ l k. elim (among_append l t.letters ls k) [ inl m ↦ h.said l m | inr m ↦ report t.state l h.sound (all l m) ];
         })
-    kept_by t t' (Notes outcomes rows sent is) h =
+    kept_by t t' (Notes outcomes rows sent few is) h =
         to_state t t' _ is
         (record { number_is = h.sound.number_is; life_is = h.sound.life_is; made = h.sound.made; done = h.sound.done; dropped = h.sound.dropped })
         (prefix_same t.state.events) (prefix_same t.state.executed) h
@@ -109,7 +109,7 @@ module _ (kinds : List ℕ) (setup : Setup) (f : Facts) (s : ℕ) (x : SwitchInp
         to_state t t' _ is
         (record { number_is = h.sound.number_is; life_is = h.sound.life_is; made = h.sound.made; done = h.sound.done; dropped = omega (arith, few, old) })
         (prefix_same t.state.events) (prefix_same t.state.executed) h
-    kept_by t t' (Executes c xid life generation number settled what asks own may next is) h =
+    kept_by t t' (Executes c xid life generation number settled what result asks own may next is) h =
         let told : IsTold kinds setup f c s (spoken.Ravana (extension.Command life generation number settled what)) = subst (λ (y : SwitchInput). IsHeardBySwitch kinds setup f s y) asks heard in
         let new : Executed = record { life = t.state.life; number = number; generation = generation; from = c; order = what } in
         let place : number ≡ length t.state.executed = eqb-true number (length t.state.executed) next in

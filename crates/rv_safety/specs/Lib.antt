@@ -1,3 +1,4 @@
 pub mod Facts
 pub mod Premises
 pub mod Truths
+pub mod Room

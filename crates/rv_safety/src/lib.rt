@@ -1,15 +1,17 @@
 //! The laws of every journal of a world.
 #![tactic(auto)]
 
-ghost use Rattle.std.specs.Prelude.{◌≡◌, true, []};
+ghost use Rattle.std.specs.Prelude.{◌≡◌, true, [], take};
 ghost use Rattle.std.specs.List.{AllByRecursion};
 ghost use Rattle.rv_base.specs.Pool.{past};
+ghost use Rattle.rv_base.specs.Turns.{IsWithinLimits};
 ghost use Rattle.controller_core.specs.State.{committed, is_up};
 ghost use Rattle.rv_world.specs.Committed.{controller_state, decided};
-ghost use Rattle.rv_world.specs.Laws.{IsLasting, IsFenced, IsExactlyOnce};
+ghost use Rattle.rv_world.specs.Laws.{IsLasting, IsFenced, IsExactlyOnce, IsClosed};
 ghost use Rattle.rv_world.specs.Legal.{IsLegalPast};
 ghost use Rattle.rv_world.specs.World.{scene_of};
 ghost use Rattle.rv_safety.specs.Premises.{HasBytes};
+ghost use Rattle.rv_safety.specs.Room.{HasRoom, ClosesBehind};
 
 #[cfg(test)]
 mod tests;
@@ -37,6 +39,7 @@ fn grounds<B: Body>(world: &World<B>)
     requires { world.now.whole ≡ true }
     ensures legal { IsLegalPast (scene_of world.now.setup B.sealed B.spelled B.size) [] (past world.now.journal) }
     ensures bytes { AllByRecursion (λ e. HasBytes e) (past world.now.journal) }
+    ensures within { IsWithinLimits B.size (past world.now.journal) }
 {
     world.lawful();
 }
@@ -56,6 +59,19 @@ pub fn exactly_once<B: Body>(world: &World<B>)
     requires whole { world.now.whole ≡ true }
     requires one { world.now.setup.controllers ≡ 1 }
     ensures { IsExactlyOnce (scene_of world.now.setup B.sealed B.spelled B.size) [] (past world.now.journal) }
+{
+    grounds(world);
+}
+
+/// A closing that came to its end left nothing undone, under one controller: nothing waits, each event is
+/// processed and has left its buffer, and each command is carried out. The closing is what stands behind so
+/// many entries; where it began, all that it might bring about had room in the pool.
+pub fn closed<B: Body>(world: &World<B>, script: usize)
+    requires whole { world.now.whole ≡ true }
+    requires one { world.now.setup.controllers ≡ 1 }
+    requires closes { ClosesBehind (scene_of world.now.setup B.sealed B.spelled B.size) script world.now.journal }
+    requires room { HasRoom (scene_of world.now.setup B.sealed B.spelled B.size) [] (past (take script world.now.journal)) }
+    ensures { IsClosed (scene_of world.now.setup B.sealed B.spelled B.size) [] (past world.now.journal) }
 {
     grounds(world);
 }

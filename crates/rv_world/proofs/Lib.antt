@@ -8,3 +8,4 @@ pub mod Following
 pub mod Closings
 pub mod Addressed
 pub mod Standing
+pub mod Suspecting

@@ -23,7 +23,7 @@ use Rattle.rv_world.specs.World.{IsFirst, PostedFrom, Nothing_owed, One_post, Ta
 abbrev pub work_left : {B : Type 0} → List (JournalEntry B) → ℕ
 work_left entries = (letters_limit - letters_posted entries) + length (pool entries)
 
-length-numbered : {B : Type 0} (n : ℕ) (a : Actor) (letters : List (Letter B)) → length (numbered n a letters) ≡ length letters
+pub length-numbered : {B : Type 0} (n : ℕ) (a : Actor) (letters : List (Letter B)) → length (numbered n a letters) ≡ length letters
 length-numbered n a [] = refl
 length-numbered n a (l ∷ letters) = ap (λ k. suc k) (length-numbered (n + 1) a letters)
 

@@ -5,25 +5,28 @@ use Rattle.std.specs.List.{AllByRecursion}
 use Rattle.of_types.specs.declared.setup.Setup.{Setup}
 use Rattle.of_types.specs.Setups.{IsSetup}
 use Rattle.rv_base.specs.declared.journal.Actor.TheVariants as actor
+use Rattle.rv_base.specs.declared.journal.Local.TheVariants as local
 use Rattle.rv_base.specs.declared.journal.Turn.{Turn}
 use Rattle.rv_base.specs.declared.journal.Turn.TheVariants as turn
 use Rattle.rv_base.specs.Actors.{IsActor}
 use Rattle.rv_base.specs.Turns.{turn_actor, IsCalm}
-use Rattle.scenario.specs.Scenario.{IsPlayable, one_switch, AreByOne}
+use Rattle.scenario.specs.Scenario.{IsFrame, IsScript, IsPlayable, one_switch}
 
-by_actors : (setup : Setup) (steps : List Turn) → 0 < length setup.ports → AreByOne steps → AllByRecursion (λ t. IsActor setup (turn_actor t)) steps
-by_actors setup [] some by = tt
-by_actors setup (t ∷ steps) some by = (subst (λ a. IsActor setup a) (sym by.0) some, by_actors setup steps some by.1)
+frame_actor : (setup : Setup) (t : Turn) → 0 < length setup.ports → IsFrame t → IsActor setup (turn_actor t)
+frame_actor setup (turn.Local (actor.Switch s) (local.Frame port bytes)) some is = omega (arith, is, some)
+frame_actor setup _ some is = absurd is
 
-switch_calm : (s : ℕ) (t : Turn) → turn_actor t ≡ actor.Switch s → IsCalm t
-switch_calm s (turn.Draw a choice keep) by = tt
-switch_calm s (turn.Lose a choice) by = tt
-switch_calm s (turn.Local (actor.Switch n) input) by = tt
-switch_calm s (turn.Local (actor.Controller c) input) by = cc
+by_actors : (setup : Setup) (steps : List Turn) → 0 < length setup.ports → AllByRecursion IsFrame steps → AllByRecursion (λ t. IsActor setup (turn_actor t)) steps
+by_actors setup [] some frames = tt
+by_actors setup (t ∷ steps) some frames = (frame_actor setup t some frames.0, by_actors setup steps some frames.1)
 
-all_calm : (steps : List Turn) → AreByOne steps → AllByRecursion IsCalm steps
-all_calm [] by = tt
-all_calm (t ∷ steps) by = (switch_calm 0 t by.0, all_calm steps by.1)
+frame_calm : (t : Turn) → IsFrame t → IsCalm t
+frame_calm (turn.Local (actor.Switch s) (local.Frame port bytes)) is = tt
+frame_calm _ is = absurd is
+
+all_calm : (steps : List Turn) → AllByRecursion IsFrame steps → AllByRecursion IsCalm steps
+all_calm [] frames = tt
+all_calm (t ∷ steps) frames = (frame_calm t frames.0, all_calm steps frames.1)
 
 only_count : (ports : ℕ) → 1 ≤ ports → ports ≤ 48 → All (λ count. (1 ≤ count) × (count ≤ 48)) (ports ∷ [])
 only_count ports some few zero d lt = (some, few)
@@ -44,8 +47,8 @@ IsSetup-one ports some few =
       rules = tt;
     }
 
-pub playable : (setup : Setup) (ports : ℕ) (steps : List Turn) → setup ≡ one_switch ports → (1 ≤ ports) × (ports ≤ 48) → AreByOne steps →
+pub playable : (setup : Setup) (ports : ℕ) (steps : List Turn) → setup ≡ one_switch ports → (1 ≤ ports) × (ports ≤ 48) → IsScript steps →
     IsPlayable (record { setup = setup; steps = steps })
-playable setup ports steps is within by =
+playable setup ports steps is within script =
     subst (λ u. IsPlayable (record { setup = u; steps = steps })) (sym is)
-    (record { setup = IsSetup-one ports within.0 within.1; actors = by_actors (one_switch ports) steps (omega arith) by; calm = all_calm steps by; one = refl })
+    (record { setup = IsSetup-one ports within.0 within.1; actors = by_actors (one_switch ports) steps (omega arith) script.0; calm = all_calm steps script.0; one = refl; only = refl; script = script })

@@ -1,6 +1,6 @@
 -- Which scenario bytes say. The form that is read today has one controller, one switch and at most
 -- one step, a frame at a port of the switch.
-use Rattle.std.specs.Prelude.{◌≡◌, ℕ, suc, ◌+◌, ◌-◌, ◌*◌, Bool, false, ◌==◌, nat_le, ◌&&◌, List, [], ◌∷◌, length, Option, Some, None, Result, Ok, Err, option_and_then, option_map, unwrap_or, codes, if◌then◌else◌}
+use Rattle.std.specs.Prelude.{◌≡◌, ◌≤◌, ℕ, suc, ◌+◌, ◌-◌, ◌*◌, Bool, false, ◌==◌, nat_le, ◌&&◌, List, [], ◌∷◌, length, Option, Some, None, Result, Ok, Err, option_and_then, option_map, unwrap_or, codes, if◌then◌else◌}
 use Rattle.std.specs.List.{AllByRecursion}
 use Rattle.std.specs.Str.{is_utf8, bytes_eq}
 use Rattle.serde_json.specs.Data.{Data, Items, Members, no_items, item, no_members, member}
@@ -141,14 +141,21 @@ IsRefusal OutOfMemory said = Unit {0}
 abbrev pub one_switch : ℕ → Setup
 one_switch ports = record { controllers = 1; ports = ports ∷ []; links = []; deny = [] }
 
--- all steps are taken by the only switch
-abbrev pub AreByOne : List Turn → Type 0
-AreByOne steps = AllByRecursion (λ t. turn_actor t ≡ actor.Switch 0) steps
+-- a frame at the only switch
+abbrev pub IsFrame : Turn → Type 0
+IsFrame (turn.Local (actor.Switch s) (local.Frame port bytes)) = s ≡ 0
+IsFrame _ = ⊥
 
--- a scenario that can be played: its setup is one, its steps are those of its actors, and each
--- controller stays up and in its view
+-- at most one step, which is a frame
+abbrev pub IsScript : List Turn → Type 0
+IsScript steps = AllByRecursion IsFrame steps × (length steps ≤ 1)
+
+-- a scenario that can be played: its setup is one, of one controller and one switch, its steps are those of its actors,
+-- and each controller stays up and in its view
 pub record IsPlayable (scenario : Scenario) : Type 0 where
   pub setup : IsSetup scenario.setup
   pub actors : AllByRecursion (λ t. IsActor scenario.setup (turn_actor t)) scenario.steps
   pub calm : AllByRecursion IsCalm scenario.steps
   pub one : scenario.setup.controllers ≡ 1
+  pub only : length scenario.setup.ports ≡ 1
+  pub script : IsScript scenario.steps

@@ -2,7 +2,7 @@
 ghost use Rattle.std.specs.Prelude.{◌≡◌, ◌≤◌, [], ◌∷◌, Ok, IfOk, IfErr, IfSome, option_map};
 ghost use Rattle.serde_json.specs.Read.{read};
 ghost use Rattle.serde_json.specs.View.{view, members_view};
-ghost use Rattle.scenario.specs.Scenario.{hex_digit, hex_byte, from_hex, number_at, text_at, count_members, has_members, frame_step, step_of, steps_of, ports_of, scenario_from, text_of, scenario_of, one_switch, AreByOne, IsPlayable, IsRefusal};
+ghost use Rattle.scenario.specs.Scenario.{hex_digit, hex_byte, from_hex, number_at, text_at, count_members, has_members, frame_step, step_of, steps_of, ports_of, scenario_from, text_of, scenario_of, one_switch, IsFrame, IsScript, IsPlayable, IsRefusal};
 ghost use Rattle.rv_base.specs.Turns.{turn_actor};
 ghost use Rattle.rv_base.specs.declared.journal.Actor.TheVariants as actor;
 
@@ -93,7 +93,7 @@ fn from_hex(alloc: Global, text: &str) -> Result<Option<Octets>, AllocError>
 /// A frame at a port of the only switch.
 fn frame_step(alloc: Global, ports: u32, step: &Value) -> Result<Option<Turn>, AllocError>
     ensures exact { IfOk result (λ found. found ≡ frame_step ports (view step.now)) }
-    ensures by { IfOk result (λ found. IfSome found (λ t. turn_actor t ≡ actor.Switch 0)) }
+    ensures form { IfOk result (λ found. IfSome found (λ t. IsFrame t)) }
 {
     let (Some(switch), Some(port), Some(text)) = (
         number_at("switch", step),
@@ -126,7 +126,7 @@ fn frame_step(alloc: Global, ports: u32, step: &Value) -> Result<Option<Turn>, A
 /// Every step is a frame.
 fn step_of(alloc: Global, ports: u32, step: &Value) -> Result<Option<Turn>, AllocError>
     ensures exact { IfOk result (λ found. found ≡ step_of ports (view step.now)) }
-    ensures by { IfOk result (λ found. IfSome found (λ t. turn_actor t ≡ actor.Switch 0)) }
+    ensures form { IfOk result (λ found. IfSome found (λ t. IsFrame t)) }
 {
     match text_at("do", step) {
         Some("frame") => frame_step(alloc, ports, step),
@@ -138,7 +138,7 @@ fn step_of(alloc: Global, ports: u32, step: &Value) -> Result<Option<Turn>, Allo
 #[tactic(auto, using(crate::proofs::Members::steps_in_two))]
 fn steps_of(alloc: Global, ports: u32, steps: &Value) -> Result<Option<Steps>, AllocError>
     ensures exact { IfOk result (λ found. found ≡ steps_of ports (view steps.now)) }
-    ensures by { IfOk result (λ found. IfSome found (λ list. AreByOne list)) }
+    ensures form { IfOk result (λ found. IfSome found (λ list. IsScript list)) }
 {
     let Some(list) = steps.as_array() else {
         return Ok(None);
@@ -152,7 +152,7 @@ fn steps_of(alloc: Global, ports: u32, steps: &Value) -> Result<Option<Steps>, A
 
 fn one_step(alloc: Global, ports: u32, step: &Value) -> Result<Option<Steps>, AllocError>
     ensures exact { IfOk result (λ found. found ≡ option_map (λ t. t ∷ []) (step_of ports (view step.now))) }
-    ensures by { IfOk result (λ found. IfSome found (λ list. AreByOne list)) }
+    ensures form { IfOk result (λ found. IfSome found (λ list. IsScript list)) }
 {
     let Some(turn) = step_of(alloc, ports, step)? else {
         return Ok(None);

@@ -1,7 +1,8 @@
 -- A turn of a switch is a chain of moves. What each move keeps, each turn keeps.
-use Rattle.std.proofs.Common.{◌≡◌, inl, inr, ◌<◌, ℕ, Bool, true, false, ◌&&◌, List, [], ◌∷◌, ◌++◌, length, refl, sym, ◌∙◌, ap, subst, arith, length-append}
+use Rattle.std.proofs.Common.{◌≡◌, inl, inr, ◌≤◌, ◌<◌, ℕ, Bool, true, false, ◌&&◌, List, [], ◌∷◌, ◌++◌, length, drop, refl, sym, ◌∙◌, ap, subst, arith, length-append}
 use Rattle.std.specs.Prelude.{nat_eq, nat_lt, Option, Some, None, if◌then◌else◌}
 use Rattle.std.proofs.lemmas.Bool.{and_parts, cond_both, ltb-true, eqb-true}
+use Rattle.std.proofs.lemmas.List.{length-drop}
 use Rattle.of_types.specs.declared.message.Event.{Event}
 use Rattle.of_types.specs.declared.message.Executed.{Executed}
 use Rattle.of_types.specs.declared.message.Extension.{Extension}
@@ -55,12 +56,12 @@ pub data Move (x : SwitchInput) (t t' : SwitchTurn) : Type 0 where
   Raises : (reason cookie port : ℕ) (frame : List ℕ) → x ≡ switch_input.Local (local.Frame port frame) → is_frame frame ≡ true →
       t' ≡ record t { state = record t.state { events = t.state.events ++ next_event t.state (happening.PacketIn (record { reason = reason; cookie = cookie; in_port = port; payload = frame })) ∷ [] } } → Move x t t'
   Says : (ls : List (Letter SwitchSays)) → ((l : Letter SwitchSays) → Among l ls → IsSaid x t.state l) → t' ≡ record t { letters = t.letters ++ ls } → Move x t t'
-  Notes : (outcomes : List Outcome) (rows : List Row) (sent : ℕ) → t' ≡ record t { state = record t.state { outcomes = outcomes; rows = rows; sent = sent } } → Move x t t'
+  Notes : (outcomes : List Outcome) (rows : List Row) (sent : ℕ) → length outcomes ≤ length t.state.outcomes → t' ≡ record t { state = record t.state { outcomes = outcomes; rows = rows; sent = sent } } → Move x t t'
   Clears : (c xid life through : ℕ) → x ≡ switch_input.Of c xid (spoken.Ravana (extension.EventAck life through)) → nat_eq life t.state.life ≡ true →
       t' ≡ record t { state = record t.state { cleared = cleared_to t.state through } } → Move x t t'
-  Executes : (c xid life generation number settled : ℕ) (what : Order) → x ≡ switch_input.Of c xid (spoken.Ravana (extension.Command life generation number settled what)) →
+  Executes : (c xid life generation number settled : ℕ) (what : Order) (result : Outcome) → x ≡ switch_input.Of c xid (spoken.Ravana (extension.Command life generation number settled what)) →
       nat_eq life t.state.life ≡ true → may_execute t.state.fence c generation ≡ true → nat_eq number (length t.state.executed) ≡ true →
-      t' ≡ record t { state = record t.state { executed = t.state.executed ++ record { life = t.state.life; number = number; generation = generation; from = c; order = what } ∷ [] } } → Move x t t'
+      t' ≡ record t { state = record t.state { executed = t.state.executed ++ record { life = t.state.life; number = number; generation = generation; from = c; order = what } ∷ []; outcomes = t.state.outcomes ++ result ∷ [] } } → Move x t t'
   Masters : (c xid role generation : ℕ) → x ≡ switch_input.Of c xid (spoken.Plain (plain.RoleRequest role generation)) → nat_eq role MASTER ≡ true →
       is_stale t.state.fence.generation generation ≡ false → t' ≡ record t { state = fenced t.state (as_master t.state.fence c generation) } → Move x t t'
   Fences : (c xid role generation : ℕ) (fence : Fence) → x ≡ switch_input.Of c xid (spoken.Plain (plain.RoleRequest role generation)) → nat_eq role MASTER ≡ false →
@@ -92,8 +93,8 @@ module _ (x : SwitchInput) (P : SwitchTurn → Type 0) (step : (t t' : SwitchTur
   silent : (t : SwitchTurn) → P t → P (record t { letters = t.letters ++ [] })
   silent t h = said t [] (λ l m. absurd m) h
 
-  noted : (t : SwitchTurn) (outcomes : List Outcome) (rows : List Row) (sent : ℕ) → P t → P (record t { state = record t.state { outcomes = outcomes; rows = rows; sent = sent } })
-  noted t outcomes rows sent h = step t _ (Notes outcomes rows sent refl) h
+  noted : (t : SwitchTurn) (outcomes : List Outcome) (rows : List Row) (sent : ℕ) → length outcomes ≤ length t.state.outcomes → P t → P (record t { state = record t.state { outcomes = outcomes; rows = rows; sent = sent } })
+  noted t outcomes rows sent few h = step t _ (Notes outcomes rows sent few refl) h
 
   -- a frame comes in
   module _ (port : ℕ) (frame : List ℕ) (is : x ≡ switch_input.Local (local.Frame port frame)) (fits : is_frame frame ≡ true) where
@@ -117,7 +118,7 @@ module _ (x : SwitchInput) (P : SwitchTurn → Type 0) (step : (t t' : SwitchTur
     output_keeps row output t h =
         either (λ (y : SwitchTurn). P (then_turn t y)) (nat_eq output TO_CONTROLLER) _ _
         (λ _. packet_keeps row t h)
-        (λ _. silent _ (noted t t.state.outcomes t.state.rows _ h))
+        (λ _. silent _ (noted t t.state.outcomes t.state.rows _ (omega arith) h))
 
     outputs_keep : (row : Row) (outputs : List ℕ) (t : SwitchTurn) → P t → P (puts_all row port frame outputs t)
     outputs_keep row [] t h = h
@@ -187,13 +188,12 @@ module _ (x : SwitchInput) (P : SwitchTurn → Type 0) (step : (t t' : SwitchTur
     plain_keeps c xid (plain.RoleReply role generation) is = refuses_keeps c xid 1 1
 
     -- results are dropped at the front
-    module _ (outcomes : List Outcome) where
-      dropped : P (quiet (record s { outcomes = outcomes }))
-      dropped = noted (quiet s) outcomes s.rows s.sent h
+    dropped : (count : ℕ) → P (quiet (record s { outcomes = drop count s.outcomes }))
+    dropped count = noted (quiet s) (drop count s.outcomes) s.rows s.sent (omega (arith, length-drop count s.outcomes)) h
 
     done_keeps : (s' : SwitchState) (what : Order) (result : Outcome) → P (quiet s') → P (quiet (done_as s' what result))
-    done_keeps s' (order.PacketOut out) outcome.Done k = noted (quiet s') s'.outcomes s'.rows _ k
-    done_keeps s' (order.FlowMod change) outcome.Done k = noted (quiet s') s'.outcomes _ s'.sent k
+    done_keeps s' (order.PacketOut out) outcome.Done k = noted (quiet s') s'.outcomes s'.rows _ (omega arith) k
+    done_keeps s' (order.FlowMod change) outcome.Done k = noted (quiet s') s'.outcomes _ s'.sent (omega arith) k
     done_keeps s' what (outcome.Failed kind code) k = k
     done_keeps s' what outcome.Cleared k = k
 
@@ -226,11 +226,10 @@ module _ (x : SwitchInput) (P : SwitchTurn → Type 0) (step : (t t' : SwitchTur
           let count : number ≡ length s'.executed = eqb-true number (length s'.executed) next in
           let one_more : number < length (executes s' c generation number what).executed = omega (arith, count, ap length (done_executed s' what r), length-append d.executed (record { life = d.life; number = number; generation = generation; from = c; order = what } ∷ [])) in
           one_said (quiet (executes s' c generation number what)) _ (Results c number r one_more (ap (λ (n : ℕ). to_controller c 0 (spoken.Ravana (extension.CmdAck n number r))) (sym (done_life s' what r))))
-          (noted (quiet (record d { executed = d.executed ++ record { life = d.life; number = number; generation = generation; from = c; order = what } ∷ [] })) (d.outcomes ++ r ∷ []) d.rows d.sent
-          (step (quiet d) _ (Executes c xid life generation number settled what is (ap (λ (n : ℕ). nat_eq life n) (done_life s' what r ∙ lives) ∙ own)
+          (step (quiet d) _ (Executes c xid life generation number settled what r is (ap (λ (n : ℕ). nat_eq life n) (done_life s' what r ∙ lives) ∙ own)
           (ap (λ (f : Fence). may_execute f c generation) (done_fence s' what r ∙ fences) ∙ may)
           (ap (λ (xs : List Executed). nat_eq number (length xs)) (done_executed s' what r) ∙ next) refl)
-          (done_keeps s' what r k)))
+          (done_keeps s' what r k))
 
       offer_keeps : (s' : SwitchState) → s'.life ≡ s.life → s'.fence ≡ s.fence → P (quiet s') → P (on_offer s' c generation number what (offer_of s' number))
       offer_keeps s' lives fences k =

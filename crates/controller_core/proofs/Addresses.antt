@@ -1,7 +1,7 @@
 -- To whom the rules of a controller send.
-use Rattle.std.proofs.Common.{◌≡◌, ◌<◌, ℕ, zero, suc, Bool, true, false, List, [], ◌∷◌, ◌++◌, length, take, refl, sym, ◌∙◌, ap, subst, arith}
-use Rattle.std.specs.Prelude.{nat_lt, nat_eq, not, ◌&&◌, filter, map, slice_get, slice_index_or, Option, Some, None, if◌then◌else◌}
-use Rattle.std.specs.List.{AllByRecursion, list_any}
+use Rattle.std.proofs.Common.{◌≡◌, ◌<◌, ◌≤◌, ◌+◌, ℕ, zero, suc, Bool, true, false, List, [], ◌∷◌, ◌++◌, length, take, refl, arith}
+use Rattle.std.specs.Prelude.{nat_lt, nat_eq, not, ◌&&◌, slice_get, Option, Some, None, if◌then◌else◌}
+use Rattle.std.specs.List.{AllByRecursion, range_with_len}
 use Rattle.std.proofs.lemmas.Bool.{ltb-true}
 use Rattle.of_types.specs.declared.message.Command.{Command}
 use Rattle.of_types.specs.declared.message.Event.{Event}
@@ -13,25 +13,24 @@ use Rattle.of_types.specs.declared.message.OfMessage.{OfMessage}
 use Rattle.of_types.specs.declared.message.OfMessage.TheVariants as plain
 use Rattle.of_types.specs.declared.message.Spoken.TheVariants as spoken
 use Rattle.of_types.specs.declared.numbers.TheConstants.{MASTER}
+use Rattle.of_types.specs.declared.setup.Rule.{Rule}
 use Rattle.of_types.specs.declared.setup.Setup.{Setup}
-use Rattle.rv_base.specs.declared.journal.Actor.TheVariants.{Switch}
-use Rattle.rv_base.specs.declared.journal.Letter.{Letter}
 use Rattle.rv_base.specs.declared.journal.Local.TheVariants as local
 use Rattle.rv_base.specs.Actors.{IsActor, AreAddressed}
-use Rattle.rv_base.proofs.All.{all_append, all_map, all_weaker, all_filter, all_take, all_get, all_index_or}
-use Rattle.controller_core.specs.declared.learning.Host.{Host}
+use Rattle.rv_base.proofs.All.{all_append, all_map, all_weaker, all_filter, all_get, all_index_or}
+use Rattle.app_core.specs.declared.host.Host.{Host}
 use Rattle.controller_core.specs.declared.says.ControllerInput.{ControllerInput}
 use Rattle.controller_core.specs.declared.says.ControllerInput.TheVariants as controller_input
-use Rattle.controller_core.specs.declared.says.ControllerSays.{ControllerSays}
 use Rattle.controller_core.specs.declared.says.Entry.{Entry}
 use Rattle.controller_core.specs.declared.says.Entry.TheVariants.{Received, Processed}
 use Rattle.controller_core.specs.declared.says.Numbered.{Numbered}
-use Rattle.controller_core.specs.Chain.{PartStep, ChainStep, passes_on, learning_step, part_next, chain_next, reactions_from, reactions, starting_chain, concat, learning, hosts_of}
-use Rattle.controller_core.specs.Learning.{hosts_after, learning_commands, forwarded}
+use Rattle.app_core.specs.Chain.{PartStep, ChainStep, passes_on, firewall_step, learning_step, part_next, chain_next, reactions_from, reactions, starting_chain, concat, firewall, learning, hosts_of}
+use Rattle.app_core.specs.Firewall.{first_hit, is_installed, dropping_row, dropping_rows, firewall_commands}
+use Rattle.app_core.specs.Learning.{hosts_after, learning_commands, forwarded}
 use Rattle.controller_core.specs.Log.{received, processed, is_past_limits, count_from}
 use Rattle.controller_core.specs.Marks.{with_numbers, commands_of, outstanding, unacknowledged, is_pending, is_finished, has_unprocessed}
-use Rattle.controller_core.specs.State.{ControllerState, Work, committed, appended, met_limit, resting, posting, leaving, is_up, with_no_met_limit, to_switch}
-use Rattle.controller_core.specs.Rules.{numbers_below, is_some_of, role_letters, command_letters, ack_letter, clear_letters, answers_for, answers_to_processed, finishing, with_commands_sent, with_processed, after_finishing, after_settling, proposing, started_view, acknowledged, confirmed_by, commands_for, unconfirmed, processed_from, on_event, on_suspect, on_tick, on_plain, on_extension, on_input, controller_work}
+use Rattle.controller_core.specs.State.{ControllerState, Work, committed, appended, met_limit, resting, posting, leaving, is_up, with_no_met_limit}
+use Rattle.controller_core.specs.Rules.{numbers_below, is_some_of, role_letters, command_letters, ack_letter, clear_letters, answers_for, finishing, with_commands_sent, with_processed, after_finishing, after_settling, proposing, started_view, acknowledged, confirmed_by, commands_for, unconfirmed, processed_from, on_event, on_suspect, on_tick, on_plain, on_extension, on_input, controller_work}
 
 -- commands for switches of a setup
 abbrev AreFor : Setup → List Command → Type 0
@@ -45,6 +44,10 @@ pub numbers_are_below : (n : ℕ) → AllByRecursion (λ k. k < n) (numbers_belo
 numbers_are_below zero = tt
 numbers_are_below (suc n) =
     all_append (λ k. k < suc n) (numbers_below n) (n ∷ []) (all_weaker (λ k. k < n) (λ k. k < suc n) (λ k less. omega (arith, less)) (numbers_below n) (numbers_are_below n)) (omega arith, tt)
+
+range_is_below : (a n bound : ℕ) → a + n ≤ bound → AllByRecursion (λ k. k < bound) (range_with_len a n)
+range_is_below a zero bound h = tt
+range_is_below a (suc n) bound h = (omega arith, range_is_below (a + 1) n bound (omega arith))
 
 module _ (setup : Setup) where
   commands_either : (b : Bool) (xs ys : List Command) → AreFor setup xs → AreFor setup ys → AreFor setup (if b then xs else ys)
@@ -64,18 +67,31 @@ module _ (setup : Setup) where
   learning_for hosts switch (happening.PacketIn p) there = forwarded_for switch p.in_port p.payload _ there
   learning_for hosts switch (happening.PortStatus p) there = commands_either p.up [] _ tt (there, tt)
 
+  -- a firewall asks each switch that there is
+  rows_for : (rule : Option Rule) → AreFor setup (dropping_rows (length setup.ports) rule)
+  rows_for None = tt
+  rows_for (Some rule) = all_map (dropping_row rule) (λ s. s < length setup.ports) _ (λ s there. there) _ (range_is_below 0 (length setup.ports) (length setup.ports) (omega arith))
+
+  firewall_for : (installed : List ℕ) (hit : Option ℕ) → AreFor setup (firewall_commands setup installed hit)
+  firewall_for installed None = tt
+  firewall_for installed (Some place) = commands_either (is_installed installed place) [] _ tt (rows_for (slice_get setup.deny place))
+
   not_false : (b : Bool) → not b ≡ false → b ≡ true
   not_false true is = refl
   not_false false is = cc
 
   -- a part acts on events of switches that there are
   part_for : (kind : ℕ) (state : List ℕ) (event : Event) → AreFor setup (part_next kind setup state event).commands
+  unfolding part_next
   part_for kind state event =
       step_either (not (nat_lt event.switch (length setup.ports))) (passes_on state) _ (λ _. tt)
       (λ is.
       let there = ltb-true event.switch (length setup.ports) (not_false _ is) in
+      step_either (nat_eq kind firewall) (firewall_step setup state event) _
+      (λ _. firewall_for state (first_hit setup.deny event.what))
+      (λ _.
       step_either (nat_eq kind learning) (learning_step (hosts_of state) event) (passes_on state)
-      (λ _. learning_for (hosts_after (hosts_of state) event.switch event.what) event.switch event.what there) (λ _. tt))
+      (λ _. learning_for (hosts_after (hosts_of state) event.switch event.what) event.switch event.what there) (λ _. tt)))
 
   abbrev stop_or_go : Bool → PartStep → ChainStep → List (List ℕ) → ChainStep
   stop_or_go b step others states =

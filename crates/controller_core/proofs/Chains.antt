@@ -4,17 +4,15 @@ use Rattle.std.specs.Prelude.{nat_lt}
 use Rattle.of_types.specs.declared.message.Command.{Command}
 use Rattle.of_types.specs.declared.message.Event.{Event}
 use Rattle.of_types.specs.declared.setup.Setup.{Setup}
-use Rattle.controller_core.specs.declared.learning.Host.{Host}
-use Rattle.controller_core.specs.Chain.{flat, hosts_of, chain_next, reactions_from, learning_alone}
-use Rattle.controller_core.specs.Learning.{hosts_next, commands_next}
-
-pub hosts_of-flat : (hosts : List Host) → hosts_of (flat hosts) ≡ hosts
-hosts_of-flat [] = refl
-hosts_of-flat (h ∷ hosts) = ap (λ l. h ∷ l) (hosts_of-flat hosts)
+use Rattle.app_core.specs.declared.host.Host.{Host}
+use Rattle.app_core.specs.Chain.{flat, part_next, chain_next, reactions_from, learning_alone}
+use Rattle.app_core.specs.Learning.{hosts_next, commands_next}
+use Rattle.app_core.proofs.Hosts.{hosts_of-flat}
 
 module _ (setup : Setup) (hosts : List Host) (e : Event) where
   states_choice : (b : Bool) → nat_lt e.switch (length setup.ports) ≡ b →
       (chain_next learning_alone setup (flat hosts ∷ []) e).states ≡ flat (hosts_next setup hosts e) ∷ []
+  unfolding part_next
   states_choice true h = rw (h, hosts_of-flat hosts) refl
   states_choice false h = rw h refl
 
@@ -23,6 +21,7 @@ module _ (setup : Setup) (hosts : List Host) (e : Event) where
 
   commands_choice : (b : Bool) → nat_lt e.switch (length setup.ports) ≡ b →
       (chain_next learning_alone setup (flat hosts ∷ []) e).commands ≡ commands_next setup hosts e
+  unfolding part_next
   commands_choice true h = rw (h, hosts_of-flat hosts) (append-nil _)
   commands_choice false h = rw h refl
 

@@ -1,5 +1,5 @@
 -- What the rules of a controller leave of its number, of its view, and of whether it takes part.
-use Rattle.std.proofs.Common.{◌≡◌, ℕ, Bool, true, false, List, [], ◌∷◌, length, zero, suc, refl, sym, ◌∙◌, ap, subst}
+use Rattle.std.proofs.Common.{◌≡◌, ℕ, Bool, true, false, List, [], ◌∷◌, length, zero, suc, refl, ◌∙◌, ap}
 use Rattle.std.specs.Prelude.{nat_lt, if◌then◌else◌}
 use Rattle.of_types.specs.declared.message.Extension.{Extension}
 use Rattle.of_types.specs.declared.message.Extension.TheVariants as extension
@@ -7,7 +7,6 @@ use Rattle.of_types.specs.declared.message.OfMessage.{OfMessage}
 use Rattle.of_types.specs.declared.message.OfMessage.TheVariants as plain
 use Rattle.of_types.specs.declared.message.Spoken.TheVariants as spoken
 use Rattle.of_types.specs.declared.setup.Setup.{Setup}
-use Rattle.rv_base.specs.declared.journal.Local.{Local}
 use Rattle.rv_base.specs.declared.journal.Local.TheVariants as local
 use Rattle.controller_core.specs.declared.says.ControllerInput.{ControllerInput}
 use Rattle.controller_core.specs.declared.says.ControllerInput.TheVariants as controller_input
@@ -15,7 +14,7 @@ use Rattle.controller_core.specs.declared.says.Entry.{Entry}
 use Rattle.controller_core.specs.declared.says.Entry.TheVariants.{Received}
 use Rattle.controller_core.specs.Log.{processed}
 use Rattle.controller_core.specs.State.{ControllerState, Work, committed, appended, resting, posting, is_up, with_no_met_limit}
-use Rattle.controller_core.specs.Rules.{finishing, with_commands_sent, with_processed, after_finishing, after_settling, proposing, started_view, acknowledged, ack_letter, processed_from, role_letters, numbers_below, on_event, on_result, on_suspect, on_role_reply, on_plain, on_extension, on_local, on_input, controller_work}
+use Rattle.controller_core.specs.Rules.{finishing, with_commands_sent, with_processed, after_settling, proposing, started_view, acknowledged, ack_letter, processed_from, role_letters, numbers_below, on_suspect, on_plain, on_extension, on_input, controller_work}
 
 -- a rule left number, status, view and promise alone
 pub record Keeps (c : ControllerState) (work : Work) : Type 0 where

@@ -1,5 +1,3 @@
-pub mod Learning
-pub mod Chain
 pub mod Log
 pub mod State
 pub mod Marks

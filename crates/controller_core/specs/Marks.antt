@@ -7,7 +7,7 @@ use Rattle.of_types.specs.declared.message.Event.{Event}
 use Rattle.of_types.specs.declared.setup.Setup.{Setup}
 use Rattle.controller_core.specs.declared.says.Entry.{Entry}
 use Rattle.controller_core.specs.declared.says.Numbered.{Numbered}
-use Rattle.controller_core.specs.Chain.{concat, reactions, orders_for, issued}
+use Rattle.app_core.specs.Chain.{concat, reactions, orders_for, issued}
 use Rattle.controller_core.specs.Log.{received, processed}
 use Rattle.controller_core.specs.State.{ControllerState, committed}
 

@@ -1,7 +1,7 @@
 //! A controller.
 ghost use Rattle.std.specs.Prelude.{◌≡◌, ◌++◌, ◌<◌, ◌≤◌, ◌∷◌, [], length, filter, not, nat_eq, nat_lt, if◌then◌else◌, IfOk};
 ghost use Rattle.std.specs.List.{list_any};
-ghost use Rattle.controller_core.specs.Chain.{learning_alone};
+ghost use Rattle.app_core.specs.Chain.{learning_alone};
 ghost use Rattle.controller_core.specs.Log.{received};
 ghost use Rattle.controller_core.specs.State.{starting_controller, Worked, committed, appended, met_limit, down, is_up};
 ghost use Rattle.controller_core.specs.Marks.{is_confirmed, is_acked, unacknowledged, outstanding, has_unprocessed, is_finished, is_pending};

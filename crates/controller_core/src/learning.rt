@@ -1,22 +1,16 @@
 //! The learning application over a list of hosts, and its reactions to a list of events.
 ghost use Rattle.std.specs.Prelude.{ℕ, ◌≡◌, ◌≤◌, ◌<◌, ◌+◌, ◌++◌, [], ◌∷◌, length, take, drop, IfOk, OnOk};
 ghost use Rattle.of_types.specs.Header.{number_at};
-ghost use Rattle.controller_core.specs.Chain.{reactions, learning_alone};
-ghost use Rattle.controller_core.specs.Learning.{is_single, seen_at, seen_destination, learned, with_source, forgotten, packet_out, forwarding_row, forgetting_rows, forwarded, hosts_after, learning_commands, hosts_next, commands_next};
+ghost use Rattle.app_core.specs.Chain.{reactions, learning_alone};
+ghost use Rattle.app_core.specs.Commands.{packet_out};
+ghost use Rattle.app_core.specs.Learning.{is_single, seen_at, seen_destination, learned, with_source, forgotten, forwarding_row, forgetting_rows, forwarded, hosts_after, learning_commands, hosts_next, commands_next};
 
+use app_core::{Host, flow_mod, packet_out};
 use of_types::{
-    ANY_GROUP, ANY_PORT, Command, Commands, Event, FLOOD, FlowCommand, FlowMod, Happening, Items,
-    Masked48, Match, NO_BUFFER, Octets, Order, PacketIn, PacketOut, Setup, any_match, fields,
+    ANY_PORT, Command, Commands, Event, FLOOD, FlowCommand, Happening, Items, Masked48, Match,
+    Octets, PacketIn, Setup, any_match, fields,
 };
 use std::alloc::{AllocError, Global};
-
-/// Where an address was seen.
-#[derive(Clone, Copy, PartialEq, Eq, Debug)]
-pub struct Host {
-    pub switch: u8,
-    pub address: u64,
-    pub port: u32,
-}
 
 /// Whether an address is that of one host: its first byte is even.
 fn is_single(address: u64) -> bool
@@ -106,30 +100,6 @@ fn forget(hosts: &mut Vec<Host>, switch: u8, port: u32)
     hosts.retain(|h| !(h.switch == switch && h.port == port));
 }
 
-/// A frame to be sent to an output.
-fn packet_out(
-    alloc: Global,
-    switch: u8,
-    in_port: u32,
-    payload: &Octets,
-    output: u32,
-) -> Result<Command, AllocError>
-    ensures { IfOk result (λ command. command ≡ packet_out switch in_port payload.now output) }
-{
-    let mut actions = Items::new(alloc);
-    actions.push(output)?;
-    let payload = payload.copy()?;
-    Ok(Command {
-        switch,
-        order: Order::PacketOut(PacketOut {
-            buffer: NO_BUFFER,
-            in_port,
-            actions,
-            payload,
-        }),
-    })
-}
-
 /// The row for frames to an address that come in by a port.
 fn forwarding_row(
     alloc: Global,
@@ -150,48 +120,22 @@ fn forwarding_row(
         }),
         ..any_match()
     };
-    Ok(Command {
-        switch,
-        order: Order::FlowMod(FlowMod {
-            cookie: 2,
-            cookie_mask: 0,
-            table: 0,
-            command: FlowCommand::Add,
-            idle: 0,
-            hard: 0,
-            priority: 10,
-            buffer: NO_BUFFER,
-            out_port: ANY_PORT,
-            out_group: ANY_GROUP,
-            flags: 0,
-            matching,
-            actions,
-        }),
-    })
+    Ok(flow_mod(switch, 2, FlowCommand::Add, 10, ANY_PORT, matching, actions))
 }
 
 /// The rows that send to a port go.
 fn forgetting_rows(alloc: Global, switch: u8, port: u32) -> Command
     ensures { result ≡ forgetting_rows switch port }
 {
-    Command {
+    flow_mod(
         switch,
-        order: Order::FlowMod(FlowMod {
-            cookie: 0,
-            cookie_mask: 0,
-            table: 0,
-            command: FlowCommand::Delete,
-            idle: 0,
-            hard: 0,
-            priority: 0,
-            buffer: NO_BUFFER,
-            out_port: port,
-            out_group: ANY_GROUP,
-            flags: 0,
-            matching: any_match(),
-            actions: Items::new(alloc),
-        }),
-    }
+        0,
+        FlowCommand::Delete,
+        0,
+        port,
+        any_match(),
+        Items::new(alloc),
+    )
 }
 
 /// What is sent for a frame whose destination was seen there.
@@ -294,7 +238,7 @@ fn react(
 }
 
 /// The commands for each event, in order.
-#[tactic(auto, unfolding(crate::specs::Chain::reactions))]
+#[tactic(auto, unfolding(app_core::specs::Chain::reactions))]
 pub fn reactions_to(
     alloc: Global,
     setup: &Setup,

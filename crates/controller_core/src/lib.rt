@@ -12,6 +12,6 @@ mod says;
 mod tests;
 
 pub use controller::Controller;
-pub use learning::{Host, reactions_to};
+pub use learning::reactions_to;
 pub use log::{LOG_BYTES, LOG_ENTRIES};
 pub use says::{ControllerInput, ControllerSays, Entry, LogFull, Numbered, Status};

@@ -1,6 +1,6 @@
 //! The commands of committed events, beside their numbers.
 ghost use Rattle.std.specs.Prelude.{◌≡◌, ◌++◌, length, IfOk};
-ghost use Rattle.controller_core.specs.Chain.{concat, orders_for, issued, learning_alone};
+ghost use Rattle.app_core.specs.Chain.{concat, orders_for, issued, learning_alone};
 ghost use Rattle.controller_core.specs.Log.{received};
 ghost use Rattle.controller_core.specs.Marks.{with_numbers, commands_of, settled_commands};
 

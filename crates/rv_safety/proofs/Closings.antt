@@ -11,7 +11,7 @@ use Rattle.rv_base.specs.declared.journal.Packet.{Packet}
 use Rattle.rv_base.specs.declared.journal.SaveResult.{SaveResult}
 use Rattle.rv_base.specs.Part.{part, drawn}
 use Rattle.rv_base.specs.Pool.{pool}
-use Rattle.controller_core.specs.Chain.{issued}
+use Rattle.app_core.specs.Chain.{issued}
 use Rattle.controller_core.specs.Log.{received, processed, count_from}
 use Rattle.controller_core.specs.State.{ControllerState}
 use Rattle.switch_core.specs.declared.says.SwitchInput.{SwitchInput}

@@ -18,7 +18,7 @@ use Rattle.controller_core.specs.declared.says.ControllerSays.{ControllerSays}
 use Rattle.controller_core.specs.declared.says.Entry.{Entry}
 use Rattle.controller_core.specs.declared.says.Entry.TheVariants.{Received, Processed}
 use Rattle.controller_core.specs.declared.says.Numbered.{Numbered}
-use Rattle.controller_core.specs.Chain.{issued, concat, orders_for}
+use Rattle.app_core.specs.Chain.{issued, concat, orders_for}
 use Rattle.controller_core.specs.Log.{received, processed, count_from}
 use Rattle.controller_core.specs.Marks.{commands_of, settled_commands, is_acked, unacknowledged, has_unprocessed, is_finished}
 use Rattle.controller_core.specs.State.{ControllerState, Work, committed, appended, is_up, leaving}

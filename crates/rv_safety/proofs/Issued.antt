@@ -10,7 +10,7 @@ use Rattle.of_types.specs.declared.message.Order.{Order}
 use Rattle.of_types.specs.declared.setup.Setup.{Setup}
 use Rattle.rv_base.proofs.Among.{Among}
 use Rattle.controller_core.specs.declared.says.Numbered.{Numbered}
-use Rattle.controller_core.specs.Chain.{concat, chain_next, chain_after, starting_chain, reactions_from, reactions, single, orders_for, issued}
+use Rattle.app_core.specs.Chain.{concat, chain_next, chain_after, starting_chain, reactions_from, reactions, single, orders_for, issued}
 use Rattle.controller_core.specs.Marks.{with_numbers, commands_of}
 use Rattle.rv_world.specs.Laws.{IsPrefix}
 use Rattle.rv_safety.proofs.Lists.{get_prefix, front_prefix}

@@ -18,7 +18,7 @@ use Rattle.switch_core.specs.State.{SwitchState}
 use Rattle.controller_core.specs.declared.says.ControllerSays.{ControllerSays}
 use Rattle.controller_core.specs.declared.says.Entry.{Entry}
 use Rattle.controller_core.specs.declared.says.Entry.TheVariants.{Received, Processed}
-use Rattle.controller_core.specs.Chain.{issued}
+use Rattle.app_core.specs.Chain.{issued}
 use Rattle.controller_core.specs.Log.{received, processed, count_from}
 use Rattle.controller_core.specs.State.{ControllerState, committed}
 use Rattle.rv_world.specs.declared.says.Message.TheVariants as message

@@ -10,7 +10,7 @@ use Rattle.rv_base.specs.Part.{part}
 use Rattle.rv_base.proofs.Among.{among_take}
 use Rattle.controller_core.specs.declared.says.Entry.{Entry}
 use Rattle.controller_core.specs.declared.says.Entry.TheVariants.{Processed}
-use Rattle.controller_core.specs.Chain.{issued}
+use Rattle.app_core.specs.Chain.{issued}
 use Rattle.controller_core.specs.Log.{received, processed}
 use Rattle.controller_core.specs.State.{committed}
 use Rattle.rv_world.specs.States.{Scene, switch_at}

@@ -1,7 +1,7 @@
 -- Each order that is issued for events with good frames can be spelled.
 use Rattle.std.proofs.Common.{◌≡◌, ◌≤◌, ◌<◌, ℕ, ◌+◌, ◌*◌, ◌^◌, Bool, true, false, not, List, [], ◌∷◌, ◌++◌, length, get_or, zero, suc, refl, sym, ◌∙◌, subst, inl, inr, arith, pow-suc, mul-le-mul_right, mod-eq_of_lt}
 use Rattle.std.specs.Prelude.{slice_get, nat_eq, nat_le, nat_lt, Option, Some, None, unwrap_or, if◌then◌else◌}
-use Rattle.std.specs.List.{AllByRecursion}
+use Rattle.std.specs.List.{AllByRecursion, range_with_len}
 use Rattle.std.proofs.lemmas.Bool.{and_parts, cond_both, leb-true}
 use Rattle.std.proofs.lemmas.Nat.{and_mask}
 use Rattle.byteorder.specs.Endian.{big_from}
@@ -13,14 +13,18 @@ use Rattle.of_types.specs.declared.message.Happening.TheVariants as happening
 use Rattle.of_types.specs.declared.message.Order.{Order}
 use Rattle.of_types.specs.declared.message.Spoken.TheVariants as spoken
 use Rattle.of_types.specs.declared.numbers.TheConstants.{FLOOD}
+use Rattle.of_types.specs.declared.setup.Rule.{Rule}
 use Rattle.of_types.specs.declared.setup.Setup.{Setup}
 use Rattle.of_types.specs.Header.{number_at}
 use Rattle.of_types.specs.Sizes.{order_size}
 use Rattle.of_types.specs.Valid.{IsValidOrder, IsValid}
-use Rattle.rv_base.proofs.Among.{Among, among_append}
-use Rattle.controller_core.specs.declared.learning.Host.{Host}
-use Rattle.controller_core.specs.Chain.{concat, PartStep, ChainStep, hosts_of, passes_on, learning_step, learning, part_next, chain_next, starting_chain, reactions_from, reactions, single, orders_for, issued}
-use Rattle.controller_core.specs.Learning.{forwarding_row, forgetting_rows, packet_out, forwarded, seen_destination, hosts_after, learning_commands}
+use Rattle.rv_base.proofs.Among.{Among, among_append, among_map}
+use Rattle.app_core.specs.declared.host.Host.{Host}
+use Rattle.app_core.specs.Chain.{concat, PartStep, ChainStep, hosts_of, passes_on, firewall_step, learning_step, firewall, learning, part_next, chain_next, starting_chain, reactions_from, reactions, single, orders_for, issued}
+use Rattle.app_core.specs.Commands.{packet_out}
+use Rattle.app_core.specs.Firewall.{first_hit, is_installed, dropping_row, dropping_rows, firewall_commands}
+use Rattle.app_core.proofs.Denials.{denied_valid, denied_small}
+use Rattle.app_core.specs.Learning.{forwarding_row, forgetting_rows, forwarded, seen_destination, hosts_after, learning_commands}
 use Rattle.switch_core.specs.Rules.{is_frame}
 use Rattle.rv_safety.specs.Truths.{IsGoodFrame, IsGoodHappening}
 use Rattle.rv_safety.proofs.Lists.{get_among}
@@ -108,12 +112,31 @@ commands_sendable hosts switch (happening.PortStatus p) good c h =
     cond_both p.up [] (forgetting_rows switch p.port ∷ []) (λ (l : List Command). Among c l → IsSendable c.order) (λ _ k. absurd k)
     (λ _ k. elim k [ inl e ↦ subst (λ (x : Command). IsSendable x.order) (sym e) (delete_sendable switch p.port) | inr m ↦ absurd m ]) h
 
+rows_sendable : (switches : ℕ) (rule : Option Rule) (c : Command) → Among c (dropping_rows switches rule) → IsSendable c.order
+rows_sendable switches None c h = absurd h
+rows_sendable switches (Some rule) c h =
+    let made = among_map (dropping_row rule) (range_with_len 0 switches) c h in
+    subst (λ (x : Command). IsSendable x.order) (sym made.2) (denied_valid rule, omega (arith, denied_small rule))
+
+firewall_sendable : (setup : Setup) (installed : List ℕ) (hit : Option ℕ) (c : Command) → Among c (firewall_commands setup installed hit) → IsSendable c.order
+firewall_sendable setup installed None c h = absurd h
+firewall_sendable setup installed (Some place) c h =
+    cond_both (is_installed installed place) [] (dropping_rows (length setup.ports) (slice_get setup.deny place)) (λ (l : List Command). Among c l → IsSendable c.order)
+    (λ _ k. absurd k) (λ _ k. rows_sendable (length setup.ports) (slice_get setup.deny place) c k) h
+
+learns_sendable : (kind : ℕ) (state : List ℕ) (e : Event) → IsGoodHappening e.what → (c : Command) → Among c (if nat_eq kind learning then learning_step (hosts_of state) e else passes_on state).commands → IsSendable c.order
+learns_sendable kind state e good c h =
+    cond_both (nat_eq kind learning) (learning_step (hosts_of state) e) (passes_on state) (λ (s : PartStep). Among c s.commands → IsSendable c.order)
+    (λ _ m. commands_sendable (hosts_after (hosts_of state) e.switch e.what) e.switch e.what good c m) (λ _ m. absurd m) h
+
 part_sendable : (kind : ℕ) (setup : Setup) (state : List ℕ) (e : Event) → IsGoodHappening e.what → (c : Command) → Among c (part_next kind setup state e).commands → IsSendable c.order
+unfolding part_next
 part_sendable kind setup state e good c h =
-    cond_both (not (nat_lt e.switch (length setup.ports))) (passes_on state) (if nat_eq kind learning then learning_step (hosts_of state) e else passes_on state)
+    let others : PartStep = if nat_eq kind learning then learning_step (hosts_of state) e else passes_on state in
+    cond_both (not (nat_lt e.switch (length setup.ports))) (passes_on state) (if nat_eq kind firewall then firewall_step setup state e else others)
     (λ (s : PartStep). Among c s.commands → IsSendable c.order) (λ _ k. absurd k)
-    (λ _ k. cond_both (nat_eq kind learning) (learning_step (hosts_of state) e) (passes_on state) (λ (s : PartStep). Among c s.commands → IsSendable c.order)
-    (λ _ m. commands_sendable (hosts_after (hosts_of state) e.switch e.what) e.switch e.what good c m) (λ _ m. absurd m) k)
+    (λ _ k. cond_both (nat_eq kind firewall) (firewall_step setup state e) others (λ (s : PartStep). Among c s.commands → IsSendable c.order)
+    (λ _ m. firewall_sendable setup state (first_hit setup.deny e.what) c m) (λ _ m. learns_sendable kind state e good c m) k)
     h
 
 chain_sendable : (kinds : List ℕ) (setup : Setup) (states : List (List ℕ)) (e : Event) → IsGoodHappening e.what → (c : Command) → Among c (chain_next kinds setup states e).commands → IsSendable c.order

@@ -16,7 +16,7 @@ use Rattle.of_types.specs.declared.setup.Setup.{Setup}
 use Rattle.of_types.specs.Valid.{IsValid}
 use Rattle.controller_core.specs.declared.says.Entry.{Entry}
 use Rattle.controller_core.specs.declared.says.Entry.TheVariants.{Received, Processed}
-use Rattle.controller_core.specs.Chain.{issued}
+use Rattle.app_core.specs.Chain.{issued}
 use Rattle.controller_core.specs.Log.{received, processed, count_from}
 use Rattle.switch_core.specs.Rules.{is_frame}
 use Rattle.rv_safety.specs.Facts.{Facts}

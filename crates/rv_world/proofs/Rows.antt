@@ -24,7 +24,7 @@ use Rattle.rv_base.specs.declared.journal.Turn.{Turn}
 use Rattle.rv_base.specs.declared.journal.Turn.TheVariants as turn
 use Rattle.rv_base.specs.Actors.{actor_of}
 use Rattle.rv_base.specs.Turns.{posted, entry_of}
-use Rattle.controller_core.specs.Chain.{reactions, learning_alone}
+use Rattle.app_core.specs.Chain.{part_next, reactions, learning_alone}
 use Rattle.controller_core.specs.Log.{received, processed, log_size}
 use Rattle.controller_core.specs.Rules.{controller_work, finishing}
 use Rattle.rv_world.specs.declared.says.Message.{Message}
@@ -129,7 +129,7 @@ abbrev nothing : List (JournalEntry Message)
 nothing = play 1 9 Losing []
 
 nothing-journal : codes_of (reverse nothing) ≡ 103 ∷ 0 ∷ 100 ∷ 0 ∷ 0 ∷ 0 ∷ 1000 ∷ 1 ∷ 2 ∷ 1 ∷ 101 ∷ 1000 ∷ 0 ∷ 0 ∷ 100 ∷ 1000 ∷ 1 ∷ 0 ∷ 0 ∷ 2 ∷ 2 ∷ 1 ∷ 101 ∷ 0 ∷ 1 ∷ 0 ∷ []
-unfolding reactions controller_work finishing decided
+unfolding part_next reactions controller_work finishing decided
 nothing-journal = refl
 
 -- a frame to an unknown host: one event, one flood, one report
@@ -137,15 +137,15 @@ abbrev one_frame : List (JournalEntry Message)
 one_frame = play 1 20 Losing (script 1 (turn.Local (actor.Switch 0) (local.Frame 1 frame_ab) ∷ []) [])
 
 one_frame-journal : codes_of (reverse one_frame) ≡ 103 ∷ 1000 ∷ 103 ∷ 0 ∷ 100 ∷ 0 ∷ 0 ∷ 0 ∷ 1000 ∷ 1 ∷ 2 ∷ 1 ∷ 101 ∷ 1000 ∷ 0 ∷ 0 ∷ 100 ∷ 1000 ∷ 1 ∷ 0 ∷ 0 ∷ 2 ∷ 2 ∷ 1 ∷ 0 ∷ 4 ∷ 0 ∷ 0 ∷ 56 ∷ 101 ∷ 0 ∷ 1 ∷ 0 ∷ 101 ∷ 0 ∷ 2 ∷ 0 ∷ 100 ∷ 0 ∷ 3 ∷ 0 ∷ 1000 ∷ 6 ∷ 1 ∷ 0 ∷ 0 ∷ 13 ∷ 54 ∷ 101 ∷ 1000 ∷ 3 ∷ 0 ∷ 100 ∷ 1000 ∷ 4 ∷ 0 ∷ 0 ∷ 7 ∷ 0 ∷ 0 ∷ 101 ∷ 0 ∷ 4 ∷ 0 ∷ 100 ∷ 0 ∷ 5 ∷ 0 ∷ 1000 ∷ 5 ∷ 1 ∷ 1000 ∷ 8 ∷ 1 ∷ 101 ∷ 1000 ∷ 5 ∷ 0 ∷ 101 ∷ 1000 ∷ 6 ∷ 0 ∷ []
-unfolding reactions controller_work finishing decided
+unfolding part_next reactions controller_work finishing decided
 one_frame-journal = refl
 
 one_frame-turns : count_turns one_frame ≡ 9
-unfolding reactions controller_work finishing decided
+unfolding part_next reactions controller_work finishing decided
 one_frame-turns = refl
 
 one_frame-log : (length (decided (scene 1) [] one_frame) ≡ 2) × (log_size (decided (scene 1) [] one_frame) ≡ 83)
-unfolding reactions controller_work finishing decided
+unfolding part_next reactions controller_work finishing decided
 one_frame-log = (refl, refl)
 
 -- a host that answers is learned, and a row is added
@@ -159,12 +159,12 @@ learning_run =
     ∷ turn.Draw (actor.Switch 0) 0 false ∷ turn.Draw (actor.Switch 0) 0 false ∷ turn.Local (actor.Switch 0) (local.Frame 2 frame_ba) ∷ []) [])
 
 learning_run-turns : count_turns learning_run ≡ 21
-unfolding reactions controller_work finishing decided
+unfolding part_next reactions controller_work finishing decided
 learning_run-turns = refl
 
 learning_run-switch : (length (switch_state (scene 1) 0 learning_run).executed ≡ 3) × (length (switch_state (scene 1) 0 learning_run).rows ≡ 2)
     × ((switch_state (scene 1) 0 learning_run).sent ≡ 3)
-unfolding reactions controller_work finishing decided
+unfolding part_next reactions controller_work finishing decided
 learning_run-switch = (refl, refl, refl)
 
 -- losses, packets that stay, and choices
@@ -172,5 +172,5 @@ abbrev disorder : List (JournalEntry Message)
 disorder = play 1 60 Losing (script 1 (turn.Local (actor.Controller 0) local.Tick ∷ turn.Local (actor.Switch 0) local.Tick ∷ turn.Local (actor.Switch 0) (local.Frame 1 frame_ab) ∷ turn.Draw (actor.Switch 0) 3 false ∷ turn.Draw (actor.Controller 0) 3 false ∷ turn.Draw (actor.Controller 0) 1 false ∷ turn.Local (actor.Switch 0) local.Tick ∷ turn.Draw (actor.Controller 0) 0 true ∷ turn.Lose (actor.Controller 0) 2 ∷ turn.Local (actor.Controller 0) local.Tick ∷ turn.Draw (actor.Switch 0) 0 true ∷ turn.Draw (actor.Switch 0) 3 false ∷ []) [])
 
 disorder-journal : codes_of (reverse disorder) ≡ 103 ∷ 0 ∷ 100 ∷ 0 ∷ 0 ∷ 0 ∷ 1000 ∷ 1 ∷ 2 ∷ 0 ∷ 103 ∷ 1000 ∷ 103 ∷ 1000 ∷ 101 ∷ 1000 ∷ 0 ∷ 0 ∷ 100 ∷ 1000 ∷ 1 ∷ 0 ∷ 0 ∷ 2 ∷ 2 ∷ 0 ∷ 0 ∷ 4 ∷ 0 ∷ 0 ∷ 56 ∷ 101 ∷ 0 ∷ 2 ∷ 0 ∷ 101 ∷ 0 ∷ 1 ∷ 0 ∷ 100 ∷ 0 ∷ 3 ∷ 0 ∷ 1000 ∷ 6 ∷ 0 ∷ 0 ∷ 0 ∷ 13 ∷ 54 ∷ 103 ∷ 1000 ∷ 100 ∷ 1000 ∷ 4 ∷ 0 ∷ 0 ∷ 4 ∷ 0 ∷ 0 ∷ 56 ∷ 101 ∷ 0 ∷ 4 ∷ 1 ∷ 102 ∷ 0 ∷ 4 ∷ 103 ∷ 0 ∷ 100 ∷ 0 ∷ 5 ∷ 0 ∷ 1000 ∷ 6 ∷ 0 ∷ 0 ∷ 0 ∷ 13 ∷ 54 ∷ 101 ∷ 1000 ∷ 3 ∷ 1 ∷ 100 ∷ 1000 ∷ 6 ∷ 0 ∷ 0 ∷ 7 ∷ 0 ∷ 0 ∷ 101 ∷ 1000 ∷ 5 ∷ 0 ∷ 100 ∷ 1000 ∷ 7 ∷ 0 ∷ 0 ∷ 7 ∷ 0 ∷ 0 ∷ 102 ∷ 1000 ∷ 3 ∷ 102 ∷ 0 ∷ 6 ∷ 102 ∷ 0 ∷ 7 ∷ 103 ∷ 0 ∷ 100 ∷ 0 ∷ 8 ∷ 0 ∷ 1000 ∷ 1 ∷ 2 ∷ 1 ∷ 101 ∷ 1000 ∷ 8 ∷ 0 ∷ 100 ∷ 1000 ∷ 9 ∷ 0 ∷ 0 ∷ 2 ∷ 2 ∷ 1 ∷ 0 ∷ 4 ∷ 0 ∷ 0 ∷ 56 ∷ 101 ∷ 0 ∷ 9 ∷ 0 ∷ 100 ∷ 0 ∷ 11 ∷ 0 ∷ 1000 ∷ 6 ∷ 1 ∷ 0 ∷ 0 ∷ 13 ∷ 54 ∷ 101 ∷ 0 ∷ 10 ∷ 0 ∷ 101 ∷ 1000 ∷ 11 ∷ 0 ∷ 100 ∷ 1000 ∷ 12 ∷ 0 ∷ 0 ∷ 7 ∷ 0 ∷ 0 ∷ 101 ∷ 0 ∷ 12 ∷ 0 ∷ 100 ∷ 0 ∷ 13 ∷ 0 ∷ 1000 ∷ 5 ∷ 1 ∷ 1000 ∷ 8 ∷ 1 ∷ 101 ∷ 1000 ∷ 13 ∷ 0 ∷ 101 ∷ 1000 ∷ 14 ∷ 0 ∷ []
-unfolding reactions controller_work finishing decided
+unfolding part_next reactions controller_work finishing decided
 disorder-journal = refl

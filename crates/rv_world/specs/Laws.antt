@@ -16,7 +16,7 @@ use Rattle.controller_core.specs.declared.says.Entry.{Entry}
 use Rattle.rv_world.specs.declared.says.Message.TheVariants as message
 use Rattle.rv_world.specs.declared.says.Unsealed.{Unsealed}
 use Rattle.rv_world.specs.declared.says.Unsealed.TheVariants as unsealed
-use Rattle.controller_core.specs.Chain.{issued}
+use Rattle.app_core.specs.Chain.{issued}
 use Rattle.of_types.specs.declared.numbers.TheConstants.{MASTER}
 use Rattle.switch_core.specs.State.{SwitchState}
 use Rattle.switch_core.specs.Buffer.{held_of}

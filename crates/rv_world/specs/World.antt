@@ -16,7 +16,7 @@ use Rattle.rv_base.specs.Turns.{entry_of}
 use Rattle.switch_core.specs.declared.says.SwitchSays.{SwitchSays}
 use Rattle.switch_core.specs.State.{SwitchState, SwitchTurn, starting_switch}
 use Rattle.controller_core.specs.declared.says.ControllerSays.{ControllerSays}
-use Rattle.controller_core.specs.Chain.{learning_alone}
+use Rattle.app_core.specs.Chain.{learning_alone}
 use Rattle.controller_core.specs.State.{ControllerState, Work}
 use Rattle.rv_world.specs.declared.debt.Debt.{Debt}
 use Rattle.rv_world.specs.declared.debt.Debt.TheVariants as debt

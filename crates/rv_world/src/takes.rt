@@ -8,7 +8,7 @@ ghost use Rattle.rv_base.specs.declared.journal.JournalEntry.TheVariants as entr
 ghost use Rattle.switch_core.specs.State.{Turned};
 ghost use Rattle.switch_core.specs.Rules.{switch_turn};
 ghost use Rattle.switch_core.specs.declared.says.SwitchInput.TheVariants as switch_input;
-ghost use Rattle.controller_core.specs.Chain.{learning_alone};
+ghost use Rattle.app_core.specs.Chain.{learning_alone};
 ghost use Rattle.controller_core.specs.State.{Worked, starting_controller};
 ghost use Rattle.controller_core.specs.Rules.{controller_work, numbers_below};
 ghost use Rattle.controller_core.specs.declared.says.ControllerInput.TheVariants as controller_input;

@@ -1,5 +1,5 @@
 use Rattle.std.proofs.Common.{◌≡◌, ◌++◌, ℕ, drop, take}
-use Rattle.controller_core.specs.Learning.{learned}
+use Rattle.app_core.specs.Learning.{learned}
 use Rattle.controller_core.proofs.learning.place_of.Given as goal
 
 abbrev pub invariant-loop-place : goal.invariant-loop-place

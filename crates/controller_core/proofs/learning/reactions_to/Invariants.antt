@@ -1,5 +1,5 @@
 use Rattle.std.proofs.Common.{◌≡◌, ◌++◌, [], ◌∷◌, drop}
-use Rattle.controller_core.specs.Chain.{flat, reactions_from, learning_alone}
+use Rattle.app_core.specs.Chain.{flat, reactions_from, learning_alone}
 use Rattle.controller_core.proofs.learning.reactions_to.Given as goal
 
 abbrev pub invariant-loop-event : goal.invariant-loop-event

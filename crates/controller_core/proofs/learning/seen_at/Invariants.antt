@@ -1,5 +1,5 @@
 use Rattle.std.proofs.Common.{◌≡◌, drop}
-use Rattle.controller_core.specs.Learning.{seen_at}
+use Rattle.app_core.specs.Learning.{seen_at}
 use Rattle.controller_core.proofs.learning.seen_at.Given as goal
 
 abbrev pub invariant-loop-host : goal.invariant-loop-host

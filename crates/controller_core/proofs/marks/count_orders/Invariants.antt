@@ -1,5 +1,5 @@
 use Rattle.std.proofs.Common.{◌≡◌, ◌+◌, ◌≤◌, drop, length}
-use Rattle.controller_core.specs.Chain.{orders_for}
+use Rattle.app_core.specs.Chain.{orders_for}
 use Rattle.controller_core.proofs.marks.count_orders.Given as goal
 
 abbrev pub invariant-loop-command : goal.invariant-loop-command

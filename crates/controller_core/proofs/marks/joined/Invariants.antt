@@ -1,5 +1,5 @@
 use Rattle.std.proofs.Common.{◌≡◌, ◌++◌, drop}
-use Rattle.controller_core.specs.Chain.{concat}
+use Rattle.app_core.specs.Chain.{concat}
 use Rattle.controller_core.proofs.marks.joined.Given as goal
 
 abbrev pub invariant-loop-list : goal.invariant-loop-list

@@ -3,7 +3,7 @@ use Rattle.std.specs.Prelude.{filter, map, nat_eq}
 use Rattle.std.specs.List.{list_any}
 use Rattle.of_types.specs.declared.message.Extension.TheVariants as extension
 use Rattle.of_types.specs.declared.message.Spoken.TheVariants as spoken
-use Rattle.controller_core.specs.Chain.{learning_alone}
+use Rattle.app_core.specs.Chain.{learning_alone}
 use Rattle.controller_core.specs.Marks.{settled_commands}
 use Rattle.controller_core.specs.State.{committed, to_switch}
 use Rattle.controller_core.specs.Rules.{numbers_below}

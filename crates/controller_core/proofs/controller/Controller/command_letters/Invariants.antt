@@ -1,5 +1,5 @@
 use Rattle.std.proofs.Common.{◌≡◌, ◌++◌, take}
-use Rattle.controller_core.specs.Chain.{learning_alone}
+use Rattle.app_core.specs.Chain.{learning_alone}
 use Rattle.controller_core.specs.Rules.{command_letters}
 use Rattle.controller_core.proofs.controller.Controller.command_letters.Given as goal
 

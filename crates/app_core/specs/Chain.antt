@@ -1,11 +1,12 @@
 -- Applications, and the plain controller that never fails and runs them on a list of events.
-use Rattle.std.specs.Prelude.{ℕ, Bool, false, not, nat_eq, nat_lt, List, [], ◌∷◌, ◌++◌, length, map, if◌then◌else◌}
+use Rattle.std.specs.Prelude.{ℕ, Bool, false, not, nat_eq, nat_lt, is_some, List, [], ◌∷◌, ◌++◌, length, map, if◌then◌else◌}
 use Rattle.of_types.specs.declared.message.Command.{Command}
 use Rattle.of_types.specs.declared.message.Event.{Event}
 use Rattle.of_types.specs.declared.message.Order.{Order}
 use Rattle.of_types.specs.declared.setup.Setup.{Setup}
-use Rattle.controller_core.specs.declared.learning.Host.{Host}
-use Rattle.controller_core.specs.Learning.{hosts_after, learning_commands}
+use Rattle.app_core.specs.declared.host.Host.{Host}
+use Rattle.app_core.specs.Firewall.{first_hit, installed_after, firewall_commands}
+use Rattle.app_core.specs.Learning.{hosts_after, learning_commands}
 
 -- lists, one after another
 abbrev pub concat : {A : Type 0} → List (List A) → List A
@@ -31,6 +32,17 @@ hosts_of _ = []
 abbrev pub passes_on : List ℕ → PartStep
 passes_on state = record { state = state; commands = []; stops = false }
 
+-- the firewall (Firewall.antt). A packet-in that a rule denies goes no further
+abbrev pub firewall_step : Setup → List ℕ → Event → PartStep
+firewall_step setup installed event =
+    let hit = first_hit setup.deny event.what in
+    record {
+      state = installed_after installed hit;
+      commands = firewall_commands setup installed hit;
+      stops = is_some hit;
+    }
+
+-- learning (Learning.antt): it learns first, and answers by what it then knows
 abbrev pub learning_step : List Host → Event → PartStep
 learning_step hosts event =
     record {
@@ -39,15 +51,21 @@ learning_step hosts event =
       stops = false;
     }
 
--- the kind of learning
+-- the kinds of parts
+abbrev pub firewall : ℕ
+firewall = 1
+
 abbrev pub learning : ℕ
 learning = 2
 
--- one step of a part of a kind. An event of a switch that the setup does not have passes on
-abbrev pub part_next : ℕ → Setup → List ℕ → Event → PartStep
+-- one step of a part of a kind. An event of a switch that the setup does not have passes on, and so does
+-- every event at a kind that there is not
+unfoldable pub part_next : ℕ → Setup → List ℕ → Event → PartStep
 part_next kind setup state event =
     if not (nat_lt event.switch (length setup.ports)) then passes_on state
-    else if nat_eq kind learning then learning_step (hosts_of state) event else passes_on state
+    else if nat_eq kind firewall then firewall_step setup state event
+    else if nat_eq kind learning then learning_step (hosts_of state) event
+    else passes_on state
 
 pub record ChainStep : Type 0 where
   pub states : List (List ℕ)
@@ -62,9 +80,12 @@ chain_next (kind ∷ kinds) setup (state ∷ states) event =
     else record { states = step.state ∷ others.states; commands = step.commands ++ others.commands }
 chain_next kinds setup states event = record { states = states; commands = [] }
 
--- each part starts with nothing
+-- a part of each kind starts with nothing
+abbrev pub starting : ℕ → List ℕ
+starting kind = []
+
 abbrev pub starting_chain : List ℕ → List (List ℕ)
-starting_chain kinds = map (λ _. []) kinds
+starting_chain kinds = map starting kinds
 
 -- the states of the parts after these events
 abbrev pub chain_after : List ℕ → Setup → List (List ℕ) → List Event → List (List ℕ)

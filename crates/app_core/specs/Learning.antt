@@ -1,19 +1,17 @@
--- The learning application: it remembers at which port an address was seen, and lets frames to it go
--- out there.
+-- The learning application, kind 2: it remembers at which port an address was seen, and lets frames to it
+-- go out there. Its state is the hosts, in the order in which they were first seen.
 use Rattle.std.specs.Prelude.{ℕ, ◌-◌, ◌%◌, ◌/◌, ◌^◌, Bool, not, nat_eq, nat_lt, ◌&&◌, length, List, [], ◌∷◌, filter, Option, Some, None, unwrap_or, if◌then◌else◌}
 use Rattle.of_types.specs.declared.message.Command.{Command}
 use Rattle.of_types.specs.declared.message.Event.{Event}
-use Rattle.of_types.specs.declared.message.FlowCommand.{FlowCommand}
 use Rattle.of_types.specs.declared.message.FlowCommand.TheVariants.{Add, Delete}
 use Rattle.of_types.specs.declared.message.Happening.{Happening}
 use Rattle.of_types.specs.declared.message.Happening.TheVariants as happening
-use Rattle.of_types.specs.declared.message.Match.{Match}
-use Rattle.of_types.specs.declared.message.Order.TheVariants as order
-use Rattle.of_types.specs.declared.numbers.TheConstants.{FLOOD, ANY_PORT, ANY_GROUP, NO_BUFFER}
+use Rattle.of_types.specs.declared.numbers.TheConstants.{FLOOD, ANY_PORT}
 use Rattle.of_types.specs.declared.setup.Setup.{Setup}
 use Rattle.of_types.specs.Header.{number_at}
 use Rattle.of_types.specs.Matching.{any_match}
-use Rattle.controller_core.specs.declared.learning.Host.{Host}
+use Rattle.app_core.specs.declared.host.Host.{Host}
+use Rattle.app_core.specs.Commands.{flow_mod, packet_out}
 
 -- an address whose first byte is even is that of one host
 abbrev pub is_single : ℕ → Bool
@@ -49,28 +47,6 @@ seen_destination hosts switch (Some address) = seen_at hosts switch address
 abbrev pub forgotten : List Host → ℕ → ℕ → List Host
 forgotten hosts switch port = filter (λ h. not (nat_eq h.switch switch && nat_eq h.port port)) hosts
 
--- a FLOW_MOD of an application: table 0, no timeouts, no flags, no buffer, any group
-abbrev pub flow_mod : ℕ → ℕ → FlowCommand → ℕ → ℕ → Match → List ℕ → Command
-flow_mod switch cookie command priority out_port matching actions =
-    record {
-      switch = switch;
-      order = order.FlowMod (record {
-        cookie = cookie;
-        cookie_mask = 0;
-        table = 0;
-        command = command;
-        idle = 0;
-        hard = 0;
-        priority = priority;
-        buffer = NO_BUFFER;
-        out_port = out_port;
-        out_group = ANY_GROUP;
-        flags = 0;
-        matching = matching;
-        actions = actions;
-      });
-    }
-
 -- frames to an address that come in by a port go out by another one: priority 10, cookie 2
 abbrev pub forwarding_row : ℕ → ℕ → ℕ → ℕ → Command
 forwarding_row switch port address output =
@@ -80,11 +56,6 @@ forwarding_row switch port address output =
 -- the rows that send to a port go
 abbrev pub forgetting_rows : ℕ → ℕ → Command
 forgetting_rows switch port = flow_mod switch 0 Delete 0 port any_match []
-
--- a frame that came in by a port is sent to an output
-abbrev pub packet_out : ℕ → ℕ → List ℕ → ℕ → Command
-packet_out switch in_port payload output =
-    record { switch = switch; order = order.PacketOut (record { buffer = NO_BUFFER; in_port = in_port; actions = output ∷ []; payload = payload }) }
 
 -- what is sent for a frame whose destination was seen there: nothing where it came from there, and a
 -- flood where it was not seen

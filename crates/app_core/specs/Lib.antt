@@ -1,0 +1,5 @@
+pub mod Commands
+pub mod Learning
+pub mod Firewall
+pub mod Chain
+pub mod Parts

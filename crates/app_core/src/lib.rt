@@ -1,0 +1,13 @@
+//! What an application is to a controller: parts, chains of parts, and what each kind of part does with an
+//! event. The plain controller that never fails is among the definitions.
+#![tactic(auto)]
+
+mod app;
+mod commands;
+mod host;
+mod part;
+
+pub use app::App;
+pub use commands::{flow_mod, packet_out};
+pub use host::Host;
+pub use part::{Part, joined_reactions, start_parts};

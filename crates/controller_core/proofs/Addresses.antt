@@ -118,7 +118,7 @@ module _ (setup : Setup) where
   concat_for (xs ∷ lists) (here, h) = all_append _ xs (concat lists) here (concat_for lists h)
 
 -- numbered commands for switches of a setup
-abbrev AreNumberedFor : Setup → List Numbered → Type 0
+abbrev pub AreNumberedFor : Setup → List Numbered → Type 0
 AreNumberedFor setup commands = AllByRecursion (λ n. n.switch < length setup.ports) commands
 
 module _ (kinds : List ℕ) (setup : Setup) where
@@ -130,7 +130,7 @@ module _ (kinds : List ℕ) (setup : Setup) where
   numbered_for before [] h = tt
   numbered_for before (c ∷ commands) (here, h) = (here, numbered_for (before ++ c ∷ []) commands h)
 
-  commands_of_for : (events : List Event) (j : ℕ) → AreNumberedFor setup (commands_of kinds setup events j)
+  pub commands_of_for : (events : List Event) (j : ℕ) → AreNumberedFor setup (commands_of kinds setup events j)
   commands_of_for events j = numbered_for _ _ (all_index_or (AreFor setup) (reactions kinds setup events) j [] (all_reactions_for events) tt)
 
   unacknowledged_for : (c : ControllerState) → AreNumberedFor setup (unacknowledged kinds setup c)

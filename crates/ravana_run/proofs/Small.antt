@@ -31,7 +31,7 @@ use Rattle.switch_core.specs.Buffer.{is_full}
 use Rattle.switch_core.specs.Table.{chosen_row, fields_at}
 use Rattle.switch_core.specs.Rules.{is_port, is_frame, through_row, on_frame}
 use Rattle.controller_core.specs.Log.{received}
-use Rattle.controller_core.specs.Chain.{learning_alone}
+use Rattle.app_core.specs.Chain.{learning_alone}
 use Rattle.controller_core.specs.State.{ControllerState, committed, is_up, starting_controller}
 use Rattle.controller_core.specs.Rules.{numbers_below}
 use Rattle.rv_world.specs.Committed.{controller_state, switch_state, decided}

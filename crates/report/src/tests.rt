@@ -1,4 +1,7 @@
-use crate::{Record, Shown, Told, WriteFault, text, write_all, write_report};
+use crate::{
+    Record, Shown, Told, WriteFault, text, write_all, write_newline, write_number, write_report,
+    write_word,
+};
 use controller_core::Entry;
 use of_types::{
     Actions, Event, Executed, FLOOD, Happening, Items, Link, Links, NO_BUFFER, Octets, Order,
@@ -272,4 +275,20 @@ fn busy_switch(alloc: Global) -> Result<Told, AllocError> {
     told.executed.push(flooded(alloc)?)?;
     told.sent = 1;
     Ok(told)
+}
+
+/// The line of a log that is full, as the rule for status 9 has it.
+#[test]
+fn line_of_words_and_numbers(rt: HostRuntime) -> Result<(), Fail> {
+    let mut line = Octets::from_slice(rt.alloc(), b"fault")?;
+    write_number(&mut line, 9u8)?;
+    write_word(&mut line, b"length")?;
+    write_number(&mut line, 4096u64)?;
+    write_word(&mut line, b"bytes")?;
+    write_number(&mut line, 172_324u64)?;
+    write_word(&mut line, b"next")?;
+    write_number(&mut line, 9u64)?;
+    write_newline(&mut line)?;
+    assert_eq!(rt; line.as_slice(), b"fault 9 length 4096 bytes 172324 next 9\n");
+    Ok(())
 }

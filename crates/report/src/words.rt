@@ -25,6 +25,7 @@ pub fn write_word(out: &mut Octets, text: &[u8]) -> Result<(), AllocError>
     Ok(())
 }
 
+/// Writes a space and the digits of a number.
 #[tactic(auto, unfolding(crate::specs::Report::word))]
 pub fn write_number<N: Integer>(out: &mut Octets, n: N) -> Result<(), AllocError>
     ensures { OnOk result (out.new ≡ out.old ++ word (N.text n)) }

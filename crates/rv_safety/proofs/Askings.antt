@@ -1,11 +1,10 @@
 -- No switch of a group of one was asked to take a master by a generation above the controller's view, as long as it is up.
-use Rattle.std.proofs.Common.{◌≡◌, ◌≢◌, ◌≤◌, ◌<◌, ◌⊎◌, inl, inr, ℕ, ◌+◌, ◌-◌, ◌%◌, ◌^◌, Bool, true, false, ◌&&◌, List, [], ◌∷◌, ◌++◌, length, map, filter, take, zero, suc, refl, sym, ◌∙◌, ap, subst, arith}
-use Rattle.std.specs.Prelude.{nat_eq, Option, Some, None, slice_index_or, if◌then◌else◌}
+use Rattle.std.proofs.Common.{◌≡◌, ◌≤◌, ◌<◌, inl, inr, ℕ, ◌+◌, ◌-◌, ◌^◌, Bool, true, false, ◌&&◌, List, [], ◌∷◌, length, map, filter, take, zero, suc, refl, sym, ◌∙◌, ap, subst, arith}
+use Rattle.std.specs.Prelude.{nat_eq, Option, None, slice_index_or, if◌then◌else◌}
 use Rattle.std.specs.List.{AllByRecursion}
-use Rattle.std.proofs.lemmas.Bool.{cases_Bool, eq-eqb, ne_eqb}
+use Rattle.std.proofs.lemmas.Bool.{eq-eqb, ne_eqb}
 use Rattle.std.proofs.lemmas.List.{map-append}
 use Rattle.of_types.specs.declared.message.OfMessage.TheVariants as plain
-use Rattle.of_types.specs.declared.message.Spoken.{Spoken}
 use Rattle.of_types.specs.declared.message.Spoken.TheVariants as spoken
 use Rattle.rv_base.specs.declared.journal.Actor.{Actor}
 use Rattle.rv_base.specs.declared.journal.Actor.TheVariants as actor
@@ -16,7 +15,7 @@ use Rattle.rv_base.specs.declared.journal.Packet.{Packet}
 use Rattle.rv_base.specs.declared.journal.SaveResult.{SaveResult}
 use Rattle.rv_base.specs.Actors.{same_actor, actor_of}
 use Rattle.rv_base.specs.Part.{part, drawn}
-use Rattle.rv_base.specs.Pool.{pool, numbered, fitting, without}
+use Rattle.rv_base.specs.Pool.{pool, numbered, fitting}
 use Rattle.rv_base.proofs.All.{all_append, all_weaker, all_map}
 use Rattle.rv_base.proofs.Among.{Among}
 use Rattle.switch_core.specs.State.{Fence}
@@ -28,23 +27,21 @@ use Rattle.rv_world.specs.declared.says.Message.TheVariants as message
 use Rattle.rv_world.specs.declared.says.Unsealed.{Unsealed}
 use Rattle.rv_world.specs.declared.says.Unsealed.TheVariants as unsealed
 use Rattle.rv_world.proofs.Posting.{one_actor}
-use Rattle.rv_world.specs.States.{Scene, Sealing, ControllerAt, content, controller_at, switch_at, sealed_letters, controller_message}
-use Rattle.rv_world.specs.Legal.{IsLegalPast, IsSoundController, Fits, results_of}
+use Rattle.rv_world.specs.States.{Scene, ControllerAt, content, controller_at}
+use Rattle.rv_world.specs.Legal.{IsLegalPast, IsSoundController, results_of}
 use Rattle.rv_world.specs.Committed.{controller_state}
-use Rattle.rv_world.specs.Laws.{Asked, asked_step, master_asked, masters_asked, IsGreatest}
+use Rattle.rv_world.specs.Laws.{Asked, asked_step, master_asked, masters_asked}
 use Rattle.rv_safety.specs.Facts.{facts_of}
 use Rattle.rv_safety.specs.Premises.{IsFaithful, HasBytes}
 use Rattle.rv_safety.proofs.Decided.{stays_up}
-use Rattle.rv_safety.proofs.Entries.{ControllerAfter, Own, Other, ControllerGoes, Turns, Falls, Stays, controller_after, SwitchAfter, Mine, Another, switch_after}
-use Rattle.rv_safety.proofs.Fencing.{FencesAt}
+use Rattle.rv_safety.proofs.Entries.{ControllerAfter, Own, Other, Turns, Falls, Stays, controller_after, Mine, Another, switch_after}
 use Rattle.rv_safety.proofs.Generations.{IsFenceOf, Unasked, Asked as WasAsked, fresh_above}
 use Rattle.rv_safety.proofs.Invariant.{Holds, IsTrueBetween}
 use Rattle.rv_safety.proofs.Packets.{drawn_found}
-use Rattle.rv_safety.proofs.Journals.{legal_before, from_some}
+use Rattle.rv_safety.proofs.Journals.{legal_before}
 use Rattle.rv_safety.proofs.OneController.{one_holds}
-use Rattle.rv_safety.proofs.Flights.{Flight, To_switch, To_controller, Astray, flight_of, packet_flight, controller_flight}
-use Rattle.rv_safety.proofs.Dues.{is_asked}
-use Rattle.rv_safety.proofs.Views.{AsksAtMost, asks_more, HasAsked, turn_asks, orders_posted}
+use Rattle.rv_safety.proofs.Flights.{flight_of, packet_flight, controller_flight}
+use Rattle.rv_safety.proofs.Views.{AsksAtMost, asks_more, turn_asks, orders_posted}
 
 differ : true ≡ false → ⊥
 differ h = cc

@@ -1,21 +1,20 @@
 -- The commands that a controller sends at once: they come in turn.
-use Rattle.std.proofs.Common.{◌≡◌, ◌≤◌, ◌<◌, inl, inr, ℕ, ◌+◌, Bool, true, false, not, List, [], ◌∷◌, ◌++◌, length, map, filter, take, suc, refl, sym, ◌∙◌, ap, subst, append-nil, arith, length-append}
+use Rattle.std.proofs.Common.{◌≡◌, ◌≤◌, ◌<◌, inl, inr, ℕ, ◌+◌, Bool, true, false, not, List, [], ◌∷◌, ◌++◌, length, map, filter, take, suc, refl, sym, ◌∙◌, ap, subst, arith, length-append}
 use Rattle.std.specs.Prelude.{max, nat_eq, slice_index_or, if◌then◌else◌}
 use Rattle.std.proofs.lemmas.Bool.{cases_Bool, eqb-true}
 use Rattle.of_types.specs.declared.message.Command.{Command}
-use Rattle.of_types.specs.declared.message.Event.{Event}
 use Rattle.of_types.specs.declared.setup.Setup.{Setup}
 use Rattle.rv_base.specs.declared.journal.Letter.{Letter}
 use Rattle.rv_base.proofs.Among.{Among}
 use Rattle.controller_core.specs.declared.says.ControllerSays.{ControllerSays}
 use Rattle.controller_core.specs.declared.says.Numbered.{Numbered}
-use Rattle.controller_core.specs.Chain.{concat, reactions, orders_for}
+use Rattle.app_core.specs.Chain.{concat, reactions, orders_for}
 use Rattle.controller_core.specs.Log.{received, processed}
 use Rattle.controller_core.specs.Marks.{with_numbers, commands_of, is_confirmed, is_acked, unacknowledged, outstanding, settled_commands}
 use Rattle.controller_core.specs.State.{ControllerState, committed}
 use Rattle.controller_core.specs.Rules.{command_letters, commands_for}
 use Rattle.rv_safety.proofs.Issued.{orders_for-append}
-use Rattle.rv_safety.proofs.Flights.{Flight, controller_flight, commands_in, AreDue, due_more}
+use Rattle.rv_safety.proofs.Flights.{Flight, controller_flight, commands_in, AreDue}
 
 -- the numbers of those of them that are for a switch
 abbrev pub numbers_for : ℕ → List Numbered → List ℕ

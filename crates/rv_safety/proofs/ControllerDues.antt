@@ -1,17 +1,14 @@
 -- A turn of the controller of a group of one while it is drained.
-use Rattle.std.proofs.Common.{◌≡◌, ◌≢◌, ◌≤◌, ◌<◌, ◌⊎◌, inl, inr, ℕ, ◌+◌, ◌-◌, ◌*◌, ◌^◌, Bool, true, false, not, ◌&&◌, List, [], ◌∷◌, ◌++◌, length, map, filter, take, zero, suc, refl, sym, ◌∙◌, ap, subst, append-nil, append_assoc, arith, length-append, take_all}
-use Rattle.std.specs.Prelude.{max, min, nat_eq, nat_le, nat_lt, slice_get, Option, Some, None, if◌then◌else◌}
+use Rattle.std.proofs.Common.{◌≡◌, ◌≤◌, ◌<◌, ◌⊎◌, inl, inr, ℕ, ◌+◌, ◌-◌, ◌*◌, Bool, true, false, not, ◌&&◌, List, [], ◌∷◌, ◌++◌, length, map, filter, take, zero, suc, refl, sym, ◌∙◌, ap, subst, append-nil, append_assoc, arith, length-append, take_all}
+use Rattle.std.specs.Prelude.{min, nat_eq, nat_le, slice_get, Option, Some, None, if◌then◌else◌}
 use Rattle.std.specs.List.{AllByRecursion, list_any}
-use Rattle.std.proofs.lemmas.Bool.{cases_Bool, and_parts, cases_lt, eqb-true, eq-eqb, ne_eqb, lt-ltb, le-ltb, ltb-true, ltb-false, le-leb}
+use Rattle.std.proofs.lemmas.Bool.{cases_Bool, and_parts, eqb-true, eq-eqb, ltb-true, ltb-false}
 use Rattle.std.proofs.lemmas.List.{map-append, take_more}
 use Rattle.std.proofs.lemmas.List.Sums.{sum_by-append}
 use Rattle.std.proofs.lemmas.Option.{get_or_from_slice_get}
 use Rattle.of_types.specs.declared.message.Event.{Event}
 use Rattle.of_types.specs.declared.message.Extension.TheVariants as extension
-use Rattle.of_types.specs.declared.message.OfMessage.TheVariants as plain
-use Rattle.of_types.specs.declared.message.Spoken.{Spoken}
 use Rattle.of_types.specs.declared.message.Spoken.TheVariants as spoken
-use Rattle.of_types.specs.declared.numbers.TheConstants.{MASTER}
 use Rattle.of_types.specs.declared.setup.Setup.{Setup}
 use Rattle.rv_base.specs.declared.journal.Actor.{Actor}
 use Rattle.rv_base.specs.declared.journal.Actor.TheVariants as actor
@@ -24,14 +21,14 @@ use Rattle.switch_core.specs.Buffer.{window}
 use Rattle.controller_core.specs.declared.says.ControllerSays.{ControllerSays}
 use Rattle.controller_core.specs.declared.says.ControllerSays.TheVariants as controller_says
 use Rattle.controller_core.specs.declared.says.Entry.{Entry}
-use Rattle.controller_core.specs.declared.says.Entry.TheVariants.{Received, Processed}
+use Rattle.controller_core.specs.declared.says.Entry.TheVariants.{Processed}
 use Rattle.controller_core.specs.declared.says.LogFull.{LogFull}
 use Rattle.controller_core.specs.declared.says.Numbered.{Numbered}
-use Rattle.controller_core.specs.Chain.{reactions, issued, orders_for, concat}
+use Rattle.app_core.specs.Chain.{issued, orders_for, concat}
 use Rattle.controller_core.specs.Log.{received, processed, count_from, is_past_limits}
 use Rattle.controller_core.specs.Marks.{commands_of, is_confirmed, is_acked, unacknowledged, outstanding, has_unprocessed, is_finished, settled_commands}
-use Rattle.controller_core.specs.State.{ControllerState, Work, committed, appended, met_limit, is_up, posting, leaving, to_switch}
-use Rattle.controller_core.specs.Rules.{numbers_below, is_some_of, answers_to_processed, command_letter, command_letters, processed_from, ack_letter, clear_letters, answers_for, with_commands_sent, with_processed, finishing}
+use Rattle.controller_core.specs.State.{ControllerState, Work, committed, appended, posting, leaving, to_switch}
+use Rattle.controller_core.specs.Rules.{numbers_below, is_some_of, answers_to_processed, command_letters, processed_from, answers_for, with_commands_sent, with_processed, finishing}
 use Rattle.rv_safety.proofs.Controllers.{none_left}
 use Rattle.rv_safety.proofs.Issued.{reactions-take, done_through, command_between}
 use Rattle.rv_safety.proofs.More.{received-append, processed-append}
@@ -39,7 +36,7 @@ use Rattle.rv_safety.proofs.Orderings.{get_within}
 use Rattle.rv_safety.specs.Room.{most_commands}
 use Rattle.rv_safety.proofs.Commands.{commands_few}
 use Rattle.rv_safety.proofs.Loads.{weigh, weigh-append, times, times_suc, to_process, to_send, budget, unprocessed, untold, load, sums_same, filter_few}
-use Rattle.rv_safety.proofs.Flights.{Flight, To_switch, To_controller, controller_flight, Carries, carries_left, carries_right, event_number, events_in, command_number, commands_in, events_in-append, commands_in-append, logged, AreDue, due_append}
+use Rattle.rv_safety.proofs.Flights.{Flight, controller_flight, Carries, carries_left, carries_right, event_number, events_in, commands_in, events_in-append, commands_in-append, logged, AreDue, due_append}
 use Rattle.rv_safety.proofs.Dues.{IsRequest, IsReply, IsAnswer, IsUnderWay, is_asked, IsOfView, sent_of, IsDueAt, AreUnderWay, Leads, IsDue}
 use Rattle.rv_safety.proofs.Batches.{posted, outstanding_due}
 
@@ -150,15 +147,15 @@ pub sent_weigh : (kinds : List ℕ) (setup : Setup) (c : ControllerState) (ns : 
 sent_weigh kinds setup c [] = refl
 sent_weigh kinds setup c (n ∷ ns) = let h = sent_weigh kinds setup c ns in omega (arith, h)
 
-pub unacknowledged_few : (kinds : List ℕ) (setup : Setup) (c : ControllerState) → length (unacknowledged kinds setup c) ≤ most_commands kinds
-unacknowledged_few kinds setup c =
-    let all = commands_few kinds setup (received (committed c)) (processed (committed c)) in
+pub unacknowledged_few : (kinds : List ℕ) (setup : Setup) → length setup.ports ≤ 64 → (c : ControllerState) → length (unacknowledged kinds setup c) ≤ most_commands kinds
+unacknowledged_few kinds setup few c =
+    let all = commands_few kinds setup few (received (committed c)) (processed (committed c)) in
     let left = filter_few (λ (n : Numbered). not (is_acked c n)) (commands_of kinds setup (received (committed c)) (processed (committed c))) in
     omega (arith, all, left)
 
-outstanding_few : (kinds : List ℕ) (setup : Setup) (c : ControllerState) → length (outstanding kinds setup c) ≤ most_commands kinds
-outstanding_few kinds setup c =
-    let all = unacknowledged_few kinds setup c in
+outstanding_few : (kinds : List ℕ) (setup : Setup) → length setup.ports ≤ 64 → (c : ControllerState) → length (outstanding kinds setup c) ≤ most_commands kinds
+outstanding_few kinds setup few c =
+    let all = unacknowledged_few kinds setup few c in
     let left = filter_few (λ (n : Numbered). is_confirmed c n.switch) (unacknowledged kinds setup c) in
     omega (arith, all, left)
 
@@ -218,6 +215,7 @@ module _ (kinds : List ℕ) (setup : Setup) (view : ℕ) (states : ℕ → Switc
             up = near.leads.up;
             view_is = near.leads.view_is;
             whole = near.leads.whole;
+            switches = near.leads.switches;
             counted = near.leads.counted;
             confirmed = near.leads.confirmed;
             marks = near.leads.marks;
@@ -237,7 +235,7 @@ module _ (kinds : List ℕ) (setup : Setup) (view : ℕ) (states : ℕ → Switc
               let old = near.room in
               let heavy = weigh-append kinds gs (posted letters) in
               let each = sent_weigh kinds setup c (outstanding kinds setup c) in
-              let few = outstanding_few kinds setup c in
+              let few = outstanding_few kinds setup near.leads.switches c in
               let lt = ltb-true j (length (received (committed c))) some in
               let before : untold c ≡ unprocessed c = ap (λ (b : Bool). unprocessed c - (if b then 1 else 0)) unsent ∙ minus_zero (unprocessed c) in
               let after : untold (record c { last_told = Some j }) ≡ unprocessed c - 1 = ap (λ (b : Bool). unprocessed c - (if b then 1 else 0)) (eq-eqb j j refl) in
@@ -337,6 +335,7 @@ module _ (kinds : List ℕ) (setup : Setup) (view : ℕ) (states : ℕ → Switc
           up = due.leads.up;
           view_is = due.leads.view_is;
           whole = whole_next;
+          switches = due.leads.switches;
           counted = omega (arith, processed_next, more, there);
           confirmed = due.leads.confirmed;
           marks = due.leads.marks;
@@ -419,10 +418,13 @@ module _ (kinds : List ℕ) (setup : Setup) (view : ℕ) (states : ℕ → Switc
       ⊎ ((limit : LogFull) × ((finishing n kinds setup work).state.full ≡ Some limit))
   unfolding finishing
   finishing_due zero work few due =
-      inl (elim (cases_Bool (is_finished kinds setup work.state)) [
-        | inl finished ↦ let less = there work.state (flown fs work) due finished in absurd (omega (arith, few, less))
-        | inr rests ↦ rests
-      ], due)
+      inl (
+        elim (cases_Bool (is_finished kinds setup work.state)) [
+          | inl finished ↦ let less = there work.state (flown fs work) due finished in absurd (omega (arith, few, less))
+          | inr rests ↦ rests
+        ],
+        due,
+      )
   finishing_due (suc n) work few due =
       let c = work.state in
       let j = processed (committed c) in

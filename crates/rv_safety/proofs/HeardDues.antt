@@ -1,7 +1,6 @@
 -- What the controller of a group of one hears while it is drained.
-use Rattle.std.proofs.Common.{◌≡◌, ◌≤◌, ◌<◌, ◌⊎◌, inl, inr, ℕ, ◌+◌, ◌-◌, ◌*◌, Bool, true, false, not, ◌&&◌, ◌||◌, List, [], ◌∷◌, ◌++◌, length, map, filter, take, zero, suc, refl, sym, ◌∙◌, ap, subst, append-nil, arith, length-append, take_all}
-use Rattle.std.specs.Prelude.{min, nat_eq, nat_le, nat_lt, slice_index_or, Option, Some, None, if◌then◌else◌}
-use Rattle.std.specs.List.{AllByRecursion, list_any}
+use Rattle.std.proofs.Common.{◌≡◌, ◌≤◌, ◌<◌, ◌⊎◌, inl, inr, ℕ, ◌+◌, ◌-◌, ◌*◌, Bool, true, false, not, ◌&&◌, ◌||◌, List, [], ◌∷◌, ◌++◌, length, filter, take, suc, refl, sym, ◌∙◌, ap, subst, append-nil, arith, length-append, take_all}
+use Rattle.std.specs.Prelude.{min, nat_eq, nat_le, nat_lt, slice_index_or, Some}
 use Rattle.std.proofs.lemmas.Bool.{cases_Bool, and_parts, or_cases, eqb-true, eq-eqb, lt-ltb, ltb-true, ltb-false, le-leb}
 use Rattle.std.proofs.lemmas.List.{take-append-le, get_or_append_left}
 use Rattle.std.proofs.lemmas.List.Sums.{sum_by-append}
@@ -21,23 +20,23 @@ use Rattle.rv_base.proofs.Among.{Among, among_filter}
 use Rattle.switch_core.specs.State.{SwitchState}
 use Rattle.switch_core.specs.Buffer.{window}
 use Rattle.controller_core.specs.declared.says.Entry.{Entry}
-use Rattle.controller_core.specs.declared.says.Entry.TheVariants.{Received, Processed}
+use Rattle.controller_core.specs.declared.says.Entry.TheVariants.{Received}
 use Rattle.controller_core.specs.declared.says.LogFull.{LogFull}
 use Rattle.controller_core.specs.declared.says.Numbered.{Numbered}
-use Rattle.controller_core.specs.Chain.{reactions, issued, concat}
+use Rattle.app_core.specs.Chain.{reactions, issued, concat}
 use Rattle.controller_core.specs.Log.{received, processed, count_from, is_past_limits}
 use Rattle.controller_core.specs.Marks.{commands_of, with_numbers, is_confirmed, is_acked, unacknowledged, has_unprocessed, is_finished, is_pending, settled_commands}
-use Rattle.controller_core.specs.State.{ControllerState, Work, committed, appended, resting, posting, leaving}
-use Rattle.controller_core.specs.Rules.{is_some_of, command_letters, commands_for, processed_from, ack_letter, with_commands_sent, finishing, after_finishing, after_settling, proposing, on_event, acknowledged, on_result, confirmed_by, on_role_reply}
+use Rattle.controller_core.specs.State.{ControllerState, Work, committed, appended, resting}
+use Rattle.controller_core.specs.Rules.{is_some_of, command_letters, commands_for, processed_from, ack_letter, with_commands_sent, on_event, acknowledged, on_result, confirmed_by, on_role_reply}
 use Rattle.rv_safety.proofs.Lists.{front_prefix, prefix_length}
 use Rattle.rv_world.specs.Laws.{IsPrefix}
 use Rattle.rv_safety.proofs.Issued.{command_between, issued_prefix, reactions_prefix, length-reactions}
 use Rattle.rv_safety.proofs.More.{received-append, processed-append, count_prefix}
-use Rattle.rv_safety.proofs.Loads.{weigh, weigh-append, times, times_suc, to_process, to_send, budget, unprocessed, one_if, untold, load, sums_trade, filter_few}
-use Rattle.rv_safety.proofs.Flights.{Flight, To_switch, To_controller, Carries, carries_left, carries_right, carries_on, event_number, events_in, commands_in, events_in-append, commands_in-append, logged, AreDue}
-use Rattle.rv_safety.proofs.Dues.{IsRequest, IsReply, IsAnswer, IsUnderWay, is_asked, IsOfView, sent_of, IsDueAt, AreUnderWay, Leads, IsDue}
+use Rattle.rv_safety.proofs.Loads.{weigh-append, times, times_suc, to_process, to_send, budget, unprocessed, one_if, untold, load, sums_trade, filter_few}
+use Rattle.rv_safety.proofs.Flights.{Flight, To_controller, Carries, carries_left, carries_right, carries_on, event_number, events_in, commands_in, events_in-append, commands_in-append, logged, AreDue}
+use Rattle.rv_safety.proofs.Dues.{IsRequest, IsReply, IsAnswer, IsUnderWay, is_asked, IsOfView, sent_of, IsDueAt, Leads, IsDue}
 use Rattle.rv_safety.proofs.Batches.{posted, commands_for_due}
-use Rattle.rv_safety.proofs.ControllerDues.{flown, flown_posting, sent_under_way, sent_of_view, posted_due, moved_due, IsNearlyDue, filter_passes, filter_among, marks_of, settled_is, sent_due, finishing_due, differ, sent_weigh, unacknowledged_few}
+use Rattle.rv_safety.proofs.ControllerDues.{flown, sent_under_way, sent_of_view, posted_due, IsNearlyDue, filter_passes, filter_among, marks_of, settled_is, sent_due, finishing_due, differ, sent_weigh, unacknowledged_few}
 
 or_nothing : (b : Bool) → (b || false) ≡ b
 or_nothing true = refl
@@ -165,6 +164,7 @@ module _ (kinds : List ℕ) (setup : Setup) (view : ℕ) (states : ℕ → Switc
             up = due.leads.up;
             view_is = due.leads.view_is;
             whole = due.leads.whole;
+            switches = due.leads.switches;
             counted = due.leads.counted;
             confirmed = ask;
             marks = due.leads.marks;
@@ -191,7 +191,7 @@ module _ (kinds : List ℕ) (setup : Setup) (view : ℕ) (states : ℕ → Switc
                 let old = due.room in
                 let heavy = weigh-append kinds rest (posted letters) in
                 let each = sent_weigh kinds setup next (commands_for kinds setup next s) in
-                let few = unacknowledged_few kinds setup next in
+                let few = unacknowledged_few kinds setup due.leads.switches next in
                 let left = filter_few (λ (x : Numbered). nat_eq x.switch s) (unacknowledged kinds setup next) in
                 omega (arith, old, heavy, each, few, left);
           }
@@ -393,6 +393,7 @@ module _ (kinds : List ℕ) (setup : Setup) (view : ℕ) (states : ℕ → Switc
                 up = due.leads.up;
                 view_is = due.leads.view_is;
                 whole = whole_log;
+                switches = due.leads.switches;
                 counted = omega (arith, more, longer, old, processed_same);
                 confirmed = due.leads.confirmed;
                 marks = due.leads.marks;
@@ -414,10 +415,11 @@ module _ (kinds : List ℕ) (setup : Setup) (view : ℕ) (states : ℕ → Switc
               ready = λ on.
                   let told : is_some_of (processed (committed c)) c.last_told ≡ true = subst (λ (k : ℕ). is_some_of k c.last_told ≡ true) processed_same on in
                   let some = sym due.told ∙ told in
-                  let lt = ltb-true (processed (committed c)) (length (received (committed c))) some in
-                  (lt-ltb (processed (committed next_log)) (length (received (committed next_log))) (omega (arith, lt, processed_same, more, longer)),
-                  λ n among confirmed. still_under_way n event_head rest (λ k. k)
-                  (due.under_way n (subst (λ (l : List Numbered). Among n (filter (λ (x : Numbered). not (is_acked c x)) l)) (commands_same some) among) confirmed));
+                  let lt = ltb-true (processed (committed c)) (length (received (committed c))) some in (
+                    lt-ltb (processed (committed next_log)) (length (received (committed next_log))) (omega (arith, lt, processed_same, more, longer)),
+                    λ n among confirmed. still_under_way n event_head rest (λ k. k)
+                        (due.under_way n (subst (λ (l : List Numbered). Among n (filter (λ (x : Numbered). not (is_acked c x)) l)) (commands_same some) among) confirmed),
+                  );
               room = logged_room;
             }
           where
@@ -487,6 +489,7 @@ module _ (kinds : List ℕ) (setup : Setup) (view : ℕ) (states : ℕ → Switc
               up = due.leads.up;
               view_is = due.leads.view_is;
               whole = due.leads.whole;
+              switches = due.leads.switches;
               counted = due.leads.counted;
               confirmed = due.leads.confirmed;
               marks = λ n h. elim (or_cases (is_acked c n) (nat_eq s n.switch && nat_eq number n.number) (sym (acked_now n) ∙ h)) [

@@ -1,9 +1,9 @@
 -- What a drained group of one may still post: each message on its way, each event that is still to be sent, logged or
 -- processed, and each command that is still to be sent, counts as what it will bring. It never grows while nothing new
 -- happens, so it bounds what waits at any time.
-use Rattle.std.proofs.Common.{◌≡◌, ◌≤◌, ◌<◌, inl, inr, ℕ, ◌+◌, ◌-◌, ◌*◌, Bool, true, false, List, [], ◌∷◌, ◌++◌, length, map, filter, zero, suc, refl, sym, ◌∙◌, ap, subst, append-nil, arith, length-append}
+use Rattle.std.proofs.Common.{◌≡◌, ◌≤◌, ◌<◌, inl, inr, ℕ, ◌+◌, ◌-◌, ◌*◌, Bool, true, false, List, [], ◌∷◌, ◌++◌, length, filter, zero, suc, refl, subst, arith}
 use Rattle.std.specs.Prelude.{min, nat_eq, sum_by, if◌then◌else◌}
-use Rattle.std.proofs.lemmas.Bool.{cases_lt, eqb-true, ne_eqb}
+use Rattle.std.proofs.lemmas.Bool.{cases_lt, ne_eqb}
 use Rattle.std.proofs.lemmas.List.Sums.{sum_by-append}
 use Rattle.of_types.specs.declared.message.Extension.TheVariants as extension
 use Rattle.of_types.specs.declared.message.OfMessage.TheVariants as plain
@@ -14,8 +14,8 @@ use Rattle.switch_core.specs.Buffer.{window}
 use Rattle.controller_core.specs.Log.{received, processed, count_from}
 use Rattle.controller_core.specs.State.{ControllerState, committed}
 use Rattle.controller_core.specs.Rules.{numbers_below, is_some_of}
-use Rattle.rv_safety.specs.Room.{most_commands, switch_brings, event_brings}
-use Rattle.rv_safety.proofs.Flights.{Flight, To_switch, To_controller, Astray}
+use Rattle.rv_safety.specs.Room.{most_commands, switch_brings}
+use Rattle.rv_safety.proofs.Flights.{Flight, To_switch, To_controller}
 
 -- what a message on its way counts: a request brings a reply and a window of events, a reply brings commands, an event
 -- an acknowledgement, and a command its result

@@ -1,15 +1,13 @@
 -- A closing of a group of one ends with nothing left undone.
-use Rattle.std.proofs.Common.{◌≡◌, ◌≢◌, ◌≤◌, ◌<◌, ◌⊎◌, inl, inr, ℕ, ◌+◌, ◌-◌, ◌*◌, ◌^◌, Bool, true, false, not, ◌&&◌, ◌||◌, List, [], ◌∷◌, ◌++◌, length, map, take, drop, zero, suc, refl, sym, ◌∙◌, ap, subst, append-nil, arith, length-append, take_all}
-use Rattle.std.specs.Prelude.{max, nat_eq, nat_lt, nat_le, reverse, slice_index_or, Option, Some, None, if◌then◌else◌}
-use Rattle.std.specs.List.{AllByRecursion, list_any}
+use Rattle.std.proofs.Common.{◌≡◌, ◌≤◌, ◌<◌, ◌⊎◌, inl, inr, ℕ, ◌-◌, ◌^◌, Bool, true, false, not, ◌&&◌, List, [], ◌∷◌, ◌++◌, length, map, take, suc, refl, sym, ◌∙◌, ap, subst, append-nil, arith, length-append, take_all}
+use Rattle.std.specs.Prelude.{max, nat_eq, nat_le, reverse, slice_index_or, Option, Some, None, if◌then◌else◌}
+use Rattle.std.specs.List.{AllByRecursion}
 use Rattle.std.proofs.Math.Path.{fun_ext}
-use Rattle.std.proofs.lemmas.Bool.{cases_Bool, and_parts, cases_lt, eqb-true, eq-eqb, ltb-true, lt-ltb, le-leb}
+use Rattle.std.proofs.lemmas.Bool.{cases_Bool, cases_lt, eq-eqb, lt-ltb, le-leb}
 use Rattle.std.proofs.lemmas.List.{map-append}
 use Rattle.of_types.specs.declared.message.Event.{Event}
-use Rattle.of_types.specs.declared.message.Executed.{Executed}
 use Rattle.of_types.specs.declared.message.Extension.TheVariants as extension
 use Rattle.of_types.specs.declared.message.OfMessage.TheVariants as plain
-use Rattle.of_types.specs.declared.message.Order.{Order}
 use Rattle.of_types.specs.declared.message.Spoken.{Spoken}
 use Rattle.of_types.specs.declared.message.Spoken.TheVariants as spoken
 use Rattle.of_types.specs.declared.numbers.TheConstants.{MASTER}
@@ -23,18 +21,16 @@ use Rattle.rv_base.specs.declared.journal.Local.TheVariants as local
 use Rattle.rv_base.specs.declared.journal.Packet.{Packet}
 use Rattle.rv_base.specs.declared.journal.SaveResult.{SaveResult}
 use Rattle.rv_base.specs.declared.journal.SaveResult.TheVariants.{Saved, KeptOld, KeptNew}
-use Rattle.rv_base.specs.Actors.{same_actor, actor_of, IsActor, is_input}
+use Rattle.rv_base.specs.Actors.{same_actor, actor_of}
 use Rattle.rv_base.specs.Limits.{pool_packets}
-use Rattle.rv_base.specs.Part.{part, drawn, packet_of}
-use Rattle.rv_base.specs.Pool.{pool, numbered, fitting, without, letters_posted, bytes_posted}
+use Rattle.rv_base.specs.Part.{part, drawn}
+use Rattle.rv_base.specs.Pool.{pool, numbered}
 use Rattle.rv_base.specs.Turns.{IsWithinLimits}
 use Rattle.rv_base.proofs.Among.{Among, among_filter}
 use Rattle.switch_core.specs.declared.says.SwitchInput.{SwitchInput}
 use Rattle.switch_core.specs.declared.says.SwitchInput.TheVariants as switch_input
 use Rattle.switch_core.specs.declared.says.SwitchSays.{SwitchSays}
 use Rattle.switch_core.specs.State.{SwitchState, SwitchTurn}
-use Rattle.switch_core.specs.Buffer.{window}
-use Rattle.switch_core.specs.Fence.{is_stale}
 use Rattle.switch_core.specs.Results.{most_kept}
 use Rattle.switch_core.specs.Rules.{switch_turn}
 use Rattle.controller_core.specs.declared.says.ControllerInput.{ControllerInput}
@@ -44,7 +40,6 @@ use Rattle.controller_core.specs.declared.says.Entry.{Entry}
 use Rattle.controller_core.specs.declared.says.Entry.TheVariants.{Processed}
 use Rattle.controller_core.specs.declared.says.LogFull.{LogFull}
 use Rattle.controller_core.specs.declared.says.Numbered.{Numbered}
-use Rattle.controller_core.specs.Chain.{issued, reactions, orders_for, concat}
 use Rattle.controller_core.specs.Log.{received, processed, count_from}
 use Rattle.controller_core.specs.Marks.{commands_of, is_confirmed, is_acked, unacknowledged, has_unprocessed, is_finished, settled_commands}
 use Rattle.controller_core.specs.State.{ControllerState, ControllerTurn, Work, committed, is_up, with_no_met_limit}
@@ -52,29 +47,29 @@ use Rattle.controller_core.specs.Rules.{numbers_below, processed_from, role_lett
 use Rattle.rv_world.specs.declared.says.Message.TheVariants as message
 use Rattle.rv_world.specs.declared.says.Unsealed.{Unsealed}
 use Rattle.rv_world.specs.declared.says.Unsealed.TheVariants as unsealed
-use Rattle.rv_world.specs.States.{Scene, Sealing, SwitchAt, ControllerAt, content, switch_at, switch_step, switch_took, switch_hears, controller_at, controller_step, controller_took, controller_hears, controller_saved, sealed_letters, switch_message, controller_message}
-use Rattle.rv_world.specs.Legal.{IsLegalPast, IsSoundSwitch, IsSoundController, Fits, results_of}
+use Rattle.rv_world.specs.States.{Scene, Sealing, SwitchAt, ControllerAt, content, switch_at, switch_step, switch_took, switch_hears, controller_at, controller_step, controller_took, controller_hears, controller_saved}
+use Rattle.rv_world.specs.Legal.{IsLegalPast, IsSoundSwitch, IsSoundController, results_of}
 use Rattle.rv_world.specs.Committed.{controller_state, switch_state, states_of, decided}
 use Rattle.rv_world.specs.Laws.{IsClosed, masters_asked}
-use Rattle.rv_world.specs.Schedule.{Phase, Move, Losing, Suspecting, Draining, Met, Done, NoQuorum, Takes, Ends, IsInputOf, IsPosted, owed_of, IsMove, IsEnd, Closes, met_by, after_member, after_move, next_view, next_lost, next_drained, next_suspicion, next_move, drained, is_drawn}
+use Rattle.rv_world.specs.Schedule.{Phase, Move, Losing, Suspecting, Draining, Met, Done, NoQuorum, IsInputOf, IsPosted, owed_of, IsMove, IsEnd, Closes, met_by, after_member, after_move, next_view, next_lost, next_drained, next_suspicion, next_move, drained, is_drawn}
 use Rattle.rv_world.proofs.Posting.{one_actor}
 use Rattle.rv_world.proofs.Rest.{length-numbered}
 use Rattle.rv_world.proofs.Suspecting.{one_suspects, none_suspects}
-use Rattle.rv_safety.specs.Facts.{Facts, facts_of, firm}
+use Rattle.rv_safety.specs.Facts.{Facts, facts_of}
 use Rattle.rv_safety.specs.Premises.{IsFaithful, HasBytes}
-use Rattle.rv_safety.specs.Truths.{IsTold, IsReported, IsCommand}
+use Rattle.rv_safety.specs.Truths.{IsTold, IsReported}
 use Rattle.rv_safety.proofs.Lists.{front_prefix, prefix_length}
 use Rattle.rv_safety.proofs.Entries.{Mine, Another, switch_after, Own, Other, controller_after}
 use Rattle.rv_safety.proofs.Decided.{decided_up}
 use Rattle.rv_safety.proofs.More.{count_prefix, received-append}
 use Rattle.rv_safety.proofs.Controllers.{find_processed}
-use Rattle.rv_safety.proofs.Invariant.{IsValidLog, Holds, IsSoundAt, IsTrueBetween}
+use Rattle.rv_safety.proofs.Invariant.{IsValidLog, Holds, IsTrueBetween}
 use Rattle.rv_safety.proofs.Journals.{legal_before}
 use Rattle.rv_safety.proofs.OneController.{one_holds, one_once, one_fences}
 use Rattle.rv_safety.proofs.Orderings.{length_map}
 use Rattle.rv_safety.proofs.Closings.{AreInOrder, in_order, IsSettled, closed_if_settled, done_empty}
 use Rattle.rv_safety.proofs.Draining.{closing_keeps, drained_pool, posted_pool}
-use Rattle.rv_safety.proofs.Flights.{Flight, To_switch, To_controller, Astray, flight_of, packet_flight, switch_flight, controller_flight, owing, newest_owing, flights, from_places}
+use Rattle.rv_safety.proofs.Flights.{Flight, To_switch, To_controller, flight_of, packet_flight, switch_flight, controller_flight, owing, newest_owing, flights, from_places}
 use Rattle.rv_safety.proofs.Loads.{load, weigh_least}
 use Rattle.rv_safety.proofs.Dues.{is_asked, IsOfView, IsDueAt, IsDue, HasCounts}
 use Rattle.rv_safety.proofs.Batches.{posted}
@@ -87,7 +82,14 @@ use Rattle.rv_safety.proofs.Askings.{below, is_fresh, is_unasked}
 use Rattle.rv_safety.proofs.Keeping.{keeps_few}
 use Rattle.rv_safety.proofs.Rooms.{nothing_lost}
 use Rattle.rv_safety.specs.Room.{most_commands}
-use Rattle.rv_safety.proofs.Commands.{commands_there, issued_few}
+use Rattle.rv_safety.proofs.Commands.{issued_few}
+use Rattle.controller_core.proofs.Addresses.{commands_of_for}
+
+-- what holds of each holds of one of them
+all_of : {A : Type 0} (P : A → Type 0) (xs : List A) (x : A) → AllByRecursion P xs → Among x xs → P x
+all_of P [] x h k = absurd k
+all_of P (y ∷ xs) x h (inl e) = subst P (sym e) h.0
+all_of P (y ∷ xs) x h (inr k) = all_of P xs x h.1 k
 
 -- a list from which nothing is made is empty
 none_mapped : {A C D : Type 0} (f : A → C) (g : A → D) (xs : List A) → map f xs ≡ [] → map g xs ≡ []
@@ -180,7 +182,7 @@ module _ {B : Type 0} (scene : Scene B) (results : List (List SaveResult)) where
         | Another apart is ↦ ap (λ (p : List (JournalEntry B × Option (Packet B))). switch_at scene s p) is
       ]
 
-  module _ (one : scene.setup.controllers ≡ 1) (faithful : IsFaithful scene.sealing) where
+  module _ (one : scene.setup.controllers ≡ 1) (few_switches : length scene.setup.ports ≤ 64) (faithful : IsFaithful scene.sealing) where
     state : List (JournalEntry B) → ControllerState
     state entries = controller_state scene results 0 entries
 
@@ -398,7 +400,7 @@ module _ {B : Type 0} (scene : Scene B) (results : List (List SaveResult)) where
           let c = controller_state scene results 0 before in
           let asked = below scene results one faithful before old.legal old.bytes up in
           let fence = one_fences scene results one faithful before old.legal old.bytes in
-          start_due scene.kinds scene.setup view (states_at before) c (all_committed scene results 0 before)
+          start_due scene.kinds scene.setup view (states_at before) c few_switches (all_committed scene results 0 before)
           (valid_counted c.log ((holds before old).controllers 0 (omega (arith, one))).now.valid) up above
           (λ s there. settled before old up s there)
           (λ s there. is_fresh scene.setup.controllers c.view view (masters_asked scene.sealing (part (actor.Switch s) before)).now (switch_state scene s before).fence given.legal.views.0 above (asked.asked s).0 (fence s).now)
@@ -466,7 +468,7 @@ module _ {B : Type 0} (scene : Scene B) (results : List (List SaveResult)) where
         effect s xid (spoken.Ravana (extension.Command life generation number settled_there what)) states there told due =
             let v = due.of_view.0 in
             let command = told.1 in
-            let few = issued_few scene.kinds scene.setup (received (decided scene results before)) command.place s command.there in
+            let few = issued_few scene.kinds scene.setup few_switches (received (decided scene results before)) command.place s command.there in
             let is = command.settled_is in
             let most = command.most in
             subst (λ (g : ℕ). Effect scene.kinds scene.setup view s c states (To_switch 0 s (spoken.Ravana (extension.Command life g number settled_there what))) left (switch_state scene s before) (switch_turn (switch_state scene s before) (switch_input.Of 0 xid (spoken.Ravana (extension.Command life g number settled_there what))))) (sym v.1)
@@ -766,7 +768,8 @@ module _ {B : Type 0} (scene : Scene B) (results : List (List SaveResult)) where
           by_list [] is = refl
           by_list (n ∷ ns) is =
               let among : Among n (unacknowledged scene.kinds scene.setup last) = subst (λ (l : List Numbered). Among n l) (sym is) (inl refl) in
-              let there = commands_there scene.kinds scene.setup (received (committed last)) (processed (committed last)) n
+              let there = all_of (λ (x : Numbered). x.switch < length scene.setup.ports) (commands_of scene.kinds scene.setup (received (committed last)) (processed (committed last))) n
+              (commands_of_for scene.kinds scene.setup (received (committed last)) (processed (committed last)))
               (among_filter (λ (x : Numbered). not (is_acked last x)) (commands_of scene.kinds scene.setup (received (committed last)) (processed (committed last))) n among) in
               absurd (due_last.under_way n among (confirmed_all n.switch there))
 

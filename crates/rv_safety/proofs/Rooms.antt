@@ -1,6 +1,6 @@
 -- Where what waits and what is posted stay within the pool's count of packets, no letter is lost.
-use Rattle.std.proofs.Common.{◌≡◌, ◌≤◌, ℕ, ◌+◌, ◌-◌, Bool, true, false, List, [], ◌∷◌, ◌++◌, length, take, filter, zero, suc, refl, sym, ◌∙◌, ap, subst, arith}
-use Rattle.std.specs.Prelude.{nat_le, sum_by, ◌&&◌, if◌then◌else◌}
+use Rattle.std.proofs.Common.{◌≡◌, ◌≤◌, ℕ, ◌+◌, ◌-◌, Bool, true, false, List, [], ◌∷◌, length, filter, refl, arith}
+use Rattle.std.specs.Prelude.{if◌then◌else◌}
 use Rattle.std.proofs.lemmas.Bool.{le-leb}
 use Rattle.std.proofs.lemmas.List.Sums.{sum_by-append, sum_by-take-le}
 use Rattle.rv_base.specs.declared.journal.Actor.{Actor}
@@ -9,7 +9,7 @@ use Rattle.rv_base.specs.declared.journal.JournalEntry.TheVariants.{Post, Draw, 
 use Rattle.rv_base.specs.declared.journal.Letter.{Letter}
 use Rattle.rv_base.specs.declared.journal.Packet.{Packet}
 use Rattle.rv_base.specs.Limits.{pool_packets, pool_bodies}
-use Rattle.rv_base.specs.Orderly.{IsOrderly, pool_bytes, fitting_count, lost_of}
+use Rattle.rv_base.specs.Orderly.{IsOrderly, pool_bytes, fitting_count}
 use Rattle.rv_base.specs.Pool.{pool, numbered, fitting, without, letter_bytes, bytes_posted}
 use Rattle.rv_base.specs.Turns.{IsWithinLimits}
 

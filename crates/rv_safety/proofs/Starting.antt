@@ -1,6 +1,6 @@
 -- What a closing may bring about, counted where it begins, bounds what its start makes due.
-use Rattle.std.proofs.Common.{◌≡◌, ◌≤◌, ◌<◌, ℕ, ◌+◌, ◌-◌, ◌*◌, true, false, List, [], ◌∷◌, ◌++◌, length, map, take, zero, suc, refl, sym, ◌∙◌, ap, subst, arith, take_all}
-use Rattle.std.specs.Prelude.{min, sum_by}
+use Rattle.std.proofs.Common.{◌≡◌, ◌≤◌, ℕ, ◌+◌, ◌-◌, ◌*◌, true, List, [], ◌∷◌, length, zero, suc, sym, ◌∙◌, ap, arith, take_all}
+use Rattle.std.specs.Prelude.{sum_by}
 use Rattle.std.proofs.Math.Nat.{suc-mul}
 use Rattle.std.proofs.lemmas.List.Sums.{sum_by-append}
 use Rattle.of_types.specs.declared.setup.Setup.{Setup}
@@ -8,18 +8,17 @@ use Rattle.rv_base.specs.declared.journal.JournalEntry.{JournalEntry}
 use Rattle.rv_base.specs.declared.journal.SaveResult.{SaveResult}
 use Rattle.rv_base.specs.Limits.{pool_packets}
 use Rattle.switch_core.specs.State.{SwitchState}
-use Rattle.switch_core.specs.Buffer.{window}
 use Rattle.controller_core.specs.declared.says.Entry.{Entry}
-use Rattle.controller_core.specs.Log.{received, processed, count_from}
+use Rattle.controller_core.specs.Log.{received, count_from}
 use Rattle.controller_core.specs.State.{ControllerState, committed, is_up, with_no_met_limit}
 use Rattle.controller_core.specs.Rules.{numbers_below, role_letters, started_view}
 use Rattle.rv_world.specs.States.{Scene}
 use Rattle.rv_world.specs.Committed.{controller_state, switch_state, decided}
 use Rattle.rv_world.proofs.Starts.{length-numbers_below}
-use Rattle.rv_safety.specs.Room.{most_commands, switch_brings, event_brings, events_made, closing_brings, HasRoom}
+use Rattle.rv_safety.specs.Room.{switch_brings, event_brings, events_made, HasRoom}
 use Rattle.rv_safety.proofs.Decided.{decided_up}
 use Rattle.rv_safety.proofs.Batches.{posted}
-use Rattle.rv_safety.proofs.Loads.{weigh, times, times_zero, times_suc, times_less, to_process, to_send, budget, budgets, unprocessed, untold, central, load}
+use Rattle.rv_safety.proofs.Loads.{weigh, times, times_zero, times_suc, times_less, to_process, to_send, budget, budgets, unprocessed, untold, load}
 use Rattle.rv_safety.proofs.Views.{all_committed}
 
 -- so many times, as a product and over sums

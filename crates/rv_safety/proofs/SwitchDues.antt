@@ -1,6 +1,6 @@
 -- A turn of a switch while a group of one is drained.
-use Rattle.std.proofs.Common.{◌≡◌, ◌≤◌, ◌<◌, ◌⊎◌, inl, inr, ℕ, ◌+◌, ◌-◌, ◌*◌, ◌^◌, Bool, true, false, ◌&&◌, List, [], ◌∷◌, ◌++◌, length, map, take, drop, zero, suc, refl, sym, ◌∙◌, ap, subst, append-nil, arith, length-append}
-use Rattle.std.specs.Prelude.{max, min, nat_eq, nat_lt, Option, Some, None, if◌then◌else◌}
+use Rattle.std.proofs.Common.{◌≡◌, ◌≤◌, ◌<◌, inl, inr, ℕ, ◌+◌, ◌-◌, ◌*◌, ◌^◌, Bool, true, false, List, [], ◌∷◌, ◌++◌, length, map, take, drop, zero, suc, refl, sym, ◌∙◌, ap, subst, append-nil, arith, length-append}
+use Rattle.std.specs.Prelude.{max, min, nat_eq, Option, Some, None, if◌then◌else◌}
 use Rattle.std.specs.List.{AllByRecursion}
 use Rattle.std.proofs.lemmas.Bool.{cases_Bool, and_parts, cases_lt, eqb-true, eq-eqb, lt-ltb}
 use Rattle.std.proofs.lemmas.List.{length-drop}
@@ -24,20 +24,17 @@ use Rattle.rv_base.proofs.All.{all_append, all_weaker}
 use Rattle.switch_core.specs.declared.says.SwitchInput.TheVariants as switch_input
 use Rattle.switch_core.specs.declared.says.SwitchSays.{SwitchSays}
 use Rattle.switch_core.specs.declared.says.SwitchSays.TheVariants as switch_says
-use Rattle.switch_core.specs.declared.switch.Offer.{Offer}
-use Rattle.switch_core.specs.declared.switch.Offer.TheVariants.{Execute, Repeat, Ahead, Full}
 use Rattle.switch_core.specs.State.{SwitchState, SwitchTurn, Fence}
 use Rattle.switch_core.specs.Buffer.{window, first_held, event_letter, event_letters, cleared_to, coming}
 use Rattle.switch_core.specs.Fence.{is_stale, is_some_of, may_execute, as_master}
 use Rattle.switch_core.specs.Results.{most_kept, first_kept, without_results_below, kept_result, offer_of}
 use Rattle.switch_core.specs.Rules.{fenced, role_reply, done_as, result_of, executes, result_letter, on_offer, switch_turn}
 use Rattle.controller_core.specs.Log.{received, count_from}
-use Rattle.controller_core.specs.Marks.{is_confirmed}
 use Rattle.controller_core.specs.State.{ControllerState}
 use Rattle.controller_core.specs.Rules.{processed_from}
 use Rattle.rv_safety.proofs.Generations.{fresh_above}
 use Rattle.rv_safety.proofs.Loads.{weight, weigh, weigh-append, times, to_process, to_send, budget, load, sums_trade}
-use Rattle.rv_safety.proofs.Flights.{Flight, To_switch, To_controller, Astray, switch_flight, Carries, carries_left, carries_right, carries_on, event_number, events_in, command_number, commands_in, events_in-append, commands_in-append, logged, logged-append, logged_least, AreDue, due_more, AreFrom, from_drop, from_zero, from_take, logged_from}
+use Rattle.rv_safety.proofs.Flights.{Flight, To_switch, To_controller, switch_flight, Carries, carries_left, carries_right, carries_on, event_number, events_in, command_number, commands_in, events_in-append, commands_in-append, logged, logged-append, logged_least, AreDue, due_more, AreFrom, from_drop, from_zero, from_take, logged_from}
 use Rattle.rv_safety.proofs.Dues.{IsRequest, IsReply, IsAnswer, IsUnderWay, is_asked, IsOfView, sent_of, IsDueAt, AreUnderWay, IsDue, HasCounts}
 
 length_take : {A : Type 0} (n : ℕ) (xs : List A) → length (take n xs) ≡ min n (length xs)
@@ -503,6 +500,7 @@ module _ (kinds : List ℕ) (setup : Setup) (view : ℕ) (c : ControllerState) (
           up = due.leads.up;
           view_is = due.leads.view_is;
           whole = due.leads.whole;
+          switches = due.leads.switches;
           counted = due.leads.counted;
           confirmed = λ t h. kept_asked t (due.leads.confirmed t h);
           marks = λ n h. let old = due.leads.marks n h in let more = more_executed n.switch in omega (arith, old, more);

@@ -1,7 +1,6 @@
 -- A whole turn of the controller of a group of one: one that starts a view makes due what is not done, and one that
 -- hears a switch keeps it so.
-use Rattle.std.proofs.Common.{◌≡◌, ◌≤◌, ◌<◌, ◌⊎◌, inl, inr, ℕ, Bool, true, false, List, [], ◌∷◌, ◌++◌, length, map, suc, zero, refl, sym, ◌∙◌, ap, subst, append-nil, arith, take_all}
-use Rattle.std.specs.Prelude.{nat_eq, nat_lt, Some, None, if◌then◌else◌}
+use Rattle.std.proofs.Common.{◌≡◌, ◌≤◌, ◌<◌, inl, inr, ℕ, true, false, List, [], ◌∷◌, length, suc, zero, refl, sym, ◌∙◌, subst, arith, take_all}
 use Rattle.std.specs.List.{AllByRecursion}
 use Rattle.std.proofs.lemmas.Bool.{cases_lt, lt-ltb}
 use Rattle.std.proofs.lemmas.Option.{slice_get_within}
@@ -11,7 +10,6 @@ use Rattle.of_types.specs.declared.message.Extension.TheVariants as extension
 use Rattle.of_types.specs.declared.message.OfMessage.TheVariants as plain
 use Rattle.of_types.specs.declared.message.Spoken.{Spoken}
 use Rattle.of_types.specs.declared.message.Spoken.TheVariants as spoken
-use Rattle.of_types.specs.declared.numbers.TheConstants.{MASTER}
 use Rattle.of_types.specs.declared.setup.Setup.{Setup}
 use Rattle.rv_base.specs.declared.journal.Local.TheVariants as local
 use Rattle.rv_base.specs.Limits.{pool_packets}
@@ -19,17 +17,16 @@ use Rattle.rv_base.proofs.Among.{Among, among_left, among_right}
 use Rattle.switch_core.specs.State.{SwitchState}
 use Rattle.switch_core.specs.Fence.{is_stale}
 use Rattle.controller_core.specs.declared.says.ControllerInput.TheVariants as controller_input
-use Rattle.controller_core.specs.Log.{received, processed, count_from}
+use Rattle.controller_core.specs.Log.{received, processed}
 use Rattle.controller_core.specs.Marks.{is_finished, settled_commands}
 use Rattle.controller_core.specs.State.{ControllerState, Work, committed, is_up, with_no_met_limit}
-use Rattle.controller_core.specs.Rules.{numbers_below, processed_from, role_letters, started_view, with_commands_sent, after_settling, controller_work}
-
+use Rattle.controller_core.specs.Rules.{numbers_below, role_letters, started_view, with_commands_sent, controller_work}
 use Rattle.rv_safety.specs.Truths.{IsReported}
 use Rattle.rv_safety.proofs.Loads.{load}
-use Rattle.rv_safety.proofs.Flights.{Flight, To_switch, To_controller, Carries, commands_in, AreDue}
-use Rattle.rv_safety.proofs.Dues.{IsRequest, is_asked, IsOfView, IsDueAt, Leads, IsDue}
+use Rattle.rv_safety.proofs.Flights.{Flight, To_controller, Carries, commands_in, AreDue}
+use Rattle.rv_safety.proofs.Dues.{IsRequest, is_asked, IsOfView, IsDue}
 use Rattle.rv_safety.proofs.Batches.{posted}
-use Rattle.rv_safety.proofs.ControllerDues.{flown, IsNearlyDue, sent_due, finishing_due, differ}
+use Rattle.rv_safety.proofs.ControllerDues.{IsNearlyDue, sent_due, finishing_due, differ}
 use Rattle.rv_safety.proofs.HeardDues.{IsRested, quiet_due, ignored, reply_due, event_due, result_due}
 
 module _ (kinds : List ℕ) (setup : Setup) (view : ℕ) (states : ℕ → SwitchState) where
@@ -41,6 +38,7 @@ module _ (kinds : List ℕ) (setup : Setup) (view : ℕ) (states : ℕ → Switc
           up = due.leads.up;
           view_is = due.leads.view_is;
           whole = due.leads.whole;
+          switches = due.leads.switches;
           counted = due.leads.counted;
           confirmed = due.leads.confirmed;
           marks = due.leads.marks;
@@ -95,7 +93,7 @@ module _ (kinds : List ℕ) (setup : Setup) (view : ℕ) (states : ℕ → Switc
       ]
 
   -- the controller starts a view
-  module _ (c : ControllerState) (whole : committed c ≡ c.log) (counted : processed c.log ≤ length (received c.log)) (up : is_up c.status ≡ true) (above : c.view < view)
+  module _ (c : ControllerState) (few_switches : length setup.ports ≤ 64) (whole : committed c ≡ c.log) (counted : processed c.log ≤ length (received c.log)) (up : is_up c.status ≡ true) (above : c.view < view)
       (settled : (s : ℕ) → s < length setup.ports → settled_commands kinds setup (committed c) s ≤ length (states s).executed)
       (fresh : (s : ℕ) → s < length setup.ports → is_stale (states s).fence.generation view ≡ false)
       (unasked : (s : ℕ) → s < length setup.ports → is_asked view (states s) ≡ false)
@@ -116,6 +114,7 @@ module _ (kinds : List ℕ) (setup : Setup) (view : ℕ) (states : ℕ → Switc
             up = refl;
             view_is = refl;
             whole = started_whole;
+            switches = few_switches;
             counted = subst (λ l. processed l ≤ length (received l)) (sym started_whole) counted;
             confirmed = λ s h. absurd (differ (sym h));
             marks = λ n h. absurd (differ (sym h));

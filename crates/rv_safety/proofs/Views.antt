@@ -1,36 +1,29 @@
 -- Of a group of one, as long as its controller is up: each entry of its log is committed, and no switch was asked by a
 -- generation above its view.
-use Rattle.std.proofs.Common.{◌≡◌, ◌≢◌, ◌≤◌, ◌<◌, ◌⊎◌, inl, inr, ℕ, ◌+◌, Bool, true, false, List, [], ◌∷◌, ◌++◌, length, map, filter, take, zero, suc, refl, sym, ◌∙◌, ap, subst, arith, length-append, take_all}
-use Rattle.std.specs.Prelude.{nat_eq, Option, Some, None, if◌then◌else◌}
+use Rattle.std.proofs.Common.{◌≡◌, ◌≤◌, inl, inr, ℕ, ◌+◌, true, false, List, [], ◌∷◌, length, map, take, refl, sym, ◌∙◌, ap, subst, arith, length-append, take_all}
+use Rattle.std.specs.Prelude.{Option}
 use Rattle.std.specs.List.{AllByRecursion}
 use Rattle.std.proofs.lemmas.Bool.{cases_Bool}
 use Rattle.of_types.specs.declared.message.OfMessage.TheVariants as plain
-use Rattle.of_types.specs.declared.message.Spoken.{Spoken}
 use Rattle.of_types.specs.declared.message.Spoken.TheVariants as spoken
-use Rattle.of_types.specs.declared.numbers.TheConstants.{MASTER}
 use Rattle.of_types.specs.declared.setup.Setup.{Setup}
-use Rattle.rv_base.specs.declared.journal.Actor.{Actor}
 use Rattle.rv_base.specs.declared.journal.Actor.TheVariants as actor
 use Rattle.rv_base.specs.declared.journal.JournalEntry.{JournalEntry}
-use Rattle.rv_base.specs.declared.journal.JournalEntry.TheVariants.{Post, Draw, Lose, Local, Idle, Refused}
 use Rattle.rv_base.specs.declared.journal.Letter.{Letter}
 use Rattle.rv_base.specs.declared.journal.Packet.{Packet}
 use Rattle.rv_base.specs.declared.journal.SaveResult.{SaveResult}
-use Rattle.rv_base.specs.Actors.{same_actor, actor_of}
-use Rattle.rv_base.specs.Part.{part, drawn}
-use Rattle.rv_base.specs.Pool.{pool, numbered, fitting, without}
+use Rattle.rv_base.specs.Pool.{numbered}
 use Rattle.rv_base.proofs.All.{all_append, all_weaker}
 use Rattle.rv_base.proofs.Among.{Among}
 use Rattle.switch_core.specs.declared.says.SwitchSays.{SwitchSays}
 use Rattle.controller_core.specs.declared.says.ControllerInput.{ControllerInput}
 use Rattle.controller_core.specs.declared.says.ControllerSays.{ControllerSays}
-use Rattle.controller_core.specs.State.{ControllerState, Work, committed, is_up, resting, down}
+use Rattle.controller_core.specs.State.{ControllerState, Work, committed, is_up}
 use Rattle.controller_core.specs.Rules.{controller_work}
 use Rattle.controller_core.proofs.Moves.{Move, Receives, Processes, Says, Marks, Notes, Starts, IsSaid, Asks, Commands, Acks, Clears, Echoes, turn_keeps, down_rests}
 use Rattle.rv_world.specs.declared.says.Message.TheVariants as message
 use Rattle.rv_world.specs.declared.says.Unsealed.{Unsealed}
-use Rattle.rv_world.specs.declared.says.Unsealed.TheVariants as unsealed
-use Rattle.rv_world.specs.States.{Scene, Sealing, content, controller_at, sealed_letters, switch_message, controller_message}
+use Rattle.rv_world.specs.States.{Scene, Sealing, controller_at, sealed_letters, switch_message, controller_message}
 use Rattle.rv_world.specs.Legal.{results_of}
 use Rattle.rv_world.specs.Committed.{controller_state}
 use Rattle.rv_safety.specs.Facts.{Facts}
@@ -39,7 +32,7 @@ use Rattle.rv_safety.proofs.Decided.{stays_up}
 use Rattle.rv_safety.proofs.Entries.{Turns, Falls, Stays, ControllerAfter, Own, Other, controller_after}
 use Rattle.rv_safety.proofs.Invariant.{IsReport, IsOrder}
 use Rattle.rv_safety.proofs.Packets.{told_valid, reported_valid}
-use Rattle.rv_safety.proofs.Flights.{Flight, To_switch, To_controller, Astray, flight_of, packet_flight, switch_flight, controller_flight}
+use Rattle.rv_safety.proofs.Flights.{Flight, To_switch, flight_of, packet_flight, switch_flight, controller_flight}
 
 -- every entry is committed
 move_commits : (kinds : List ℕ) (setup : Setup) (x : ControllerInput) (w w' : Work) → Move kinds setup x w w' → w.state.commit ≡ length w.state.log → w'.state.commit ≡ length w'.state.log

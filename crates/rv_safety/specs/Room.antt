@@ -1,9 +1,10 @@
 -- How much a closing of a group of one may bring about at most, counted where it begins.
-use Rattle.std.specs.Prelude.{◌≤◌, ℕ, ◌+◌, ◌*◌, List, [], length, take, drop, sum_by}
+use Rattle.std.specs.Prelude.{◌≤◌, ℕ, ◌+◌, ◌*◌, List, [], ◌∷◌, length, take, drop, sum_by, nat_eq, if◌then◌else◌}
 use Rattle.rv_base.specs.declared.journal.JournalEntry.{JournalEntry}
 use Rattle.rv_base.specs.declared.journal.SaveResult.{SaveResult}
 use Rattle.rv_base.specs.Limits.{pool_packets}
 use Rattle.rv_base.specs.Pool.{past}
+use Rattle.app_core.specs.Chain.{firewall, learning}
 use Rattle.switch_core.specs.Buffer.{window}
 use Rattle.controller_core.specs.Log.{received}
 use Rattle.controller_core.specs.Rules.{numbers_below}
@@ -11,9 +12,15 @@ use Rattle.rv_world.specs.States.{Scene}
 use Rattle.rv_world.specs.Committed.{decided, switch_state}
 use Rattle.rv_world.specs.Schedule.{Closes, Done}
 
--- the most commands that a chain of these kinds issues for an event: two for each part
+-- the most commands that a part of a kind issues for an event: a firewall one for each switch, of which there are at most 64,
+-- and learning two
+abbrev pub most_of : ℕ → ℕ
+most_of kind = if nat_eq kind firewall then 64 else if nat_eq kind learning then 2 else 0
+
+-- and a chain of parts of these kinds
 abbrev pub most_commands : List ℕ → ℕ
-most_commands kinds = 2 * length kinds
+most_commands [] = 0
+most_commands (kind ∷ kinds) = most_of kind + most_commands kinds
 
 -- a switch is asked and replies, gets the commands of an event, whose results it tells, and sends a window of events,
 -- each of which may be answered

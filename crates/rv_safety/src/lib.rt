@@ -1,7 +1,7 @@
 //! The laws of every journal of a world.
 #![tactic(auto)]
 
-ghost use Rattle.std.specs.Prelude.{◌≡◌, true, [], take};
+ghost use Rattle.std.specs.Prelude.{◌≡◌, ◌≤◌, true, [], length, take};
 ghost use Rattle.std.specs.List.{AllByRecursion};
 ghost use Rattle.rv_base.specs.Pool.{past};
 ghost use Rattle.rv_base.specs.Turns.{IsWithinLimits};
@@ -40,6 +40,7 @@ fn grounds<B: Body>(world: &World<B>)
     ensures legal { IsLegalPast (scene_of world.now.setup B.sealed B.spelled B.size) [] (past world.now.journal) }
     ensures bytes { AllByRecursion (λ e. HasBytes e) (past world.now.journal) }
     ensures within { IsWithinLimits B.size (past world.now.journal) }
+    ensures few { length world.now.setup.ports ≤ 64 }
 {
     world.lawful();
 }

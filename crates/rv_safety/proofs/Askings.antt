@@ -33,6 +33,7 @@ use Rattle.rv_world.specs.Committed.{controller_state}
 use Rattle.rv_world.specs.Laws.{Asked, asked_step, master_asked, masters_asked}
 use Rattle.rv_safety.specs.Facts.{facts_of}
 use Rattle.rv_safety.specs.Premises.{IsFaithful, HasBytes}
+use Rattle.rv_safety.proofs.Tests.{differ, both_off}
 use Rattle.rv_safety.proofs.Decided.{stays_up}
 use Rattle.rv_safety.proofs.Entries.{ControllerAfter, Own, Other, Turns, Falls, Stays, controller_after, Mine, Another, switch_after}
 use Rattle.rv_safety.proofs.Generations.{IsFenceOf, Unasked, Asked as WasAsked, fresh_above}
@@ -42,9 +43,6 @@ use Rattle.rv_safety.proofs.Journals.{legal_before}
 use Rattle.rv_safety.proofs.OneController.{one_holds}
 use Rattle.rv_safety.proofs.Flights.{flight_of, packet_flight, controller_flight}
 use Rattle.rv_safety.proofs.Views.{AsksAtMost, asks_more, turn_asks, orders_posted}
-
-differ : true ≡ false → ⊥
-differ h = cc
 
 -- what a switch sends asks nothing
 switch_asks : (view s : ℕ) (to : Actor) (u : Unsealed) → AsksAtMost view (flight_of (actor.Switch s) to u)
@@ -227,10 +225,6 @@ is_fresh controllers view new asked fence small above all (WasAsked g greatest f
     let le = all_index view asked greatest.among.0 g all greatest.among.1 in
     let same : slice_index_or asked greatest.among.0 g ≡ g = greatest.among.2 in
     ap (λ (o : Option ℕ). is_stale o new) set ∙ fresh_above g new small (omega (arith, le, same, above))
-
-both_off : (a b : Bool) → b ≡ false → (a && b) ≡ false
-both_off true b h = h
-both_off false b h = refl
 
 pub is_unasked : (controllers view new : ℕ) (asked : List ℕ) (fence : Fence) → view < new → AllByRecursion (λ g. g ≤ view) asked → IsFenceOf controllers asked fence → may_execute fence 0 new ≡ false
 is_unasked controllers view new asked fence above all (Unasked none unset unmastered) =

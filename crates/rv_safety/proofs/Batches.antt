@@ -13,6 +13,7 @@ use Rattle.controller_core.specs.Log.{received, processed}
 use Rattle.controller_core.specs.Marks.{with_numbers, commands_of, is_confirmed, is_acked, unacknowledged, outstanding, settled_commands}
 use Rattle.controller_core.specs.State.{ControllerState, committed}
 use Rattle.controller_core.specs.Rules.{command_letters, commands_for}
+use Rattle.rv_safety.proofs.Tests.{not_true}
 use Rattle.rv_safety.proofs.Issued.{orders_for-append}
 use Rattle.rv_safety.proofs.Flights.{Flight, controller_flight, commands_in, AreDue}
 
@@ -106,10 +107,6 @@ filter_switch s n q xs h =
           (λ x a same leaves. let no : true ≡ false = sym in_it ∙ ap q (sym same) ∙ leaves in absurd cc) (omega arith) h
       | inr out ↦ filter_none s n (λ (x : Numbered). q x.switch) xs (λ x same. ap q same ∙ out)
     ]
-
-not_true : (b : Bool) → not b ≡ false → b ≡ true
-not_true true h = refl
-not_true false h = absurd cc
 
 module _ (kinds : List ℕ) (setup : Setup) (c : ControllerState) (s n : ℕ) (settled : settled_commands kinds setup (committed c) s ≤ n)
     (marks : (x : Numbered) → is_acked c x ≡ true → x.switch ≡ s → x.number < n) where

@@ -2,6 +2,7 @@
 use Rattle.std.proofs.Common.{◌≡◌, ◌≤◌, ◌<◌, ◌⊎◌, inl, inr, ℕ, ◌+◌, ◌-◌, ◌*◌, Bool, true, false, not, ◌&&◌, List, [], ◌∷◌, ◌++◌, length, map, filter, take, zero, suc, refl, sym, ◌∙◌, ap, subst, append-nil, append_assoc, arith, length-append, take_all}
 use Rattle.std.specs.Prelude.{min, nat_eq, nat_le, slice_get, Option, Some, None, if◌then◌else◌}
 use Rattle.std.specs.List.{AllByRecursion, list_any}
+use Rattle.std.proofs.Math.Nat.{add-zero}
 use Rattle.std.proofs.lemmas.Bool.{cases_Bool, and_parts, eqb-true, eq-eqb, ltb-true, ltb-false}
 use Rattle.std.proofs.lemmas.List.{map-append, take_more}
 use Rattle.std.proofs.lemmas.List.Sums.{sum_by-append}
@@ -29,6 +30,9 @@ use Rattle.controller_core.specs.Log.{received, processed, count_from, is_past_l
 use Rattle.controller_core.specs.Marks.{commands_of, is_confirmed, is_acked, unacknowledged, outstanding, has_unprocessed, is_finished, settled_commands}
 use Rattle.controller_core.specs.State.{ControllerState, Work, committed, appended, posting, leaving, to_switch}
 use Rattle.controller_core.specs.Rules.{numbers_below, is_some_of, answers_to_processed, command_letters, processed_from, answers_for, with_commands_sent, with_processed, finishing}
+use Rattle.rv_world.proofs.Starts.{length-numbers_below}
+use Rattle.rv_safety.proofs.Lists.{filter_passes, filter_among}
+use Rattle.rv_safety.proofs.Tests.{differ, not_off, off_by, not_both}
 use Rattle.rv_safety.proofs.Controllers.{none_left}
 use Rattle.rv_safety.proofs.Issued.{reactions-take, done_through, command_between}
 use Rattle.rv_safety.proofs.More.{received-append, processed-append}
@@ -56,24 +60,6 @@ flown fs work = fs ++ posted work.letters
 pub flown_posting : (fs : List Flight) (work : Work) (ls : List (Letter ControllerSays)) → flown fs (posting work ls) ≡ flown fs work ++ posted ls
 flown_posting fs work ls =
     ap (λ l. fs ++ l) (map-append (λ (l : Letter ControllerSays). controller_flight 0 l) work.letters ls) ∙ sym (append_assoc fs (posted work.letters) (posted ls))
-
-passes_by : {A : Type 0} (p : A → Bool) (y x : A) (xs : List A) (b : Bool) → p y ≡ b → (Among x (filter p xs) → p x ≡ true) → Among x (if b then y ∷ filter p xs else filter p xs) → p x ≡ true
-passes_by p y x xs true is rest (inl e) = ap p e ∙ is
-passes_by p y x xs true is rest (inr k) = rest k
-passes_by p y x xs false is rest k = rest k
-
-pub filter_passes : {A : Type 0} (p : A → Bool) (xs : List A) (x : A) → Among x (filter p xs) → p x ≡ true
-filter_passes p [] x h = absurd h
-filter_passes p (y ∷ xs) x h = passes_by p y x xs (p y) refl (filter_passes p xs x) h
-
-pub filter_among : {A : Type 0} (p : A → Bool) (xs : List A) (x : A) → Among x xs → p x ≡ true → Among x (filter p xs)
-filter_among p [] x h passes = absurd h
-filter_among p (y ∷ xs) x (inl e) passes = let same : p y ≡ true = ap p (sym e) ∙ passes in rw same (inl e)
-filter_among p (y ∷ xs) x (inr h) passes = by_test (p y) (filter_among p xs x h passes)
-  where
-    by_test : (b : Bool) → Among x (filter p xs) → Among x (if b then y ∷ filter p xs else filter p xs)
-    by_test true k = inr k
-    by_test false k = k
 
 module _ (kinds : List ℕ) (setup : Setup) (c : ControllerState) where
   -- a command that is sent is under way
@@ -132,13 +118,6 @@ pub record IsNearlyDue (kinds : List ℕ) (setup : Setup) (view : ℕ) (c : Cont
   pub ready : is_some_of (processed (committed c)) c.last_told ≡ true → (has_unprocessed c ≡ true) × AreUnderWay kinds setup c gs
   pub room : load kinds setup c states gs ≤ pool_packets
 
-pub differ : true ≡ false → ⊥
-differ h = cc
-
-not_off : (b : Bool) → not b ≡ true → b ≡ false
-not_off true h = absurd cc
-not_off false h = refl
-
 minus_zero : (n : ℕ) → n - 0 ≡ n
 minus_zero n = omega arith
 
@@ -159,10 +138,6 @@ outstanding_few kinds setup few c =
     let left = filter_few (λ (n : Numbered). is_confirmed c n.switch) (unacknowledged kinds setup c) in
     omega (arith, all, left)
 
-numbers_few : (n : ℕ) → length (numbers_below n) ≡ n
-numbers_few zero = refl
-numbers_few (suc n) = let h = numbers_few n in omega (arith, h, length-append (numbers_below n) (n ∷ []))
-
 clears_weigh : (kinds : List ℕ) (count : ℕ → ℕ) (ts : List ℕ) → weigh kinds (posted (map (λ (t : ℕ). to_switch t 0 (spoken.Ravana (extension.Clear 0 (count t)))) ts)) ≡ length ts
 clears_weigh kinds count [] = refl
 clears_weigh kinds count (t ∷ ts) = let h = clears_weigh kinds count ts in omega (arith, h)
@@ -171,22 +146,10 @@ clears_weigh kinds count (t ∷ ts) = let h = clears_weigh kinds count ts in ome
 pub settled_is : (kinds : List ℕ) (setup : Setup) (log : List Entry) (s : ℕ) → settled_commands kinds setup log s ≡ length (issued kinds setup s (take (processed log) (received log)))
 settled_is kinds setup log s = ap (λ l. length (orders_for s (concat l))) (sym (reactions-take kinds setup (processed log) (received log)))
 
-off_by : (b : Bool) → (b ≡ true → ⊥) → b ≡ false
-off_by true h = absurd (h refl)
-off_by false h = refl
-
-plus_zero : (n : ℕ) → n + 0 ≡ n
-plus_zero n = omega arith
-
 -- what was told of one event is not told of another
 told_once : (o : Option ℕ) (j i : ℕ) → is_some_of j o ≡ true → is_some_of i o ≡ true → j < i → ⊥
 told_once None j i h k less = cc
 told_once (Some m) j i h k less = let a = eqb-true m j h in let b = eqb-true m i k in omega (arith, a, b, less)
-
-not_both : (a b : Bool) → (a && not b) ≡ false → (a ≡ false) ⊎ (b ≡ true)
-not_both true true h = inr refl
-not_both true false h = absurd cc
-not_both false b h = inl refl
 
 module _ (kinds : List ℕ) (setup : Setup) (view : ℕ) (states : ℕ → SwitchState) (fs : List Flight) where
   -- marks, switch by switch
@@ -352,7 +315,7 @@ module _ (kinds : List ℕ) (setup : Setup) (view : ℕ) (states : ℕ → Switc
           let more : take (j + 1) es ≡ take j es ++ e ∷ [] = take_more es j e there ∙ ap (λ (x : Event). take j es ++ x ∷ []) (get_or_from_slice_get es j e e found) in
           let sum : count_from s (take j es ++ e ∷ []) ≡ count_from s (take j es) + count_from s (e ∷ []) = sum_by-append _ (take j es) (e ∷ []) in
           let none : count_from s (e ∷ []) ≡ 0 = rw other refl in
-          processed_from_next s ∙ ap (λ (l : List Event). count_from s l) more ∙ sum ∙ ap (λ (k : ℕ). count_from s (take j es) + k) none ∙ plus_zero (count_from s (take j es))
+          processed_from_next s ∙ ap (λ (l : List Event). count_from s l) more ∙ sum ∙ ap (λ (k : ℕ). count_from s (take j es) + k) none ∙ add-zero (count_from s (take j es))
 
       abbrev answer : List (Letter ControllerSays)
       answer = answers_for kinds setup next j (Some e)
@@ -380,7 +343,7 @@ module _ (kinds : List ℕ) (setup : Setup) (view : ℕ) (states : ℕ → Switc
           let heavy = weigh-append kinds gs (posted answer) in
           let each = clears_weigh kinds (λ (t : ℕ). settled_commands kinds setup (committed next) t) cleared in
           let few = filter_few (λ (t : ℕ). list_any (λ (n : Numbered). nat_eq n.switch t) (commands_of kinds setup (received (committed next)) j)) (numbers_below (length setup.ports)) in
-          let all = numbers_few (length setup.ports) in
+          let all = length-numbers_below (length setup.ports) in
           let same = sums_same (λ t. budget kinds setup next t (states t)) (λ t. budget kinds setup c t (states t)) (length setup.ports)
           (λ t lt. ap (λ (l : List Event). 2 * (length (states t).events - min (length (states t).events) ((states t).cleared + window)) + times (to_process setup + to_send kinds) (length (states t).events - count_from t l)) logged_next) in
           let was : untold c ≡ unprocessed c - 1 = ap (λ (b : Bool). unprocessed c - (if b then 1 else 0)) (due.told ∙ some) in

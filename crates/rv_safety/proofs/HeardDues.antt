@@ -1,6 +1,7 @@
 -- What the controller of a group of one hears while it is drained.
 use Rattle.std.proofs.Common.{◌≡◌, ◌≤◌, ◌<◌, ◌⊎◌, inl, inr, ℕ, ◌+◌, ◌-◌, ◌*◌, Bool, true, false, not, ◌&&◌, ◌||◌, List, [], ◌∷◌, ◌++◌, length, filter, take, suc, refl, sym, ◌∙◌, ap, subst, append-nil, arith, length-append, take_all}
 use Rattle.std.specs.Prelude.{min, nat_eq, nat_le, nat_lt, slice_index_or, Some}
+use Rattle.std.proofs.Math.Nat.{add-zero}
 use Rattle.std.proofs.lemmas.Bool.{cases_Bool, and_parts, or_cases, eqb-true, eq-eqb, lt-ltb, ltb-true, ltb-false, le-leb}
 use Rattle.std.proofs.lemmas.List.{take-append-le, get_or_append_left}
 use Rattle.std.proofs.lemmas.List.Sums.{sum_by-append}
@@ -28,7 +29,8 @@ use Rattle.controller_core.specs.Log.{received, processed, count_from, is_past_l
 use Rattle.controller_core.specs.Marks.{commands_of, with_numbers, is_confirmed, is_acked, unacknowledged, has_unprocessed, is_finished, is_pending, settled_commands}
 use Rattle.controller_core.specs.State.{ControllerState, Work, committed, appended, resting}
 use Rattle.controller_core.specs.Rules.{is_some_of, command_letters, commands_for, processed_from, ack_letter, with_commands_sent, on_event, acknowledged, on_result, confirmed_by, on_role_reply}
-use Rattle.rv_safety.proofs.Lists.{front_prefix, prefix_length}
+use Rattle.rv_safety.proofs.Tests.{differ, both_true, or_nothing, or_true, not_before}
+use Rattle.rv_safety.proofs.Lists.{filter_passes, filter_among, front_prefix, prefix_length}
 use Rattle.rv_world.specs.Laws.{IsPrefix}
 use Rattle.rv_safety.proofs.Issued.{command_between, issued_prefix, reactions_prefix, length-reactions}
 use Rattle.rv_safety.proofs.More.{received-append, processed-append, count_prefix}
@@ -36,18 +38,7 @@ use Rattle.rv_safety.proofs.Loads.{weigh-append, times, times_suc, to_process, t
 use Rattle.rv_safety.proofs.Flights.{Flight, To_controller, Carries, carries_left, carries_right, carries_on, event_number, events_in, commands_in, events_in-append, commands_in-append, logged, AreDue}
 use Rattle.rv_safety.proofs.Dues.{IsRequest, IsReply, IsAnswer, IsUnderWay, is_asked, IsOfView, sent_of, IsDueAt, Leads, IsDue}
 use Rattle.rv_safety.proofs.Batches.{posted, commands_for_due}
-use Rattle.rv_safety.proofs.ControllerDues.{flown, sent_under_way, sent_of_view, posted_due, IsNearlyDue, filter_passes, filter_among, marks_of, settled_is, sent_due, finishing_due, differ, sent_weigh, unacknowledged_few}
-
-or_nothing : (b : Bool) → (b || false) ≡ b
-or_nothing true = refl
-or_nothing false = refl
-
-or_true : (b : Bool) → (b || true) ≡ true
-or_true true = refl
-or_true false = refl
-
-plus_none : (n : ℕ) → n + 0 ≡ n
-plus_none n = omega arith
+use Rattle.rv_safety.proofs.ControllerDues.{flown, sent_under_way, sent_of_view, posted_due, IsNearlyDue, marks_of, settled_is, sent_due, finishing_due, sent_weigh, unacknowledged_few}
 
 -- the commands of an event stay, as more is received
 commands_stay : (kinds : List ℕ) (setup : Setup) (es fs : List Event) (j : ℕ) → j < length es → IsPrefix (reactions kinds setup es) (reactions kinds setup fs) → commands_of kinds setup fs j ≡ commands_of kinds setup es j
@@ -57,14 +48,6 @@ commands_stay kinds setup es fs j lt p =
     ap (λ l. with_numbers (concat (take j l)) (slice_index_or l j [])) p.joined
     ∙ ap (λ l. with_numbers (concat l) (slice_index_or (rs ++ p.rest) j [])) (take-append-le j rs p.rest (omega (arith, there)))
     ∙ ap (λ l. with_numbers (concat (take j rs)) l) (get_or_append_left rs p.rest [] j there)
-
-not_before : (a b : Bool) → not (a || b) ≡ true → not a ≡ true
-not_before true b h = h
-not_before false b h = refl
-
-pub both_true : (a b : Bool) → a ≡ true → b ≡ true → (a && b) ≡ true
-both_true true b h k = k
-both_true false b h k = h
 
 -- where a turn leaves all that is due, and settled, or met the limit of the log
 abbrev pub IsRested : List ℕ → Setup → ℕ → (ℕ → SwitchState) → List Flight → Work → Type 0
@@ -296,7 +279,7 @@ module _ (kinds : List ℕ) (setup : Setup) (view : ℕ) (states : ℕ → Switc
         received_committed = ap received whole_log ∙ received_log ∙ ap (λ (l : List Entry). received l ++ event ∷ []) (sym due.leads.whole)
 
         processed_same : processed (committed next_log) ≡ processed (committed c)
-        processed_same = ap processed whole_log ∙ processed-append c.log (entry ∷ []) ∙ plus_none (processed c.log) ∙ ap processed (sym due.leads.whole)
+        processed_same = ap processed whole_log ∙ processed-append c.log (entry ∷ []) ∙ add-zero (processed c.log) ∙ ap processed (sym due.leads.whole)
 
         -- what is processed stays so
         taken : take (processed (committed next_log)) (received (committed next_log)) ≡ take (processed (committed c)) (received (committed c))

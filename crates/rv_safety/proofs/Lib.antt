@@ -1,4 +1,5 @@
 pub mod Lists
+pub mod Tests
 pub mod Entries
 pub mod Decided
 pub mod Issued

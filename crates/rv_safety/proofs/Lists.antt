@@ -1,6 +1,7 @@
 -- Beginnings and places of lists.
-use Rattle.std.proofs.Common.{◌≡◌, ◌≤◌, ℕ, List, [], ◌∷◌, ◌++◌, length, take, map, zero, suc, refl, sym, ◌∙◌, ap, subst, inl, inr, ◌⊎◌, append-nil, append_assoc, arith, length-append}
-use Rattle.std.specs.Prelude.{slice_get, Some}
+use Rattle.std.proofs.Common.{◌≡◌, ◌≤◌, ℕ, Bool, true, false, List, [], ◌∷◌, ◌++◌, length, take, map, filter, zero, suc, refl, sym, ◌∙◌, ap, subst, inl, inr, ◌⊎◌, append-nil, append_assoc, arith, length-append}
+use Rattle.std.specs.Prelude.{slice_get, Some, if◌then◌else◌}
+use Rattle.std.specs.List.{AllByRecursion}
 use Rattle.rv_base.proofs.Among.{Among}
 use Rattle.rv_world.specs.Laws.{IsPrefix}
 
@@ -94,3 +95,33 @@ no_split (y ∷ front) back e is = cc
 
 pub none_at : {A : Type 0} (i : ℕ) (x : A) → slice_get [] i ≡ Some x → ⊥
 none_at i x h = cc
+
+-- what holds of each holds of one of them
+pub all_of : {A : Type 0} (P : A → Type 0) (xs : List A) (x : A) → AllByRecursion P xs → Among x xs → P x
+all_of P [] x h k = absurd k
+all_of P (y ∷ xs) x h (inl e) = subst P (sym e) h.0
+all_of P (y ∷ xs) x h (inr k) = all_of P xs x h.1 k
+
+-- and what holds of one after another holds of each
+pub all_among : {A : Type 0} (P : A → Type 0) (xs : List A) → ((x : A) → Among x xs → P x) → AllByRecursion P xs
+all_among P [] all = tt
+all_among P (x ∷ xs) all = (all x (inl refl), all_among P xs (λ y h. all y (inr h)))
+
+-- what is left of a list passes the test, and what passes it is left
+passes_by : {A : Type 0} (p : A → Bool) (y x : A) (xs : List A) (b : Bool) → p y ≡ b → (Among x (filter p xs) → p x ≡ true) → Among x (if b then y ∷ filter p xs else filter p xs) → p x ≡ true
+passes_by p y x xs true is rest (inl e) = ap p e ∙ is
+passes_by p y x xs true is rest (inr k) = rest k
+passes_by p y x xs false is rest k = rest k
+
+pub filter_passes : {A : Type 0} (p : A → Bool) (xs : List A) (x : A) → Among x (filter p xs) → p x ≡ true
+filter_passes p [] x h = absurd h
+filter_passes p (y ∷ xs) x h = passes_by p y x xs (p y) refl (filter_passes p xs x) h
+
+pub filter_among : {A : Type 0} (p : A → Bool) (xs : List A) (x : A) → Among x xs → p x ≡ true → Among x (filter p xs)
+filter_among p [] x h passes = absurd h
+filter_among p (y ∷ xs) x (inl e) passes = let same : p y ≡ true = ap p (sym e) ∙ passes in rw same (inl e)
+filter_among p (y ∷ xs) x (inr h) passes = by_test (p y) (filter_among p xs x h passes)
+  where
+    by_test : (b : Bool) → Among x (filter p xs) → Among x (if b then y ∷ filter p xs else filter p xs)
+    by_test true k = inr k
+    by_test false k = k

@@ -4,7 +4,7 @@
 use Rattle.std.proofs.Common.{◌≡◌, ◌≤◌, ◌<◌, inl, inr, ℕ, ◌+◌, ◌-◌, ◌*◌, Bool, true, false, List, [], ◌∷◌, ◌++◌, length, filter, zero, suc, refl, subst, arith}
 use Rattle.std.specs.Prelude.{min, nat_eq, sum_by, if◌then◌else◌}
 use Rattle.std.proofs.lemmas.Bool.{cases_lt, ne_eqb}
-use Rattle.std.proofs.lemmas.List.Sums.{sum_by-append}
+use Rattle.std.proofs.lemmas.List.Sums.{sum_by-append, length-filter, count_by-le-length}
 use Rattle.of_types.specs.declared.message.Extension.TheVariants as extension
 use Rattle.of_types.specs.declared.message.OfMessage.TheVariants as plain
 use Rattle.of_types.specs.declared.message.Spoken.TheVariants as spoken
@@ -134,10 +134,5 @@ sums_trade f g (suc n) s spent given lt same here =
     ]
 
 -- what is left of a list is no longer
-choice_short : {A : Type 0} (b : Bool) (x : A) (xs ys : List A) → length xs ≤ length ys → length (if b then x ∷ xs else xs) ≤ suc (length ys)
-choice_short true x xs ys h = omega (arith, h)
-choice_short false x xs ys h = omega (arith, h)
-
 pub filter_few : {A : Type 0} (p : A → Bool) (xs : List A) → length (filter p xs) ≤ length xs
-filter_few p [] = omega arith
-filter_few p (x ∷ xs) = choice_short (p x) x (filter p xs) xs (filter_few p xs)
+filter_few p xs = let count = length-filter p xs in let few = count_by-le-length p xs in omega (arith, count, few)

@@ -58,7 +58,8 @@ use Rattle.rv_world.proofs.Suspecting.{one_suspects, none_suspects}
 use Rattle.rv_safety.specs.Facts.{Facts, facts_of}
 use Rattle.rv_safety.specs.Premises.{IsFaithful, HasBytes}
 use Rattle.rv_safety.specs.Truths.{IsTold, IsReported}
-use Rattle.rv_safety.proofs.Lists.{front_prefix, prefix_length}
+use Rattle.rv_safety.proofs.Tests.{differ, both_true}
+use Rattle.rv_safety.proofs.Lists.{all_of, front_prefix, prefix_length}
 use Rattle.rv_safety.proofs.Entries.{Mine, Another, switch_after, Own, Other, controller_after}
 use Rattle.rv_safety.proofs.Decided.{decided_up}
 use Rattle.rv_safety.proofs.More.{count_prefix, received-append}
@@ -74,8 +75,8 @@ use Rattle.rv_safety.proofs.Loads.{load, weigh_least}
 use Rattle.rv_safety.proofs.Dues.{is_asked, IsOfView, IsDueAt, IsDue, HasCounts}
 use Rattle.rv_safety.proofs.Batches.{posted}
 use Rattle.rv_safety.proofs.SwitchDues.{Effect, master_turns, ack_turns, clear_turns, command_turns, switch_due}
-use Rattle.rv_safety.proofs.ControllerDues.{settled_is, differ}
-use Rattle.rv_safety.proofs.HeardDues.{IsRested, both_true}
+use Rattle.rv_safety.proofs.ControllerDues.{settled_is}
+use Rattle.rv_safety.proofs.HeardDues.{IsRested}
 use Rattle.rv_safety.proofs.TurnDues.{heard_due, start_due}
 use Rattle.rv_safety.proofs.Views.{all_committed, own_number, orders_posted, reports_posted}
 use Rattle.rv_safety.proofs.Askings.{below, is_fresh, is_unasked}
@@ -84,12 +85,6 @@ use Rattle.rv_safety.proofs.Rooms.{nothing_lost}
 use Rattle.rv_safety.specs.Room.{most_commands}
 use Rattle.rv_safety.proofs.Commands.{issued_few}
 use Rattle.controller_core.proofs.Addresses.{commands_of_for}
-
--- what holds of each holds of one of them
-all_of : {A : Type 0} (P : A → Type 0) (xs : List A) (x : A) → AllByRecursion P xs → Among x xs → P x
-all_of P [] x h k = absurd k
-all_of P (y ∷ xs) x h (inl e) = subst P (sym e) h.0
-all_of P (y ∷ xs) x h (inr k) = all_of P xs x h.1 k
 
 -- a list from which nothing is made is empty
 none_mapped : {A C D : Type 0} (f : A → C) (g : A → D) (xs : List A) → map f xs ≡ [] → map g xs ≡ []

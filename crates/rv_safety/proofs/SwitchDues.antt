@@ -3,7 +3,7 @@ use Rattle.std.proofs.Common.{◌≡◌, ◌≤◌, ◌<◌, inl, inr, ℕ, ◌+
 use Rattle.std.specs.Prelude.{max, min, nat_eq, Option, Some, None, if◌then◌else◌}
 use Rattle.std.specs.List.{AllByRecursion}
 use Rattle.std.proofs.lemmas.Bool.{cases_Bool, and_parts, cases_lt, eqb-true, eq-eqb, lt-ltb}
-use Rattle.std.proofs.lemmas.List.{length-drop}
+use Rattle.std.proofs.lemmas.List.{length-take, length-drop}
 use Rattle.of_types.specs.declared.message.Event.{Event}
 use Rattle.of_types.specs.declared.message.Executed.{Executed}
 use Rattle.of_types.specs.declared.message.Extension.TheVariants as extension
@@ -36,11 +36,6 @@ use Rattle.rv_safety.proofs.Generations.{fresh_above}
 use Rattle.rv_safety.proofs.Loads.{weight, weigh, weigh-append, times, to_process, to_send, budget, load, sums_trade}
 use Rattle.rv_safety.proofs.Flights.{Flight, To_switch, To_controller, switch_flight, Carries, carries_left, carries_right, carries_on, event_number, events_in, command_number, commands_in, events_in-append, commands_in-append, logged, logged-append, logged_least, AreDue, due_more, AreFrom, from_drop, from_zero, from_take, logged_from}
 use Rattle.rv_safety.proofs.Dues.{IsRequest, IsReply, IsAnswer, IsUnderWay, is_asked, IsOfView, sent_of, IsDueAt, AreUnderWay, IsDue, HasCounts}
-
-length_take : {A : Type 0} (n : ℕ) (xs : List A) → length (take n xs) ≡ min n (length xs)
-length_take zero xs = omega arith
-length_take (suc n) [] = omega arith
-length_take (suc n) (x ∷ xs) = let h = length_take n xs in omega (arith, h)
 
 -- what a switch posts is no command, and no event of another switch
 no_command : (t s : ℕ) (to : Actor) (m : SwitchSays) → command_number t (switch_flight s (record { to = to; body = m })) ≡ []
@@ -138,7 +133,7 @@ module _ (kinds : List ℕ) (setup : Setup) (view s : ℕ) (c : ControllerState)
     held_from = from_take state.cleared window (drop state.cleared state.events) (from_zero state.cleared state.events counts.made)
 
     held_length : length (first_held state) ≡ min window (length state.events - state.cleared)
-    held_length = length_take window (drop state.cleared state.events) ∙ ap (λ (n : ℕ). min window n) (length-drop state.cleared state.events)
+    held_length = length-take window (drop state.cleared state.events) ∙ ap (λ (n : ℕ). min window n) (length-drop state.cleared state.events)
 
     master_asked : is_asked view (fenced state (as_master state.fence 0 view)) ≡ true
     master_asked = eq-eqb view view refl
@@ -204,7 +199,7 @@ module _ (kinds : List ℕ) (setup : Setup) (view s : ℕ) (c : ControllerState)
     unfolding gone before
     come_length =
         length-drop before (take window (drop gone state.events))
-        ∙ ap (λ (n : ℕ). n - before) (length_take window (drop gone state.events) ∙ ap (λ (n : ℕ). min window n) (length-drop gone state.events))
+        ∙ ap (λ (n : ℕ). n - before) (length-take window (drop gone state.events) ∙ ap (λ (n : ℕ). min window n) (length-drop gone state.events))
 
     before_is : before ≡ window - (gone - state.cleared)
     unfolding before
@@ -410,12 +405,12 @@ other_command t s c (spoken.Ravana (extension.Command life generation number set
 other_command t s c _ other = refl
 
 of_view_more : (view : ℕ) (states states' : ℕ → SwitchState) → ((t : ℕ) → is_asked view (states t) ≡ true → is_asked view (states' t) ≡ true) → (f : Flight) → IsOfView view states f → IsOfView view states' f
-of_view_more view states states' kept (To_switch c s (spoken.Ravana (extension.Command life generation number settled what))) h = (h.0, h.1, kept s h.2)
-of_view_more view states states' kept (To_controller s c (spoken.Plain (plain.RoleReply role generation))) h = λ is same. kept s (h is same)
-of_view_more view states states' kept (To_switch c s (spoken.Plain (plain.RoleRequest role generation))) h = h
-of_view_more view states states' kept (To_switch c s (spoken.Ravana (extension.EventAck life through))) h = h
-of_view_more view states states' kept (To_switch c s _) h = h
-of_view_more view states states' kept _ h = tt
+of_view_more view states states' stay (To_switch c s (spoken.Ravana (extension.Command life generation number settled what))) h = (h.0, h.1, stay s h.2)
+of_view_more view states states' stay (To_controller s c (spoken.Plain (plain.RoleReply role generation))) h = λ is same. stay s (h is same)
+of_view_more view states states' stay (To_switch c s (spoken.Plain (plain.RoleRequest role generation))) h = h
+of_view_more view states states' stay (To_switch c s (spoken.Ravana (extension.EventAck life through))) h = h
+of_view_more view states states' stay (To_switch c s _) h = h
+of_view_more view states states' stay _ h = tt
 
 module _ (kinds : List ℕ) (setup : Setup) (view : ℕ) (c : ControllerState) (states states' : ℕ → SwitchState) (s from : ℕ) (said : Spoken) (rest : List Flight) (turn : SwitchTurn) (there : s < length setup.ports)
     (now : states' s ≡ turn.state) (others : (t : ℕ) → nat_eq s t ≡ false → states' t ≡ states t)

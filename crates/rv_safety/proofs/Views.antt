@@ -31,6 +31,7 @@ use Rattle.rv_safety.specs.Premises.{IsFaithful}
 use Rattle.rv_safety.proofs.Decided.{stays_up}
 use Rattle.rv_safety.proofs.Entries.{Turns, Falls, Stays, ControllerAfter, Own, Other, controller_after}
 use Rattle.rv_safety.proofs.Invariant.{IsReport, IsOrder}
+use Rattle.rv_safety.proofs.Lists.{all_among}
 use Rattle.rv_safety.proofs.Packets.{told_valid, reported_valid}
 use Rattle.rv_safety.proofs.Flights.{Flight, To_switch, flight_of, packet_flight, switch_flight, controller_flight}
 
@@ -111,10 +112,6 @@ AsksAtMost view f = Unit {0}
 pub asks_more : (v w : ℕ) → v ≤ w → (f : Flight) → AsksAtMost v f → AsksAtMost w f
 asks_more v w le (To_switch c s (spoken.Plain (plain.RoleRequest role generation))) h = omega (arith, le, h)
 asks_more v w le _ h = tt
-
-all_among : {A : Type 0} (P : A → Type 0) (xs : List A) → ((x : A) → Among x xs → P x) → AllByRecursion P xs
-all_among P [] all = tt
-all_among P (x ∷ xs) all = (all x (inl refl), all_among P xs (λ y h. all y (inr h)))
 
 -- the letters of a controller that is up
 pub record HasAsked (c : ControllerState) (w : Work) : Type 0 where

@@ -1,7 +1,8 @@
 //! What is counted in a log. None of these calls takes memory.
-ghost use Rattle.std.specs.Prelude.{◌≡◌, take};
-ghost use Rattle.vr_log.specs.Log.{may_follow as may_stand};
+ghost use Rattle.std.specs.Prelude.{◌≡◌, ◌↔◌, true, take, None};
+ghost use Rattle.vr_log.specs.Log.{is_log, may_follow as may_stand};
 ghost use Rattle.two_stage_log.specs.Counts as counts;
+ghost use Rattle.two_stage_log.specs.Counts.{AllProcessed};
 
 use vr_log::{Entry, Log, count_from, count_processed, count_received, is_next};
 
@@ -22,24 +23,32 @@ pub fn next_number(log: &Log, switch: u8) -> u64
 
 /// The first entries of a log, so many as there are.
 fn front(log: &Log, through: u64) -> &[Entry]
-    ensures { result.now ≡ take through log.now }
+    ensures entries { result.now ≡ take through log.now }
+    ensures lawful { is_log log.now ≡ true }
 {
     let entries = log.as_slice();
     let len = entries.len() as u64;
     &entries[..through.min(len) as usize]
 }
 
-/// The place of the first event that is received and not processed in the first entries of a log.
-pub fn first_unprocessed(log: &Log, through: u64) -> Option<u64>
-    ensures { result ≡ counts.first_unprocessed (take through log.now) }
+fn first_of(entries: &[Entry]) -> Option<u64>
+    ensures { result ≡ counts.first_unprocessed entries.now }
 {
-    let entries = front(log, through);
     let processed = count_processed(entries);
     if processed < count_received(entries) {
         Some(processed as u64)
     } else {
         None
     }
+}
+
+/// The place of the first event that is received and not processed in the first entries of a log.
+pub fn first_unprocessed(log: &Log, through: u64) -> Option<u64>
+    ensures first { result ≡ counts.first_unprocessed (take through log.now) }
+    // There is none exactly where each event that is received there is processed there.
+    ensures none { (result ≡ None) ↔ AllProcessed (take through log.now) }
+{
+    first_of(front(log, through))
 }
 
 /// How many of so many first events are of a switch.

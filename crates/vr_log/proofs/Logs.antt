@@ -1,12 +1,11 @@
 -- What appending keeps.
-use Rattle.std.proofs.Common.{◌≡◌, ℕ, ◌+◌, ◌-◌, ◌≤◌, ◌<◌, Bool, true, false, not, ◌&&◌, List, [], ◌∷◌, ◌++◌, length, refl, ap, sym, ◌∙◌, append_assoc, arith, cond, length-append}
-use Rattle.std.specs.Prelude.{nat_le, nat_lt, sum_by}
+use Rattle.std.proofs.Common.{◌≡◌, ℕ, ◌+◌, ◌≤◌, Bool, true, ◌&&◌, List, [], ◌∷◌, ◌++◌, length, refl, ap, sym, ◌∙◌, append_assoc, arith}
 use Rattle.std.proofs.lemmas.List.{append-nil}
 use Rattle.std.proofs.lemmas.List.Sums.{sum_by-append}
 use Rattle.std.proofs.Math.Bool.{and-true, and_assoc}
 use Rattle.std.proofs.lemmas.Grind.{common_steps}
 use Rattle.vr_log.specs.declared.entry.Entry.{Entry}
-use Rattle.vr_log.specs.Log.{fits, follows, is_log, IsLog, may_follow, entry_size, log_size}
+use Rattle.vr_log.specs.Log.{fits, follows, IsLog, entry_size, log_size}
 
 pub follows-append : (before xs : List Entry) (e : Entry) → follows before (xs ++ e ∷ []) ≡ (follows before xs && fits (before ++ xs) e)
 follows-append before [] e = rw (append-nil before) (and-true (fits before e))

@@ -1,12 +1,12 @@
 -- What keeps a state valid.
-use Rattle.std.proofs.Common.{Result, Ok, Err, OnOk, ◌≡◌, ℕ, ◌+◌, ◌<◌, ◌≤◌, Bool, true, false, List, [], ◌∷◌, ◌++◌, length, sym, subst, arith, length-append, max, min}
-use Rattle.std.specs.Prelude.{if◌then◌else◌, Contains, replicate}
+use Rattle.std.proofs.Common.{Result, Ok, Err, OnOk, ℕ, ◌<◌, ◌≤◌, Bool, true, false, List, [], ◌∷◌, ◌++◌, length, sym, subst, arith, length-append, max, min}
+use Rattle.std.specs.Prelude.{if◌then◌else◌, Contains}
 use Rattle.std.specs.List.{IsDistinct}
 use Rattle.std.proofs.lemmas.List.{length-replicate}
 use Rattle.vr_log.specs.declared.entry.Entry.{Entry}
 use Rattle.vr_log.specs.declared.state.VrOut.{VrOut}
 use Rattle.vr_log.specs.declared.state.VrState.{VrState}
-use Rattle.vr_log.specs.Steps.{VrStep, Did, appended, acknowledges}
+use Rattle.vr_log.specs.Steps.{VrStep, Did, acknowledges}
 use Rattle.vr_log.specs.Valid.{AreMembers, IsValid, starting_state}
 
 -- a choice keeps what both sides keep

@@ -1,6 +1,6 @@
 -- The replicated log of a group (Ravana, 3.2; Viewstamped Replication Revisited, 4): which entry may
 -- follow, and the limits.
-use Rattle.std.specs.Prelude.{◌≡◌, ◌≤◌, ℕ, ◌+◌, ◌-◌, ◌^◌, min, Bool, true, false, not, nat_eq, nat_lt, nat_le, ◌&&◌, List, [], ◌∷◌, ◌++◌, length, count_by, sum_by, Result, Ok, Err, if◌then◌else◌}
+use Rattle.std.specs.Prelude.{◌≡◌, ◌≤◌, ℕ, ◌+◌, ◌-◌, ◌^◌, min, Bool, true, false, not, nat_eq, nat_lt, nat_le, ◌&&◌, List, [], ◌∷◌, ◌++◌, length, count_by, sum_by, Result, Ok, Err}
 use Rattle.of_types.specs.declared.message.Event.{Event}
 use Rattle.of_types.specs.Sizes.{happening_size}
 use Rattle.vr_log.specs.declared.entry.Entry.{Entry}

@@ -113,7 +113,7 @@ fn members_and_letters(rt: HostRuntime) -> Result<(), Fail> {
     assert_eq!(rt; (state.primary_of(0), state.primary_of(5)), (0, 2));
     assert!(rt; state.is_from_primary(0, 0) && !state.is_from_primary(2, 5));
     assert_eq!(rt; state.most_failures(), 1);
-    state.log.append(port_event(0, 0))?;
+    state.log.push(port_event(0, 0)).map_err(|_| AllocError)?;
     state.acknowledge(9, &mut out)?;
     assert_eq!(rt; state.commit, 1);
     let message = VrMessage::Commit { view: 0, commit: 1 };

@@ -1,6 +1,6 @@
-use Rattle.std.proofs.Common.{arith, List, ◌≡◌, true, ◌∙◌, ◌≤◌, ◌^◌, subst, sym}
+use Rattle.std.proofs.Common.{arith, List, ◌≡◌, true, ◌≤◌, subst, sym}
 use Rattle.vr_log.specs.declared.entry.Entry.{Entry}
-use Rattle.vr_log.specs.Log.{log_size, entry_size, fits}
+use Rattle.vr_log.specs.Log.{entry_size, fits}
 use Rattle.vr_log.proofs.Logs.{IsLog-append, log_size-append, entry_size-small}
 use Rattle.vr_log.proofs.log.Log.append.Goals as goal
 

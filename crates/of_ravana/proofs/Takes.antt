@@ -32,7 +32,7 @@ inner_takes one other wrong bytes m fits e =
     let q = passed unknown wrong (message_at bytes) m p.1 in
     (xid_of bytes, message_takes bytes m fits q.1)
 
-is_happening : (m : OfMessage) (what : Happening) → as_happening m ≡ Ok what → m ≡ happening_message what
+pub is_happening : (m : OfMessage) (what : Happening) → as_happening m ≡ Ok what → m ≡ happening_message what
 is_happening plain.Hello what e = absurd cc
 is_happening (plain.Error k c h) what e = absurd cc
 is_happening (plain.EchoRequest b) what e = absurd cc

@@ -20,7 +20,7 @@ use Rattle.of_ravana.specs.Grammar.{SpellsInner, IsFront, IsEvent, IsThrough, Is
 
 -- ---- messages inside others
 
-happening_length : (what : Happening) → length (canonical_happening what) ≡ happening_size what
+pub happening_length : (what : Happening) → length (canonical_happening what) ≡ happening_size what
 unfolding canonical_happening
 happening_length (happening.PacketIn p) = message_size 0 (happening_message (happening.PacketIn p))
 happening_length (happening.PortStatus p) = message_size 0 (happening_message (happening.PortStatus p))
@@ -30,7 +30,7 @@ unfolding canonical_order
 order_length (order.FlowMod c) = message_size 0 (order_message (order.FlowMod c))
 order_length (order.PacketOut p) = message_size 0 (order_message (order.PacketOut p))
 
-happening_spelled : (what : Happening) → FitsPlain (happening_message what) → happening_size what ≤ 65535 → SpellsInner (canonical_happening what) (happening_message what)
+pub happening_spelled : (what : Happening) → FitsPlain (happening_message what) → happening_size what ≤ 65535 → SpellsInner (canonical_happening what) (happening_message what)
 unfolding canonical_happening
 happening_spelled (happening.PacketIn p) f short = (0, message_spelled 0 (happening_message (happening.PacketIn p)) tt f short (lit< tt))
 happening_spelled (happening.PortStatus p) f short = (0, message_spelled 0 (happening_message (happening.PortStatus p)) tt f short (lit< tt))

@@ -7,7 +7,8 @@ use of_bytes::{u16_fits, u32_fits, u64_fits};
 use of_messages::{flow_mod_fits, packet_in_fits, packet_out_fits, port_status_fits};
 use of_types::{Extension, Happening, Order, Outcome};
 
-fn happening_fits(what: &Happening)
+/// Each number of an event's message fits its field.
+pub fn happening_fits(what: &Happening)
     ensures { FitsPlain (happening_message what.now) }
 {
     match what {

@@ -8,5 +8,6 @@ mod reading;
 mod tests;
 mod writing;
 
+pub use fitting::happening_fits;
 pub use reading::{decode_extension, extension_law};
 pub use writing::{canonical, canonical_happening, canonical_order, encode_extension};

@@ -1,0 +1,27 @@
+-- What is counted in the first entries of a log (Ravana, 3.2): an event is received, and later processed.
+use Rattle.std.specs.Prelude.{◌≡◌, ◌<◌, ℕ, Bool, true, false, nat_eq, nat_lt, List, length, take, Option, Some, None, if◌then◌else◌}
+use Rattle.std.specs.List.{list_any}
+use Rattle.vr_log.specs.declared.entry.Entry.{Entry}
+use Rattle.vr_log.specs.declared.entry.Entry.TheVariants.{Received, Processed}
+use Rattle.vr_log.specs.Log.{received, processed, count_from}
+
+-- the number that the next event of a switch has
+abbrev pub next_number : List Entry → ℕ → ℕ
+next_number log switch = count_from switch (received log)
+
+-- the place of the first event that is received and not processed: events are processed in their order
+abbrev pub first_unprocessed : List Entry → Option ℕ
+first_unprocessed log = if nat_lt (processed log) (length (received log)) then Some (processed log) else None
+
+-- how many events of a switch are processed
+abbrev pub processed_of : List Entry → ℕ → ℕ
+processed_of log switch = count_from switch (take (processed log) (received log))
+
+-- an entry tells that the event at this place is processed
+abbrev pub tells_processed : ℕ → Entry → Bool
+tells_processed j (Received event) = false
+tells_processed j (Processed i) = nat_eq i j
+
+-- each event that is received is processed there
+abbrev pub AllProcessed : List Entry → Type 0
+AllProcessed log = (j : ℕ) → j < length (received log) → list_any (λ entry. tells_processed j entry) log ≡ true

@@ -1,0 +1,8 @@
+//! The two stages of the replicated log: events are received, and later processed (Ravana, 3.2).
+#![tactic(auto)]
+
+mod counts;
+#[cfg(test)]
+mod tests;
+
+pub use counts::{first_unprocessed, may_follow, next_number, processed_of};

@@ -1,0 +1,62 @@
+use super::*;
+use of_types::{Event, Happening, PortStatus};
+use std::test::Fail;
+use vr_log::{Entry, Log};
+
+/// A port of a switch went down.
+fn port_event(switch: u8, number: u64) -> Entry {
+    let status = PortStatus {
+        reason: 2,
+        port: 1,
+        up: false,
+    };
+    Entry::Received(Event {
+        switch,
+        life: 0,
+        number,
+        what: Happening::PortStatus(status),
+    })
+}
+
+/// Three events of two switches, of which the first is processed.
+#[test]
+fn counts_over_the_first_entries(rt: HostRuntime) -> Result<(), Fail> {
+    let mut log = Log::new(rt.alloc());
+    assert_eq!(rt; first_unprocessed(&log, 9), None);
+    assert!(rt;
+        log.extend(&[
+            port_event(3, 0),
+            port_event(5, 0),
+            Entry::Processed(0),
+            port_event(3, 1)
+        ])?
+    );
+    assert!(rt; may_follow(&log, &port_event(3, 2)) && !may_follow(&log, &port_event(5, 0)));
+    assert!(rt; may_follow(&log, &Entry::Processed(1)) && !may_follow(&log, &Entry::Processed(2)));
+    assert_eq!(rt;
+        (
+            next_number(&log, 3),
+            next_number(&log, 5),
+            next_number(&log, 0)
+        ),
+        (2, 1, 0)
+    );
+    for (through, first) in [
+        (0, None),
+        (1, Some(0)),
+        (2, Some(0)),
+        (3, Some(1)),
+        (9, Some(1)),
+    ] {
+        assert_eq!(rt; first_unprocessed(&log, through), first);
+    }
+    assert_eq!(rt;
+        (
+            processed_of(&log, 2, 3),
+            processed_of(&log, 3, 3),
+            processed_of(&log, 9, 5)
+        ),
+        (0, 1, 0)
+    );
+    Ok(())
+}

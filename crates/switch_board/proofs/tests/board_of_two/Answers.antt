@@ -1,0 +1,7 @@
+use Rattle.std.proofs.Common.{rules}
+use Rattle.std.specs.List.{IsDistinct}
+use Rattle.switch_board.proofs.tests.board_of_two.Goals as goal
+
+pub new-requires-clause-distinct : goal.new-requires-clause-distinct
+unfolding IsDistinct
+new-requires-clause-distinct c = search rules

@@ -176,9 +176,11 @@ has_room setup steps script one only short follows =
 
 -- what was played behind a script, as the entries behind its part
 pub closes_behind : {B : Type 0} (scene : Scene B) (steps : List Turn) (count primary : ℕ) (journal : List (JournalEntry B)) → HasPlayed scene steps count (schedule.Done primary) journal → ClosesBehind scene count journal
-closes_behind scene steps count primary journal h =
-    (primary, subst (λ l. Closes scene [] l (drop count journal) (schedule.Done primary)) (sym (ap past (front_is scene steps count (schedule.Done primary) journal h)))
-    (subst (λ l. Closes scene [] (past h.front) l (schedule.Done primary)) (sym (rest_is scene steps count (schedule.Done primary) journal h)) h.closes))
+closes_behind scene steps count primary journal h = (
+  primary,
+  subst (λ l. Closes scene [] l (drop count journal) (schedule.Done primary)) (sym (ap past (front_is scene steps count (schedule.Done primary) journal h)))
+      (subst (λ l. Closes scene [] (past h.front) l (schedule.Done primary)) (sym (rest_is scene steps count (schedule.Done primary) journal h)) h.closes),
+)
 
 pub played_room : (setup : Setup) (steps : List Turn) (count primary : ℕ) (journal : List (JournalEntry Typed)) → setup.controllers ≡ 1 → length setup.ports ≡ 1 → IsScript steps →
     HasPlayed (scene_typed setup) steps count (schedule.Done primary) journal → HasRoom (scene_typed setup) [] (past (take count journal))

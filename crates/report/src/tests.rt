@@ -289,6 +289,9 @@ fn line_of_words_and_numbers(rt: HostRuntime) -> Result<(), Fail> {
     write_word(&mut line, b"next")?;
     write_number(&mut line, 9u64)?;
     write_newline(&mut line)?;
-    assert_eq!(rt; line.as_slice(), b"fault 9 length 4096 bytes 172324 next 9\n");
+    assert_eq!(rt;
+        line.as_slice(),
+        b"fault 9 length 4096 bytes 172324 next 9\n"
+    );
     Ok(())
 }

@@ -1,5 +1,5 @@
 -- In a log the events are processed in their order, so how many are tells which.
-use Rattle.std.proofs.Common.{◌≡◌, ℕ, zero, suc, ◌+◌, ◌<◌, ◌≤◌, Bool, true, false, not, ◌&&◌, ◌||◌, List, [], ◌∷◌, ◌++◌, length, take, Some, None, refl, sym, ap, ◌∙◌, arith, cond}
+use Rattle.std.proofs.Common.{◌≡◌, ℕ, ◌+◌, ◌<◌, ◌≤◌, Bool, true, false, not, ◌&&◌, ◌||◌, List, [], ◌∷◌, ◌++◌, length, Some, None, refl, sym, ap, ◌∙◌, arith, cond}
 use Rattle.std.specs.Prelude.{nat_eq, nat_le, nat_lt, if◌then◌else◌}
 use Rattle.std.specs.List.{list_any}
 use Rattle.std.proofs.lemmas.Bool.{and_parts}
@@ -9,14 +9,6 @@ use Rattle.vr_log.specs.declared.entry.Entry.{Entry}
 use Rattle.vr_log.specs.declared.entry.Entry.TheVariants.{Received, Processed}
 use Rattle.vr_log.specs.Log.{received, processed, is_processed, is_past_limits, may_follow, fits, follows, is_log}
 use Rattle.two_stage_log.specs.Counts.{first_unprocessed, tells_processed, AllProcessed}
-
--- the front of a log is one
-pub follows_take : (n : ℕ) (before entries : List Entry) → follows before entries ≡ true → follows before (take n entries) ≡ true
-follows_take zero before entries h = refl
-follows_take (suc n) before [] h = refl
-follows_take (suc n) before (entry ∷ entries) h =
-    let p = and_parts (fits before entry) (follows (before ++ entry ∷ []) entries) h in
-    rw (p.0, follows_take n (before ++ entry ∷ []) entries p.1) refl
 
 one_more : (before : List Entry) (entry : Entry) → processed (before ++ entry ∷ []) ≡ processed before + cond (is_processed entry) 1 0
 one_more before (Received event) = sum_by-append (λ (e : Entry). cond (is_processed e) 1 0) before (Received event ∷ [])

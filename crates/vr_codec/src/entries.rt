@@ -1,6 +1,5 @@
 //! Reading entries and logs.
-ghost use Rattle.std.specs.Prelude.{◌≡◌, ◌≤◌, ◌<◌, [], length, IfOk};
-ghost use Rattle.of_bytes.specs.Reading.{Gives};
+ghost use Rattle.std.specs.Prelude.{◌≤◌, ◌<◌, [], length, IfOk};
 ghost use Rattle.vr_codec.specs.Answers.{GivesVr};
 ghost use Rattle.vr_codec.specs.Reading.{event_at, told_at, received_at, processed_at, entry_at, entries_at, log_at, last_entry_at, last_log_at};
 

@@ -1,5 +1,5 @@
 //! Writing a message in its one form.
-ghost use Rattle.std.specs.Prelude.{◌≡◌, ◌++◌, flat_map, length, IfOk, OnOk};
+ghost use Rattle.std.specs.Prelude.{◌≡◌, ◌++◌, flat_map, IfOk, OnOk};
 ghost use Rattle.of_bytes.specs.Numbers.{four};
 ghost use Rattle.of_ravana.specs.Canonical as told;
 ghost use Rattle.vr_codec.specs.Canonical.{received_front, received_bytes, processed_bytes, canonical_entry, canonical_log, front, pair, recovery_bytes, filled_bytes, canonical_vr};

@@ -1,5 +1,6 @@
--- What appending keeps.
-use Rattle.std.proofs.Common.{◌≡◌, ℕ, ◌+◌, ◌≤◌, Bool, true, ◌&&◌, List, [], ◌∷◌, ◌++◌, length, refl, ap, sym, ◌∙◌, append_assoc, arith}
+-- What appending keeps, and the front of a log.
+use Rattle.std.proofs.Common.{◌≡◌, ℕ, zero, suc, ◌+◌, ◌≤◌, Bool, true, ◌&&◌, List, [], ◌∷◌, ◌++◌, length, take, refl, ap, sym, ◌∙◌, append_assoc, arith}
+use Rattle.std.proofs.lemmas.Bool.{and_parts}
 use Rattle.std.proofs.lemmas.List.{append-nil}
 use Rattle.std.proofs.lemmas.List.Sums.{sum_by-append}
 use Rattle.std.proofs.Math.Bool.{and-true, and_assoc}
@@ -31,3 +32,11 @@ log_size-append log e bytes size f b s = let t : log_size (log ++ e ∷ []) ≡ 
 
 pub entry_size-small : (log : List Entry) (e : Entry) → fits log e ≡ true → entry_size e ≤ 4194304
 entry_size-small log e f = grind (arith, common_steps)
+
+-- the front of a log is one
+pub follows_take : (n : ℕ) (before entries : List Entry) → follows before entries ≡ true → follows before (take n entries) ≡ true
+follows_take zero before entries h = refl
+follows_take (suc n) before [] h = refl
+follows_take (suc n) before (entry ∷ entries) h =
+    let p = and_parts (fits before entry) (follows (before ++ entry ∷ []) entries) h in
+    rw (p.0, follows_take n (before ++ entry ∷ []) entries p.1) refl

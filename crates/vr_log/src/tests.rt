@@ -118,16 +118,18 @@ fn members_and_letters(rt: HostRuntime) -> Result<(), Fail> {
     assert_eq!(rt; state.commit, 1);
     let message = VrMessage::Commit { view: 0, commit: 1 };
     out.tell_others(2, 3, &message.copy()?)?;
+    out.tell(2, message)?;
     match out.letters.as_slice() {
-        [first, second, third] => {
-            assert_eq!(rt; (first.to, second.to, third.to), (0, 0, 1));
+        [first, second, third, fourth] => {
+            assert_eq!(rt; (first.to, second.to, third.to, fourth.to), (0, 0, 1, 2));
             assert!(rt; matches!(first.message, VrMessage::PrepareOk { view: 0, op: 1 }));
             assert!(rt; matches!(third.message, VrMessage::Commit { view: 0, commit: 1 }));
         }
         _ => assert!(rt; false),
     }
-    state.acked.raise(1, 4);
-    state.acked.raise(1, 3);
-    assert_eq!(rt; state.acked.as_slice(), [0, 4, 0].as_slice());
+    let mut acked = Acked::new(rt.alloc(), 3)?;
+    acked.raise(1, 4);
+    acked.raise(1, 3);
+    assert_eq!(rt; acked.as_slice(), [0, 4, 0].as_slice());
     Ok(())
 }

@@ -1,5 +1,5 @@
 //! What is sent again when time passes.
-ghost use Rattle.std.specs.Prelude.{◌≡◌, ◌<◌, ◌≤◌, ◌+◌, ◌^◌, ◌++◌, length, OnOk, IfOk};
+ghost use Rattle.std.specs.Prelude.{◌≡◌, ◌<◌, ◌≤◌, ◌+◌, ◌^◌, ◌++◌, length, OnOk};
 ghost use Rattle.vr_log.specs.Steps.{Did};
 ghost use Rattle.vr_log.specs.Valid.{IsValid};
 ghost use Rattle.vr_normal.specs.Ticks.{prepares_from, repeats_to, tick_primary, tick_changing, tick_recovering, ticked};

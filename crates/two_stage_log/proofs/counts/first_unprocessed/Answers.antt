@@ -1,6 +1,7 @@
 use Rattle.std.proofs.Common.{◌≡◌, ◌∙◌, sym, ap, take, []}
 use Rattle.two_stage_log.specs.Counts.{first_unprocessed}
-use Rattle.two_stage_log.proofs.Order.{follows_take, none_is, is_none}
+use Rattle.vr_log.proofs.Logs.{follows_take}
+use Rattle.two_stage_log.proofs.Order.{none_is, is_none}
 use Rattle.two_stage_log.proofs.counts.first_unprocessed.Goals as goal
 
 pub returns-clause-none : goal.returns-clause-none

@@ -1,0 +1,36 @@
+//! The chain of one life of a controller.
+ghost use Rattle.std.specs.Prelude.{map, sum};
+ghost use Rattle.app_core.specs.Parts.{AllFit};
+
+use app_core::{App, Part, joined_reactions, start_parts};
+use of_types::{Commands, Event, Setup};
+use std::alloc::{AllocError, Global};
+
+/// The parts of one life of a controller, in order. It is an application, too.
+#[derive(Drop)]
+pub struct LifeOf<P> {
+    pub controller: u8,
+    pub life: u32,
+    pub parts: Vec<P>,
+}
+
+/// A life whose parts are boxes.
+pub type LifeChain = LifeOf<Box<dyn Part + Send>>;
+
+impl<P: Part> App for LifeOf<P> {
+    ghost kinds = { λ life. map P.kind_of life.parts.items };
+
+    ghost most = { λ life. sum (map P.most_of life.parts.items) };
+
+    ghost states = { λ life. map P.numbers life.parts.items };
+
+    ghost suits = { λ life setup. AllFit P.is_fit life.parts.items setup };
+
+    fn start(&mut self, alloc: Global, setup: &Setup) -> Result<(), AllocError> {
+        start_parts(alloc, self.parts.as_mut_slice(), setup)
+    }
+
+    fn react(&mut self, alloc: Global, event: &Event) -> Result<Commands, AllocError> {
+        joined_reactions(alloc, &mut self.parts, event)
+    }
+}

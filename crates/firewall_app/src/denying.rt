@@ -1,0 +1,149 @@
+//! Which frames a rule denies, and the rows that drop them.
+ghost use Rattle.std.specs.Prelude.{◌≡◌, ◌++◌, Some, position, slice_get, OnOk};
+ghost use Rattle.of_types.specs.Matching.{has_value};
+ghost use Rattle.app_core.specs.Firewall.{ipv4, asked_protocol, destination_port, denies, first_hit, asked_port, denied_match, dropping_row, dropping_rows};
+
+use crate::prefix::{is_within, matched_prefix};
+use app_core::flow_mod;
+use of_types::{
+    ANY_PORT, Command, Commands, Fields, FlowCommand, Happening, Items, Match, Rule, any_match,
+    fields,
+};
+use std::alloc::{AllocError, Global};
+
+const IPV4: u16 = 0x0800;
+
+const TCP: u8 = 6;
+
+const UDP: u8 = 17;
+
+/// The protocol that a rule names, if any.
+fn asked_protocol(rule: &Rule) -> Option<u8>
+    ensures { result ≡ asked_protocol rule.now }
+{
+    if rule.proto == 0 {
+        None
+    } else {
+        Some(rule.proto)
+    }
+}
+
+/// The port that a rule names, if the rule is of this protocol.
+fn asked_port(protocol: u8, rule: &Rule) -> Option<u16>
+    ensures { result ≡ asked_port protocol rule.now }
+{
+    if rule.proto == protocol {
+        rule.port
+    } else {
+        None
+    }
+}
+
+fn is_ipv4(found: &Fields) -> bool
+    ensures { result ≡ has_value (Some ipv4) found.now.eth_type }
+{
+    found.eth_type == Some(IPV4)
+}
+
+fn has_protocol(found: &Fields, rule: &Rule) -> bool
+    ensures { result ≡ has_value (asked_protocol rule.now) found.now.ip_proto }
+{
+    let asked = asked_protocol(rule);
+    asked.is_none() || found.ip_proto == asked
+}
+
+fn has_port(found: &Fields, rule: &Rule) -> bool
+    ensures { result ≡ has_value rule.now.port (destination_port found.now) }
+{
+    rule.port.is_none() || found.tcp_dst.or(found.udp_dst) == rule.port
+}
+
+/// Whether a rule denies a frame with these fields.
+fn denies(found: &Fields, rule: &Rule) -> bool
+    ensures { result ≡ denies found.now rule.now }
+{
+    is_ipv4(found)
+        && has_protocol(found, rule)
+        && is_within(&rule.src, found.ipv4_src)
+        && is_within(&rule.dst, found.ipv4_dst)
+        && has_port(found, rule)
+}
+
+/// The place of the first rule that denies a frame with these fields.
+fn first_denying(found: &Fields, rules: &[Rule]) -> Option<usize>
+    ensures { result ≡ position (denies found.now) rules.now }
+{
+    rules.iter().position(|rule| denies(found, rule))
+}
+
+/// The place of the first rule that denies what happened.
+pub fn first_hit(rules: &[Rule], what: &Happening) -> Option<usize>
+    ensures { result ≡ first_hit rules.now what.now }
+{
+    match what {
+        Happening::PacketIn(packet) => first_denying(&fields(packet.payload.as_slice()), rules),
+        Happening::PortStatus(_) => None,
+    }
+}
+
+/// What a rule denies, as a match.
+fn denied_match(rule: &Rule) -> Match
+    ensures { result ≡ denied_match rule.now }
+{
+    Match {
+        eth_type: Some(IPV4),
+        ip_proto: asked_protocol(rule),
+        ipv4_src: matched_prefix(&rule.src),
+        ipv4_dst: matched_prefix(&rule.dst),
+        tcp_dst: asked_port(TCP, rule),
+        udp_dst: asked_port(UDP, rule),
+        ..any_match()
+    }
+}
+
+/// The row of a switch that drops what a rule denies.
+fn dropping_row(alloc: Global, rule: &Rule, switch: u8) -> Command
+    ensures { result ≡ dropping_row rule.now switch }
+{
+    flow_mod(
+        switch,
+        1,
+        FlowCommand::Add,
+        100,
+        ANY_PORT,
+        denied_match(rule),
+        Items::new(alloc),
+    )
+}
+
+/// Each of so many switches drops what a rule denies.
+#[tactic(auto, using(crate::proofs::Rows::rows_more))]
+fn drop_denied(
+    alloc: Global,
+    rule: &Rule,
+    switches: u8,
+    out: &mut Commands,
+) -> Result<(), AllocError>
+    ensures { OnOk result (out.new ≡ out.old ++ dropping_rows switches (Some rule.now)) }
+{
+    for switch in 0..switches {
+        out.push(dropping_row(alloc, rule, switch))?;
+    }
+    Ok(())
+}
+
+/// Each of so many switches drops what the rule at a place denies.
+pub fn drop_denied_at(
+    alloc: Global,
+    rules: &[Rule],
+    place: usize,
+    switches: u8,
+    out: &mut Commands,
+) -> Result<(), AllocError>
+    ensures { OnOk result (out.new ≡ out.old ++ dropping_rows switches (slice_get rules.now place)) }
+{
+    match rules.get(place) {
+        Some(rule) => drop_denied(alloc, rule, switches, out),
+        None => Ok(()),
+    }
+}

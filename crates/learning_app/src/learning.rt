@@ -1,0 +1,172 @@
+//! Learning as a part.
+ghost use Rattle.std.specs.Prelude.{◌≡◌, ◌≤◌, ◌+◌, ◌++◌, ℕ, nat_lt, [], ◌∷◌, length, OnOk, if◌then◌else◌};
+ghost use Rattle.of_types.specs.Header.{number_at};
+ghost use Rattle.app_core.specs.Chain.{flat};
+ghost use Rattle.app_core.specs.Learning.{is_single, seen_destination, with_source, forgotten, forgetting_rows, forwarded, hosts_after, learning_commands};
+
+use crate::commands::{forgetting_rows, forward};
+use crate::hosts::{HostList, HostMap, Hosts};
+use app_core::Part;
+use of_types::{Commands, Event, Happening, PacketIn, PortStatus, Setup, fields};
+use std::alloc::{AllocError, Global};
+
+/// Learning over some form of its hosts.
+#[derive(Drop)]
+pub struct LearningOver<H> {
+    hosts: H,
+    switches: usize,
+}
+
+/// Learning over a map.
+pub type Learning = LearningOver<HostMap>;
+
+/// Learning over a list.
+pub type PlainLearning = LearningOver<HostList>;
+
+/// Whether an address is that of one host: its first byte is even.
+fn is_single(address: u64) -> bool
+    ensures { result ≡ is_single address }
+{
+    (address / (1 << 40)) % 2 == 0
+}
+
+/// The source of a frame is seen at the port that it came in by, where it is the address of one host.
+fn learn_source<H: Hosts>(
+    hosts: &mut H,
+    switch: u8,
+    port: u32,
+    source: Option<u64>,
+) -> Result<(), AllocError>
+    ensures { OnOk result (H.hosts hosts.new ≡ with_source (H.hosts hosts.old) switch port source) }
+{
+    match source {
+        Some(address) if is_single(address) => hosts.learn(switch, address, port),
+        _ => Ok(()),
+    }
+}
+
+/// Where the destination was seen.
+fn seen_destination<H: Hosts>(hosts: &H, switch: u8, destination: Option<u64>) -> Option<u32>
+    ensures { result ≡ seen_destination (H.hosts hosts.now) switch destination }
+{
+    match destination {
+        Some(address) => hosts.seen_at(switch, address),
+        None => None,
+    }
+}
+
+/// A packet-in: its source is learned, and then its destination is looked up.
+fn on_packet_in<H: Hosts>(
+    alloc: Global,
+    hosts: &mut H,
+    switch: u8,
+    packet: &PacketIn,
+    out: &mut Commands,
+) -> Result<(), AllocError>
+    ensures known { OnOk result (H.hosts hosts.new ≡ with_source (H.hosts hosts.old) switch packet.now.in_port (number_at 6 6 packet.now.payload)) }
+    ensures asked { OnOk result (out.new ≡ out.old ++ forwarded switch packet.now.in_port packet.now.payload (seen_destination (H.hosts hosts.new) switch (number_at 6 0 packet.now.payload))) }
+{
+    let found = fields(packet.payload.as_slice());
+    learn_source(hosts, switch, packet.in_port, found.eth_src)?;
+    let seen = seen_destination(hosts, switch, found.eth_dst);
+    forward(alloc, switch, packet.in_port, &packet.payload, seen, out)
+}
+
+/// A port changed: the addresses of one that went down are forgotten.
+fn on_port_status<H: Hosts>(
+    alloc: Global,
+    hosts: &mut H,
+    switch: u8,
+    status: &PortStatus,
+    out: &mut Commands,
+) -> Result<(), AllocError>
+    ensures known { OnOk result (H.hosts hosts.new ≡ (if status.now.up then H.hosts hosts.old else forgotten (H.hosts hosts.old) switch status.now.port)) }
+    ensures asked { OnOk result (out.new ≡ out.old ++ (if status.now.up then [] else forgetting_rows switch status.now.port ∷ [])) }
+{
+    if !status.up {
+        hosts.forget(switch, status.port);
+        out.push(forgetting_rows(alloc, switch, status.port))?;
+    }
+    Ok(())
+}
+
+/// What learning does with what happened at a switch.
+fn on_happening<H: Hosts>(
+    alloc: Global,
+    hosts: &mut H,
+    switch: u8,
+    what: &Happening,
+    out: &mut Commands,
+) -> Result<(), AllocError>
+    ensures known { OnOk result (H.hosts hosts.new ≡ hosts_after (H.hosts hosts.old) switch what.now) }
+    ensures asked { OnOk result (out.new ≡ out.old ++ learning_commands (H.hosts hosts.new) switch what.now) }
+{
+    match what {
+        Happening::PacketIn(packet) => on_packet_in(alloc, hosts, switch, packet, out),
+        Happening::PortStatus(status) => on_port_status(alloc, hosts, switch, status, out),
+    }
+}
+
+/// What learning does with an event, where there are so many switches.
+fn on_event<H: Hosts>(
+    alloc: Global,
+    hosts: &mut H,
+    switches: usize,
+    event: &Event,
+    out: &mut Commands,
+) -> Result<(), AllocError>
+    ensures known { OnOk result (H.hosts hosts.new ≡ (if nat_lt event.now.switch switches then hosts_after (H.hosts hosts.old) event.now.switch event.now.what else H.hosts hosts.old)) }
+    ensures asked { OnOk result (out.new ≡ out.old ++ (if nat_lt event.now.switch switches then learning_commands (hosts_after (H.hosts hosts.old) event.now.switch event.now.what) event.now.switch event.now.what else [])) }
+{
+    if usize::from(event.switch) < switches {
+        on_happening(alloc, hosts, event.switch, &event.what, out)?;
+    }
+    Ok(())
+}
+
+impl<H: Hosts> LearningOver<H> {
+    /// A part that is still to be started: it knows no address and no switch. It takes no memory.
+    pub fn new(alloc: Global) -> LearningOver<H>
+        ensures { ⟦<LearningOver<H> as Part>⟧.numbers result ≡ [] }
+    {
+        LearningOver {
+            hosts: H::new(alloc),
+            switches: 0,
+        }
+    }
+}
+
+impl<H: Hosts> Part for LearningOver<H> {
+    ghost kind_of = { λ _. 2 };
+
+    ghost most_of = { λ _. 2 };
+
+    ghost numbers = { λ l. flat (H.hosts l.hosts) };
+
+    // A setup with so many switches.
+    ghost is_fit = { λ l setup. l.switches ≡ length setup.ports };
+
+    fn kind(&self) -> u8 {
+        2
+    }
+
+    fn most(&self) -> u32 {
+        2
+    }
+
+    fn start(&mut self, alloc: Global, setup: &Setup) -> Result<(), AllocError> {
+        self.hosts = H::new(alloc);
+        self.switches = setup.ports.len();
+        Ok(())
+    }
+
+    fn react(
+        &mut self,
+        alloc: Global,
+        event: &Event,
+        out: &mut Commands,
+    ) -> Result<bool, AllocError> {
+        on_event(alloc, &mut self.hosts, self.switches, event, out)?;
+        Ok(false)
+    }
+}

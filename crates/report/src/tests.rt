@@ -291,7 +291,7 @@ fn line_of_words_and_numbers(rt: HostRuntime) -> Result<(), Fail> {
     write_newline(&mut line)?;
     assert_eq!(rt;
         line.as_slice(),
-        b"fault 9 length 4096 bytes 172324 next 9\n"
+        b"fault 9 length 4096 bytes 172324 next 9\n".as_slice()
     );
     Ok(())
 }

@@ -1,5 +1,5 @@
 -- No switch of a group of one was asked to take a master by a generation above the controller's view, as long as it is up.
-use Rattle.std.proofs.Common.{◌≡◌, ◌≤◌, ◌<◌, inl, inr, ℕ, ◌+◌, ◌-◌, ◌^◌, Bool, true, false, ◌&&◌, List, [], ◌∷◌, length, map, filter, take, zero, suc, refl, sym, ◌∙◌, ap, subst, arith}
+use Rattle.std.proofs.Common.{◌≡◌, ◌≤◌, ◌<◌, inl, inr, ℕ, ◌+◌, ◌-◌, ◌^◌, Bool, true, false, List, [], ◌∷◌, length, map, filter, take, zero, suc, refl, sym, ◌∙◌, ap, subst, arith}
 use Rattle.std.specs.Prelude.{nat_eq, Option, None, slice_index_or, if◌then◌else◌}
 use Rattle.std.specs.List.{AllByRecursion}
 use Rattle.std.proofs.lemmas.Bool.{eq-eqb, ne_eqb}
@@ -33,7 +33,7 @@ use Rattle.rv_world.specs.Committed.{controller_state}
 use Rattle.rv_world.specs.Laws.{Asked, asked_step, master_asked, masters_asked}
 use Rattle.rv_safety.specs.Facts.{facts_of}
 use Rattle.rv_safety.specs.Premises.{IsFaithful, HasBytes}
-use Rattle.rv_safety.proofs.Tests.{differ, both_off}
+use Rattle.rv_safety.proofs.Conditions.{differ, both_off}
 use Rattle.rv_safety.proofs.Decided.{stays_up}
 use Rattle.rv_safety.proofs.Entries.{ControllerAfter, Own, Other, Turns, Falls, Stays, controller_after, Mine, Another, switch_after}
 use Rattle.rv_safety.proofs.Generations.{IsFenceOf, Unasked, Asked as WasAsked, fresh_above}

@@ -13,7 +13,7 @@ use Rattle.controller_core.specs.Log.{received, processed}
 use Rattle.controller_core.specs.Marks.{with_numbers, commands_of, is_confirmed, is_acked, unacknowledged, outstanding, settled_commands}
 use Rattle.controller_core.specs.State.{ControllerState, committed}
 use Rattle.controller_core.specs.Rules.{command_letters, commands_for}
-use Rattle.rv_safety.proofs.Tests.{not_true}
+use Rattle.rv_safety.proofs.Conditions.{not_true}
 use Rattle.rv_safety.proofs.Issued.{orders_for-append}
 use Rattle.rv_safety.proofs.Flights.{Flight, controller_flight, commands_in, AreDue}
 

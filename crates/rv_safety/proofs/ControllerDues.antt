@@ -32,7 +32,7 @@ use Rattle.controller_core.specs.State.{ControllerState, Work, committed, append
 use Rattle.controller_core.specs.Rules.{numbers_below, is_some_of, answers_to_processed, command_letters, processed_from, answers_for, with_commands_sent, with_processed, finishing}
 use Rattle.rv_world.proofs.Starts.{length-numbers_below}
 use Rattle.rv_safety.proofs.Lists.{filter_passes, filter_among}
-use Rattle.rv_safety.proofs.Tests.{differ, not_off, off_by, not_both}
+use Rattle.rv_safety.proofs.Conditions.{differ, not_off, off_by, not_both}
 use Rattle.rv_safety.proofs.Controllers.{none_left}
 use Rattle.rv_safety.proofs.Issued.{reactions-take, done_through, command_between}
 use Rattle.rv_safety.proofs.More.{received-append, processed-append}

@@ -29,7 +29,7 @@ use Rattle.controller_core.specs.Log.{received, processed, count_from, is_past_l
 use Rattle.controller_core.specs.Marks.{commands_of, with_numbers, is_confirmed, is_acked, unacknowledged, has_unprocessed, is_finished, is_pending, settled_commands}
 use Rattle.controller_core.specs.State.{ControllerState, Work, committed, appended, resting}
 use Rattle.controller_core.specs.Rules.{is_some_of, command_letters, commands_for, processed_from, ack_letter, with_commands_sent, on_event, acknowledged, on_result, confirmed_by, on_role_reply}
-use Rattle.rv_safety.proofs.Tests.{differ, both_true, or_nothing, or_true, not_before}
+use Rattle.rv_safety.proofs.Conditions.{differ, both_true, or_nothing, or_true, not_before}
 use Rattle.rv_safety.proofs.Lists.{filter_passes, filter_among, front_prefix, prefix_length}
 use Rattle.rv_world.specs.Laws.{IsPrefix}
 use Rattle.rv_safety.proofs.Issued.{command_between, issued_prefix, reactions_prefix, length-reactions}

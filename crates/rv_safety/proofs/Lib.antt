@@ -1,5 +1,5 @@
 pub mod Lists
-pub mod Tests
+pub mod Conditions
 pub mod Entries
 pub mod Decided
 pub mod Issued

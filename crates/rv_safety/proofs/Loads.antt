@@ -1,7 +1,7 @@
 -- What a drained group of one may still post: each message on its way, each event that is still to be sent, logged or
 -- processed, and each command that is still to be sent, counts as what it will bring. It never grows while nothing new
 -- happens, so it bounds what waits at any time.
-use Rattle.std.proofs.Common.{◌≡◌, ◌≤◌, ◌<◌, inl, inr, ℕ, ◌+◌, ◌-◌, ◌*◌, Bool, true, false, List, [], ◌∷◌, ◌++◌, length, filter, zero, suc, refl, subst, arith}
+use Rattle.std.proofs.Common.{◌≡◌, ◌≤◌, ◌<◌, inl, inr, ℕ, ◌+◌, ◌-◌, ◌*◌, Bool, false, List, [], ◌∷◌, ◌++◌, length, filter, zero, suc, refl, subst, arith}
 use Rattle.std.specs.Prelude.{min, nat_eq, sum_by, if◌then◌else◌}
 use Rattle.std.proofs.lemmas.Bool.{cases_lt, ne_eqb}
 use Rattle.std.proofs.lemmas.List.Sums.{sum_by-append, length-filter, count_by-le-length}

@@ -58,7 +58,7 @@ use Rattle.rv_world.proofs.Suspecting.{one_suspects, none_suspects}
 use Rattle.rv_safety.specs.Facts.{Facts, facts_of}
 use Rattle.rv_safety.specs.Premises.{IsFaithful, HasBytes}
 use Rattle.rv_safety.specs.Truths.{IsTold, IsReported}
-use Rattle.rv_safety.proofs.Tests.{differ, both_true}
+use Rattle.rv_safety.proofs.Conditions.{differ, both_true}
 use Rattle.rv_safety.proofs.Lists.{all_of, front_prefix, prefix_length}
 use Rattle.rv_safety.proofs.Entries.{Mine, Another, switch_after, Own, Other, controller_after}
 use Rattle.rv_safety.proofs.Decided.{decided_up}

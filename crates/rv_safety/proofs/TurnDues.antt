@@ -22,7 +22,7 @@ use Rattle.controller_core.specs.Marks.{is_finished, settled_commands}
 use Rattle.controller_core.specs.State.{ControllerState, Work, committed, is_up, with_no_met_limit}
 use Rattle.controller_core.specs.Rules.{numbers_below, role_letters, started_view, with_commands_sent, controller_work}
 use Rattle.rv_safety.specs.Truths.{IsReported}
-use Rattle.rv_safety.proofs.Tests.{differ}
+use Rattle.rv_safety.proofs.Conditions.{differ}
 use Rattle.rv_safety.proofs.Loads.{load}
 use Rattle.rv_safety.proofs.Flights.{Flight, To_controller, Carries, commands_in, AreDue}
 use Rattle.rv_safety.proofs.Dues.{IsRequest, is_asked, IsOfView, IsDue}

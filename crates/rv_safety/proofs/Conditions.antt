@@ -1,4 +1,4 @@
--- What follows from the values of tests.
+-- What follows from the values of conditions.
 use Rattle.std.proofs.Common.{◌≡◌, ◌⊎◌, inl, inr, Bool, true, false, not, ◌&&◌, ◌||◌, refl}
 
 pub differ : true ≡ false → ⊥

@@ -2,7 +2,5 @@
 #![tactic(auto)]
 
 mod counts;
-#[cfg(test)]
-mod tests;
 
 pub use counts::{first_unprocessed, may_follow, next_number, processed_of};

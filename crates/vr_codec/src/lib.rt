@@ -6,8 +6,6 @@ mod entries;
 mod fault;
 mod fitting;
 mod reading;
-#[cfg(test)]
-mod tests;
 mod writing;
 
 pub use fault::{VrFault, VrRefusal};

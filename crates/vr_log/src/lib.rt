@@ -9,8 +9,6 @@ mod members;
 mod message;
 mod out;
 mod state;
-#[cfg(test)]
-mod tests;
 
 pub use acked::Acked;
 pub use entry::{Entries, Entry, LogFull, size_of_entry};

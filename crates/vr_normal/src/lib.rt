@@ -4,8 +4,6 @@
 
 mod acks;
 mod normal;
-#[cfg(test)]
-mod tests;
 mod ticks;
 
 pub use normal::{ProposeFault, on_commit, on_prepare, on_prepare_ok, propose};

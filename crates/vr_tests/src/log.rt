@@ -1,38 +1,14 @@
-use super::*;
-use of_types::{Event, Happening, Octets, PacketIn, PortStatus};
-use std::alloc::{AllocError, Global};
+use crate::cluster::{packet_event, port_event};
+use std::alloc::AllocError;
+use std::process::Abort;
 use std::test::Fail;
+use vr_log::{
+    Acked, Entry, Log, LogFull, PushFault, VrLetter, VrMessage, VrOut, VrState, count_from,
+    count_processed, count_received, size_of_entry,
+};
 
-/// A port of a switch went down: 98 bytes of a log.
-fn port_event(switch: u8, number: u64) -> Entry {
-    let status = PortStatus {
-        reason: 2,
-        port: 1,
-        up: false,
-    };
-    Entry::Received(Event {
-        switch,
-        life: 0,
-        number,
-        what: Happening::PortStatus(status),
-    })
-}
-
-/// The longest frame came in: 1,574 bytes of a log.
-fn packet_event(alloc: Global, switch: u8, number: u64) -> Result<Entry, AllocError> {
-    let packet = PacketIn {
-        reason: 0,
-        cookie: 0,
-        in_port: 1,
-        payload: Octets::from_slice(alloc, &[0; 1514])?,
-    };
-    Ok(Entry::Received(Event {
-        switch,
-        life: 0,
-        number,
-        what: Happening::PacketIn(packet),
-    }))
-}
+/// The longest frame: its event has 1,574 bytes in a log.
+const LONGEST: [u8; 1514] = [0; 1514];
 
 #[test]
 fn entries_follow_by_number_and_in_order(rt: HostRuntime) -> Result<(), Fail> {
@@ -90,10 +66,10 @@ fn the_limit_of_entries(rt: HostRuntime) -> Result<(), Fail> {
 fn the_limit_of_bytes(rt: HostRuntime) -> Result<(), Fail> {
     let mut log = Log::new(rt.alloc());
     for number in 0..2664 {
-        log.push(packet_event(rt.alloc(), 0, number)?)
+        log.push(packet_event(rt.alloc(), number, &LONGEST)?)
             .map_err(|_| AllocError)?;
     }
-    let next = packet_event(rt.alloc(), 0, 2664)?;
+    let next = packet_event(rt.alloc(), 2664, &LONGEST)?;
     assert_eq!(rt; size_of_entry(&next), 1574);
     let full = LogFull {
         length: 2664,
@@ -107,19 +83,31 @@ fn the_limit_of_bytes(rt: HostRuntime) -> Result<(), Fail> {
 }
 
 #[test]
-fn members_and_letters(rt: HostRuntime) -> Result<(), Fail> {
-    let mut state = VrState::new(rt.alloc(), 2, 3)?;
-    let mut out = VrOut::new(rt.alloc());
+fn members(rt: HostRuntime) -> Result<(), Fail> {
+    let state = VrState::new(rt.alloc(), 2, 3)?;
     assert_eq!(rt; (state.primary_of(0), state.primary_of(5)), (0, 2));
     assert!(rt; state.is_from_primary(0, 0) && !state.is_from_primary(2, 5));
     assert_eq!(rt; state.most_failures(), 1);
-    state.log.push(port_event(0, 0)).map_err(|_| AllocError)?;
-    state.acknowledge(9, &mut out)?;
-    assert_eq!(rt; state.commit, 1);
-    let message = VrMessage::Commit { view: 0, commit: 1 };
-    out.tell_others(2, 3, &message.copy()?)?;
-    out.tell(2, message)?;
-    match out.letters.as_slice() {
+    Ok(())
+}
+
+#[test]
+fn acknowledgements_only_rise(rt: HostRuntime) -> Result<(), Fail> {
+    let mut acked = Acked::new(rt.alloc(), 3)?;
+    acked.raise(1, 4);
+    acked.raise(1, 3);
+    assert_eq!(rt; acked.as_slice(), [0, 4, 0].as_slice());
+    Ok(())
+}
+
+/// Member 2 tells the others, and then itself.
+fn tell_all(out: &mut VrOut, message: &VrMessage) -> Result<(), AllocError> {
+    out.tell_others(2, 3, message)?;
+    out.tell(2, message.copy()?)
+}
+
+fn assert_told(rt: &impl Abort, letters: &[VrLetter]) {
+    match letters {
         [first, second, third, fourth] => {
             assert_eq!(rt; (first.to, second.to, third.to, fourth.to), (0, 0, 1, 2));
             assert!(rt; matches!(first.message, VrMessage::PrepareOk { view: 0, op: 1 }));
@@ -127,9 +115,16 @@ fn members_and_letters(rt: HostRuntime) -> Result<(), Fail> {
         }
         _ => assert!(rt; false),
     }
-    let mut acked = Acked::new(rt.alloc(), 3)?;
-    acked.raise(1, 4);
-    acked.raise(1, 3);
-    assert_eq!(rt; acked.as_slice(), [0, 4, 0].as_slice());
+}
+
+#[test]
+fn letters_stand_in_order(rt: HostRuntime) -> Result<(), Fail> {
+    let mut state = VrState::new(rt.alloc(), 2, 3)?;
+    let mut out = VrOut::new(rt.alloc());
+    state.log.push(port_event(0, 0))?;
+    state.acknowledge(9, &mut out)?;
+    assert_eq!(rt; state.commit, 1);
+    tell_all(&mut out, &VrMessage::Commit { view: 0, commit: 1 })?;
+    assert_told(&rt, out.letters.as_slice());
     Ok(())
 }

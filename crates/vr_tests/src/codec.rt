@@ -1,10 +1,11 @@
 ghost use Rattle.std.specs.Prelude.{◌≤◌};
 
-use super::*;
-use of_types::{Event, Happening, Octets, PacketIn};
+use crate::cluster::packet_event;
+use of_types::Octets;
 use std::alloc::{AllocError, Global};
 use std::test::Fail;
-use vr_log::{Entries, Entry, VrMessage};
+use vr_codec::{VrFault, VrRefusal, decode_vr, encode_vr};
+use vr_log::{Entries, VrMessage};
 
 /// Messages of each kind, and each refusal, with the answers of an independent implementation: the canonical
 /// bytes, or the refusal. The last has a log of 4,097 entries, by the rule.
@@ -157,18 +158,7 @@ fn vector(rt: HostRuntime) -> Result<(), Fail> {
 fn long_log(alloc: Global, count: u64) -> Result<Octets, AllocError> {
     let mut log = Entries::new(alloc);
     for number in 0..count {
-        let packet = PacketIn {
-            reason: 0,
-            cookie: 0,
-            in_port: 1,
-            payload: Octets::from_slice(alloc, &[0; 65_493])?,
-        };
-        log.push(Entry::Received(Event {
-            switch: 0,
-            life: 0,
-            number,
-            what: Happening::PacketIn(packet),
-        }))?;
+        log.push(packet_event(alloc, number, &[0; 65_493])?)?;
     }
     encode_vr(
         alloc,

@@ -1,22 +1,7 @@
-use super::*;
-use of_types::{Event, Happening, PortStatus};
+use crate::cluster::port_event;
 use std::test::Fail;
+use two_stage_log::{first_unprocessed, may_follow, next_number, processed_of};
 use vr_log::{Entry, Log};
-
-/// A port of a switch went down.
-fn port_event(switch: u8, number: u64) -> Entry {
-    let status = PortStatus {
-        reason: 2,
-        port: 1,
-        up: false,
-    };
-    Entry::Received(Event {
-        switch,
-        life: 0,
-        number,
-        what: Happening::PortStatus(status),
-    })
-}
 
 /// Three events of two switches, of which the first is processed.
 #[test]

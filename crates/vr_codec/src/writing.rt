@@ -1,6 +1,6 @@
 //! Writing a message in its one form.
 ghost use Rattle.std.specs.Prelude.{◌≡◌, ◌++◌, flat_map, IfOk, OnOk};
-ghost use Rattle.of_bytes.specs.Numbers.{four};
+ghost use Rattle.of_bytes.specs.Numbers.{four, eight};
 ghost use Rattle.of_ravana.specs.Canonical as told;
 ghost use Rattle.vr_codec.specs.Canonical.{received_front, received_bytes, processed_bytes, canonical_entry, canonical_log, front, pair, recovery_bytes, filled_bytes, canonical_vr};
 
@@ -129,6 +129,92 @@ fn write_filled(alloc: Global, out: &mut Octets, filled: &Option<Filled>) -> Res
     }
 }
 
+/// A kind, a view and a number.
+fn write_numbered(out: &mut Octets, kind: u8, view: u32, number: u64) -> Result<(), AllocError>
+    ensures { OnOk result (out.new ≡ out.old ++ (front kind view ++ eight number)) }
+{
+    write_front(out, kind, view)?;
+    out.append(&eight(number))?;
+    Ok(())
+}
+
+fn write_prepare(
+    alloc: Global,
+    out: &mut Octets,
+    view: u32,
+    op: u64,
+    commit: u64,
+    entry: &Entry,
+) -> Result<(), AllocError>
+    ensures { OnOk result (out.new ≡ out.old ++ (front 1 view ++ (pair op commit ++ canonical_entry entry.now))) }
+{
+    write_front(out, 1, view)?;
+    write_pair(out, op, commit)?;
+    write_entry(alloc, out, entry)?;
+    Ok(())
+}
+
+fn write_do_view_change(
+    alloc: Global,
+    out: &mut Octets,
+    view: u32,
+    normal: u32,
+    commit: u64,
+    log: &[Entry],
+) -> Result<(), AllocError>
+    ensures { OnOk result (out.new ≡ out.old ++ (front 5 view ++ (four normal ++ (eight commit ++ canonical_log log.now)))) }
+{
+    write_front(out, 5, view)?;
+    out.append(&four(normal))?;
+    out.append(&eight(commit))?;
+    write_log(alloc, out, log)?;
+    Ok(())
+}
+
+fn write_start_view(
+    alloc: Global,
+    out: &mut Octets,
+    view: u32,
+    commit: u64,
+    log: &[Entry],
+) -> Result<(), AllocError>
+    ensures { OnOk result (out.new ≡ out.old ++ (front 6 view ++ (eight commit ++ canonical_log log.now))) }
+{
+    write_numbered(out, 6, view, commit)?;
+    write_log(alloc, out, log)?;
+    Ok(())
+}
+
+fn write_response(
+    alloc: Global,
+    out: &mut Octets,
+    view: u32,
+    nonce: u64,
+    filled: &Option<Filled>,
+) -> Result<(), AllocError>
+    ensures { OnOk result (out.new ≡ out.old ++ (front 8 view ++ (eight nonce ++ filled_bytes filled.now))) }
+{
+    write_numbered(out, 8, view, nonce)?;
+    write_filled(alloc, out, filled)?;
+    Ok(())
+}
+
+fn write_new_state(
+    alloc: Global,
+    out: &mut Octets,
+    view: u32,
+    first: u64,
+    commit: u64,
+    log: &[Entry],
+) -> Result<(), AllocError>
+    ensures { OnOk result (out.new ≡ out.old ++ (front 10 view ++ (pair first commit ++ canonical_log log.now))) }
+{
+    write_front(out, 10, view)?;
+    write_pair(out, first, commit)?;
+    write_log(alloc, out, log)?;
+    Ok(())
+}
+
 fn write_vr(alloc: Global, out: &mut Octets, message: &VrMessage) -> Result<(), AllocError>
     ensures { OnOk result (out.new ≡ out.old ++ canonical_vr message.now) }
 {
@@ -138,62 +224,33 @@ fn write_vr(alloc: Global, out: &mut Octets, message: &VrMessage) -> Result<(), 
             op,
             commit,
             entry,
-        } => {
-            write_front(out, 1, *view)?;
-            write_pair(out, *op, *commit)?;
-            write_entry(alloc, out, entry)?;
-        }
-        VrMessage::PrepareOk { view, op } => {
-            write_front(out, 2, *view)?;
-            out.append(&eight(*op))?;
-        }
-        VrMessage::Commit { view, commit } => {
-            write_front(out, 3, *view)?;
-            out.append(&eight(*commit))?;
-        }
-        VrMessage::StartViewChange { view } => write_front(out, 4, *view)?,
+        } => write_prepare(alloc, out, *view, *op, *commit, entry),
+        VrMessage::PrepareOk { view, op } => write_numbered(out, 2, *view, *op),
+        VrMessage::Commit { view, commit } => write_numbered(out, 3, *view, *commit),
+        VrMessage::StartViewChange { view } => write_front(out, 4, *view),
         VrMessage::DoViewChange {
             view,
             normal,
             commit,
             log,
-        } => {
-            write_front(out, 5, *view)?;
-            out.append(&four(*normal))?;
-            out.append(&eight(*commit))?;
-            write_log(alloc, out, log.as_slice())?;
-        }
+        } => write_do_view_change(alloc, out, *view, *normal, *commit, log.as_slice()),
         VrMessage::StartView { view, commit, log } => {
-            write_front(out, 6, *view)?;
-            out.append(&eight(*commit))?;
-            write_log(alloc, out, log.as_slice())?;
+            write_start_view(alloc, out, *view, *commit, log.as_slice())
         }
-        VrMessage::Recovery { nonce, promise } => write_recovery(out, *nonce, *promise)?,
+        VrMessage::Recovery { nonce, promise } => write_recovery(out, *nonce, *promise),
         VrMessage::RecoveryResponse {
             view,
             nonce,
             filled,
-        } => {
-            write_front(out, 8, *view)?;
-            out.append(&eight(*nonce))?;
-            write_filled(alloc, out, filled)?;
-        }
-        VrMessage::GetState { view, op } => {
-            write_front(out, 9, *view)?;
-            out.append(&eight(*op))?;
-        }
+        } => write_response(alloc, out, *view, *nonce, filled),
+        VrMessage::GetState { view, op } => write_numbered(out, 9, *view, *op),
         VrMessage::NewState {
             view,
             first,
             commit,
             log,
-        } => {
-            write_front(out, 10, *view)?;
-            write_pair(out, *first, *commit)?;
-            write_log(alloc, out, log.as_slice())?;
-        }
+        } => write_new_state(alloc, out, *view, *first, *commit, log.as_slice()),
     }
-    Ok(())
 }
 
 /// The bytes of a message between members of a group. Counts and lengths stand in four bytes; of greater

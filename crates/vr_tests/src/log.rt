@@ -10,17 +10,25 @@ use vr_log::{
 /// The longest frame: its event has 1,574 bytes in a log.
 const LONGEST: [u8; 1514] = [0; 1514];
 
+fn is_taken(log: &mut Log, entry: Entry) -> bool {
+    matches!(log.push(entry), Ok(()))
+}
+
+fn is_misplaced(log: &mut Log, entry: Entry) -> bool {
+    matches!(log.push(entry), Err(PushFault::Misplaced))
+}
+
 #[test]
 fn entries_follow_by_number_and_in_order(rt: HostRuntime) -> Result<(), Fail> {
     let mut log = Log::new(rt.alloc());
     assert!(rt; log.is_empty());
-    assert!(rt; matches!(log.push(Entry::Processed(0)), Err(PushFault::Misplaced)));
-    assert!(rt; matches!(log.push(port_event(1, 1)), Err(PushFault::Misplaced)));
-    assert!(rt; matches!(log.push(port_event(1, 0)), Ok(())));
-    assert!(rt; matches!(log.push(port_event(2, 0)), Ok(())));
-    assert!(rt; matches!(log.push(port_event(1, 1)), Ok(())));
-    assert!(rt; matches!(log.push(Entry::Processed(1)), Err(PushFault::Misplaced)));
-    assert!(rt; matches!(log.push(Entry::Processed(0)), Ok(())));
+    assert!(rt; is_misplaced(&mut log, Entry::Processed(0)));
+    assert!(rt; is_misplaced(&mut log, port_event(1, 1)));
+    assert!(rt; is_taken(&mut log, port_event(1, 0)));
+    assert!(rt; is_taken(&mut log, port_event(2, 0)));
+    assert!(rt; is_taken(&mut log, port_event(1, 1)));
+    assert!(rt; is_misplaced(&mut log, Entry::Processed(1)));
+    assert!(rt; is_taken(&mut log, Entry::Processed(0)));
     assert_eq!(rt; (log.len(), log.size()), (4, 303));
     assert_eq!(rt; count_received(log.as_slice()), 3);
     assert_eq!(rt; count_from(1, log.as_slice()), 2);
@@ -28,14 +36,15 @@ fn entries_follow_by_number_and_in_order(rt: HostRuntime) -> Result<(), Fail> {
     Ok(())
 }
 
-#[test]
-fn entries_join_all_or_none(rt: HostRuntime) -> Result<(), Fail> {
-    let mut log = Log::new(rt.alloc());
-    assert!(rt; log.extend(&[port_event(0, 0), Entry::Processed(0), port_event(0, 1)])?);
-    assert!(rt; !log.extend(&[Entry::Processed(1), port_event(0, 3)])?);
-    assert_eq!(rt; (log.len(), log.size()), (3, 205));
-    assert!(rt; log.takes(&Entry::Processed(1)) && !log.takes(&port_event(0, 3)));
-    log.append(Entry::Processed(1))?;
+/// Whether two events join, the first of them processed; and then whether one joins behind a gap.
+fn join(log: &mut Log) -> Result<(bool, bool), AllocError> {
+    let fitting = log.extend(&[port_event(0, 0), Entry::Processed(0), port_event(0, 1)])?;
+    let gap = log.extend(&[Entry::Processed(1), port_event(0, 3)])?;
+    Ok((fitting, gap))
+}
+
+/// Behind three entries stands one more, and nothing behind five.
+fn assert_rest(rt: &impl Abort, log: &Log) -> Result<(), AllocError> {
     let rest = log.entries_after(3)?;
     assert!(rt; matches!(rest.as_slice(), [Entry::Processed(1)]));
     assert!(rt; log.entries_after(5)?.is_empty());
@@ -44,10 +53,21 @@ fn entries_join_all_or_none(rt: HostRuntime) -> Result<(), Fail> {
 }
 
 #[test]
+fn entries_join_all_or_none(rt: HostRuntime) -> Result<(), Fail> {
+    let mut log = Log::new(rt.alloc());
+    assert_eq!(rt; join(&mut log)?, (true, false));
+    assert_eq!(rt; (log.len(), log.size()), (3, 205));
+    assert!(rt; log.takes(&Entry::Processed(1)) && !log.takes(&port_event(0, 3)));
+    log.append(Entry::Processed(1))?;
+    assert_rest(&rt, &log)?;
+    Ok(())
+}
+
+#[test]
 fn the_limit_of_entries(rt: HostRuntime) -> Result<(), Fail> {
     let mut log = Log::new(rt.alloc());
     for number in 0..4096 {
-        log.push(port_event(0, number)).map_err(|_| AllocError)?;
+        log.push(port_event(0, number))?;
     }
     let full = LogFull {
         length: 4096,
@@ -66,8 +86,7 @@ fn the_limit_of_entries(rt: HostRuntime) -> Result<(), Fail> {
 fn the_limit_of_bytes(rt: HostRuntime) -> Result<(), Fail> {
     let mut log = Log::new(rt.alloc());
     for number in 0..2664 {
-        log.push(packet_event(rt.alloc(), number, &LONGEST)?)
-            .map_err(|_| AllocError)?;
+        log.push(packet_event(rt.alloc(), number, &LONGEST)?)?;
     }
     let next = packet_event(rt.alloc(), 2664, &LONGEST)?;
     assert_eq!(rt; size_of_entry(&next), 1574);

@@ -103,17 +103,23 @@ fn the_primary_proposes(rt: HostRuntime) -> Result<(), Fail> {
 }
 
 /// What one other of three has is committed. An acknowledgement above the log is dropped.
+fn agree(rt: &impl Abort, primary: &mut VrState, out: &mut VrOut) -> Result<(), AllocError>
+    requires { IsValid primary.old }
+{
+    prepare_ok(primary, 1, 4, out)?;
+    assert_eq!(rt; sizes(primary), (3, 0));
+    prepare_ok(primary, 1, 2, out)?;
+    assert_eq!(rt; sizes(primary), (3, 2));
+    prepare_ok(primary, 2, 1, out)?;
+    assert_eq!(rt; sizes(primary), (3, 2));
+    tick(primary, out)
+}
+
 #[test]
 fn a_majority_commits(rt: HostRuntime) -> Result<(), Fail> {
     let mut primary = member(rt.alloc(), 0, 3)?;
     let mut out = VrOut::new(rt.alloc());
-    prepare_ok(&mut primary, 1, 4, &mut out)?;
-    assert_eq!(rt; sizes(&primary), (3, 0));
-    prepare_ok(&mut primary, 1, 2, &mut out)?;
-    assert_eq!(rt; sizes(&primary), (3, 2));
-    prepare_ok(&mut primary, 2, 1, &mut out)?;
-    assert_eq!(rt; sizes(&primary), (3, 2));
-    tick(&mut primary, &mut out)?;
+    agree(&rt, &mut primary, &mut out)?;
     assert_prepared(&rt, out.letters.as_slice(), 3, 2);
     Ok(())
 }

@@ -52,12 +52,17 @@ fn prepare_ok(state: &mut VrState, from: u8, op: u64, out: &mut VrOut) -> Result
     on_prepare_ok(state, from, &VrMessage::PrepareOk { view: 0, op }, out)
 }
 
-/// The primary of a view tells how much is committed.
-fn commit(state: &mut VrState, view: u32, commit: u64, out: &mut VrOut) -> Result<(), AllocError>
+/// A member tells how much is committed.
+fn commit(
+    state: &mut VrState,
+    from: u8,
+    view: u32,
+    commit: u64,
+    out: &mut VrOut,
+) -> Result<(), AllocError>
     requires { IsValid state.old }
     ensures { OnOk result (IsValid state.new) }
 {
-    let from = state.primary_of(view);
     on_commit(state, from, &VrMessage::Commit { view, commit }, out)
 }
 
@@ -131,9 +136,9 @@ fn follow(backup: &mut VrState, out: &mut VrOut) -> Result<(), AllocError>
 {
     prepare(backup, 1, out)?;
     prepare(backup, 3, out)?;
-    commit(backup, 0, 1, out)?;
-    on_commit(backup, 1, &VrMessage::Commit { view: 0, commit: 0 }, out)?;
-    commit(backup, 4, 0, out)
+    commit(backup, 0, 0, 1, out)?;
+    commit(backup, 1, 0, 0, out)?;
+    commit(backup, 1, 4, 0, out)
 }
 
 fn assert_followed(rt: &impl Abort, letters: &[VrLetter]) {

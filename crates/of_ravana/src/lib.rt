@@ -4,8 +4,6 @@
 
 mod fitting;
 mod reading;
-#[cfg(test)]
-mod tests;
 mod writing;
 
 pub use fitting::happening_fits;

@@ -6,6 +6,12 @@ ghost use Rattle.of_types.specs.Header.{number_at, number_within, has_ipv4, has_
 use crate::message::Fields;
 use byteorder::{BigEndian, ByteOrder};
 
+fn u8_at(frame: &[u8], place: usize) -> Option<u8>
+    ensures { result ≡ number_at 1 place frame.now }
+{
+    frame.get(place).copied()
+}
+
 fn u16_at(frame: &[u8], place: usize) -> Option<u16>
     requires { place < 2 ^ 32 }
     ensures { result ≡ number_at 2 place frame.now }
@@ -91,7 +97,7 @@ fn ipv4(frame: &[u8]) -> (Option<u8>, Option<u32>, Option<u32>)
     if !has_ipv4(frame) {
         return (None, None, None);
     }
-    (frame.get(23).copied(), u32_at(frame, 26), u32_at(frame, 30))
+    (u8_at(frame, 23), u32_at(frame, 26), u32_at(frame, 30))
 }
 
 const TCP: u8 = 6;

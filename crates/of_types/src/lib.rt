@@ -11,8 +11,6 @@ mod numbers;
 mod setup;
 mod sizes;
 mod small_set;
-#[cfg(test)]
-mod tests;
 
 pub use covering::covers;
 pub use header::fields;

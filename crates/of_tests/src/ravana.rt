@@ -1,17 +1,18 @@
 ghost use Rattle.std.specs.Prelude.{◌≤◌};
 
-use super::*;
+use crate::samples::{FRAME, event, flow_mod, list, packet_in, role_request};
 use of_match::{read_match, write_match};
 use of_messages::{OfFault, decode};
+use of_ravana::{
+    canonical, canonical_happening, canonical_order, decode_extension, encode_extension,
+};
 use of_types::{
-    Actions, Extension, FLOOD, FlowCommand, FlowMod, Happening, MASTER, Masked48, Match, NO_BUFFER,
-    Octets, OfMessage, Order, Outcome, PacketIn, PacketOut, Spoken, any_match,
+    Extension, FLOOD, Happening, Match, NO_BUFFER, Octets, OfMessage, Order, Outcome, PacketOut,
+    Spoken,
 };
 use std::alloc::{AllocError, Global};
+use std::process::Abort;
 use std::test::Fail;
-
-/// The frame that the messages hold.
-const FRAME: &[u8] = b"\x02\0\0\0\0\x02\x02\0\0\0\0\x01\x88\xb5";
 
 const ROLE_REQUEST: &str = "041800180000000000000002000000000000000000000001";
 
@@ -262,207 +263,228 @@ fn refused(alloc: Global, fault: OfFault, number: u32) -> Result<String, AllocEr
     }
 }
 
-/// The answer to a whole message: what it says is told in its canonical form.
-fn answer(alloc: Global, frame: &[u8]) -> Result<String, AllocError> {
-    let (xid, message) = match decode(alloc, frame) {
-        Ok(found) => found,
-        Err(OfFault::Wire { kind, code, xid }) => {
-            return refused(alloc, OfFault::Wire { kind, code, xid }, xid);
-        }
-        Err(fault) => return refused(alloc, fault, 0),
-    };
-    let said = match message {
-        OfMessage::Experimenter { body } => match decode_extension(alloc, body.as_slice()) {
-            Ok(said) => Spoken::Ravana(said),
-            Err(fault) => return refused(alloc, fault, xid),
-        },
-        message => Spoken::Plain(message),
-    };
-    let bytes = canonical(alloc, xid, &said)?;
+/// What is said, in its canonical form.
+fn told(alloc: Global, xid: u32, said: &Spoken) -> Result<String, AllocError> {
+    let bytes = canonical(alloc, xid, said)?;
     let hex = word(alloc, bytes.as_slice())?;
     format!(in alloc; "ok {xid} {hex}")
 }
 
-fn match_answer(alloc: Global, bytes: &[u8]) -> Result<String, AllocError> {
-    match read_match(bytes) {
-        Ok((matching, taken)) => {
-            let mut out = Octets::new(alloc);
-            write_match(alloc, &matching, &mut out)?;
-            let hex = word(alloc, out.as_slice())?;
-            format!(in alloc; "ok {taken} {hex}")
-        }
+fn told_extension(alloc: Global, xid: u32, body: &[u8]) -> Result<String, AllocError> {
+    match decode_extension(alloc, body) {
+        Ok(said) => told(alloc, xid, &Spoken::Ravana(said)),
+        Err(fault) => refused(alloc, fault, xid),
+    }
+}
+
+/// The number that a refused message is told with.
+fn number_of(fault: OfFault) -> u32 {
+    match fault {
+        OfFault::Wire { xid, .. } => xid,
+        OfFault::OutOfMemory => 0,
+    }
+}
+
+fn told_message(alloc: Global, xid: u32, message: OfMessage) -> Result<String, AllocError> {
+    match message {
+        OfMessage::Experimenter { body } => told_extension(alloc, xid, body.as_slice()),
+        message => told(alloc, xid, &Spoken::Plain(message)),
+    }
+}
+
+/// The answer to a whole message: what it says is told in its canonical form.
+fn answer(alloc: Global, frame: &[u8]) -> Result<String, AllocError> {
+    match decode(alloc, frame) {
+        Ok((xid, message)) => told_message(alloc, xid, message),
+        Err(fault) => refused(alloc, fault, number_of(fault)),
+    }
+}
+
+fn message_answer(alloc: Global, hex: &str) -> Result<String, AllocError> {
+    let bytes = bytes_of(alloc, hex)?;
+    answer(alloc, bytes.as_slice())
+}
+
+fn match_answer(alloc: Global, hex: &str) -> Result<String, AllocError> {
+    let bytes = bytes_of(alloc, hex)?;
+    match read_match(bytes.as_slice()) {
+        Ok((matching, taken)) => told_match(alloc, &matching, taken),
         Err(fault) => format!(in alloc; "fault {fault:?}"),
     }
 }
 
-fn body_answer(alloc: Global, body: &[u8]) -> Result<String, AllocError> {
-    match decode_extension(alloc, body) {
-        Ok(said) => {
-            let bytes = encode_extension(alloc, &said)?;
-            let hex = word(alloc, bytes.as_slice())?;
-            format!(in alloc; "ok {hex}")
-        }
+/// A match that so many bytes spell, in its canonical form.
+fn told_match(alloc: Global, matching: &Match, taken: usize) -> Result<String, AllocError> {
+    let mut out = Octets::new(alloc);
+    write_match(alloc, matching, &mut out)?;
+    let hex = word(alloc, out.as_slice())?;
+    format!(in alloc; "ok {taken} {hex}")
+}
+
+fn told_body(alloc: Global, said: &Extension) -> Result<String, AllocError> {
+    let bytes = encode_extension(alloc, said)?;
+    let hex = word(alloc, bytes.as_slice())?;
+    format!(in alloc; "ok {hex}")
+}
+
+fn body_answer(alloc: Global, hex: &str) -> Result<String, AllocError> {
+    let body = bytes_of(alloc, hex)?;
+    match decode_extension(alloc, body.as_slice()) {
+        Ok(said) => told_body(alloc, &said),
         Err(OfFault::Wire { kind, code, .. }) => format!(in alloc; "fault {kind} {code}"),
         Err(OfFault::OutOfMemory) => format!(in alloc; "out of memory"),
     }
 }
 
 #[test]
-fn tables(rt: HostRuntime) -> Result<(), Fail> {
-    let alloc = rt.alloc();
+fn messages(rt: HostRuntime) -> Result<(), Fail> {
     for (hex, expected) in MESSAGES {
-        let bytes = bytes_of(alloc, hex)?;
-        assert_eq!(rt; answer(alloc, bytes.as_slice())?.as_str(), *expected);
-    }
-    for (hex, expected) in MATCHES {
-        let bytes = bytes_of(alloc, hex)?;
-        assert_eq!(rt; match_answer(alloc, bytes.as_slice())?.as_str(), *expected);
-    }
-    for (hex, expected) in BODIES {
-        let bytes = bytes_of(alloc, hex)?;
-        assert_eq!(rt; body_answer(alloc, bytes.as_slice())?.as_str(), *expected);
+        assert_eq!(rt; message_answer(rt.alloc(), hex)?.as_str(), *expected);
     }
     Ok(())
-}
-
-fn packet_in(alloc: Global) -> Result<PacketIn, AllocError> {
-    Ok(PacketIn {
-        reason: 0,
-        cookie: 0,
-        in_port: 1,
-        payload: Octets::from_slice(alloc, FRAME)?,
-    })
-}
-
-fn output(alloc: Global, port: u32) -> Result<Actions, AllocError> {
-    let mut actions = Actions::new(alloc);
-    actions.push(port)?;
-    Ok(actions)
-}
-
-fn packet_out(alloc: Global) -> Result<PacketOut, AllocError> {
-    Ok(PacketOut {
-        buffer: NO_BUFFER,
-        in_port: 1,
-        actions: output(alloc, FLOOD)?,
-        payload: Octets::from_slice(alloc, FRAME)?,
-    })
-}
-
-fn flow_mod(alloc: Global) -> Result<FlowMod, AllocError> {
-    let destination = Masked48 {
-        value: 0x0200_0000_0001,
-        mask: (1 << 48) - 1,
-    };
-    Ok(FlowMod {
-        cookie: 2,
-        cookie_mask: 0,
-        table: 0,
-        command: FlowCommand::Add,
-        idle: 0,
-        hard: 0,
-        priority: 10,
-        buffer: NO_BUFFER,
-        out_port: 0xffff_ffff,
-        out_group: 0xffff_ffff,
-        flags: 0,
-        matching: Match {
-            in_port: Some(2),
-            eth_dst: Some(destination),
-            ..any_match()
-        },
-        actions: output(alloc, 1)?,
-    })
-}
-
-/// What the vectors of plain messages say.
-fn plain_said(alloc: Global) -> Result<[(Spoken, &'static str); 4], AllocError> {
-    Ok([
-        (
-            Spoken::Plain(OfMessage::RoleRequest {
-                role: MASTER,
-                generation: 1,
-            }),
-            ROLE_REQUEST,
-        ),
-        (
-            Spoken::Plain(OfMessage::PacketIn(packet_in(alloc)?)),
-            PACKET_IN,
-        ),
-        (
-            Spoken::Plain(OfMessage::PacketOut(packet_out(alloc)?)),
-            PACKET_OUT,
-        ),
-        (
-            Spoken::Plain(OfMessage::FlowMod(flow_mod(alloc)?)),
-            FLOW_MOD,
-        ),
-    ])
-}
-
-/// What the vectors of the extension say.
-fn ravana_said(alloc: Global) -> Result<[(Spoken, &'static str); 4], AllocError> {
-    Ok([
-        (
-            Spoken::Ravana(Extension::Event {
-                life: 0,
-                number: 0,
-                what: Happening::PacketIn(packet_in(alloc)?),
-            }),
-            EVENT,
-        ),
-        (
-            Spoken::Ravana(Extension::Command {
-                life: 0,
-                generation: 1,
-                number: 0,
-                settled: 0,
-                order: Order::PacketOut(packet_out(alloc)?),
-            }),
-            COMMAND,
-        ),
-        (
-            Spoken::Ravana(Extension::CmdAck {
-                life: 0,
-                number: 0,
-                outcome: Outcome::Done,
-            }),
-            CMD_ACK,
-        ),
-        (
-            Spoken::Ravana(Extension::EventAck {
-                life: 0,
-                through: 1,
-            }),
-            EVENT_ACK,
-        ),
-    ])
 }
 
 #[test]
-fn vectors(rt: HostRuntime) -> Result<(), Fail> {
-    let alloc = rt.alloc();
-    for (said, expected) in &plain_said(alloc)? {
-        let bytes = canonical(alloc, 0, said)?;
-        assert_eq!(rt; word(alloc, bytes.as_slice())?.as_str(), *expected);
-        let again = format!(in alloc; "ok 0 {expected}")?;
-        assert_eq!(rt; answer(alloc, bytes.as_slice())?.as_str(), again.as_str());
-    }
-    for (said, expected) in &ravana_said(alloc)? {
-        let bytes = canonical(alloc, 0, said)?;
-        assert_eq!(rt; word(alloc, bytes.as_slice())?.as_str(), *expected);
-        let again = format!(in alloc; "ok 0 {expected}")?;
-        assert_eq!(rt; answer(alloc, bytes.as_slice())?.as_str(), again.as_str());
+fn matches(rt: HostRuntime) -> Result<(), Fail> {
+    for (hex, expected) in MATCHES {
+        assert_eq!(rt; match_answer(rt.alloc(), hex)?.as_str(), *expected);
     }
     Ok(())
+}
+
+#[test]
+fn bodies(rt: HostRuntime) -> Result<(), Fail> {
+    for (hex, expected) in BODIES {
+        assert_eq!(rt; body_answer(rt.alloc(), hex)?.as_str(), *expected);
+    }
+    Ok(())
+}
+
+fn packet_out(alloc: Global) -> Result<PacketOut, AllocError> {
+    let actions = list(alloc, &[FLOOD])?;
+    let payload = Octets::from_slice(alloc, FRAME)?;
+    Ok(PacketOut {
+        buffer: NO_BUFFER,
+        in_port: 1,
+        actions,
+        payload,
+    })
+}
+
+fn command(alloc: Global) -> Result<Extension, AllocError> {
+    let order = Order::PacketOut(packet_out(alloc)?);
+    Ok(Extension::Command {
+        life: 0,
+        generation: 1,
+        number: 0,
+        settled: 0,
+        order,
+    })
+}
+
+fn written(alloc: Global, said: &Spoken) -> Result<String, AllocError> {
+    let bytes = canonical(alloc, 0, said)?;
+    word(alloc, bytes.as_slice())
+}
+
+fn read_again(alloc: Global, said: &Spoken) -> Result<String, AllocError> {
+    let bytes = canonical(alloc, 0, said)?;
+    answer(alloc, bytes.as_slice())
+}
+
+/// What is said is written as expected, and read as the same again.
+fn check_vector(
+    rt: &impl Abort,
+    alloc: Global,
+    said: &Spoken,
+    expected: &str,
+) -> Result<(), AllocError> {
+    assert_eq!(rt; written(alloc, said)?.as_str(), expected);
+    let again = read_again(alloc, said)?;
+    assert_eq!(rt; again.as_str().strip_prefix("ok 0 "), Some(expected));
+    Ok(())
+}
+
+fn check_plain(
+    rt: &impl Abort,
+    alloc: Global,
+    said: OfMessage,
+    expected: &str,
+) -> Result<(), AllocError> {
+    check_vector(rt, alloc, &Spoken::Plain(said), expected)
+}
+
+fn check_extension(
+    rt: &impl Abort,
+    alloc: Global,
+    said: Extension,
+    expected: &str,
+) -> Result<(), AllocError> {
+    check_vector(rt, alloc, &Spoken::Ravana(said), expected)
+}
+
+#[test]
+fn plain_vectors(rt: HostRuntime) -> Result<(), Fail> {
+    let alloc = rt.alloc();
+    check_plain(&rt, alloc, role_request(), ROLE_REQUEST)?;
+    check_plain(
+        &rt,
+        alloc,
+        OfMessage::PacketIn(packet_in(alloc)?),
+        PACKET_IN,
+    )?;
+    check_plain(
+        &rt,
+        alloc,
+        OfMessage::PacketOut(packet_out(alloc)?),
+        PACKET_OUT,
+    )?;
+    check_plain(&rt, alloc, OfMessage::FlowMod(flow_mod(alloc)?), FLOW_MOD)?;
+    Ok(())
+}
+
+fn cmd_ack() -> Extension {
+    Extension::CmdAck {
+        life: 0,
+        number: 0,
+        outcome: Outcome::Done,
+    }
+}
+
+fn event_ack() -> Extension {
+    Extension::EventAck {
+        life: 0,
+        through: 1,
+    }
+}
+
+#[test]
+fn ravana_vectors(rt: HostRuntime) -> Result<(), Fail> {
+    let alloc = rt.alloc();
+    check_extension(&rt, alloc, event(alloc)?, EVENT)?;
+    check_extension(&rt, alloc, command(alloc)?, COMMAND)?;
+    check_extension(&rt, alloc, cmd_ack(), CMD_ACK)?;
+    check_extension(&rt, alloc, event_ack(), EVENT_ACK)?;
+    Ok(())
+}
+
+/// The message that an event tells.
+fn told_arrival(alloc: Global) -> Result<String, AllocError> {
+    let what = Happening::PacketIn(packet_in(alloc)?);
+    let bytes = canonical_happening(alloc, &what)?;
+    word(alloc, bytes.as_slice())
+}
+
+/// The message that a command holds.
+fn told_change(alloc: Global) -> Result<String, AllocError> {
+    let order = Order::FlowMod(flow_mod(alloc)?);
+    let bytes = canonical_order(alloc, &order)?;
+    word(alloc, bytes.as_slice())
 }
 
 #[test]
 fn inner_messages(rt: HostRuntime) -> Result<(), Fail> {
-    let alloc = rt.alloc();
-    let arrival = canonical_happening(alloc, &Happening::PacketIn(packet_in(alloc)?))?;
-    assert_eq!(rt; word(alloc, arrival.as_slice())?.as_str(), PACKET_IN);
-    let change = canonical_order(alloc, &Order::FlowMod(flow_mod(alloc)?))?;
-    assert_eq!(rt; word(alloc, change.as_slice())?.as_str(), FLOW_MOD);
+    assert_eq!(rt; told_arrival(rt.alloc())?.as_str(), PACKET_IN);
+    assert_eq!(rt; told_change(rt.alloc())?.as_str(), FLOW_MOD);
     Ok(())
 }

@@ -6,6 +6,7 @@ use rv_base::{
     Refused, Sink, Source, StdSink, StdSource, Stop, Turn, Weight, Wire,
 };
 use std::alloc::{AllocError, Global};
+use std::process::Abort;
 use std::test::Fail;
 
 /// Writes a piece, and takes it on after a fault.
@@ -239,10 +240,8 @@ fn got(answer: Result<Drawn<Octets>, Refused<Octets>>) -> Option<Packet<Octets>>
     }
 }
 
-#[test]
-fn turns_of_a_journal(rt: HostRuntime) -> Result<(), Fail> {
-    let alloc = rt.alloc();
-    let mut wire: Wire<Octets> = Wire::new(alloc);
+/// Takes the turns of that journal.
+fn take_turns(rt: &impl Abort, alloc: Global, wire: &mut Wire<Octets>) -> Result<(), AllocError> {
     let first = letters(alloc, [1, 2], b"ab")?;
     assert!(rt; wire.post(Actor::Controller(0), first).is_ok());
     let kept = got(wire.draw(Actor::Switch(1), Items::new(alloc), 7, true));
@@ -258,8 +257,11 @@ fn turns_of_a_journal(rt: HostRuntime) -> Result<(), Fail> {
     );
     let nothing = wire.draw(Actor::Controller(0), Items::new(alloc), 0, false);
     assert!(rt; matches!(nothing, Ok(Drawn::Nothing)));
+    Ok(())
+}
 
-    let mut waiting = wire.pool().iter().map(|packet| packet.id);
+fn assert_waiting(rt: &impl Abort, pool: &[Packet<Octets>]) {
+    let mut waiting = pool.iter().map(|packet| packet.id);
     assert_eq!(rt;
         (
             waiting.next(),
@@ -269,15 +271,25 @@ fn turns_of_a_journal(rt: HostRuntime) -> Result<(), Fail> {
         ),
         (Some(0), Some(1), Some(3), None)
     );
-    wire.lawful();
-    assert_eq!(rt; wire.entries().len(), TOLD.len());
-    let journal = wire.into_journal();
+}
+
+fn assert_told(rt: &impl Abort, journal: &[JournalEntry<Octets>]) {
     assert_eq!(rt; journal.len(), TOLD.len());
-    for (entry, want) in journal.as_slice().iter().zip(&TOLD) {
+    for (entry, want) in journal.iter().zip(&TOLD) {
         assert_eq!(rt; telling(entry), *want);
     }
-    assert!(rt; is_post_of(&journal.as_slice()[0], [1, 2], b"ab"));
-    assert!(rt; is_post_of(&journal.as_slice()[2], [2, 3], b"c"));
+    assert!(rt; is_post_of(&journal[0], [1, 2], b"ab"));
+    assert!(rt; is_post_of(&journal[2], [2, 3], b"c"));
+}
+
+#[test]
+fn turns_of_a_journal(rt: HostRuntime) -> Result<(), Fail> {
+    let mut wire: Wire<Octets> = Wire::new(rt.alloc());
+    take_turns(&rt, rt.alloc(), &mut wire)?;
+    assert_waiting(&rt, wire.pool());
+    wire.lawful();
+    assert_eq!(rt; wire.entries().len(), TOLD.len());
+    assert_told(&rt, wire.into_journal().as_slice());
     Ok(())
 }
 

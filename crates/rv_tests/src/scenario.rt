@@ -1,6 +1,7 @@
 use of_types::Octets;
 use rv_base::{Actor, Local, MemorySource, Turn};
 use scenario::{Fault, FaultKind, FaultPlace, ScenarioFault, read_input, read_scenario};
+use std::process::Abort;
 use std::test::Fail;
 
 const LATER: ScenarioFault = ScenarioFault::Refused(Fault {
@@ -89,17 +90,21 @@ fn only_frame(steps: &[Turn]) -> Option<(Actor, u32, &[u8])> {
     Some((*actor, *port, bytes.as_slice()))
 }
 
+fn assert_frame(rt: &impl Abort, steps: &[Turn]) {
+    let Some((actor, port, bytes)) = only_frame(steps) else {
+        panic!(rt; "no frame");
+    };
+    assert_eq!(rt; (actor, port), (Actor::Switch(0), 47));
+    assert_eq!(rt; bytes, FRAME_BYTES);
+}
+
 #[test]
 fn reads_a_frame(rt: HostRuntime) -> Result<(), Fail> {
     let scenario = read_scenario(rt.alloc(), FRAME.as_bytes())?;
     assert_eq!(rt; scenario.setup.controllers, 1);
     assert_eq!(rt; scenario.setup.ports.as_slice(), [48].as_slice());
     assert!(rt; scenario.setup.links.is_empty() && scenario.setup.deny.is_empty());
-    let Some((actor, port, bytes)) = only_frame(scenario.steps.as_slice()) else {
-        return Err(Fail::new("no frame"));
-    };
-    assert_eq!(rt; (actor, port), (Actor::Switch(0), 47));
-    assert_eq!(rt; bytes, FRAME_BYTES);
+    assert_frame(&rt, scenario.steps.as_slice());
     Ok(())
 }
 

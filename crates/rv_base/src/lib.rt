@@ -8,8 +8,6 @@ mod memory;
 mod outside;
 mod pool;
 mod standard;
-#[cfg(test)]
-mod tests;
 mod wire;
 
 pub use journal::{

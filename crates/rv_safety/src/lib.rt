@@ -13,9 +13,6 @@ ghost use Rattle.rv_world.specs.World.{scene_of};
 ghost use Rattle.rv_safety.specs.Premises.{HasBytes};
 ghost use Rattle.rv_safety.specs.Room.{HasRoom, ClosesBehind};
 
-#[cfg(test)]
-mod tests;
-
 use rv_world::{Body, World};
 
 /// What was decided stays decided, under one controller.

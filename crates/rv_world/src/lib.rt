@@ -6,8 +6,6 @@ mod debt;
 mod says;
 mod sealing;
 mod takes;
-#[cfg(test)]
-mod tests;
 mod typed;
 mod world;
 

@@ -34,6 +34,13 @@ fn controller_message(says: &ControllerSays) -> Result<Message, AllocError>
     }
 }
 
+/// The body of a message.
+fn seal<B: Body>(alloc: Global, message: Message) -> Result<B, AllocError>
+    ensures { IfOk result (λ body. body ≡ B.sealed message) }
+{
+    B::seal(alloc, &message)
+}
+
 fn switch_letters<B: Body>(
     alloc: Global,
     letters: &[Letter<SwitchSays>],
@@ -42,7 +49,7 @@ fn switch_letters<B: Body>(
 {
     let mut sealed = Items::new(alloc);
     for letter in letters {
-        let body = B::seal(alloc, &switch_message(&letter.body)?)?;
+        let body = seal(alloc, switch_message(&letter.body)?)?;
         sealed.push(Letter {
             to: letter.to,
             body,
@@ -59,7 +66,7 @@ fn controller_letters<B: Body>(
 {
     let mut sealed = Items::new(alloc);
     for letter in letters {
-        let body = B::seal(alloc, &controller_message(&letter.body)?)?;
+        let body = seal(alloc, controller_message(&letter.body)?)?;
         sealed.push(Letter {
             to: letter.to,
             body,

@@ -4,8 +4,6 @@
 mod input;
 mod reading;
 mod scenario;
-#[cfg(test)]
-mod tests;
 
 pub use input::{InputFault, SCENARIO_LIMIT, read_input};
 pub use reading::read_scenario;

@@ -1,37 +1,59 @@
-use crate::{
-    Actor, Drawn, Failed, JournalEntry, Letter, Letters, Local, MemorySink, MemorySource, Sink,
-    Source, StdSink, StdSource, Stop, Turn, Weight, Wire,
-};
+ghost use Rattle.std.specs.Prelude.{◌<◌};
+
 use of_types::{Items, Octets};
+use rv_base::{
+    Actor, Drawn, Failed, JournalEntry, Letter, Letters, Local, MemorySink, MemorySource, Packet,
+    Refused, Sink, Source, StdSink, StdSource, Stop, Turn, Weight, Wire,
+};
 use std::alloc::{AllocError, Global};
+use std::process::Abort;
 use std::test::Fail;
 
-/// Reads and writes in turn, and takes each piece on after a fault.
-fn pour<I: Source, O: Sink>(source: &mut I, sink: &mut O, reads: u64) {
-    let mut piece = [0; 4];
-    for _ in 0..reads {
-        let Ok(len) = source.read(&mut piece) else {
-            continue;
-        };
-        let mut written = 0;
-        for _ in 0..8 {
-            if written < len
-                && let Ok(count) = sink.write(&piece[written..len])
-            {
-                written += count;
-            }
+/// Writes a piece, and takes it on after a fault.
+fn write_on<O: Sink>(sink: &mut O, piece: &[u8]) {
+    let mut left = piece;
+    for _ in 0..8 {
+        if left.is_empty() {
+            return;
+        }
+        if let Ok(count) = sink.write(left) {
+            left = &left[count..];
         }
     }
 }
 
+/// Reads and writes in turn.
+fn pour<I: Source, O: Sink>(source: &mut I, sink: &mut O, reads: u64) {
+    let mut piece = [0; 4];
+    for _ in 0..reads {
+        if let Ok(len) = source.read(&mut piece) {
+            write_on(sink, &piece[..len]);
+        }
+    }
+}
+
+/// A source of `pieces`.
+fn new_source(alloc: Global, most: usize, failing: &[u64]) -> Result<MemorySource, AllocError>
+    requires { 0 < most }
+{
+    let bytes = Octets::from_slice(alloc, b"pieces")?;
+    Ok(MemorySource::new(bytes, most, failing.to_vec(alloc)?))
+}
+
+fn new_sink(alloc: Global, most: usize, failing: &[u64]) -> Result<MemorySink, AllocError> {
+    Ok(MemorySink::new(alloc, most, failing.to_vec(alloc)?))
+}
+
+/// The most bytes that a read gives, the reads that fail, both for the writes, and the faults of each.
+const CUTS: [(usize, &[u64], usize, &[u64], u64, u64); 4] = [
+    (9, &[], 9, &[], 0, 0),
+    (3, &[0, 2], 2, &[1, 4], 2, 2),
+    (1, &[1, 1, 99], 4, &[0], 1, 1),
+    (9, &[], 0, &[], 0, 16),
+];
+
 #[test]
 fn pieces_and_faults(rt: HostRuntime) -> Result<(), Fail> {
-    let cases: [(usize, &[u64], usize, &[u64], u64, u64); 4] = [
-        (9, &[], 9, &[], 0, 0),
-        (3, &[0, 2], 2, &[1, 4], 2, 2),
-        (1, &[1, 1, 99], 4, &[0], 1, 1),
-        (9, &[], 0, &[], 0, 16),
-    ];
     for (
         most_read,
         failing_reads,
@@ -39,15 +61,10 @@ fn pieces_and_faults(rt: HostRuntime) -> Result<(), Fail> {
         failing_writes,
         read_faults,
         write_faults,
-    ) in cases {
-        let bytes = Octets::from_slice(rt.alloc(), b"pieces")?;
+    ) in CUTS {
         assert!(rt; most_read > 0);
-        let mut source = MemorySource::new(bytes, most_read, failing_reads.to_vec(rt.alloc())?);
-        let mut sink = MemorySink::new(
-            rt.alloc(),
-            most_written,
-            failing_writes.to_vec(rt.alloc())?,
-        );
+        let mut source = new_source(rt.alloc(), most_read, failing_reads)?;
+        let mut sink = new_sink(rt.alloc(), most_written, failing_writes)?;
         pour(&mut source, &mut sink, 8);
         let taken: &[u8] = if most_written == 0 { b"" } else { b"pieces" };
         assert_eq!(rt; sink.taken(), taken, "at most {most_written} a write");
@@ -57,17 +74,27 @@ fn pieces_and_faults(rt: HostRuntime) -> Result<(), Fail> {
     Ok(())
 }
 
+/// What the reads of the test below answer.
+const READS: [Result<usize, Failed>; 4] = [Ok(4), Err(Failed), Ok(2), Ok(0)];
+
 #[test]
-fn each_call_tells_its_count(rt: HostRuntime) -> Result<(), Fail> {
-    let bytes = Octets::from_slice(rt.alloc(), b"pieces")?;
-    let mut source = MemorySource::new(bytes, 5, [1].to_vec(rt.alloc())?);
+fn each_read_tells_its_count(rt: HostRuntime) -> Result<(), Fail> {
+    let mut source = new_source(rt.alloc(), 5, &[1])?;
     let mut piece = [0; 4];
-    for want in [Ok(4), Err(Failed), Ok(2), Ok(0)] {
+    for want in READS {
         assert_eq!(rt; source.read(&mut piece), want);
     }
     assert_eq!(rt; piece.as_slice(), b"esec".as_slice());
-    let mut sink = MemorySink::new(rt.alloc(), 2, [1].to_vec(rt.alloc())?);
-    for want in [Ok(2), Err(Failed), Ok(2)] {
+    Ok(())
+}
+
+/// What the writes of the test below answer.
+const WRITES: [Result<usize, Failed>; 3] = [Ok(2), Err(Failed), Ok(2)];
+
+#[test]
+fn each_write_tells_its_count(rt: HostRuntime) -> Result<(), Fail> {
+    let mut sink = new_sink(rt.alloc(), 2, &[1])?;
+    for want in WRITES {
         assert_eq!(rt; sink.write(b"abc"), want);
     }
     assert_eq!(rt; sink.taken(), b"abab".as_slice());
@@ -81,7 +108,10 @@ fn std_streams(rt: HostRuntime) {
     pour(&mut stdin, &mut stdout, 0);
     assert_eq!(rt; stdin.faults(), 0);
     assert_eq!(rt; stdout.faults(), 0);
+}
 
+#[test]
+fn streams_of_slices(rt: HostRuntime) {
     let mut room = [0; 5];
     let mut source = StdSource::new(b"pieces".as_slice());
     let mut sink = StdSink::new(room.as_mut_slice());
@@ -202,27 +232,36 @@ fn is_post_of(entry: &JournalEntry<Octets>, to: [u8; 2], text: &[u8]) -> bool {
     })
 }
 
-#[test]
-fn turns_of_a_journal(rt: HostRuntime) -> Result<(), Fail> {
-    let alloc = rt.alloc();
-    let first = letters(alloc, [1, 2], b"ab")?;
-    let second = letters(alloc, [2, 3], b"c")?;
-    let mut wire: Wire<Octets> = Wire::new(alloc);
-    let posted = wire.post(Actor::Controller(0), first);
-    let kept = wire.draw(Actor::Switch(1), Items::new(alloc), 7, true);
-    let lost = wire.lose(Actor::Switch(2), second, 1);
-    let taken = wire.local(Actor::Switch(3), Items::new(alloc), Local::Tick);
-    let nothing = wire.draw(Actor::Controller(0), Items::new(alloc), 0, false);
+/// The packet that a draw or a loss found.
+fn got(answer: Result<Drawn<Octets>, Refused<Octets>>) -> Option<Packet<Octets>> {
+    match answer {
+        Ok(Drawn::Got(packet)) => Some(packet),
+        _ => None,
+    }
+}
 
-    assert!(rt; posted.is_ok() && taken.is_ok());
+/// Takes the turns of that journal.
+fn take_turns(rt: &impl Abort, alloc: Global, wire: &mut Wire<Octets>) -> Result<(), AllocError> {
+    let first = letters(alloc, [1, 2], b"ab")?;
+    assert!(rt; wire.post(Actor::Controller(0), first).is_ok());
+    let kept = got(wire.draw(Actor::Switch(1), Items::new(alloc), 7, true));
+    assert!(rt; kept.is_some_and(|packet| packet.id == 0 && packet.from.is(Actor::Controller(0))));
+    let second = letters(alloc, [2, 3], b"c")?;
+    let lost = got(wire.lose(Actor::Switch(2), second, 1));
     assert!(rt;
-        matches!(&kept, Ok(Drawn::Got(packet)) if packet.id == 0 && packet.from.is(Actor::Controller(0)))
+        lost.is_some_and(|packet| packet.id == 2 && packet.body.as_slice() == b"c".as_slice())
     );
     assert!(rt;
-        matches!(&lost, Ok(Drawn::Got(packet)) if packet.id == 2 && packet.body.as_slice() == b"c".as_slice())
+        wire.local(Actor::Switch(3), Items::new(alloc), Local::Tick)
+            .is_ok()
     );
-    assert!(rt; matches!(&nothing, Ok(Drawn::Nothing)));
-    let mut waiting = wire.pool().iter().map(|packet| packet.id);
+    let nothing = wire.draw(Actor::Controller(0), Items::new(alloc), 0, false);
+    assert!(rt; matches!(nothing, Ok(Drawn::Nothing)));
+    Ok(())
+}
+
+fn assert_waiting(rt: &impl Abort, pool: &[Packet<Octets>]) {
+    let mut waiting = pool.iter().map(|packet| packet.id);
     assert_eq!(rt;
         (
             waiting.next(),
@@ -232,31 +271,64 @@ fn turns_of_a_journal(rt: HostRuntime) -> Result<(), Fail> {
         ),
         (Some(0), Some(1), Some(3), None)
     );
-    wire.lawful();
-    assert_eq!(rt; wire.entries().len(), TOLD.len());
-    let journal = wire.into_journal();
-    assert_eq!(rt; journal.len(), TOLD.len());
-    for (entry, want) in journal.as_slice().iter().zip(&TOLD) {
-        assert_eq!(rt; telling(entry), *want);
-    }
-    assert!(rt; is_post_of(&journal.as_slice()[0], [1, 2], b"ab"));
-    assert!(rt; is_post_of(&journal.as_slice()[2], [2, 3], b"c"));
-    Ok(())
 }
 
-/// Whether an input is the frame of the test below.
-fn is_frame(input: &Local) -> bool {
-    matches!(input, Local::Frame { port: 3, bytes } if bytes.as_slice() == b"frame".as_slice())
+fn assert_told(rt: &impl Abort, journal: &[JournalEntry<Octets>]) {
+    assert_eq!(rt; journal.len(), TOLD.len());
+    for (entry, want) in journal.iter().zip(&TOLD) {
+        assert_eq!(rt; telling(entry), *want);
+    }
+    assert!(rt; is_post_of(&journal[0], [1, 2], b"ab"));
+    assert!(rt; is_post_of(&journal[2], [2, 3], b"c"));
 }
 
 #[test]
-fn copies(rt: HostRuntime) -> Result<(), Fail> {
-    let bytes = Octets::from_slice(rt.alloc(), b"frame")?;
-    assert_eq!(rt; Weight::copy(&bytes)?.as_slice(), b"frame".as_slice());
+fn turns_of_a_journal(rt: HostRuntime) -> Result<(), Fail> {
+    let mut wire: Wire<Octets> = Wire::new(rt.alloc());
+    take_turns(&rt, rt.alloc(), &mut wire)?;
+    assert_waiting(&rt, wire.pool());
+    wire.lawful();
+    assert_eq!(rt; wire.entries().len(), TOLD.len());
+    assert_told(&rt, wire.into_journal().as_slice());
+    Ok(())
+}
+
+/// The bytes of the frame that the tests below copy.
+const FRAME: &[u8] = b"frame";
+
+/// Whether an input is that frame at port 3.
+fn is_frame(input: &Local) -> bool {
+    let Local::Frame { port, bytes } = input else {
+        return false;
+    };
+    *port == 3 && bytes.as_slice() == FRAME
+}
+
+/// That frame as an input.
+fn frame(alloc: Global) -> Result<Local, AllocError> {
+    let bytes = Octets::from_slice(alloc, FRAME)?;
+    Ok(Local::Frame { port: 3, bytes })
+}
+
+#[test]
+fn copies_of_bytes(rt: HostRuntime) -> Result<(), Fail> {
+    let bytes = Octets::from_slice(rt.alloc(), FRAME)?;
     assert_eq!(rt; Weight::size(&bytes), 5);
-    let input = Local::Frame { port: 3, bytes };
+    assert_eq!(rt; Weight::copy(&bytes)?.as_slice(), FRAME);
+    Ok(())
+}
+
+#[test]
+fn copies_of_an_input(rt: HostRuntime) -> Result<(), Fail> {
+    let input = frame(rt.alloc())?;
     assert!(rt; is_frame(&input.copy()?));
+    Ok(())
+}
+
+#[test]
+fn copies_of_a_turn(rt: HostRuntime) -> Result<(), Fail> {
     let actor = Actor::Switch(2);
+    let input = frame(rt.alloc())?;
     let step = Turn::Local { actor, input };
     let copied = step.copy()?;
     assert_eq!(rt; copied.actor(), actor);

@@ -1,6 +1,7 @@
-use crate::{Fault, FaultKind, FaultPlace, ScenarioFault, read_input, read_scenario};
 use of_types::Octets;
 use rv_base::{Actor, Local, MemorySource, Turn};
+use scenario::{Fault, FaultKind, FaultPlace, ScenarioFault, read_input, read_scenario};
+use std::process::Abort;
 use std::test::Fail;
 
 const LATER: ScenarioFault = ScenarioFault::Refused(Fault {
@@ -8,6 +9,7 @@ const LATER: ScenarioFault = ScenarioFault::Refused(Fault {
     place: FaultPlace::Top,
 });
 
+/// A frame at the highest port but one of a switch.
 const FRAME: &str =
     r#"{"controllers": 1, "switches": [{"ports": 48}], "steps": [{"do": "frame", "switch": 0, "port": 47, "bytes": "e6b717de8f7ba00d44246deff2ea585bb8"}]}"#;
 
@@ -68,27 +70,41 @@ fn takes_this_form_alone(rt: HostRuntime) {
     assert_eq!(rt; no_text.err(), Some(LATER));
 }
 
+/// The bytes that the frame spells.
+const FRAME_BYTES: &[u8] = &[
+    0xe6, 0xb7, 0x17, 0xde, 0x8f, 0x7b, 0xa0, 0x0d, 0x44, 0x24, 0x6d, 0xef, 0xf2, 0xea, 0x58, 0x5b,
+    0xb8,
+];
+
+/// Where the only step puts a frame, and its bytes.
+fn only_frame(steps: &[Turn]) -> Option<(Actor, u32, &[u8])> {
+    let [
+        Turn::Local {
+            actor,
+            input: Local::Frame { port, bytes },
+        },
+    ] = steps
+    else {
+        return None;
+    };
+    Some((*actor, *port, bytes.as_slice()))
+}
+
+fn assert_frame(rt: &impl Abort, steps: &[Turn]) {
+    let Some((actor, port, bytes)) = only_frame(steps) else {
+        panic!(rt; "no frame");
+    };
+    assert_eq!(rt; (actor, port), (Actor::Switch(0), 47));
+    assert_eq!(rt; bytes, FRAME_BYTES);
+}
+
 #[test]
 fn reads_a_frame(rt: HostRuntime) -> Result<(), Fail> {
     let scenario = read_scenario(rt.alloc(), FRAME.as_bytes())?;
     assert_eq!(rt; scenario.setup.controllers, 1);
     assert_eq!(rt; scenario.setup.ports.as_slice(), [48].as_slice());
     assert!(rt; scenario.setup.links.is_empty() && scenario.setup.deny.is_empty());
-    let [
-        Turn::Local {
-            actor,
-            input: Local::Frame { port, bytes },
-        },
-    ] = scenario.steps.as_slice()
-    else {
-        return Err(Fail::new("no frame"));
-    };
-    assert_eq!(rt; (*actor, *port), (Actor::Switch(0), 47));
-    let frame = [
-        0xe6, 0xb7, 0x17, 0xde, 0x8f, 0x7b, 0xa0, 0x0d, 0x44, 0x24, 0x6d, 0xef, 0xf2, 0xea, 0x58,
-        0x5b, 0xb8,
-    ];
-    assert_eq!(rt; bytes.as_slice(), frame.as_slice());
+    assert_frame(&rt, scenario.steps.as_slice());
     Ok(())
 }
 

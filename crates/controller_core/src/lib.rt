@@ -8,8 +8,6 @@ mod letters;
 mod log;
 mod marks;
 mod says;
-#[cfg(test)]
-mod tests;
 
 pub use controller::Controller;
 pub use learning::reactions_to;

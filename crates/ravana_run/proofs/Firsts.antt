@@ -1,5 +1,5 @@
 -- Lists of one more, and of one.
-use Rattle.std.proofs.Common.{◌≡◌, ◌<◌, ℕ, zero, suc, ◌+◌, List, [], ◌∷◌, ◌++◌, length, refl, arith, ap, subst}
+use Rattle.std.proofs.Common.{◌≡◌, ◌<◌, ℕ, suc, ◌+◌, List, [], ◌∷◌, ◌++◌, length, refl, arith, ap, subst}
 use Rattle.std.specs.Prelude.{get_or, map}
 use Rattle.controller_core.specs.Rules.{numbers_below}
 

@@ -1,5 +1,5 @@
 -- What a script and a closing make of a run.
-use Rattle.std.proofs.Common.{◌≡◌, ◌≤◌, ◌<◌, ℕ, zero, suc, ◌+◌, get_or, true, false, List, [], ◌∷◌, ◌++◌, length, take, drop, refl, sym, ◌∙◌, ap, subst, arith, length-append}
+use Rattle.std.proofs.Common.{◌≡◌, ◌≤◌, ◌<◌, ℕ, zero, suc, get_or, List, [], ◌∷◌, ◌++◌, length, take, drop, refl, sym, ◌∙◌, ap, subst, arith, length-append}
 use Rattle.std.specs.Prelude.{slice_get, reverse, Some}
 use Rattle.std.specs.List.{AllByRecursion}
 use Rattle.std.proofs.Math.Seq.{take-append_seam, drop-append_seam}
@@ -8,23 +8,15 @@ use Rattle.rv_base.specs.declared.journal.Turn.{Turn}
 use Rattle.rv_base.specs.declared.wire.Stop.{Stop}
 use Rattle.rv_base.specs.declared.wire.Stop.TheVariants.{OutOfMemory, JournalFull}
 use Rattle.rv_base.specs.Pool.{past}
-use Rattle.rv_base.specs.Turns.{IsCalm, IsWithinLimits}
+use Rattle.rv_base.specs.Turns.{IsCalm}
 use Rattle.controller_core.specs.State.{is_up}
 use Rattle.rv_world.specs.Committed.{controller_state}
 use Rattle.rv_world.specs.Schedule.{IsPosted, FollowsInOrder, IsBegun, In_the_script, In_the_closing, IsJournalFull, Answer}
-use Rattle.rv_world.specs.Laws.{IsClosed}
-use Rattle.rv_world.specs.Legal.{IsLegal}
-use Rattle.rv_world.specs.Schedule as schedule
 use Rattle.rv_world.specs.States.{Scene}
-use Rattle.rv_world.specs.declared.typed.Typed.{Typed}
-use Rattle.rv_world.specs.World.{WorldState, TakesTurnOf}
+use Rattle.rv_world.specs.World.{WorldState}
 use Rattle.rv_world.proofs.Closings.{past_joined}
 use Rattle.rv_world.proofs.Following.{HasTaken, next_taken}
 use Rattle.rv_world.proofs.Standing.{script_remains}
-use Rattle.scenario.specs.declared.scenario.Scenario.{Scenario}
-use Rattle.ravana_run.specs.Ending.{EndsDone}
-use Rattle.ravana_run.specs.Outcome.{scene_for, IsLawful}
-use Rattle.ravana_run.specs.Shows.{Shows, ShowsReport, typed_bytes}
 use Rattle.ravana_run.specs.Play.{TurnStopsAt, ClosingStops, IsReady, HasClosed, HasPlayed, RunStops}
 
 -- a step of a script at its place
@@ -76,21 +68,3 @@ module _ {B : Type 0} (scene : Scene B) (steps : List Turn) (count : ℕ) (answe
 
   pub within_journal : count ≤ length journal
   within_journal = let lengths = ap length h.joined ∙ length-append h.front h.rest in omega (arith, lengths, h.counted)
-
--- a run that came to rest, and its report
-pub ends_done : (scenario : Scenario) (journal : List (JournalEntry Typed)) (count primary : ℕ) (words : List ℕ) → HasPlayed (scene_for scenario) scenario.steps count (schedule.Done primary) journal →
-    IsLegal (scene_for scenario) [] journal → IsWithinLimits (scene_for scenario).sealing.size (past journal) → IsLawful (scene_for scenario) (past journal) → IsClosed (scene_for scenario) [] (past journal) →
-    ShowsReport (scene_for scenario) (length scenario.steps) (drop count journal) journal words → EndsDone scenario words
-ends_done scenario journal count primary words h legal within lawful closed report =
-    record {
-      script = h.front;
-      closing = h.rest;
-      journal = journal;
-      primary = primary;
-      told = report.told;
-      run = record { joined = h.joined; legal = legal; within = within; follows = h.follows; closes = h.closes; lawful = lawful };
-      closed = closed;
-      shows = subst (λ l. Shows (scene_for scenario) typed_bytes (length scenario.steps) l journal report.told)
-          (rest_is (scene_for scenario) scenario.steps count (schedule.Done primary) journal h) report.shows;
-      wrote = report.wrote;
-    }

@@ -1,11 +1,10 @@
 -- What the turns of the closing of one controller do.
-use Rattle.std.proofs.Common.{◌≡◌, ◌⊎◌, inl, inr, ◌<◌, ◌≤◌, ℕ, suc, zero, Bool, true, false, List, [], ◌∷◌, ◌++◌, length, refl, sym, ◌∙◌, ap, subst, arith}
-use Rattle.std.specs.Prelude.{◌%◌, nat_eq, max, map, Option, Some, None, IfErr, OnOk, Result, Ok, Err, if◌then◌else◌}
-use Rattle.std.specs.List.{list_any}
+use Rattle.std.proofs.Common.{◌≡◌, inl, inr, ℕ, suc, Bool, true, false, List, [], ◌∷◌, refl, sym, ◌∙◌, ap, subst, arith}
+use Rattle.std.specs.Prelude.{max, map, Some, None, IfErr, OnOk, Result, Ok, Err, if◌then◌else◌}
 use Rattle.rv_base.specs.declared.journal.Actor.{Actor}
 use Rattle.rv_base.specs.declared.journal.Actor.TheVariants as actor
 use Rattle.rv_base.specs.declared.journal.JournalEntry.{JournalEntry}
-use Rattle.rv_base.specs.declared.journal.JournalEntry.TheVariants.{Post, Draw, Lose, Local, Idle, Refused}
+use Rattle.rv_base.specs.declared.journal.JournalEntry.TheVariants.{Draw, Lose, Local}
 use Rattle.rv_base.specs.declared.journal.Local.TheVariants as local
 use Rattle.rv_base.specs.declared.journal.Packet.{Packet}
 use Rattle.rv_base.specs.declared.journal.Turn.{Turn}
@@ -22,15 +21,13 @@ use Rattle.rv_world.specs.Committed.{controller_state, states_of}
 use Rattle.rv_world.specs.Schedule.{Phase, Losing, Suspecting, Draining, Met, Done, Answer, IsPosted, IsMove, IsEnd, is_drawn, drained, next_move, next_view, next_lost, first_view, quorum_of, after_move, after_member, met_by, ClosesAt, Closes}
 use Rattle.rv_world.specs.Schedule as schedule
 use Rattle.rv_world.specs.States.{Scene}
-use Rattle.rv_world.specs.World.{WorldState, IsFirst, TakesTurnOf, Applies, PostedFrom, TurnStops, PostStops, IsStuck}
+use Rattle.rv_world.specs.World.{WorldState, IsFirst, TakesTurnOf, Applies, PostedFrom, TurnStops, PostStops}
 use Rattle.rv_world.proofs.Closings.{closes_first, closes_post, closes_step, closes_turn, closes_last}
 use Rattle.rv_world.proofs.Following.{turn_past}
 use Rattle.rv_world.proofs.Rest.{took_lose, took_draw}
 use Rattle.rv_world.proofs.Suspecting.{no_rest, one_suspects}
 use Rattle.rv_world.proofs.Standing.{state_lost, state_posted, state_stands}
-use Rattle.ravana_run.specs.declared.closing.Closed.{Closed}
-use Rattle.ravana_run.specs.declared.closing.Closed.TheVariants as closed
-use Rattle.ravana_run.specs.Play.{IsRoute, TurnStopsAt, limit_of, answer_of, IsDraining, GoesOn, IsDrained, DrainsTo, IsCutAt, IsReady, IsCleared, SuspectsTo, ClosingStops, LosingStops, DrainingStops, HasClosed}
+use Rattle.ravana_run.specs.Play.{IsRoute, TurnStopsAt, limit_of, IsDraining, GoesOn, IsDrained, DrainsTo, IsReady, IsCleared, SuspectsTo, ClosingStops, LosingStops, DrainingStops, HasClosed}
 
 -- why a turn stopped, of a world that owed nothing
 pub rested_stops : {B : Type 0} (scene : Scene B) (step : Turn) (old new : WorldState B) (stop : Stop) → old.owes ≡ false → TurnStops scene step old new stop →

@@ -1,7 +1,7 @@
 -- A script of at most one frame is small: its switch made at most one event, and its controller received none. So what its
 -- closing brings about has room in the pool.
-use Rattle.std.proofs.Common.{◌≡◌, ◌≤◌, ◌⊎◌, inl, inr, cond, add_comm, ℕ, ◌+◌, ◌*◌, Bool, true, false, ◌&&◌, List, [], ◌∷◌, ◌++◌, length, take, drop, zero, suc, refl, sym, ◌∙◌, ap, subst, arith, length-append}
-use Rattle.std.specs.Prelude.{nat_eq, nat_le, reverse, sum_by, slice_get, Option, Some, None, if◌then◌else◌}
+use Rattle.std.proofs.Common.{◌≡◌, ◌≤◌, ◌⊎◌, inl, inr, cond, add_comm, ℕ, ◌+◌, ◌*◌, Bool, true, false, ◌&&◌, List, [], ◌∷◌, ◌++◌, length, take, drop, refl, sym, ◌∙◌, ap, subst, arith, length-append}
+use Rattle.std.specs.Prelude.{sum_by, Option, Some, None}
 use Rattle.std.specs.List.{AllByRecursion}
 use Rattle.std.proofs.lemmas.Bool.{cases_Bool, cond_both}
 use Rattle.std.proofs.lemmas.List.Sums.{sum_by-append}
@@ -13,7 +13,7 @@ use Rattle.of_types.specs.Matching.{matches, any_match}
 use Rattle.rv_base.specs.declared.journal.Actor.{Actor}
 use Rattle.rv_base.specs.declared.journal.Actor.TheVariants as actor
 use Rattle.rv_base.specs.declared.journal.JournalEntry.{JournalEntry}
-use Rattle.rv_base.specs.declared.journal.JournalEntry.TheVariants.{Post, Draw, Lose, Local, Idle, Refused}
+use Rattle.rv_base.specs.declared.journal.JournalEntry.TheVariants.{Post, Local, Refused}
 use Rattle.rv_base.specs.declared.journal.Local.TheVariants as local
 use Rattle.rv_base.specs.declared.journal.Packet.{Packet}
 use Rattle.rv_base.specs.declared.journal.Turn.{Turn}
@@ -25,7 +25,6 @@ use Rattle.rv_base.specs.Limits.{pool_packets}
 use Rattle.rv_base.specs.Part.{part, drawn}
 use Rattle.rv_base.specs.Pool.{past}
 use Rattle.rv_base.proofs.All.{all_get}
-use Rattle.switch_core.specs.declared.says.SwitchInput.TheVariants as switch_input
 use Rattle.switch_core.specs.State.{SwitchState, SwitchTurn, quiet, table_miss}
 use Rattle.switch_core.specs.Buffer.{is_full}
 use Rattle.switch_core.specs.Table.{chosen_row, fields_at}
@@ -39,9 +38,9 @@ use Rattle.rv_world.specs.declared.typed.Typed.{Typed}
 use Rattle.rv_world.specs.Legal.{results_of}
 use Rattle.rv_world.specs.Schedule.{IsInputOf, TakesInOrder, FollowsInOrder, Closes, inputs}
 use Rattle.rv_world.specs.Schedule as schedule
-use Rattle.rv_world.specs.States.{Scene, SwitchAt, switch_at, controller_at}
+use Rattle.rv_world.specs.States.{Scene, switch_at, controller_at}
 use Rattle.rv_world.proofs.Posting.{one_actor}
-use Rattle.rv_safety.specs.Room.{switch_brings, event_brings, events_made, closing_brings, HasRoom, ClosesBehind}
+use Rattle.rv_safety.specs.Room.{switch_brings, event_brings, events_made, HasRoom, ClosesBehind}
 use Rattle.rv_safety.proofs.Decided.{decided_up}
 use Rattle.scenario.specs.Scenario.{IsFrame, IsScript}
 use Rattle.ravana_run.specs.Play.{HasPlayed}

@@ -1,14 +1,12 @@
 -- What was read and written, as the top call tells it.
-use Rattle.std.proofs.Common.{◌≡◌, ◌<◌, ℕ, ◌+◌, true, false, List, [], ◌∷◌, ◌++◌, length, Some, None, Ok, Err, refl, sym, ◌∙◌, ap, subst, arith, append-nil, length-append}
+use Rattle.std.proofs.Common.{◌≡◌, ℕ, List, [], Some, None, refl, sym, ◌∙◌, ap, append-nil}
 use Rattle.std.specs.Prelude.{Option}
-use Rattle.std.specs.Io.KnownBytes.{Consumes, Appends, IsAtEnd}
+use Rattle.std.specs.Io.KnownBytes.{Appends}
 use Rattle.report.specs.Writing.{AppendsFront}
-use Rattle.scenario.specs.Scenario.{scenario_of, scenario_limit, not_yet}
 use Rattle.ravana_run.specs.declared.ending.Ending.{Ending}
-use Rattle.ravana_run.specs.declared.ending.Ending.TheVariants as ending
-use Rattle.ravana_run.specs.Cause.{HasCause, IsReadOf}
-use Rattle.ravana_run.specs.Ending.{ending_status, ending_text, EndsRead, EndsRun}
-use Rattle.ravana_run.specs.Outcome.{Outcome, Answers, Served, Write_failed, No_memory, IsTold, IsCut, HasRead, To_the_end, Past_the_limit, accepted, IsDone, IsOverfull, IsUnposted}
+use Rattle.ravana_run.specs.Cause.{HasCause}
+use Rattle.ravana_run.specs.Ending.{ending_status, ending_text}
+use Rattle.ravana_run.specs.Outcome.{Answers, Served, Write_failed, No_memory, IsTold}
 
 module _ (words : List (List ℕ)) (unread unwritten : Type 0) where
   -- all of an outcome was written

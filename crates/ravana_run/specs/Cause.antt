@@ -1,5 +1,5 @@
 -- The cause of an ending, where it is told what was read.
-use Rattle.std.specs.Prelude.{◌≡◌, ◌≢◌, ℕ, List, Option, Some, None}
+use Rattle.std.specs.Prelude.{◌≡◌, ◌≢◌, ℕ, List, Option, Some}
 use Rattle.ravana_run.specs.declared.ending.Ending.{Ending}
 use Rattle.ravana_run.specs.Ending.{ending_status, ending_text}
 use Rattle.ravana_run.specs.Outcome.{Outcome, accepted}

@@ -1,5 +1,5 @@
 -- Which status comes when, and what is written with it.
-use Rattle.std.specs.Prelude.{◌≡◌, ◌≢◌, ◌≤◌, ◌+◌, ℕ, List, [], ◌∷◌, ◌++◌, length, codes, Option, Some, None, Result, Ok, Err}
+use Rattle.std.specs.Prelude.{◌≡◌, ◌≢◌, ◌+◌, ℕ, List, [], ◌∷◌, ◌++◌, length, codes, Option, Some, Ok, Err}
 use Rattle.rv_base.specs.declared.journal.JournalEntry.{JournalEntry}
 use Rattle.rv_base.specs.Pool.{past}
 use Rattle.rv_base.specs.Turns.{IsWithinLimits}

@@ -92,6 +92,50 @@ fn report_of(
     text(alloc, &told)
 }
 
+/// The end of a run that was played up to the end of its closing.
+fn rested(
+    alloc: Global,
+    scenario: &Scenario,
+    world: &World<Typed>,
+    ended: Closed,
+    script: usize,
+) -> Result<Ending, AllocError>
+    requires playable { IsPlayable scenario.now }
+    requires setup { world.now.setup ≡ scenario.now.setup }
+    requires whole { world.now.whole ≡ true }
+    requires up { is_up (controller_state (scene_typed world.now.setup) [] 0 (past world.now.journal)).status ≡ true }
+    requires played { HasPlayed (scene_typed world.now.setup) scenario.now.steps script (answer_of ended) world.now.journal }
+    ensures { IfOk result (λ ending. EndsRun scenario.now ending) }
+{
+    world.lawful();
+    laws(world);
+    match ended {
+        Closed::Overfull(limit) => Ok(Ending::Overfull(limit)),
+        Closed::Done { .. } => {
+            closed(world, script);
+            let report = report_of(alloc, world, scenario.steps.len(), script)?;
+            Ok(Ending::Report(report))
+        }
+    }
+}
+
+/// The end of a run that stopped on its way.
+fn stopped(scenario: &Scenario, world: &World<Typed>, stop: Stop) -> Result<Ending, AllocError>
+    requires playable { IsPlayable scenario.now }
+    requires setup { world.now.setup ≡ scenario.now.setup }
+    requires stops { RunStops (scene_typed world.now.setup) scenario.now.steps world.now stop }
+    ensures { IfOk result (λ ending. EndsRun scenario.now ending) }
+{
+    match stop {
+        Stop::OutOfMemory => Err(AllocError),
+        Stop::JournalFull { bytes, letters } => {
+            world.lawful();
+            laws(world);
+            Ok(Ending::Unposted { bytes, letters })
+        }
+    }
+}
+
 /// Plays a scenario.
 pub fn simulate(alloc: Global, scenario: &Scenario) -> Result<Ending, AllocError>
     requires { IsPlayable scenario.now }
@@ -99,23 +143,7 @@ pub fn simulate(alloc: Global, scenario: &Scenario) -> Result<Ending, AllocError
 {
     let mut world = World::<Typed>::new(alloc, &scenario.setup)?;
     match play(&mut world, scenario.steps.as_slice()) {
-        Ok((Closed::Overfull(limit), _)) => {
-            world.lawful();
-            laws(&world);
-            Ok(Ending::Overfull(limit))
-        }
-        Ok((Closed::Done { .. }, script)) => {
-            world.lawful();
-            laws(&world);
-            closed(&world, script);
-            let report = report_of(alloc, &world, scenario.steps.len(), script)?;
-            Ok(Ending::Report(report))
-        }
-        Err(Stop::JournalFull { bytes, letters }) => {
-            world.lawful();
-            laws(&world);
-            Ok(Ending::Unposted { bytes, letters })
-        }
-        Err(Stop::OutOfMemory) => Err(AllocError),
+        Ok((ended, script)) => rested(alloc, scenario, &world, ended, script),
+        Err(stop) => stopped(scenario, &world, stop),
     }
 }

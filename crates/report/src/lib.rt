@@ -5,8 +5,6 @@ mod lines;
 mod record;
 mod report_text;
 mod switches;
-#[cfg(test)]
-mod tests;
 mod words;
 mod writing;
 

@@ -5,8 +5,6 @@ mod letters;
 mod says;
 mod switch;
 mod table;
-#[cfg(test)]
-mod tests;
 
 pub use says::{SwitchInput, SwitchSays};
 pub use switch::{Offer, Switch};

@@ -1,13 +1,13 @@
-use Rattle.std.proofs.Common.{◌≡◌, ◌∷◌, ℕ, sym, ◌∙◌, ap, subst, false, true, [], Some, None, inr, refl}
+use Rattle.std.proofs.Common.{◌≡◌, ◌∷◌, sym, ◌∙◌, ap, subst, false, true, [], Some, None}
 use Rattle.std.proofs.lemmas.Result.{err_from_is_err_and}
 use Rattle.rv_base.specs.declared.journal.Turn.TheVariants as turn
 use Rattle.rv_base.specs.Actors.{IsActor}
 use Rattle.rv_base.specs.Pool.{past}
-use Rattle.rv_world.specs.Schedule.{IsPosted, Phase, Draining, met_by, is_drawn}
+use Rattle.rv_world.specs.Schedule.{IsPosted, Draining, met_by, is_drawn}
 use Rattle.rv_world.specs.World.{scene_of, Applies}
 use Rattle.rv_world.proofs.Rest.{lose_leaves_less, draw_leaves_less}
-use Rattle.ravana_run.specs.Play.{TurnStopsAt, IsDraining, GoesOn, limit_of}
-use Rattle.ravana_run.proofs.Resting.{routed_draw, still_up, drains_lost, drains_cut_draw, drains_cut_lose, drains_on, drains_met, drains_from, loses_state}
+use Rattle.ravana_run.specs.Play.{TurnStopsAt, GoesOn, limit_of}
+use Rattle.ravana_run.proofs.Resting.{routed_draw, still_up, drains_lost, drains_cut_draw, drains_cut_lose, drains_on, drains_met, loses_state}
 use Rattle.ravana_run.proofs.closing.drain.Goals as goal
 
 pub returns-in_err-take-clause-stops : goal.returns-in_err-take-clause-stops

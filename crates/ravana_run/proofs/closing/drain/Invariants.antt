@@ -2,10 +2,10 @@ use Rattle.std.proofs.Common.{◌≡◌, ℕ, true, false, []}
 use Rattle.rv_base.specs.Pool.{past}
 use Rattle.controller_core.specs.State.{is_up}
 use Rattle.rv_world.specs.Committed.{controller_state}
-use Rattle.rv_world.specs.Schedule.{Phase, Losing}
+use Rattle.rv_world.specs.Schedule.{Phase}
 use Rattle.rv_world.specs.World.{scene_of}
 use Rattle.rv_world.proofs.Rest.{work_left}
-use Rattle.ravana_run.specs.Play.{GoesOn, IsDraining, IsDrained}
+use Rattle.ravana_run.specs.Play.{IsDraining, IsDrained}
 use Rattle.ravana_run.proofs.closing.drain.Given as goal
 
 abbrev pub decreases-draining : goal.decreases-draining

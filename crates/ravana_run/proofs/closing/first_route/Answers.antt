@@ -1,4 +1,4 @@
-use Rattle.std.proofs.Common.{◌≡◌, ◌∷◌, sym, ◌∙◌, ap, refl, subst}
+use Rattle.std.proofs.Common.{◌∷◌, sym, ◌∙◌, ap, refl, subst}
 use Rattle.std.specs.List.{AllByRecursion}
 use Rattle.rv_base.specs.Actors.{IsActor}
 use Rattle.ravana_run.proofs.Firsts.{first_in}

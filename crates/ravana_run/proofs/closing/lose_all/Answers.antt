@@ -1,9 +1,8 @@
-use Rattle.std.proofs.Common.{◌≡◌, ℕ, sym, ◌∙◌, ap, subst, false, []}
+use Rattle.std.proofs.Common.{◌∙◌, subst, false, []}
 use Rattle.std.proofs.lemmas.Result.{err_from_is_err_and}
 use Rattle.rv_base.specs.declared.journal.Turn.TheVariants as turn
 use Rattle.rv_base.specs.Pool.{past}
-use Rattle.rv_world.specs.Schedule.{IsPosted, Losing}
-use Rattle.rv_world.specs.States.{Scene}
+use Rattle.rv_world.specs.Schedule.{IsPosted}
 use Rattle.rv_world.specs.World.{scene_of, Applies}
 use Rattle.rv_world.proofs.Rest.{lose_leaves_less}
 use Rattle.ravana_run.specs.Play.{TurnStopsAt}

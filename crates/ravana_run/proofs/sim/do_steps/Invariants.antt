@@ -1,4 +1,4 @@
-use Rattle.std.proofs.Common.{◌≡◌, true, false, []}
+use Rattle.std.proofs.Common.{◌≡◌, true, false}
 use Rattle.rv_base.specs.Pool.{past}
 use Rattle.rv_world.proofs.Following.{HasTaken}
 use Rattle.ravana_run.specs.Shows.{scene_typed}

@@ -1,4 +1,4 @@
-use Rattle.std.proofs.Common.{◌≡◌, ℕ, ◌∷◌, [], ◌++◌, sym, ◌∙◌, ap}
+use Rattle.std.proofs.Common.{ℕ, ◌∷◌, [], ◌++◌, sym, ◌∙◌, ap}
 use Rattle.std.specs.Prelude.{map}
 use Rattle.rv_base.specs.Pool.{past}
 use Rattle.controller_core.specs.Rules.{numbers_below}

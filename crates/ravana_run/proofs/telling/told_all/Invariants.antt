@@ -1,4 +1,4 @@
-use Rattle.std.proofs.Common.{◌≡◌, take}
+use Rattle.std.proofs.Common.{◌≡◌}
 use Rattle.std.specs.Prelude.{map}
 use Rattle.rv_base.specs.Pool.{past}
 use Rattle.controller_core.specs.Rules.{numbers_below}

@@ -1,4 +1,4 @@
-use Rattle.std.proofs.Common.{◌≡◌, sym, ◌∙◌, refl, arith}
+use Rattle.std.proofs.Common.{sym, ◌∙◌, refl, arith}
 use Rattle.ravana_run.proofs.Endings.{in_range}
 use Rattle.ravana_run.proofs.Tellings.{served, cut, nothing}
 use Rattle.ravana_run.proofs.top.ravana.Goals as goal

@@ -1,9 +1,10 @@
 ghost use Rattle.std.specs.Prelude.{◌≤◌, length, IfOk};
 
-use crate::{Controller, ControllerInput, ControllerSays, Entry, Numbered, reactions_to};
+use controller_core::{Controller, ControllerInput, ControllerSays, Entry, Numbered, reactions_to};
 use of_types::{
-    ANY_PORT, Commands, Event, Extension, FLOOD, FlowCommand, Happening, Items, MASTER, Masked48,
-    Match, NO_BUFFER, OfMessage, Order, Outcome, PacketIn, PacketOut, Setup, Spoken, any_match,
+    ANY_PORT, Actions, Commands, Event, Extension, FLOOD, FlowCommand, Happening, Links, MASTER,
+    Masked48, Match, NO_BUFFER, Octets, OfMessage, Order, Outcome, PacketIn, PacketOut, PortCounts,
+    Rules, Setup, Spoken, any_match,
 };
 use rv_base::{Actor, Letter, Local};
 use std::alloc::{AllocError, Global};
@@ -55,10 +56,10 @@ enum Told {
 }
 
 /// A frame from A, which is 02:00:00:00:00:01, to B, which is 02:00:00:00:00:02.
-const A_TO_B: [u8; 14] = [2, 0, 0, 0, 0, 2, 2, 0, 0, 0, 0, 1, 0x88, 0xb5];
+const A_TO_B: &[u8] = b"\x02\0\0\0\0\x02\x02\0\0\0\0\x01\x88\xb5";
 
 /// A frame from B to A.
-const B_TO_A: [u8; 14] = [2, 0, 0, 0, 0, 1, 2, 0, 0, 0, 0, 2, 0x88, 0xb5];
+const B_TO_A: &[u8] = b"\x02\0\0\0\0\x01\x02\0\0\0\0\x02\x88\xb5";
 
 /// A frame that came in by port 1 goes to all other ports.
 const FLOODED: Asked = Asked::Packet {
@@ -80,19 +81,18 @@ const SENT_BACK: Asked = Asked::Packet {
 fn one_switch(alloc: Global) -> Result<Setup, AllocError>
     ensures { IfOk result (λ setup. length setup.ports ≤ 256) }
 {
-    let mut ports = Items::new(alloc);
-    ports.push(2)?;
+    let ports = PortCounts::from_vec([2].to_vec(alloc)?);
     Ok(Setup {
         controllers: 1,
         ports,
-        links: Items::new(alloc),
-        deny: Items::new(alloc),
+        links: Links::new(alloc),
+        deny: Rules::new(alloc),
     })
 }
 
 /// A frame came in by a port, and no row fitted it.
 fn packet_in(alloc: Global, in_port: u32, frame: &[u8]) -> Result<Happening, AllocError> {
-    let payload = Items::from_slice(alloc, frame)?;
+    let payload = Octets::from_slice(alloc, frame)?;
     Ok(Happening::PacketIn(PacketIn {
         reason: 0,
         cookie: 0,
@@ -101,19 +101,28 @@ fn packet_in(alloc: Global, in_port: u32, frame: &[u8]) -> Result<Happening, All
     }))
 }
 
+/// An event of a switch: a frame came in.
+fn arrival(alloc: Global, number: u64, in_port: u32, frame: &[u8]) -> Result<Event, AllocError> {
+    let what = packet_in(alloc, in_port, frame)?;
+    Ok(Event {
+        switch: 0,
+        life: 0,
+        number,
+        what,
+    })
+}
+
 /// A frame from A to B comes in by port 1, and one from B to A by port 2.
 fn two_frames(alloc: Global) -> Result<Vec<Event>, AllocError> {
     let mut events = Vec::new(alloc);
-    for (number, in_port, frame) in [(0, 1, &A_TO_B), (1, 2, &B_TO_A)] {
-        let what = packet_in(alloc, in_port, frame)?;
-        events.push(Event {
-            switch: 0,
-            life: 0,
-            number,
-            what,
-        })?;
-    }
+    events.push(arrival(alloc, 0, 1, A_TO_B)?)?;
+    events.push(arrival(alloc, 1, 2, B_TO_A)?)?;
     Ok(events)
+}
+
+/// The first port that a frame goes out by.
+fn output(actions: &Actions) -> Option<u32> {
+    actions.as_slice().first().copied()
 }
 
 fn asking(order: &Order) -> Asked {
@@ -124,12 +133,12 @@ fn asking(order: &Order) -> Asked {
             cookie: change.cookie,
             matching: change.matching,
             out_port: change.out_port,
-            output: change.actions.as_slice().first().copied(),
+            output: output(&change.actions),
         },
         Order::PacketOut(out) => Asked::Packet {
             buffer: out.buffer,
             in_port: out.in_port,
-            output: out.actions.as_slice().first().copied(),
+            output: output(&out.actions),
             len: out.payload.len(),
         },
     }
@@ -177,6 +186,14 @@ fn first_told(letter: &Letter<ControllerSays>) -> Option<Told> {
     }
 }
 
+/// Letters tell the first switch this and no more.
+fn tell(rt: &impl Abort, letters: &[Letter<ControllerSays>], wants: &[Told]) {
+    assert_eq!(rt; letters.len(), wants.len());
+    for (letter, want) in letters.iter().zip(wants) {
+        assert_eq!(rt; first_told(letter), Some(*want));
+    }
+}
+
 /// A controller says this to an input.
 fn hears(
     rt: &impl Abort,
@@ -188,10 +205,7 @@ fn hears(
     requires { length setup.now.ports ≤ 256 }
 {
     let letters = controller.turn(setup, &input)?;
-    assert_eq!(rt; letters.len(), wants.len());
-    for (letter, want) in letters.as_slice().iter().zip(wants) {
-        assert_eq!(rt; first_told(letter), Some(*want));
-    }
+    tell(rt, letters.as_slice(), wants);
     Ok(())
 }
 
@@ -227,7 +241,7 @@ fn extension(message: Extension) -> ControllerInput {
 
 /// The first event of the switch: a frame from A to B came in by port 1.
 fn first_event(alloc: Global) -> Result<ControllerInput, AllocError> {
-    let what = packet_in(alloc, 1, &A_TO_B)?;
+    let what = packet_in(alloc, 1, A_TO_B)?;
     Ok(extension(Extension::Event {
         life: 0,
         number: 0,
@@ -263,17 +277,22 @@ fn row_to_a() -> Asked {
     }
 }
 
+/// The commands for a frame from A to B, and for one from B to A.
+fn are_forwarded(rt: &impl Abort, lists: &[Commands]) {
+    assert_eq!(rt; lists.len(), 2);
+    assert_eq!(rt; asked_at(lists, 0, 0), Some(FLOODED));
+    assert_eq!(rt; asked_at(lists, 0, 1), None);
+    assert_eq!(rt; asked_at(lists, 1, 0), Some(row_to_a()));
+    assert_eq!(rt; asked_at(lists, 1, 1), Some(SENT_BACK));
+    assert_eq!(rt; asked_at(lists, 1, 2), None);
+}
+
 #[test]
 fn learns_where_addresses_are(rt: HostRuntime) -> Result<(), Fail> {
     let setup = one_switch(rt.alloc())?;
     let events = two_frames(rt.alloc())?;
     let lists = reactions_to(rt.alloc(), &setup, events.as_slice())?;
-    assert_eq!(rt; lists.len(), 2);
-    assert_eq!(rt; asked_at(lists.as_slice(), 0, 0), Some(FLOODED));
-    assert_eq!(rt; asked_at(lists.as_slice(), 0, 1), None);
-    assert_eq!(rt; asked_at(lists.as_slice(), 1, 0), Some(row_to_a()));
-    assert_eq!(rt; asked_at(lists.as_slice(), 1, 1), Some(SENT_BACK));
-    assert_eq!(rt; asked_at(lists.as_slice(), 1, 2), None);
+    are_forwarded(&rt, lists.as_slice());
     Ok(())
 }
 
@@ -332,25 +351,38 @@ fn crashes(rt: &impl Abort, controller: &mut Controller, setup: &Setup) -> Resul
     hears(rt, controller, setup, suspect(2), &[])
 }
 
-#[test]
-fn processes_an_event_once(rt: HostRuntime) -> Result<(), Fail> {
-    let setup = one_switch(rt.alloc())?;
-    let mut controller = Controller::new(rt.alloc(), 0, 1);
-    becomes_master(&rt, &mut controller, &setup)?;
-    first_event_comes_twice(&rt, rt.alloc(), &mut controller, &setup)?;
+/// A master logs an event that comes twice once, and its processing once; a crash forgets both.
+fn takes_up_an_event(
+    rt: &impl Abort,
+    alloc: Global,
+    controller: &mut Controller,
+    setup: &Setup,
+) -> Result<(), AllocError>
+    requires { length setup.now.ports ≤ 256 }
+{
+    becomes_master(rt, controller, setup)?;
+    first_event_comes_twice(rt, alloc, controller, setup)?;
     assert_eq!(rt; controller.committed().len(), 2);
     assert_eq!(rt; controller.view(), 1);
     assert_eq!(rt; controller.full(), None);
-    crashes(&rt, &mut controller, &setup)?;
+    crashes(rt, controller, setup)?;
     assert!(rt; !controller.is_up());
     assert_eq!(rt; controller.promise(), 1);
     assert_eq!(rt; controller.committed().len(), 0);
     Ok(())
 }
 
+#[test]
+fn processes_an_event_once(rt: HostRuntime) -> Result<(), Fail> {
+    let setup = one_switch(rt.alloc())?;
+    let mut controller = Controller::new(rt.alloc(), 0, 1);
+    takes_up_an_event(&rt, rt.alloc(), &mut controller, &setup)?;
+    Ok(())
+}
+
 /// The switch asks for an echo of three bytes.
 fn echo_request(alloc: Global) -> Result<ControllerInput, AllocError> {
-    let body = Items::from_slice(alloc, &[1, 2, 3])?;
+    let body = Octets::from_slice(alloc, &[1, 2, 3])?;
     let message = Spoken::Plain(OfMessage::EchoRequest { body });
     Ok(ControllerInput::Of {
         switch: 0,
@@ -359,29 +391,34 @@ fn echo_request(alloc: Global) -> Result<ControllerInput, AllocError> {
     })
 }
 
+/// A controller echoes what a switch sends, and says nothing to a malformed body.
+fn echoes(
+    rt: &impl Abort,
+    alloc: Global,
+    controller: &mut Controller,
+    setup: &Setup,
+) -> Result<(), AllocError>
+    requires { length setup.now.ports ≤ 256 }
+{
+    let echo = echo_request(alloc)?;
+    hears(rt, controller, setup, echo, &[Told::Echo { len: 3 }])?;
+    let from = Actor::Switch(0);
+    let malformed = ControllerInput::Malformed { from };
+    hears(rt, controller, setup, malformed, &[])
+}
+
 #[test]
 fn answers_an_echo(rt: HostRuntime) -> Result<(), Fail> {
     let setup = one_switch(rt.alloc())?;
     let mut controller = Controller::new(rt.alloc(), 0, 1);
-    let echo = Told::Echo { len: 3 };
-    let from = Actor::Switch(0);
-    let malformed = ControllerInput::Malformed { from };
-    hears(
-        &rt,
-        &mut controller,
-        &setup,
-        echo_request(rt.alloc())?,
-        &[echo],
-    )?;
-    hears(&rt, &mut controller, &setup, malformed, &[])?;
+    echoes(&rt, rt.alloc(), &mut controller, &setup)?;
     Ok(())
 }
 
 /// A command that floods a frame, beside its number.
 fn numbered(alloc: Global) -> Result<Numbered, AllocError> {
-    let mut actions = Items::new(alloc);
-    actions.push(FLOOD)?;
-    let payload = Items::from_slice(alloc, &A_TO_B)?;
+    let actions = Actions::from_vec([FLOOD].to_vec(alloc)?);
+    let payload = Octets::from_slice(alloc, A_TO_B)?;
     let what = Order::PacketOut(PacketOut {
         buffer: NO_BUFFER,
         in_port: 1,
@@ -397,24 +434,39 @@ fn numbered(alloc: Global) -> Result<Numbered, AllocError> {
 
 /// Whether a frame from A to B came in by port 4.
 fn is_first_frame(what: &Happening) -> bool {
-    matches!(what, Happening::PacketIn(PacketIn { reason: 0, cookie: 0, in_port: 4, payload }) if payload.as_slice() == A_TO_B.as_slice())
+    matches!(what, Happening::PacketIn(PacketIn { reason: 0, cookie: 0, in_port: 4, payload }) if payload.as_slice() == A_TO_B)
+}
+
+/// Whether a copy of an event is this first frame's.
+fn is_event_copied(event: Event) -> Result<bool, AllocError> {
+    let copied = Entry::Received(event).copy()?;
+    Ok(
+        matches!(&copied, Entry::Received(Event { switch: 1, life: 2, number: 3, what }) if is_first_frame(what)),
+    )
+}
+
+/// The switch, the number and the order of a copy.
+fn copied_command(command: &Numbered) -> Result<(u8, u64, Asked), AllocError> {
+    let copied = command.copy()?;
+    Ok((copied.switch, copied.number, asking(&copied.what)))
 }
 
 #[test]
-fn entries_and_commands_are_copied(rt: HostRuntime) -> Result<(), Fail> {
+fn entries_are_copied(rt: HostRuntime) -> Result<(), Fail> {
     assert!(rt; matches!(&Entry::Processed(7).copy()?, Entry::Processed(7)));
     let event = Event {
         switch: 1,
         life: 2,
         number: 3,
-        what: packet_in(rt.alloc(), 4, &A_TO_B)?,
+        what: packet_in(rt.alloc(), 4, A_TO_B)?,
     };
-    let copied = Entry::Received(event).copy()?;
-    assert!(rt;
-        matches!(&copied, Entry::Received(Event { switch: 1, life: 2, number: 3, what }) if is_first_frame(what))
-    );
-    let copied = numbered(rt.alloc())?.copy()?;
-    assert_eq!(rt; (copied.switch, copied.number), (2, 3));
-    assert_eq!(rt; asking(&copied.what), FLOODED);
+    assert!(rt; is_event_copied(event)?);
+    Ok(())
+}
+
+#[test]
+fn commands_are_copied(rt: HostRuntime) -> Result<(), Fail> {
+    let command = numbered(rt.alloc())?;
+    assert_eq!(rt; copied_command(&command)?, (2, 3, FLOODED));
     Ok(())
 }

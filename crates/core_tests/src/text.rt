@@ -1,14 +1,15 @@
-use crate::{
-    Record, Shown, Told, WriteFault, text, write_all, write_newline, write_number, write_report,
-    write_word,
-};
 use controller_core::Entry;
 use of_types::{
     Actions, Event, Executed, FLOOD, Happening, Items, Link, Links, NO_BUFFER, Octets, Order,
     PacketIn, PacketOut, PortCounts, Prefix, Rule, Rules, Setup, TO_CONTROLLER, any_match,
 };
+use report::{
+    Record, Shown, Told, WriteFault, text, write_all, write_newline, write_number, write_report,
+    write_word,
+};
 use rv_base::{Actor, Journal, JournalEntry, Letter, Letters, Local, MemorySink};
 use std::alloc::{AllocError, Global};
+use std::process::Abort;
 use std::test::Fail;
 
 /// The frame that the messages hold.
@@ -60,18 +61,17 @@ end script 0 closing 3 events 1 log 2 commands 1 rows 1
 ";
 
 fn packet_in(alloc: Global) -> Result<PacketIn, AllocError> {
+    let payload = Octets::from_slice(alloc, FRAME)?;
     Ok(PacketIn {
         reason: 0,
         cookie: 0,
         in_port: 1,
-        payload: Octets::from_slice(alloc, FRAME)?,
+        payload,
     })
 }
 
 fn output(alloc: Global, port: u32) -> Result<Actions, AllocError> {
-    let mut actions = Actions::new(alloc);
-    actions.push(port)?;
-    Ok(actions)
+    Ok(Actions::from_vec([port].to_vec(alloc)?))
 }
 
 fn packet_out(alloc: Global) -> Result<PacketOut, AllocError> {
@@ -84,8 +84,7 @@ fn packet_out(alloc: Global) -> Result<PacketOut, AllocError> {
 }
 
 fn setup(alloc: Global) -> Result<Setup, AllocError> {
-    let mut ports = PortCounts::new(alloc);
-    ports.push(2)?;
+    let ports = PortCounts::from_vec([2].to_vec(alloc)?);
     Ok(Setup {
         controllers: 1,
         ports,
@@ -234,32 +233,44 @@ fn shortest_run(alloc: Global) -> Result<Record, AllocError> {
     Ok(told)
 }
 
+/// A report is written whole through a sink that takes seven bytes at a time.
+fn is_written_in_pieces(rt: &impl Abort, alloc: Global, told: &Record) {
+    let mut sink = MemorySink::new(alloc, 7, Vec::new(alloc));
+    assert_eq!(rt; write_report(alloc, told, &mut sink), Ok(()));
+    assert_eq!(rt; sink.taken(), SHORTEST_REPORT);
+}
+
+/// A sink whose third call fails takes nothing of that call.
+fn is_cut_short(rt: &impl Abort, alloc: Global, told: &Record, sink: &mut MemorySink) {
+    assert_eq!(rt; write_report(alloc, told, sink), Err(WriteFault::Failed));
+    assert!(rt; write_all(sink, b"1\n").is_ok());
+    assert_eq!(rt; sink.taken(), b"ravana report 1\n".as_slice());
+}
+
 #[test]
 fn shortest_report_in_pieces(rt: HostRuntime) -> Result<(), Fail> {
     let alloc = rt.alloc();
     let told = shortest_run(alloc)?;
-    let mut sink = MemorySink::new(alloc, 7, Vec::new(alloc));
-    assert_eq!(rt; write_report(alloc, &told, &mut sink), Ok(()));
-    assert_eq!(rt; sink.taken(), SHORTEST_REPORT);
     let mut failing = MemorySink::new(alloc, 7, [2].to_vec(alloc)?);
-    assert_eq!(rt;
-        write_report(alloc, &told, &mut failing),
-        Err(WriteFault::Failed)
-    );
-    assert!(rt; write_all(&mut failing, b"1\n").is_ok());
-    assert_eq!(rt; failing.taken(), b"ravana report 1\n".as_slice());
+    is_written_in_pieces(&rt, alloc, &told);
+    is_cut_short(&rt, alloc, &told, &mut failing);
+    Ok(())
+}
+
+/// What lines of each kind tell of.
+fn fill(alloc: Global, told: &mut Record) -> Result<(), AllocError> {
+    add_links(&mut told.setup)?;
+    add_inputs(alloc, &mut told.journal)?;
+    add_entries(alloc, &mut told.log)?;
+    told.switches.push(busy_switch(alloc)?)?;
     Ok(())
 }
 
 #[test]
 fn lines_of_each_kind(rt: HostRuntime) -> Result<(), Fail> {
-    let alloc = rt.alloc();
-    let mut told = run(alloc)?;
-    add_links(&mut told.setup)?;
-    add_inputs(alloc, &mut told.journal)?;
-    add_entries(alloc, &mut told.log)?;
-    told.switches.push(busy_switch(alloc)?)?;
-    assert_eq!(rt; text(alloc, &told)?.as_slice(), REPORT);
+    let mut told = run(rt.alloc())?;
+    fill(rt.alloc(), &mut told)?;
+    assert_eq!(rt; text(rt.alloc(), &told)?.as_slice(), REPORT);
     Ok(())
 }
 

@@ -1,12 +1,12 @@
-use crate::{Switch, SwitchInput, SwitchSays};
 use of_types::{
-    EQUAL, Extension, FLOOD, Happening, Items, MASTER, NO_BUFFER, NO_CHANGE, OfMessage, Order,
-    Outcome, PacketOut, SLAVE, Spoken, TO_CONTROLLER, any_match,
+    Actions, EQUAL, Extension, FLOOD, Happening, MASTER, NO_BUFFER, NO_CHANGE, Octets, OfMessage,
+    Order, Outcome, PacketOut, Row, SLAVE, Spoken, TO_CONTROLLER, any_match,
 };
 use rv_base::{Actor, Letters, Local};
 use std::alloc::{AllocError, Global};
 use std::process::Abort;
 use std::test::Fail;
+use switch_core::{Switch, SwitchInput, SwitchSays};
 
 /// What a controller is told.
 #[derive(Clone, Copy, PartialEq, Eq, Debug)]
@@ -37,7 +37,7 @@ enum Told {
 }
 
 /// A frame from 02:00:00:00:00:01 to 02:00:00:00:00:02.
-const FRAME: [u8; 14] = [2, 0, 0, 0, 0, 2, 2, 0, 0, 0, 0, 1, 0x88, 0xb5];
+const FRAME: &[u8] = b"\x02\0\0\0\0\x02\x02\0\0\0\0\x01\x88\xb5";
 
 fn telling(message: &Spoken) -> Told {
     match message {
@@ -89,6 +89,12 @@ fn first(letters: &Letters<SwitchSays>) -> Option<(u8, u32, Told)> {
     }
 }
 
+/// Letters tell a controller this and no more.
+fn tell(rt: &impl Abort, letters: &Letters<SwitchSays>, want: Option<(u8, u32, Told)>) {
+    assert_eq!(rt; letters.len(), usize::from(want.is_some()));
+    assert_eq!(rt; first(letters), want);
+}
+
 /// A switch says this and no more to an input.
 fn hears(
     rt: &impl Abort,
@@ -97,8 +103,7 @@ fn hears(
     want: Option<(u8, u32, Told)>,
 ) -> Result<(), AllocError> {
     let letters = switch.turn(&input)?;
-    assert_eq!(rt; letters.len(), usize::from(want.is_some()));
-    assert_eq!(rt; first(&letters), want);
+    tell(rt, &letters, want);
     Ok(())
 }
 
@@ -113,19 +118,19 @@ fn extension(from: u8, xid: u32, message: Extension) -> SwitchInput {
 }
 
 fn frame_at(alloc: Global, port: u32) -> Result<SwitchInput, AllocError> {
-    let bytes = Items::from_slice(alloc, &FRAME)?;
+    let bytes = Octets::from_slice(alloc, FRAME)?;
     Ok(SwitchInput::Local(Local::Frame { port, bytes }))
 }
 
 /// A PACKET_OUT from port 1 to all others.
 fn flood(alloc: Global) -> Result<Order, AllocError> {
-    let mut actions = Items::new(alloc);
-    actions.push(FLOOD)?;
+    let actions = Actions::from_vec([FLOOD].to_vec(alloc)?);
+    let payload = Octets::from_slice(alloc, FRAME)?;
     Ok(Order::PacketOut(PacketOut {
         buffer: NO_BUFFER,
         in_port: 1,
         actions,
-        payload: Items::from_slice(alloc, &FRAME)?,
+        payload,
     }))
 }
 
@@ -160,7 +165,7 @@ fn command(alloc: Global, generation: u64, number: u64) -> Result<SwitchInput, A
 
 /// A controller asks for an echo of three bytes.
 fn echo_request(alloc: Global) -> Result<SwitchInput, AllocError> {
-    let body = Items::from_slice(alloc, &[1, 2, 3])?;
+    let body = Octets::from_slice(alloc, &[1, 2, 3])?;
     Ok(plain(0, 7, OfMessage::EchoRequest { body }))
 }
 
@@ -171,72 +176,74 @@ fn malformed_body(alloc: Global) -> SwitchInput {
         kind: 1,
         code: 6,
         xid: 7,
-        head: Items::new(alloc),
+        head: Octets::new(alloc),
     }
 }
+
+/// Requests for roles, by controller, role and generation, and what each is told.
+const ROLES: &[(u8, u32, u64, Told)] = &[
+    (
+        0,
+        NO_CHANGE,
+        9,
+        Told::Role {
+            role: EQUAL,
+            generation: u64::MAX,
+        },
+    ),
+    (
+        1,
+        MASTER,
+        3,
+        Told::Role {
+            role: MASTER,
+            generation: 3,
+        },
+    ),
+    (0, MASTER, 2, Told::Error { kind: 11, code: 0 }),
+    (
+        1,
+        MASTER,
+        3,
+        Told::Role {
+            role: MASTER,
+            generation: 3,
+        },
+    ),
+    (
+        0,
+        MASTER,
+        4,
+        Told::Role {
+            role: MASTER,
+            generation: 4,
+        },
+    ),
+    (
+        1,
+        NO_CHANGE,
+        0,
+        Told::Role {
+            role: SLAVE,
+            generation: 4,
+        },
+    ),
+    (
+        0,
+        SLAVE,
+        5,
+        Told::Role {
+            role: SLAVE,
+            generation: 5,
+        },
+    ),
+    (0, 4, 5, Told::Error { kind: 11, code: 2 }),
+];
 
 #[test]
 fn fences_roles(rt: HostRuntime) -> Result<(), Fail> {
     let mut switch = Switch::new(rt.alloc(), 5, 2)?;
-    let cases = [
-        (
-            0,
-            NO_CHANGE,
-            9,
-            Told::Role {
-                role: EQUAL,
-                generation: u64::MAX,
-            },
-        ),
-        (
-            1,
-            MASTER,
-            3,
-            Told::Role {
-                role: MASTER,
-                generation: 3,
-            },
-        ),
-        (0, MASTER, 2, Told::Error { kind: 11, code: 0 }),
-        (
-            1,
-            MASTER,
-            3,
-            Told::Role {
-                role: MASTER,
-                generation: 3,
-            },
-        ),
-        (
-            0,
-            MASTER,
-            4,
-            Told::Role {
-                role: MASTER,
-                generation: 4,
-            },
-        ),
-        (
-            1,
-            NO_CHANGE,
-            0,
-            Told::Role {
-                role: SLAVE,
-                generation: 4,
-            },
-        ),
-        (
-            0,
-            SLAVE,
-            5,
-            Told::Role {
-                role: SLAVE,
-                generation: 5,
-            },
-        ),
-        (0, 4, 5, Told::Error { kind: 11, code: 2 }),
-    ];
-    for (from, role, generation, want) in cases {
+    for &(from, role, generation, want) in ROLES {
         hears(
             &rt,
             &mut switch,
@@ -313,26 +320,31 @@ fn answers(
     hears(rt, switch, request, Some((0, 7, want)))
 }
 
+/// A switch answers bodies and orders that it does not take.
+fn refuses(rt: &impl Abort, alloc: Global, switch: &mut Switch) -> Result<(), AllocError> {
+    let malformed = malformed_body(alloc);
+    answers(rt, switch, malformed, Told::Error { kind: 1, code: 6 })?;
+    let order = bare_order(alloc)?;
+    answers(rt, switch, order, Told::Error { kind: 1, code: 5 })?;
+    let reply = plain(0, 7, OfMessage::BarrierReply);
+    answers(rt, switch, reply, Told::Error { kind: 1, code: 1 })
+}
+
+/// A switch answers what it is asked.
+fn replies(rt: &impl Abort, alloc: Global, switch: &mut Switch) -> Result<(), AllocError> {
+    let echo = echo_request(alloc)?;
+    answers(rt, switch, echo, Told::Echo { len: 3 })?;
+    let features = plain(0, 7, OfMessage::FeaturesRequest);
+    answers(rt, switch, features, Told::Datapath(5))?;
+    let barrier = plain(0, 7, OfMessage::BarrierRequest);
+    answers(rt, switch, barrier, Told::Barrier)
+}
+
 #[test]
 fn answers_requests(rt: HostRuntime) -> Result<(), Fail> {
     let mut switch = Switch::new(rt.alloc(), 5, 2)?;
-    let echo = echo_request(rt.alloc())?;
-    answers(&rt, &mut switch, echo, Told::Echo { len: 3 })?;
-    let malformed = malformed_body(rt.alloc());
-    answers(
-        &rt,
-        &mut switch,
-        malformed,
-        Told::Error { kind: 1, code: 6 },
-    )?;
-    let order = bare_order(rt.alloc())?;
-    answers(&rt, &mut switch, order, Told::Error { kind: 1, code: 5 })?;
-    let features = plain(0, 7, OfMessage::FeaturesRequest);
-    answers(&rt, &mut switch, features, Told::Datapath(5))?;
-    let barrier = plain(0, 7, OfMessage::BarrierRequest);
-    answers(&rt, &mut switch, barrier, Told::Barrier)?;
-    let reply = plain(0, 7, OfMessage::BarrierReply);
-    answers(&rt, &mut switch, reply, Told::Error { kind: 1, code: 1 })?;
+    replies(&rt, rt.alloc(), &mut switch)?;
+    refuses(&rt, rt.alloc(), &mut switch)?;
     Ok(())
 }
 
@@ -352,17 +364,27 @@ fn says_nothing(rt: HostRuntime) -> Result<(), Fail> {
     Ok(())
 }
 
-#[test]
-fn starts_with_one_row(rt: HostRuntime) -> Result<(), Fail> {
-    let switch = Switch::new(rt.alloc(), 5, 2)?;
-    let [row] = switch.rows() else {
-        return Err(Fail::new("not one row"));
-    };
-    assert_eq!(rt; (row.priority, row.cookie), (0, 0));
-    assert_eq!(rt; row.matching, any_match());
-    assert_eq!(rt; row.actions.as_slice(), [TO_CONTROLLER].as_slice());
+/// Nothing happened at a switch yet.
+fn is_fresh(rt: &impl Abort, switch: &Switch) {
     assert_eq!(rt; (switch.life(), switch.sent(), switch.held()), (0, 0, 0));
     assert_eq!(rt; (switch.generation(), switch.master()), (None, None));
     assert!(rt; switch.events().is_empty() && switch.executed().is_empty());
+}
+
+/// A row sends each frame to the controllers, as the table-miss row does.
+fn is_table_miss(rt: &impl Abort, row: &Row) {
+    assert_eq!(rt; (row.priority, row.cookie), (0, 0));
+    assert_eq!(rt; row.matching, any_match());
+    assert_eq!(rt; row.actions.as_slice(), [TO_CONTROLLER].as_slice());
+}
+
+#[test]
+fn starts_with_one_row(rt: HostRuntime) -> Result<(), Fail> {
+    let switch = Switch::new(rt.alloc(), 5, 2)?;
+    assert_eq!(rt; switch.rows().len(), 1);
+    for row in switch.rows() {
+        is_table_miss(&rt, row);
+    }
+    is_fresh(&rt, &switch);
     Ok(())
 }

@@ -8,6 +8,6 @@ mod one_controller;
 #[cfg(test)]
 mod safety;
 #[cfg(test)]
-mod scenario;
+mod scenarios;
 #[cfg(test)]
 mod world;

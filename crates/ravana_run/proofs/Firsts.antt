@@ -3,10 +3,6 @@ use Rattle.std.proofs.Common.{◌≡◌, ◌<◌, ℕ, suc, ◌+◌, List, [], �
 use Rattle.std.specs.Prelude.{get_or, map}
 use Rattle.controller_core.specs.Rules.{numbers_below}
 
-pub first_in : {A : Type 0} (xs : List A) (d : A) → 0 < length xs → (others : List A) × (xs ≡ get_or xs 0 d ∷ others)
-first_in [] d less = absurd (omega (arith, less))
-first_in (x ∷ xs) d less = (xs, refl)
-
 pub only_in : {A B : Type 0} (f : A → B) (xs : List A) (d : A) → 0 < length xs → length xs < 2 → map f xs ≡ f (get_or xs 0 d) ∷ []
 only_in f [] d some few = absurd (omega (arith, some))
 only_in f (x ∷ []) d some few = refl

@@ -2,6 +2,5 @@ pub mod Tellings
 pub mod Endings
 pub mod Steps
 pub mod Firsts
-pub mod Resting
 pub mod Playing
 pub mod Small

@@ -17,7 +17,8 @@ use Rattle.rv_world.specs.World.{WorldState}
 use Rattle.rv_world.proofs.Closings.{past_joined}
 use Rattle.rv_world.proofs.Following.{HasTaken, next_taken}
 use Rattle.rv_world.proofs.Standing.{script_remains}
-use Rattle.ravana_run.specs.Play.{TurnStopsAt, ClosingStops, IsReady, HasClosed, HasPlayed, RunStops}
+use Rattle.rv_safety.specs.Closing.{TurnStopsAt, ClosingStops, IsReady, HasClosed}
+use Rattle.ravana_run.specs.Play.{HasPlayed, RunStops}
 
 -- a step of a script at its place
 pub step_at : {A : Type 0} (steps : List A) (i : ℕ) (step : A) → i < length steps → step ≡ get_or steps i step → slice_get steps i ≡ Some step

@@ -1,5 +1,6 @@
 //! How a call ended, and what it has to write.
-ghost use Rattle.std.specs.Prelude.{◌≡◌, IfOk};
+ghost use Rattle.std.specs.Prelude.{◌≡◌, ◌++◌, codes, IfOk, OnOk};
+ghost use Rattle.report.specs.Report.{word, number};
 ghost use Rattle.ravana_run.specs.Outcome.{usage_line, fault_line, unread_line, overfull_line, unposted_line, kind_word, place_word};
 ghost use Rattle.ravana_run.specs.Ending.{ending_text, ending_status};
 
@@ -52,14 +53,31 @@ fn place_word(place: FaultPlace) -> &'static [u8]
     }
 }
 
-#[tactic(auto, unfolding(crate::specs::Outcome::fault_line, report::specs::Report::line))]
-fn fault_line(alloc: Global, fault: Fault) -> Result<Octets, AllocError>
-    ensures { IfOk result (λ line. line ≡ fault_line fault) }
+/// The beginning of a line that tells a status.
+fn fault(alloc: Global, status: &[u8]) -> Result<Octets, AllocError>
+    ensures { IfOk result (λ line. line ≡ codes "fault" ++ word status.now) }
 {
     let mut line = Octets::from_slice(alloc, b"fault")?;
-    write_word(&mut line, b"3")?;
-    write_word(&mut line, kind_word(fault.kind))?;
-    write_word(&mut line, place_word(fault.place))?;
+    write_word(&mut line, status)?;
+    Ok(line)
+}
+
+/// Writes a name and its number.
+#[tactic(auto, unfolding(report::specs::Report::number))]
+fn write_named(line: &mut Octets, name: &[u8], value: u64) -> Result<(), AllocError>
+    ensures { OnOk result (line.new ≡ line.old ++ (word name.now ++ word (number value))) }
+{
+    write_word(line, name)?;
+    write_number(line, value)
+}
+
+#[tactic(auto, unfolding(crate::specs::Outcome::fault_line, report::specs::Report::line))]
+fn fault_line(alloc: Global, refused: Fault) -> Result<Octets, AllocError>
+    ensures { IfOk result (λ line. line ≡ fault_line refused) }
+{
+    let mut line = fault(alloc, b"3")?;
+    write_word(&mut line, kind_word(refused.kind))?;
+    write_word(&mut line, place_word(refused.place))?;
     write_newline(&mut line)?;
     Ok(line)
 }
@@ -68,39 +86,31 @@ fn fault_line(alloc: Global, fault: Fault) -> Result<Octets, AllocError>
 fn unread_line(alloc: Global) -> Result<Octets, AllocError>
     ensures { IfOk result (λ line. line ≡ unread_line) }
 {
-    let mut line = Octets::from_slice(alloc, b"fault")?;
-    write_word(&mut line, b"4")?;
+    let mut line = fault(alloc, b"4")?;
     write_word(&mut line, b"read")?;
     write_newline(&mut line)?;
     Ok(line)
 }
 
-#[tactic(auto, unfolding(crate::specs::Outcome::overfull_line, report::specs::Report::line, report::specs::Report::number))]
+#[tactic(auto, unfolding(crate::specs::Outcome::overfull_line, report::specs::Report::line))]
 fn overfull_line(alloc: Global, limit: LogFull) -> Result<Octets, AllocError>
     ensures { IfOk result (λ line. line ≡ overfull_line limit) }
 {
-    let mut line = Octets::from_slice(alloc, b"fault")?;
-    write_word(&mut line, b"9")?;
-    write_word(&mut line, b"length")?;
-    write_number(&mut line, limit.length)?;
-    write_word(&mut line, b"bytes")?;
-    write_number(&mut line, limit.bytes)?;
-    write_word(&mut line, b"next")?;
-    write_number(&mut line, limit.next)?;
+    let mut line = fault(alloc, b"9")?;
+    write_named(&mut line, b"length", limit.length)?;
+    write_named(&mut line, b"bytes", limit.bytes)?;
+    write_named(&mut line, b"next", limit.next)?;
     write_newline(&mut line)?;
     Ok(line)
 }
 
-#[tactic(auto, unfolding(crate::specs::Outcome::unposted_line, report::specs::Report::line, report::specs::Report::number))]
+#[tactic(auto, unfolding(crate::specs::Outcome::unposted_line, report::specs::Report::line))]
 fn unposted_line(alloc: Global, bytes: u64, letters: u64) -> Result<Octets, AllocError>
     ensures { IfOk result (λ line. line ≡ unposted_line bytes letters) }
 {
-    let mut line = Octets::from_slice(alloc, b"fault")?;
-    write_word(&mut line, b"10")?;
-    write_word(&mut line, b"bytes")?;
-    write_number(&mut line, bytes)?;
-    write_word(&mut line, b"letters")?;
-    write_number(&mut line, letters)?;
+    let mut line = fault(alloc, b"10")?;
+    write_named(&mut line, b"bytes", bytes)?;
+    write_named(&mut line, b"letters", letters)?;
     write_newline(&mut line)?;
     Ok(line)
 }

@@ -1,14 +1,12 @@
 //! The program: reads a scenario, plays it, brings it to rest and writes its report.
 #![tactic(auto)]
 
-mod closing;
 mod ending;
 mod sim;
 mod telling;
 #[cfg(test)]
 mod tests;
 mod top;
-mod turning;
 
 use rv_base::{StdSink, StdSource};
 use std::env;

@@ -10,17 +10,17 @@ ghost use Rattle.rv_world.specs.Schedule.{FollowsInOrder};
 ghost use Rattle.scenario.specs.Scenario.{IsPlayable};
 ghost use Rattle.ravana_run.specs.Ending.{EndsRun};
 ghost use Rattle.ravana_run.specs.Outcome.{IsLawful};
-ghost use Rattle.ravana_run.specs.Play.{HasPlayed, RunStops, answer_of};
+ghost use Rattle.rv_safety.specs.Closing.{answer_of};
+ghost use Rattle.ravana_run.specs.Play.{HasPlayed, RunStops};
 ghost use Rattle.ravana_run.specs.Shows.{ShowsReport, scene_typed};
 
-use crate::closing::{self, Closed};
 use crate::ending::Ending;
 use crate::telling::record_of;
-use crate::turning::take_turn;
 use of_types::Octets;
 use report::text;
 use rv_base::{Stop, Turn};
-use rv_safety::{closed, exactly_once, fence, lasting};
+use rv_safety::closing::{self, Closed};
+use rv_safety::{closed, exactly_once, fence, lasting, take_turn};
 use rv_world::{Typed, World};
 use scenario::Scenario;
 use std::alloc::{AllocError, Global};
@@ -136,14 +136,30 @@ fn stopped(scenario: &Scenario, world: &World<Typed>, stop: Stop) -> Result<Endi
     }
 }
 
+/// Plays a scenario in a new world.
+fn play_in(
+    alloc: Global,
+    scenario: &Scenario,
+    world: &mut World<Typed>,
+) -> Result<Ending, AllocError>
+    requires playable { IsPlayable scenario.now }
+    requires setup { world.old.setup ≡ scenario.now.setup }
+    requires whole { world.old.whole ≡ true }
+    requires rests { world.old.owes ≡ false }
+    requires fresh { world.old.journal ≡ [] }
+    ensures { IfOk result (λ ending. EndsRun scenario.now ending) }
+{
+    match play(world, scenario.steps.as_slice()) {
+        Ok((ended, script)) => rested(alloc, scenario, world, ended, script),
+        Err(stop) => stopped(scenario, world, stop),
+    }
+}
+
 /// Plays a scenario.
 pub fn simulate(alloc: Global, scenario: &Scenario) -> Result<Ending, AllocError>
     requires { IsPlayable scenario.now }
     ensures { IfOk result (λ ending. EndsRun scenario.now ending) }
 {
     let mut world = World::<Typed>::new(alloc, &scenario.setup)?;
-    match play(&mut world, scenario.steps.as_slice()) {
-        Ok((ended, script)) => rested(alloc, scenario, &world, ended, script),
-        Err(stop) => stopped(scenario, &world, stop),
-    }
+    play_in(alloc, scenario, &mut world)
 }

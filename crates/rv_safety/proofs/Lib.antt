@@ -32,4 +32,5 @@ pub mod Loads
 pub mod Rooms
 pub mod Keeping
 pub mod Resting
+pub mod ClosingTurns
 pub mod Starting

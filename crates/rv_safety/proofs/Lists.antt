@@ -1,6 +1,6 @@
 -- Beginnings and places of lists.
-use Rattle.std.proofs.Common.{◌≡◌, ◌≤◌, ℕ, Bool, true, false, List, [], ◌∷◌, ◌++◌, length, take, map, filter, zero, suc, refl, sym, ◌∙◌, ap, subst, inl, inr, ◌⊎◌, append-nil, append_assoc, arith, length-append}
-use Rattle.std.specs.Prelude.{slice_get, Some, if◌then◌else◌}
+use Rattle.std.proofs.Common.{◌≡◌, ◌≤◌, ◌<◌, ℕ, Bool, true, false, List, [], ◌∷◌, ◌++◌, length, take, map, filter, zero, suc, refl, sym, ◌∙◌, ap, subst, inl, inr, ◌⊎◌, append-nil, append_assoc, arith, length-append}
+use Rattle.std.specs.Prelude.{slice_get, get_or, Some, if◌then◌else◌}
 use Rattle.std.specs.List.{AllByRecursion}
 use Rattle.rv_base.proofs.Among.{Among}
 use Rattle.rv_world.specs.Laws.{IsPrefix}
@@ -125,3 +125,8 @@ filter_among p (y ∷ xs) x (inr h) passes = by_test (p y) (filter_among p xs x 
     by_test : (b : Bool) → Among x (filter p xs) → Among x (if b then y ∷ filter p xs else filter p xs)
     by_test true k = inr k
     by_test false k = k
+
+-- a list that has something
+pub first_in : {A : Type 0} (xs : List A) (d : A) → 0 < length xs → (others : List A) × (xs ≡ get_or xs 0 d ∷ others)
+first_in [] d less = absurd (omega (arith, less))
+first_in (x ∷ xs) d less = (xs, refl)

@@ -1,4 +1,4 @@
-//! The laws of every journal of a world.
+//! The laws of every journal of a world, and closing: bringing a world to rest.
 #![tactic(auto)]
 
 ghost use Rattle.std.specs.Prelude.{◌≡◌, ◌≤◌, true, [], length, take};
@@ -13,7 +13,11 @@ ghost use Rattle.rv_world.specs.World.{scene_of};
 ghost use Rattle.rv_safety.specs.Premises.{HasBytes};
 ghost use Rattle.rv_safety.specs.Room.{HasRoom, ClosesBehind};
 
+pub mod closing;
+mod turning;
+
 use rv_world::{Body, World};
+pub use turning::take_turn;
 
 /// What was decided stays decided, under one controller.
 pub fn lasting<B: Body>(world: &World<B>)

@@ -1,7 +1,8 @@
 use Rattle.std.proofs.Common.{◌∙◌, length, ap, subst}
 use Rattle.of_types.specs.declared.setup.Setup.{Setup}
-use Rattle.ravana_run.specs.declared.closing.Closed.{Closed}
-use Rattle.ravana_run.specs.Play.{HasPlayed, answer_of}
+use Rattle.rv_safety.specs.declared.closing.Closed.{Closed}
+use Rattle.rv_safety.specs.Closing.{answer_of}
+use Rattle.ravana_run.specs.Play.{HasPlayed}
 use Rattle.ravana_run.specs.Shows.{scene_typed}
 use Rattle.ravana_run.proofs.Small.{closes_behind, played_room}
 use Rattle.ravana_run.proofs.sim.rested.Goals as goal

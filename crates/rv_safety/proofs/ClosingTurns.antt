@@ -27,7 +27,7 @@ use Rattle.rv_world.proofs.Following.{turn_past}
 use Rattle.rv_world.proofs.Rest.{took_lose, took_draw}
 use Rattle.rv_world.proofs.Suspecting.{no_rest, one_suspects}
 use Rattle.rv_world.proofs.Standing.{state_lost, state_posted, state_stands}
-use Rattle.ravana_run.specs.Play.{IsRoute, TurnStopsAt, limit_of, IsDraining, GoesOn, IsDrained, DrainsTo, IsReady, IsCleared, SuspectsTo, ClosingStops, LosingStops, DrainingStops, HasClosed}
+use Rattle.rv_safety.specs.Closing.{IsRoute, TurnStopsAt, limit_of, IsDraining, GoesOn, IsDrained, DrainsTo, IsReady, IsCleared, SuspectsTo, ClosingStops, LosingStops, DrainingStops, HasClosed}
 
 -- why a turn stopped, of a world that owed nothing
 pub rested_stops : {B : Type 0} (scene : Scene B) (step : Turn) (old new : WorldState B) (stop : Stop) → old.owes ≡ false → TurnStops scene step old new stop →

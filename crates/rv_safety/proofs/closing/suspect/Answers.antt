@@ -5,9 +5,9 @@ use Rattle.rv_base.specs.declared.journal.Actor.TheVariants as actor
 use Rattle.rv_base.specs.Pool.{past}
 use Rattle.rv_world.specs.Schedule.{Losing, Suspecting, met_by}
 use Rattle.rv_world.specs.World.{scene_of}
-use Rattle.ravana_run.specs.Play.{GoesOn, limit_of}
-use Rattle.ravana_run.proofs.Resting.{suspects, suspected_still_up, suspect_cut}
-use Rattle.ravana_run.proofs.closing.suspect.Goals as goal
+use Rattle.rv_safety.specs.Closing.{GoesOn, limit_of}
+use Rattle.rv_safety.proofs.ClosingTurns.{suspects, suspected_still_up, suspect_cut}
+use Rattle.rv_safety.proofs.closing.suspect.Goals as goal
 
 pub returns-in_err-take-clause-stops : goal.returns-in_err-take-clause-stops
 returns-in_err-take-clause-stops g c =

@@ -5,9 +5,9 @@ use Rattle.rv_base.specs.Pool.{past}
 use Rattle.rv_world.specs.Committed.{controller_state}
 use Rattle.rv_world.specs.Schedule.{Losing}
 use Rattle.rv_world.specs.World.{scene_of}
-use Rattle.ravana_run.specs.Play.{GoesOn, LosingStops}
-use Rattle.ravana_run.proofs.Resting.{cleared, cleared_cut}
-use Rattle.ravana_run.proofs.closing.clear.Goals as goal
+use Rattle.rv_safety.specs.Closing.{GoesOn, LosingStops}
+use Rattle.rv_safety.proofs.ClosingTurns.{cleared, cleared_cut}
+use Rattle.rv_safety.proofs.closing.clear.Goals as goal
 
 pub returns-clause-cleared : goal.returns-clause-cleared
 returns-clause-cleared g c =

@@ -5,8 +5,8 @@ use Rattle.rv_world.specs.Committed.{controller_state}
 use Rattle.rv_world.specs.Schedule.{Phase}
 use Rattle.rv_world.specs.World.{scene_of}
 use Rattle.rv_world.proofs.Rest.{work_left}
-use Rattle.ravana_run.specs.Play.{IsDraining, IsDrained}
-use Rattle.ravana_run.proofs.closing.drain.Given as goal
+use Rattle.rv_safety.specs.Closing.{IsDraining, IsDrained}
+use Rattle.rv_safety.proofs.closing.drain.Given as goal
 
 abbrev pub decreases-draining : goal.decreases-draining
 decreases-draining g l = work_left (past l.world.journal)

@@ -5,7 +5,7 @@ ghost use Rattle.rv_base.specs.Pool.{past};
 ghost use Rattle.rv_base.specs.Turns.{turn_actor, IsWithinLimits};
 ghost use Rattle.rv_world.specs.Schedule.{IsPosted};
 ghost use Rattle.rv_world.specs.World.{scene_of, Applies};
-ghost use Rattle.ravana_run.specs.Play.{TurnStopsAt};
+ghost use Rattle.rv_safety.specs.Closing.{TurnStopsAt};
 
 use rv_base::{Stop, Turn};
 use rv_world::{Body, World};

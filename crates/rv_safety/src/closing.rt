@@ -7,7 +7,7 @@ ghost use Rattle.controller_core.specs.State.{is_up};
 ghost use Rattle.rv_world.specs.Committed.{controller_state};
 ghost use Rattle.rv_world.specs.Schedule.{Phase, Losing, IsPosted, is_drawn};
 ghost use Rattle.rv_world.specs.World.{scene_of, Applies};
-ghost use Rattle.ravana_run.specs.Play.{IsRoute, TurnStopsAt, limit_of, answer_of, IsDraining, GoesOn, DrainsTo, IsReady, IsCleared, SuspectsTo, LosingStops, DrainingStops, ClosingStops, HasClosed};
+ghost use Rattle.rv_safety.specs.Closing.{IsRoute, TurnStopsAt, limit_of, answer_of, IsDraining, GoesOn, DrainsTo, IsReady, IsCleared, SuspectsTo, LosingStops, DrainingStops, ClosingStops, HasClosed};
 
 use crate::turning::take_turn;
 use controller_core::{Controller, LogFull};

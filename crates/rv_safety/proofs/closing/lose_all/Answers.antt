@@ -5,9 +5,9 @@ use Rattle.rv_base.specs.Pool.{past}
 use Rattle.rv_world.specs.Schedule.{IsPosted}
 use Rattle.rv_world.specs.World.{scene_of, Applies}
 use Rattle.rv_world.proofs.Rest.{lose_leaves_less}
-use Rattle.ravana_run.specs.Play.{TurnStopsAt}
-use Rattle.ravana_run.proofs.Resting.{loses_first, loses_state, loses_cut}
-use Rattle.ravana_run.proofs.closing.lose_all.Goals as goal
+use Rattle.rv_safety.specs.Closing.{TurnStopsAt}
+use Rattle.rv_safety.proofs.ClosingTurns.{loses_first, loses_state, loses_cut}
+use Rattle.rv_safety.proofs.closing.lose_all.Goals as goal
 
 pub returns-in_err-take-clause-stops : goal.returns-in_err-take-clause-stops
 returns-in_err-take-clause-stops g c =

@@ -6,9 +6,9 @@ use Rattle.rv_base.specs.Pool.{past}
 use Rattle.rv_world.specs.Schedule.{IsPosted, Draining, met_by, is_drawn}
 use Rattle.rv_world.specs.World.{scene_of, Applies}
 use Rattle.rv_world.proofs.Rest.{lose_leaves_less, draw_leaves_less}
-use Rattle.ravana_run.specs.Play.{TurnStopsAt, GoesOn, limit_of}
-use Rattle.ravana_run.proofs.Resting.{routed_draw, still_up, drains_lost, drains_cut_draw, drains_cut_lose, drains_on, drains_met, loses_state}
-use Rattle.ravana_run.proofs.closing.drain.Goals as goal
+use Rattle.rv_safety.specs.Closing.{TurnStopsAt, GoesOn, limit_of}
+use Rattle.rv_safety.proofs.ClosingTurns.{routed_draw, still_up, drains_lost, drains_cut_draw, drains_cut_lose, drains_on, drains_met, loses_state}
+use Rattle.rv_safety.proofs.closing.drain.Goals as goal
 
 pub returns-in_err-take-clause-stops : goal.returns-in_err-take-clause-stops
 returns-in_err-take-clause-stops g c =

@@ -4,8 +4,8 @@ use Rattle.rv_world.specs.Committed.{controller_state}
 use Rattle.rv_world.specs.Schedule.{Losing}
 use Rattle.rv_world.specs.World.{scene_of}
 use Rattle.rv_world.proofs.Rest.{work_left}
-use Rattle.ravana_run.specs.Play.{GoesOn}
-use Rattle.ravana_run.proofs.closing.lose_all.Given as goal
+use Rattle.rv_safety.specs.Closing.{GoesOn}
+use Rattle.rv_safety.proofs.closing.lose_all.Given as goal
 
 abbrev pub decreases-losing : goal.decreases-losing
 decreases-losing g l = work_left (past l.world.journal)

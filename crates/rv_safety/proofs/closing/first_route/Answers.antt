@@ -1,8 +1,8 @@
 use Rattle.std.proofs.Common.{◌∷◌, sym, ◌∙◌, ap, refl, subst}
 use Rattle.std.specs.List.{AllByRecursion}
 use Rattle.rv_base.specs.Actors.{IsActor}
-use Rattle.ravana_run.proofs.Firsts.{first_in}
-use Rattle.ravana_run.proofs.closing.first_route.Goals as goal
+use Rattle.rv_safety.proofs.Lists.{first_in}
+use Rattle.rv_safety.proofs.closing.first_route.Goals as goal
 
 pub returns-in-len1-up-clause-first : goal.returns-in-len1-up-clause-first
 returns-in-len1-up-clause-first g c =

@@ -4,9 +4,9 @@ use Rattle.of_types.specs.declared.setup.Setup.{Setup}
 use Rattle.rv_base.specs.Pool.{past}
 use Rattle.rv_world.specs.Schedule.{Phase, IsPosted}
 use Rattle.rv_world.specs.World.{scene_of}
-use Rattle.ravana_run.specs.Play.{IsDraining, DrainsTo, DrainingStops, SuspectsTo}
-use Rattle.ravana_run.proofs.Resting.{ends_met, ends_done, ends_cut}
-use Rattle.ravana_run.proofs.closing.run.Goals as goal
+use Rattle.rv_safety.specs.Closing.{IsDraining, DrainsTo, DrainingStops, SuspectsTo}
+use Rattle.rv_safety.proofs.ClosingTurns.{ends_met, ends_done, ends_cut}
+use Rattle.rv_safety.proofs.closing.run.Goals as goal
 
 pub returns-in_err-limit-2-clause-stops : goal.returns-in_err-limit-2-clause-stops
 returns-in_err-limit-2-clause-stops g c =

@@ -7,21 +7,21 @@ use of_types::{
 use std::alloc::{AllocError, Global};
 
 /// The frame that the messages hold.
-pub const FRAME: &[u8] = b"\x02\0\0\0\0\x02\x02\0\0\0\0\x01\x88\xb5";
+pub(crate) const FRAME: &[u8] = b"\x02\0\0\0\0\x02\x02\0\0\0\0\x01\x88\xb5";
 
 /// A list of these values.
-pub fn list<T: Copy>(alloc: Global, values: &[T]) -> Result<Items<T>, AllocError> {
+pub(crate) fn list<T: Copy>(alloc: Global, values: &[T]) -> Result<Items<T>, AllocError> {
     Ok(Items::from_vec(Vec::from_slice(alloc, values)?))
 }
 
-pub fn role_request() -> OfMessage {
+pub(crate) fn role_request() -> OfMessage {
     OfMessage::RoleRequest {
         role: MASTER,
         generation: 1,
     }
 }
 
-pub fn packet_in(alloc: Global) -> Result<PacketIn, AllocError> {
+pub(crate) fn packet_in(alloc: Global) -> Result<PacketIn, AllocError> {
     let payload = Octets::from_slice(alloc, FRAME)?;
     Ok(PacketIn {
         reason: 0,
@@ -31,7 +31,7 @@ pub fn packet_in(alloc: Global) -> Result<PacketIn, AllocError> {
     })
 }
 
-pub fn flow_mod(alloc: Global) -> Result<FlowMod, AllocError> {
+pub(crate) fn flow_mod(alloc: Global) -> Result<FlowMod, AllocError> {
     let destination = Masked48 {
         value: 0x0200_0000_0001,
         mask: (1 << 48) - 1,
@@ -59,7 +59,7 @@ pub fn flow_mod(alloc: Global) -> Result<FlowMod, AllocError> {
 }
 
 /// An event that tells of the frame.
-pub fn event(alloc: Global) -> Result<Extension, AllocError> {
+pub(crate) fn event(alloc: Global) -> Result<Extension, AllocError> {
     let what = Happening::PacketIn(packet_in(alloc)?);
     Ok(Extension::Event {
         life: 0,

@@ -24,7 +24,7 @@ fn setup(alloc: Global) -> Result<Setup, AllocError>
 }
 
 /// A world whose one controller was told to start its first view.
-pub fn suspecting(alloc: Global) -> Result<World<Typed>, Fail>
+pub(crate) fn suspecting(alloc: Global) -> Result<World<Typed>, Fail>
     ensures whole { IfOk result (λ world. world.whole ≡ true) }
     ensures controllers { IfOk result (λ world. world.setup.controllers ≡ 1) }
     ensures switches { IfOk result (λ world. length world.setup.ports ≡ 1) }

@@ -2,7 +2,7 @@ use crate::one_controller::suspecting;
 use rv_safety::{committed_log, exactly_once, fence, lasting};
 use std::test::Fail;
 
-/// The laws may be asked of a world of one controller, at the start and after a step.
+/// The laws may be asked of a world of one controller, here after its first step.
 #[test]
 fn laws_of_a_world(rt: HostRuntime) -> Result<(), Fail> {
     let world = suspecting(rt.alloc())?;

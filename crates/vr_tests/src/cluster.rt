@@ -7,7 +7,7 @@ use std::alloc::{AllocError, Global};
 use vr_log::{Entry, Log, VrState};
 
 /// A port of a switch went down: 98 bytes of a log.
-pub fn port_event(switch: u8, number: u64) -> Entry {
+pub(crate) fn port_event(switch: u8, number: u64) -> Entry {
     let status = PortStatus {
         reason: 2,
         port: 1,
@@ -22,7 +22,7 @@ pub fn port_event(switch: u8, number: u64) -> Entry {
 }
 
 /// This frame came in at switch 0.
-pub fn packet_event(alloc: Global, number: u64, frame: &[u8]) -> Result<Entry, AllocError> {
+pub(crate) fn packet_event(alloc: Global, number: u64, frame: &[u8]) -> Result<Entry, AllocError> {
     let packet = PacketIn {
         reason: 0,
         cookie: 0,
@@ -47,7 +47,7 @@ fn log_of(alloc: Global, entries: u64) -> Result<Log, AllocError> {
 }
 
 /// A member of three with so many entries.
-pub fn member(alloc: Global, me: u8, entries: u64) -> Result<VrState, AllocError>
+pub(crate) fn member(alloc: Global, me: u8, entries: u64) -> Result<VrState, AllocError>
     requires { me < 3 }
     ensures { IfOk result (λ s. IsValid s) }
 {

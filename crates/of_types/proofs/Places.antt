@@ -1,8 +1,9 @@
 -- The places of a list at which it is true.
-use Rattle.std.proofs.Common.{◌≡◌, ℕ, ◌+◌, ◌<◌, ◌≤◌, ◌≢◌, Bool, true, false, not, List, [], ◌∷◌, length, set, get_or, refl, ap, sym, arith, suc, zero}
+use Rattle.std.proofs.Common.{◌≡◌, ℕ, ◌+◌, ◌<◌, ◌≤◌, ◌≢◌, Bool, true, false, not, List, [], ◌∷◌, ◌++◌, length, drop, set, get_or, refl, ap, sym, arith, suc, zero}
 use Rattle.std.specs.Prelude.{nat_eq, nat_lt, filter}
 use Rattle.std.specs.List.{list_any}
 use Rattle.std.proofs.lemmas.Bool.{lt-ltb, le-ltb, eq-eqb, ne_eqb}
+use Rattle.std.proofs.lemmas.List.{append_assoc, append-nil, drop_more, drop_all}
 use Rattle.of_types.specs.SmallSets.{places_from, with_number, without_number}
 
 -- places past a number are above it
@@ -74,3 +75,18 @@ places-any n first zero (false ∷ bs) e h =
 places-any n first (suc i) (true ∷ bs) e h =
     let apart : first ≢ n = omega arith in rw (ne_eqb first n apart) (places-any n (first + 1) i bs (omega arith) (omega arith))
 places-any n first (suc i) (false ∷ bs) e h = places-any n (first + 1) i bs (omega arith) (omega arith)
+
+-- what is left begins with a place that is true
+pub place-taken : (n : ℕ) (numbers : List ℕ) (bs : List Bool) → n < length bs → get_or bs n false ≡ true → numbers ++ n ∷ [] ++ places_from (n + 1) (drop (n + 1) bs) ≡ numbers ++ places_from n (drop n bs)
+unfolding places_from
+place-taken n numbers bs h e = rw (drop_more bs n false h, e) (append_assoc numbers (n ∷ []) (places_from (n + 1) (drop (n + 1) bs)))
+
+-- or goes on behind one that is false
+pub place-passed : (n : ℕ) (numbers : List ℕ) (bs : List Bool) → n < length bs → get_or bs n false ≡ false → numbers ++ places_from (n + 1) (drop (n + 1) bs) ≡ numbers ++ places_from n (drop n bs)
+unfolding places_from
+place-passed n numbers bs h e = rw (drop_more bs n false h, e) refl
+
+-- none is behind the last
+pub places-end : (n : ℕ) (numbers : List ℕ) (bs : List Bool) → length bs ≤ n → numbers ≡ numbers ++ places_from n (drop n bs)
+unfolding places_from
+places-end n numbers bs h = rw (drop_all n bs h, append-nil numbers) refl

@@ -1,6 +1,7 @@
 //! The header fields of an Ethernet frame.
 
-ghost use Rattle.std.specs.Prelude.{◌≡◌, ◌≤◌, ◌+◌, ◌^◌, ◌<◌, length};
+ghost use Rattle.std.specs.Prelude.{◌≡◌, ◌≤◌, ◌+◌, ◌^◌, ◌<◌, ◌%◌, ◌==◌, length, drop};
+ghost use Rattle.byteorder.specs.Endian.{big_number};
 ghost use Rattle.of_types.specs.Header.{number_at, number_within, has_ipv4, has_ports, transport_place, fields_of};
 
 use crate::message::Fields;
@@ -44,14 +45,19 @@ fn u48_at(frame: &[u8], place: usize) -> Option<u64>
 
 const IPV4: u16 = 0x0800;
 
+/// Whether the Ethernet header says that a packet of IPv4 follows.
+fn says_ipv4(frame: &[u8]) -> bool
+    requires { 34 ≤ length frame.now }
+    ensures { result ≡ (big_number 2 (drop 12 frame.now) == 0x0800) }
+{
+    BigEndian::read_u16(&frame[12..]) == IPV4
+}
+
 /// Whether an IPv4 header stands behind the Ethernet header.
 fn has_ipv4(frame: &[u8]) -> bool
     ensures { result ≡ has_ipv4 frame.now }
 {
-    frame.len() >= 34
-        && BigEndian::read_u16(&frame[12..]) == IPV4
-        && frame[14] / 16 == 4
-        && frame[14] % 16 >= 5
+    frame.len() >= 34 && says_ipv4(frame) && frame[14] / 16 == 4 && frame[14] % 16 >= 5
 }
 
 /// Where the header behind the IPv4 header begins.
@@ -62,13 +68,21 @@ fn transport_place(frame: &[u8]) -> usize
     14 + 4 * usize::from(frame[14] % 16)
 }
 
+/// Whether the packet is whole, or the first fragment of one: its offset is 0.
+fn is_first_fragment(frame: &[u8]) -> bool
+    requires { 34 ≤ length frame.now }
+    ensures { result ≡ (big_number 2 (drop 20 frame.now) % 2 ^ 13 == 0) }
+{
+    BigEndian::read_u16(&frame[20..]) % (1 << 13) == 0
+}
+
 /// Whether two ports of this protocol stand behind the IPv4 header.
 fn has_ports(protocol: u8, frame: &[u8]) -> bool
     ensures { result ≡ has_ports protocol frame.now }
 {
     has_ipv4(frame)
         && frame[23] == protocol
-        && BigEndian::read_u16(&frame[20..]) % (1 << 13) == 0
+        && is_first_fragment(frame)
         && frame.len() >= transport_place(frame) + 4
 }
 

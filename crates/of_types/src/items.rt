@@ -89,6 +89,16 @@ impl<T> Items<T> {
     }
 }
 
+impl<T: Copy> Items<T> {
+    /// An equal list.
+    pub(crate) fn copied(&self) -> Result<Items<T>, AllocError>
+        ensures { IfOk result (λ copied. copied ≡ self.now) }
+    {
+        let items = Vec::from_slice(*self.items.allocator(), self.items.as_slice())?;
+        Ok(Items { items })
+    }
+}
+
 impl Items<u8> {
     /// The same bytes.
     pub fn from_slice(alloc: Global, bytes: &[u8]) -> Result<Octets, AllocError>
@@ -110,7 +120,6 @@ impl Items<u8> {
     pub fn copy(&self) -> Result<Octets, AllocError>
         ensures { IfOk result (λ octets. octets ≡ self.now) }
     {
-        let items = self.items.clone()?;
-        Ok(Items { items })
+        self.copied()
     }
 }

@@ -1,6 +1,6 @@
 //! When a frame's fields meet a match.
 ghost use Rattle.std.specs.Prelude.{◌≡◌};
-ghost use Rattle.of_types.specs.Matching.{has_value, has_address48, has_address32, matches as is_match, any_match as open_match, is_any as is_open, same_value, same_address48, same_address32, same_match as is_same};
+ghost use Rattle.of_types.specs.Matching.{has_value, has_address48, has_address32, matches as is_match, any_match as open_match, is_any as is_open, same_match as is_same};
 
 use crate::message::{Fields, Masked32, Masked48, Match};
 
@@ -95,82 +95,12 @@ pub fn any_match() -> Match
 pub fn is_any(matching: &Match) -> bool
     ensures { result ≡ is_open matching.now }
 {
-    matching.in_port.is_none()
-        && matching.eth_dst.is_none()
-        && matching.eth_src.is_none()
-        && matching.eth_type.is_none()
-        && matching.ip_proto.is_none()
-        && matching.ipv4_src.is_none()
-        && matching.ipv4_dst.is_none()
-        && matching.tcp_src.is_none()
-        && matching.tcp_dst.is_none()
-        && matching.udp_src.is_none()
-        && matching.udp_dst.is_none()
-}
-
-fn same_u8(a: Option<u8>, b: Option<u8>) -> bool
-    ensures { result ≡ same_value a b }
-{
-    match (a, b) {
-        (None, None) => true,
-        (Some(a), Some(b)) => a == b,
-        _ => false,
-    }
-}
-
-fn same_u16(a: Option<u16>, b: Option<u16>) -> bool
-    ensures { result ≡ same_value a b }
-{
-    match (a, b) {
-        (None, None) => true,
-        (Some(a), Some(b)) => a == b,
-        _ => false,
-    }
-}
-
-fn same_u32(a: Option<u32>, b: Option<u32>) -> bool
-    ensures { result ≡ same_value a b }
-{
-    match (a, b) {
-        (None, None) => true,
-        (Some(a), Some(b)) => a == b,
-        _ => false,
-    }
-}
-
-fn same_address48(a: Option<Masked48>, b: Option<Masked48>) -> bool
-    ensures { result ≡ same_address48 a b }
-{
-    match (a, b) {
-        (None, None) => true,
-        (Some(a), Some(b)) => a.value == b.value && a.mask == b.mask,
-        _ => false,
-    }
-}
-
-fn same_address32(a: Option<Masked32>, b: Option<Masked32>) -> bool
-    ensures { result ≡ same_address32 a b }
-{
-    match (a, b) {
-        (None, None) => true,
-        (Some(a), Some(b)) => a.value == b.value && a.mask == b.mask,
-        _ => false,
-    }
+    *matching == any_match()
 }
 
 /// Whether two matches are equal.
 pub fn same_match(a: &Match, b: &Match) -> bool
     ensures { result ≡ is_same a.now b.now }
 {
-    same_u32(a.in_port, b.in_port)
-        && same_address48(a.eth_dst, b.eth_dst)
-        && same_address48(a.eth_src, b.eth_src)
-        && same_u16(a.eth_type, b.eth_type)
-        && same_u8(a.ip_proto, b.ip_proto)
-        && same_address32(a.ipv4_src, b.ipv4_src)
-        && same_address32(a.ipv4_dst, b.ipv4_dst)
-        && same_u16(a.tcp_src, b.tcp_src)
-        && same_u16(a.tcp_dst, b.tcp_dst)
-        && same_u16(a.udp_src, b.udp_src)
-        && same_u16(a.udp_dst, b.udp_dst)
+    a == b
 }

@@ -51,12 +51,23 @@ pub struct Fields {
 }
 
 /// A row of a flow table (OpenFlow 1.3, 5.2).
-#[derive(Clone, Drop)]
+#[derive(Drop)]
 pub struct Row {
     pub priority: u16,
     pub cookie: u64,
     pub matching: Match,
     pub actions: Actions,
+}
+
+impl Clone for Row {
+    ghost is_clone = { λ x y. y ≡ x };
+
+    fn clone(&self) -> Result<Row, AllocError> {
+        Ok(Row {
+            actions: self.actions.copied()?,
+            ..*self
+        })
+    }
 }
 
 /// What a FLOW_MOD does with the table (OpenFlow 1.3, 6.4).
@@ -70,7 +81,7 @@ pub enum FlowCommand {
 }
 
 /// A FLOW_MOD (OpenFlow 1.3, 7.3.4.1). Its one instruction applies the actions.
-#[derive(Clone, Drop)]
+#[derive(Drop)]
 pub struct FlowMod {
     pub cookie: u64,
     pub cookie_mask: u64,
@@ -87,8 +98,19 @@ pub struct FlowMod {
     pub actions: Actions,
 }
 
+impl Clone for FlowMod {
+    ghost is_clone = { λ x y. y ≡ x };
+
+    fn clone(&self) -> Result<FlowMod, AllocError> {
+        Ok(FlowMod {
+            actions: self.actions.copied()?,
+            ..*self
+        })
+    }
+}
+
 /// A PACKET_OUT (OpenFlow 1.3, 7.3.7): a frame to be sent out as its actions say.
-#[derive(Clone, Drop)]
+#[derive(Drop)]
 pub struct PacketOut {
     pub buffer: u32,
     pub in_port: u32,
@@ -96,13 +118,36 @@ pub struct PacketOut {
     pub payload: Octets,
 }
 
+impl Clone for PacketOut {
+    ghost is_clone = { λ x y. y ≡ x };
+
+    fn clone(&self) -> Result<PacketOut, AllocError> {
+        Ok(PacketOut {
+            actions: self.actions.copied()?,
+            payload: self.payload.copy()?,
+            ..*self
+        })
+    }
+}
+
 /// A PACKET_IN (OpenFlow 1.3, 7.4.1): reason 0 is NO_MATCH, 1 is ACTION. The whole frame is there.
-#[derive(Clone, Drop)]
+#[derive(Drop)]
 pub struct PacketIn {
     pub reason: u8,
     pub cookie: u64,
     pub in_port: u32,
     pub payload: Octets,
+}
+
+impl Clone for PacketIn {
+    ghost is_clone = { λ x y. y ≡ x };
+
+    fn clone(&self) -> Result<PacketIn, AllocError> {
+        Ok(PacketIn {
+            payload: self.payload.copy()?,
+            ..*self
+        })
+    }
 }
 
 /// A PORT_STATUS (OpenFlow 1.3, 7.4.3): reason 0 is ADD, 1 is DELETE, 2 is MODIFY.
@@ -114,14 +159,25 @@ pub struct PortStatus {
 }
 
 /// What an event tells of.
-#[derive(Clone, Drop)]
+#[derive(Drop)]
 pub enum Happening {
     PacketIn(PacketIn),
     PortStatus(PortStatus),
 }
 
+impl Clone for Happening {
+    ghost is_clone = { λ x y. y ≡ x };
+
+    fn clone(&self) -> Result<Happening, AllocError> {
+        Ok(match self {
+            Happening::PacketIn(packet) => Happening::PacketIn(packet.clone()?),
+            Happening::PortStatus(status) => Happening::PortStatus(*status),
+        })
+    }
+}
+
 /// An event of a switch (Ravana, 4.1): the number counts the events of a life of the switch from 0.
-#[derive(Clone, Drop)]
+#[derive(Drop)]
 pub struct Event {
     pub switch: u8,
     pub life: u32,
@@ -129,18 +185,51 @@ pub struct Event {
     pub what: Happening,
 }
 
+impl Clone for Event {
+    ghost is_clone = { λ x y. y ≡ x };
+
+    fn clone(&self) -> Result<Event, AllocError> {
+        Ok(Event {
+            what: self.what.clone()?,
+            ..*self
+        })
+    }
+}
+
 /// What a command has a switch do.
-#[derive(Clone, Drop)]
+#[derive(Drop)]
 pub enum Order {
     FlowMod(FlowMod),
     PacketOut(PacketOut),
 }
 
+impl Clone for Order {
+    ghost is_clone = { λ x y. y ≡ x };
+
+    fn clone(&self) -> Result<Order, AllocError> {
+        Ok(match self {
+            Order::FlowMod(change) => Order::FlowMod(change.clone()?),
+            Order::PacketOut(out) => Order::PacketOut(out.clone()?),
+        })
+    }
+}
+
 /// A command of an application to a switch.
-#[derive(Clone, Drop)]
+#[derive(Drop)]
 pub struct Command {
     pub switch: u8,
     pub order: Order,
+}
+
+impl Clone for Command {
+    ghost is_clone = { λ x y. y ≡ x };
+
+    fn clone(&self) -> Result<Command, AllocError> {
+        Ok(Command {
+            order: self.order.clone()?,
+            ..*self
+        })
+    }
 }
 
 /// What became of a command. `Failed` has the type and code of an OpenFlow error; the result of a
@@ -153,7 +242,7 @@ pub enum Outcome {
 }
 
 /// A message of OpenFlow 1.3.
-#[derive(Clone, Drop)]
+#[derive(Drop)]
 pub enum OfMessage {
     Hello,
     Error { kind: u16, code: u16, head: Octets },
@@ -172,8 +261,44 @@ pub enum OfMessage {
     RoleReply { role: u32, generation: u64 },
 }
 
+impl Clone for OfMessage {
+    ghost is_clone = { λ x y. y ≡ x };
+
+    fn clone(&self) -> Result<OfMessage, AllocError> {
+        Ok(match self {
+            OfMessage::Hello => OfMessage::Hello,
+            OfMessage::Error { kind, code, head } => OfMessage::Error {
+                kind: *kind,
+                code: *code,
+                head: head.copy()?,
+            },
+            OfMessage::EchoRequest { body } => OfMessage::EchoRequest { body: body.copy()? },
+            OfMessage::EchoReply { body } => OfMessage::EchoReply { body: body.copy()? },
+            OfMessage::Experimenter { body } => OfMessage::Experimenter { body: body.copy()? },
+            OfMessage::FeaturesRequest => OfMessage::FeaturesRequest,
+            OfMessage::FeaturesReply { datapath } => OfMessage::FeaturesReply {
+                datapath: *datapath,
+            },
+            OfMessage::PacketIn(packet) => OfMessage::PacketIn(packet.clone()?),
+            OfMessage::PortStatus(status) => OfMessage::PortStatus(*status),
+            OfMessage::PacketOut(out) => OfMessage::PacketOut(out.clone()?),
+            OfMessage::FlowMod(change) => OfMessage::FlowMod(change.clone()?),
+            OfMessage::BarrierRequest => OfMessage::BarrierRequest,
+            OfMessage::BarrierReply => OfMessage::BarrierReply,
+            OfMessage::RoleRequest { role, generation } => OfMessage::RoleRequest {
+                role: *role,
+                generation: *generation,
+            },
+            OfMessage::RoleReply { role, generation } => OfMessage::RoleReply {
+                role: *role,
+                generation: *generation,
+            },
+        })
+    }
+}
+
 /// A message of Ravana's extension of OpenFlow (Ravana, 4.1 and 4.2), sent as an EXPERIMENTER.
-#[derive(Clone, Drop)]
+#[derive(Drop)]
 pub enum Extension {
     Event {
         life: u32,
@@ -202,21 +327,87 @@ pub enum Extension {
     },
 }
 
+impl Clone for Extension {
+    ghost is_clone = { λ x y. y ≡ x };
+
+    fn clone(&self) -> Result<Extension, AllocError> {
+        Ok(match self {
+            Extension::Event { life, number, what } => Extension::Event {
+                life: *life,
+                number: *number,
+                what: what.clone()?,
+            },
+            Extension::EventAck { life, through } => Extension::EventAck {
+                life: *life,
+                through: *through,
+            },
+            Extension::Command {
+                life,
+                generation,
+                number,
+                settled,
+                order,
+            } => Extension::Command {
+                life: *life,
+                generation: *generation,
+                number: *number,
+                settled: *settled,
+                order: order.clone()?,
+            },
+            Extension::CmdAck {
+                life,
+                number,
+                outcome,
+            } => Extension::CmdAck {
+                life: *life,
+                number: *number,
+                outcome: *outcome,
+            },
+            Extension::Clear { life, through } => Extension::Clear {
+                life: *life,
+                through: *through,
+            },
+        })
+    }
+}
+
 /// What a controller and a switch say to each other.
-#[derive(Clone, Drop)]
+#[derive(Drop)]
 pub enum Spoken {
     Plain(OfMessage),
     Ravana(Extension),
 }
 
+impl Clone for Spoken {
+    ghost is_clone = { λ x y. y ≡ x };
+
+    fn clone(&self) -> Result<Spoken, AllocError> {
+        Ok(match self {
+            Spoken::Plain(message) => Spoken::Plain(message.clone()?),
+            Spoken::Ravana(message) => Spoken::Ravana(message.clone()?),
+        })
+    }
+}
+
 /// A command that a switch has carried out, with the generation and the controller that sent it.
-#[derive(Clone, Drop)]
+#[derive(Drop)]
 pub struct Executed {
     pub life: u32,
     pub number: u64,
     pub generation: u64,
     pub from: u8,
     pub order: Order,
+}
+
+impl Clone for Executed {
+    ghost is_clone = { λ x y. y ≡ x };
+
+    fn clone(&self) -> Result<Executed, AllocError> {
+        Ok(Executed {
+            order: self.order.clone()?,
+            ..*self
+        })
+    }
 }
 
 impl Event {

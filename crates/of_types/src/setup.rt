@@ -31,12 +31,25 @@ pub struct Rule {
 
 /// What a run is about: how many controllers there are, the ports of each switch, the wires, and
 /// what the firewall denies.
-#[derive(Clone, Drop)]
+#[derive(Drop)]
 pub struct Setup {
     pub controllers: u8,
     pub ports: PortCounts,
     pub links: Links,
     pub deny: Rules,
+}
+
+impl Clone for Setup {
+    ghost is_clone = { λ x y. y ≡ x };
+
+    fn clone(&self) -> Result<Setup, AllocError> {
+        Ok(Setup {
+            ports: self.ports.copied()?,
+            links: self.links.copied()?,
+            deny: self.deny.copied()?,
+            ..*self
+        })
+    }
 }
 
 impl Setup {

@@ -1,6 +1,6 @@
 //! How many bytes messages take. Where a number passes 64 bits, the greatest one stands for it.
 ghost use Rattle.std.specs.Prelude.{◌≡◌, ◌≤◌, ◌+◌, ◌*◌, ◌-◌, ◌^◌, min, length};
-ghost use Rattle.of_types.specs.Sizes.{field_size, masked48_size, masked32_size, fields_size, match_size, instruction_size, happening_size, order_size, plain_size, extension_size};
+ghost use Rattle.of_types.specs.Sizes.{field_size, masked48_size, masked32_size, match_size, instruction_size, happening_size, order_size, plain_size, extension_size};
 
 use crate::message::{
     Extension, FlowMod, Happening, Masked32, Masked48, Match, OfMessage, Order, PacketOut,
@@ -59,29 +59,45 @@ fn size_of_masked32(field: Option<Masked32>) -> usize
     }
 }
 
-/// The bytes of the fields of a match.
-fn size_of_fields(matching: &Match) -> usize
-    ensures exact { result ≡ fields_size matching.now }
-    ensures small { result ≤ 200 }
+/// The bytes of the port that a frame came in by, and of its Ethernet header.
+fn size_of_ethernet(matching: &Match) -> usize
+    ensures exact { result ≡ field_size 4 matching.now.in_port + masked48_size matching.now.eth_dst + masked48_size matching.now.eth_src + field_size 2 matching.now.eth_type }
+    ensures small { result ≤ 46 }
 {
     size_of_u32(matching.in_port)
         + size_of_masked48(matching.eth_dst)
         + size_of_masked48(matching.eth_src)
         + size_of_u16(matching.eth_type)
-        + size_of_u8(matching.ip_proto)
+}
+
+/// The bytes of the fields of an IPv4 header.
+fn size_of_ipv4(matching: &Match) -> usize
+    ensures exact { result ≡ field_size 1 matching.now.ip_proto + masked32_size matching.now.ipv4_src + masked32_size matching.now.ipv4_dst }
+    ensures small { result ≤ 29 }
+{
+    size_of_u8(matching.ip_proto)
         + size_of_masked32(matching.ipv4_src)
         + size_of_masked32(matching.ipv4_dst)
-        + size_of_u16(matching.tcp_src)
+}
+
+/// The bytes of the ports of TCP and UDP.
+fn size_of_ports(matching: &Match) -> usize
+    ensures exact { result ≡ field_size 2 matching.now.tcp_src + field_size 2 matching.now.tcp_dst + field_size 2 matching.now.udp_src + field_size 2 matching.now.udp_dst }
+    ensures small { result ≤ 24 }
+{
+    size_of_u16(matching.tcp_src)
         + size_of_u16(matching.tcp_dst)
         + size_of_u16(matching.udp_src)
         + size_of_u16(matching.udp_dst)
 }
 
+/// The bytes of a match: a header, its fields, and no padding but up to the next multiple of eight.
 fn size_of_match(matching: &Match) -> usize
     ensures exact { result ≡ match_size matching.now }
     ensures small { result ≤ 208 }
 {
-    (4 + size_of_fields(matching) + 7) / 8 * 8
+    let fields = size_of_ethernet(matching) + size_of_ipv4(matching) + size_of_ports(matching);
+    (4 + fields + 7) / 8 * 8
 }
 
 /// The bytes of so many actions.

@@ -53,7 +53,6 @@ impl SmallSet {
     }
 
     /// Its numbers, ascending.
-    #[tactic(auto, unfolding(crate::specs::SmallSets::places_from))]
     pub fn to_vec(&self, alloc: Global) -> Result<Vec<u8>, AllocError>
         ensures { IfOk result (λ numbers. numbers.items ≡ self.now) }
     {

@@ -1,5 +1,6 @@
 pub mod Lists
 pub mod Pools
+pub mod Sizes
 pub mod Fitting
 pub mod Kept
 pub mod Turning

@@ -1,5 +1,6 @@
 -- What the steps of a turn make of a ledger.
-use Rattle.std.proofs.Common.{◌≡◌, ℕ, Option, List, [], ◌∷◌, ◌++◌, sym, ap, ◌∙◌, append_assoc}
+use Rattle.std.proofs.Common.{◌≡◌, ℕ, Option, List, [], ◌∷◌, ◌++◌, length, take, sym, ap, ◌∙◌, append_assoc}
+use Rattle.std.proofs.Math.Seq.{take-append_seam}
 use Rattle.std.proofs.lemmas.List.{reverse-append}
 use Rattle.rv_base.specs.declared.journal.Actor.{Actor}
 use Rattle.rv_base.specs.declared.journal.JournalEntry.{JournalEntry}
@@ -9,9 +10,12 @@ use Rattle.rv_base.specs.declared.journal.Turn.{Turn}
 use Rattle.rv_base.specs.declared.ledger.Ledger.{Ledger}
 use Rattle.rv_base.specs.declared.ledger.Ready.{Ready}
 use Rattle.rv_base.specs.declared.ledger.Sums.{Sums}
-use Rattle.rv_base.specs.Pool.{past}
+use Rattle.rv_base.specs.declared.wire.Stop.{Stop}
+use Rattle.rv_base.specs.declared.wire.Stop.TheVariants.{OutOfMemory, JournalFull}
+use Rattle.rv_base.specs.Answers.{RefusedBy}
+use Rattle.rv_base.specs.Pool.{past, pool}
 use Rattle.rv_base.specs.Turns.{posting, posted, turn_actor, turn_entries, entry_of, IsKept}
-use Rattle.rv_base.specs.Ledger.{post_of, found_in, entry_by, left_by, IsReady}
+use Rattle.rv_base.specs.Ledger.{post_of, found_in, entry_by, left_by, IsRefusal, IsUnchanged, IsReady}
 use Rattle.rv_base.proofs.Lists.{past-push}
 use Rattle.rv_base.proofs.Kept.{post_of-posting, IsKept-posted, entry_by-entry_of, IsKept-input}
 
@@ -48,6 +52,38 @@ module _ {B : Type 0} where
         kept = rw (past_now, sums_are) (IsKept-posted size (past start.entries.items) start.pool.items after.pool.items start.sums.letters start.sums.bytes ready.lost a letters ready.sums kept is.lost_is (pool_is ∙ is.pool_is) is.summed);
       }
 
+  -- a ledger after a refusal
+  pub record IsRefused (size : B → ℕ) (letters : List (Letter B)) (cause : Stop) (start after : Ledger B) : Type 0 where
+    pub entries_are : after.entries.items ≡ start.entries.items
+    pub told : RefusedBy size cause letters (past start.entries.items)
+    pub kept : KeptBy size after
+
+  told_by : (size : B → ℕ) (letters : List (Letter B)) (cause : Stop) (start : Ledger B) → KeptBy size start → IsRefusal size start.sums.letters start.sums.bytes letters cause →
+      RefusedBy size cause letters (past start.entries.items)
+  told_by size letters OutOfMemory start kept is = tt
+  told_by size letters (JournalFull bytes count) start kept is = record {
+    bytes_are = rw (← kept.total_is) is.bytes_are;
+    letters_are = rw (← kept.next_is) is.letters_are;
+    passes = is.passes;
+  }
+
+  pub refuses : (size : B → ℕ) (letters : List (Letter B)) (cause : Stop) (start after : Ledger B) →
+      KeptBy size start → IsUnchanged start after → IsRefusal size start.sums.letters start.sums.bytes letters cause → IsRefused size letters cause start after
+  refuses size letters cause start after kept same is = record {
+    entries_are = same.entries_same;
+    told = told_by size letters cause start kept is;
+    kept = rw (same.entries_same, same.pool_same, same.sums_same) kept;
+  }
+
+  -- a prepared ledger, once its pool has only the packets from before
+  pub undone : (size : B → ℕ) (a : Actor) (letters : List (Letter B)) (start prepared after : Ledger B) (ready : Ready) → IsReady size a letters start prepared ready →
+      after.entries.items ≡ prepared.entries.items → after.pool.items ≡ take (length start.pool.items) prepared.pool.items → after.sums ≡ prepared.sums → IsUnchanged start after
+  undone size a letters start prepared after ready is entries_are pool_is sums_are = record {
+    entries_same = entries_are ∙ is.entries_same;
+    pool_same = pool_is ∙ ap (take (length start.pool.items)) is.pool_is ∙ take-append_seam start.pool.items _;
+    sums_same = sums_are ∙ is.sums_same;
+  }
+
   -- a ledger after an input
   takes : (size : B → ℕ) (start after : Ledger B) (step : Turn) (found : Option (Packet B)) →
       KeptBy size start → found ≡ found_in step start.pool.items → after.entries.items ≡ start.entries.items ++ entry_by step found ∷ [] →
@@ -72,21 +108,23 @@ module _ {B : Type 0} where
       ∙ append_assoc start.entries.items first (entry_by step found ∷ [])
       ∙ ap (λ e. start.entries.items ++ (first ++ e ∷ [])) entry
 
-  -- a ledger after a whole turn
-  pub record IsTurned (size : B → ℕ) (letters : List (Letter B)) (step : Turn) (start after : Ledger B) : Type 0 where
+  -- a ledger after a whole turn, and what its step found
+  pub record IsTurned (size : B → ℕ) (letters : List (Letter B)) (step : Turn) (start after : Ledger B) (found : Option (Packet B)) : Type 0 where
     pub entries_are : after.entries.items ≡ start.entries.items ++ turn_entries size letters step (past start.entries.items)
+    pub found_is : found ≡ found_in step (pool (posted size (turn_actor step) letters (past start.entries.items)))
     pub kept : KeptBy size after
 
   pub turns : (size : B → ℕ) (letters ready_letters : List (Letter B)) (step : Turn) (start prepared middle after : Ledger B) (ready : Ready) (found : Option (Packet B)) (a : Actor) (entry : JournalEntry B) →
       KeptBy size start → IsReady size (turn_actor step) ready_letters start prepared ready → ready_letters ≡ letters → a ≡ turn_actor step →
       middle.entries.items ≡ prepared.entries.items ++ post_of a prepared.sums.letters letters ready.lost → middle.pool.items ≡ prepared.pool.items → middle.sums ≡ ready.sums →
       found ≡ found_in step prepared.pool.items → entry ≡ entry_by step found →
-      after.entries.items ≡ middle.entries.items ++ entry ∷ [] → after.pool.items ≡ left_by entry middle.pool.items → after.sums ≡ middle.sums → IsTurned size letters step start after
+      after.entries.items ≡ middle.entries.items ++ entry ∷ [] → after.pool.items ≡ left_by entry middle.pool.items → after.sums ≡ middle.sums → IsTurned size letters step start after found
   turns size letters ready_letters step start prepared middle after ready found a entry kept is letters_are actor_is middle_is middle_pool middle_sums found_is entry_is after_is after_pool after_sums =
       let is_posted = posts size (turn_actor step) letters start prepared middle ready kept (rw letters_are at is) (rw actor_is at middle_is) middle_pool middle_sums in
       let found_now : found ≡ found_in step middle.pool.items = found_is ∙ ap (λ ps. found_in step ps) (sym middle_pool) in
       let entries_now : after.entries.items ≡ middle.entries.items ++ entry_by step found ∷ [] = after_is ∙ ap (λ e. middle.entries.items ++ e ∷ []) entry_is in
       record {
         entries_are = turn_adds size letters step start middle after found is_posted found_now entries_now;
+        found_is = found_now ∙ ap (λ ps. found_in step ps) (is_posted.kept.pool_is ∙ ap pool is_posted.past_is);
         kept = takes size middle after step found is_posted.kept found_now entries_now (after_pool ∙ ap (λ e. left_by e middle.pool.items) entry_is) after_sums;
       }

@@ -18,16 +18,12 @@ impl Actor {
     pub fn is(self, other: Actor) -> bool
         ensures { result ≡ same_actor self other }
     {
-        match (self, other) {
-            (Actor::Controller(a), Actor::Controller(b)) => a == b,
-            (Actor::Switch(a), Actor::Switch(b)) => a == b,
-            _ => false,
-        }
+        self == other
     }
 }
 
 /// An input that comes from outside the wire.
-#[derive(Clone, Drop)]
+#[derive(Drop)]
 pub enum Local {
     Frame { port: u32, bytes: Octets },
     Port { port: u32, up: bool },
@@ -35,6 +31,24 @@ pub enum Local {
     Suspect { view: u32 },
     Crash,
     Restart,
+}
+
+impl Clone for Local {
+    ghost is_clone = { λ local copied. copied ≡ local };
+
+    fn clone(&self) -> Result<Local, AllocError> {
+        match *self {
+            Local::Frame { port, ref bytes } => {
+                let bytes = bytes.copy()?;
+                Ok(Local::Frame { port, bytes })
+            }
+            Local::Port { port, up } => Ok(Local::Port { port, up }),
+            Local::Tick => Ok(Local::Tick),
+            Local::Suspect { view } => Ok(Local::Suspect { view }),
+            Local::Crash => Ok(Local::Crash),
+            Local::Restart => Ok(Local::Restart),
+        }
+    }
 }
 
 impl Local {
@@ -105,7 +119,7 @@ pub enum JournalEntry<B> {
 pub type Journal<B> = Items<JournalEntry<B>>;
 
 /// A step of a script: an actor draws a packet, or loses one, or takes a local input.
-#[derive(Clone, Drop)]
+#[derive(Drop)]
 pub enum Turn {
     Draw {
         actor: Actor,
@@ -120,6 +134,29 @@ pub enum Turn {
         actor: Actor,
         input: Local,
     },
+}
+
+impl Clone for Turn {
+    ghost is_clone = { λ turn copied. copied ≡ turn };
+
+    fn clone(&self) -> Result<Turn, AllocError> {
+        match *self {
+            Turn::Draw {
+                actor,
+                choice,
+                keep,
+            } => Ok(Turn::Draw {
+                actor,
+                choice,
+                keep,
+            }),
+            Turn::Lose { actor, choice } => Ok(Turn::Lose { actor, choice }),
+            Turn::Local { actor, ref input } => {
+                let input = input.clone()?;
+                Ok(Turn::Local { actor, input })
+            }
+        }
+    }
 }
 
 impl Turn {

@@ -1,8 +1,6 @@
 //! The parts of a wire, and the steps of a turn on them.
-ghost use Rattle.std.specs.Prelude.{◌≡◌, ◌<◌, ◌≤◌, ◌+◌, ◌-◌, ◌++◌, [], ◌∷◌, length, vec_len, vec_capacity, IfOk, IfErr, OnErr};
-ghost use Rattle.rv_base.specs.Limits.{letters_limit};
-ghost use Rattle.rv_base.specs.Pool.{fitting};
-ghost use Rattle.rv_base.specs.Orderly.{lost_of};
+ghost use Rattle.std.specs.Prelude.{◌≡◌, ◌<◌, ◌≤◌, ◌⊎◌, ◌+◌, ◌-◌, ◌++◌, [], ◌∷◌, length, vec_len, vec_capacity, true, false, IfOk, IfErr};
+ghost use Rattle.rv_base.specs.Limits.{letters_limit, bytes_limit};
 ghost use Rattle.rv_base.specs.Turns.{turn_actor};
 ghost use Rattle.rv_base.specs.Ledger.{post_of, found_in, entry_by, left_by, IsSummed, IsRefusal, IsUnchanged, IsReady};
 
@@ -33,6 +31,14 @@ pub struct Ledger<B> {
     pub sums: Sums,
 }
 
+/// Whether one of the two sums passes its limit.
+fn is_past_limit(bytes: u64, letters: u64) -> bool
+    ensures past { result ≡ true → (bytes_limit < bytes) ⊎ (letters_limit < letters) }
+    ensures within { result ≡ false → (bytes ≤ bytes_limit) × (letters ≤ letters_limit) }
+{
+    bytes > BYTES_LIMIT || letters > LETTERS_LIMIT
+}
+
 /// The sums with those of an outbox, where they pass no limit.
 fn sums_with<B: Weight>(sums: Sums, letters: &[Letter<B>]) -> Result<Sums, Stop>
     ensures ok { IfOk result (IsSummed B.size sums.letters sums.bytes letters.now) }
@@ -40,43 +46,21 @@ fn sums_with<B: Weight>(sums: Sums, letters: &[Letter<B>]) -> Result<Sums, Stop>
 {
     let bytes = sums.bytes.saturating_add(pool::letters_size(letters));
     let letters = sums.letters.saturating_add(letters.len() as u64);
-    if bytes > BYTES_LIMIT || letters > LETTERS_LIMIT {
+    if is_past_limit(bytes, letters) {
         return Err(Stop::JournalFull { bytes, letters });
     }
     Ok(Sums { letters, bytes })
-}
-
-/// Copies the letters that find room to the end of the pool, and tells how many are lost. An `Err`
-/// changes nothing.
-fn bring<B: Weight>(
-    pool: &mut Vec<Packet<B>>,
-    first: u64,
-    actor: Actor,
-    letters: &[Letter<B>],
-) -> Result<u64, AllocError>
-    requires { first + length letters.now ≤ letters_limit }
-    ensures lost { IfOk result (λ lost. lost ≡ lost_of B.size pool.old.items letters.now) }
-    ensures ok { IfOk result (λ lost. pool.new.items ≡ pool.old.items ++ fitting first actor letters.now lost) }
-    ensures err { OnErr result (pool.new.items ≡ pool.old.items) }
-{
-    let count = pool::count_fitting(pool, letters);
-    pool::append_copies(pool, first, actor, &letters[..count])?;
-    Ok((letters.len() - count) as u64)
 }
 
 /// A copy of the packet that a step finds.
 fn find<B: Weight>(pool: &[Packet<B>], step: &Turn) -> Result<Option<Packet<B>>, AllocError>
     ensures { IfOk result (λ found. found ≡ found_in step.now pool.now) }
 {
-    let picked = match step {
+    match step {
         Turn::Draw { actor, choice, .. } | Turn::Lose { actor, choice } => {
-            pool::pick(pool, *actor, *choice)
+            pool::copy(pool::pick(pool, *actor, *choice))
         }
-        Turn::Local { .. } => None,
-    };
-    match picked {
-        Some(packet) => Ok(Some(pool::copy(packet)?)),
-        None => Ok(None),
+        Turn::Local { .. } => Ok(None),
     }
 }
 
@@ -84,18 +68,23 @@ fn find<B: Weight>(pool: &[Packet<B>], step: &Turn) -> Result<Option<Packet<B>>,
 pub fn entry_by<B>(step: Turn, found: &Option<Packet<B>>) -> JournalEntry<B>
     ensures { result ≡ entry_by step found.now }
 {
-    match (step, found) {
-        (Turn::Draw { actor, keep, .. }, Some(packet)) => JournalEntry::Draw {
-            actor,
-            id: packet.id,
-            keep,
+    match step {
+        Turn::Draw { actor, keep, .. } => match found {
+            Some(packet) => JournalEntry::Draw {
+                actor,
+                id: packet.id,
+                keep,
+            },
+            None => JournalEntry::Idle { actor },
         },
-        (Turn::Lose { actor, .. }, Some(packet)) => JournalEntry::Lose {
-            actor,
-            id: packet.id,
+        Turn::Lose { actor, .. } => match found {
+            Some(packet) => JournalEntry::Lose {
+                actor,
+                id: packet.id,
+            },
+            None => JournalEntry::Idle { actor },
         },
-        (Turn::Draw { actor, .. } | Turn::Lose { actor, .. }, None) => JournalEntry::Idle { actor },
-        (Turn::Local { actor, input }, _) => JournalEntry::Local { actor, input },
+        Turn::Local { actor, input } => JournalEntry::Local { actor, input },
     }
 }
 
@@ -140,7 +129,9 @@ impl<B: Weight> Ledger<B> {
     {
         let sums = sums_with(self.sums, letters)?;
         self.entries.reserve(2)?;
-        let lost = bring(&mut self.pool, self.sums.letters, actor, letters)?;
+        let count = pool::count_fitting(&self.pool, letters);
+        pool::append_copies(&mut self.pool, self.sums.letters, actor, &letters[..count])?;
+        let lost = (letters.len() - count) as u64;
         Ok(Ready { lost, sums })
     }
 
@@ -158,9 +149,9 @@ impl<B: Weight> Ledger<B> {
         let ready = self.prepare(step.actor(), letters)?;
         match find(&self.pool, step) {
             Ok(found) => Ok((ready, found)),
-            Err(error) => {
+            Err(_) => {
                 self.pool.truncate(waiting);
-                Err(error.into())
+                Err(Stop::OutOfMemory)
             }
         }
     }

@@ -1,5 +1,5 @@
 //! A source and a sink in memory, some of whose calls fail.
-ghost use Rattle.std.specs.Prelude.{◌≡◌, ◌<◌, ◌+◌, ◌-◌, ◌^◌, ◌↔◌, [], length, min, take, IfOk, IsErr};
+ghost use Rattle.std.specs.Prelude.{◌≡◌, ◌<◌, ◌+◌, ◌-◌, ◌^◌, ◌↔◌, [], ◌++◌, length, min, take, IsTrue, IfOk, IfSome, IfNone, IsErr};
 ghost use Rattle.std.specs.List.{Contains};
 ghost use Rattle.std.specs.Io.{ReadsAtMost};
 ghost use Rattle.std.specs.Io.KnownBytes.{ReadConsumes, WriteAppends};
@@ -30,19 +30,16 @@ impl Calls {
         }
     }
 
-    /// Counts a call, and fails it where its number is among those that fail.
-    fn begin(&mut self) -> Result<(), Failed>
-        ensures failing { IsErr result ↔ Contains self.old.failing.items self.old.made }
-        ensures cause { HasCause self.old.faults self.new.faults result }
+    /// Counts a call, and tells whether its number is among those that fail.
+    fn next_fails(&mut self) -> bool
+        ensures failing { IsTrue result ↔ Contains self.old.failing.items self.old.made }
         ensures made { self.new.made ≡ min (self.old.made + 1) (2 ^ 64 - 1) }
+        ensures faults { self.new.faults ≡ self.old.faults }
         ensures kept { self.new.failing ≡ self.old.failing }
     {
         let fails = self.failing.contains(&self.made);
         self.made = self.made.saturating_add(1);
-        if fails {
-            return Err(raise(&mut self.faults));
-        }
-        Ok(())
+        fails
     }
 }
 
@@ -116,10 +113,28 @@ impl Source for MemorySource {
         ensures count { IfOk result (λ n. n ≡ min (min (length self.old.bytes) (length into.new)) self.old.most) }
         ensures called { IsCalled self.old self.new }
     {
-        self.calls.begin()?;
+        if self.calls.next_fails() {
+            return Err(raise(&mut self.calls.faults));
+        }
         let count = copy_front(&self.bytes.as_slice()[self.given..], into, self.most);
         self.given += count;
         Ok(count)
+    }
+}
+
+/// Appends as many bytes as there are, and at most so many, and tells how many. `None` appends
+/// none: there is no memory, or there are bytes and not one may be taken.
+fn append_front(from: &[u8], into: &mut Vec<u8>, most: usize) -> Option<usize>
+    ensures some { IfSome result (λ count. TakesSome count from.now × (count ≡ min (length from.now) most) × (into.new.items ≡ into.old.items ++ take count from.now)) }
+    ensures none { IfNone result (into.new.items ≡ into.old.items) }
+{
+    let count = from.len().min(most);
+    if count == 0 && !from.is_empty() {
+        return None;
+    }
+    match into.extend_from_slice(&from[..count]) {
+        Ok(()) => Some(count),
+        Err(_) => None,
     }
 }
 
@@ -182,12 +197,12 @@ impl Sink for MemorySink {
         ensures count { IfOk result (λ n. n ≡ min (length from.now) self.old.most) }
         ensures called { IsCalled self.old self.new }
     {
-        self.calls.begin()?;
-        let count = from.len().min(self.most);
-        let is_stuck = count == 0 && !from.is_empty();
-        if is_stuck || self.bytes.extend_from_slice(&from[..count]).is_err() {
+        if self.calls.next_fails() {
             return Err(raise(&mut self.calls.faults));
         }
-        Ok(count)
+        match append_front(from, &mut self.bytes, self.most) {
+            Some(count) => Ok(count),
+            None => Err(raise(&mut self.calls.faults)),
+        }
     }
 }

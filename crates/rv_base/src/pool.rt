@@ -1,5 +1,5 @@
 //! The packets that wait: who finds which, which letters find room, and copies of both.
-ghost use Rattle.std.specs.Prelude.{◌≡◌, ◌<◌, ◌≤◌, ◌+◌, ◌-◌, ◌^◌, ◌++◌, length, min, take, vec_len, vec_capacity, IfOk, OnOk, OnErr, option_copied};
+ghost use Rattle.std.specs.Prelude.{◌≡◌, ◌<◌, ◌≤◌, ◌+◌, ◌-◌, ◌^◌, ◌++◌, length, min, IfOk, OnOk, OnErr, option_copied};
 ghost use Rattle.rv_base.specs.Pool.{numbered, without, waiting, chosen, letter_bytes};
 ghost use Rattle.rv_base.specs.Orderly.{pool_bytes, fitting_count};
 
@@ -26,17 +26,20 @@ pub fn pick<B>(pool: &[Packet<B>], actor: Actor, choice: u64) -> Option<&Packet<
     pool.iter().filter(|packet| packet.to.is(actor)).nth(place)
 }
 
-/// An equal packet.
-pub fn copy<B: Weight>(packet: &Packet<B>) -> Result<Packet<B>, AllocError>
-    ensures { IfOk result (λ copied. copied ≡ packet.now) }
+/// An equal packet, if there is one.
+pub fn copy<B: Weight>(packet: Option<&Packet<B>>) -> Result<Option<Packet<B>>, AllocError>
+    ensures { IfOk result (λ copied. copied ≡ option_copied packet.entry) }
 {
+    let Some(packet) = packet else {
+        return Ok(None);
+    };
     let body = packet.body.copy()?;
-    Ok(Packet {
+    Ok(Some(Packet {
         id: packet.id,
         from: packet.from,
         to: packet.to,
         body,
-    })
+    }))
 }
 
 /// The bytes of the letters' bodies, stopped at the greatest number.
@@ -79,32 +82,6 @@ pub fn count_fitting<B: Weight>(pool: &[Packet<B>], letters: &[Letter<B>]) -> us
     letters.len()
 }
 
-/// Copies the letters to the end of the pool, where there is room. At an `Err` some are copied.
-fn push_copies<B: Weight>(
-    pool: &mut Vec<Packet<B>>,
-    first: u64,
-    actor: Actor,
-    letters: &[Letter<B>],
-) -> Result<(), AllocError>
-    requires room { vec_len pool.old + length letters.now ≤ vec_capacity pool.old }
-    requires small { first + length letters.now < 2 ^ 64 }
-    ensures ok { OnOk result (pool.new.items ≡ pool.old.items ++ numbered first actor letters.now) }
-    ensures err { OnErr result (take (length pool.old.items) pool.new.items ≡ pool.old.items) }
-{
-    let mut id = first;
-    for letter in letters {
-        let body = letter.body.copy()?;
-        pool.push_reserved(Packet {
-            id,
-            from: actor,
-            to: letter.to,
-            body,
-        });
-        id += 1;
-    }
-    Ok(())
-}
-
 /// Copies the letters to the end of the pool, numbered from `first` on. An `Err` changes nothing.
 pub fn append_copies<B: Weight>(
     pool: &mut Vec<Packet<B>>,
@@ -118,13 +95,23 @@ pub fn append_copies<B: Weight>(
 {
     pool.reserve(letters.len())?;
     let waiting = pool.len();
-    match push_copies(pool, first, actor, letters) {
-        Ok(()) => Ok(()),
-        Err(error) => {
-            pool.truncate(waiting);
-            Err(error)
+    let mut id = first;
+    for letter in letters {
+        match letter.body.copy() {
+            Ok(body) => pool.push_reserved(Packet {
+                id,
+                from: actor,
+                to: letter.to,
+                body,
+            }),
+            Err(error) => {
+                pool.truncate(waiting);
+                return Err(error);
+            }
         }
+        id += 1;
     }
+    Ok(())
 }
 
 /// Takes the packet of this number out of the pool.

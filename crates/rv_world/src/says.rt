@@ -13,9 +13,19 @@ pub enum Way {
 }
 
 /// A message of a way.
-#[derive(Clone, Drop)]
+#[derive(Drop)]
 pub enum Message {
     Of { xid: u32, message: Spoken },
+}
+
+impl Clone for Message {
+    ghost is_clone = { λ x y. y ≡ x };
+
+    fn clone(&self) -> Result<Message, AllocError> {
+        let Message::Of { xid, message } = self;
+        let message = message.copy()?;
+        Ok(Message::Of { xid: *xid, message })
+    }
 }
 
 /// What a body says: a message, or none, with the error that tells why and the body's beginning.

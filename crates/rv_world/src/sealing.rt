@@ -1,5 +1,6 @@
 //! Outboxes, sealed.
-ghost use Rattle.std.specs.Prelude.{◌≡◌, IfOk};
+ghost use Rattle.std.specs.Prelude.{◌≡◌, Some, IfOk};
+ghost use Rattle.rv_world.specs.declared.says.Message.{Message};
 ghost use Rattle.rv_world.specs.States.{switch_message, controller_message, sealed_letters};
 ghost use Rattle.rv_world.specs.World.{sealed_debt};
 
@@ -12,25 +13,33 @@ use rv_base::{Actor, Letter, Letters};
 use std::alloc::{AllocError, Global};
 use switch_core::SwitchSays;
 
-fn switch_message(says: &SwitchSays) -> Result<Message, AllocError>
-    ensures { IfOk result (λ message. message ≡ switch_message says.now) }
-{
-    match says {
-        SwitchSays::Of { xid, message } => {
-            let message = message.copy()?;
-            Ok(Message::Of { xid: *xid, message })
-        }
+/// What an actor says: a message.
+trait Says: Drop {
+    /// The message that it is.
+    ghost said: { Self → Message };
+
+    /// The message that it is.
+    fn message(&self) -> Result<Message, AllocError>
+        ensures { IfOk result (λ message. message ≡ said self.now) };
+}
+
+impl Says for SwitchSays {
+    ghost said = { switch_message };
+
+    fn message(&self) -> Result<Message, AllocError> {
+        let SwitchSays::Of { xid, message } = self;
+        let message = message.copy()?;
+        Ok(Message::Of { xid: *xid, message })
     }
 }
 
-fn controller_message(says: &ControllerSays) -> Result<Message, AllocError>
-    ensures { IfOk result (λ message. message ≡ controller_message says.now) }
-{
-    match says {
-        ControllerSays::Of { xid, message } => {
-            let message = message.copy()?;
-            Ok(Message::Of { xid: *xid, message })
-        }
+impl Says for ControllerSays {
+    ghost said = { controller_message };
+
+    fn message(&self) -> Result<Message, AllocError> {
+        let ControllerSays::Of { xid, message } = self;
+        let message = message.copy()?;
+        Ok(Message::Of { xid: *xid, message })
     }
 }
 
@@ -38,35 +47,21 @@ fn controller_message(says: &ControllerSays) -> Result<Message, AllocError>
 fn seal<B: Body>(alloc: Global, message: Message) -> Result<B, AllocError>
     ensures { IfOk result (λ body. body ≡ B.sealed message) }
 {
-    B::seal(alloc, &message)
+    let body = B::seal(alloc, &message);
+    drop(message);
+    body
 }
 
-fn switch_letters<B: Body>(
+/// Letters with their bodies sealed.
+fn sealed_letters<S: Says, B: Body>(
     alloc: Global,
-    letters: &[Letter<SwitchSays>],
+    letters: &[Letter<S>],
 ) -> Result<Letters<B>, AllocError>
-    ensures { IfOk result (λ sealed. sealed ≡ sealed_letters switch_message (record { sealed = B.sealed; spelled = B.spelled; size = B.size }) letters.now) }
+    ensures { IfOk result (λ sealed. sealed ≡ sealed_letters S.said (record { sealed = B.sealed; spelled = B.spelled; size = B.size }) letters.now) }
 {
     let mut sealed = Items::new(alloc);
     for letter in letters {
-        let body = seal(alloc, switch_message(&letter.body)?)?;
-        sealed.push(Letter {
-            to: letter.to,
-            body,
-        })?;
-    }
-    Ok(sealed)
-}
-
-fn controller_letters<B: Body>(
-    alloc: Global,
-    letters: &[Letter<ControllerSays>],
-) -> Result<Letters<B>, AllocError>
-    ensures { IfOk result (λ sealed. sealed ≡ sealed_letters controller_message (record { sealed = B.sealed; spelled = B.spelled; size = B.size }) letters.now) }
-{
-    let mut sealed = Items::new(alloc);
-    for letter in letters {
-        let body = seal(alloc, controller_message(&letter.body)?)?;
+        let body = seal(alloc, letter.body.message()?)?;
         sealed.push(Letter {
             to: letter.to,
             body,
@@ -76,6 +71,18 @@ fn controller_letters<B: Body>(
 }
 
 /// A debtor and its letters, sealed.
+fn sealed_for<S: Says, B: Body>(
+    alloc: Global,
+    actor: Actor,
+    letters: &[Letter<S>],
+) -> Result<Option<(Actor, Letters<B>)>, AllocError>
+    ensures { IfOk result (λ sealed. sealed ≡ Some (actor, sealed_letters S.said (record { sealed = B.sealed; spelled = B.spelled; size = B.size }) letters.now)) }
+{
+    let letters = sealed_letters(alloc, letters)?;
+    Ok(Some((actor, letters)))
+}
+
+/// Who owes, and its letters, sealed.
 pub fn sealed_debt<B: Body>(
     alloc: Global,
     debt: &Debt,
@@ -85,12 +92,10 @@ pub fn sealed_debt<B: Body>(
     match debt {
         Debt::Nothing => Ok(None),
         Debt::Controller { number, letters } => {
-            let letters = controller_letters(alloc, letters.as_slice())?;
-            Ok(Some((Actor::Controller(*number), letters)))
+            sealed_for(alloc, Actor::Controller(*number), letters.as_slice())
         }
         Debt::Switch { number, letters } => {
-            let letters = switch_letters(alloc, letters.as_slice())?;
-            Ok(Some((Actor::Switch(*number), letters)))
+            sealed_for(alloc, Actor::Switch(*number), letters.as_slice())
         }
     }
 }

@@ -104,20 +104,22 @@ pub fn take_local<B: Body>(
     }
 }
 
-fn switch_turn(switch: &mut Switch, input: &SwitchInput) -> Result<Letters<SwitchSays>, AllocError>
-    ensures { IfOk result (λ letters. Turned (switch_turn switch.old input.now) switch.new letters) }
+fn switch_turn(switch: &mut Switch, input: SwitchInput) -> Result<Letters<SwitchSays>, AllocError>
+    ensures { IfOk result (λ letters. Turned (switch_turn switch.old input) switch.new letters) }
 {
-    switch.turn(input)
+    let letters = switch.turn(&input);
+    drop(input);
+    letters
 }
 
 /// The switch of a number takes an input.
 fn switch_takes(
     switches: &mut Vec<Switch>,
     number: u8,
-    input: &SwitchInput,
+    input: SwitchInput,
 ) -> Result<Letters<SwitchSays>, AllocError>
     requires { number < length switches.old.items }
-    ensures { IfOk result (λ letters. TakesTurn (λ s. switch_turn s input.now) switches.old.items number switches.new.items letters) }
+    ensures { IfOk result (λ letters. TakesTurn (λ s. switch_turn s input) switches.old.items number switches.new.items letters) }
 {
     switch_turn(&mut switches[number as usize], input)
 }
@@ -131,8 +133,7 @@ pub fn switch_takes_local(
     requires { number < length switches.old.items }
     ensures { IfOk result (λ letters. TakesTurn (λ s. switch_turn s (switch_input.Local input.now)) switches.old.items number switches.new.items letters) }
 {
-    let input = SwitchInput::Local(input.copy()?);
-    switch_takes(switches, number, &input)
+    switch_takes(switches, number, SwitchInput::Local(input.copy()?))
 }
 
 /// What an unsealed body is for a switch.
@@ -142,13 +143,16 @@ fn heard_by_switch(alloc: Global, from: Actor, unsealed: Unsealed) -> SwitchInpu
     match unsealed {
         Unsealed::Message(Message::Of { xid, message }) => match from {
             Actor::Controller(from) => SwitchInput::Of { from, xid, message },
-            Actor::Switch(_) => SwitchInput::Malformed {
-                from,
-                kind: 0,
-                code: 0,
-                xid: 0,
-                head: Items::new(alloc),
-            },
+            Actor::Switch(_) => {
+                drop(message);
+                SwitchInput::Malformed {
+                    from,
+                    kind: 0,
+                    code: 0,
+                    xid: 0,
+                    head: Items::new(alloc),
+                }
+            }
         },
         Unsealed::Malformed {
             kind,
@@ -177,8 +181,8 @@ fn way_between(from: Actor, to: Actor) -> Way
 }
 
 /// What a packet is for a switch.
-fn hear_at_switch<B: Body>(alloc: Global, packet: &Packet<B>) -> Result<SwitchInput, AllocError>
-    ensures { IfOk result (λ input. input ≡ switch_hears packet.now.from (B.spelled (way_of packet.now.from packet.now.to) packet.now.body)) }
+fn hear_at_switch<B: Body>(alloc: Global, packet: Packet<B>) -> Result<SwitchInput, AllocError>
+    ensures { IfOk result (λ input. input ≡ switch_hears packet.from (B.spelled (way_of packet.from packet.to) packet.body)) }
 {
     let unsealed = packet
         .body
@@ -196,19 +200,20 @@ pub fn switch_takes_packet<B: Body>(
     requires { number < length switches.old.items }
     ensures { IfOk result (λ letters. TakesTurn (λ s. switch_turn s (switch_hears packet.from (B.spelled (way_of packet.from packet.to) packet.body))) switches.old.items number switches.new.items letters) }
 {
-    let heard = hear_at_switch(alloc, &packet)?;
-    switch_takes(switches, number, &heard)
+    switch_takes(switches, number, hear_at_switch(alloc, packet)?)
 }
 
 fn controller_turn(
     controller: &mut Controller,
     setup: &Setup,
-    input: &ControllerInput,
+    input: ControllerInput,
 ) -> Result<Letters<ControllerSays>, AllocError>
     requires { length setup.now.ports ≤ 256 }
-    ensures { IfOk result (λ letters. Worked (controller_work learning_alone setup.now controller.old input.now) controller.new letters) }
+    ensures { IfOk result (λ letters. Worked (controller_work learning_alone setup.now controller.old input) controller.new letters) }
 {
-    controller.turn(setup, input)
+    let letters = controller.turn(setup, &input);
+    drop(input);
+    letters
 }
 
 /// The controller of a number takes an input.
@@ -216,11 +221,11 @@ fn controller_takes(
     controllers: &mut Vec<Controller>,
     setup: &Setup,
     number: u8,
-    input: &ControllerInput,
+    input: ControllerInput,
 ) -> Result<Letters<ControllerSays>, AllocError>
     requires there { number < length controllers.old.items }
     requires few { length setup.now.ports ≤ 256 }
-    ensures { IfOk result (λ letters. Works (λ c. controller_work learning_alone setup.now c input.now) controllers.old.items number controllers.new.items letters) }
+    ensures { IfOk result (λ letters. Works (λ c. controller_work learning_alone setup.now c input) controllers.old.items number controllers.new.items letters) }
 {
     controller_turn(&mut controllers[number as usize], setup, input)
 }
@@ -237,7 +242,7 @@ pub fn controller_takes_local(
     ensures { IfOk result (λ letters. Works (λ c. controller_work learning_alone setup.now c (controller_input.Local input.now)) controllers.old.items number controllers.new.items letters) }
 {
     let input = ControllerInput::Local(input.copy()?);
-    controller_takes(controllers, setup, number, &input)
+    controller_takes(controllers, setup, number, input)
 }
 
 /// What an unsealed body is for a controller.
@@ -251,18 +256,24 @@ fn heard_by_controller(from: Actor, unsealed: Unsealed) -> ControllerInput
                 xid,
                 message,
             },
-            Actor::Controller(_) => ControllerInput::Malformed { from },
+            Actor::Controller(_) => {
+                drop(message);
+                ControllerInput::Malformed { from }
+            }
         },
-        Unsealed::Malformed { .. } => ControllerInput::Malformed { from },
+        Unsealed::Malformed { head, .. } => {
+            drop(head);
+            ControllerInput::Malformed { from }
+        }
     }
 }
 
 /// What a packet is for a controller.
 fn hear_at_controller<B: Body>(
     alloc: Global,
-    packet: &Packet<B>,
+    packet: Packet<B>,
 ) -> Result<ControllerInput, AllocError>
-    ensures { IfOk result (λ input. input ≡ controller_hears packet.now.from (B.spelled (way_of packet.now.from packet.now.to) packet.now.body)) }
+    ensures { IfOk result (λ input. input ≡ controller_hears packet.from (B.spelled (way_of packet.from packet.to) packet.body)) }
 {
     let unsealed = packet
         .body
@@ -282,8 +293,8 @@ pub fn controller_takes_packet<B: Body>(
     requires few { length setup.now.ports ≤ 256 }
     ensures { IfOk result (λ letters. Works (λ c. controller_work learning_alone setup.now c (controller_hears packet.from (B.spelled (way_of packet.from packet.to) packet.body))) controllers.old.items number controllers.new.items letters) }
 {
-    let heard = hear_at_controller(alloc, &packet)?;
-    controller_takes(controllers, setup, number, &heard)
+    let heard = hear_at_controller(alloc, packet)?;
+    controller_takes(controllers, setup, number, heard)
 }
 
 /// The controllers of a group as they start.

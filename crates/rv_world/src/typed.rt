@@ -28,7 +28,8 @@ impl Weight for Typed {
     }
 
     fn copy(&self) -> Result<Typed, AllocError> {
-        self.clone()
+        let message = self.message.copy()?;
+        Ok(Typed { message })
     }
 }
 

@@ -1,8 +1,9 @@
 //! Reading a scenario.
-ghost use Rattle.std.specs.Prelude.{◌≡◌, ◌≤◌, [], ◌∷◌, Ok, IfOk, IfErr, IfSome, option_map};
+ghost use Rattle.std.specs.Prelude.{◌≡◌, ◌≤◌, ◌==◌, ◌&&◌, [], ◌∷◌, Ok, IfOk, IfErr, IfSome, option_map, option_and_then};
+ghost use Rattle.serde_json.specs.Find.{as_array};
 ghost use Rattle.serde_json.specs.Read.{read};
 ghost use Rattle.serde_json.specs.View.{view, members_view};
-ghost use Rattle.scenario.specs.Scenario.{hex_digit, hex_byte, from_hex, number_at, text_at, count_members, has_members, frame_step, step_of, steps_of, ports_of, scenario_from, text_of, scenario_of, one_switch, IsFrame, IsScript, IsPlayable, IsRefusal};
+ghost use Rattle.scenario.specs.Scenario.{is_within, hex_digit, hex_byte, from_hex, number_at, text_at, count_members, has_members, frame_step, step_of, steps_of, only_in, ports_of, scenario_from, text_of, scenario_of, one_switch, IsFrame, IsScript, IsPlayable, IsRefusal};
 ghost use Rattle.rv_base.specs.Turns.{turn_actor};
 ghost use Rattle.rv_base.specs.declared.journal.Actor.TheVariants as actor;
 
@@ -90,6 +91,13 @@ fn from_hex(alloc: Global, text: &str) -> Result<Option<Octets>, AllocError>
     }
 }
 
+/// Whether these are the switch, the port and the length of a frame at a port of the only switch.
+fn is_frame(ports: u32, switch: u64, port: u64, length: usize) -> bool
+    ensures { result ≡ (switch == 0 && is_within 1 port ports && is_within 14 length 1514) }
+{
+    switch == 0 && (1..=u64::from(ports)).contains(&port) && (14..=1514).contains(&length)
+}
+
 /// A frame at a port of the only switch.
 fn frame_step(alloc: Global, ports: u32, step: &Value) -> Result<Option<Turn>, AllocError>
     ensures exact { IfOk result (λ found. found ≡ frame_step ports (view step.now)) }
@@ -105,11 +113,7 @@ fn frame_step(alloc: Global, ports: u32, step: &Value) -> Result<Option<Turn>, A
     let Some(bytes) = from_hex(alloc, text)? else {
         return Ok(None);
     };
-    if has_members(4, step)
-        && switch == 0
-        && (1..=u64::from(ports)).contains(&port)
-        && (14..=1514).contains(&bytes.len())
-    {
+    if has_members(4, step) && is_frame(ports, switch, port, bytes.len()) {
         let input = Local::Frame {
             port: port as u32,
             bytes,
@@ -162,17 +166,33 @@ fn one_step(alloc: Global, ports: u32, step: &Value) -> Result<Option<Steps>, Al
     Ok(Some(steps))
 }
 
-/// The ports of the only switch.
+/// Whether a switch may have so many ports.
+fn are_ports(ports: u64) -> bool
+    ensures { result ≡ is_within 1 ports 48 }
+{
+    (1..=48).contains(&ports)
+}
+
+/// The value of a list of one.
 #[tactic(auto, using(crate::proofs::Members::only_in_two))]
+fn only_in(list: &Value) -> Option<&Value>
+    ensures { option_map (λ value. view value.now) result ≡ option_and_then only_in (as_array (view list.now)) }
+{
+    match list.as_array()?.as_slice() {
+        [] => None,
+        [value] => Some(value),
+        _ => None,
+    }
+}
+
+/// The ports of the only switch.
 fn ports_of(switches: &Value) -> Option<u32>
     ensures exact { result ≡ ports_of (view switches.now) }
     ensures within { IfSome result (λ ports. (1 ≤ ports) × (ports ≤ 48)) }
 {
-    let [switch] = switches.as_array()?.as_slice() else {
-        return None;
-    };
+    let switch = only_in(switches)?;
     let ports = number_at("ports", switch)?;
-    if has_members(1, switch) && (1..=48).contains(&ports) {
+    if has_members(1, switch) && are_ports(ports) {
         Some(ports as u32)
     } else {
         None

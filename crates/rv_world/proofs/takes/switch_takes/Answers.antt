@@ -22,4 +22,4 @@ turned_at turn before number old new (Ok letters) old_is turned = record {
     same s found = old_is ∙ get_or_from_slice_get before number s old found
 
 pub returns : goal.returns
-returns c = turned_at (λ s. switch_turn s c.args.input.now) _ _ _ _ _ c.index_mut.ensures.value c.switch_turn.ensures
+returns c = turned_at (λ s. switch_turn s c.args.input) _ _ _ _ _ c.index_mut.ensures.value c.switch_turn.ensures

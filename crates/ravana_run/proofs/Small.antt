@@ -44,7 +44,7 @@ use Rattle.rv_safety.specs.Room.{switch_brings, event_brings, events_made, HasRo
 use Rattle.rv_safety.proofs.Decided.{decided_up}
 use Rattle.scenario.specs.Scenario.{IsFrame, IsScript}
 use Rattle.ravana_run.specs.Play.{HasPlayed}
-use Rattle.ravana_run.specs.Shows.{scene_typed}
+use Rattle.rv_record.specs.Shows.{scene_typed}
 use Rattle.ravana_run.proofs.Playing.{front_is, rest_is}
 
 -- a switch that has the table-miss row alone, after a frame

@@ -12,7 +12,7 @@ use Rattle.report.specs.declared.record.Record.{Record}
 use Rattle.report.specs.Report.{text}
 use Rattle.ravana_run.specs.declared.ending.Ending.{Ending}
 use Rattle.ravana_run.specs.declared.ending.Ending.TheVariants.{Report, Usage, Refused, Unread, Overfull, Unposted}
-use Rattle.ravana_run.specs.Shows.{Shows, typed_bytes}
+use Rattle.rv_record.specs.Shows.{Shows, typed_bytes}
 use Rattle.ravana_run.specs.Outcome.{usage_line, fault_line, unread_line, overfull_line, unposted_line, scene_for, IsRun, IsCutShort}
 
 abbrev pub ending_status : Ending → ℕ

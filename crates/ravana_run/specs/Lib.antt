@@ -1,4 +1,3 @@
-pub mod Shows
 pub mod Play
 pub mod Outcome
 pub mod Ending

@@ -19,7 +19,7 @@ use Rattle.scenario.specs.declared.scenario.Scenario.{Scenario}
 use Rattle.scenario.specs.Scenario.{scenario_of, scenario_limit}
 use Rattle.report.specs.Report.{text, line, number, newline}
 use Rattle.report.specs.declared.record.Record.{Record}
-use Rattle.ravana_run.specs.Shows.{Shows, scene_typed, typed_bytes}
+use Rattle.rv_record.specs.Shows.{Shows, scene_typed, typed_bytes}
 
 -- a claim on what is read and written, where both ends tell it: what the source had left at first, what
 -- it has left at the end, and what the sink took

@@ -3,7 +3,6 @@
 
 mod ending;
 mod sim;
-mod telling;
 #[cfg(test)]
 mod tests;
 mod top;

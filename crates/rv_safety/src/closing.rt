@@ -189,7 +189,7 @@ fn suspect<B: Body>(world: &mut World<B>) -> Result<Option<LogFull>, Stop>
 
 /// Brings a world of one controller, which takes part, to rest: what waits is lost, the controller starts a
 /// new view, and what it and the switches then say is drawn until nothing waits, or until a proposal meets
-/// the limit of the log.
+/// the limit of the log. Where memory is wanting, nothing is told of the world but its setup.
 pub fn run<B: Body>(world: &mut World<B>) -> Result<Closed, Stop>
     requires whole { world.old.whole ≡ true }
     requires one { world.old.setup.controllers ≡ 1 }

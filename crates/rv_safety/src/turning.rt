@@ -10,7 +10,8 @@ ghost use Rattle.rv_safety.specs.Closing.{TurnStopsAt};
 use rv_base::{Stop, Turn};
 use rv_world::{Body, World};
 
-/// Takes a turn, and posts its outbox. At a full journal the outbox stays unposted.
+/// Takes a turn, and posts its outbox. At a full journal the outbox stays unposted. Where memory is
+/// wanting, nothing is told of the world but its setup.
 pub fn take_turn<B: Body>(world: &mut World<B>, turn: &Turn) -> Result<(), Stop>
     requires whole { world.old.whole ≡ true }
     requires rests { world.old.owes ≡ false }

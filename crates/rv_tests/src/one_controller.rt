@@ -7,7 +7,7 @@ use std::alloc::{AllocError, Global};
 use std::test::Fail;
 
 /// One controller, and one switch of two ports.
-fn setup(alloc: Global) -> Result<Setup, AllocError>
+pub(crate) fn setup(alloc: Global) -> Result<Setup, AllocError>
     ensures controllers { IfOk result (λ setup. setup.controllers ≡ 1) }
     ensures ports { IfOk result (λ setup. setup.ports ≡ 2 ∷ []) }
     ensures links { IfOk result (λ setup. setup.links ≡ []) }

@@ -5,7 +5,7 @@ use Rattle.rv_base.specs.Pool.{past}
 use Rattle.rv_world.specs.Schedule.{IsPosted}
 use Rattle.rv_world.proofs.Following.{step_taken}
 use Rattle.rv_safety.specs.Closing.{TurnStopsAt}
-use Rattle.ravana_run.specs.Shows.{scene_typed}
+use Rattle.rv_record.specs.Shows.{scene_typed}
 use Rattle.ravana_run.proofs.Playing.{step_at, step_cut}
 use Rattle.ravana_run.proofs.sim.do_steps.Goals as goal
 

@@ -1,7 +1,7 @@
 use Rattle.std.proofs.Common.{◌≡◌, true, false}
 use Rattle.rv_base.specs.Pool.{past}
 use Rattle.rv_world.proofs.Following.{HasTaken}
-use Rattle.ravana_run.specs.Shows.{scene_typed}
+use Rattle.rv_record.specs.Shows.{scene_typed}
 use Rattle.ravana_run.proofs.sim.do_steps.Given as goal
 
 abbrev pub invariant-loop-step : goal.invariant-loop-step

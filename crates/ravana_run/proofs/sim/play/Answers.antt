@@ -4,7 +4,7 @@ use Rattle.of_types.specs.declared.setup.Setup.{Setup}
 use Rattle.rv_base.specs.Pool.{past}
 use Rattle.rv_world.specs.Committed.{controller_state}
 use Rattle.rv_safety.specs.Closing.{IsReady, ClosingStops}
-use Rattle.ravana_run.specs.Shows.{scene_typed}
+use Rattle.rv_record.specs.Shows.{scene_typed}
 use Rattle.ravana_run.proofs.Playing.{script_ready, closing_cut}
 use Rattle.ravana_run.proofs.sim.play.Goals as goal
 

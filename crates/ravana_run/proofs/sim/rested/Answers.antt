@@ -3,7 +3,7 @@ use Rattle.of_types.specs.declared.setup.Setup.{Setup}
 use Rattle.rv_safety.specs.declared.closing.Closed.{Closed}
 use Rattle.rv_safety.specs.Closing.{answer_of}
 use Rattle.ravana_run.specs.Play.{HasPlayed}
-use Rattle.ravana_run.specs.Shows.{scene_typed}
+use Rattle.rv_record.specs.Shows.{scene_typed}
 use Rattle.ravana_run.proofs.Small.{closes_behind, played_room}
 use Rattle.ravana_run.proofs.sim.rested.Goals as goal
 

@@ -221,41 +221,6 @@ const BODIES: &[(&str, &str)] = &[
     ),
 ];
 
-const DIGITS: [char; 16] = [
-    '0', '1', '2', '3', '4', '5', '6', '7', '8', '9', 'a', 'b', 'c', 'd', 'e', 'f',
-];
-
-/// Bytes as a word of digits.
-fn word(alloc: Global, bytes: &[u8]) -> Result<String, AllocError> {
-    let mut text = String::new(alloc);
-    for byte in bytes {
-        text.push(DIGITS[usize::from(byte / 16)])?;
-        text.push(DIGITS[usize::from(byte % 16)])?;
-    }
-    Ok(text)
-}
-
-fn digit(code: u8) -> u8
-    ensures { result ≤ 15 }
-{
-    match code {
-        b'0'..=b'9' => code - b'0',
-        b'a'..=b'f' => code - b'a' + 10,
-        _ => 0,
-    }
-}
-
-/// The bytes of a word of digits.
-fn bytes_of(alloc: Global, word: &str) -> Result<Octets, AllocError> {
-    let mut bytes = Octets::new(alloc);
-    for pair in word.as_bytes().chunks(2) {
-        if let [high, low] = pair {
-            bytes.append(&[16 * digit(*high) + digit(*low)])?;
-        }
-    }
-    Ok(bytes)
-}
-
 fn refused(alloc: Global, fault: OfFault, number: u32) -> Result<String, AllocError> {
     match fault {
         OfFault::Wire { kind, code, .. } => format!(in alloc; "fault {kind} {code} {number}"),
@@ -266,8 +231,8 @@ fn refused(alloc: Global, fault: OfFault, number: u32) -> Result<String, AllocEr
 /// What is said, in its canonical form.
 fn told(alloc: Global, xid: u32, said: &Spoken) -> Result<String, AllocError> {
     let bytes = canonical(alloc, xid, said)?;
-    let hex = word(alloc, bytes.as_slice())?;
-    format!(in alloc; "ok {xid} {hex}")
+    let word = hex::encode(alloc, bytes.as_slice())?;
+    format!(in alloc; "ok {xid} {word}")
 }
 
 fn told_extension(alloc: Global, xid: u32, body: &[u8]) -> Result<String, AllocError> {
@@ -300,14 +265,8 @@ fn answer(alloc: Global, frame: &[u8]) -> Result<String, AllocError> {
     }
 }
 
-fn message_answer(alloc: Global, hex: &str) -> Result<String, AllocError> {
-    let bytes = bytes_of(alloc, hex)?;
-    answer(alloc, bytes.as_slice())
-}
-
-fn match_answer(alloc: Global, hex: &str) -> Result<String, AllocError> {
-    let bytes = bytes_of(alloc, hex)?;
-    match read_match(bytes.as_slice()) {
+fn match_answer(alloc: Global, bytes: &[u8]) -> Result<String, AllocError> {
+    match read_match(bytes) {
         Ok((matching, taken)) => told_match(alloc, &matching, taken),
         Err(fault) => format!(in alloc; "fault {fault:?}"),
     }
@@ -317,19 +276,18 @@ fn match_answer(alloc: Global, hex: &str) -> Result<String, AllocError> {
 fn told_match(alloc: Global, matching: &Match, taken: usize) -> Result<String, AllocError> {
     let mut out = Octets::new(alloc);
     write_match(alloc, matching, &mut out)?;
-    let hex = word(alloc, out.as_slice())?;
-    format!(in alloc; "ok {taken} {hex}")
+    let word = hex::encode(alloc, out.as_slice())?;
+    format!(in alloc; "ok {taken} {word}")
 }
 
 fn told_body(alloc: Global, said: &Extension) -> Result<String, AllocError> {
     let bytes = encode_extension(alloc, said)?;
-    let hex = word(alloc, bytes.as_slice())?;
-    format!(in alloc; "ok {hex}")
+    let word = hex::encode(alloc, bytes.as_slice())?;
+    format!(in alloc; "ok {word}")
 }
 
-fn body_answer(alloc: Global, hex: &str) -> Result<String, AllocError> {
-    let body = bytes_of(alloc, hex)?;
-    match decode_extension(alloc, body.as_slice()) {
+fn body_answer(alloc: Global, body: &[u8]) -> Result<String, AllocError> {
+    match decode_extension(alloc, body) {
         Ok(said) => told_body(alloc, &said),
         Err(OfFault::Wire { kind, code, .. }) => format!(in alloc; "fault {kind} {code}"),
         Err(OfFault::OutOfMemory) => format!(in alloc; "out of memory"),
@@ -338,24 +296,33 @@ fn body_answer(alloc: Global, hex: &str) -> Result<String, AllocError> {
 
 #[test]
 fn messages(rt: HostRuntime) -> Result<(), Fail> {
-    for (hex, expected) in MESSAGES {
-        assert_eq!(rt; message_answer(rt.alloc(), hex)?.as_str(), *expected);
+    for (word, expected) in MESSAGES {
+        let bytes = hex::decode(rt.alloc(), *word)?;
+        assert_eq!(rt; answer(rt.alloc(), bytes.as_slice())?.as_str(), *expected);
     }
     Ok(())
 }
 
 #[test]
 fn matches(rt: HostRuntime) -> Result<(), Fail> {
-    for (hex, expected) in MATCHES {
-        assert_eq!(rt; match_answer(rt.alloc(), hex)?.as_str(), *expected);
+    for (word, expected) in MATCHES {
+        let bytes = hex::decode(rt.alloc(), *word)?;
+        assert_eq!(rt;
+            match_answer(rt.alloc(), bytes.as_slice())?.as_str(),
+            *expected
+        );
     }
     Ok(())
 }
 
 #[test]
 fn bodies(rt: HostRuntime) -> Result<(), Fail> {
-    for (hex, expected) in BODIES {
-        assert_eq!(rt; body_answer(rt.alloc(), hex)?.as_str(), *expected);
+    for (word, expected) in BODIES {
+        let bytes = hex::decode(rt.alloc(), *word)?;
+        assert_eq!(rt;
+            body_answer(rt.alloc(), bytes.as_slice())?.as_str(),
+            *expected
+        );
     }
     Ok(())
 }
@@ -384,7 +351,7 @@ fn command(alloc: Global) -> Result<Extension, AllocError> {
 
 fn written(alloc: Global, said: &Spoken) -> Result<String, AllocError> {
     let bytes = canonical(alloc, 0, said)?;
-    word(alloc, bytes.as_slice())
+    hex::encode(alloc, bytes.as_slice())
 }
 
 fn read_again(alloc: Global, said: &Spoken) -> Result<String, AllocError> {
@@ -472,14 +439,14 @@ fn ravana_vectors(rt: HostRuntime) -> Result<(), Fail> {
 fn told_arrival(alloc: Global) -> Result<String, AllocError> {
     let what = Happening::PacketIn(packet_in(alloc)?);
     let bytes = canonical_happening(alloc, &what)?;
-    word(alloc, bytes.as_slice())
+    hex::encode(alloc, bytes.as_slice())
 }
 
 /// The message that a command holds.
 fn told_change(alloc: Global) -> Result<String, AllocError> {
     let order = Order::FlowMod(flow_mod(alloc)?);
     let bytes = canonical_order(alloc, &order)?;
-    word(alloc, bytes.as_slice())
+    hex::encode(alloc, bytes.as_slice())
 }
 
 #[test]

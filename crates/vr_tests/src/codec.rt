@@ -82,48 +82,13 @@ const MESSAGES: &[(&str, &str)] = &[
     ("0600000000000000000000000000001001", "fault BadLength"),
 ];
 
-const DIGITS: [char; 16] = [
-    '0', '1', '2', '3', '4', '5', '6', '7', '8', '9', 'a', 'b', 'c', 'd', 'e', 'f',
-];
-
-/// Bytes as a word of digits.
-fn word(alloc: Global, bytes: &[u8]) -> Result<String, AllocError> {
-    let mut text = String::new(alloc);
-    for byte in bytes {
-        text.push(DIGITS[usize::from(byte / 16)])?;
-        text.push(DIGITS[usize::from(byte % 16)])?;
-    }
-    Ok(text)
-}
-
-fn digit(code: u8) -> u8
-    ensures { result ≤ 15 }
-{
-    match code {
-        b'0'..=b'9' => code - b'0',
-        b'a'..=b'f' => code - b'a' + 10,
-        _ => 0,
-    }
-}
-
-/// The bytes of a word of digits.
-fn bytes_of(alloc: Global, word: &str) -> Result<Octets, AllocError> {
-    let mut bytes = Octets::new(alloc);
-    for pair in word.as_bytes().chunks(2) {
-        if let [high, low] = pair {
-            bytes.append(&[16 * digit(*high) + digit(*low)])?;
-        }
-    }
-    Ok(bytes)
-}
-
 /// The answer to a message: what it says is told in its canonical form.
 fn answer(alloc: Global, bytes: &[u8]) -> Result<String, AllocError> {
     match decode_vr(alloc, bytes) {
         Ok(message) => {
             let again = encode_vr(alloc, &message)?;
-            let hex = word(alloc, again.as_slice())?;
-            format!(in alloc; "ok {hex}")
+            let word = hex::encode(alloc, again.as_slice())?;
+            format!(in alloc; "ok {word}")
         }
         Err(VrFault::Refused(refusal)) => format!(in alloc; "fault {refusal:?}"),
         Err(VrFault::OutOfMemory) => format!(in alloc; "out of memory"),
@@ -133,8 +98,8 @@ fn answer(alloc: Global, bytes: &[u8]) -> Result<String, AllocError> {
 #[test]
 fn table(rt: HostRuntime) -> Result<(), Fail> {
     let alloc = rt.alloc();
-    for (hex, expected) in MESSAGES {
-        let bytes = bytes_of(alloc, hex)?;
+    for (word, expected) in MESSAGES {
+        let bytes = hex::decode(alloc, *word)?;
         assert_eq!(rt; answer(alloc, bytes.as_slice())?.as_str(), *expected);
     }
     Ok(())
@@ -146,7 +111,7 @@ fn vector(rt: HostRuntime) -> Result<(), Fail> {
     let alloc = rt.alloc();
     let bytes = encode_vr(alloc, &VrMessage::Commit { view: 0, commit: 0 })?;
     assert_eq!(rt;
-        word(alloc, bytes.as_slice())?.as_str(),
+        hex::encode(alloc, bytes.as_slice())?.as_str(),
         "03000000000000000000000000"
     );
     let read = decode_vr(alloc, bytes.as_slice());

@@ -13,23 +13,12 @@ mod told;
 
 use crate::bare::bare;
 use crate::told::told_all;
-use controller_core::Entry;
 use of_types::Items;
 use report::Record;
 use rv_base::JournalEntry;
 use rv_safety::committed_log;
 use rv_world::{Typed, World};
 use std::alloc::{AllocError, Global};
-
-fn copy_log(alloc: Global, log: &[Entry]) -> Result<Items<Entry>, AllocError>
-    ensures { IfOk result (λ copied. copied ≡ log.now) }
-{
-    let mut copied = Items::new(alloc);
-    for entry in log {
-        copied.push(entry.copy()?)?;
-    }
-    Ok(copied)
-}
 
 /// How many turns entries are: suspicions and draws.
 fn count_turns(entries: &[JournalEntry<Typed>]) -> u64
@@ -57,7 +46,8 @@ fn is_turn(entry: &JournalEntry<Typed>) -> bool
     }
 }
 
-/// The record of a run whose script had so many steps and made so many entries.
+/// The record of a world of one controller that takes part. Its script had so many steps and made the
+/// first `script` entries of the journal. An `Err` is want of memory.
 pub fn record_of(
     alloc: Global,
     world: &World<Typed>,
@@ -74,7 +64,7 @@ pub fn record_of(
     let entries = world.journal();
     let setup = world.setup().copy()?;
     let journal = bare(alloc, entries)?;
-    let log = copy_log(alloc, world.controller(0).committed())?;
+    let log = Items::from_vec(world.controller(0).committed().to_vec(alloc)?);
     let switches = told_all(alloc, world)?;
     Ok(Record {
         setup,

@@ -5,31 +5,11 @@ ghost use Rattle.controller_core.specs.Rules.{numbers_below};
 ghost use Rattle.rv_world.specs.Committed.{switch_state};
 ghost use Rattle.rv_record.specs.Shows.{shown_row, told_of, scene_typed};
 
-use of_types::{Event, Executed, Items, Row};
+use of_types::{Items, Row};
 use report::{Shown, Told};
 use rv_world::{Typed, World};
 use std::alloc::{AllocError, Global};
 use switch_core::Switch;
-
-fn copy_events(alloc: Global, events: &[Event]) -> Result<Items<Event>, AllocError>
-    ensures { IfOk result (λ copied. copied ≡ events.now) }
-{
-    let mut copied = Items::new(alloc);
-    for event in events {
-        copied.push(event.copy()?)?;
-    }
-    Ok(copied)
-}
-
-fn copy_executed(alloc: Global, executed: &[Executed]) -> Result<Items<Executed>, AllocError>
-    ensures { IfOk result (λ copied. copied ≡ executed.now) }
-{
-    let mut copied = Items::new(alloc);
-    for command in executed {
-        copied.push(command.copy()?)?;
-    }
-    Ok(copied)
-}
 
 /// A row without its cookie.
 fn shown_row(row: &Row) -> Result<Shown, AllocError>
@@ -57,8 +37,8 @@ fn shown_rows(alloc: Global, rows: &[Row]) -> Result<Items<Shown>, AllocError>
 fn told_of(alloc: Global, switch: &Switch) -> Result<Told, AllocError>
     ensures { IfOk result (λ told. told ≡ told_of switch.now) }
 {
-    let events = copy_events(alloc, switch.events())?;
-    let executed = copy_executed(alloc, switch.executed())?;
+    let events = Items::from_vec(switch.events().to_vec(alloc)?);
+    let executed = Items::from_vec(switch.executed().to_vec(alloc)?);
     let rows = shown_rows(alloc, switch.rows())?;
     Ok(Told {
         generation: switch.generation(),

@@ -29,8 +29,8 @@ fn frame(alloc: Global) -> Result<Turn, AllocError>
     })
 }
 
-/// The controller takes part, and no view was begun yet.
-fn assert_at_first_view(rt: &impl Abort, controller: &Controller)
+/// The controller takes part, and is still in view 0.
+fn assert_in_view_0(rt: &impl Abort, controller: &Controller)
     ensures up { is_up controller.now.status ≡ true }
     ensures view { controller.now.view ≡ 0 }
     ensures promise { controller.now.promise ≡ 0 }
@@ -40,7 +40,7 @@ fn assert_at_first_view(rt: &impl Abort, controller: &Controller)
     assert!(rt; controller.promise() == 0);
 }
 
-/// Brings a world to rest whose controller is at its first view.
+/// Brings a world to rest whose controller is still in view 0.
 fn bring_to_rest(rt: &impl Abort, world: &mut World<Typed>) -> Result<(), Stop>
     requires whole { world.old.whole ≡ true }
     requires one { world.old.setup.controllers ≡ 1 }
@@ -48,7 +48,7 @@ fn bring_to_rest(rt: &impl Abort, world: &mut World<Typed>) -> Result<(), Stop>
     ensures whole { OnOk result (world.new.whole ≡ true) }
     ensures up { OnOk result (is_up (controller_state (scene_typed world.old.setup) [] 0 (past world.new.journal)).status ≡ true) }
 {
-    assert_at_first_view(rt, world.controller(0));
+    assert_in_view_0(rt, world.controller(0));
     closing::run(world)?;
     Ok(())
 }

@@ -1,6 +1,7 @@
 -- A world with nothing in its journal.
 use Rattle.std.proofs.Common.{◌≡◌, ◌<◌, ℕ, ◌+◌, List, [], ◌∷◌, ◌++◌, length, inl, inr, ◌⊎◌, zero, suc, refl, sym, ◌∙◌, ap, subst, arith, length-append, zero-add, add-zero, add-one}
 use Rattle.std.specs.Prelude.{map, slice_get, slice_index_or, Option, Some, None, nat_eq, if◌then◌else◌}
+use Rattle.std.proofs.lemmas.List.{map-append}
 use Rattle.std.proofs.lemmas.Option.{slice_get-map}
 use Rattle.of_types.specs.declared.setup.Setup.{Setup}
 use Rattle.switch_core.specs.State.{SwitchState, starting_switch}
@@ -43,6 +44,9 @@ slice_get-numbers_below (suc n) c lt =
 
 pub slice_get-map_numbers : {A : Type 0} (f : ℕ → A) (n c : ℕ) → c < n → slice_get (map f (numbers_below n)) c ≡ Some (f c)
 slice_get-map_numbers f n c lt = slice_get-map f (numbers_below n) c ∙ rw (slice_get-numbers_below n c lt) refl
+
+pub map_next : {A : Type 0} (f : ℕ → A) (n : ℕ) → map f (numbers_below (n + 1)) ≡ map f (numbers_below n) ++ f n ∷ []
+map_next f n = rw (add-one, map-append) refl
 
 suc_plus : (a b : ℕ) → a + 1 + b ≡ a + suc b
 suc_plus a b = omega arith

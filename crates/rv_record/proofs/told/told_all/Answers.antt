@@ -3,8 +3,8 @@ use Rattle.std.specs.Prelude.{map}
 use Rattle.rv_base.specs.Pool.{past}
 use Rattle.controller_core.specs.Rules.{numbers_below}
 use Rattle.rv_world.specs.Committed.{switch_state}
+use Rattle.rv_world.proofs.Starts.{map_next}
 use Rattle.rv_record.specs.Shows.{told_of, scene_typed}
-use Rattle.rv_record.proofs.Numbers.{map_next}
 use Rattle.rv_record.proofs.told.told_all.Goals as goal
 
 pub loop-number-preserved : goal.loop-number-preserved

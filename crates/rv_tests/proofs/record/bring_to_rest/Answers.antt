@@ -8,7 +8,7 @@ use Rattle.rv_tests.proofs.record.bring_to_rest.Goals as goal
 pub run-requires-clause-ready : goal.run-requires-clause-ready
 run-requires-clause-ready g c =
     let is = sym c.controller.ensures in
-    let at = c.assert_at_first_view.ensures in
+    let at = c.assert_in_view_0.ensures in
     let up = ap (λ (k : ControllerState). is_up k.status) is ∙ at.up in
     let view = ap (λ (k : ControllerState). k.view) is ∙ at.view in
     let promise = ap (λ (k : ControllerState). k.promise) is ∙ at.promise in

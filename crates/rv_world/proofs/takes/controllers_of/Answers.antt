@@ -1,17 +1,16 @@
-use Rattle.std.proofs.Common.{◌≡◌, ◌+◌, ℕ, List, [], ◌∷◌, ◌++◌, refl, subst, add-one, arith}
-use Rattle.std.proofs.lemmas.List.{map-append}
+use Rattle.std.proofs.Common.{◌≡◌, ℕ, ◌∷◌, [], ◌++◌, sym, ◌∙◌, ap, subst, arith}
 use Rattle.std.specs.Prelude.{map}
-use Rattle.controller_core.specs.State.{ControllerState, starting_controller}
+use Rattle.controller_core.specs.State.{starting_controller}
 use Rattle.controller_core.specs.Rules.{numbers_below}
+use Rattle.rv_world.proofs.Starts.{map_next}
 use Rattle.rv_world.proofs.takes.controllers_of.Goals as goal
 
-one_more : (group n : ℕ) (before after : List ControllerState) (next : ControllerState) →
-    before ≡ map (λ c. starting_controller c group) (numbers_below n) → next ≡ starting_controller n group → after ≡ before ++ next ∷ [] →
-    after ≡ map (λ c. starting_controller c group) (numbers_below (n + 1))
-one_more group n before after next so next_is is = rw (is, add-one, map-append, so, next_is) refl
-
 pub loop-number-preserved : goal.loop-number-preserved
-loop-number-preserved c = one_more c.args.group c.loop-number.number _ _ _ c.loop-number.invariant c.new.ensures c.in_ok-push.ensures.items
+loop-number-preserved c =
+    let starts = λ (k : ℕ). starting_controller k c.args.group in
+    c.in_ok-push.ensures.items ∙ ap (λ l. l ++ c.new.result ∷ []) c.loop-number.invariant ∙
+    ap (λ s. map starts (numbers_below c.loop-number.number) ++ s ∷ []) c.new.ensures ∙
+    sym (map_next starts c.loop-number.number)
 
 pub returns : goal.returns
 returns c =

@@ -1,6 +1,6 @@
 pub mod Tellings
 pub mod Endings
 pub mod Steps
-pub mod Firsts
+pub mod Played
 pub mod Playing
 pub mod Small

@@ -42,7 +42,7 @@ use Rattle.rv_world.specs.States.{Scene, switch_at, controller_at}
 use Rattle.rv_world.proofs.Posting.{one_actor}
 use Rattle.rv_safety.specs.Room.{switch_brings, event_brings, events_made, HasRoom, ClosesBehind}
 use Rattle.rv_safety.proofs.Decided.{decided_up}
-use Rattle.scenario.specs.Scenario.{IsFrame, IsScript}
+use Rattle.ravana_run.specs.Played.{IsFrame, IsScript}
 use Rattle.ravana_run.specs.Play.{HasPlayed}
 use Rattle.rv_record.specs.Shows.{scene_typed}
 use Rattle.ravana_run.proofs.Playing.{front_is, rest_is}

@@ -4,13 +4,13 @@ use Rattle.std.specs.Prelude.{Option}
 use Rattle.std.specs.Io.KnownBytes.{Appends}
 use Rattle.report.specs.Writing.{AppendsFront}
 use Rattle.ravana_run.specs.declared.ending.Ending.{Ending}
-use Rattle.ravana_run.specs.Cause.{HasCause}
+use Rattle.ravana_run.specs.Cause.{HasEndingCause}
 use Rattle.ravana_run.specs.Ending.{ending_status, ending_text}
 use Rattle.ravana_run.specs.Outcome.{Answers, Served, Write_failed, No_memory, IsTold}
 
 module _ (words : List (List ℕ)) (unread unwritten : Type 0) where
   -- all of an outcome was written
-  pub served : (before after taken now : Option (List ℕ)) (ending : Ending) (text : List ℕ) → HasCause words unread before after ending → text ≡ ending_text ending →
+  pub served : (before after taken now : Option (List ℕ)) (ending : Ending) (text : List ℕ) → HasEndingCause words unread before after ending → text ≡ ending_text ending →
       Appends taken now text → IsTold before after taken now (λ input rest written. Answers words input rest unread unwritten written (ending_status ending))
   served None after taken now ending text h e a = tt
   served (Some input) None taken now ending text h e a = tt
@@ -20,7 +20,7 @@ module _ (words : List (List ℕ)) (unread unwritten : Type 0) where
       (text, ap (λ l. Some l) a, Served (rw e h))
 
   -- a front of it was written
-  pub cut : (before after taken now : Option (List ℕ)) (ending : Ending) (text : List ℕ) → HasCause words unread before after ending → text ≡ ending_text ending →
+  pub cut : (before after taken now : Option (List ℕ)) (ending : Ending) (text : List ℕ) → HasEndingCause words unread before after ending → text ≡ ending_text ending →
       unwritten → AppendsFront taken now text → IsTold before after taken now (λ input rest written. Answers words input rest unread unwritten written 5)
   cut None after taken now ending text h e w a = tt
   cut (Some input) None taken now ending text h e w a = tt

@@ -1,3 +1,6 @@
+pub mod Runs
+pub mod Lines
+pub mod Played
 pub mod Play
 pub mod Outcome
 pub mod Ending

@@ -1,7 +1,7 @@
 //! How a call ended, and what it has to write.
-ghost use Rattle.std.specs.Prelude.{◌≡◌, ◌++◌, codes, IfOk, OnOk};
-ghost use Rattle.report.specs.Report.{word, number};
-ghost use Rattle.ravana_run.specs.Outcome.{usage_line, fault_line, unread_line, overfull_line, unposted_line, kind_word, place_word};
+ghost use Rattle.std.specs.Prelude.{◌≡◌, ◌≢◌, [], ◌∷◌, ◌++◌, codes, IfOk, OnOk, OnErr};
+ghost use Rattle.report.specs.Report.{word, further, number};
+ghost use Rattle.ravana_run.specs.Lines as lines;
 ghost use Rattle.ravana_run.specs.Ending.{ending_text, ending_status};
 
 use controller_core::LogFull;
@@ -15,10 +15,12 @@ use std::alloc::{AllocError, Global};
 pub enum Ending {
     /// The run came to rest. Its report.
     Report(Octets),
-    /// The words are not accepted.
+    /// The words are not accepted, or ask for what is not served yet.
     Usage,
     /// The bytes are no scenario.
     Refused(Fault),
+    /// The scenario is not played yet.
+    Later,
     /// The source failed.
     Unread,
     /// A proposal found no room in the log.
@@ -27,29 +29,56 @@ pub enum Ending {
     Unposted { bytes: u64, letters: u64 },
 }
 
-#[tactic(auto, unfolding(crate::specs::Outcome::usage_line))]
-fn usage_line(alloc: Global) -> Result<Octets, AllocError>
-    ensures { IfOk result (λ line. line ≡ usage_line) }
-{
-    Octets::from_slice(
-        alloc,
-        b"fault 2 usage: sim, run, audit or gen NUMBER CONTROLLERS SWITCHES FRAMES\n",
-    )
+/// What is written: a line that is always the same, or bytes of its own.
+#[derive(Drop)]
+pub enum Text {
+    Fixed(&'static [u8]),
+    Own(Octets),
 }
 
-fn kind_word(kind: FaultKind) -> &'static [u8]
-    ensures { result.now ≡ kind_word kind }
-{
-    match kind {
-        FaultKind::Later => b"later",
+impl Text {
+    ghost use Rattle.ravana_run.specs.Ending.{text_bytes};
+
+    /// The bytes.
+    pub fn as_slice(&self) -> &[u8]
+        ensures { result.now ≡ text_bytes self.now }
+    {
+        match self {
+            Text::Fixed(line) => line,
+            Text::Own(bytes) => bytes.as_slice(),
+        }
     }
 }
 
-fn place_word(place: FaultPlace) -> &'static [u8]
-    ensures { result.now ≡ place_word place }
+#[tactic(auto, unfolding(crate::specs::Lines::usage_line))]
+fn usage_line() -> &'static [u8]
+    ensures { result.now ≡ lines.usage_line }
 {
-    match place {
-        FaultPlace::Top => b"top",
+    b"fault 2 usage: sim, run, audit or gen NUMBER CONTROLLERS SWITCHES FRAMES\n"
+}
+
+#[tactic(auto, unfolding(crate::specs::Lines::unread_line))]
+fn unread_line() -> &'static [u8]
+    ensures { result.now ≡ lines.unread_line }
+{
+    b"fault 4 read\n"
+}
+
+#[tactic(auto, unfolding(crate::specs::Lines::later_line))]
+fn later_line() -> &'static [u8]
+    ensures { result.now ≡ lines.later_line }
+{
+    b"fault 3 later top\n"
+}
+
+fn kind_word(kind: FaultKind) -> &'static [u8]
+    ensures { result.now ≡ lines.kind_word kind }
+{
+    match kind {
+        FaultKind::Size => b"size",
+        FaultKind::Json => b"json",
+        FaultKind::Shape => b"shape",
+        FaultKind::Limit => b"limit",
     }
 }
 
@@ -71,30 +100,45 @@ fn write_named(line: &mut Octets, name: &[u8], value: u64) -> Result<(), AllocEr
     write_number(line, value)
 }
 
-#[tactic(auto, unfolding(crate::specs::Outcome::fault_line, report::specs::Report::line))]
+/// Writes a word and its number, and ends the line.
+fn end_with(line: &mut Octets, name: &[u8], value: u64) -> Result<(), AllocError>
+    ensures { OnOk result (line.new ≡ line.old ++ further (name.now ∷ number value ∷ [])) }
+{
+    write_named(line, name, value)?;
+    write_newline(line)?;
+    Ok(())
+}
+
+/// Writes where a fault stands, and ends the line.
+fn write_place(line: &mut Octets, place: FaultPlace) -> Result<(), AllocError>
+    ensures { OnOk result (line.new ≡ line.old ++ further (lines.place_words place)) }
+{
+    match place {
+        FaultPlace::Top => {
+            write_word(line, b"top")?;
+            write_newline(line)?;
+            Ok(())
+        }
+        FaultPlace::Switch(index) => end_with(line, b"switch", index),
+        FaultPlace::Link(index) => end_with(line, b"link", index),
+        FaultPlace::Deny(index) => end_with(line, b"deny", index),
+        FaultPlace::Step(index) => end_with(line, b"step", index),
+    }
+}
+
+#[tactic(auto, unfolding(crate::specs::Lines::fault_line, report::specs::Report::line))]
 fn fault_line(alloc: Global, refused: Fault) -> Result<Octets, AllocError>
-    ensures { IfOk result (λ line. line ≡ fault_line refused) }
+    ensures { IfOk result (λ line. line ≡ lines.fault_line refused) }
 {
     let mut line = fault(alloc, b"3")?;
     write_word(&mut line, kind_word(refused.kind))?;
-    write_word(&mut line, place_word(refused.place))?;
-    write_newline(&mut line)?;
+    write_place(&mut line, refused.place)?;
     Ok(line)
 }
 
-#[tactic(auto, unfolding(crate::specs::Outcome::unread_line, report::specs::Report::line))]
-fn unread_line(alloc: Global) -> Result<Octets, AllocError>
-    ensures { IfOk result (λ line. line ≡ unread_line) }
-{
-    let mut line = fault(alloc, b"4")?;
-    write_word(&mut line, b"read")?;
-    write_newline(&mut line)?;
-    Ok(line)
-}
-
-#[tactic(auto, unfolding(crate::specs::Outcome::overfull_line, report::specs::Report::line))]
+#[tactic(auto, unfolding(crate::specs::Lines::overfull_line, report::specs::Report::line))]
 fn overfull_line(alloc: Global, limit: LogFull) -> Result<Octets, AllocError>
-    ensures { IfOk result (λ line. line ≡ overfull_line limit) }
+    ensures { IfOk result (λ line. line ≡ lines.overfull_line limit) }
 {
     let mut line = fault(alloc, b"9")?;
     write_named(&mut line, b"length", limit.length)?;
@@ -104,9 +148,9 @@ fn overfull_line(alloc: Global, limit: LogFull) -> Result<Octets, AllocError>
     Ok(line)
 }
 
-#[tactic(auto, unfolding(crate::specs::Outcome::unposted_line, report::specs::Report::line))]
+#[tactic(auto, unfolding(crate::specs::Lines::unposted_line, report::specs::Report::line))]
 fn unposted_line(alloc: Global, bytes: u64, letters: u64) -> Result<Octets, AllocError>
-    ensures { IfOk result (λ line. line ≡ unposted_line bytes letters) }
+    ensures { IfOk result (λ line. line ≡ lines.unposted_line bytes letters) }
 {
     let mut line = fault(alloc, b"10")?;
     write_named(&mut line, b"bytes", bytes)?;
@@ -116,6 +160,8 @@ fn unposted_line(alloc: Global, bytes: u64, letters: u64) -> Result<Octets, Allo
 }
 
 impl Ending {
+    ghost use Rattle.ravana_run.specs.Ending.{text_bytes};
+
     /// The status of a call that ended so.
     pub fn status(&self) -> u8
         ensures { result ≡ ending_status self.now }
@@ -123,24 +169,28 @@ impl Ending {
         match self {
             Ending::Report(_) => 0,
             Ending::Usage => 2,
-            Ending::Refused(_) => 3,
+            Ending::Refused(_) | Ending::Later => 3,
             Ending::Unread => 4,
             Ending::Overfull(_) => 9,
             Ending::Unposted { .. } => 10,
         }
     }
 
-    /// What is written.
-    pub fn text(&self, alloc: Global) -> Result<Octets, AllocError>
-        ensures { IfOk result (λ text. text ≡ ending_text self.now) }
+    /// What is written. That the source failed is told without memory.
+    pub fn into_text(self, alloc: Global) -> Result<Text, AllocError>
+        ensures ok { IfOk result (λ text. text_bytes text ≡ ending_text self) }
+        ensures err { OnErr result (ending_status self ≢ 4) }
     {
         match self {
-            Ending::Report(text) => text.copy(),
-            Ending::Usage => usage_line(alloc),
-            Ending::Refused(fault) => fault_line(alloc, *fault),
-            Ending::Unread => unread_line(alloc),
-            Ending::Overfull(limit) => overfull_line(alloc, *limit),
-            Ending::Unposted { bytes, letters } => unposted_line(alloc, *bytes, *letters),
+            Ending::Report(text) => Ok(Text::Own(text)),
+            Ending::Usage => Ok(Text::Fixed(usage_line())),
+            Ending::Later => Ok(Text::Fixed(later_line())),
+            Ending::Unread => Ok(Text::Fixed(unread_line())),
+            Ending::Refused(fault) => Ok(Text::Own(fault_line(alloc, fault)?)),
+            Ending::Overfull(limit) => Ok(Text::Own(overfull_line(alloc, limit)?)),
+            Ending::Unposted { bytes, letters } => {
+                Ok(Text::Own(unposted_line(alloc, bytes, letters)?))
+            }
         }
     }
 }

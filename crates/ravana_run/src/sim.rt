@@ -9,9 +9,10 @@ ghost use Rattle.rv_world.specs.Committed.{controller_state};
 ghost use Rattle.rv_world.specs.Schedule.{FollowsInOrder};
 ghost use Rattle.rv_safety.specs.Closing.{answer_of};
 ghost use Rattle.rv_record.specs.Shows.{ShowsReport, scene_typed};
-ghost use Rattle.scenario.specs.Scenario.{IsPlayable};
+ghost use Rattle.scenario.specs.Scenario.{IsScenario};
+ghost use Rattle.ravana_run.specs.Played.{IsPlayable, is_played};
 ghost use Rattle.ravana_run.specs.Ending.{EndsRun};
-ghost use Rattle.ravana_run.specs.Outcome.{IsLawful};
+ghost use Rattle.ravana_run.specs.Runs.{IsLawful};
 ghost use Rattle.ravana_run.specs.Play.{HasPlayed, RunStops};
 
 use crate::ending::Ending;
@@ -155,9 +156,10 @@ fn play_in(
     }
 }
 
-/// Plays a scenario.
+/// Plays a scenario of those that are played yet.
 pub fn simulate(alloc: Global, scenario: &Scenario) -> Result<Ending, AllocError>
-    requires { IsPlayable scenario.now }
+    requires is { IsScenario scenario.now }
+    requires played { is_played scenario.now ≡ true }
     ensures { IfOk result (λ ending. EndsRun scenario.now ending) }
 {
     let mut world = World::<Typed>::new(alloc, &scenario.setup)?;

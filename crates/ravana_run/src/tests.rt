@@ -2,13 +2,12 @@ use crate::top::ravana;
 use of_types::Octets;
 use rv_base::{MemorySink, MemorySource};
 use std::alloc::{AllocError, Global};
+use std::process::Abort;
 use std::test::Fail;
 
 const USAGE: &[u8] = b"fault 2 usage: sim, run, audit or gen NUMBER CONTROLLERS SWITCHES FRAMES\n";
 
 const UNREAD: &[u8] = b"fault 4 read\n";
-
-const LATER: &[u8] = b"fault 3 later top\n";
 
 /// A frame to an unknown host: one event, one flood.
 const ONE_FRAME: &str =
@@ -147,90 +146,106 @@ fn serve(
     Ok((status, Octets::from_slice(alloc, sink.taken())?))
 }
 
-#[test]
-fn serves_the_first_form(rt: HostRuntime) -> Result<(), Fail> {
-    let cases: [(&str, u8, &[u8]); 13] = [
-        (ONE_FRAME, 0, UNKNOWN_HOST.as_bytes()),
-        (
-            r#"{"controllers": 1, "switches": [{"ports": 48}], "steps": [{"do": "frame", "switch": 0, "port": 12, "bytes": "8d5d7d7ca565bfb875c1ce76886a"}]}"#,
-            0,
-            HIGH_PORT.as_bytes(),
-        ),
-        (
-            r#"{"\u0063ontrollers":1,"switches":[{"ports":2}],"steps":[]}"#,
-            0,
-            NOTHING.as_bytes(),
-        ),
-        (
-            r#"{"controllers":9,"controllers":1,"switches":[{"ports":2}],"steps":[]}"#,
-            0,
-            NOTHING.as_bytes(),
-        ),
-        (
-            r#"{"controllers": 1, "switches": [{"ports": 47}], "steps": []}"#,
-            0,
-            MANY_PORTS.as_bytes(),
-        ),
-        (
-            r#"{"controllers":1,"controllers":9,"switches":[{"ports":2}],"steps":[]}"#,
-            3,
-            LATER,
-        ),
-        (
-            r#"{"controllers": 1, "switches": [{"ports": 2}], "steps": [null]}"#,
-            3,
-            LATER,
-        ),
-        (
-            r#"{"controllers": 1, "switches": [{"ports": 47}], "steps": [], "links": []}"#,
-            3,
-            LATER,
-        ),
-        (
-            r#"{"controllers": 0, "switches": [{"ports": 3}], "steps": [{"do": "frame", "switch": 0, "port": 1, "bytes": "9440817f664dc1b873e10eb80bcb"}]}"#,
-            3,
-            LATER,
-        ),
-        (
-            r#"{"controllers": 1, "switches": [{"ports": 47}], "steps": [{"do": "frame", "switch": 0, "port": 16, "bytes": "6b6f003700240c882c0969e030a2ed"}], "deny": []}"#,
-            3,
-            LATER,
-        ),
-        (
-            r#"{"controllers": 1, "switches": [{"ports": 4}]}"#,
-            3,
-            LATER,
-        ),
-        (
-            r#"{"controllers":1,"switches":[{"ports":2e0}],"steps":[]}"#,
-            3,
-            LATER,
-        ),
-        (
-            r#"{"controllers":1,"switches":[{"ports":2}],"steps":[{"do":"frame","switch":0,"port":1,"bytes":"02000000000202000000000188b5"},{"do":"frame","switch":0,"port":1,"bytes":"02000000000202000000000188b5"}]}"#,
-            3,
-            LATER,
-        ),
-    ];
-    for (input, status, text) in cases {
-        for most in [1, 65_536] {
-            let ends = Ends { most, ..WHOLE };
-            let (found, written) = serve(rt.alloc(), &["sim"], input.as_bytes(), ends)?;
-            assert_eq!(rt; found, status);
-            assert_eq!(rt; written.as_slice(), text);
-        }
+/// Serves `sim` in whole pieces and byte by byte.
+fn assert_served(
+    rt: &impl Abort,
+    alloc: Global,
+    input: &str,
+    status: u8,
+    text: &[u8],
+) -> Result<(), Fail> {
+    for most in [1, 65_536] {
+        let ends = Ends { most, ..WHOLE };
+        let (found, written) = serve(alloc, &["sim"], input.as_bytes(), ends)?;
+        assert_eq!(rt; found, status, "at {input}");
+        assert_eq!(rt; written.as_slice(), text, "at {input}");
     }
     Ok(())
 }
 
 #[test]
-fn refuses_other_words(rt: HostRuntime) -> Result<(), Fail> {
+fn reports_runs(rt: HostRuntime) -> Result<(), Fail> {
+    for (input, report) in [
+        (ONE_FRAME, UNKNOWN_HOST),
+        (
+            r#"{"controllers": 1, "switches": [{"ports": 48}], "steps": [{"do": "frame", "switch": 0, "port": 12, "bytes": "8d5d7d7ca565bfb875c1ce76886a"}]}"#,
+            HIGH_PORT,
+        ),
+        (
+            r#"{"\u0063ontrollers":1,"switches":[{"ports":2}],"steps":[]}"#,
+            NOTHING,
+        ),
+        (
+            r#"{"controllers":9,"controllers":1,"switches":[{"ports":2}],"steps":[]}"#,
+            NOTHING,
+        ),
+        (
+            r#"{"controllers": 1, "switches": [{"ports": 47}], "steps": [], "links": [], "deny": []}"#,
+            MANY_PORTS,
+        ),
+    ] {
+        assert_served(&rt, rt.alloc(), input, 0, report.as_bytes())?;
+    }
+    Ok(())
+}
+
+#[test]
+fn tells_faults_of_scenarios(rt: HostRuntime) -> Result<(), Fail> {
+    for (input, line) in [
+        (
+            r#"{"controllers": 1, "switches": [{"ports": 2}], "steps": [{"do": "fra"#,
+            "fault 3 json top\n",
+        ),
+        (
+            r#"{"controllers": 2, "switches": [{"ports": 2}], "steps": []}"#,
+            "fault 3 limit top\n",
+        ),
+        (
+            r#"{"contollers": 1, "switches": [{"ports": 2}], "steps": []}"#,
+            "fault 3 shape top\n",
+        ),
+        (
+            r#"{"controllers": 1, "switches": [{"ports": 2}, {"ports": 2e0}], "steps": []}"#,
+            "fault 3 shape switch 1\n",
+        ),
+        (
+            r#"{"controllers": 1, "switches": [{"ports": 2}], "links": [[0, 1, 0, 3]], "steps": []}"#,
+            "fault 3 limit link 0\n",
+        ),
+        (
+            r#"{"controllers": 1, "switches": [{"ports": 2}], "deny": [{}], "steps": []}"#,
+            "fault 3 shape deny 0\n",
+        ),
+        (
+            r#"{"controllers": 1, "switches": [{"ports": 2}], "steps": [{"do": "tick", "actor": "c0"}, null]}"#,
+            "fault 3 shape step 1\n",
+        ),
+        (
+            r#"{"controllers": 1, "switches": [{"ports": 2}], "steps": [{"do": "tick", "actor": "c0"}]}"#,
+            "fault 3 later top\n",
+        ),
+        (
+            r#"{"controllers": 3, "switches": [{"ports": 2}], "steps": []}"#,
+            "fault 3 later top\n",
+        ),
+        (
+            r#"{"controllers": 1, "switches": [{"ports": 2}], "links": [[0, 1, 0, 2]], "steps": []}"#,
+            "fault 3 later top\n",
+        ),
+    ] {
+        assert_served(&rt, rt.alloc(), input, 3, line.as_bytes())?;
+    }
+    Ok(())
+}
+
+#[test]
+fn tells_the_usage(rt: HostRuntime) -> Result<(), Fail> {
     let words: [&[&str]; 5] = [
         &[],
         &["--help"],
-        &["sim", "sim"],
         &["gen", "7", "2", "16", "10"],
-        &["Sim"],
+        &["gen", "07", "3", "1", "1"],
+        &["audit"],
     ];
     for words in words {
         let (status, written) = serve(rt.alloc(), words, ONE_FRAME.as_bytes(), WHOLE)?;

@@ -1,17 +1,20 @@
 //! The top call.
-ghost use Rattle.std.specs.Prelude.{◌≡◌, ◌≢◌, ◌≤◌, map, string_bytes, Contains, IsTrue, ◌↔◌, Ok, IfOk, IfErr};
+ghost use Rattle.std.specs.Prelude.{◌≡◌, ◌≢◌, ◌≤◌, map, string_bytes, Contains, Some, Ok, Err, IfOk, IfErr, OnErr, IsTrue, ◌↔◌};
 ghost use Rattle.rv_base.specs.Causes.{Rose};
-ghost use Rattle.ravana_run.specs.Outcome.{Answers, IsTold, accepted, statuses, statuses_of_usage};
-ghost use Rattle.ravana_run.specs.Ending.{ending_status, EndsRead};
-ghost use Rattle.ravana_run.specs.Cause.{HasCause, Tells};
-ghost use Rattle.scenario.specs.Scenario.{scenario_of};
+ghost use Rattle.words.specs.Words.{job_of};
+ghost use Rattle.ravana_run.specs.Played as played;
+ghost use Rattle.ravana_run.specs.Outcome.{Answers, IsTold, IsUnserved, is_served_job, statuses, statuses_of_usage};
+ghost use Rattle.ravana_run.specs.Ending.{ending_status, EndsRead, EndsRun};
+ghost use Rattle.ravana_run.specs.Cause.{HasEndingCause, Tells};
+ghost use Rattle.scenario.specs.Scenario.{IsScenario, scenario_of};
 
 use crate::ending::Ending;
 use crate::sim::simulate;
 use report::write_all;
-use rv_base::{Sink, Source};
-use scenario::{InputFault, ScenarioFault, read_input, read_scenario};
+use rv_base::{Actor, Local, Sink, Source, Turn};
+use scenario::{InputFault, Scenario, ScenarioFault, read_input, read_scenario};
 use std::alloc::{AllocError, Global};
+use words::{Job, read_words};
 
 /// The status of a call that found no memory.
 pub const NO_MEMORY: u8 = 6;
@@ -19,13 +22,67 @@ pub const NO_MEMORY: u8 = 6;
 /// The status of a call whose sink failed.
 const WRITE_FAILED: u8 = 5;
 
-/// Whether the words are accepted: the one word `sim`.
-fn is_accepted(words: &[String]) -> bool
-    ensures { IsTrue result ↔ (map string_bytes words.now ≡ accepted) }
+/// Whether a job is served yet: `sim` alone is.
+fn is_served(job: Job) -> bool
+    ensures { result ≡ played.is_served job }
 {
-    match words {
-        [word] => word.as_str() == "sim",
+    matches!(job, Job::Sim)
+}
+
+/// Whether the words are accepted and their job is served.
+fn are_served(words: &[String]) -> bool
+    ensures { result ≡ is_served_job (job_of (map string_bytes words.now)) }
+{
+    match read_words(words) {
+        Ok(job) => is_served(job),
+        Err(_) => false,
+    }
+}
+
+/// Whether a step is a frame.
+fn is_frame(step: &Turn) -> bool
+    ensures { result ≡ played.is_frame step.now }
+{
+    matches!(
+        step,
+        Turn::Local {
+            actor: Actor::Switch(_),
+            input: Local::Frame { .. },
+        },
+    )
+}
+
+/// Whether there is at most one step, a frame.
+fn is_one_frame(steps: &[Turn]) -> bool
+    ensures { result ≡ played.is_one_frame steps.now }
+{
+    match steps {
+        [] => true,
+        [step] => is_frame(step),
         _ => false,
+    }
+}
+
+/// Whether a scenario is played yet: one controller, one switch, no wires and no rules, at most one frame.
+fn is_played(scenario: &Scenario) -> bool
+    ensures { result ≡ played.is_played scenario.now }
+{
+    scenario.setup.controllers == 1
+        && scenario.setup.ports.len() == 1
+        && scenario.setup.links.is_empty()
+        && scenario.setup.deny.is_empty()
+        && is_one_frame(scenario.steps.as_slice())
+}
+
+/// How a scenario ends.
+fn end_of_scenario(alloc: Global, scenario: &Scenario) -> Result<Ending, AllocError>
+    requires { IsScenario scenario.now }
+    ensures { IfOk result (λ ending. EndsRun scenario.now ending) }
+{
+    if is_played(scenario) {
+        simulate(alloc, scenario)
+    } else {
+        Ok(Ending::Later)
     }
 }
 
@@ -34,7 +91,7 @@ fn end_of(alloc: Global, bytes: &[u8]) -> Result<Ending, AllocError>
     ensures { IfOk result (λ ending. EndsRead bytes.now ending) }
 {
     match read_scenario(alloc, bytes) {
-        Ok(scenario) => simulate(alloc, &scenario),
+        Ok(scenario) => end_of_scenario(alloc, &scenario),
         Err(ScenarioFault::Refused(fault)) => Ok(Ending::Refused(fault)),
         Err(ScenarioFault::OutOfMemory) => Err(AllocError),
     }
@@ -42,11 +99,12 @@ fn end_of(alloc: Global, bytes: &[u8]) -> Result<Ending, AllocError>
 
 /// How a call with these words ends, before anything is written.
 fn outcome<S: Source>(alloc: Global, words: &[String], source: &mut S) -> Result<Ending, AllocError>
-    ensures cause { IfOk result (λ ending. HasCause (map string_bytes words.now) (Rose (S.faults source.old) (S.faults source.new)) (S.left source.old) (S.left source.new) ending) }
-    ensures told { IfOk result (λ ending. Tells (map string_bytes words.now) (Rose (S.faults source.old) (S.faults source.new)) ending) }
+    ensures cause { IfOk result (λ ending. HasEndingCause (map string_bytes words.now) (Rose (S.faults source.old) (S.faults source.new)) (S.left source.old) (S.left source.new) ending) }
+    ensures told { IfOk result (λ ending. Tells (map string_bytes words.now) (Rose (S.faults source.old) (S.faults source.new)) (S.faults source.new ≡ S.faults source.old) ending) }
+    ensures memory { OnErr result (S.faults source.new ≡ S.faults source.old) }
     ensures later { S.faults source.old ≤ S.faults source.new }
 {
-    if !is_accepted(words) {
+    if !are_served(words) {
         return Ok(Ending::Usage);
     }
     match read_input(alloc, source) {
@@ -59,7 +117,9 @@ fn outcome<S: Source>(alloc: Global, words: &[String], source: &mut S) -> Result
 /// Serves one call: reads a scenario from the source, plays it, brings it to rest and writes its report,
 /// or one line that tells why not. It answers the status.
 ///
-/// The words are those behind the program's name. `sim` alone is accepted.
+/// The words are those behind the program's name. Of the jobs that `read_words` accepts `sim` alone is served
+/// yet, and of the scenarios that `read_scenario` accepts those of one controller, one switch and at most one
+/// frame are played yet: the others get the usage line, and `fault 3 later top`.
 pub fn ravana<S: Source, K: Sink>(
     alloc: Global,
     words: &[String],
@@ -67,22 +127,27 @@ pub fn ravana<S: Source, K: Sink>(
     sink: &mut K,
 ) -> u8
     ensures answer { IsTold (S.left source.old) (S.left source.new) (K.taken sink.old) (K.taken sink.new) (λ input rest written. Answers (map string_bytes words.now) input rest (Rose (S.faults source.old) (S.faults source.new)) (Rose (K.faults sink.old) (K.faults sink.new)) written result) }
-    ensures usage { result ≡ 2 → map string_bytes words.now ≢ accepted }
-    ensures words { map string_bytes words.now ≢ accepted → Contains statuses_of_usage result }
+    ensures usage { result ≡ 2 → IsUnserved (map string_bytes words.now) }
+    ensures words { IsUnserved (map string_bytes words.now) → Contains statuses_of_usage result }
     ensures unread { result ≡ 4 → Rose (S.faults source.old) (S.faults source.new) }
     ensures unwritten { result ≡ 5 → Rose (K.faults sink.old) (K.faults sink.new) }
     ensures range { Contains statuses result }
-    ensures read { S.faults source.old ≤ S.faults source.new }
-    ensures written { K.faults sink.old ≤ K.faults sink.new }
+    ensures later_read { S.faults source.old ≤ S.faults source.new }
+    ensures later_write { K.faults sink.old ≤ K.faults sink.new }
+
+    // A call that failed is not tried again.
+    ensures every_write { result ≢ 5 → K.faults sink.new ≡ K.faults sink.old }
+    ensures every_read { result ≢ 4 → result ≢ 5 → S.faults source.new ≡ S.faults source.old }
 {
     let Ok(ending) = outcome(alloc, words, source) else {
         return NO_MEMORY;
     };
-    let Ok(text) = ending.text(alloc) else {
+    let status = ending.status();
+    let Ok(text) = ending.into_text(alloc) else {
         return NO_MEMORY;
     };
     match write_all(sink, text.as_slice()) {
-        Ok(()) => ending.status(),
+        Ok(()) => status,
         Err(_) => WRITE_FAILED,
     }
 }

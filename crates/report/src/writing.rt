@@ -55,6 +55,7 @@ pub fn write_report<K: Sink>(alloc: Global, told: &Record, sink: &mut K) -> Resu
     ensures front { result ≡ Err faults.Failed → AppendsFront (K.taken sink.old) (K.taken sink.new) (text told.now) }
     ensures cause { result ≡ Err faults.Failed → Rose (K.faults sink.old) (K.faults sink.new) }
     ensures later { K.faults sink.old ≤ K.faults sink.new }
+    ensures served { OnOk result (K.faults sink.new ≡ K.faults sink.old) }
     ensures unchanged { result ≡ Err faults.OutOfMemory → sink.new ≡ sink.old }
 {
     let text = text(alloc, told)?;

@@ -16,7 +16,7 @@ pub trait Source {
     ghost faults: { Self → ℕ };
 
     /// Puts bytes at the front of `into`, at least one, or answers 0. At a nonempty `into` 0 is the
-    /// end. After `Failed` what is left is as before.
+    /// end. After `Failed` what is left is as before. The count of faults rises at `Failed` alone.
     fn read(&mut self, into: &mut [u8]) -> Result<usize, Failed>
         ensures bound { ReadsAtMost result into.new }
         ensures bytes { ReadConsumes (left self.old) (left self.new) result into.new }
@@ -31,7 +31,7 @@ pub trait Sink {
     ghost faults: { Self → ℕ };
 
     /// Takes bytes from the front of `from`, at least one of a nonempty one. After `Failed` what was
-    /// taken is as before.
+    /// taken is as before. The count of faults rises at `Failed` alone.
     fn write(&mut self, from: &[u8]) -> Result<usize, Failed>
         ensures some { IfOk result (λ count. TakesSome count from.now) }
         ensures bytes { WriteAppends (taken self.old) (taken self.new) result from.now }

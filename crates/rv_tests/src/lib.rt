@@ -4,6 +4,8 @@
 #[cfg(test)]
 mod base;
 #[cfg(test)]
+mod command_line;
+#[cfg(test)]
 mod one_controller;
 #[cfg(test)]
 mod record;

@@ -1,73 +1,246 @@
-use of_types::Octets;
+use of_types::{Link, Octets, Prefix, Rule};
 use rv_base::{Actor, Local, MemorySource, Turn};
-use scenario::{Fault, FaultKind, FaultPlace, ScenarioFault, read_input, read_scenario};
+use scenario::FaultKind::{Json, Limit, Shape};
+use scenario::FaultPlace::{Deny, Link as AtLink, Step, Switch, Top};
+use scenario::{
+    Fault, FaultKind, FaultPlace, Scenario, ScenarioFault, generate, read_input, read_scenario,
+};
 use std::process::Abort;
 use std::test::Fail;
 
-const LATER: ScenarioFault = ScenarioFault::Refused(Fault {
-    kind: FaultKind::Later,
-    place: FaultPlace::Top,
-});
+/// One of each kind of member and step.
+const WHOLE: &str = r#"{"controllers": 3, "switches": [{"ports": 2}, {"ports": 48}],
+    "links": [[0, 2, 1, 48]],
+    "deny": [{"proto": 6, "src": [10, 1, 2, 3, 8], "dst": [0, 0, 0, 0, 0], "port": 80},
+        {"proto": 0, "src": [255, 255, 255, 255, 32], "dst": [192, 0, 2, 1, 31]}],
+    "steps": [{"do": "frame", "switch": 1, "port": 47, "bytes": "e6b717de8f7ba00d44246deff2ea585bb8"},
+        {"do": "port", "switch": 0, "port": 1, "up": false},
+        {"do": "tick", "actor": "c2", "times": 2},
+        {"do": "draw", "actor": "s1", "choice": 4294967295, "keep": true},
+        {"do": "lose", "actor": "c0", "choice": 1},
+        {"do": "suspect", "controller": 0, "view": 1000000},
+        {"do": "crash", "controller": 1},
+        {"do": "restart", "controller": 1},
+        {"do": "restart", "switch": 0}]}"#;
 
-/// A frame at the highest port but one of a switch.
-const FRAME: &str =
-    r#"{"controllers": 1, "switches": [{"ports": 48}], "steps": [{"do": "frame", "switch": 0, "port": 47, "bytes": "e6b717de8f7ba00d44246deff2ea585bb8"}]}"#;
+/// What is refused, with the kind and the place.
+const REFUSED: [(&str, FaultKind, FaultPlace); 32] = [
+    (
+        r#"{"controllers": 1, "switches": [{"ports": 2}], "steps": [{"do": "fra"#,
+        Json,
+        Top,
+    ),
+    ("\u{feff}0", Json, Top),
+    (r#"{"controllers": 1e400}"#, Json, Top),
+    (r#"{"controllers": "\ud800"}"#, Json, Top),
+    ("0 0", Json, Top),
+    ("0", Shape, Top),
+    (
+        r#"{"contollers": 1, "switches": [], "steps": []}"#,
+        Shape,
+        Top,
+    ),
+    (
+        r#"{"controllers": 1.0, "switches": [], "steps": []}"#,
+        Shape,
+        Top,
+    ),
+    (
+        r#"{"controllers": 1e2, "switches": [], "steps": []}"#,
+        Shape,
+        Top,
+    ),
+    (
+        r#"{"controllers": -0, "switches": [], "steps": []}"#,
+        Shape,
+        Top,
+    ),
+    (
+        r#"{"controllers": 18446744073709551616, "switches": [], "steps": []}"#,
+        Shape,
+        Top,
+    ),
+    (
+        r#"{"controllers": 1, "switches": [], "steps": [], "x": 1}"#,
+        Shape,
+        Top,
+    ),
+    (
+        r#"{"controllers": 2, "switches": [{"ports": 2}, {"port": 2}], "steps": []}"#,
+        Shape,
+        Switch(1),
+    ),
+    (
+        r#"{"controllers": 2, "switches": [], "links": [[0, 1, 0]], "steps": []}"#,
+        Shape,
+        AtLink(0),
+    ),
+    (
+        r#"{"controllers": 2, "switches": [], "deny": [{"proto": 0, "src": [0, 0, 0, 0], "dst": [0, 0, 0, 0, 0]}], "steps": []}"#,
+        Shape,
+        Deny(0),
+    ),
+    (
+        r#"{"controllers": 2, "switches": [], "steps": [{"do": "tick", "actor": "c00"}]}"#,
+        Shape,
+        Step(0),
+    ),
+    (
+        r#"{"controllers": 2, "switches": [], "steps": [{"do": "frame", "switch": 0, "port": 1, "bytes": "0"}]}"#,
+        Shape,
+        Step(0),
+    ),
+    (
+        r#"{"controllers": 2, "switches": [], "steps": [{"do": "frame", "switch": 0, "port": 1, "bytes": "0A"}]}"#,
+        Shape,
+        Step(0),
+    ),
+    (
+        r#"{"controllers": 2, "switches": [], "steps": [{"do": "crash", "controller": 0, "times": 1}]}"#,
+        Shape,
+        Step(0),
+    ),
+    (
+        r#"{"controllers": 2, "switches": [], "steps": [{"do": "restart", "controller": 0, "switch": 0}]}"#,
+        Shape,
+        Step(0),
+    ),
+    (
+        r#"{"controllers": 2, "switches": [{"ports": 2}], "steps": []}"#,
+        Limit,
+        Top,
+    ),
+    (
+        r#"{"controllers": 1, "switches": [], "steps": []}"#,
+        Limit,
+        Top,
+    ),
+    (
+        r#"{"controllers": 1, "switches": [{"ports": 2}], "steps": [{"do": "tick", "actor": "c0", "times": 100001}]}"#,
+        Limit,
+        Top,
+    ),
+    (
+        r#"{"controllers": 1, "switches": [{"ports": 2}, {"ports": 49}], "steps": []}"#,
+        Limit,
+        Switch(1),
+    ),
+    (
+        r#"{"controllers": 1, "switches": [{"ports": 3}], "links": [[0, 1, 0, 2], [0, 3, 0, 1]], "steps": []}"#,
+        Limit,
+        AtLink(1),
+    ),
+    (
+        r#"{"controllers": 1, "switches": [{"ports": 3}], "links": [[0, 1, 0, 1]], "steps": []}"#,
+        Limit,
+        AtLink(0),
+    ),
+    (
+        r#"{"controllers": 1, "switches": [{"ports": 3}], "deny": [{"proto": 0, "src": [0, 0, 0, 0, 0], "dst": [0, 0, 0, 0, 0], "port": 1}], "steps": []}"#,
+        Limit,
+        Deny(0),
+    ),
+    (
+        r#"{"controllers": 1, "switches": [{"ports": 3}], "deny": [{"proto": 6, "src": [0, 0, 256, 0, 0], "dst": [0, 0, 0, 0, 0]}], "steps": []}"#,
+        Limit,
+        Deny(0),
+    ),
+    (
+        r#"{"controllers": 1, "switches": [{"ports": 3}], "steps": [{"do": "tick", "actor": "c99999999999999999999"}]}"#,
+        Limit,
+        Step(0),
+    ),
+    (
+        r#"{"controllers": 1, "switches": [{"ports": 3}], "steps": [{"do": "tick", "actor": "c0"}, {"do": "tick", "actor": "c0", "times": 0}]}"#,
+        Limit,
+        Step(1),
+    ),
+    (
+        r#"{"controllers": 1, "switches": [{"ports": 3}], "steps": [{"do": "frame", "switch": 0, "port": 3, "bytes": ""}]}"#,
+        Limit,
+        Step(0),
+    ),
+    (
+        r#"{"controllers": 1, "switches": [{"ports": 3}], "steps": [{"do": "suspect", "controller": 0, "view": 0}]}"#,
+        Limit,
+        Step(0),
+    ),
+];
 
 #[test]
-fn takes_this_form_alone(rt: HostRuntime) {
-    for (text, accepted) in [
-        (FRAME, true),
-        (
-            r#"{"controllers": 1, "switches": [{"ports": 3}], "steps": []}"#,
-            true,
-        ),
-        (
-            r#"{"controllers":9,"controllers":1,"switches":[{"ports":2}],"steps":[]}"#,
-            true,
-        ),
-        (
-            r#"{"controllers":1,"controllers":9,"switches":[{"ports":2}],"steps":[]}"#,
-            false,
-        ),
-        (
-            r#"{"\u0063ontrollers":1,"switches":[{"ports":2}],"steps":[]}"#,
-            true,
-        ),
-        ("{", false),
-        (
-            r#"{"controllers":1,"switches":[{"ports":2e0}],"steps":[]}"#,
-            false,
-        ),
-        (
-            r#"{"controllers": 1, "switches": [{"ports": 2}], "steps": [null]}"#,
-            false,
-        ),
-        (
-            r#"{"controllers": 1, "switches": [{"ports": 47}], "steps": [], "links": []}"#,
-            false,
-        ),
-        (r#"{"controllers": 1, "switches": [{"ports": 4}]}"#, false),
-        (
-            r#"{"controllers": 0, "switches": [{"ports": 3}], "steps": [{"do": "frame", "switch": 0, "port": 1, "bytes": "9440817f664dc1b873e10eb80bcb"}]}"#,
-            false,
-        ),
-        (
-            r#"{"controllers": 1, "switches": [{"ports": 3}], "steps": [{"do": "frame", "switch": 0, "port": 0, "bytes": "0a043f6d484c37481551bfcb5cf7"}]}"#,
-            false,
-        ),
-        (
-            r#"{"controllers": 1, "switches": [{"ports": 1}], "steps": [{"do": "frame", "switch": 0, "port": 1, "bytes": "783c008a175432334d6b71b6a04675"}, {"do": "frame", "switch": 0, "port": 1, "bytes": "783c008a175432334d6b71b6a04675"}]}"#,
-            false,
-        ),
-    ] {
+fn refuses_the_first_fault(rt: HostRuntime) {
+    for (text, kind, place) in REFUSED {
         let read = read_scenario(rt.alloc(), text.as_bytes());
-        assert_eq!(rt; read.err(), (!accepted).then_some(LATER), "at {text}");
+        assert_eq!(rt;
+            read.err(),
+            Some(ScenarioFault::Refused(Fault { kind, place })),
+            "at {text}"
+        );
     }
-    let no_text = read_scenario(
-        rt.alloc(),
-        b"{\"controllers\":1,\"switches\":[{\"ports\":\xff}],\"steps\":[]}",
+    let no_text = read_scenario(rt.alloc(), b"\"\xff\"");
+    let fault = Fault {
+        kind: Json,
+        place: Top,
+    };
+    assert_eq!(rt; no_text.err(), Some(ScenarioFault::Refused(fault)));
+}
+
+/// So many steps in which switch 0 restarts.
+fn restarts(alloc: std::alloc::Global, count: usize) -> Result<String, std::alloc::AllocError> {
+    let mut text = String::from_str(
+        alloc,
+        r#"{"controllers": 1, "switches": [{"ports": 2}], "steps": [{"do": "tick", "actor": "s0"}"#,
+    )?;
+    for _ in 0..count {
+        text.push_str(r#", {"do": "restart", "switch": 0}"#)?;
+    }
+    text.push_str("]}")?;
+    Ok(text)
+}
+
+#[test]
+fn refuses_a_sixteenth_restart(rt: HostRuntime) -> Result<(), Fail> {
+    let fifteen = restarts(rt.alloc(), 15)?;
+    assert!(rt; read_scenario(rt.alloc(), fifteen.as_bytes()).is_ok());
+    let sixteen = restarts(rt.alloc(), 16)?;
+    let fault = Fault {
+        kind: Limit,
+        place: Step(16),
+    };
+    assert_eq!(rt;
+        read_scenario(rt.alloc(), sixteen.as_bytes()).err(),
+        Some(ScenarioFault::Refused(fault))
     );
-    assert_eq!(rt; no_text.err(), Some(LATER));
+    Ok(())
+}
+
+fn assert_setup(rt: &impl Abort, scenario: &Scenario) {
+    let setup = &scenario.setup;
+    assert_eq!(rt; setup.controllers, 3);
+    assert_eq!(rt; setup.ports.as_slice(), [2, 48].as_slice());
+    let link = Link {
+        switch: 0,
+        port: 2,
+        peer: 1,
+        peer_port: 48,
+    };
+    assert_eq!(rt; setup.links.as_slice(), [link].as_slice());
+    let prefix = |address: u32, length: u8| Prefix { address, length };
+    let rules = [
+        Rule {
+            proto: 6,
+            src: prefix(0x0a00_0000, 8),
+            dst: prefix(0, 0),
+            port: Some(80),
+        },
+        Rule {
+            proto: 0,
+            src: prefix(0xffff_ffff, 32),
+            dst: prefix(0xc000_0200, 31),
+            port: None,
+        },
+    ];
+    assert_eq!(rt; setup.deny.as_slice(), rules.as_slice());
 }
 
 /// The bytes that the frame spells.
@@ -76,45 +249,135 @@ const FRAME_BYTES: &[u8] = &[
     0xb8,
 ];
 
-/// Where the only step puts a frame, and its bytes.
-fn only_frame(steps: &[Turn]) -> Option<(Actor, u32, &[u8])> {
-    let [
-        Turn::Local {
-            actor,
-            input: Local::Frame { port, bytes },
-        },
-    ] = steps
-    else {
-        return None;
-    };
-    Some((*actor, *port, bytes.as_slice()))
+/// A local input, but for the bytes of a frame, as a number for its kind and two that it has.
+fn shown(input: &Local) -> (u8, u64, u64) {
+    match input {
+        Local::Frame { port, bytes } => (0, u64::from(*port), bytes.len() as u64),
+        Local::Port { port, up } => (1, u64::from(*port), u64::from(*up)),
+        Local::Tick => (2, 0, 0),
+        Local::Suspect { view } => (3, u64::from(*view), 0),
+        Local::Crash => (4, 0, 0),
+        Local::Restart => (5, 0, 0),
+    }
 }
 
-fn assert_frame(rt: &impl Abort, steps: &[Turn]) {
-    let Some((actor, port, bytes)) = only_frame(steps) else {
-        panic!(rt; "no frame");
-    };
-    assert_eq!(rt; (actor, port), (Actor::Switch(0), 47));
-    assert_eq!(rt; bytes, FRAME_BYTES);
+/// A turn, in the same way.
+fn shown_turn(turn: &Turn) -> (Actor, (u8, u64, u64)) {
+    match turn {
+        Turn::Draw {
+            actor,
+            choice,
+            keep,
+        } => (*actor, (6, *choice, u64::from(*keep))),
+        Turn::Lose { actor, choice } => (*actor, (7, *choice, 0)),
+        Turn::Local { actor, input } => (*actor, shown(input)),
+    }
+}
+
+/// The bytes of a frame at a step.
+fn frame_at(steps: &[Turn], place: usize) -> Option<&[u8]> {
+    match steps.get(place)? {
+        Turn::Local {
+            input: Local::Frame { bytes, .. },
+            ..
+        } => Some(bytes.as_slice()),
+        _ => None,
+    }
 }
 
 #[test]
-fn reads_a_frame(rt: HostRuntime) -> Result<(), Fail> {
-    let scenario = read_scenario(rt.alloc(), FRAME.as_bytes())?;
-    assert_eq!(rt; scenario.setup.controllers, 1);
-    assert_eq!(rt; scenario.setup.ports.as_slice(), [48].as_slice());
+fn reads_the_whole_form(rt: HostRuntime) -> Result<(), Fail> {
+    let scenario = read_scenario(rt.alloc(), WHOLE.as_bytes())?;
+    assert_setup(&rt, &scenario);
+    let (controller, switch) = (Actor::Controller, Actor::Switch);
+    let turns = [
+        (switch(1), (0, 47, 17)),
+        (switch(0), (1, 1, 0)),
+        (controller(2), (2, 0, 0)),
+        (controller(2), (2, 0, 0)),
+        (switch(1), (6, 4_294_967_295, 1)),
+        (controller(0), (7, 1, 0)),
+        (controller(0), (3, 1_000_000, 0)),
+        (controller(1), (4, 0, 0)),
+        (controller(1), (5, 0, 0)),
+        (switch(0), (5, 0, 0)),
+    ];
+    assert_eq!(rt; scenario.steps.len(), turns.len());
+    for (turn, told) in scenario.steps.as_slice().iter().zip(turns) {
+        assert_eq!(rt; shown_turn(turn), told);
+    }
+    assert_eq!(rt; frame_at(scenario.steps.as_slice(), 0), Some(FRAME_BYTES));
+    Ok(())
+}
+
+/// The switch, the port, the two last bytes of the destination and of the source, and the number of a
+/// generated frame at a step.
+fn generated_at(steps: &[Turn], place: usize) -> Option<(Actor, u64, [u8; 2], [u8; 2], [u8; 4])> {
+    let (actor, (0, port, 64)) = shown_turn(steps.get(place)?) else {
+        return None;
+    };
+    let [
+        2,
+        0,
+        0,
+        0,
+        a,
+        b,
+        2,
+        0,
+        0,
+        0,
+        c,
+        d,
+        0x88,
+        0xb5,
+        e,
+        f,
+        g,
+        h,
+        zeros @ ..,
+    ] = frame_at(steps, place)?
+    else {
+        return None;
+    };
+    zeros
+        .iter()
+        .all(|byte| *byte == 0)
+        .then_some((actor, port, [*a, *b], [*c, *d], [*e, *f, *g, *h]))
+}
+
+#[test]
+fn generates_a_thousand_frames(rt: HostRuntime) -> Result<(), Fail> {
+    let scenario = generate(rt.alloc(), 7, 5, 16, 1000)?;
+    assert_eq!(rt; scenario.setup.controllers, 5);
+    assert_eq!(rt; scenario.setup.ports.as_slice(), [4; 16].as_slice());
     assert!(rt; scenario.setup.links.is_empty() && scenario.setup.deny.is_empty());
-    assert_frame(&rt, scenario.steps.as_slice());
+    let steps = scenario.steps.as_slice();
+    assert_eq!(rt; steps.len(), 1001);
+    for (place, frame) in [
+        (0, (Actor::Switch(0), 4, [0, 1], [0, 4], [0, 0, 0, 0])),
+        (1, (Actor::Switch(1), 4, [1, 1], [1, 4], [0, 0, 0, 1])),
+        (2, (Actor::Switch(2), 4, [2, 1], [2, 4], [0, 0, 0, 2])),
+        (997, (Actor::Switch(5), 2, [5, 3], [5, 2], [0, 0, 3, 0xe5])),
+        (998, (Actor::Switch(6), 2, [6, 3], [6, 2], [0, 0, 3, 0xe6])),
+        (999, (Actor::Switch(7), 2, [7, 3], [7, 2], [0, 0, 3, 0xe7])),
+    ] {
+        assert_eq!(rt; generated_at(steps, place), Some(frame), "at {place}");
+    }
+    assert_eq!(rt;
+        steps.get(1000).map(shown_turn),
+        Some((Actor::Controller(2), (4, 0, 0)))
+    );
     Ok(())
 }
 
 #[test]
 fn reads_to_the_end(rt: HostRuntime) -> Result<(), Fail> {
-    let bytes = Octets::from_slice(rt.alloc(), FRAME.as_bytes())?;
+    let bytes = Octets::from_slice(rt.alloc(), WHOLE.as_bytes())?;
     let mut source = MemorySource::new(bytes, 7, Vec::new(rt.alloc()));
     let Ok(read) = read_input(rt.alloc(), &mut source) else {
         panic!(rt; "not read");
     };
-    assert_eq!(rt; read.as_slice(), FRAME.as_bytes());
+    assert_eq!(rt; read.as_slice(), WHOLE.as_bytes());
     Ok(())
 }

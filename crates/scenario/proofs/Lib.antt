@@ -1,4 +1,6 @@
-pub mod Hex
+pub mod Apart
+pub mod Ends
 pub mod Members
+pub mod Setups
 pub mod Text
-pub mod Form
+pub mod Turns

@@ -1,5 +1,5 @@
 //! The bytes of a scenario, read from a source.
-ghost use Rattle.std.specs.Prelude.{◌≡◌, ◌<◌, ◌≤◌, ◌+◌, ◌++◌, ◌⊎◌, length, take, IfOk};
+ghost use Rattle.std.specs.Prelude.{◌≡◌, ◌≢◌, ◌<◌, ◌≤◌, ◌+◌, ◌++◌, ◌⊎◌, length, take, IfOk};
 ghost use Rattle.std.specs.Io.KnownBytes.{Consumes, IsAtEnd};
 ghost use Rattle.rv_base.specs.Causes.{Rose};
 ghost use Rattle.scenario.specs.Scenario.{scenario_limit};
@@ -44,6 +44,7 @@ fn read_piece<S: Source>(
     requires { 0 < length into.old }
     ensures later { S.faults source.old ≤ S.faults source.new }
     ensures cause { result ≡ Err faults_of.Failed → Rose (S.faults source.old) (S.faults source.new) }
+    ensures served { result ≢ Err faults_of.Failed → S.faults source.new ≡ S.faults source.old }
     ensures bound { IfOk result (λ count. count ≤ length into.old) }
     ensures grown { IfOk result (λ count. (bytes.new ≡ bytes.old ++ take count into.new) × (length bytes.new ≡ length bytes.old + count)) }
     ensures consumed { IfOk result (λ count. Consumes (S.left source.old) (S.left source.new) (take count into.new)) }
@@ -58,6 +59,7 @@ fn read_piece<S: Source>(
 pub fn read_input<S: Source>(alloc: Global, source: &mut S) -> Result<Octets, InputFault>
     ensures later { S.faults source.old ≤ S.faults source.new }
     ensures cause { result ≡ Err faults_of.Failed → Rose (S.faults source.old) (S.faults source.new) }
+    ensures served { result ≢ Err faults_of.Failed → S.faults source.new ≡ S.faults source.old }
     ensures consumed { IfOk result (λ bytes. Consumes (S.left source.old) (S.left source.new) bytes) }
     ensures whole { IfOk result (λ bytes. IsAtEnd (S.left source.new) ⊎ (length bytes ≡ scenario_limit + 1)) }
 {

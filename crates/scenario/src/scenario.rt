@@ -1,8 +1,9 @@
 //! What a scenario says, and why bytes are none.
+ghost use Rattle.std.specs.Prelude.{◌≡◌};
 
 use of_types::{Items, Setup};
 use rv_base::Turn;
-use std::alloc::AllocError;
+use std::alloc::{AllocError, AllocFailed};
 
 /// The steps of a script, in order.
 pub type Steps = Items<Turn>;
@@ -14,17 +15,27 @@ pub struct Scenario {
     pub steps: Steps,
 }
 
-/// What kind of fault bytes have. `Later` is any fault of bytes that are not of the form that is read
-/// today.
+/// What kind of fault bytes have.
 #[derive(Clone, Copy, PartialEq, Eq, Debug)]
 pub enum FaultKind {
-    Later,
+    /// There are too many bytes.
+    Size,
+    /// They are no JSON text.
+    Json,
+    /// A member is missing, further or of another kind.
+    Shape,
+    /// A value passes a limit, or names what is not there.
+    Limit,
 }
 
-/// Where a fault stands.
+/// Where a fault stands: at the scenario as a whole, or at an item of one of its lists, counted from 0.
 #[derive(Clone, Copy, PartialEq, Eq, Debug)]
 pub enum FaultPlace {
     Top,
+    Switch(u64),
+    Link(u64),
+    Deny(u64),
+    Step(u64),
 }
 
 /// The first fault of bytes that are no scenario.
@@ -41,13 +52,34 @@ pub enum ScenarioFault {
     OutOfMemory,
 }
 
+impl ScenarioFault {
+    ghost use Rattle.scenario.specs.declared.scenario.Fault.{Fault};
+    ghost use Rattle.scenario.specs.declared.scenario.ScenarioFault.TheVariants as faults;
+
+    /// A refusal of this kind, at this place.
+    pub(crate) fn refused(kind: FaultKind, place: FaultPlace) -> ScenarioFault
+        ensures { result ≡ faults.Refused (record { kind = kind; place = place }) }
+    {
+        ScenarioFault::Refused(Fault { kind, place })
+    }
+}
+
 impl From<AllocError> for ScenarioFault {
-    ghost use Rattle.std.specs.Prelude.{◌≡◌};
     ghost use Rattle.scenario.specs.declared.scenario.ScenarioFault.TheVariants.{OutOfMemory};
 
     ghost from_gives = { λ _ fault. fault ≡ OutOfMemory };
 
     fn from(_refused: AllocError) -> ScenarioFault {
+        ScenarioFault::OutOfMemory
+    }
+}
+
+impl<T: Drop> From<AllocFailed<T>> for ScenarioFault {
+    ghost use Rattle.scenario.specs.declared.scenario.ScenarioFault.TheVariants.{OutOfMemory};
+
+    ghost from_gives = { λ _ fault. fault ≡ OutOfMemory };
+
+    fn from(_refused: AllocFailed<T>) -> ScenarioFault {
         ScenarioFault::OutOfMemory
     }
 }

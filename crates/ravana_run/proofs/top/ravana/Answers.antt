@@ -9,31 +9,34 @@ returns-in_default-clause-answer g c = nothing _ _ _ _ _ _
 pub returns-in_default-clause-range : goal.returns-in_default-clause-range
 returns-in_default-clause-range g c = (5, omega arith, refl)
 
-pub returns-in_default-text-clause-answer : goal.returns-in_default-text-clause-answer
-returns-in_default-text-clause-answer g c = nothing _ _ _ _ _ _
+pub returns-in_default-into_text-clause-answer : goal.returns-in_default-into_text-clause-answer
+returns-in_default-into_text-clause-answer g c = nothing _ _ _ _ _ _
 
-pub returns-in_default-text-clause-range : goal.returns-in_default-text-clause-range
-returns-in_default-text-clause-range g c = (5, omega arith, refl)
+pub returns-in_default-into_text-clause-range : goal.returns-in_default-into_text-clause-range
+returns-in_default-into_text-clause-range g c = (5, omega arith, refl)
 
 pub returns-in-Ok-write_all-clause-answer : goal.returns-in-Ok-write_all-clause-answer
 returns-in-Ok-write_all-clause-answer g c =
-    rw c.status.ensures (served _ _ _ _ _ _ _ c.in-Ok.ending _ c.in-Ok.ensures.cause (c.as_slice.ensures ∙ c.in-Ok-text.ensures) c.in-Ok-write_all.ensures.ok)
+    rw c.status-status.ensures (served _ _ _ _ _ _ _ c.in-Ok.ending _ c.in-Ok.ensures.cause (c.as_slice.ensures ∙ c.in-Ok-into_text.ensures.ok) c.in-Ok-write_all.ensures.ok)
 
 pub returns-in-Ok-write_all-clause-usage : goal.returns-in-Ok-write_all-clause-usage
-returns-in-Ok-write_all-clause-usage g c = λ is. c.in-Ok.ensures.told.usage (sym c.status.ensures ∙ is)
+returns-in-Ok-write_all-clause-usage g c = λ is. c.in-Ok.ensures.told.usage (sym c.status-status.ensures ∙ is)
 
 pub returns-in-Ok-write_all-clause-words : goal.returns-in-Ok-write_all-clause-words
-returns-in-Ok-write_all-clause-words g c = λ other. rw (c.status.ensures, c.in-Ok.ensures.told.others other) (0, omega arith, refl)
+returns-in-Ok-write_all-clause-words g c = λ other. rw (c.status-status.ensures, c.in-Ok.ensures.told.others other) (0, omega arith, refl)
 
 pub returns-in-Ok-write_all-clause-unread : goal.returns-in-Ok-write_all-clause-unread
-returns-in-Ok-write_all-clause-unread g c = λ is. c.in-Ok.ensures.told.failed (sym c.status.ensures ∙ is)
+returns-in-Ok-write_all-clause-unread g c = λ is. c.in-Ok.ensures.told.failed (sym c.status-status.ensures ∙ is)
 
 pub returns-in-Ok-write_all-clause-range : goal.returns-in-Ok-write_all-clause-range
-returns-in-Ok-write_all-clause-range g c = rw c.status.ensures (in_range c.in-Ok.ending)
+returns-in-Ok-write_all-clause-range g c = rw c.status-status.ensures (in_range c.in-Ok.ending)
 
 pub returns-clause-answer : goal.returns-clause-answer
 returns-clause-answer g c =
-    cut _ _ _ _ _ _ _ c.in-Ok.ending _ c.in-Ok.ensures.cause (c.as_slice.ensures ∙ c.in-Ok-text.ensures) c.in-Err.ensures.cause.failed c.in-Err.ensures.err
+    cut _ _ _ _ _ _ _ c.in-Ok.ending _ c.in-Ok.ensures.cause (c.as_slice.ensures ∙ c.in-Ok-into_text.ensures.ok) c.in-Err.ensures.cause.failed c.in-Err.ensures.err
 
 pub returns-clause-range : goal.returns-clause-range
 returns-clause-range g c = (4, omega arith, refl)
+
+pub returns-clause-words : goal.returns-clause-words
+returns-clause-words g c = λ _. (1, omega arith, refl)

@@ -1,4 +1,4 @@
-use Rattle.std.proofs.Common.{◌≡◌, ◌+◌, ◌-◌, ℕ, List, ◌++◌, length, take, drop, arith, sym, subst, Result, Ok, Err}
+use Rattle.std.proofs.Common.{◌≡◌, ◌∙◌, ◌+◌, ◌-◌, ℕ, List, ◌++◌, length, take, drop, arith, sym, subst, Result, Ok, Err}
 use Rattle.std.proofs.KnownBytes.{Appends-trans, Appends-kept}
 use Rattle.std.proofs.Math.Seq.{take-add}
 use Rattle.std.proofs.lemmas.List.{take_rest, length-drop, take-append-drop}
@@ -20,7 +20,7 @@ loop-written-preserved g c = record {
   within = omega (arith, c.in_ok-written.ensures.some.most, length-drop {A = ℕ});
   taken = subst (Appends _ _) (sym (longer_front c.args.bytes.now c.loop-written.written c.in_ok-written.field-0))
       (Appends-trans _ _ _ _ _ c.loop-written.invariant.taken c.in_ok-written.ensures.bytes);
-  later = omega (arith, c.in_ok-written.ensures.cause.later);
+  served = c.in_ok-written.ensures.cause.served ∙ c.loop-written.invariant.served;
 }
 
 pub returns-in_err-written-clause-err : goal.returns-in_err-written-clause-err

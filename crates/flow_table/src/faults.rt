@@ -6,10 +6,7 @@ ghost use Rattle.flow_table.specs.Table.{is_delete, is_known_table, is_row_outpu
 use crate::changes::has_key;
 use crate::rows::TableFault;
 use crate::table::MOST_ROWS;
-use of_types::{ALL_PORTS, FLOOD, FlowCommand, FlowMod, IN_PORT, NO_BUFFER, Row, TO_CONTROLLER};
-
-/// All tables, as a DELETE may name them.
-const ALL_TABLES: u8 = 0xff;
+use of_types::{ALL_PORTS, ALL_TABLES, FLOOD, FlowCommand, FlowMod, IN_PORT, NO_BUFFER, Row, TO_CONTROLLER};
 
 /// The first fault of a change of some rows, at a switch with so many ports.
 pub fn table_fault(rows: &[Row], ports: u32, change: &FlowMod) -> Option<TableFault>

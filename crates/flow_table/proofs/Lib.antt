@@ -1,1 +1,2 @@
+mod Modified
 mod Tables

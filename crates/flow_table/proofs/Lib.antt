@@ -1,2 +1,2 @@
-mod Modified
+pub mod Modified
 mod Tables

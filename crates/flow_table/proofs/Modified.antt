@@ -14,7 +14,7 @@ pub one_more : (n : ℕ) (actions : List ℕ) → replicate n actions ++ actions
 one_more n actions = replicate-append-replicate n 1 actions
 
 -- what is counted of a list is counted of its first and of the others
-count_first : {A : Type 0} (p : A → Bool) (x : A) (xs : List A) → count_by p (x ∷ xs) ≡ count_by p (x ∷ []) + count_by p xs
+pub count_first : {A : Type 0} (p : A → Bool) (x : A) (xs : List A) → count_by p (x ∷ xs) ≡ count_by p (x ∷ []) + count_by p xs
 count_first {A} p x xs = omega (arith, sum_by-cons (λ (y : A). if p y then 1 else 0) x xs)
 
 -- a row of a table whose first rows were written is still the one that it was

@@ -1,1 +1,2 @@
+pub mod Modified
 mod Tables

@@ -1,6 +1,6 @@
 //! What an accepted FLOW_MOD does with rows (OpenFlow 1.3, 6.4).
-ghost use Rattle.std.specs.Prelude.{◌≡◌, ◌≤◌, ◌<◌, ◌+◌, [], ◌∷◌, ◌++◌, length, map, take, drop, filter, not, nat_eq, IfOk, OnErr};
-ghost use Rattle.std.specs.List.{list_any};
+ghost use Rattle.std.specs.Prelude.{ℕ, ◌≡◌, ◌≤◌, ◌<◌, ◌+◌, [], ◌∷◌, ◌++◌, length, map, take, drop, filter, not, nat_eq, replicate, IfOk, OnOk, OnErr};
+ghost use Rattle.std.specs.List.{list_any, count_by};
 ghost use Rattle.flow_table.specs.Table.{row_of, same_key, with_row, is_strict, is_named, is_deleted, modified};
 
 use of_types::{ANY_GROUP, ANY_PORT, Actions, FlowCommand, FlowMod, Row, covers, same_match};
@@ -13,15 +13,22 @@ pub fn has_key(row: &Row, change: &FlowMod) -> bool
     row.priority == change.priority && same_match(&row.matching, &change.matching)
 }
 
+/// A copy of a change's actions.
+pub fn copy_actions(change: &FlowMod) -> Result<Actions, AllocError>
+    ensures { IfOk result (λ actions. actions ≡ change.now.actions) }
+{
+    change.actions.clone()
+}
+
 /// The row that an ADD tells of.
-fn row_of(change: &FlowMod) -> Result<Row, AllocError>
+pub fn row_of(change: &FlowMod) -> Result<Row, AllocError>
     ensures { IfOk result (λ row. row ≡ row_of change.now) }
 {
     Ok(Row {
         priority: change.priority,
         cookie: change.cookie,
         matching: change.matching,
-        actions: change.actions.clone()?,
+        actions: copy_actions(change)?,
     })
 }
 
@@ -65,7 +72,7 @@ fn is_strict(command: FlowCommand) -> bool
 }
 
 /// Whether a MODIFY or DELETE names a row, by its match and its cookie.
-fn is_named(change: &FlowMod, row: &Row) -> bool
+pub fn is_named(change: &FlowMod, row: &Row) -> bool
     ensures { result ≡ is_named change.now row.now }
 {
     let meets = if is_strict(change.command) {
@@ -84,7 +91,7 @@ fn has_output(actions: &Actions, port: u32) -> bool
 }
 
 /// Whether a DELETE takes a row out.
-fn is_deleted(change: &FlowMod, row: &Row) -> bool
+pub fn is_deleted(change: &FlowMod, row: &Row) -> bool
     ensures { result ≡ is_deleted change.now row.now }
 {
     is_named(change, row)
@@ -92,31 +99,50 @@ fn is_deleted(change: &FlowMod, row: &Row) -> bool
         && change.out_group == ANY_GROUP
 }
 
-/// A row after a MODIFY.
-fn modified(change: &FlowMod, row: &Row) -> Result<Row, AllocError>
-    ensures { IfOk result (λ changed. changed ≡ modified change.now row.now) }
+/// So many copies of a change's actions.
+pub fn copies_of(alloc: Global, change: &FlowMod, count: usize) -> Result<Vec<Actions>, AllocError>
+    ensures { IfOk result (λ copies. copies.items ≡ replicate count change.now.actions) }
+{
+    let mut copies = Vec::with_capacity(alloc, count)?;
+    for _ in 0..count {
+        copies.push(copy_actions(change)?)?;
+    }
+    Ok(copies)
+}
+
+/// Gives a row the actions of a MODIFY, where it is named: the last of some copies, of which there are
+/// enough.
+pub fn write_row(row: &mut Row, change: &FlowMod, copies: &mut Vec<Actions>)
+    ensures { (left : ℕ)
+        → copies.old.items ≡ replicate (count_by (is_named change.now) (row.old ∷ []) + left) change.now.actions
+        → (row.new ≡ modified change.now row.old) × (copies.new.items ≡ replicate left change.now.actions) }
 {
     if is_named(change, row) {
-        Ok(Row {
-            priority: row.priority,
-            cookie: row.cookie,
-            matching: row.matching,
-            actions: change.actions.clone()?,
-        })
-    } else {
-        row.copy()
+        if let Some(actions) = copies.pop() {
+            row.actions = actions;
+        }
     }
 }
 
-/// The rows after a MODIFY.
-pub fn modified_rows(alloc: Global, rows: &[Row], change: &FlowMod) -> Result<Vec<Row>, AllocError>
-    ensures { IfOk result (λ changed. changed.items ≡ map (modified change.now) rows.now) }
+/// Gives the rows that a MODIFY names its actions, of which there is a copy for each.
+fn write_actions(rows: &mut [Row], change: &FlowMod, mut copies: Vec<Actions>)
+    requires { copies.items ≡ replicate (count_by (is_named change.now) rows.old) change.now.actions }
+    ensures { rows.new ≡ map (modified change.now) rows.old }
 {
-    let mut changed = Vec::with_capacity(alloc, rows.len())?;
-    for row in rows {
-        changed.push(modified(change, row)?)?;
+    for row in rows.iter_mut() {
+        write_row(row, change, &mut copies);
     }
-    Ok(changed)
+}
+
+/// Gives the rows that a MODIFY names its actions. An `Err` changes nothing.
+pub fn modify_rows(alloc: Global, rows: &mut [Row], change: &FlowMod) -> Result<(), AllocError>
+    ensures ok { OnOk result (rows.new ≡ map (modified change.now) rows.old) }
+    ensures err { OnErr result (rows.new ≡ rows.old) }
+{
+    let count = rows.iter().filter(|row| is_named(change, row)).count();
+    let copies = copies_of(alloc, change, count)?;
+    write_actions(rows, change, copies);
+    Ok(())
 }
 
 /// Takes out the rows that a DELETE names.

@@ -1,19 +1,18 @@
 //! Why a FLOW_MOD is refused (OpenFlow 1.3, 6.4 and 7.4.4).
 ghost use Rattle.std.specs.Prelude.{◌≡◌, not};
 ghost use Rattle.std.specs.List.{list_any};
-ghost use Rattle.flow_table.specs.Table.{is_delete, is_known_table, is_row_output, lacks_room, same_key, row_of, table_fault};
+ghost use Rattle.flow_table.specs.Table.{is_delete, is_known_table, is_row_output, lacks_room, same_key, row_of, first_fault, table_fault};
 
 use crate::changes::has_key;
 use crate::rows::TableFault;
 use crate::table::MOST_ROWS;
-use of_types::{ALL_PORTS, FLOOD, FlowCommand, FlowMod, IN_PORT, NO_BUFFER, Row, TO_CONTROLLER};
+use of_types::{
+    ALL_PORTS, ALL_TABLES, FLOOD, FlowCommand, FlowMod, IN_PORT, NO_BUFFER, Row, TO_CONTROLLER,
+};
 
-/// All tables, as a DELETE may name them.
-const ALL_TABLES: u8 = 0xff;
-
-/// The first fault of a change of some rows, at a switch with so many ports.
-pub fn table_fault(rows: &[Row], ports: u32, change: &FlowMod) -> Option<TableFault>
-    ensures { result ≡ table_fault rows.now ports change.now }
+/// The first fault of a change that lacks room or not, at a switch with so many ports.
+pub fn first_fault(lacks_room: bool, ports: u32, change: &FlowMod) -> Option<TableFault>
+    ensures { result ≡ first_fault lacks_room ports change.now }
 {
     if !is_known_table(change) {
         Some(TableFault::BadTable)
@@ -27,11 +26,18 @@ pub fn table_fault(rows: &[Row], ports: u32, change: &FlowMod) -> Option<TableFa
         Some(TableFault::BadBuffer)
     } else if has_bad_output(ports, change.actions.as_slice()) {
         Some(TableFault::BadPort)
-    } else if lacks_room(rows, change) {
+    } else if lacks_room {
         Some(TableFault::TableFull)
     } else {
         None
     }
+}
+
+/// The first fault of a change of some rows, at a switch with so many ports.
+pub fn table_fault(rows: &[Row], ports: u32, change: &FlowMod) -> Option<TableFault>
+    ensures { result ≡ table_fault rows.now ports change.now }
+{
+    first_fault(lacks_room(rows, change), ports, change)
 }
 
 /// Whether a command takes rows out.

@@ -1,4 +1,5 @@
-//! The flow table of a switch: what a FLOW_MOD does with its rows, and which row a frame meets.
+//! The flow table of a switch: what a FLOW_MOD does with its rows, and which row a frame meets. The free
+//! functions are for other forms of a table.
 #![tactic(auto)]
 
 mod changes;
@@ -8,5 +9,7 @@ mod table;
 #[cfg(test)]
 mod tests;
 
+pub use changes::{copies_of, copy_actions, has_key, is_deleted, is_named, row_of, write_row};
+pub use faults::first_fault;
 pub use rows::{Rows, TableFault};
-pub use table::{FlowTable, MOST_ROWS};
+pub use table::{FlowTable, MOST_ROWS, table_miss};

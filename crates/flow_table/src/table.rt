@@ -1,8 +1,8 @@
 //! A flow table as a list of rows.
 ghost use Rattle.std.specs.Prelude.{◌≡◌, false, [], IfOk, OnOk, OnErr};
-ghost use Rattle.flow_table.specs.Table.{table_step, table_after, is_delete};
+ghost use Rattle.flow_table.specs.Table.{table_miss, table_step, table_after, is_delete};
 
-use crate::changes::{add_row, delete_rows, modified_rows};
+use crate::changes::{add_row, delete_rows, modify_rows};
 use crate::faults::table_fault;
 use crate::rows::{Rows, TableFault};
 use of_types::{Fields, FlowCommand, FlowMod, Items, Row, TO_CONTROLLER, any_match, matches};
@@ -11,6 +11,20 @@ use std::marker::Model;
 
 /// The most rows that a table has.
 pub const MOST_ROWS: usize = 2048;
+
+/// The row that sends a frame to the controller, where no other matches it (OpenFlow 1.3, 5.4).
+pub fn table_miss(alloc: Global) -> Result<Row, AllocError>
+    ensures { IfOk result (λ row. row ≡ table_miss) }
+{
+    let mut actions = Items::new(alloc);
+    actions.push(TO_CONTROLLER)?;
+    Ok(Row {
+        priority: 0,
+        cookie: 0,
+        matching: any_match(),
+        actions,
+    })
+}
 
 /// A flow table that goes through all its rows.
 #[derive(Drop)]
@@ -32,16 +46,8 @@ impl FlowTable {
     pub fn new(alloc: Global) -> Result<FlowTable, AllocError>
         ensures { IfOk result (λ table. table ≡ table_after []) }
     {
-        let mut actions = Items::new(alloc);
-        actions.push(TO_CONTROLLER)?;
-        let table_miss = Row {
-            priority: 0,
-            cookie: 0,
-            matching: any_match(),
-            actions,
-        };
         let mut rows = Vec::new(alloc);
-        rows.push(table_miss)?;
+        rows.push(table_miss(alloc)?)?;
         Ok(FlowTable { rows })
     }
 
@@ -54,8 +60,8 @@ impl FlowTable {
         match change.command {
             FlowCommand::Add => add_row(&mut self.rows, change),
             FlowCommand::Modify | FlowCommand::ModifyStrict => {
-                self.rows = modified_rows(*self.rows.allocator(), &self.rows, change)?;
-                Ok(())
+                let alloc = *self.rows.allocator();
+                modify_rows(alloc, &mut self.rows, change)
             }
             FlowCommand::Delete | FlowCommand::DeleteStrict => {
                 delete_rows(&mut self.rows, change);

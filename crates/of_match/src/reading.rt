@@ -14,9 +14,10 @@ use crate::fault::MatchFault;
 use crate::kind::{FieldHeader, FieldKind};
 use crate::kinds::KindSet;
 use of_bytes::{u16_at, u32_at, u48_at};
-use of_types::{Masked32, Masked48, Match, any_match};
-
-const OPENFLOW_BASIC: u16 = 0x8000;
+use of_types::{
+    IPV4, MATCH_OF_FIELDS, Masked32, Masked48, Match, ONES32, ONES48, OPENFLOW_BASIC, TCP, UDP,
+    any_match,
+};
 
 /// The next field's header, its value and mask, and what comes after it.
 #[tactic(auto, unfolding(crate::specs::Reading::header_at))]
@@ -46,10 +47,6 @@ fn header_at(bytes: &[u8]) -> Result<(FieldHeader, &[u8], &[u8]), MatchFault>
     let (payload, rest) = rest.split_at(len);
     Ok((header, payload, rest))
 }
-
-pub const ONES48: u64 = 0xffff_ffff_ffff;
-
-pub const ONES32: u32 = 0xffff_ffff;
 
 /// An Ethernet address under its mask, or none under a mask of zero.
 #[tactic(auto, unfolding(crate::specs::Reading::value_at, crate::specs::Reading::masked48_at))]
@@ -125,7 +122,7 @@ fn put_field(matching: &mut Match, header: FieldHeader, payload: &[u8]) -> Resul
 fn body_of(bytes: &[u8]) -> Result<(&[u8], usize), MatchFault>
     ensures { Gives (λ x. (x.0.now, x.1)) result (body_at bytes.now) }
 {
-    if bytes.len() >= 2 && u16_at(bytes, 0) != 1 {
+    if bytes.len() >= 2 && u16_at(bytes, 0) != MATCH_OF_FIELDS {
         return Err(MatchFault::BadType);
     }
     if bytes.len() < 4 {
@@ -156,12 +153,6 @@ fn read_fields(body: &[u8]) -> Result<Match, MatchFault>
     }
     Ok(matching)
 }
-
-const IPV4: u16 = 0x0800;
-
-const TCP: u8 = 6;
-
-const UDP: u8 = 17;
 
 /// Where the field stands, the condition holds.
 fn needs<T>(field: &Option<T>, condition: bool) -> bool

@@ -9,8 +9,9 @@ ghost use Rattle.of_types.specs.Valid.{IsValidMatch};
 ghost use Rattle.of_match.specs.Writing.{exact, address48, address32, link_fields, network_fields, transport_fields, written_of, spelled, bare_match, padding, canonical_bare_match, canonical_match};
 
 use crate::kind::{FieldHeader, FieldKind};
-use crate::reading::{ONES32, ONES48};
-use of_types::{Masked32, Masked48, Match, Octets};
+use of_types::{
+    MATCH_OF_FIELDS, Masked32, Masked48, Match, ONES32, ONES48, OPENFLOW_BASIC, Octets,
+};
 use std::alloc::{AllocError, Global};
 
 /// Adds the lowest bytes of a number, as many as the kind's values have.
@@ -34,7 +35,7 @@ fn write_field(
         kind,
         has_mask: mask.is_some(),
     };
-    out.append(&0x8000u16.to_be_bytes())?;
+    out.append(&OPENFLOW_BASIC.to_be_bytes())?;
     out.push(2 * kind.number() + u8::from(header.has_mask))?;
     out.push(header.payload_length() as u8)?;
     write_number(out, kind, value)?;
@@ -154,7 +155,7 @@ fn write_framed(out: &mut Octets, fields: &[u8]) -> Result<(), AllocError>
     requires { length fields.now < 1024 }
     ensures { OnOk result (out.new ≡ out.old ++ bare_match fields.now) }
 {
-    out.append(&1u16.to_be_bytes())?;
+    out.append(&MATCH_OF_FIELDS.to_be_bytes())?;
     out.append(&((4 + fields.len()) as u16).to_be_bytes())?;
     out.append(fields)?;
     Ok(())

@@ -2,7 +2,7 @@
 use Rattle.std.proofs.Common.{◌≡◌, ℕ, zero, suc, ◌≤◌, ◌<◌, List, [], ◌∷◌, ◌++◌, length, drop, Ok, Err, refl, sym, ◌∙◌, arith}
 use Rattle.std.proofs.lemmas.List.{length-drop}
 use Rattle.of_bytes.specs.Reading.{◌>>=◌}
-use Rattle.of_messages.specs.declared.fault.Refusal.{Refusal}
+use Rattle.of_types.specs.declared.refusal.Refusal.{Refusal}
 use Rattle.of_messages.specs.Reading.{output_at, outputs_at, actions_at}
 
 -- one action more

@@ -20,8 +20,8 @@ use Rattle.of_types.specs.declared.message.OfMessage.TheVariants as plain
 use Rattle.of_types.specs.declared.message.PacketIn.{PacketIn}
 use Rattle.of_types.specs.declared.message.PacketOut.{PacketOut}
 use Rattle.of_types.specs.declared.message.PortStatus.{PortStatus}
-use Rattle.of_messages.specs.declared.fault.Refusal.{Refusal}
-use Rattle.of_messages.specs.Errors.{bad_version, bad_length, bad_action, bad_action_length, bad_instruction, bad_command}
+use Rattle.of_types.specs.declared.refusal.Refusal.{Refusal}
+use Rattle.of_types.specs.declared.refusal.TheConstants.{BAD_ACTION, BAD_ACTION_LENGTH, BAD_COMMAND, BAD_INSTRUCTION, BAD_LENGTH, BAD_VERSION}
 use Rattle.of_messages.specs.Canonical.{plain_type, command_number}
 use Rattle.of_messages.specs.Grammar.{IsOutput, SpellsActions, IsApply, SpellsInstructions, IsPacketIn, IsPortStatus, IsPacketOut, IsFlowModFront, IsFlowMod, IsRole, SpellsBody, Spells}
 use Rattle.of_messages.specs.Reading.{is_bad_action_length, output_at, outputs_at, actions_at, instruction_length_at, instruction_at, second_at, instructions_at, error_at, experimenter_at, empty_at, features_at, as_refusal, port_in, port_and_frame_at, packet_in_at, port_status_at, packet_out_at, command_of, command_at, match_and_actions_at, flow_mod_of, flow_mod_behind, flow_mod_at, role_at, beside, bodies_at, body_at, message_at, xid_of}
@@ -49,8 +49,8 @@ after_one b d x y h =
 output_takes : (bytes : List ℕ) (port : ℕ) → output_at bytes ≡ Ok port → IsOutput bytes port
 unfolding output_at
 output_takes bytes port e =
-    let p = passed (is_bad_action_length bytes) bad_action_length (cond (not (eqb (number 2 0 bytes) 0)) (Err bad_action) (cond (not (eqb (number 2 2 bytes) 16)) (Err bad_action_length) (Ok (number 4 4 bytes)))) port e in
-    let q = after_two (not (eqb (number 2 0 bytes) 0)) (not (eqb (number 2 2 bytes) 16)) bad_action bad_action_length (number 4 4 bytes) port p.1 in
+    let p = passed (is_bad_action_length bytes) BAD_ACTION_LENGTH (cond (not (eqb (number 2 0 bytes) 0)) (Err BAD_ACTION) (cond (not (eqb (number 2 2 bytes) 16)) (Err BAD_ACTION_LENGTH) (Ok (number 4 4 bytes)))) port e in
+    let q = after_two (not (eqb (number 2 0 bytes) 0)) (not (eqb (number 2 2 bytes) 16)) BAD_ACTION BAD_ACTION_LENGTH (number 4 4 bytes) port p.1 in
     let long = or_false _ (ltb (length bytes) (number 2 2 bytes)) p.0 in
     let len : number 2 2 bytes ≡ 16 = same (number 2 2 bytes) 16 q.1 in
     let room : number 2 2 bytes ≤ length bytes = ltb-false (length bytes) (number 2 2 bytes) long.1 in
@@ -85,7 +85,7 @@ record TakesApply (bytes actions rest : List ℕ) : Type 0 where
 length_takes : (bytes : List ℕ) (len : ℕ) → instruction_length_at bytes ≡ Ok len → (8 ≤ len) × (len ≤ length bytes) × (number 2 2 bytes ≡ len)
 unfolding instruction_length_at
 length_takes bytes len e =
-    let p = after_one (ltb (length bytes) 4 || ltb (number 2 2 bytes) 8 || ltb (length bytes) (number 2 2 bytes)) bad_length (number 2 2 bytes) len e in
+    let p = after_one (ltb (length bytes) 4 || ltb (number 2 2 bytes) 8 || ltb (length bytes) (number 2 2 bytes)) BAD_LENGTH (number 2 2 bytes) len e in
     let q = or_false (ltb (length bytes) 4 || ltb (number 2 2 bytes) 8) (ltb (length bytes) (number 2 2 bytes)) p.0 in
     let r = or_false (ltb (length bytes) 4) (ltb (number 2 2 bytes) 8) q.0 in
     let least = ltb-false (number 2 2 bytes) 8 r.1 in
@@ -98,9 +98,9 @@ two_lists xs ys = (xs, ys)
 instruction_takes : (bytes actions rest : List ℕ) → instruction_at bytes ≡ Ok (actions, rest) → TakesApply bytes actions rest
 unfolding instruction_at
 instruction_takes bytes actions rest e =
-    let a = bind_ok (instruction_length_at bytes) (λ len. cond (not (eqb (number 2 0 bytes) 4)) (Err bad_instruction) (Ok (take (len - 8) (drop 8 bytes), drop len bytes))) (actions, rest) e in
+    let a = bind_ok (instruction_length_at bytes) (λ len. cond (not (eqb (number 2 0 bytes) 4)) (Err BAD_INSTRUCTION) (Ok (take (len - 8) (drop 8 bytes), drop len bytes))) (actions, rest) e in
     let l = length_takes bytes a.0 a.1 in
-    let p = after_one (not (eqb (number 2 0 bytes) 4)) bad_instruction (two_lists (take (a.0 - 8) (drop 8 bytes)) (drop a.0 bytes)) (two_lists actions rest) a.2 in
+    let p = after_one (not (eqb (number 2 0 bytes) 4)) BAD_INSTRUCTION (two_lists (take (a.0 - 8) (drop 8 bytes)) (drop a.0 bytes)) (two_lists actions rest) a.2 in
     record {
       len = a.0;
       least = l.0;
@@ -116,11 +116,11 @@ second_takes : (ports rest all : List ℕ) → second_at ports rest ≡ Ok all �
 unfolding second_at
 second_takes ports rest all e = cases (eqb (length rest) 0) refl e
   where
-    refuses : (r : Result ℕ Refusal) → (r >>= λ len. Err bad_instruction) ≡ Ok all → ⊥
+    refuses : (r : Result ℕ Refusal) → (r >>= λ len. Err BAD_INSTRUCTION) ≡ Ok all → ⊥
     refuses (Ok len) h = cc
     refuses (Err d) h = cc
 
-    cases : (b : Bool) → eqb (length rest) 0 ≡ b → cond b (Ok ports) (instruction_length_at rest >>= λ len. Err bad_instruction) ≡ Ok all → (length rest ≡ 0) × (ports ≡ all)
+    cases : (b : Bool) → eqb (length rest) 0 ≡ b → cond b (Ok ports) (instruction_length_at rest >>= λ len. Err BAD_INSTRUCTION) ≡ Ok all → (length rest ≡ 0) × (ports ≡ all)
     cases true e h = (eqb-true (length rest) 0 e, ok_is Refusal ports all h)
     cases false e h = absurd (refuses (instruction_length_at rest) h)
 
@@ -162,13 +162,13 @@ IsBody kind body m = (plain_type m ≡ kind) × SpellsBody body m
 error_takes : (body : List ℕ) (m : OfMessage) → error_at body ≡ Ok m → IsBody 1 body m
 unfolding error_at
 error_takes body m e =
-    let p = after_one (ltb (length body) 4) bad_length (plain.Error (number 2 0 body) (number 2 2 body) (drop 4 body)) m e in
+    let p = after_one (ltb (length body) 4) BAD_LENGTH (plain.Error (number 2 0 body) (number 2 2 body) (drop 4 body)) m e in
     subst (λ (x : OfMessage). IsBody 1 body x) p.1 (refl, record { there = ltb-false (length body) 4 p.0; kind_is = refl; code_is = refl; head_is = refl })
 
 experimenter_takes : (body : List ℕ) (m : OfMessage) → experimenter_at body ≡ Ok m → IsBody 4 body m
 unfolding experimenter_at
 experimenter_takes body m e =
-    let p = after_one (ltb (length body) 8) bad_length (plain.Experimenter body) m e in
+    let p = after_one (ltb (length body) 8) BAD_LENGTH (plain.Experimenter body) m e in
     subst (λ (x : OfMessage). IsBody 4 body x) p.1 (refl, record { there = ltb-false (length body) 8 p.0; said_is = refl })
 
 nothing : (xs : List ℕ) → length xs ≡ 0 → xs ≡ []
@@ -178,13 +178,13 @@ nothing (x ∷ xs) h = absurd (omega arith)
 empty_takes : (body : List ℕ) (message m : OfMessage) → empty_at message body ≡ Ok m → (body ≡ []) × (message ≡ m)
 unfolding empty_at
 empty_takes body message m e =
-    let p = after_one (not (eqb (length body) 0)) bad_length message m e in
+    let p = after_one (not (eqb (length body) 0)) BAD_LENGTH message m e in
     (nothing body (same (length body) 0 p.0), p.1)
 
 features_takes : (body : List ℕ) (m : OfMessage) → features_at body ≡ Ok m → IsBody 6 body m
 unfolding features_at
 features_takes body m e =
-    let p = after_one (not (eqb (length body) 24)) bad_length (plain.FeaturesReply (number 8 0 body)) m e in
+    let p = after_one (not (eqb (length body) 24)) BAD_LENGTH (plain.FeaturesReply (number 8 0 body)) m e in
     subst (λ (x : OfMessage). IsBody 6 body x) p.1 (refl, record { whole = same (length body) 24 p.0; datapath_is = refl })
 
 -- a match at the front, and what comes behind it
@@ -225,10 +225,10 @@ port_pair port payload = (port, payload)
 port_takes : (bytes : List ℕ) (port : ℕ) (payload : List ℕ) → IsBytes bytes → port_and_frame_at bytes ≡ Ok (port, payload) → TakesPort bytes port payload
 unfolding port_and_frame_at
 port_takes bytes port payload fits e =
-    let a = bind_ok (as_refusal (matches.match_at bytes)) (λ found. cond (ltb (length (drop found.1 bytes)) 2) (Err bad_length) (port_in found.0) >>= λ port. Ok (port, drop 2 (drop found.1 bytes))) (port, payload) e in
+    let a = bind_ok (as_refusal (matches.match_at bytes)) (λ found. cond (ltb (length (drop found.1 bytes)) 2) (Err BAD_LENGTH) (port_in found.0) >>= λ port. Ok (port, drop 2 (drop found.1 bytes))) (port, payload) e in
     let after = drop a.0.1 bytes in
-    let b = bind_ok (cond (ltb (length after) 2) (Err bad_length) (port_in a.0.0)) (λ port. Ok (port_pair port (drop 2 after))) (port, payload) a.2 in
-    let c = passed (ltb (length after) 2) bad_length (port_in a.0.0) b.0 b.1 in
+    let b = bind_ok (cond (ltb (length after) 2) (Err BAD_LENGTH) (port_in a.0.0)) (λ port. Ok (port_pair port (drop 2 after))) (port, payload) a.2 in
+    let c = passed (ltb (length after) 2) BAD_LENGTH (port_in a.0.0) b.0 b.1 in
     let t = match_at_front bytes a.0.0 a.0.1 fits a.1 in
     let pair = ok_is Refusal (port_pair b.0 (drop 2 after)) (port_pair port payload) b.2 in
     let long : 2 ≤ length after = ltb-false (length after) 2 c.0 in
@@ -246,7 +246,7 @@ packet_in_takes : (body : List ℕ) (p : PacketIn) → IsBytes body → packet_i
 unfolding packet_in_at
 packet_in_takes body p fits e =
     let make : ℕ × List ℕ → PacketIn = λ behind. record { reason = number 1 6 body; cookie = number 8 8 body; in_port = behind.0; payload = behind.1 } in
-    let a = passed (ltb (length body) 16) bad_length (port_and_frame_at (drop 16 body) >>= λ behind. Ok (make behind)) p e in
+    let a = passed (ltb (length body) 16) BAD_LENGTH (port_and_frame_at (drop 16 body) >>= λ behind. Ok (make behind)) p e in
     let b = bind_ok (port_and_frame_at (drop 16 body)) (λ behind. Ok (make behind)) p a.1 in
     let t = port_takes (drop 16 body) b.0.0 b.0.1 (IsBytes-drop 16 body fits) b.1 in
     let made : IsPacketIn body (make b.0) = record {
@@ -266,7 +266,7 @@ packet_in_takes body p fits e =
 port_status_takes : (body : List ℕ) (p : PortStatus) → port_status_at body ≡ Ok p → IsPortStatus body p
 unfolding port_status_at
 port_status_takes body p e =
-    let q = after_one (not (eqb (length body) 72)) bad_length (record { reason = number 1 0 body; port = number 4 8 body; up = eqb (number 4 44 body % 2) 0 }) p e in
+    let q = after_one (not (eqb (length body) 72)) BAD_LENGTH (record { reason = number 1 0 body; port = number 4 8 body; up = eqb (number 4 44 body % 2) 0 }) p e in
     subst (λ (x : PortStatus). IsPortStatus body x) q.1 (record { whole = same (length body) 72 q.0; reason_is = refl; port_is = refl; up_is = refl })
 
 packet_out_takes : (body : List ℕ) (p : PacketOut) → packet_out_at body ≡ Ok p → IsPacketOut body p
@@ -275,7 +275,7 @@ packet_out_takes body p e =
     let rest = drop 16 body in
     let len = number 2 8 body in
     let make : List ℕ → PacketOut = λ actions. record { buffer = number 4 0 body; in_port = number 4 4 body; actions = actions; payload = drop len rest } in
-    let a = passed (ltb (length body) 16 || ltb (length rest) len) bad_length (actions_at (take len rest) >>= λ actions. Ok (make actions)) p e in
+    let a = passed (ltb (length body) 16 || ltb (length rest) len) BAD_LENGTH (actions_at (take len rest) >>= λ actions. Ok (make actions)) p e in
     let b = bind_ok (actions_at (take len rest)) (λ actions. Ok (make actions)) p a.1 in
     let long = or_false (ltb (length body) 16) (ltb (length rest) len) a.0 in
     let room : len ≤ length rest = ltb-false (length rest) len long.1 in
@@ -299,7 +299,7 @@ is_command : (n k : ℕ) (x y : FlowCommand) → command_number x ≡ k → (eqb
 is_command n k x y number h = eqb-true n k h.0 ∙ sym number ∙ ap command_number h.1
 
 abbrev refused_command : Result FlowCommand Refusal
-refused_command = Err bad_command
+refused_command = Err BAD_COMMAND
 
 command_takes : (n : ℕ) (command : FlowCommand) → command_of n ≡ Ok command → n ≡ command_number command
 unfolding command_number command_of
@@ -355,7 +355,7 @@ both_take bytes m ports fits e =
 flow_mod_takes : (body : List ℕ) (c : FlowMod) → IsBytes body → flow_mod_at body ≡ Ok c → IsFlowMod body c
 unfolding flow_mod_at flow_mod_behind command_at flow_mod_of
 flow_mod_takes body c fits e =
-    let a = passed (ltb (length body) 40) bad_length (command_at body >>= λ command. match_and_actions_at (drop 40 body) >>= λ behind. Ok (flow_mod_of body command behind.0 behind.1)) c e in
+    let a = passed (ltb (length body) 40) BAD_LENGTH (command_at body >>= λ command. match_and_actions_at (drop 40 body) >>= λ behind. Ok (flow_mod_of body command behind.0 behind.1)) c e in
     let b = bind_ok (command_at body) (λ command. match_and_actions_at (drop 40 body) >>= λ behind. Ok (flow_mod_of body command behind.0 behind.1)) c a.1 in
     let d = bind_ok (match_and_actions_at (drop 40 body)) (λ behind. Ok (flow_mod_of body b.0 behind.0 behind.1)) c b.2 in
     let t = both_take (drop 40 body) d.0.0 d.0.1 (IsBytes-drop 40 body fits) d.1 in
@@ -389,7 +389,7 @@ two_numbers a b = (a, b)
 role_takes : (body : List ℕ) (r : ℕ × ℕ) → role_at body ≡ Ok r → IsRole body r.0 r.1
 unfolding role_at
 role_takes body r e =
-    let p = after_one (not (eqb (length body) 16)) bad_length (two_numbers (number 4 0 body) (number 8 8 body)) r e in
+    let p = after_one (not (eqb (length body) 16)) BAD_LENGTH (two_numbers (number 4 0 body) (number 8 8 body)) r e in
     subst (λ (x : ℕ × ℕ). IsRole body x.0 x.1) p.1 (record { whole = same (length body) 16 p.0; role_is = refl; generation_is = refl })
 
 -- ---- the table of types
@@ -478,8 +478,8 @@ message_takes bytes m fits e =
     let wrong = not (eqb (number 1 0 bytes) 4) in
     let uneven = not (eqb (number 2 2 bytes) (length bytes)) in
     let read = body_at (number 1 1 bytes) (drop 8 bytes) in
-    let p = passed (leb 1 (length bytes) && wrong) bad_version (cond (ltb (length bytes) 8 || uneven) (Err bad_length) read) m e in
-    let q = passed (ltb (length bytes) 8 || uneven) bad_length read m p.1 in
+    let p = passed (leb 1 (length bytes) && wrong) BAD_VERSION (cond (ltb (length bytes) 8 || uneven) (Err BAD_LENGTH) read) m e in
+    let q = passed (ltb (length bytes) 8 || uneven) BAD_LENGTH read m p.1 in
     let long = or_false (ltb (length bytes) 8) uneven q.0 in
     let there : 8 ≤ length bytes = ltb-false (length bytes) 8 long.0 in
     let b = body_takes (number 1 1 bytes) (drop 8 bytes) m (IsBytes-drop 8 bytes fits) q.1 in

@@ -4,23 +4,13 @@ ghost use Rattle.of_bytes.specs.Reading.{Gives};
 ghost use Rattle.of_messages.specs.Answers.{GivesBody};
 ghost use Rattle.of_messages.specs.Reading.{is_bad_action_length, output_at, actions_at, instruction_length_at, instruction_at, second_at, instructions_at};
 
-use crate::fault::{BodyFault, Refusal};
+use crate::fault::BodyFault;
 use of_bytes::{u16_at, u32_at};
-use of_types::Actions;
+use of_types::{
+    APPLY_ACTIONS, Actions, BAD_ACTION, BAD_ACTION_LENGTH, BAD_INSTRUCTION, BAD_LENGTH, OUTPUT,
+    OUTPUT_LENGTH, Refusal,
+};
 use std::alloc::Global;
-
-const BAD_ACTION: Refusal = Refusal { kind: 2, code: 0 };
-
-const BAD_ACTION_LENGTH: Refusal = Refusal { kind: 2, code: 1 };
-
-const BAD_INSTRUCTION: Refusal = Refusal { kind: 3, code: 1 };
-
-const BAD_LENGTH: Refusal = Refusal { kind: 1, code: 6 };
-
-/// The length of an output.
-const OUTPUT_LENGTH: usize = 16;
-
-const APPLY_ACTIONS: u16 = 4;
 
 fn is_bad_action_length(bytes: &[u8]) -> bool
     ensures { result ≡ is_bad_action_length bytes.now }
@@ -41,10 +31,10 @@ fn output(bytes: &[u8]) -> Result<u32, Refusal>
     if is_bad_action_length(bytes) {
         return Err(BAD_ACTION_LENGTH);
     }
-    if u16_at(bytes, 0) != 0 {
+    if u16_at(bytes, 0) != OUTPUT {
         return Err(BAD_ACTION);
     }
-    if usize::from(u16_at(bytes, 2)) != OUTPUT_LENGTH {
+    if u16_at(bytes, 2) != OUTPUT_LENGTH {
         return Err(BAD_ACTION_LENGTH);
     }
     Ok(u32_at(bytes, 4))
@@ -59,7 +49,7 @@ pub fn read_actions(alloc: Global, bytes: &[u8]) -> Result<Actions, BodyFault>
     'actions: while !rest.is_empty() {
         let port = output(rest)?;
         ports.push(port)?;
-        let (_, after) = rest.split_at(OUTPUT_LENGTH);
+        let (_, after) = rest.split_at(usize::from(OUTPUT_LENGTH));
         rest = after;
     }
     Ok(ports)

@@ -4,19 +4,14 @@ ghost use Rattle.of_messages.specs.Answers.{GivesBody};
 ghost use Rattle.of_messages.specs.Reading.{error_at, experimenter_at, empty_at, features_at, port_in, port_and_frame_at, packet_in_at, port_status_at, packet_out_at, command_of, command_at, match_and_actions_at, flow_mod_of, flow_mod_behind, flow_mod_at};
 
 use crate::actions::{read_actions, read_instructions};
-use crate::fault::{BodyFault, Refusal};
+use crate::fault::BodyFault;
 use of_bytes::{u8_at, u16_at, u32_at, u64_at};
 use of_match::read_match;
 use of_types::{
-    Actions, FlowCommand, FlowMod, Match, Octets, OfMessage, PacketIn, PacketOut, PortStatus,
+    Actions, BAD_COMMAND, BAD_FIELD, BAD_LENGTH, FlowCommand, FlowMod, Match, Octets, OfMessage,
+    PacketIn, PacketOut, PortStatus, Refusal, flow_command,
 };
 use std::alloc::Global;
-
-const BAD_LENGTH: Refusal = Refusal { kind: 1, code: 6 };
-
-const NO_IN_PORT: Refusal = Refusal { kind: 4, code: 6 };
-
-const BAD_COMMAND: Refusal = Refusal { kind: 5, code: 6 };
 
 #[tactic(auto, unfolding(crate::specs::Reading::error_at))]
 pub fn read_error(alloc: Global, body: &[u8]) -> Result<OfMessage, BodyFault>
@@ -72,7 +67,7 @@ fn port_in(matching: Match) -> Result<u32, Refusal>
 {
     match matching.in_port {
         Some(port) => Ok(port),
-        None => Err(NO_IN_PORT),
+        None => Err(BAD_FIELD),
     }
 }
 
@@ -145,11 +140,11 @@ fn command_of(number: u8) -> Result<FlowCommand, Refusal>
     ensures { result ≡ command_of number }
 {
     match number {
-        0 => Ok(FlowCommand::Add),
-        1 => Ok(FlowCommand::Modify),
-        2 => Ok(FlowCommand::ModifyStrict),
-        3 => Ok(FlowCommand::Delete),
-        4 => Ok(FlowCommand::DeleteStrict),
+        flow_command::ADD => Ok(FlowCommand::Add),
+        flow_command::MODIFY => Ok(FlowCommand::Modify),
+        flow_command::MODIFY_STRICT => Ok(FlowCommand::ModifyStrict),
+        flow_command::DELETE => Ok(FlowCommand::Delete),
+        flow_command::DELETE_STRICT => Ok(FlowCommand::DeleteStrict),
         _ => Err(BAD_COMMAND),
     }
 }

@@ -4,6 +4,10 @@ ghost use Rattle.of_messages.specs.declared.fault.BodyFault.TheVariants as body_
 ghost use Rattle.of_messages.specs.Errors.{of_match_fault};
 
 use of_match::MatchFault;
+use of_types::{
+    BAD_FIELD, BAD_MASK, BAD_MATCH_LENGTH, BAD_MATCH_TYPE, BAD_PREREQUISITE, BAD_WILDCARD,
+    REPEATED_FIELD, Refusal,
+};
 use std::alloc::{AllocError, AllocFailed};
 
 /// The first error of bytes, as an ERROR message has it (OpenFlow 1.3, 7.4.4), with the number of the
@@ -12,13 +16,6 @@ use std::alloc::{AllocError, AllocFailed};
 pub enum OfFault {
     Wire { kind: u16, code: u16, xid: u32 },
     OutOfMemory,
-}
-
-/// The type and the code of an error.
-#[derive(Clone, Copy, PartialEq, Eq, Debug)]
-pub struct Refusal {
-    pub kind: u16,
-    pub code: u16,
 }
 
 /// The first error of a part of a message.
@@ -56,16 +53,15 @@ impl From<Refusal> for BodyFault {
 pub fn refused_match(fault: MatchFault) -> Refusal
     ensures { result ≡ of_match_fault fault }
 {
-    let code = match fault {
-        MatchFault::BadType => 0,
-        MatchFault::BadLength => 1,
-        MatchFault::BadWildcard => 5,
-        MatchFault::BadField => 6,
-        MatchFault::BadMask => 8,
-        MatchFault::Prerequisite => 9,
-        MatchFault::Repeated => 10,
-    };
-    Refusal { kind: 4, code }
+    match fault {
+        MatchFault::BadType => BAD_MATCH_TYPE,
+        MatchFault::BadLength => BAD_MATCH_LENGTH,
+        MatchFault::BadWildcard => BAD_WILDCARD,
+        MatchFault::BadField => BAD_FIELD,
+        MatchFault::BadMask => BAD_MASK,
+        MatchFault::Prerequisite => BAD_PREREQUISITE,
+        MatchFault::Repeated => REPEATED_FIELD,
+    }
 }
 
 impl From<MatchFault> for BodyFault {

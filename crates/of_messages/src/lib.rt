@@ -9,7 +9,7 @@ mod fitting;
 mod reading;
 mod writing;
 
-pub use fault::{BodyFault, OfFault, Refusal};
+pub use fault::{BodyFault, OfFault};
 pub use fitting::{flow_mod_fits, packet_in_fits, packet_out_fits, port_status_fits};
 pub use reading::{decode, message_law, read_message, xid_of};
 pub use writing::{

@@ -14,19 +14,12 @@ use crate::bodies::{
     read_empty, read_error, read_experimenter, read_features, read_flow_mod, read_packet_in,
     read_packet_out, read_port_status,
 };
-use crate::fault::{BodyFault, OfFault, Refusal};
+use crate::fault::{BodyFault, OfFault};
 use of_bytes::{u8_at, u16_at, u32_at, u64_at};
-use of_types::{Octets, OfMessage};
+use of_types::{
+    BAD_LENGTH, BAD_TYPE, BAD_VERSION, Octets, OfMessage, Refusal, VERSION, message_type,
+};
 use std::alloc::Global;
-
-const BAD_VERSION: Refusal = Refusal { kind: 1, code: 0 };
-
-const BAD_TYPE: Refusal = Refusal { kind: 1, code: 1 };
-
-const BAD_LENGTH: Refusal = Refusal { kind: 1, code: 6 };
-
-/// The version of OpenFlow 1.3.
-const VERSION: u8 = 4;
 
 /// The length of a header.
 const HEADER: usize = 8;
@@ -48,28 +41,28 @@ fn read_body(alloc: Global, kind: u8, body: &[u8]) -> Result<OfMessage, BodyFaul
     ensures { GivesBody (λ m. m) result (body_at kind body.now) }
 {
     match kind {
-        0 => Ok(OfMessage::Hello),
-        1 => read_error(alloc, body),
-        2 => Ok(OfMessage::EchoRequest {
+        message_type::HELLO => Ok(OfMessage::Hello),
+        message_type::ERROR => read_error(alloc, body),
+        message_type::ECHO_REQUEST => Ok(OfMessage::EchoRequest {
             body: Octets::from_slice(alloc, body)?,
         }),
-        3 => Ok(OfMessage::EchoReply {
+        message_type::ECHO_REPLY => Ok(OfMessage::EchoReply {
             body: Octets::from_slice(alloc, body)?,
         }),
-        4 => read_experimenter(alloc, body),
-        5 => read_empty(OfMessage::FeaturesRequest, body),
-        6 => read_features(body),
-        10 => Ok(OfMessage::PacketIn(read_packet_in(alloc, body)?)),
-        12 => Ok(OfMessage::PortStatus(read_port_status(body)?)),
-        13 => Ok(OfMessage::PacketOut(read_packet_out(alloc, body)?)),
-        14 => Ok(OfMessage::FlowMod(read_flow_mod(alloc, body)?)),
-        20 => read_empty(OfMessage::BarrierRequest, body),
-        21 => read_empty(OfMessage::BarrierReply, body),
-        24 => {
+        message_type::EXPERIMENTER => read_experimenter(alloc, body),
+        message_type::FEATURES_REQUEST => read_empty(OfMessage::FeaturesRequest, body),
+        message_type::FEATURES_REPLY => read_features(body),
+        message_type::PACKET_IN => Ok(OfMessage::PacketIn(read_packet_in(alloc, body)?)),
+        message_type::PORT_STATUS => Ok(OfMessage::PortStatus(read_port_status(body)?)),
+        message_type::PACKET_OUT => Ok(OfMessage::PacketOut(read_packet_out(alloc, body)?)),
+        message_type::FLOW_MOD => Ok(OfMessage::FlowMod(read_flow_mod(alloc, body)?)),
+        message_type::BARRIER_REQUEST => read_empty(OfMessage::BarrierRequest, body),
+        message_type::BARRIER_REPLY => read_empty(OfMessage::BarrierReply, body),
+        message_type::ROLE_REQUEST => {
             let (role, generation) = read_role(body)?;
             Ok(OfMessage::RoleRequest { role, generation })
         }
-        25 => {
+        message_type::ROLE_REPLY => {
             let (role, generation) = read_role(body)?;
             Ok(OfMessage::RoleReply { role, generation })
         }

@@ -10,8 +10,9 @@ use crate::fitting::message_fits;
 use of_bytes::{eight, four, long_length, one, two, u32_fits, zeros};
 use of_match::write_match;
 use of_types::{
-    FlowCommand, FlowMod, Match, NO_BUFFER, Octets, OfMessage, PacketIn, PacketOut, PortStatus,
-    TO_CONTROLLER, any_match,
+    APPLY_ACTIONS, FlowCommand, FlowMod, LINK_DOWN, Match, NO_BUFFER, OUTPUT, OUTPUT_LENGTH,
+    Octets, OfMessage, PacketIn, PacketOut, PortStatus, TO_CONTROLLER, VERSION, WHOLE_FRAME,
+    any_match, flow_command, message_type,
 };
 use std::alloc::{AllocError, Global};
 
@@ -19,15 +20,19 @@ use std::alloc::{AllocError, Global};
 fn max_len(port: u32) -> u16
     ensures { result ≡ max_len port }
 {
-    if port == TO_CONTROLLER { 0xffff } else { 0 }
+    if port == TO_CONTROLLER {
+        WHOLE_FRAME
+    } else {
+        0
+    }
 }
 
 #[tactic(auto, unfolding(crate::specs::Canonical::action))]
 fn write_action(out: &mut Octets, port: u32) -> Result<(), AllocError>
     ensures { OnOk result (out.new ≡ out.old ++ action port) }
 {
-    out.append(&two(0))?;
-    out.append(&two(16))?;
+    out.append(&two(OUTPUT))?;
+    out.append(&two(OUTPUT_LENGTH))?;
     out.append(&four(port))?;
     out.append(&two(max_len(port)))?;
     out.append(&zeros::<6>())?;
@@ -50,7 +55,7 @@ pub fn actions_of(alloc: Global, ports: &[u32]) -> Result<Octets, AllocError>
 fn write_applied(out: &mut Octets, actions: &[u8]) -> Result<(), AllocError>
     ensures { OnOk result (out.new ≡ out.old ++ applied actions.now) }
 {
-    out.append(&two(4))?;
+    out.append(&two(APPLY_ACTIONS))?;
     out.append(&long_length(8 + actions.len()))?;
     out.append(&zeros::<4>())?;
     out.append(actions)?;
@@ -106,7 +111,7 @@ fn write_packet_in(alloc: Global, out: &mut Octets, packet: &PacketIn) -> Result
 fn port_state(up: bool) -> u32
     ensures { result ≡ port_state up }
 {
-    if up { 0 } else { 1 }
+    if up { 0 } else { LINK_DOWN }
 }
 
 #[tactic(auto, unfolding(crate::specs::Canonical::port_status_body))]
@@ -142,11 +147,11 @@ fn command_number(command: FlowCommand) -> u8
     ensures { result ≡ command_number command }
 {
     match command {
-        FlowCommand::Add => 0,
-        FlowCommand::Modify => 1,
-        FlowCommand::ModifyStrict => 2,
-        FlowCommand::Delete => 3,
-        FlowCommand::DeleteStrict => 4,
+        FlowCommand::Add => flow_command::ADD,
+        FlowCommand::Modify => flow_command::MODIFY,
+        FlowCommand::ModifyStrict => flow_command::MODIFY_STRICT,
+        FlowCommand::Delete => flow_command::DELETE,
+        FlowCommand::DeleteStrict => flow_command::DELETE_STRICT,
     }
 }
 
@@ -256,7 +261,7 @@ fn framed(alloc: Global, kind: u8, xid: u32, body: &[u8]) -> Result<Octets, Allo
     ensures { IfOk result (λ bytes. bytes ≡ framed kind xid body.now) }
 {
     let mut out = Octets::new(alloc);
-    out.append(&one(4))?;
+    out.append(&one(VERSION))?;
     out.append(&one(kind))?;
     out.append(&long_length(8 + body.len()))?;
     out.append(&four(xid))?;
@@ -268,21 +273,21 @@ fn plain_type(message: &OfMessage) -> u8
     ensures { result ≡ plain_type message.now }
 {
     match message {
-        OfMessage::Hello => 0,
-        OfMessage::Error { .. } => 1,
-        OfMessage::EchoRequest { .. } => 2,
-        OfMessage::EchoReply { .. } => 3,
-        OfMessage::Experimenter { .. } => 4,
-        OfMessage::FeaturesRequest => 5,
-        OfMessage::FeaturesReply { .. } => 6,
-        OfMessage::PacketIn(_) => 10,
-        OfMessage::PortStatus(_) => 12,
-        OfMessage::PacketOut(_) => 13,
-        OfMessage::FlowMod(_) => 14,
-        OfMessage::BarrierRequest => 20,
-        OfMessage::BarrierReply => 21,
-        OfMessage::RoleRequest { .. } => 24,
-        OfMessage::RoleReply { .. } => 25,
+        OfMessage::Hello => message_type::HELLO,
+        OfMessage::Error { .. } => message_type::ERROR,
+        OfMessage::EchoRequest { .. } => message_type::ECHO_REQUEST,
+        OfMessage::EchoReply { .. } => message_type::ECHO_REPLY,
+        OfMessage::Experimenter { .. } => message_type::EXPERIMENTER,
+        OfMessage::FeaturesRequest => message_type::FEATURES_REQUEST,
+        OfMessage::FeaturesReply { .. } => message_type::FEATURES_REPLY,
+        OfMessage::PacketIn(_) => message_type::PACKET_IN,
+        OfMessage::PortStatus(_) => message_type::PORT_STATUS,
+        OfMessage::PacketOut(_) => message_type::PACKET_OUT,
+        OfMessage::FlowMod(_) => message_type::FLOW_MOD,
+        OfMessage::BarrierRequest => message_type::BARRIER_REQUEST,
+        OfMessage::BarrierReply => message_type::BARRIER_REPLY,
+        OfMessage::RoleRequest { .. } => message_type::ROLE_REQUEST,
+        OfMessage::RoleReply { .. } => message_type::ROLE_REPLY,
     }
 }
 
@@ -316,7 +321,7 @@ pub fn encode_packet_in(alloc: Global, xid: u32, packet: &PacketIn) -> Result<Oc
 {
     let mut body = Octets::new(alloc);
     write_packet_in(alloc, &mut body, packet)?;
-    framed(alloc, 10, xid, body.as_slice())
+    framed(alloc, message_type::PACKET_IN, xid, body.as_slice())
 }
 
 /// A PORT_STATUS, as `encode` writes it.
@@ -330,7 +335,7 @@ pub fn encode_port_status(
 {
     let mut body = Octets::new(alloc);
     write_port_status(&mut body, status)?;
-    framed(alloc, 12, xid, body.as_slice())
+    framed(alloc, message_type::PORT_STATUS, xid, body.as_slice())
 }
 
 /// A PACKET_OUT, as `encode` writes it.
@@ -340,7 +345,7 @@ pub fn encode_packet_out(alloc: Global, xid: u32, packet: &PacketOut) -> Result<
 {
     let mut body = Octets::new(alloc);
     write_packet_out(alloc, &mut body, packet)?;
-    framed(alloc, 13, xid, body.as_slice())
+    framed(alloc, message_type::PACKET_OUT, xid, body.as_slice())
 }
 
 /// A FLOW_MOD, as `encode` writes it.
@@ -350,5 +355,5 @@ pub fn encode_flow_mod(alloc: Global, xid: u32, change: &FlowMod) -> Result<Octe
 {
     let mut body = Octets::new(alloc);
     write_flow_mod(alloc, &mut body, change)?;
-    framed(alloc, 14, xid, body.as_slice())
+    framed(alloc, message_type::FLOW_MOD, xid, body.as_slice())
 }

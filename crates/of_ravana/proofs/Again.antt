@@ -2,9 +2,9 @@
 use Rattle.std.proofs.Common.{◌≡◌, ℕ, true, eqb, List, length, drop, Ok, refl, arith, eq-eqb}
 use Rattle.std.specs.Prelude.{◌||◌}
 use Rattle.std.proofs.lemmas.Bool.{le-ltb}
-use Rattle.of_messages.specs.declared.fault.Refusal.{Refusal}
+use Rattle.of_types.specs.declared.refusal.Refusal.{Refusal}
 use Rattle.of_messages.specs.Canonical.{plain_type}
-use Rattle.of_messages.specs.Errors.{bad_type}
+use Rattle.of_types.specs.declared.refusal.TheConstants.{BAD_TYPE, NOT_PERMITTED}
 use Rattle.of_messages.proofs.Again.{message_again}
 use Rattle.of_types.specs.declared.message.Extension.{Extension}
 use Rattle.of_types.specs.declared.message.Extension.TheVariants as extension
@@ -18,7 +18,7 @@ use Rattle.of_types.specs.declared.message.Outcome.{Outcome}
 use Rattle.of_types.specs.declared.message.Outcome.TheVariants as outcome
 use Rattle.of_ravana.specs.Canonical.{happening_message, order_message}
 use Rattle.of_ravana.specs.Grammar.{SpellsInner, IsFront, IsEvent, IsThrough, IsCommand, SpellsOutcome, IsCmdAck, SpellsExtension}
-use Rattle.of_ravana.specs.Reading.{not_permitted, inner_at, happening_at, order_at, event_at, through_at, command_at, outcome_at, cmd_ack_at, body_at, extension_at}
+use Rattle.of_ravana.specs.Reading.{inner_at, happening_at, order_at, event_at, through_at, command_at, outcome_at, cmd_ack_at, body_at, extension_at}
 
 inner_again : (one other : ℕ) (wrong : Refusal) (bytes : List ℕ) (m : OfMessage) → SpellsInner bytes m → (eqb (plain_type m) one || eqb (plain_type m) other) ≡ true
     → inner_at one other wrong bytes ≡ Ok m
@@ -29,13 +29,13 @@ inner_again one other wrong bytes m s right =
 
 happening_again : (bytes : List ℕ) (what : Happening) → SpellsInner bytes (happening_message what) → happening_at bytes ≡ Ok what
 unfolding happening_at
-happening_again bytes (happening.PacketIn p) s = rw (inner_again 10 12 bad_type bytes (plain.PacketIn p) s refl) refl
-happening_again bytes (happening.PortStatus p) s = rw (inner_again 10 12 bad_type bytes (plain.PortStatus p) s refl) refl
+happening_again bytes (happening.PacketIn p) s = rw (inner_again 10 12 BAD_TYPE bytes (plain.PacketIn p) s refl) refl
+happening_again bytes (happening.PortStatus p) s = rw (inner_again 10 12 BAD_TYPE bytes (plain.PortStatus p) s refl) refl
 
 order_again : (bytes : List ℕ) (what : Order) → SpellsInner bytes (order_message what) → order_at bytes ≡ Ok what
 unfolding order_at
-order_again bytes (order.FlowMod c) s = rw (inner_again 13 14 not_permitted bytes (plain.FlowMod c) s refl) refl
-order_again bytes (order.PacketOut p) s = rw (inner_again 13 14 not_permitted bytes (plain.PacketOut p) s refl) refl
+order_again bytes (order.FlowMod c) s = rw (inner_again 13 14 NOT_PERMITTED bytes (plain.FlowMod c) s refl) refl
+order_again bytes (order.PacketOut p) s = rw (inner_again 13 14 NOT_PERMITTED bytes (plain.PacketOut p) s refl) refl
 
 event_again : (body : List ℕ) (life event : ℕ) (what : Happening) → IsEvent body life event what → event_at body ≡ Ok (extension.Event life event what)
 unfolding event_at

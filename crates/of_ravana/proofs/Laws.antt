@@ -5,7 +5,7 @@ use Rattle.of_bytes.proofs.Bytes.{IsBytes}
 use Rattle.of_bytes.proofs.Steps.{ok_is}
 use Rattle.of_messages.specs.declared.fault.OfFault.{OfFault}
 use Rattle.of_messages.specs.declared.fault.OfFault.TheVariants as fault
-use Rattle.of_messages.specs.declared.fault.Refusal.{Refusal}
+use Rattle.of_types.specs.declared.refusal.Refusal.{Refusal}
 use Rattle.of_messages.specs.Answers.{IsRead}
 use Rattle.of_messages.specs.Errors.{refusal}
 use Rattle.of_types.specs.declared.message.Extension.{Extension}

@@ -6,8 +6,8 @@ use Rattle.of_bytes.specs.Numbers.{number}
 use Rattle.of_bytes.specs.Reading.{◌>>=◌}
 use Rattle.of_bytes.proofs.Bytes.{IsBytes, IsBytes-drop}
 use Rattle.of_bytes.proofs.Steps.{bind_ok, passed, ok_is}
-use Rattle.of_messages.specs.declared.fault.Refusal.{Refusal}
-use Rattle.of_messages.specs.Errors.{bad_type, bad_length}
+use Rattle.of_types.specs.declared.refusal.Refusal.{Refusal}
+use Rattle.of_types.specs.declared.refusal.TheConstants.{BAD_EXPERIMENTER, BAD_LENGTH, BAD_TYPE, NOT_PERMITTED}
 use Rattle.of_messages.specs.Reading.{message_at, xid_of}
 use Rattle.of_messages.proofs.Takes.{message_takes, same, after_one}
 use Rattle.of_types.specs.declared.message.Extension.{Extension}
@@ -20,15 +20,16 @@ use Rattle.of_types.specs.declared.message.Order.{Order}
 use Rattle.of_types.specs.declared.message.Order.TheVariants as order
 use Rattle.of_types.specs.declared.message.Outcome.{Outcome}
 use Rattle.of_types.specs.declared.message.Outcome.TheVariants as outcome
-use Rattle.of_ravana.specs.Canonical.{ravana, happening_message, order_message}
+use Rattle.of_ravana.specs.Canonical.{happening_message, order_message}
+use Rattle.of_types.specs.declared.numbers.TheConstants.{RAVANA}
 use Rattle.of_ravana.specs.Grammar.{SpellsInner, IsFront, IsEvent, IsThrough, IsCommand, SpellsOutcome, IsCmdAck, SpellsExtension}
-use Rattle.of_ravana.specs.Reading.{bad_experimenter, not_permitted, inner_at, as_happening, as_order, happening_at, order_at, event_at, through_at, command_at, outcome_at, cmd_ack_at, beside, bodies_at, body_at, extension_at}
+use Rattle.of_ravana.specs.Reading.{inner_at, as_happening, as_order, happening_at, order_at, event_at, through_at, command_at, outcome_at, cmd_ack_at, beside, bodies_at, body_at, extension_at}
 
 inner_takes : (one other : ℕ) (wrong : Refusal) (bytes : List ℕ) (m : OfMessage) → IsBytes bytes → inner_at one other wrong bytes ≡ Ok m → SpellsInner bytes m
 unfolding inner_at
 inner_takes one other wrong bytes m fits e =
     let unknown = not (eqb (number 1 1 bytes) one || eqb (number 1 1 bytes) other) in
-    let p = passed (ltb (length bytes) 4 || not (eqb (number 2 2 bytes) (length bytes))) bad_length (cond unknown (Err wrong) (message_at bytes)) m e in
+    let p = passed (ltb (length bytes) 4 || not (eqb (number 2 2 bytes) (length bytes))) BAD_LENGTH (cond unknown (Err wrong) (message_at bytes)) m e in
     let q = passed unknown wrong (message_at bytes) m p.1 in
     (xid_of bytes, message_takes bytes m fits q.1)
 
@@ -69,29 +70,29 @@ is_order (plain.RoleReply r g) what e = absurd cc
 happening_takes : (bytes : List ℕ) (what : Happening) → IsBytes bytes → happening_at bytes ≡ Ok what → SpellsInner bytes (happening_message what)
 unfolding happening_at
 happening_takes bytes what fits e =
-    let a = bind_ok (inner_at 10 12 bad_type bytes) as_happening what e in
-    subst (λ (m : OfMessage). SpellsInner bytes m) (is_happening a.0 what a.2) (inner_takes 10 12 bad_type bytes a.0 fits a.1)
+    let a = bind_ok (inner_at 10 12 BAD_TYPE bytes) as_happening what e in
+    subst (λ (m : OfMessage). SpellsInner bytes m) (is_happening a.0 what a.2) (inner_takes 10 12 BAD_TYPE bytes a.0 fits a.1)
 
 order_takes : (bytes : List ℕ) (what : Order) → IsBytes bytes → order_at bytes ≡ Ok what → SpellsInner bytes (order_message what)
 unfolding order_at
 order_takes bytes what fits e =
-    let a = bind_ok (inner_at 13 14 not_permitted bytes) as_order what e in
-    subst (λ (m : OfMessage). SpellsInner bytes m) (is_order a.0 what a.2) (inner_takes 13 14 not_permitted bytes a.0 fits a.1)
+    let a = bind_ok (inner_at 13 14 NOT_PERMITTED bytes) as_order what e in
+    subst (λ (m : OfMessage). SpellsInner bytes m) (is_order a.0 what a.2) (inner_takes 13 14 NOT_PERMITTED bytes a.0 fits a.1)
 
 -- ---- bodies
 
 -- A body behind the number of Ravana and of this type spells the message.
 abbrev IsBody : ℕ → List ℕ → Extension → Type 0
-IsBody kind body said = number 4 0 body ≡ ravana → number 4 4 body ≡ kind → SpellsExtension body said
+IsBody kind body said = number 4 0 body ≡ RAVANA → number 4 4 body ≡ kind → SpellsExtension body said
 
-front : (body : List ℕ) (kind : ℕ) → number 4 0 body ≡ ravana → number 4 4 body ≡ kind → 16 ≤ length body → IsFront body kind (number 4 8 body)
+front : (body : List ℕ) (kind : ℕ) → number 4 0 body ≡ RAVANA → number 4 4 body ≡ kind → 16 ≤ length body → IsFront body kind (number 4 8 body)
 front body kind r k there = record { there = there; experimenter_is = r; kind_is = k; life_is = refl }
 
 event_takes : (body : List ℕ) (said : Extension) → IsBytes body → event_at body ≡ Ok said → IsBody 1 body said
 unfolding event_at
 event_takes body said fits e r k =
     let make : Happening → Extension = λ what. extension.Event (number 4 8 body) (number 8 16 body) what in
-    let a = passed (ltb (length body) 24) bad_length (happening_at (drop 24 body) >>= λ what. Ok (make what)) said e in
+    let a = passed (ltb (length body) 24) BAD_LENGTH (happening_at (drop 24 body) >>= λ what. Ok (make what)) said e in
     let b = bind_ok (happening_at (drop 24 body)) (λ what. Ok (make what)) said a.1 in
     let there : 24 ≤ length body = ltb-false (length body) 24 a.0 in
     let made : IsEvent body (number 4 8 body) (number 8 16 body) b.0 = record {
@@ -105,10 +106,10 @@ event_takes body said fits e r k =
 abbrev two_numbers : ℕ → ℕ → ℕ × ℕ
 two_numbers a b = (a, b)
 
-through_takes : (body : List ℕ) (kind : ℕ) (x : ℕ × ℕ) → number 4 0 body ≡ ravana → number 4 4 body ≡ kind → through_at body ≡ Ok x → IsThrough body kind x.0 x.1
+through_takes : (body : List ℕ) (kind : ℕ) (x : ℕ × ℕ) → number 4 0 body ≡ RAVANA → number 4 4 body ≡ kind → through_at body ≡ Ok x → IsThrough body kind x.0 x.1
 unfolding through_at
 through_takes body kind x r k e =
-    let p = after_one (not (eqb (length body) 24)) bad_length (two_numbers (number 4 8 body) (number 8 16 body)) x e in
+    let p = after_one (not (eqb (length body) 24)) BAD_LENGTH (two_numbers (number 4 8 body) (number 8 16 body)) x e in
     let whole : length body ≡ 24 = same (length body) 24 p.0 in
     let made : IsThrough body kind (number 4 8 body) (number 8 16 body) = record { front = front body kind r k (omega arith); whole = whole; through_is = refl } in
     subst (λ (y : ℕ × ℕ). IsThrough body kind y.0 y.1) p.1 made
@@ -117,7 +118,7 @@ command_takes : (body : List ℕ) (said : Extension) → IsBytes body → comman
 unfolding command_at
 command_takes body said fits e r k =
     let make : Order → Extension = λ what. extension.Command (number 4 8 body) (number 8 16 body) (number 8 24 body) (number 8 32 body) what in
-    let a = passed (ltb (length body) 40) bad_length (order_at (drop 40 body) >>= λ what. Ok (make what)) said e in
+    let a = passed (ltb (length body) 40) BAD_LENGTH (order_at (drop 40 body) >>= λ what. Ok (make what)) said e in
     let b = bind_ok (order_at (drop 40 body)) (λ what. Ok (make what)) said a.1 in
     let there : 40 ≤ length body = ltb-false (length body) 40 a.0 in
     let made : IsCommand body (number 4 8 body) (number 8 16 body) (number 8 24 body) (number 8 32 body) b.0 = record {
@@ -135,15 +136,15 @@ outcome_takes : (body : List ℕ) (result : Outcome) → outcome_at body ≡ Ok 
 unfolding outcome_at
 outcome_takes body result e = done (eqb (number 2 24 body) 0) refl e
   where
-    cleared : (b : Bool) → eqb (number 2 24 body) 2 ≡ b → cond b (Ok outcome.Cleared) (Err bad_length) ≡ Ok result → SpellsOutcome body result
+    cleared : (b : Bool) → eqb (number 2 24 body) 2 ≡ b → cond b (Ok outcome.Cleared) (Err BAD_LENGTH) ≡ Ok result → SpellsOutcome body result
     cleared true h e = subst (λ (x : Outcome). SpellsOutcome body x) (ok_is Refusal outcome.Cleared result e) (eqb-true (number 2 24 body) 2 h)
     cleared false h e = absurd cc
 
-    failed : (b : Bool) → eqb (number 2 24 body) 1 ≡ b → cond b (Ok (outcome.Failed (number 2 26 body) (number 2 28 body))) (cond (eqb (number 2 24 body) 2) (Ok outcome.Cleared) (Err bad_length)) ≡ Ok result → SpellsOutcome body result
+    failed : (b : Bool) → eqb (number 2 24 body) 1 ≡ b → cond b (Ok (outcome.Failed (number 2 26 body) (number 2 28 body))) (cond (eqb (number 2 24 body) 2) (Ok outcome.Cleared) (Err BAD_LENGTH)) ≡ Ok result → SpellsOutcome body result
     failed true h e = subst (λ (x : Outcome). SpellsOutcome body x) (ok_is Refusal (outcome.Failed (number 2 26 body) (number 2 28 body)) result e) (eqb-true (number 2 24 body) 1 h, refl, refl)
     failed false h e = cleared (eqb (number 2 24 body) 2) refl e
 
-    done : (b : Bool) → eqb (number 2 24 body) 0 ≡ b → cond b (Ok outcome.Done) (cond (eqb (number 2 24 body) 1) (Ok (outcome.Failed (number 2 26 body) (number 2 28 body))) (cond (eqb (number 2 24 body) 2) (Ok outcome.Cleared) (Err bad_length))) ≡ Ok result → SpellsOutcome body result
+    done : (b : Bool) → eqb (number 2 24 body) 0 ≡ b → cond b (Ok outcome.Done) (cond (eqb (number 2 24 body) 1) (Ok (outcome.Failed (number 2 26 body) (number 2 28 body))) (cond (eqb (number 2 24 body) 2) (Ok outcome.Cleared) (Err BAD_LENGTH))) ≡ Ok result → SpellsOutcome body result
     done true h e = subst (λ (x : Outcome). SpellsOutcome body x) (ok_is Refusal outcome.Done result e) (eqb-true (number 2 24 body) 0 h)
     done false h e = failed (eqb (number 2 24 body) 1) refl e
 
@@ -151,7 +152,7 @@ cmd_ack_takes : (body : List ℕ) (said : Extension) → cmd_ack_at body ≡ Ok 
 unfolding cmd_ack_at
 cmd_ack_takes body said e r k =
     let make : Outcome → Extension = λ result. extension.CmdAck (number 4 8 body) (number 8 16 body) result in
-    let a = passed (not (eqb (length body) 32)) bad_length (outcome_at body >>= λ result. Ok (make result)) said e in
+    let a = passed (not (eqb (length body) 32)) BAD_LENGTH (outcome_at body >>= λ result. Ok (make result)) said e in
     let b = bind_ok (outcome_at body) (λ result. Ok (make result)) said a.1 in
     let whole : length body ≡ 32 = same (length body) 32 a.0 in
     let made : IsCmdAck body (number 4 8 body) (number 8 16 body) b.0 = record {
@@ -213,8 +214,8 @@ body_takes kind body said fits e = beside_takes kind (bodies_at body) body said 
 pub extension_takes : (body : List ℕ) (said : Extension) → IsBytes body → extension_at body ≡ Ok said → SpellsExtension body said
 unfolding extension_at
 extension_takes body said fits e =
-    let stranger = not (eqb (number 4 0 body) ravana) in
+    let stranger = not (eqb (number 4 0 body) RAVANA) in
     let read = body_at (number 4 4 body) body in
-    let p = passed (ltb (length body) 8) bad_length (cond stranger (Err bad_experimenter) read) said e in
-    let q = passed stranger bad_experimenter read said p.1 in
-    body_takes (number 4 4 body) body said fits q.1 (same (number 4 0 body) ravana q.0) refl
+    let p = passed (ltb (length body) 8) BAD_LENGTH (cond stranger (Err BAD_EXPERIMENTER) read) said e in
+    let q = passed stranger BAD_EXPERIMENTER read said p.1 in
+    body_takes (number 4 4 body) body said fits q.1 (same (number 4 0 body) RAVANA q.0) refl

@@ -11,21 +11,14 @@ ghost use Rattle.of_ravana.specs.Fits.{FitsExtension};
 ghost use Rattle.of_ravana.specs.Grammar.{SpellsExtension};
 ghost use Rattle.of_ravana.specs.Reading.{inner_at, as_happening, as_order, happening_at, order_at, event_at, through_at, command_at, outcome_at, cmd_ack_at, body_at, extension_at};
 
-use crate::writing::RAVANA;
 use of_bytes::{u8_at, u16_at, u32_at, u64_at};
-use of_messages::{BodyFault, OfFault, Refusal, read_message};
-use of_types::{Extension, Happening, OfMessage, Order, Outcome};
+use of_messages::{BodyFault, OfFault, read_message};
+use of_types::{
+    BAD_EXPERIMENTER, BAD_EXPERIMENTER_TYPE, BAD_LENGTH, BAD_TYPE, Extension, Happening,
+    NOT_PERMITTED, OfMessage, Order, Outcome, RAVANA, Refusal, command_status, extension_type,
+    message_type,
+};
 use std::alloc::Global;
-
-const BAD_TYPE: Refusal = Refusal { kind: 1, code: 1 };
-
-const BAD_EXPERIMENTER: Refusal = Refusal { kind: 1, code: 3 };
-
-const BAD_EXPERIMENTER_TYPE: Refusal = Refusal { kind: 1, code: 4 };
-
-const NOT_PERMITTED: Refusal = Refusal { kind: 1, code: 5 };
-
-const BAD_LENGTH: Refusal = Refusal { kind: 1, code: 6 };
 
 /// A message inside another one, which has one of two types.
 #[tactic(auto, unfolding(crate::specs::Reading::inner_at))]
@@ -71,7 +64,12 @@ fn as_order(message: OfMessage) -> Result<Order, Refusal>
 fn read_happening(alloc: Global, bytes: &[u8]) -> Result<Happening, BodyFault>
     ensures { GivesBody (λ what. what) result (happening_at bytes.now) }
 {
-    let message = read_inner(alloc, (10, 12), BAD_TYPE, bytes)?;
+    let message = read_inner(
+        alloc,
+        (message_type::PACKET_IN, message_type::PORT_STATUS),
+        BAD_TYPE,
+        bytes,
+    )?;
     let what = as_happening(message)?;
     Ok(what)
 }
@@ -80,7 +78,12 @@ fn read_happening(alloc: Global, bytes: &[u8]) -> Result<Happening, BodyFault>
 fn read_order(alloc: Global, bytes: &[u8]) -> Result<Order, BodyFault>
     ensures { GivesBody (λ what. what) result (order_at bytes.now) }
 {
-    let message = read_inner(alloc, (13, 14), NOT_PERMITTED, bytes)?;
+    let message = read_inner(
+        alloc,
+        (message_type::PACKET_OUT, message_type::FLOW_MOD),
+        NOT_PERMITTED,
+        bytes,
+    )?;
     let what = as_order(message)?;
     Ok(what)
 }
@@ -136,12 +139,12 @@ fn read_outcome(body: &[u8]) -> Result<Outcome, Refusal>
     ensures { result ≡ outcome_at body.now }
 {
     match u16_at(body, 24) {
-        0 => Ok(Outcome::Done),
-        1 => Ok(Outcome::Failed {
+        command_status::DONE => Ok(Outcome::Done),
+        command_status::FAILED => Ok(Outcome::Failed {
             kind: u16_at(body, 26),
             code: u16_at(body, 28),
         }),
-        2 => Ok(Outcome::Cleared),
+        command_status::CLEARED => Ok(Outcome::Cleared),
         _ => Err(BAD_LENGTH),
     }
 }
@@ -167,17 +170,17 @@ fn read_body(alloc: Global, kind: u32, body: &[u8]) -> Result<Extension, BodyFau
     ensures { GivesBody (λ said. said) result (body_at kind body.now) }
 {
     match kind {
-        1 => read_event(alloc, body),
-        2 => {
+        extension_type::EVENT => read_event(alloc, body),
+        extension_type::EVENT_ACK => {
             let (life, through) = read_through(body)?;
             Ok(Extension::EventAck { life, through })
         }
-        3 => read_command(alloc, body),
-        4 => {
+        extension_type::COMMAND => read_command(alloc, body),
+        extension_type::CMD_ACK => {
             let said = read_cmd_ack(body)?;
             Ok(said)
         }
-        5 => {
+        extension_type::CBUF_CLEAR => {
             let (life, through) = read_through(body)?;
             Ok(Extension::Clear { life, through })
         }

@@ -10,11 +10,11 @@ use of_bytes::{eight, four, two, zeros};
 use of_messages::{
     encode, encode_flow_mod, encode_packet_in, encode_packet_out, encode_port_status,
 };
-use of_types::{Extension, Happening, Octets, OfMessage, Order, Outcome, Spoken};
+use of_types::{
+    Extension, Happening, Octets, OfMessage, Order, Outcome, RAVANA, Spoken, command_status,
+    extension_type,
+};
 use std::alloc::{AllocError, Global};
-
-/// The number of Ravana among the experimenters.
-pub const RAVANA: u32 = 0x0002_5256;
 
 /// The bytes of the message that an event tells, with number 0.
 #[tactic(auto, unfolding(crate::specs::Canonical::canonical_happening))]
@@ -53,9 +53,9 @@ fn write_outcome(out: &mut Octets, outcome: Outcome) -> Result<(), AllocError>
     ensures { OnOk result (out.new ≡ out.old ++ outcome_bytes outcome) }
 {
     match outcome {
-        Outcome::Done => write_result(out, 0, 0, 0),
-        Outcome::Failed { kind, code } => write_result(out, 1, kind, code),
-        Outcome::Cleared => write_result(out, 2, 0, 0),
+        Outcome::Done => write_result(out, command_status::DONE, 0, 0),
+        Outcome::Failed { kind, code } => write_result(out, command_status::FAILED, kind, code),
+        Outcome::Cleared => write_result(out, command_status::CLEARED, 0, 0),
     }
 }
 
@@ -119,11 +119,11 @@ fn extension_type(said: &Extension) -> u32
     ensures { result ≡ extension_type said.now }
 {
     match said {
-        Extension::Event { .. } => 1,
-        Extension::EventAck { .. } => 2,
-        Extension::Command { .. } => 3,
-        Extension::CmdAck { .. } => 4,
-        Extension::Clear { .. } => 5,
+        Extension::Event { .. } => extension_type::EVENT,
+        Extension::EventAck { .. } => extension_type::EVENT_ACK,
+        Extension::Command { .. } => extension_type::COMMAND,
+        Extension::CmdAck { .. } => extension_type::CMD_ACK,
+        Extension::Clear { .. } => extension_type::CBUF_CLEAR,
     }
 }
 

@@ -1,10 +1,10 @@
 -- The places of a list at which it is true.
-use Rattle.std.proofs.Common.{◌≡◌, ℕ, ◌+◌, ◌<◌, ◌≤◌, ◌≢◌, Bool, true, false, not, List, [], ◌∷◌, ◌++◌, length, drop, set, get_or, refl, ap, sym, arith, suc, zero}
-use Rattle.std.specs.Prelude.{nat_eq, nat_lt, filter}
+use Rattle.std.proofs.Common.{◌≡◌, ℕ, ◌+◌, ◌<◌, ◌≤◌, ◌≢◌, Bool, true, false, not, List, [], ◌∷◌, ◌++◌, length, drop, set, get_or, inl, inr, refl, ap, sym, arith, suc, zero}
+use Rattle.std.specs.Prelude.{nat_eq, nat_lt, filter, if◌then◌else◌}
 use Rattle.std.specs.List.{list_any}
-use Rattle.std.proofs.lemmas.Bool.{lt-ltb, le-ltb, eq-eqb, ne_eqb}
+use Rattle.std.proofs.lemmas.Bool.{lt-ltb, le-ltb, eq-eqb, ne_eqb, cases_order}
 use Rattle.std.proofs.lemmas.List.{append_assoc, append-nil, drop_more, drop_all}
-use Rattle.of_types.specs.SmallSets.{places_from, with_number, without_number}
+use Rattle.of_types.specs.SmallSets.{places_from, with_number, without_number, AscendWithin}
 
 -- places past a number are above it
 above-kept : (n first : ℕ) (bs : List Bool) → n < first → filter (λ m. nat_lt n m) (places_from first bs) ≡ places_from first bs
@@ -90,3 +90,52 @@ place-passed n numbers bs h e = rw (drop_more bs n false h, e) refl
 pub places-end : (n : ℕ) (numbers : List ℕ) (bs : List Bool) → length bs ≤ n → numbers ≡ numbers ++ places_from n (drop n bs)
 unfolding places_from
 places-end n numbers bs h = rw (drop_all n bs h, append-nil numbers) refl
+
+-- they ascend, and stay within the list
+pub places-ascend : (low first high : ℕ) (bs : List Bool) → low ≤ first → first + length bs ≤ high + 1 → AscendWithin low high (places_from first bs)
+unfolding places_from
+places-ascend low first high [] l h = tt
+places-ascend low first high (true ∷ bs) l h = (l, omega (arith, h), places-ascend (first + 1) (first + 1) high bs (omega arith) (omega (arith, h)))
+places-ascend low first high (false ∷ bs) l h = places-ascend low (first + 1) high bs (omega (arith, l)) (omega (arith, h))
+
+-- ---- ascending numbers
+
+-- a bound may be lowered
+pub ascend-lower : (low low' high : ℕ) (ns : List ℕ) → low' ≤ low → AscendWithin low high ns → AscendWithin low' high ns
+ascend-lower low low' high [] l a = tt
+ascend-lower low low' high (n ∷ ns) l a = (omega (arith, l, a.0), a.1, a.2)
+
+-- those that pass a test ascend too
+ascend-filter : (p : ℕ → Bool) (low high : ℕ) (ns : List ℕ) → AscendWithin low high ns → AscendWithin low high (filter p ns)
+ascend-filter p low high [] a = tt
+ascend-filter p low high (n ∷ ns) a = by_test (p n) (ascend-filter p (n + 1) high ns a.2)
+  where
+    by_test : (b : Bool) → AscendWithin (n + 1) high (filter p ns) → AscendWithin low high (if b then n ∷ filter p ns else filter p ns)
+    by_test true rest = (a.0, a.1, rest)
+    by_test false rest = ascend-lower (n + 1) low high (filter p ns) (omega (arith, a.0)) rest
+
+pub ascend-without : (n low high : ℕ) (ns : List ℕ) → AscendWithin low high ns → AscendWithin low high (without_number n ns)
+ascend-without n low high ns a = ascend-filter (λ m. not (nat_eq m n)) low high ns a
+
+-- none of those from a higher bound on is below a number, and each is above it
+none_below : (n low high : ℕ) (ns : List ℕ) → n < low → AscendWithin low high ns → filter (λ m. nat_lt m n) ns ≡ []
+none_below n low high [] l a = refl
+none_below n low high (m ∷ ns) l a = rw (le-ltb m n (omega (arith, l, a.0))) (none_below n (m + 1) high ns (omega (arith, l, a.0)) a.2)
+
+all_above : (n low high : ℕ) (ns : List ℕ) → n < low → AscendWithin low high ns → filter (λ m. nat_lt n m) ns ≡ ns
+all_above n low high [] l a = refl
+all_above n low high (m ∷ ns) l a =
+    rw (lt-ltb n m (omega (arith, l, a.0))) (ap (λ (ms : List ℕ). m ∷ ms) (all_above n (m + 1) high ns (omega (arith, l, a.0)) a.2))
+
+pub ascend-with : (n low high : ℕ) (ns : List ℕ) → low ≤ n → n ≤ high → AscendWithin low high ns → AscendWithin low high (with_number n ns)
+ascend-with n low high [] l h a = (l, h, tt)
+ascend-with n low high (m ∷ ns) l h a = elim (cases_order m n) [
+  | inl same ↦
+      rw (le-ltb m n (omega (arith, same)), le-ltb n m (omega (arith, same)), none_below n (m + 1) high ns (omega (arith, same)) a.2, all_above n (m + 1) high ns (omega (arith, same)) a.2)
+      (l, h, ascend-lower (m + 1) (n + 1) high ns (omega (arith, same)) a.2)
+  | inr (inl below) ↦
+      rw (lt-ltb m n below, le-ltb n m (omega (arith, below))) (a.0, a.1, ascend-with n (m + 1) high ns (omega (arith, below)) h a.2)
+  | inr (inr above) ↦
+      rw (le-ltb m n (omega (arith, above)), lt-ltb n m above, none_below n (m + 1) high ns (omega (arith, above)) a.2, all_above n (m + 1) high ns (omega (arith, above)) a.2)
+      (l, h, (omega (arith, above), a.1, a.2))
+]

@@ -1,6 +1,7 @@
 //! When one match covers another.
-ghost use Rattle.std.specs.Prelude.{◌≡◌};
-ghost use Rattle.of_types.specs.Matching.{covers_address48, covers_address32, covers as is_covering};
+ghost use Rattle.std.specs.Prelude.{◌≡◌, true};
+ghost use Rattle.of_types.specs.declared.message.Fields.{Fields};
+ghost use Rattle.of_types.specs.Matching.{covers_address48, covers_address32, covers as is_covering, matches as is_match};
 
 use crate::matching::{has_u8, has_u16, has_u32};
 use crate::message::{Masked32, Masked48, Match};
@@ -31,9 +32,7 @@ fn covers_address32(wide: Option<Masked32>, narrow: Option<Masked32>) -> bool
     }
 }
 
-/// Whether every field of the wide match stands in the narrow one, with at least its mask and equal
-/// under it: then each frame that the narrow one takes, the wide one takes (OpenFlow 1.3, 6.4).
-pub fn covers(wide: &Match, narrow: &Match) -> bool
+fn covers_each_field(wide: &Match, narrow: &Match) -> bool
     ensures { result ≡ is_covering wide.now narrow.now }
 {
     has_u32(wide.in_port, narrow.in_port)
@@ -47,4 +46,14 @@ pub fn covers(wide: &Match, narrow: &Match) -> bool
         && has_u16(wide.tcp_dst, narrow.tcp_dst)
         && has_u16(wide.udp_src, narrow.udp_src)
         && has_u16(wide.udp_dst, narrow.udp_dst)
+}
+
+/// Whether every field of the wide match stands in the narrow one, with at least its mask and equal
+/// under it (OpenFlow 1.3, 6.4).
+pub fn covers(wide: &Match, narrow: &Match) -> bool
+    ensures exact { result ≡ is_covering wide.now narrow.now }
+    // Then each frame that the narrow one takes, the wide one takes.
+    ensures taken { (found : Fields) → result ≡ true → is_match narrow.now found ≡ true → is_match wide.now found ≡ true }
+{
+    covers_each_field(wide, narrow)
 }

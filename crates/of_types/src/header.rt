@@ -5,6 +5,7 @@ ghost use Rattle.byteorder.specs.Endian.{big_number};
 ghost use Rattle.of_types.specs.Header.{number_at, number_within, has_ipv4, has_ports, transport_place, fields_of};
 
 use crate::message::Fields;
+use crate::numbers::{IPV4, TCP, UDP};
 use byteorder::{BigEndian, ByteOrder};
 
 fn u8_at(frame: &[u8], place: usize) -> Option<u8>
@@ -43,12 +44,10 @@ fn u48_at(frame: &[u8], place: usize) -> Option<u64>
     Some(BigEndian::read_u48(&frame[place..]))
 }
 
-const IPV4: u16 = 0x0800;
-
 /// Whether the Ethernet header says that a packet of IPv4 follows.
 fn says_ipv4(frame: &[u8]) -> bool
     requires { 34 ≤ length frame.now }
-    ensures { result ≡ (big_number 2 (drop 12 frame.now) == 0x0800) }
+    ensures { result ≡ (big_number 2 (drop 12 frame.now) == IPV4) }
 {
     BigEndian::read_u16(&frame[12..]) == IPV4
 }
@@ -113,10 +112,6 @@ fn ipv4(frame: &[u8]) -> (Option<u8>, Option<u32>, Option<u32>)
     }
     (u8_at(frame, 23), u32_at(frame, 26), u32_at(frame, 30))
 }
-
-const TCP: u8 = 6;
-
-const UDP: u8 = 17;
 
 /// The header fields of a frame. The caller sets the port that it came in by.
 pub fn fields(frame: &[u8]) -> Fields

@@ -5,6 +5,7 @@ ghost use Rattle.of_types.specs.Sizes.{field_size, masked48_size, masked32_size,
 use crate::message::{
     Extension, FlowMod, Happening, Masked32, Masked48, Match, OfMessage, Order, PacketOut,
 };
+use crate::numbers::{ONES32, ONES48};
 
 fn size_of_u8(field: Option<u8>) -> usize
     ensures { result ≡ field_size 1 field }
@@ -39,13 +40,7 @@ fn size_of_masked48(field: Option<Masked48>) -> usize
 {
     match field {
         None => 0,
-        Some(address) => {
-            if address.mask == (1 << 48) - 1 {
-                10
-            } else {
-                16
-            }
-        }
+        Some(address) => { if address.mask == ONES48 { 10 } else { 16 } }
     }
 }
 
@@ -55,7 +50,7 @@ fn size_of_masked32(field: Option<Masked32>) -> usize
 {
     match field {
         None => 0,
-        Some(address) => { if address.mask == u32::MAX { 8 } else { 12 } }
+        Some(address) => { if address.mask == ONES32 { 8 } else { 12 } }
     }
 }
 

@@ -1,7 +1,7 @@
 //! A set of small numbers, as ports and controllers have, which contracts see as an ascending list.
 ghost use Rattle.std.specs.Prelude.{◌≡◌, [], nat_eq, IfOk};
 ghost use Rattle.std.specs.List.{list_any};
-ghost use Rattle.of_types.specs.SmallSets.{with_number, without_number};
+ghost use Rattle.of_types.specs.SmallSets.{with_number, without_number, AscendWithin};
 
 use std::alloc::{AllocError, Global};
 use std::marker::Model;
@@ -29,6 +29,13 @@ impl SmallSet {
         SmallSet {
             members: [false; 256],
         }
+    }
+
+    /// What holds of every set: its numbers ascend and have 8 bits.
+    pub fn lawful(&self)
+        ensures { AscendWithin 0 255 self.now }
+    {
+        let _members = &self.members;
     }
 
     /// Adds a number.

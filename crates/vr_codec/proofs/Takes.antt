@@ -8,7 +8,7 @@ use Rattle.of_bytes.specs.Numbers.{number}
 use Rattle.of_bytes.specs.Reading.{◌>>=◌}
 use Rattle.of_bytes.proofs.Bytes.{IsBytes, IsBytes-take, IsBytes-drop, number-append}
 use Rattle.of_bytes.proofs.Steps.{bind_ok, passed, ended, ok_is}
-use Rattle.of_messages.specs.declared.fault.Refusal.{Refusal}
+use Rattle.of_types.specs.declared.refusal.Refusal.{Refusal}
 use Rattle.of_messages.specs.Reading.{message_at, xid_of}
 use Rattle.of_messages.proofs.Takes.{message_takes}
 use Rattle.of_ravana.specs.Canonical.{happening_message}

@@ -2,7 +2,7 @@
 use Rattle.std.specs.Prelude.{ℕ, zero, suc, ◌-◌, List, [], ◌∷◌, ◌++◌, length, take, drop, Option, None, Some, Result, Ok, Err, ◌==◌, ◌||◌, not, nat_lt, if◌then◌else◌}
 use Rattle.of_bytes.specs.Numbers.{number}
 use Rattle.of_bytes.specs.Reading.{◌>>=◌}
-use Rattle.of_messages.specs.declared.fault.Refusal.{Refusal}
+use Rattle.of_types.specs.declared.refusal.Refusal.{Refusal}
 use Rattle.of_messages.specs.Reading.{message_at}
 use Rattle.of_ravana.specs.Reading.{as_happening}
 use Rattle.of_types.specs.declared.message.Happening.{Happening}

@@ -18,7 +18,7 @@ pub actions-preserved : goal.actions-preserved
 actions-preserved c =
     let inv = c.actions.invariant in
     let rest = c.actions.rest.now in
-    rw (c.in_ok-push.ensures, c.split_at.ensures.back) (goes_on c.args.bytes.now rest c.actions.ports inv.0 c.in_ok-port.port inv.1 (some_left c.is_empty.result rest c.is_empty.ensures c.actions-test.true) c.in_ok-port.ensures.there (sym c.in_ok-port.ensures.exact))
+    rw (c.in_ok-push.ensures, c.split_at.ensures.back, c.from.ensures) (goes_on c.args.bytes.now rest c.actions.ports inv.0 c.in_ok-port.port inv.1 (some_left c.is_empty.result rest c.is_empty.ensures c.actions-test.true) c.in_ok-port.ensures.there (sym c.in_ok-port.ensures.exact))
 
 pub returns : goal.returns
 returns c =

@@ -9,7 +9,7 @@ invariant_of-self c =
     let low : c.self.inside.cleared ≤ c.max-cleared.result = omega (arith, next) in
     let high : c.max-cleared.result - c.self.inside.cleared ≤ length c.self.inside.held.items = omega (arith, next) in
     rw c.drop_front.ensures.rest (
-      record { room = rw length-drop (omega (arith, c.self.invariant.0.room)); numbered = numbered_from _ _ _ _ _ c.self.invariant.0.numbered low high },
+      record { room = rw length-drop (omega (arith, c.self.invariant.0.room)); numbered = numbered_from _ _ _ _ _ c.self.invariant.0.numbered low high; ports = c.self.invariant.0.ports },
       omega (arith, c.drop_front.ensures.room),
       rw length-drop (omega (arith, next, low, high)),
     )

@@ -10,7 +10,7 @@ invariant_of-self c =
     let next = ap next_number c.self.view_is in
     let room = has_room c.args.self.now (sym c.is_full.ensures ∙ c.if-is_full.false) in
     rw c.push_within.ensures.items (
-      record { room = rw length-append (omega (arith, held, room)); numbered = numbered-push _ _ _ _ _ c.self.invariant.0.numbered refl refl (c.next_number-number.ensures ∙ sym next) },
+      record { room = rw length-append (omega (arith, held, room)); numbered = numbered-push _ _ _ _ _ c.self.invariant.0.numbered refl refl (c.next_number-number.ensures ∙ sym next); ports = c.self.invariant.0.ports },
       omega (arith, c.push_within.ensures.room),
       rw length-append (omega (arith, next, c.requires)),
     )

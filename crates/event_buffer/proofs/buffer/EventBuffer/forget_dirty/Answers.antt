@@ -1,0 +1,10 @@
+use Rattle.of_types.proofs.Places.{ascend-without}
+use Rattle.event_buffer.proofs.buffer.EventBuffer.forget_dirty.Goals as goal
+
+pub invariant_of-self : goal.invariant_of-self
+invariant_of-self c =
+    rw c.remove.ensures (
+      record { room = c.self.invariant.0.room; numbered = c.self.invariant.0.numbered; ports = ascend-without _ _ _ _ c.self.invariant.0.ports },
+      c.self.invariant.1,
+      c.self.invariant.2,
+    )

@@ -1,0 +1,9 @@
+pub mod Chosen
+pub mod Indexed
+pub mod Keys
+pub mod Listed
+pub mod Order
+pub mod Ordered
+pub mod Strict
+pub mod Views
+pub mod Written

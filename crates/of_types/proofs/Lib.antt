@@ -1,2 +1,3 @@
+pub mod Counts
 mod Taken
 pub mod Places

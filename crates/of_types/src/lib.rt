@@ -29,6 +29,7 @@ pub use items::Octets;
 pub use items::PortCounts;
 pub use items::Rules;
 pub use lives::LAST_LIFE;
+pub use lives::is_switch_up;
 pub use lives::switch_up;
 pub use matching::any_match;
 pub use matching::is_any;

@@ -11,23 +11,13 @@ use Rattle.of_types.specs.declared.message.Happening.{Happening}
 use Rattle.of_types.specs.declared.message.Happening.TheVariants as happening
 use Rattle.of_types.specs.declared.message.Masked32.{Masked32}
 use Rattle.of_types.specs.declared.message.Match.{Match}
-use Rattle.of_types.specs.declared.numbers.TheConstants.{ANY_PORT}
+use Rattle.of_types.specs.declared.numbers.TheConstants.{ANY_PORT, IPV4, TCP, UDP}
 use Rattle.of_types.specs.declared.setup.Prefix.{Prefix}
 use Rattle.of_types.specs.declared.setup.Rule.{Rule}
 use Rattle.of_types.specs.declared.setup.Setup.{Setup}
 use Rattle.of_types.specs.Header.{fields_of}
 use Rattle.of_types.specs.Matching.{any_match, has_value, agrees_under}
 use Rattle.app_core.specs.Commands.{flow_mod}
-
--- ETH_TYPE of IPv4, and IP_PROTO of TCP and UDP
-abbrev pub ipv4 : ℕ
-ipv4 = 0x0800
-
-abbrev pub tcp : ℕ
-tcp = 6
-
-abbrev pub udp : ℕ
-udp = 17
 
 -- so many ones in front, of 32 bits
 abbrev pub prefix_mask : ℕ → ℕ
@@ -50,7 +40,7 @@ destination_port f = option_or f.tcp_dst f.udp_dst
 -- a rule denies a frame: it is IPv4, of the rule's protocol, between its prefixes and to its port
 abbrev pub denies : Fields → Rule → Bool
 denies f rule =
-    has_value (Some ipv4) f.eth_type
+    has_value (Some IPV4) f.eth_type
     && has_value (asked_protocol rule) f.ip_proto
     && is_within rule.src f.ipv4_src
     && is_within rule.dst f.ipv4_dst
@@ -75,12 +65,12 @@ asked_port protocol rule = if nat_eq rule.proto protocol then rule.port else Non
 abbrev pub denied_match : Rule → Match
 denied_match rule =
     record any_match {
-      eth_type = Some ipv4;
+      eth_type = Some IPV4;
       ip_proto = asked_protocol rule;
       ipv4_src = matched_prefix rule.src;
       ipv4_dst = matched_prefix rule.dst;
-      tcp_dst = asked_port tcp rule;
-      udp_dst = asked_port udp rule;
+      tcp_dst = asked_port TCP rule;
+      udp_dst = asked_port UDP rule;
     }
 
 -- a switch drops the frames that a rule denies: priority 100, cookie 1, and no action

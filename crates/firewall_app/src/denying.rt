@@ -1,21 +1,15 @@
 //! Which frames a rule denies, and the rows that drop them.
 ghost use Rattle.std.specs.Prelude.{◌≡◌, ◌++◌, Some, position, slice_get, OnOk};
 ghost use Rattle.of_types.specs.Matching.{has_value};
-ghost use Rattle.app_core.specs.Firewall.{ipv4, asked_protocol, destination_port, denies, first_hit, asked_port, denied_match, dropping_row, dropping_rows};
+ghost use Rattle.app_core.specs.Firewall.{asked_protocol, destination_port, denies, first_hit, asked_port, denied_match, dropping_row, dropping_rows};
 
 use crate::prefix::{is_within, matched_prefix};
 use app_core::flow_mod;
 use of_types::{
-    ANY_PORT, Command, Commands, Fields, FlowCommand, Happening, Items, Match, Rule, any_match,
-    fields,
+    ANY_PORT, Command, Commands, Fields, FlowCommand, Happening, IPV4, Items, Match, Rule, TCP,
+    UDP, any_match, fields,
 };
 use std::alloc::{AllocError, Global};
-
-const IPV4: u16 = 0x0800;
-
-const TCP: u8 = 6;
-
-const UDP: u8 = 17;
 
 /// The protocol that a rule names, if any.
 fn asked_protocol(rule: &Rule) -> Option<u8>
@@ -40,7 +34,7 @@ fn asked_port(protocol: u8, rule: &Rule) -> Option<u16>
 }
 
 fn is_ipv4(found: &Fields) -> bool
-    ensures { result ≡ has_value (Some ipv4) found.now.eth_type }
+    ensures { result ≡ has_value (Some IPV4) found.now.eth_type }
 {
     found.eth_type == Some(IPV4)
 }

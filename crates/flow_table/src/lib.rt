@@ -6,8 +6,6 @@ mod changes;
 mod faults;
 mod rows;
 mod table;
-#[cfg(test)]
-mod tests;
 
 pub use changes::{copies_of, copy_actions, has_key, is_deleted, is_named, row_of, write_row};
 pub use faults::first_fault;

@@ -5,6 +5,7 @@
 mod covering;
 mod header;
 mod items;
+mod lives;
 mod matching;
 mod message;
 mod numbers;
@@ -15,6 +16,7 @@ mod small_set;
 pub use covering::covers;
 pub use header::fields;
 pub use items::{Actions, Commands, Items, Links, Octets, PortCounts, Rules};
+pub use lives::{LAST_LIFE, is_switch_up, switch_up};
 pub use matching::{any_match, is_any, matches, same_match};
 pub use message::{
     Command, Event, Executed, Extension, Fields, FlowCommand, FlowMod, Happening, Masked32,

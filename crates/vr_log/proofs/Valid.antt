@@ -1,9 +1,10 @@
 -- What keeps a state valid.
-use Rattle.std.proofs.Common.{Result, Ok, Err, OnOk, ℕ, ◌<◌, ◌≤◌, Bool, true, false, List, [], ◌∷◌, ◌++◌, length, sym, subst, arith, length-append, max, min}
-use Rattle.std.specs.Prelude.{if◌then◌else◌, Contains}
+use Rattle.std.proofs.Common.{◌≡◌, refl, Result, Ok, Err, OnOk, ℕ, ◌<◌, ◌≤◌, Bool, true, false, List, [], ◌∷◌, ◌++◌, length, sym, subst, arith, length-append, max, min}
+use Rattle.std.specs.Prelude.{if◌then◌else◌, Contains, Option, None, Some, IfSome}
 use Rattle.std.specs.List.{IsDistinct}
 use Rattle.std.proofs.lemmas.List.{length-replicate}
 use Rattle.vr_log.specs.declared.entry.Entry.{Entry}
+use Rattle.vr_log.specs.declared.state.Supplied.{Supplied}
 use Rattle.vr_log.specs.declared.state.VrOut.{VrOut}
 use Rattle.vr_log.specs.declared.state.VrState.{VrState}
 use Rattle.vr_log.specs.Steps.{VrStep, Did, acknowledges}
@@ -14,8 +15,18 @@ pub either : (P : VrState → Type 0) (b : Bool) (x y : VrStep) → P x.state �
 either P true x y p q = p
 either P false x y p q = q
 
-pub commit_valid : (s : VrState) (commit : ℕ) → IsValid s → commit ≤ length s.log → IsValid (record s { commit = commit })
-commit_valid s commit v le = record {
+-- a choice keeps what each side keeps where it is taken
+pub chosen_by : (P : VrState → Type 0) (b : Bool) (x y : VrStep) → (b ≡ true → P x.state) → (b ≡ false → P y.state) → P (if b then x else y).state
+chosen_by P true x y p q = p refl
+chosen_by P false x y p q = q refl
+
+-- the commit number rises
+supply_rises : (supply : Option Supplied) (commit most : ℕ) → commit ≤ most → IfSome supply (λ p. p.first ≤ commit) → IfSome supply (λ p. p.first ≤ most)
+supply_rises None commit most le h = h
+supply_rises (Some p) commit most le h = omega arith
+
+pub commit_valid : (s : VrState) (commit : ℕ) → IsValid s → s.commit ≤ commit → commit ≤ length s.log → IsValid (record s { commit = commit })
+commit_valid s commit v more le = record {
   group = v.group;
   member = v.member;
   commit = le;
@@ -23,10 +34,12 @@ commit_valid s commit v le = record {
   votes = v.votes;
   collected = v.collected;
   responses = v.responses;
+  base = let b = v.base in omega arith;
+  supply = supply_rises s.supply s.commit commit more v.supply;
 }
 
 pub acknowledges_valid : (s : VrState) (commit : ℕ) → IsValid s → IsValid (acknowledges s commit).state
-acknowledges_valid s commit v = commit_valid s (max s.commit (min commit (length s.log))) v (omega (arith, v.commit))
+acknowledges_valid s commit v = commit_valid s (max s.commit (min commit (length s.log))) v (omega arith) (omega (arith, v.commit))
 
 pub grown_valid : (s : VrState) (entries : List Entry) → IsValid s → IsValid (record s { log = s.log ++ entries })
 grown_valid s entries v = record {
@@ -37,6 +50,8 @@ grown_valid s entries v = record {
   votes = v.votes;
   collected = v.collected;
   responses = v.responses;
+  base = v.base;
+  supply = v.supply;
 }
 
 -- a step that leaves a valid state did so
@@ -60,4 +75,6 @@ starting_valid me controllers group member = record {
   votes = nobody controllers;
   collected = nobody controllers;
   responses = nobody controllers;
+  base = omega arith;
+  supply = tt;
 }

@@ -3,7 +3,7 @@ ghost use Rattle.std.specs.Prelude.{◌≡◌, ◌-◌, ◌^◌, min, IfOk};
 ghost use Rattle.vr_log.specs.Log.{entry_size};
 
 use of_types::{Event, Items, size_of_happening};
-use std::alloc::AllocError;
+use std::alloc::{AllocError, Global};
 
 /// An entry of the replicated log (Ravana, 3.2): an event was received, or the event at a place of the
 /// received ones was processed.
@@ -32,6 +32,17 @@ impl Entry {
     {
         self.clone()
     }
+}
+
+/// Equal entries, in order.
+pub fn copy_entries(alloc: Global, entries: &[Entry]) -> Result<Entries, AllocError>
+    ensures { IfOk result (λ copied. copied ≡ entries.now) }
+{
+    let mut copied = Entries::new(alloc);
+    for entry in entries {
+        copied.push(entry.copy()?)?;
+    }
+    Ok(copied)
 }
 
 /// The bytes of an entry, as far as numbers go.

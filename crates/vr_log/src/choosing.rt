@@ -1,5 +1,5 @@
 //! Which of the collected logs a view starts from, and what its primary lacks of it.
-ghost use Rattle.std.specs.Prelude.{◌≡◌, ◌<◌, ◌++◌, ◌∷◌, [], length, OnOk};
+ghost use Rattle.std.specs.Prelude.{◌≡◌, ◌<◌, ◌≤◌, ◌++◌, ◌∷◌, [], length, IfSome, OnOk};
 ghost use Rattle.vr_log.specs.Choosing.{has_collected, may_choose, length_of, is_better, best_of, front, fetch_letter, fetches};
 ghost use Rattle.vr_log.specs.Valid.{IsValid};
 
@@ -62,7 +62,8 @@ impl VrState {
 
     /// How many committed entries a primary has: its own, or those that were supplied behind its first ones.
     pub fn front_len(&self) -> u128
-        requires { IsValid self.now }
+        requires commit { self.now.commit ≤ length self.now.log }
+        requires supply { IfSome self.now.supply (λ supplied. supplied.first ≤ self.now.commit) }
         ensures { result ≡ length (front self.now) }
     {
         match &self.supply {

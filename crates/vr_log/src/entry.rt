@@ -1,5 +1,5 @@
 //! The entries of a log.
-ghost use Rattle.std.specs.Prelude.{◌≡◌, ◌-◌, ◌^◌, min, IfOk};
+ghost use Rattle.std.specs.Prelude.{◌≡◌, ◌++◌, ◌-◌, ◌^◌, min, IfOk, OnOk};
 ghost use Rattle.vr_log.specs.Log.{entry_size};
 
 use of_types::{Event, Items, size_of_happening};
@@ -34,14 +34,22 @@ impl Entry {
     }
 }
 
+/// Appends equal entries to a list.
+pub fn append_entries(list: &mut Entries, entries: &[Entry]) -> Result<(), AllocError>
+    ensures { OnOk result (list.new ≡ list.old ++ entries.now) }
+{
+    for entry in entries {
+        list.push(entry.copy()?)?;
+    }
+    Ok(())
+}
+
 /// Equal entries, in order.
 pub fn copy_entries(alloc: Global, entries: &[Entry]) -> Result<Entries, AllocError>
     ensures { IfOk result (λ copied. copied ≡ entries.now) }
 {
     let mut copied = Entries::new(alloc);
-    for entry in entries {
-        copied.push(entry.copy()?)?;
-    }
+    append_entries(&mut copied, entries)?;
     Ok(copied)
 }
 

@@ -266,10 +266,12 @@ adopted_passes s view first commit log v sound = record {
   supply = tt;
 }
 
+pub adopt_passes : (s : VrState) (view first commit : ℕ) (log : List Entry) → IsValid s → Passes (adopt s view first commit log).state
+adopt_passes s view first commit log v = either Passes (nat_lt s.commit first) _ (adopts s view first commit log) (λ sound. v) (adopted_passes s view first commit log v)
+
 pub adopt_valid : (s : VrState) (view first commit : ℕ) (log : List Entry) → IsValid s → IsValid (guarded s (adopt s view first commit log)).state
 adopt_valid s view first commit log v =
-    guarded_valid s (adopt s view first commit log) v (λ sound.
-    either Passes (nat_lt s.commit first) _ (adopts s view first commit log) (λ x. v) (adopted_passes s view first commit log v) (record { log = sound.log; commit = sound.commit }))
+    guarded_valid s (adopt s view first commit log) v (λ sound. adopt_passes s view first commit log v (record { log = sound.log; commit = sound.commit }))
 
 pub start_view_valid : (s : VrState) (from : ℕ) (m : VrMessage) → IsValid s → IsValid (start_view s from m).state
 start_view_valid s from (StartView view first commit log) v =

@@ -68,6 +68,10 @@ pub on_ok : {A E : Type 0} {P Q : Type 0} (r : Result A E) → (P → Q) → OnO
 on_ok (Ok x) f p = f p
 on_ok (Err e) f p = tt
 
+pub ok_of : {A E : Type 0} {P : Type 0} (r : Result A E) → P → OnOk r P
+ok_of (Ok x) p = p
+ok_of (Err e) p = tt
+
 pub nobody : (size : ℕ) → AreMembers size []
 unfolding IsDistinct
 nobody size = record { below = tt; once = tt }

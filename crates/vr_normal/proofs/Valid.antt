@@ -1,5 +1,5 @@
 -- Each step keeps a state valid.
-use Rattle.std.proofs.Common.{◌≡◌, ◌≤◌, Bool, true, false, Result, Ok, Err, OnOk, ℕ, ◌+◌, ◌++◌, refl, length-append, List, [], ◌∷◌, length, max, ◌∙◌, arith}
+use Rattle.std.proofs.Common.{◌≡◌, ◌≤◌, Bool, true, false, Result, Ok, Err, OnOk, ℕ, ◌+◌, ◌++◌, refl, length-append, [], ◌∷◌, length, max, ◌∙◌, arith}
 use Rattle.std.specs.Prelude.{nat_eq, nat_le, if◌then◌else◌}
 use Rattle.std.proofs.Math.ListN.{length-set}
 use Rattle.std.proofs.lemmas.Bool.{leb-true}

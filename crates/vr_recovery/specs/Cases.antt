@@ -43,6 +43,6 @@ abbrev pub new_state : VrState → ℕ → VrMessage → VrStep
 new_state s from (message.NewState view first commit log) =
     if is_other s from
     then (if is_longer s view first log then completes s first commit log
-      else if is_adopted s view first then guarded s (adopt s view first commit log) else quiet s)
+    else if is_adopted s view first then guarded s (adopt s view first commit log) else quiet s)
     else quiet s
 new_state s from _ = quiet s

@@ -27,12 +27,15 @@ restarted me controllers promise life =
 abbrev pub filled : VrState → Option Filled
 filled s = if is_primary s then Some (record { commit = s.commit; log = s.log }) else None
 
+abbrev pub responds : VrState → ℕ → ℕ → VrStep
+responds s to nonce = tells s to (message.RecoveryResponse s.view nonce (filled s))
+
 abbrev pub recovery : VrState → ℕ → VrMessage → VrStep
 recovery s from (message.Recovery nonce promise) =
     if is_other s from
     then (if is_normal s
-      then (if nat_lt s.view promise then guarded s (enters s promise) else tells s from (message.RecoveryResponse s.view nonce (filled s)))
-      else quiet s)
+    then (if nat_lt s.view promise then guarded s (enters s promise) else responds s from nonce)
+    else quiet s)
     else quiet s
 recovery s from _ = quiet s
 
@@ -63,12 +66,15 @@ abbrev pub is_enough : VrState → Bool
 is_enough s = nat_lt (most_failures s) (length s.responses) && nat_le s.promise (greatest_view s.responses)
 
 -- recovery ends with that log
+abbrev pub ending : VrState → Option Filled
+ending s = if is_enough s then primary_log s (greatest_view s.responses) else None
+
 abbrev pub ends_with : VrState → ℕ → Option Filled → VrStep
 ends_with s view None = quiet s
 ends_with s view (Some told) = adopt (record s { responses = [] }) view 0 told.commit told.log
 
 abbrev pub recovers : VrState → VrStep
-recovers s = if is_enough s then ends_with s (greatest_view s.responses) (primary_log s (greatest_view s.responses)) else quiet s
+recovers s = ends_with s (greatest_view s.responses) (ending s)
 
 -- RECOVERYRESPONSE to the question of this life
 abbrev pub responded : VrState → Response → VrState
@@ -78,6 +84,6 @@ abbrev pub response : VrState → ℕ → VrMessage → VrStep
 response s from (message.RecoveryResponse view nonce filled) =
     if is_other s from
     then (if is_recovering s && nat_eq nonce s.life
-      then guarded s (recovers (responded s (record { from = from; view = view; filled = filled }))) else quiet s)
+    then guarded s (recovers (responded s (record { from = from; view = view; filled = filled }))) else quiet s)
     else quiet s
 response s from _ = quiet s

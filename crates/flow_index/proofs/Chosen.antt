@@ -19,6 +19,7 @@ use Rattle.flow_index.specs.declared.place.Place.{Place}
 use Rattle.flow_index.specs.Places.{place_of, exact_destination, whole_address}
 use Rattle.flow_index.specs.Entries.{by_place, place_at, entries_of, exact_match, is_before, preferred}
 use Rattle.flow_index.specs.Index.{numbered, rows_below, AreIndexed}
+use Rattle.flow_index.proofs.Keys.{same_some, unlike}
 use Rattle.flow_index.proofs.Order.{in_range, range_destination, place_before}
 use Rattle.flow_index.proofs.Indexed.{Entry, IsIn, placed, numbered_in, in_numbered, find_in, find_none, find_least}
 
@@ -75,20 +76,16 @@ chosen_in f (suc n) fields r e = by_row (f n) refl (chosen_in f n fields r) e
     higher : IsOneOf f n fields r → IsOneOf f (suc n) fields r
     higher i = record { number = i.number; below = omega (arith, i.below); here = i.here; passes = i.passes }
 
-    get : Row → Option Row → Row
-    get d None = d
-    get d (Some x) = x
-
     by_row : (o : Option Row) → f n ≡ o → (chosen_row (rows_below f n) fields ≡ Some r → IsOneOf f n fields r) → chosen_row (rows_below f n ++ option_to_list o) fields ≡ Some r → IsOneOf f (suc n) fields r
     by_row None is rest c = higher (rest (sym (chosen_more (rows_below f n) None fields (λ s h. absurd cc)) ∙ c))
     by_row (Some s) is rest c = by_test (matches s.matching fields) refl (sym (chosen_last (rows_below f n) s fields) ∙ c)
       where
         by_choice : (d : Option Row) → matches s.matching fields ≡ true → chosen_row (rows_below f n) fields ≡ d → Some (later_better d s) ≡ Some r → IsOneOf f (suc n) fields r
-        by_choice None passes before k = record { number = n; below = omega arith; here = is ∙ k; passes = subst (λ (x : Row). matches x.matching fields ≡ true) (ap (get s) k) passes }
+        by_choice None passes before k = record { number = n; below = omega arith; here = is ∙ k; passes = subst (λ (x : Row). matches x.matching fields ≡ true) (same_some s r k) passes }
         by_choice (Some y) passes before k = by_order (nat_lt y.priority s.priority) k
           where
             by_order : (b : Bool) → Some (if b then s else y) ≡ Some r → IsOneOf f (suc n) fields r
-            by_order true j = record { number = n; below = omega arith; here = is ∙ j; passes = subst (λ (x : Row). matches x.matching fields ≡ true) (ap (get s) j) passes }
+            by_order true j = record { number = n; below = omega arith; here = is ∙ j; passes = subst (λ (x : Row). matches x.matching fields ≡ true) (same_some s r j) passes }
             by_order false j = higher (rest (before ∙ j))
 
         by_test : (b : Bool) → matches s.matching fields ≡ b → (if b then Some (later_better (chosen_row (rows_below f n) fields) s) else chosen_row (rows_below f n) fields) ≡ Some r → IsOneOf f (suc n) fields r
@@ -156,12 +153,9 @@ not_before_is p q e = by_ranks (nat_lt p.rank q.rank) refl (nat_eq p.rank q.rank
     by_ranks true lower b is h = absurd cc
     by_ranks false f true is h = inr (sym (eqb-true p.rank q.rank is), ltb-false p.number q.number h)
     by_ranks false f false is h = elim (cases_eq p.rank q.rank) [
-      | inl same ↦ absurd (not_both (sym is ∙ eq-eqb p.rank q.rank same))
+      | inl same ↦ absurd (unlike (sym is ∙ eq-eqb p.rank q.rank same))
       | inr apart ↦ let le = ltb-false p.rank q.rank f in inl (omega (arith, le, apart))
     ]
-      where
-        not_both : false ≡ true → ⊥
-        not_both g = cc
 
 -- the row that stands before all that match is the one that is met
 pub best_is_chosen : (next : ℕ) (es : List Entry) (fields : Fields) (w : Entry) → AreIndexed next es → IsIn w es → matches w.1.matching fields ≡ true → ((e : Entry) → IsIn e es → matches e.1.matching fields ≡ true → IsNotAfter w.0 e.0) → chosen_row (rows_below (numbered es) next) fields ≡ Some w.1
@@ -235,10 +229,7 @@ first_of next es fields d w e small a sorted found i same hit =
 
 none_of : (next : ℕ) (es : List Entry) (fields : Fields) (d : Option ℕ) (e : Entry) → next < 2 ^ 64 → AreIndexed next es → find (passes_of fields) (entries_of d es) ≡ None → IsIn e es → exact_destination e.1.matching ≡ d → matches e.1.matching fields ≡ true → ⊥
 none_of next es fields d e small a found i same hit =
-    not_both (sym hit ∙ find_none (passes_of fields) (in_destination d) es e found i (entry_in_destination next es d e small a i same))
-  where
-    not_both : true ≡ false → ⊥
-    not_both h = cc
+    unlike (sym (find_none (passes_of fields) (in_destination d) es e found i (entry_in_destination next es d e small a i same)) ∙ hit)
 
 -- what two rows' finders know of the rows that match
 pub record AreFirst (es : List Entry) (fields : Fields) (exact any : Option Entry) : Type 0 where
@@ -267,65 +258,49 @@ found_first next es fields small a sorted = record {
     some_first d e i same hit None found = absurd (none_of next es fields d e small a found i same hit)
     some_first d e i same hit (Some w) found = (w, refl, first_of next es fields d w e small a sorted found i same hit)
 
+-- a row that was found stands before what the found row does
+of_found : (o : Option Entry) (w : Entry) (e : Entry) → o ≡ Some w → (v : Entry) → o ≡ Some v → IsNotAfter v.0 e.0 → IsNotAfter w.0 e.0
+of_found o w e is v seen before = subst (λ (x : Entry). IsNotAfter x.0 e.0) (same_some v w (sym seen ∙ is)) before
+
+nothing : {A : Type 0} (o : Option Entry) (w : Entry) → o ≡ None → o ≡ Some w → A
+nothing o w none some = absurd (no_row (sym none ∙ some))
+  where
+    no_row : None ≡ Some w → ⊥
+    no_row h = cc
+
 -- the better of the two is the row that the frame meets
 best_of : (next : ℕ) (es : List Entry) (fields : Fields) (exact any : Option Entry) → AreIndexed next es → AreFirst es fields exact any → preferred exact any ≡ chosen_row (rows_below (numbered es) next) fields
-best_of next es fields None None a firsts =
-    sym (chosen_none (numbered es) next fields (λ m s here. by_test m s (matches s.matching fields) refl (numbered_in next es m s a here)))
+best_of next es fields exact any a firsts = by_found exact any refl refl
   where
-    by_test : (m : ℕ) (s : Row) (b : Bool) → matches s.matching fields ≡ b → IsIn (place_of s m, s) es → b ≡ false
-    by_test m s false is i = refl
-    by_test m s true is i = absurd (elim (firsts.others (place_of s m, s) i is) [ inl w ↦ nothing w.0 w.1 | inr w ↦ nothing w.0 w.1 ])
-      where
-        nothing : (w : Entry) → None ≡ Some w → ⊥
-        nothing w h = cc
-best_of next es fields (Some x) None a firsts =
-    let one = firsts.exact_one x refl in
-    sym (best_is_chosen next es fields x a one.0 one.1 (λ e i hit. elim (firsts.others e i hit) [ inl w ↦ subst (λ (o : Entry). IsNotAfter o.0 e.0) (is_it x w.0 w.1) w.2 | inr w ↦ absurd (nothing w.0 w.1) ]))
-  where
-    nothing : (w : Entry) → None ≡ Some w → ⊥
-    nothing w h = cc
-
-    is_it : (x w : Entry) → Some x ≡ Some w → w ≡ x
-    is_it x w h = sym (ap get h)
-      where
-        get : Option Entry → Entry
-        get (Some s) = s
-        get None = x
-best_of next es fields None (Some y) a firsts =
-    let one = firsts.any_one y refl in
-    sym (best_is_chosen next es fields y a one.0 one.1 (λ e i hit. elim (firsts.others e i hit) [ inl w ↦ absurd (nothing w.0 w.1) | inr w ↦ subst (λ (o : Entry). IsNotAfter o.0 e.0) (is_it y w.0 w.1) w.2 ]))
-  where
-    nothing : (w : Entry) → None ≡ Some w → ⊥
-    nothing w h = cc
-
-    is_it : (x w : Entry) → Some x ≡ Some w → w ≡ x
-    is_it x w h = sym (ap get h)
-      where
-        get : Option Entry → Entry
-        get (Some s) = s
-        get None = x
-best_of next es fields (Some x) (Some y) a firsts = by_order (is_before y.0 x.0) refl
-  where
-    is_it : (x w : Entry) → Some x ≡ Some w → w ≡ x
-    is_it x w h = sym (ap get h)
-      where
-        get : Option Entry → Entry
-        get (Some s) = s
-        get None = x
-
-    wins : (w : Entry) → IsIn w es × (matches w.1.matching fields ≡ true) → IsNotAfter w.0 x.0 → IsNotAfter w.0 y.0 → chosen_row (rows_below (numbered es) next) fields ≡ Some w.1
+    wins : (w : Entry) → IsIn w es × (matches w.1.matching fields ≡ true)
+        → ((x : Entry) (e : Entry) → exact ≡ Some x → IsNotAfter x.0 e.0 → IsNotAfter w.0 e.0)
+        → ((y : Entry) (e : Entry) → any ≡ Some y → IsNotAfter y.0 e.0 → IsNotAfter w.0 e.0)
+        → Some w.1 ≡ chosen_row (rows_below (numbered es) next) fields
     wins w one left right =
-        best_is_chosen next es fields w a one.0 one.1 (λ e i hit. elim (firsts.others e i hit) [
-          | inl v ↦ not_after w.0 x.0 e.0 left (subst (λ (o : Entry). IsNotAfter o.0 e.0) (is_it x v.0 v.1) v.2)
-          | inr v ↦ not_after w.0 y.0 e.0 right (subst (λ (o : Entry). IsNotAfter o.0 e.0) (is_it y v.0 v.1) v.2)
-        ])
+        sym (best_is_chosen next es fields w a one.0 one.1 (λ e i hit. elim (firsts.others e i hit) [ inl v ↦ left v.0 e v.1 v.2 | inr v ↦ right v.0 e v.1 v.2 ]))
 
-    itself : (p : Place) → IsNotAfter p p
-    itself p = inr (refl, omega arith)
-
-    by_order : (b : Bool) → is_before y.0 x.0 ≡ b → (if b then Some y.1 else Some x.1) ≡ chosen_row (rows_below (numbered es) next) fields
-    by_order true is = sym (wins y (firsts.any_one y refl) (before_is y.0 x.0 is) (itself y.0))
-    by_order false is = sym (wins x (firsts.exact_one x refl) (itself x.0) (not_before_is y.0 x.0 is))
+    by_found : (x y : Option Entry) → exact ≡ x → any ≡ y → preferred x y ≡ chosen_row (rows_below (numbered es) next) fields
+    by_found None None none none' =
+        sym (chosen_none (numbered es) next fields (λ m s here. by_test m s (matches s.matching fields) refl (numbered_in next es m s a here)))
+      where
+        by_test : (m : ℕ) (s : Row) (b : Bool) → matches s.matching fields ≡ b → IsIn (place_of s m, s) es → b ≡ false
+        by_test m s false is i = refl
+        by_test m s true is i = elim (firsts.others (place_of s m, s) i is) [ inl w ↦ nothing exact w.0 none w.1 | inr w ↦ nothing any w.0 none' w.1 ]
+    by_found (Some x) None is none =
+        wins x (firsts.exact_one x is) (λ v e seen before. of_found exact x e is v seen before) (λ v e seen before. nothing any v none seen)
+    by_found None (Some y) none is =
+        wins y (firsts.any_one y is) (λ v e seen before. nothing exact v none seen) (λ v e seen before. of_found any y e is v seen before)
+    by_found (Some x) (Some y) is is' = by_order (is_before y.0 x.0) refl
+      where
+        by_order : (b : Bool) → is_before y.0 x.0 ≡ b → (if b then Some y.1 else Some x.1) ≡ chosen_row (rows_below (numbered es) next) fields
+        by_order true first =
+            wins y (firsts.any_one y is')
+            (λ v e seen before. not_after y.0 x.0 e.0 (before_is y.0 x.0 first) (of_found exact x e is v seen before))
+            (λ v e seen before. of_found any y e is' v seen before)
+        by_order false first =
+            wins x (firsts.exact_one x is)
+            (λ v e seen before. of_found exact x e is v seen before)
+            (λ v e seen before. not_after x.0 y.0 e.0 (not_before_is y.0 x.0 first) (of_found any y e is' v seen before))
 
 pub found_is_chosen : (next : ℕ) (es : List Entry) (fields : Fields) → next < 2 ^ 64 → AreIndexed next es → IsStrictlySortedBy by_place (keys_of es) → preferred (exact_match fields.eth_dst fields es) (find (λ e. matches e.1.matching fields) (entries_of None es)) ≡ chosen_row (rows_below (numbered es) next) fields
 found_is_chosen next es fields small a sorted = best_of next es fields _ _ a (found_first next es fields small a sorted)

@@ -14,7 +14,7 @@ use Rattle.std.proofs.lemmas.Cmp.{ranked}
 use Rattle.std.proofs.lemmas.List.{append_assoc, append-nil}
 use Rattle.std.proofs.lemmas.Map.Keys.{sorted_head, sorted_tail}
 use Rattle.of_types.specs.declared.message.Row.{Row}
-use Rattle.flow_index.specs.Index.{numbered, rows_below, AreApart, AreIndexed}
+use Rattle.flow_index.specs.Index.{numbered, rows_below, AreSeparate, AreIndexed}
 use Rattle.flow_index.proofs.Indexed.{Entry, all_in, all_from, numbered_absent}
 use Rattle.flow_index.proofs.Listed.{listed_same}
 
@@ -74,7 +74,7 @@ row_of_number next (x ∷ xs) rows n a =
     by_test : (b : Bool) → nat_eq x.0.number n ≡ b → first_of (numbered xs n) (if b then Some x.1 else row_at rows n) ≡ first_of (if b then Some x.1 else numbered xs n) (row_at rows n)
     by_test false is = refl
     by_test true is =
-        let none : numbered xs n ≡ None = numbered_absent xs n (all_from _ xs (λ e i. subst (λ (m : ℕ). nat_eq e.0.number m ≡ false) (eqb-true x.0.number n is) (ne_eqb e.0.number x.0.number (λ same. eqb-false x.0.number e.0.number (all_in (AreApart x) xs e a.1 i).numbers (sym same))))) in
+        let none : numbered xs n ≡ None = numbered_absent xs n (all_from _ xs (λ e i. subst (λ (m : ℕ). nat_eq e.0.number m ≡ false) (eqb-true x.0.number n is) (ne_eqb e.0.number x.0.number (λ same. eqb-false x.0.number e.0.number (all_in (AreSeparate x) xs e a.1 i).numbers (sym same))))) in
         rw none refl
 
 all_put : (P : Numbered → Type 0) (rows : List Numbered) (k : ℕ) (r : Row) → ((m : ℕ) (s : Row) → P (m, s) → P (m, r)) → AllByRecursion P rows → P (k, r) → AllByRecursion P (insert_entry nat_cmp rows k r)

@@ -12,7 +12,7 @@ use Rattle.of_types.specs.declared.message.FlowCommand.TheVariants.{Modify, Modi
 use Rattle.flow_table.specs.Table.{table_step, row_of, same_key, is_strict, is_named, is_deleted, modified}
 use Rattle.flow_index.specs.declared.place.Place.{Place}
 use Rattle.flow_index.specs.Places.{exact_destination}
-use Rattle.flow_index.specs.Entries.{by_place, place_at, entries_at}
+use Rattle.flow_index.specs.Entries.{by_place, place_at, entries_ranked}
 use Rattle.flow_index.specs.Index.{AreIndexed, each_row, rows_that}
 use Rattle.flow_index.proofs.Keys.{HaveOneKey, key_is, key_both}
 use Rattle.flow_index.proofs.Order.{in_range}
@@ -28,7 +28,7 @@ is_in_its_range change e =
 -- the row of a change's match and priority, where one is looked for
 abbrev pub row_with_key : FlowMod → List Entry → Option Entry
 row_with_key change es =
-    find (λ e. same_key e.1 (row_of change)) (entries_at (exact_destination change.matching) (65535 - change.priority) es)
+    find (λ e. same_key e.1 (row_of change)) (entries_ranked (exact_destination change.matching) (65535 - change.priority) es)
 
 pub key_found : (change : FlowMod) (es : List Entry) (e : Entry) → row_with_key change es ≡ Some e → IsIn e es × (same_key e.1 (row_of change) ≡ true)
 key_found change es e found =

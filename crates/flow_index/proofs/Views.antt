@@ -14,8 +14,8 @@ use Rattle.flow_table.specs.Table.{is_add, lacks_room, row_of, same_key, with_ro
 use Rattle.flow_index.specs.declared.place.Place.{Place}
 use Rattle.flow_index.specs.Places.{place_of}
 use Rattle.flow_index.specs.Entries.{by_place}
-use Rattle.flow_index.specs.Index.{each_row, rows_that, numbered, rows_below, AreApart, AreIndexed}
-use Rattle.flow_index.proofs.Keys.{HaveOneKey, key_is, key_both, key_back}
+use Rattle.flow_index.specs.Index.{each_row, rows_that, numbered, rows_below, AreSeparate, AreIndexed}
+use Rattle.flow_index.proofs.Keys.{HaveOneKey, key_is, key_both, key_back, unlike}
 use Rattle.flow_index.proofs.Listed.{listed_same, listed_map, listed_filter, listed_all, listed_any, listed_more, listed_replaced, none_any, replaced, with_new}
 use Rattle.flow_index.proofs.Indexed.{Entry, KeepsKeys, all_in, all_from, placed, one_of_key, numbered_absent, numbered_in, in_numbered, numbered_each, numbered_that, numbered_insert, indexed_insert, set_is_each}
 use Rattle.flow_index.proofs.Strict.{row_with_key, key_found, key_absent, others_differ, lookup_found}
@@ -67,11 +67,8 @@ new_indexed change next es small fits a found =
     back : (r : Row) → same_key r (row_of change) ≡ false → same_key (row_of change) r ≡ false
     back r differ = by_test (same_key (row_of change) r) refl
       where
-        not_both : true ≡ false → ⊥
-        not_both h = cc
-
         by_test : (b : Bool) → same_key (row_of change) r ≡ b → same_key (row_of change) r ≡ false
-        by_test true is = absurd (not_both (sym (key_back (row_of change) r is) ∙ differ))
+        by_test true is = absurd (unlike (sym differ ∙ key_back (row_of change) r is))
         by_test false is = is
 
 -- ---- ADD of a row that is known
@@ -110,7 +107,7 @@ none_listed (suc n) = rw (none_listed n) refl
 pub view_length : (next : ℕ) (es : List Entry) → AreIndexed next es → length (rows_below (numbered es) next) ≡ length es
 view_length next [] a = ap length (none_listed next)
 view_length next (x ∷ xs) a =
-    let gone = numbered_absent xs x.0.number (all_from _ xs (λ e i. ne_eqb e.0.number x.0.number (λ same. eqb-false x.0.number e.0.number (all_in (AreApart x) xs e a.1 i).numbers (sym same)))) in
+    let gone = numbered_absent xs x.0.number (all_from _ xs (λ e i. ne_eqb e.0.number x.0.number (λ same. eqb-false x.0.number e.0.number (all_in (AreSeparate x) xs e a.1 i).numbers (sym same)))) in
     let here : numbered (x ∷ xs) x.0.number ≡ Some x.1 = rw (eq-eqb x.0.number x.0.number refl) refl in
     listed_more (numbered xs) (numbered (x ∷ xs)) next x.0.number x.1 a.0.below gone here (λ m apart. rw (ne_eqb x.0.number m (λ same. apart (sym same))) refl)
     ∙ omega (arith, view_length next xs a.2)

@@ -28,8 +28,8 @@ exact_match None fields entries = None
 exact_match (Some destination) fields entries = find (λ e. matches e.1.matching fields) (entries_of (Some (bit_and destination ONES48)) entries)
 
 -- the rows of a destination and a rank
-abbrev pub entries_at : Option ℕ → ℕ → List (Place × Row) → List (Place × Row)
-entries_at destination rank entries = entries_between by_place (Included (place_at destination rank 0)) (Included (place_at destination rank (2 ^ 64 - 1))) entries
+abbrev pub entries_ranked : Option ℕ → ℕ → List (Place × Row) → List (Place × Row)
+entries_ranked destination rank entries = entries_between by_place (Included (place_at destination rank 0)) (Included (place_at destination rank (2 ^ 64 - 1))) entries
 
 -- one place stands before another in priority, or in the order of adding where that is the same
 abbrev pub is_before : Place → Place → Bool

@@ -24,7 +24,7 @@ pub record IsPlaced (next : ℕ) (entry : Place × Row) : Type 0 where
   pub fits : entry.1.priority < 2 ^ 16
 
 -- two rows have different numbers, and differ in priority or match
-pub record AreApart (a b : Place × Row) : Type 0 where
+pub record AreSeparate (a b : Place × Row) : Type 0 where
   pub numbers : nat_eq a.0.number b.0.number ≡ false
   pub keys : same_key a.1 b.1 ≡ false
 
@@ -32,7 +32,7 @@ pub record AreApart (a b : Place × Row) : Type 0 where
 abbrev pub AreIndexed : ℕ → List (Place × Row) → Type 0
 AreIndexed next [] = Unit {0}
 AreIndexed next (entry ∷ entries) =
-    IsPlaced next entry × AllByRecursion (AreApart entry) entries × AreIndexed next entries
+    IsPlaced next entry × AllByRecursion (AreSeparate entry) entries × AreIndexed next entries
 
 -- f of each row, at its place
 abbrev pub each_row : (Row → Row) → List (Place × Row) → List (Place × Row)

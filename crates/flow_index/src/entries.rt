@@ -6,7 +6,7 @@ ghost use Rattle.std.specs.Option.{option_map};
 ghost use Rattle.of_types.specs.Matching.{matches as is_match};
 ghost use Rattle.flow_table.specs.Table.{row_of, same_key};
 ghost use Rattle.flow_index.specs.Places.{exact_destination};
-ghost use Rattle.flow_index.specs.Entries.{by_place, entries_of, entries_at, exact_match, preferred};
+ghost use Rattle.flow_index.specs.Entries.{by_place, entries_of, entries_ranked, exact_match, preferred};
 
 use crate::place::{Place, exact_destination};
 use flow_table::has_key;
@@ -59,7 +59,7 @@ pub fn with_key<'a>(
     change: &FlowMod,
 ) -> Option<(&'a Place, &'a Row)>
     ensures { option_map (λ e. (e.0.now, e.1.now)) result
-        ≡ find (λ e. same_key e.1 (row_of change.now)) (entries_at (exact_destination change.now.matching) (65535 - change.now.priority) rows.now.entries) }
+        ≡ find (λ e. same_key e.1 (row_of change.now)) (entries_ranked (exact_destination change.now.matching) (65535 - change.now.priority) rows.now.entries) }
 {
     let destination = exact_destination(&change.matching);
     let rank = u16::MAX - change.priority;

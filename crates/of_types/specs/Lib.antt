@@ -1,4 +1,5 @@
 pub mod Header
+pub mod Lives
 pub mod Matching
 pub mod Setups
 pub mod Sizes

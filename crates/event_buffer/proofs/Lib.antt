@@ -1,1 +1,1 @@
-mod Numbers
+pub mod Numbers

@@ -1,5 +1,5 @@
 //! The event buffer (Ravana, 4.1).
-ghost use Rattle.std.specs.Prelude.{◌≡◌, ◌≤◌, ◌<◌, ◌-◌, ◌^◌, Ok, Err, [], ◌∷◌, ◌++◌, length, slice_get, option_copied, nat_eq, IfOk, drop, vec_capacity, if◌then◌else◌};
+ghost use Rattle.std.specs.Prelude.{◌≡◌, ◌≤◌, ◌<◌, ◌-◌, ◌^◌, Ok, Err, [], ◌∷◌, ◌++◌, length, slice_get, option_copied, nat_eq, nat_lt, IfOk, drop, vec_capacity, if◌then◌else◌};
 ghost use Rattle.std.specs.List.{list_any};
 ghost use Rattle.event_buffer.specs.Buffer.{highest_port, empty_buffer, next_number, full, is_full, posted, cleared_to, without_events_below, with_dirty, without_dirty, IsBuffer};
 
@@ -139,12 +139,40 @@ impl EventBuffer {
         self.cleared + self.held.len() as u64
     }
 
+    /// The switch whose events it holds.
+    pub fn switch(&self) -> u8
+        ensures { result ≡ self.now.switch }
+    {
+        self.switch
+    }
+
+    /// The life whose events it holds.
+    pub fn life(&self) -> u32
+        ensures { result ≡ self.now.life }
+    {
+        self.life
+    }
+
+    /// How many events have left.
+    pub fn cleared(&self) -> u64
+        ensures { result ≡ self.now.cleared }
+    {
+        self.cleared
+    }
+
     /// Whether a port is remembered.
     pub fn is_dirty(&self, port: u32) -> bool
         requires { (1 ≤ port) × (port ≤ highest_port) }
         ensures { result ≡ list_any (λ p. nat_eq p port) self.now.dirty }
     {
         self.dirty.contains(port as u8)
+    }
+
+    /// Whether any port is remembered.
+    pub fn has_dirty(&self) -> bool
+        ensures { result ≡ nat_lt 0 (length self.now.dirty) }
+    {
+        !self.dirty.is_empty()
     }
 
     /// The ports that are remembered, ascending.

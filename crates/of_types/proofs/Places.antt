@@ -1,5 +1,5 @@
 -- The places of a list at which it is true.
-use Rattle.std.proofs.Common.{◌≡◌, ℕ, ◌+◌, ◌<◌, ◌≤◌, ◌≢◌, Bool, true, false, not, List, [], ◌∷◌, ◌++◌, length, drop, set, get_or, inl, inr, refl, ap, sym, arith, suc, zero}
+use Rattle.std.proofs.Common.{◌≡◌, ℕ, ◌+◌, ◌<◌, ◌≤◌, ◌≢◌, Bool, true, false, not, List, [], ◌∷◌, ◌++◌, length, drop, set, get_or, inl, inr, refl, ap, sym, ◌∙◌, subst, arith, suc, zero}
 use Rattle.std.specs.Prelude.{nat_eq, nat_lt, filter, if◌then◌else◌}
 use Rattle.std.specs.List.{list_any}
 use Rattle.std.proofs.lemmas.Bool.{lt-ltb, le-ltb, eq-eqb, ne_eqb, cases_order}
@@ -139,3 +139,18 @@ ascend-with n low high (m ∷ ns) l h a = elim (cases_order m n) [
       rw (le-ltb m n (omega (arith, above)), lt-ltb n m above, none_below n (m + 1) high ns (omega (arith, above)) a.2, all_above n (m + 1) high ns (omega (arith, above)) a.2)
       (l, h, (omega (arith, above), a.1, a.2))
 ]
+
+-- ---- whether there are any
+
+some-there : (n : ℕ) (ns : List ℕ) → false ≡ not (nat_lt 0 (length (n ∷ ns)))
+some-there n ns = rw (lt-ltb 0 (length (n ∷ ns)) (omega arith)) refl
+
+-- one that is true is there
+pub place-there : (n : ℕ) (numbers : List ℕ) (bs : List Bool) → n < length bs → get_or bs n false ≡ true → places_from n (drop n bs) ≡ numbers → false ≡ not (nat_lt 0 (length numbers))
+place-there n numbers bs h e all =
+    let P : List ℕ → Type 0 = λ ns. false ≡ not (nat_lt 0 (length ns)) in subst P (place-taken n [] bs h e ∙ all) (some-there n (places_from (n + 1) (drop (n + 1) bs)))
+
+-- past the last none is
+pub place-none : (n : ℕ) (numbers : List ℕ) (bs : List Bool) → length bs ≤ n → places_from n (drop n bs) ≡ numbers → true ≡ not (nat_lt 0 (length numbers))
+place-none n numbers bs h all =
+    let P : List ℕ → Type 0 = λ ns. true ≡ not (nat_lt 0 (length ns)) in subst P (places-end n [] bs h ∙ all) refl

@@ -1,5 +1,5 @@
 //! A set of small numbers, as ports and controllers have, which contracts see as an ascending list.
-ghost use Rattle.std.specs.Prelude.{◌≡◌, [], nat_eq, IfOk};
+ghost use Rattle.std.specs.Prelude.{◌≡◌, [], nat_eq, nat_lt, not, length, IfOk};
 ghost use Rattle.std.specs.List.{list_any};
 ghost use Rattle.of_types.specs.SmallSets.{with_number, without_number, AscendWithin};
 
@@ -57,6 +57,18 @@ impl SmallSet {
         ensures { result ≡ list_any (λ n. nat_eq n number) self.now }
     {
         self.members[usize::from(number)]
+    }
+
+    /// Whether no number is in it.
+    pub fn is_empty(&self) -> bool
+        ensures { result ≡ not (nat_lt 0 (length self.now)) }
+    {
+        for (number, is_member) in self.members.iter().enumerate() {
+            if *is_member {
+                return false;
+            }
+        }
+        true
     }
 
     /// Its numbers, ascending.

@@ -1,0 +1,146 @@
+-- What a turn is to add to a switch, while memory for it is still being found: nothing of the switch has changed yet.
+use Rattle.std.specs.Prelude.{◌≡◌, ◌≤◌, ◌<◌, ℕ, ◌+◌, ◌-◌, ◌^◌, min, Bool, true, false, not, nat_eq, nat_le, nat_lt, ◌&&◌, ◌||◌, List, [], ◌∷◌, ◌++◌, length, flat_map, Option, if◌then◌else◌}
+use Rattle.of_types.specs.declared.message.Event.{Event}
+use Rattle.of_types.specs.declared.message.FlowMod.{FlowMod}
+use Rattle.of_types.specs.declared.message.Happening.{Happening}
+use Rattle.of_types.specs.declared.message.Outcome.{Outcome}
+use Rattle.of_types.specs.declared.message.Outcome.TheVariants as outcome
+use Rattle.of_types.specs.declared.message.Row.{Row}
+use Rattle.of_types.specs.declared.numbers.TheConstants.{TO_CONTROLLER}
+use Rattle.rv_base.specs.declared.journal.Letter.{Letter}
+use Rattle.event_buffer.specs.Buffer.{Buffer, AreNumbered, most_held, is_full, posted, without_dirty, cleared_to}
+use Rattle.command_buffer.specs.declared.buffer.Offer.{Offer}
+use Rattle.command_buffer.specs.declared.buffer.Offer.TheVariants as offer
+use Rattle.flow_table.specs.Table.{table_step}
+use Rattle.of_switch.specs.declared.says.SwitchSays.{SwitchSays}
+use Rattle.of_switch.specs.State.{SwitchState, SwitchTurn}
+use Rattle.of_switch.specs.Events.{window, event_letters, port_status, coming, cleared}
+use Rattle.of_switch.specs.Forwarding.{targets, over_links}
+
+pub record Draft : Type 0 where
+  pub switch : ℕ
+  pub life : ℕ
+  pub master : Option ℕ  -- to whom events go
+  pub cleared : ℕ  -- how many events have left the buffer by then
+  pub held : ℕ  -- how many the buffer holds by then
+  pub raised : List Event  -- those that are new
+  pub sent : ℕ  -- how many frames have been sent out by then
+  pub letters : List (Letter SwitchSays)
+
+-- a draft as it starts: nothing is new
+abbrev pub draft_from : Buffer → Option ℕ → ℕ → Draft
+draft_from b master sent =
+    record { switch = b.switch; life = b.life; master = master; cleared = b.cleared; held = length b.held; raised = []; sent = sent; letters = [] }
+
+abbrev pub draft_of : SwitchState → Draft
+draft_of s = draft_from s.buffer s.fence.master s.sent
+
+-- what a draft makes of a switch
+abbrev pub drafted : SwitchState → Draft → SwitchTurn
+drafted s d =
+    record {
+      state = record s { buffer = record s.buffer { held = s.buffer.held ++ d.raised }; events = s.events ++ d.raised; sent = d.sent };
+      letters = d.letters;
+    }
+
+-- a draft is one of this switch
+pub record IsDraft (s : SwitchState) (d : Draft) : Type 0 where
+  pub switch_is : d.switch ≡ s.buffer.switch
+  pub life_is : d.life ≡ s.buffer.life
+  pub master_is : d.master ≡ s.fence.master
+  pub cleared_is : d.cleared ≡ s.buffer.cleared
+  pub held_is : d.held ≡ length s.buffer.held + length d.raised
+
+-- letters are added
+abbrev pub with_letters : Draft → List (Letter SwitchSays) → Draft
+with_letters d letters = record d { letters = d.letters ++ letters }
+
+-- events are told to the master
+abbrev pub with_told : List Event → Draft → Draft
+with_told events d = with_letters d (event_letters d.master events)
+
+-- what happened, as the next event
+abbrev pub drafted_event : Draft → Happening → Event
+drafted_event d what = record { switch = d.switch; life = d.life; number = d.cleared + d.held; what = what }
+
+-- it is raised
+abbrev pub with_raised : Happening → Draft → Draft
+with_raised what d =
+    record d {
+      held = d.held + 1;
+      raised = d.raised ++ drafted_event d what ∷ [];
+      letters = d.letters ++ (if nat_lt d.held window then event_letters d.master (drafted_event d what ∷ []) else []);
+    }
+
+-- a packet-in is raised, where there is room
+abbrev pub with_packet : Happening → Draft → Draft
+with_packet what d = if nat_le most_held d.held then d else with_raised what d
+
+-- a frame is sent out by some ports
+abbrev pub with_sent : SwitchState → List ℕ → List ℕ → Draft → Draft
+with_sent s frame ports d =
+    record d { sent = min (2 ^ 64 - 1) (d.sent + length ports); letters = d.letters ++ flat_map (over_links s frame) ports }
+
+-- a frame is put out, by what becomes of one to the controller
+abbrev pub with_output : SwitchState → (Draft → Draft) → ℕ → List ℕ → ℕ → Draft → Draft
+with_output s tells port frame output d =
+    if nat_eq output TO_CONTROLLER then tells d else with_sent s frame (targets s port output) d
+
+abbrev pub with_outputs : SwitchState → (Draft → Draft) → ℕ → List ℕ → List ℕ → Draft → Draft
+with_outputs s tells port frame [] d = d
+with_outputs s tells port frame (output ∷ outputs) d = with_outputs s tells port frame outputs (with_output s tells port frame output d)
+
+-- no packet-in comes of a PACKET_OUT
+abbrev pub untold : Draft → Draft
+untold d = d
+
+-- ports are told as they are
+abbrev pub with_ports : SwitchState → List ℕ → Draft → Draft
+with_ports s [] d = d
+with_ports s (port ∷ ports) d = with_ports s ports (with_raised (port_status s port) d)
+
+-- ports are forgotten
+abbrev pub forgets : List ℕ → Buffer → Buffer
+forgets [] b = b
+forgets (port ∷ ports) b = forgets ports (without_dirty b port)
+
+abbrev pub forgetting : List ℕ → SwitchState → SwitchState
+forgetting ports s = record s { buffer = forgets ports s.buffer }
+
+-- what happened joins a buffer, in order
+abbrev pub all_posted : List Happening → Buffer → Buffer
+all_posted [] b = b
+all_posted (what ∷ whats) b = all_posted whats (posted b what)
+
+-- what each of some events tells of
+abbrev pub whats_of : List Event → List Happening
+whats_of [] = []
+whats_of (e ∷ events) = e.what ∷ whats_of events
+
+-- a draft that keeps to its room, beside what is to join the buffer
+pub record IsKept (d : Draft) (joining : List Happening) : Type 0 where
+  pub joins : joining ≡ whats_of d.raised
+  pub enough : length d.raised ≤ d.held
+  pub room : d.held ≤ most_held
+  pub countable : d.cleared < 2 ^ 63
+  pub numbered : AreNumbered d.switch d.life (d.cleared + (d.held - length d.raised)) d.raised
+
+-- An acknowledgement brings events among the first of the buffer, or ports that were remembered find room. Only then
+-- does it take memory.
+abbrev pub brings : SwitchState → ℕ → Bool
+brings s through =
+    nat_lt 0 (length (coming (cleared s through) (cleared_to s.buffer through - s.buffer.cleared)))
+    || (nat_lt 0 (length s.buffer.dirty) && not (is_full (cleared s through).buffer))
+
+-- a command is carried out
+abbrev pub is_execute : Offer → Bool
+is_execute offer.Execute = true
+is_execute (offer.Repeat result) = false
+is_execute offer.Ahead = false
+is_execute offer.Full = false
+
+-- the rows after a change with this result
+abbrev pub rows_as : Outcome → List Row → FlowMod → List Row
+rows_as outcome.Done rows change = table_step rows change
+rows_as (outcome.Failed kind code) rows change = rows
+rows_as outcome.Cleared rows change = rows

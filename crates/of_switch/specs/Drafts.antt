@@ -1,21 +1,23 @@
 -- What a turn is to add to a switch, while memory for it is still being found: nothing of the switch has changed yet.
-use Rattle.std.specs.Prelude.{◌≡◌, ◌≤◌, ◌<◌, ℕ, ◌+◌, ◌-◌, ◌^◌, min, Bool, true, false, not, nat_eq, nat_le, nat_lt, ◌&&◌, ◌||◌, List, [], ◌∷◌, ◌++◌, length, flat_map, Option, if◌then◌else◌}
+use Rattle.std.specs.Prelude.{◌≡◌, ◌≤◌, ◌<◌, ℕ, ◌+◌, ◌-◌, ◌^◌, min, Bool, true, false, not, nat_eq, nat_le, nat_lt, ◌&&◌, ◌||◌, List, [], ◌∷◌, ◌++◌, length, filter, flat_map, Option, Some, None, if◌then◌else◌}
 use Rattle.of_types.specs.declared.message.Event.{Event}
 use Rattle.of_types.specs.declared.message.FlowMod.{FlowMod}
 use Rattle.of_types.specs.declared.message.Happening.{Happening}
+use Rattle.of_types.specs.declared.message.Happening.TheVariants as happening
 use Rattle.of_types.specs.declared.message.Outcome.{Outcome}
 use Rattle.of_types.specs.declared.message.Outcome.TheVariants as outcome
 use Rattle.of_types.specs.declared.message.Row.{Row}
-use Rattle.of_types.specs.declared.numbers.TheConstants.{TO_CONTROLLER}
+use Rattle.of_types.specs.declared.numbers.TheConstants.{TO_CONTROLLER, REASON_MODIFY}
+use Rattle.of_types.specs.Lives.{switch_up}
 use Rattle.rv_base.specs.declared.journal.Letter.{Letter}
 use Rattle.event_buffer.specs.Buffer.{Buffer, AreNumbered, most_held, is_full, posted, without_dirty, cleared_to}
 use Rattle.command_buffer.specs.declared.buffer.Offer.{Offer}
 use Rattle.command_buffer.specs.declared.buffer.Offer.TheVariants as offer
 use Rattle.flow_table.specs.Table.{table_step}
 use Rattle.of_switch.specs.declared.says.SwitchSays.{SwitchSays}
-use Rattle.of_switch.specs.State.{SwitchState, SwitchTurn}
-use Rattle.of_switch.specs.Events.{window, event_letters, port_status, coming, cleared}
-use Rattle.of_switch.specs.Forwarding.{targets, over_links}
+use Rattle.of_switch.specs.State.{SwitchState, SwitchTurn, greetings}
+use Rattle.of_switch.specs.Events.{window, event_letters, is_down, port_status, coming, cleared, next_life}
+use Rattle.of_switch.specs.Forwarding.{targets, over_links, packet_in}
 
 pub record Draft : Type 0 where
   pub switch : ℕ
@@ -81,6 +83,10 @@ abbrev pub with_sent : SwitchState → List ℕ → List ℕ → Draft → Draft
 with_sent s frame ports d =
     record d { sent = min (2 ^ 64 - 1) (d.sent + length ports); letters = d.letters ++ flat_map (over_links s frame) ports }
 
+-- a port, where it is up and not the one that a frame came in by
+abbrev pub other_port : SwitchState → ℕ → ℕ → List ℕ
+other_port s in_port port = filter (λ p. not (nat_eq p in_port)) (filter (λ p. not (is_down s p)) (port ∷ []))
+
 -- a frame is put out, by what becomes of one to the controller
 abbrev pub with_output : SwitchState → (Draft → Draft) → ℕ → List ℕ → ℕ → Draft → Draft
 with_output s tells port frame output d =
@@ -90,14 +96,27 @@ abbrev pub with_outputs : SwitchState → (Draft → Draft) → ℕ → List ℕ
 with_outputs s tells port frame [] d = d
 with_outputs s tells port frame (output ∷ outputs) d = with_outputs s tells port frame outputs (with_output s tells port frame output d)
 
+-- a frame meets a row, or none
+abbrev pub with_row : SwitchState → ℕ → List ℕ → Option Row → Draft → Draft
+with_row s port frame None d = d
+with_row s port frame (Some row) d = with_outputs s (with_packet (packet_in row port frame)) port frame row.actions d
+
 -- no packet-in comes of a PACKET_OUT
 abbrev pub untold : Draft → Draft
 untold d = d
+
+-- a port has changed
+abbrev pub changed_to : ℕ → Bool → Happening
+changed_to port up = happening.PortStatus (record { reason = REASON_MODIFY; port = port; up = up })
 
 -- ports are told as they are
 abbrev pub with_ports : SwitchState → List ℕ → Draft → Draft
 with_ports s [] d = d
 with_ports s (port ∷ ports) d = with_ports s ports (with_raised (port_status s port) d)
+
+-- the next life begins: the event that tells so, the ports that are down, and the greetings
+abbrev pub life_begun : SwitchState → Draft
+life_begun s = with_letters (with_ports s s.down (with_raised switch_up (draft_of (next_life s)))) (greetings s)
 
 -- ports are forgotten
 abbrev pub forgets : List ℕ → Buffer → Buffer

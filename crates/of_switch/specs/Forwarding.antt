@@ -21,6 +21,10 @@ use Rattle.of_switch.specs.Events.{packet_raised}
 abbrev pub is_frame : List ℕ → Bool
 is_frame frame = nat_le SHORTEST_FRAME (length frame) && nat_le (length frame) LONGEST_FRAME
 
+-- a port of the switch that is up
+abbrev pub is_up : SwitchState → ℕ → Bool
+is_up s port = list_any (λ p. nat_eq p port) (ports_up s)
+
 -- the ports to which an output sends a frame that came in by a port: those of them that are up. A frame leaves by
 -- the port that it came in by only where IN_PORT says so (OpenFlow 1.3, 4.5 and 7.2.1)
 abbrev pub targets : SwitchState → ℕ → ℕ → List ℕ
@@ -80,5 +84,5 @@ fields_at port frame = record (fields_of frame) { in_port = Some port }
 -- a frame at a port that is up meets the table (OpenFlow 1.3, 5.3). Any other is dropped
 abbrev pub on_frame : SwitchState → ℕ → List ℕ → SwitchTurn
 on_frame s port frame =
-    if list_any (λ p. nat_eq p port) (ports_up s) && is_frame frame
+    if is_up s port && is_frame frame
     then through_row s port frame (chosen_row s.rows (fields_at port frame)) else quiet s

@@ -1,6 +1,6 @@
 -- What a switch holds, and what a turn of it leaves and posts: a datapath of OpenFlow 1.3 with the event buffer
 -- and the command buffer of Ravana (4.1 and 4.2).
-use Rattle.std.specs.Prelude.{◌≡◌, ℕ, Bool, not, nat_eq, ◌||◌, List, [], ◌∷◌, ◌++◌, map, filter, slice_index, slice_index_or}
+use Rattle.std.specs.Prelude.{◌≡◌, ◌≤◌, ℕ, Bool, not, nat_eq, ◌||◌, List, [], ◌∷◌, ◌++◌, length, map, filter, slice_index, slice_index_or}
 use Rattle.std.specs.List.{list_any, range_with_len}
 use Rattle.of_types.specs.declared.message.Event.{Event}
 use Rattle.of_types.specs.declared.message.Executed.{Executed}
@@ -14,7 +14,7 @@ use Rattle.of_types.specs.declared.setup.Setup.{Setup}
 use Rattle.rv_base.specs.declared.journal.Actor.TheVariants.{Controller}
 use Rattle.rv_base.specs.declared.journal.Letter.{Letter}
 use Rattle.role_fence.specs.Fence.{Fence, starting_fence}
-use Rattle.event_buffer.specs.Buffer.{Buffer, empty_buffer}
+use Rattle.event_buffer.specs.Buffer.{Buffer, empty_buffer, highest_port, next_number}
 use Rattle.command_buffer.specs.Results.{Results, no_results}
 use Rattle.flow_table.specs.Table.{opening_rows}
 use Rattle.of_switch.specs.declared.says.SwitchSays.{SwitchSays}
@@ -78,6 +78,12 @@ executed_in s life = filter (λ x. nat_eq x.life life) s.executed
 -- the ports that are up, ascending
 abbrev pub ports_up : SwitchState → List ℕ
 ports_up s = filter (λ p. not (list_any (λ d. nat_eq d p) s.down)) (range_with_len 1 s.ports)
+
+-- a switch as its turns leave it: it has few ports, and remembers each event and each command that it numbered
+pub record IsSwitch (s : SwitchState) : Type 0 where
+  pub ports : s.ports ≤ highest_port
+  pub events : next_number s.buffer ≤ length s.events
+  pub executed : s.results.executed ≤ length s.executed
 
 -- what a turn leaves, and what it wants to post
 pub record SwitchTurn : Type 0 where

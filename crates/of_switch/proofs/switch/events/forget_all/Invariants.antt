@@ -1,0 +1,6 @@
+use Rattle.std.proofs.Common.{◌≡◌, drop}
+use Rattle.of_switch.specs.Drafts.{forgets}
+use Rattle.of_switch.proofs.switch.events.forget_all.Given as goal
+
+abbrev pub invariant-loop-port : goal.invariant-loop-port
+invariant-loop-port l = forgets (drop l.port-index l.ports) l.buffer ≡ forgets l.ports l.fn.buffer

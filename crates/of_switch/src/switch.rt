@@ -1,0 +1,198 @@
+//! A switch, and its turn.
+ghost use Rattle.std.specs.Prelude.{◌≡◌, ◌≤◌, [], length, filter, slice_index_or, IfOk};
+ghost use Rattle.of_types.specs.SmallSets.{places_from};
+ghost use Rattle.event_buffer.specs.Buffer.{highest_port};
+ghost use Rattle.of_switch.specs.State.{IsSwitch, starting_switch, is_at as is_link_at, life_of, number_of};
+
+mod events;
+mod forwarding;
+mod ports;
+
+use command_buffer::CommandBuffer;
+use event_buffer::EventBuffer;
+use flow_table::{FlowTable as Table, Rows};
+use of_types::{Event, Executed, Items, Link, Row, Setup};
+use role_fence::RoleFence;
+use std::alloc::{AllocError, Global};
+use std::marker::Model;
+
+/// A switch of the run.
+#[derive(Drop)]
+pub struct Switch {
+    alloc: Global,
+    controllers: u8,
+    links: Items<Link>,
+    down: Vec<bool>,
+    sent: u64,
+    buffer: EventBuffer,
+    results: CommandBuffer,
+    rows: Table,
+    fence: RoleFence,
+    events: Vec<Event>,
+    executed: Vec<Executed>,
+    ended: Vec<u64>,
+}
+
+impl Model for Switch {
+    ghost use Rattle.std.specs.Prelude.{length};
+    ghost use Rattle.of_types.specs.SmallSets.{places_from};
+    ghost use Rattle.of_switch.specs.State.{SwitchState, IsSwitch};
+
+    ghost Value = { SwitchState };
+
+    ghost view = { λ a. record {
+      controllers = a.controllers;
+      ports = length a.down.items;
+      links = a.links;
+      down = places_from 1 a.down.items;
+      sent = a.sent;
+      buffer = a.buffer;
+      results = a.results;
+      rows = a.rows;
+      fence = a.fence;
+      events = a.events.items;
+      executed = a.executed.items;
+      ended = a.ended.items;
+    } };
+
+    ghost invariant = { λ a. IsSwitch (record {
+      controllers = a.controllers;
+      ports = length a.down.items;
+      links = a.links;
+      down = places_from 1 a.down.items;
+      sent = a.sent;
+      buffer = a.buffer;
+      results = a.results;
+      rows = a.rows;
+      fence = a.fence;
+      events = a.events.items;
+      executed = a.executed.items;
+      ended = a.ended.items;
+    }) };
+}
+
+impl Switch {
+    /// The switch of a number in a setup, as it starts.
+    pub fn new(alloc: Global, number: u8, setup: &Setup) -> Result<Switch, AllocError>
+        requires { slice_index_or setup.now.ports number 0 ≤ highest_port }
+        ensures { IfOk result (λ s. s ≡ starting_switch number setup.now) }
+    {
+        Ok(Switch {
+            alloc,
+            controllers: setup.controllers,
+            links: links_at(alloc, number, setup.links.as_slice())?,
+            down: all_up(alloc, count_of_ports(setup, number) as usize)?,
+            sent: 0,
+            buffer: EventBuffer::new(alloc, number, 0)?,
+            results: CommandBuffer::new(alloc)?,
+            rows: Table::new(alloc)?,
+            fence: RoleFence::new(),
+            events: Vec::new(alloc),
+            executed: Vec::new(alloc),
+            ended: Vec::new(alloc),
+        })
+    }
+
+    /// What holds of every switch.
+    pub fn lawful(&self)
+        ensures { IsSwitch self.now }
+    {
+        let _sent = self.sent;
+    }
+
+    /// All events that it made in all its lives, in order.
+    pub fn events(&self) -> &[Event]
+        ensures { result.now ≡ self.now.events }
+    {
+        &self.events
+    }
+
+    /// All commands that it carried out in all its lives, in order.
+    pub fn executed(&self) -> &[Executed]
+        ensures { result.now ≡ self.now.executed }
+    {
+        &self.executed
+    }
+
+    /// Copies of the rows of its table, in the order of adding.
+    pub fn rows(&self) -> Result<Vec<Row>, AllocError>
+        ensures { IfOk result (λ rows. rows.items ≡ self.now.rows) }
+    {
+        self.rows.rows()
+    }
+
+    /// How many events are in its buffer.
+    pub fn held(&self) -> u64
+        ensures { result ≡ length self.now.buffer.held }
+    {
+        self.buffer.held().len() as u64
+    }
+
+    /// Its fence: the master, and the generation that was accepted last.
+    pub fn fence(&self) -> &RoleFence
+        ensures { result.now ≡ self.now.fence }
+    {
+        &self.fence
+    }
+
+    /// How many frames it has sent out, up to the greatest number of 64 bits.
+    pub fn sent(&self) -> u64
+        ensures { result ≡ self.now.sent }
+    {
+        self.sent
+    }
+
+    /// The number of its life: each restart begins the next one.
+    pub fn life(&self) -> u32
+        ensures { result ≡ life_of self.now }
+    {
+        self.buffer.life()
+    }
+
+    /// Its number.
+    fn number(&self) -> u8
+        ensures { result ≡ number_of self.now }
+    {
+        self.buffer.switch()
+    }
+}
+
+/// How many ports a switch has.
+fn count_of_ports(setup: &Setup, number: u8) -> u32
+    ensures { result ≡ slice_index_or setup.now.ports number 0 }
+{
+    match setup.ports.as_slice().get(usize::from(number)) {
+        Some(count) => *count,
+        None => 0,
+    }
+}
+
+/// So many ports, none of them down.
+fn all_up(alloc: Global, count: usize) -> Result<Vec<bool>, AllocError>
+    ensures count { IfOk result (λ down. length down.items ≡ count) }
+    ensures up { IfOk result (λ down. places_from 1 down.items ≡ []) }
+{
+    let mut down = Vec::new(alloc);
+    down.resize(count, false)?;
+    Ok(down)
+}
+
+/// Whether a wire begins, or ends, at a port of this switch.
+fn is_at(number: u8, link: &Link) -> bool
+    ensures { result ≡ is_link_at number link.now }
+{
+    link.switch == number || link.peer == number
+}
+
+/// The wires at the ports of a switch.
+fn links_at(alloc: Global, number: u8, links: &[Link]) -> Result<Items<Link>, AllocError>
+    ensures { IfOk result (λ own. own ≡ filter (is_link_at number) links.now) }
+{
+    let mut own = Items::new(alloc);
+    for link in links {
+        if is_at(number, link) {
+            own.push(*link)?;
+        }
+    }
+    Ok(own)
+}

@@ -1,0 +1,331 @@
+//! What a switch makes of what happens (Ravana, 4.1).
+ghost use Rattle.std.specs.Prelude.{◌≡◌, ◌≤◌, ◌<◌, ◌+◌, ◌-◌, ◌^◌, [], true, false, length, take, drop, All, nat_lt, if◌then◌else◌, IfOk, OnOk, OnErr};
+ghost use Rattle.event_buffer.specs.Buffer.{most_held, highest_port, is_full, next_number, cleared_to, with_dirty};
+ghost use Rattle.of_switch.specs.State.{Turned, posts, life_of};
+ghost use Rattle.of_switch.specs.Events.{window, coming as coming_events, first_held, cleared, raised, port_status, port_raised, with_port, next_life, on_port, on_event_ack, on_restart, on_tick};
+ghost use Rattle.of_types.specs.Lives.{last_life};
+ghost use Rattle.of_switch.specs.Drafts.{IsDraft, draft_of, drafted, with_letters, with_told, with_raised, with_ports, forgets, forgetting, all_posted, brings, changed_to, life_begun};
+
+use super::{Switch, Table};
+use crate::draft::{Draft, Parts, WINDOW};
+use crate::letters::{push_events, push_greetings};
+use crate::says::SwitchSays;
+use command_buffer::CommandBuffer;
+use event_buffer::EventBuffer;
+use of_types::{Event, Happening, Items, LAST_LIFE, PortStatus, REASON_MODIFY, switch_up};
+use role_fence::RoleFence;
+use rv_base::Letters;
+use std::alloc::AllocError;
+use std::collections::VecDeque;
+
+impl Switch {
+    /// The switch takes what a draft adds.
+    pub(super) fn finish(&mut self, draft: Draft) -> Result<Letters<SwitchSays>, AllocError>
+        requires { IsDraft self.old draft }
+        ensures ok { IfOk result (λ letters. Turned (drafted self.old draft) self.new letters) }
+        ensures err { OnErr result (self.new ≡ self.old) }
+    {
+        let Parts {
+            mut events,
+            joining,
+            sent,
+            letters,
+        } = draft.into_parts();
+        self.events.append(&mut events)?;
+        post_all(&mut self.buffer, joining);
+        self.sent = sent;
+        Ok(Items::from_vec(letters))
+    }
+
+    /// One of its ports goes down, or comes up. What changes nothing tells nothing.
+    pub(super) fn on_port(
+        &mut self,
+        port: u32,
+        up: bool,
+    ) -> Result<Letters<SwitchSays>, AllocError>
+        ensures ok { IfOk result (λ letters. Turned (on_port self.old port up) self.new letters) }
+        ensures err { OnErr result (self.new ≡ self.old) }
+    {
+        if self.is_port(port) && self.is_down(port) == up {
+            self.change_port(port, up)
+        } else {
+            Ok(Items::new(self.alloc))
+        }
+    }
+
+    /// The change of a port is told, or the port is remembered where the buffer is full.
+    fn change_port(&mut self, port: u32, up: bool) -> Result<Letters<SwitchSays>, AllocError>
+        requires { (1 ≤ port) × (port ≤ self.old.ports) }
+        ensures ok { IfOk result (λ letters. Turned (port_raised port (with_port self.old port up)) self.new letters) }
+        ensures err { OnErr result (self.new ≡ self.old) }
+    {
+        if self.buffer.is_full() {
+            self.remember_change(port, up);
+            Ok(Items::new(self.alloc))
+        } else {
+            self.tell_change(port, up)
+        }
+    }
+
+    /// A port changes, and is remembered.
+    fn remember_change(&mut self, port: u32, up: bool)
+        requires { (1 ≤ port) × (port ≤ self.old.ports) }
+        ensures { self.new ≡ record (with_port self.old port up) { buffer = with_dirty self.old.buffer port } }
+    {
+        self.buffer.mark_dirty(port);
+        self.set_port(port, up);
+    }
+
+    /// A port changes, and the change is told.
+    fn tell_change(&mut self, port: u32, up: bool) -> Result<Letters<SwitchSays>, AllocError>
+        requires port { (1 ≤ port) × (port ≤ self.old.ports) }
+        requires room { is_full self.old.buffer ≡ false }
+        ensures ok { IfOk result (λ letters. Turned (raised (port_status (with_port self.old port up) port) (with_port self.old port up)) self.new letters) }
+        ensures err { OnErr result (self.new ≡ self.old) }
+    {
+        let draft = self.port_change(port, up)?;
+        let letters = self.finish(draft)?;
+        self.set_port(port, up);
+        Ok(letters)
+    }
+
+    /// A port has changed.
+    fn port_change(&self, port: u32, up: bool) -> Result<Draft, AllocError>
+        requires { is_full self.now.buffer ≡ false }
+        ensures { IfOk result (λ d. d ≡ with_raised (changed_to port up) (draft_of self.now)) }
+    {
+        let mut draft = self.draft();
+        draft.raise(Happening::PortStatus(PortStatus {
+            reason: REASON_MODIFY,
+            port,
+            up,
+        }))?;
+        Ok(draft)
+    }
+
+    /// Ports are told as they are, for which there is room.
+    fn raise_ports(&self, draft: &mut Draft, ports: &[u32]) -> Result<(), AllocError>
+        requires { draft.old.held + length ports.now ≤ most_held }
+        ensures ok { OnOk result (draft.new ≡ with_ports self.now ports.now draft.old) }
+        ensures memory { OnErr result (0 < length ports.now) }
+    {
+        for port in ports {
+            draft.raise(self.port_status(*port))?;
+        }
+        Ok(())
+    }
+
+    /// What is acknowledged leaves the buffer, and what it makes room for comes. It takes memory only where events come
+    /// among the first, or ports that were remembered are told.
+    pub(super) fn on_event_ack(&mut self, through: u64) -> Result<Letters<SwitchSays>, AllocError>
+        ensures ok { IfOk result (λ letters. Turned (on_event_ack self.old through) self.new letters) }
+        ensures err { OnErr result (self.new ≡ self.old) }
+        ensures memory { OnErr result (brings self.old through ≡ true) }
+    {
+        let mut draft = self.draft_past(through);
+        draft.tell(self.coming(through))?;
+        let ports = self.ports_to_tell(draft.room())?;
+        self.raise_ports(&mut draft, &ports)?;
+        self.acknowledge(through, &ports, draft)
+    }
+
+    /// How many events leave.
+    fn leaving(&self, through: u64) -> usize
+        ensures count { result ≡ cleared_to self.now.buffer through - self.now.buffer.cleared }
+        ensures within { result ≤ length self.now.buffer.held }
+    {
+        let next = self.buffer.next_number();
+        through.min(next).saturating_sub(self.buffer.cleared()) as usize
+    }
+
+    /// What a turn is to add once events have left.
+    fn draft_past(&self, through: u64) -> Draft
+        ensures { result ≡ draft_of (cleared self.now through) }
+    {
+        let left = self.leaving(through);
+        Draft::new(self.alloc, &self.buffer, left, self.fence.master(), self.sent)
+    }
+
+    /// The events that come among the first once some have left.
+    fn coming(&self, through: u64) -> &[Event]
+        ensures { result.now ≡ coming_events (cleared self.now through) (cleared_to self.now.buffer through - self.now.buffer.cleared) }
+    {
+        coming(self.buffer.held(), self.leaving(through))
+    }
+
+    /// The ports that were remembered, as many as there is room for. It takes no memory for none.
+    fn ports_to_tell(&self, room: usize) -> Result<Vec<u32>, AllocError>
+        ensures ports { IfOk result (λ ports. ports.items ≡ take room self.now.buffer.dirty) }
+        ensures within { IfOk result (λ ports. All (λ port. (1 ≤ port) × (port ≤ highest_port)) ports.items) }
+        ensures memory { OnErr result ((0 < room) × (0 < length self.now.buffer.dirty)) }
+    {
+        if room == 0 || !self.buffer.has_dirty() {
+            return Ok(Vec::new(self.alloc));
+        }
+        let mut ports = self.buffer.dirty()?;
+        let _held = self.buffer.held();
+        ports.truncate(room);
+        Ok(ports)
+    }
+
+    /// Events leave the buffer, ports are forgotten, and the switch takes what a draft adds.
+    fn acknowledge(
+        &mut self,
+        through: u64,
+        ports: &[u32],
+        draft: Draft,
+    ) -> Result<Letters<SwitchSays>, AllocError>
+        requires kind { IsDraft (cleared self.old through) draft }
+        requires within { All (λ port. (1 ≤ port) × (port ≤ highest_port)) ports.now }
+        ensures ok { IfOk result (λ letters. Turned (drafted (forgetting ports.now (cleared self.old through)) draft) self.new letters) }
+        ensures err { OnErr result (self.new ≡ self.old) }
+        ensures memory { OnErr result (0 < length draft.raised) }
+    {
+        let Parts {
+            mut events,
+            joining,
+            sent,
+            letters,
+        } = draft.into_parts();
+        self.events.append(&mut events)?;
+        self.buffer.clear(through);
+        forget_all(&mut self.buffer, ports);
+        post_all(&mut self.buffer, joining);
+        self.sent = sent;
+        Ok(Items::from_vec(letters))
+    }
+
+    /// A restart begins the next life, where there is one.
+    pub(super) fn on_restart(&mut self) -> Result<Letters<SwitchSays>, AllocError>
+        ensures ok { IfOk result (λ letters. Turned (on_restart self.old) self.new letters) }
+        ensures err { OnErr result (self.new ≡ self.old) }
+    {
+        if self.life() < LAST_LIFE {
+            self.restart()
+        } else {
+            Ok(Items::new(self.alloc))
+        }
+    }
+
+    /// The next life begins.
+    fn restart(&mut self) -> Result<Letters<SwitchSays>, AllocError>
+        requires { life_of self.old < last_life }
+        ensures ok { IfOk result (λ letters. Turned (on_restart self.old) self.new letters) }
+        ensures err { OnErr result (self.new ≡ self.old) }
+    {
+        let buffer = EventBuffer::new(self.alloc, self.number(), self.life() + 1)?;
+        let draft = self.first_events(&buffer)?;
+        self.begin_life(buffer, draft)
+    }
+
+    /// The events with which the next life begins, and the greetings.
+    fn first_events(&self, buffer: &EventBuffer) -> Result<Draft, AllocError>
+        requires { buffer.now ≡ (next_life self.now).buffer }
+        ensures { IfOk result (λ d. d ≡ life_begun self.now) }
+    {
+        let mut draft = Draft::new(self.alloc, buffer, 0, None, self.sent);
+        draft.raise(switch_up())?;
+        let ports = self.down_ports()?;
+        self.raise_ports(&mut draft, &ports)?;
+        draft.greet(self.controllers)?;
+        Ok(draft)
+    }
+
+    /// What the switch held of its last life is gone, and it takes what a draft adds.
+    fn begin_life(
+        &mut self,
+        buffer: EventBuffer,
+        draft: Draft,
+    ) -> Result<Letters<SwitchSays>, AllocError>
+        requires buffer { buffer ≡ (next_life self.old).buffer }
+        requires kind { IsDraft (next_life self.old) draft }
+        ensures ok { IfOk result (λ letters. Turned (drafted (next_life self.old) draft) self.new letters) }
+        ensures err { OnErr result (self.new ≡ self.old) }
+    {
+        let results = CommandBuffer::new(self.alloc)?;
+        let rows = Table::new(self.alloc)?;
+        self.ended.reserve(1)?;
+        let Parts {
+            mut events,
+            joining,
+            sent,
+            letters,
+        } = draft.into_parts();
+        self.events.append(&mut events)?;
+        self.ended.push_reserved(self.buffer.cleared());
+        self.buffer = buffer;
+        self.results = results;
+        self.rows = rows;
+        self.fence = RoleFence::new();
+        self.sent = sent;
+        post_all(&mut self.buffer, joining);
+        Ok(Items::from_vec(letters))
+    }
+
+    /// A tick: the first events are sent again. A later life without a master greets again.
+    pub(super) fn on_tick(&self) -> Result<Letters<SwitchSays>, AllocError>
+        ensures { IfOk result (λ letters. Turned (on_tick self.now) self.now letters) }
+    {
+        let mut letters = Vec::new(self.alloc);
+        let master = self.fence.master();
+        if master.is_none() && self.life() > 0 {
+            push_greetings(&mut letters, self.controllers)?;
+        }
+        push_events(&mut letters, master, self.first_held())?;
+        Ok(Items::from_vec(letters))
+    }
+
+    /// The events of the buffer that may be under way.
+    pub(super) fn first_held(&self) -> &[Event]
+        ensures { result.now ≡ first_held self.now }
+    {
+        first(self.buffer.held())
+    }
+}
+
+/// What happened joins a buffer, in order.
+fn post_all(buffer: &mut EventBuffer, joining: Vec<Happening>)
+    requires room { length buffer.old.held + length joining.items ≤ most_held }
+    requires countable { next_number buffer.old + length joining.items < 2 ^ 64 - 1 }
+    ensures { buffer.new ≡ all_posted joining.items buffer.old }
+{
+    let mut joining = VecDeque::from_vec(joining);
+    while let Some(what) = joining.pop_front() {
+        let _ = buffer.post(what);
+    }
+}
+
+/// As many events as may be under way.
+fn first(events: &[Event]) -> &[Event]
+    ensures { result.now ≡ take window events.now }
+{
+    if events.len() < WINDOW {
+        events
+    } else {
+        &events[..WINDOW]
+    }
+}
+
+/// The events that come among the first where so many leave.
+fn coming(held: &[Event], left: usize) -> &[Event]
+    requires { left ≤ length held.now }
+    ensures { result.now ≡ drop (window - left) (take window (drop left held.now)) }
+{
+    let first = first(&held[left..]);
+    let known = WINDOW.saturating_sub(left);
+    if known < first.len() {
+        &first[known..]
+    } else {
+        &[]
+    }
+}
+
+/// Ports are forgotten.
+fn forget_all(buffer: &mut EventBuffer, ports: &[u32])
+    requires { All (λ port. (1 ≤ port) × (port ≤ highest_port)) ports.now }
+    ensures { buffer.new ≡ forgets ports.now buffer.old }
+{
+    for port in ports {
+        buffer.forget_dirty(*port);
+    }
+}

@@ -1,24 +1,31 @@
 -- What a draft comes to is what the rules say.
-use Rattle.std.proofs.Common.{◌≡◌, ℕ, ◌+◌, ◌-◌, ◌^◌, ◌≤◌, ◌<◌, Bool, true, false, List, [], ◌∷◌, ◌++◌, length, length-append, length-drop, take, drop, refl, sym, ◌∙◌, ap, subst, arith, append_assoc, append-nil, suc, zero}
+use Rattle.std.proofs.Common.{◌≡◌, ℕ, ◌+◌, ◌-◌, ◌^◌, ◌≤◌, ◌<◌, Bool, true, false, List, [], ◌∷◌, ◌++◌, length, length-append, length-drop, take, refl, sym, ◌∙◌, ap, subst, arith, append_assoc, append-nil, suc, zero}
 use Rattle.std.proofs.lemmas.Bool.{le-leb, lt-leb}
-use Rattle.std.specs.Prelude.{nat_eq, nat_le, nat_lt, not, Option, Some, None, if◌then◌else◌}
+use Rattle.std.specs.Prelude.{nat_eq, nat_le, nat_lt, Option, Some, None, if◌then◌else◌}
 use Rattle.of_types.specs.declared.message.Event.{Event}
 use Rattle.of_types.specs.declared.message.Happening.{Happening}
+use Rattle.of_types.specs.declared.message.Executed.{Executed}
+use Rattle.of_types.specs.declared.message.Order.{Order}
+use Rattle.of_types.specs.declared.message.Order.TheVariants as order
+use Rattle.of_types.specs.declared.message.Outcome.{Outcome}
+use Rattle.of_types.specs.declared.message.Outcome.TheVariants as outcome
+use Rattle.of_types.specs.declared.message.PacketOut.{PacketOut}
 use Rattle.of_types.specs.declared.message.Row.{Row}
 use Rattle.of_types.specs.declared.numbers.TheConstants.{TO_CONTROLLER}
 use Rattle.of_types.specs.Lives.{last_life, switch_up}
 use Rattle.rv_base.specs.declared.journal.Letter.{Letter}
-use Rattle.event_buffer.specs.Buffer.{Buffer, AreNumbered, most_held, is_full, next_event, next_number, posted, without_dirty, without_events_below, cleared_to}
-use Rattle.command_buffer.specs.Results.{Results, no_results}
+use Rattle.event_buffer.specs.Buffer.{Buffer, AreNumbered, most_held, is_full, next_event, next_number, without_dirty, without_events_below, cleared_to}
+use Rattle.command_buffer.specs.Results.{Results, no_results, with_result, without_results_below}
 use Rattle.flow_table.specs.Table.{opening_rows}
 use Rattle.role_fence.specs.Fence.{Fence, starting_fence}
 use Rattle.of_switch.specs.declared.says.SwitchSays.{SwitchSays}
 use Rattle.of_switch.specs.State.{SwitchState, IsSwitch, SwitchTurn, quiet, posts, then_turn, greetings, life_of}
-use Rattle.of_switch.specs.Events.{window, event_letters, with_event, raised, packet_raised, port_status, with_port, coming, cleared, remembers, tells_ports, next_life, on_event_ack, on_restart}
+use Rattle.of_switch.specs.Events.{event_letters, raised, packet_raised, port_status, with_port, coming, cleared, remembers, tells_ports, next_life, on_event_ack, on_restart}
+use Rattle.of_switch.specs.Commands.{result_of, done_as, counted, result_letter, executes, settled}
 use Rattle.of_switch.specs.Forwarding.{targets, sends_to, puts_out, puts_all, packet_in, through_row}
 use Rattle.of_switch.proofs.Drafts.{posted-all, whats-length}
 use Rattle.of_switch.proofs.Ports.{down-then}
-use Rattle.of_switch.specs.Drafts.{Draft, IsDraft, IsKept, all_posted, draft_of, drafted, drafted_event, with_letters, with_raised, with_packet, with_sent, with_output, with_outputs, untold, with_row, with_ports, forgets, forgetting, changed_to, with_told, life_begun}
+use Rattle.of_switch.specs.Drafts.{Draft, IsDraft, IsKept, all_posted, draft_of, drafted, drafted_event, with_raised, with_packet, with_sent, with_output, with_outputs, untold, with_row, with_ports, forgets, forgetting, changed_to, with_told, life_begun, sent_as}
 
 -- a draft with nothing new leaves all as it is
 pub starts : (s : SwitchState) → quiet s ≡ drafted s (draft_of s)
@@ -280,3 +287,51 @@ pub life-made : (s : SwitchState) (d : Draft) (buffer : Buffer) (results : Resul
     events ≡ s.events ++ d.raised → sent ≡ d.sent → ended ≡ s.ended ++ s.buffer.cleared ∷ [] →
     record s { buffer = buffer; results = results; rows = rows; fence = fence; events = events; sent = sent; ended = ended } ≡ (drafted (next_life s) d).state
 life-made s d buffer results rows fence events sent ended b r w f e n l = rw (b, r, w, f, e, n, l) refl
+
+-- ---- a PACKET_OUT
+
+-- what it sends doesn't ask for the results that are kept
+outputs-same : (s : SwitchState) (results : Results) (port : ℕ) (frame outputs : List ℕ) (d : Draft) →
+    with_outputs (record s { results = results }) untold port frame outputs d ≡ with_outputs s untold port frame outputs d
+outputs-same s results port frame [] d = refl
+outputs-same s results port frame (output ∷ outputs) d = outputs-same s results port frame outputs (with_output s untold port frame output d)
+
+-- it raises nothing
+untold-raised : (s : SwitchState) (port : ℕ) (frame outputs : List ℕ) (d : Draft) → (with_outputs s untold port frame outputs d).raised ≡ d.raised
+untold-raised s port frame [] d = refl
+untold-raised s port frame (output ∷ outputs) d =
+    untold-raised s port frame outputs (with_output s untold port frame output d) ∙ by_test (nat_eq output TO_CONTROLLER)
+  where
+    by_test : (b : Bool) → (if b then d else with_sent s frame (targets s port output) d).raised ≡ d.raised
+    by_test true = refl
+    by_test false = refl
+
+-- a draft that raises nothing
+drafted-quietly : (s : SwitchState) (d : Draft) → d.raised ≡ [] → drafted s d ≡ posts (record s { sent = d.sent }) d.letters
+drafted-quietly s d none = rw (none, append-nil s.buffer.held, append-nil s.events) refl
+
+-- what a PACKET_OUT with this result does
+packet-does : (s : SwitchState) (results : Results) (out : PacketOut) (result : Outcome) →
+    done_as result (order.PacketOut out) (record s { results = results })
+    ≡ posts (record s { results = results; sent = (sent_as s result out (draft_of s)).sent }) (sent_as s result out (draft_of s)).letters
+packet-does s results out outcome.Done =
+    let s' : SwitchState = (record s { results = results }) in
+    let same = outputs-same s results out.in_port out.payload out.actions (draft_of s) in
+    ap (λ (t : SwitchTurn). puts_all quiet out.in_port out.payload out.actions t) (starts s')
+    ∙ outputs-drafted s' quiet untold out.in_port out.payload out.actions (draft_of s') (nothing-told s') (start-is s')
+    ∙ ap (λ (d : Draft). drafted s' d) same
+    ∙ drafted-quietly s' (with_outputs s untold out.in_port out.payload out.actions (draft_of s)) (untold-raised s out.in_port out.payload out.actions (draft_of s))
+packet-does s results out (outcome.Failed kind code) = refl
+packet-does s results out outcome.Cleared = refl
+
+-- a switch that counted it
+pub packet-executed : (s : SwitchState) (through from generation number : ℕ) (out : PacketOut) (result : Outcome) (sent : ℕ) (results : Results) (executed : List Executed) (letters : List (Letter SwitchSays)) →
+    result ≡ result_of s (order.PacketOut out) → sent ≡ (sent_as s result out (draft_of s)).sent → results ≡ with_result (without_results_below s.results through) result →
+    executed ≡ s.executed ++ record { life = life_of s; number = number; generation = generation; from = from; order = order.PacketOut out } ∷ [] →
+    letters ≡ (sent_as s result out (draft_of s)).letters ++ result_letter s from number result ∷ [] →
+    posts (record s { sent = sent; results = results; executed = executed }) letters ≡ executes (settled s through) from generation number (order.PacketOut out)
+packet-executed s through from generation number out result sent results executed letters is e r x l =
+    let what : Order = order.PacketOut out in
+    rw (e, r, x, l)
+    (sym (ap (λ (t : SwitchTurn). then_turn t (λ now. posts (counted from generation number what result now) (result_letter s from number result ∷ []))) (packet-does s (without_results_below s.results through) out result))
+    ∙ ap (λ (o : Outcome). then_turn (done_as o what (settled s through)) (λ now. posts (counted from generation number what o now) (result_letter s from number o ∷ []))) is)

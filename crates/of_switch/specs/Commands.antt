@@ -74,8 +74,12 @@ counted from generation number what result s =
       results = with_result s.results result;
     }
 
+-- the letter that tells a result, in a life
+abbrev pub letter_of_result : ℕ → ℕ → ℕ → Outcome → Letter SwitchSays
+letter_of_result from life number result = to_controller from 0 (spoken.Ravana (extension.CmdAck life number result))
+
 abbrev pub result_letter : SwitchState → ℕ → ℕ → Outcome → Letter SwitchSays
-result_letter s from number result = to_controller from 0 (spoken.Ravana (extension.CmdAck (life_of s) number result))
+result_letter s from number result = letter_of_result from (life_of s) number result
 
 -- it is carried out where its order has no fault, and its result is told after its frames
 abbrev pub executes : SwitchState → ℕ → ℕ → ℕ → Order → SwitchTurn

@@ -1,22 +1,29 @@
 -- What a turn is to add to a switch, while memory for it is still being found: nothing of the switch has changed yet.
-use Rattle.std.specs.Prelude.{◌≡◌, ◌≤◌, ◌<◌, ℕ, ◌+◌, ◌-◌, ◌^◌, min, Bool, true, false, not, nat_eq, nat_le, nat_lt, ◌&&◌, ◌||◌, List, [], ◌∷◌, ◌++◌, length, filter, flat_map, Option, Some, None, if◌then◌else◌}
+use Rattle.std.specs.Prelude.{◌≡◌, ◌≤◌, ◌<◌, ℕ, ◌+◌, ◌-◌, ◌^◌, min, Bool, true, false, not, nat_eq, nat_le, nat_lt, List, [], ◌∷◌, ◌++◌, length, map, filter, flat_map, Option, Some, None, if◌then◌else◌}
 use Rattle.of_types.specs.declared.message.Event.{Event}
 use Rattle.of_types.specs.declared.message.FlowMod.{FlowMod}
 use Rattle.of_types.specs.declared.message.Happening.{Happening}
 use Rattle.of_types.specs.declared.message.Happening.TheVariants as happening
 use Rattle.of_types.specs.declared.message.Outcome.{Outcome}
 use Rattle.of_types.specs.declared.message.Outcome.TheVariants as outcome
+use Rattle.of_types.specs.declared.message.OfMessage.TheVariants as plain
+use Rattle.of_types.specs.declared.message.PacketOut.{PacketOut}
 use Rattle.of_types.specs.declared.message.Row.{Row}
-use Rattle.of_types.specs.declared.numbers.TheConstants.{TO_CONTROLLER, REASON_MODIFY}
+use Rattle.of_types.specs.declared.message.Spoken.TheVariants as spoken
+use Rattle.of_types.specs.declared.numbers.TheConstants.{MASTER, TO_CONTROLLER, REASON_MODIFY}
+use Rattle.of_types.specs.declared.refusal.TheConstants.{BAD_ROLE, STALE_ROLE}
 use Rattle.of_types.specs.Lives.{switch_up}
 use Rattle.rv_base.specs.declared.journal.Letter.{Letter}
-use Rattle.event_buffer.specs.Buffer.{Buffer, AreNumbered, most_held, is_full, posted, without_dirty, cleared_to}
+use Rattle.event_buffer.specs.Buffer.{Buffer, AreNumbered, most_held, posted, without_dirty}
 use Rattle.command_buffer.specs.declared.buffer.Offer.{Offer}
 use Rattle.command_buffer.specs.declared.buffer.Offer.TheVariants as offer
+use Rattle.role_fence.specs.declared.fence.RoleAnswer.{RoleAnswer}
+use Rattle.role_fence.specs.declared.fence.RoleAnswer.TheVariants.{Reply, Stale, BadRole}
 use Rattle.flow_table.specs.Table.{table_step}
 use Rattle.of_switch.specs.declared.says.SwitchSays.{SwitchSays}
-use Rattle.of_switch.specs.State.{SwitchState, SwitchTurn, greetings}
-use Rattle.of_switch.specs.Events.{window, event_letters, is_down, port_status, coming, cleared, next_life}
+use Rattle.of_switch.specs.State.{SwitchState, SwitchTurn, greetings, quiet, posts, to_controller, error_letter}
+use Rattle.of_switch.specs.Events.{window, first_held, event_letter, event_letters, is_down, port_status, next_life}
+use Rattle.of_switch.specs.Commands.{result_letter}
 use Rattle.of_switch.specs.Forwarding.{targets, over_links, packet_in}
 
 pub record Draft : Type 0 where
@@ -144,13 +151,6 @@ pub record IsKept (d : Draft) (joining : List Happening) : Type 0 where
   pub countable : d.cleared < 2 ^ 63
   pub numbered : AreNumbered d.switch d.life (d.cleared + (d.held - length d.raised)) d.raised
 
--- An acknowledgement brings events among the first of the buffer, or ports that were remembered find room. Only then
--- does it take memory.
-abbrev pub brings : SwitchState → ℕ → Bool
-brings s through =
-    nat_lt 0 (length (coming (cleared s through) (cleared_to s.buffer through - s.buffer.cleared)))
-    || (nat_lt 0 (length s.buffer.dirty) && not (is_full (cleared s through).buffer))
-
 -- a command is carried out
 abbrev pub is_execute : Offer → Bool
 is_execute offer.Execute = true
@@ -163,3 +163,26 @@ abbrev pub rows_as : Outcome → List Row → FlowMod → List Row
 rows_as outcome.Done rows change = table_step rows change
 rows_as (outcome.Failed kind code) rows change = rows
 rows_as outcome.Cleared rows change = rows
+
+-- a PACKET_OUT with this result
+abbrev pub sent_as : SwitchState → Outcome → PacketOut → Draft → Draft
+sent_as s outcome.Done out d = with_outputs s untold out.in_port out.payload out.actions d
+sent_as s (outcome.Failed kind code) out d = d
+sent_as s outcome.Cleared out d = d
+
+-- what is told of a command that isn't carried out
+abbrev pub reported : SwitchState → ℕ → ℕ → Offer → SwitchTurn
+reported s from number (offer.Repeat result) = posts s (result_letter s from number result ∷ [])
+reported s from number offer.Execute = quiet s
+reported s from number offer.Ahead = quiet s
+reported s from number offer.Full = quiet s
+
+-- the letters for what the fence answers, and for the events that a master is told
+abbrev pub role_letters : ℕ → ℕ → RoleAnswer → List (Letter SwitchSays) → List (Letter SwitchSays)
+role_letters from xid (Reply role generation) events = to_controller from xid (spoken.Plain (plain.RoleReply role generation)) ∷ events
+role_letters from xid (Stale seen asked) events = error_letter from xid STALE_ROLE.kind STALE_ROLE.code [] ∷ []
+role_letters from xid BadRole events = error_letter from xid BAD_ROLE.kind BAD_ROLE.code [] ∷ []
+
+-- the events that a controller is told which asks for a role
+abbrev pub told_events : SwitchState → ℕ → ℕ → List (Letter SwitchSays)
+told_events s from role = if nat_eq role MASTER then map (event_letter from) (first_held s) else []

@@ -1,5 +1,5 @@
 -- What a switch makes of what happens, and when it sends it (Ravana, 4.1; OpenFlow 1.3, 7.4.1 and 7.4.3).
-use Rattle.std.specs.Prelude.{ℕ, ◌+◌, ◌-◌, Bool, not, nat_eq, nat_le, nat_lt, ◌&&◌, List, [], ◌∷◌, ◌++◌, length, take, drop, map, Option, Some, None, if◌then◌else◌}
+use Rattle.std.specs.Prelude.{ℕ, ◌+◌, ◌-◌, Bool, not, nat_eq, nat_le, nat_lt, ◌&&◌, ◌||◌, List, [], ◌∷◌, ◌++◌, length, take, drop, map, Option, Some, None, if◌then◌else◌}
 use Rattle.std.specs.List.{list_any}
 use Rattle.of_types.specs.declared.message.Event.{Event}
 use Rattle.of_types.specs.declared.message.Extension.TheVariants as extension
@@ -93,6 +93,13 @@ abbrev pub on_event_ack : SwitchState → ℕ → SwitchTurn
 on_event_ack s through =
     remembers s.buffer.dirty
     (posts (cleared s through) (event_letters s.fence.master (coming (cleared s through) (cleared_to s.buffer through - s.buffer.cleared))))
+
+-- An acknowledgement brings events among the first of the buffer, or ports that were remembered find room. Only then
+-- does it take memory.
+abbrev pub brings : SwitchState → ℕ → Bool
+brings s through =
+    nat_lt 0 (length (coming (cleared s through) (cleared_to s.buffer through - s.buffer.cleared)))
+    || (nat_lt 0 (length s.buffer.dirty) && not (is_full (cleared s through).buffer))
 
 -- each of these ports is told as it is
 abbrev pub tells_ports : List ℕ → SwitchTurn → SwitchTurn

@@ -1,5 +1,5 @@
 -- The rules of a switch: one definition for each case.
-use Rattle.std.specs.Prelude.{ℕ, nat_eq, List, [], ◌∷◌, map, if◌then◌else◌}
+use Rattle.std.specs.Prelude.{ℕ, Bool, true, false, nat_eq, ◌&&◌, List, [], ◌∷◌, map, if◌then◌else◌}
 use Rattle.of_types.specs.declared.message.Extension.{Extension}
 use Rattle.of_types.specs.declared.message.Extension.TheVariants as extension
 use Rattle.of_types.specs.declared.message.OfMessage.{OfMessage}
@@ -17,7 +17,7 @@ use Rattle.role_fence.specs.Fence.{RoleStep, role_step}
 use Rattle.of_switch.specs.declared.says.SwitchInput.{SwitchInput}
 use Rattle.of_switch.specs.declared.says.SwitchInput.TheVariants as switch_input
 use Rattle.of_switch.specs.State.{SwitchState, SwitchTurn, quiet, posts, then_turn, answers, error_letter, refuses, number_of, life_of}
-use Rattle.of_switch.specs.Events.{event_letter, first_held, on_port, on_event_ack, on_restart, on_tick}
+use Rattle.of_switch.specs.Events.{event_letter, first_held, on_port, on_event_ack, brings, on_restart, on_tick}
 use Rattle.of_switch.specs.Forwarding.{on_frame}
 use Rattle.of_switch.specs.Commands.{settled, on_command}
 
@@ -96,3 +96,20 @@ switch_turn s (switch_input.Of from xid (spoken.Plain message)) = on_plain s fro
 switch_turn s (switch_input.Of from xid (spoken.Ravana message)) = on_extension s from xid message
 switch_turn s (switch_input.Malformed from kind code xid head) = on_malformed s from kind code xid head
 switch_turn s (switch_input.Frame from port bytes) = on_frame s port bytes
+
+-- a message of the extension that may want memory
+abbrev pub asks : SwitchState → Extension → Bool
+asks s (extension.EventAck life through) = brings s through
+asks s (extension.Clear life through) = false
+asks s (extension.Event life number what) = true
+asks s (extension.Command life generation number through what) = true
+asks s (extension.CmdAck life number result) = true
+
+-- An input that may want memory. An acknowledgement that brings no event among the first of the buffer doesn't, nor
+-- does a clear, nor what is of another life.
+abbrev pub takes_memory : SwitchState → SwitchInput → Bool
+takes_memory s (switch_input.Local what) = true
+takes_memory s (switch_input.Of from xid (spoken.Plain message)) = true
+takes_memory s (switch_input.Of from xid (spoken.Ravana message)) = nat_eq (life_said message) (life_of s) && asks s message
+takes_memory s (switch_input.Malformed from kind code xid head) = true
+takes_memory s (switch_input.Frame from port bytes) = true

@@ -1,18 +1,23 @@
 //! A switch, and its turn.
-ghost use Rattle.std.specs.Prelude.{◌≡◌, ◌≤◌, [], length, filter, slice_index_or, IfOk};
+ghost use Rattle.std.specs.Prelude.{◌≡◌, ◌≤◌, [], true, length, filter, slice_index_or, IfOk, OnErr};
 ghost use Rattle.of_types.specs.SmallSets.{places_from};
 ghost use Rattle.event_buffer.specs.Buffer.{highest_port};
-ghost use Rattle.of_switch.specs.State.{IsSwitch, starting_switch, is_at as is_link_at, life_of, number_of};
+ghost use Rattle.of_switch.specs.Rules.{switch_turn, on_local, takes_memory};
+ghost use Rattle.of_switch.specs.State.{Turned, IsSwitch, starting_switch, is_at as is_link_at, life_of, number_of};
 
+mod commands;
 mod events;
 mod forwarding;
+mod messages;
 mod ports;
 
+use crate::says::{SwitchInput, SwitchSays};
 use command_buffer::CommandBuffer;
 use event_buffer::EventBuffer;
 use flow_table::{FlowTable as Table, Rows};
-use of_types::{Event, Executed, Items, Link, Row, Setup};
+use of_types::{Event, Executed, Items, Link, Refusal, Row, Setup, Spoken};
 use role_fence::RoleFence;
+use rv_base::{Letters, Local};
 use std::alloc::{AllocError, Global};
 use std::marker::Model;
 
@@ -147,6 +152,45 @@ impl Switch {
         ensures { result ≡ life_of self.now }
     {
         self.buffer.life()
+    }
+
+    /// One turn: the rule of its input. Where memory is wanted, nothing has changed. An acknowledgement that brings no
+    /// event among the first of the buffer takes none, nor does a clear.
+    #[tactic(auto, unfolding(crate::specs::Rules::switch_turn))]
+    pub fn turn(&mut self, input: SwitchInput) -> Result<Letters<SwitchSays>, AllocError>
+        ensures ok { IfOk result (λ letters. Turned (switch_turn self.old input) self.new letters) }
+        ensures err { OnErr result (self.new ≡ self.old) }
+        ensures memory { OnErr result (takes_memory self.old input ≡ true) }
+    {
+        match input {
+            SwitchInput::Local(local) => self.on_local(local),
+            SwitchInput::Of { from, xid, message } => match message {
+                Spoken::Plain(message) => self.on_plain(from, xid, message),
+                Spoken::Ravana(message) => self.on_extension(from, xid, message),
+            },
+            SwitchInput::Malformed {
+                from,
+                kind,
+                code,
+                xid,
+                head,
+            } => self.on_malformed(from, Refusal { kind, code }, xid, head),
+            SwitchInput::Frame { port, bytes, .. } => self.on_frame(port, &bytes),
+        }
+    }
+
+    /// What comes from outside. A switch neither suspects nor stops.
+    fn on_local(&mut self, input: Local) -> Result<Letters<SwitchSays>, AllocError>
+        ensures ok { IfOk result (λ letters. Turned (on_local self.old input) self.new letters) }
+        ensures err { OnErr result (self.new ≡ self.old) }
+    {
+        match input {
+            Local::Frame { port, bytes } => self.on_frame(port, &bytes),
+            Local::Port { port, up } => self.on_port(port, up),
+            Local::Tick => self.on_tick(),
+            Local::Restart => self.on_restart(),
+            Local::Suspect { .. } | Local::Crash => Ok(Items::new(self.alloc)),
+        }
     }
 
     /// Its number.

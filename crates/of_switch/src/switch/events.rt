@@ -2,9 +2,9 @@
 ghost use Rattle.std.specs.Prelude.{◌≡◌, ◌≤◌, ◌<◌, ◌+◌, ◌-◌, ◌^◌, [], true, false, length, take, drop, All, nat_lt, if◌then◌else◌, IfOk, OnOk, OnErr};
 ghost use Rattle.event_buffer.specs.Buffer.{most_held, highest_port, is_full, next_number, cleared_to, with_dirty};
 ghost use Rattle.of_switch.specs.State.{Turned, posts, life_of};
-ghost use Rattle.of_switch.specs.Events.{window, coming as coming_events, first_held, cleared, raised, port_status, port_raised, with_port, next_life, on_port, on_event_ack, on_restart, on_tick};
+ghost use Rattle.of_switch.specs.Events.{window, coming as coming_events, first_held, cleared, raised, port_status, port_raised, with_port, next_life, on_port, on_event_ack, brings, on_restart, on_tick};
 ghost use Rattle.of_types.specs.Lives.{last_life};
-ghost use Rattle.of_switch.specs.Drafts.{IsDraft, draft_of, drafted, with_letters, with_told, with_raised, with_ports, forgets, forgetting, all_posted, brings, changed_to, life_begun};
+ghost use Rattle.of_switch.specs.Drafts.{IsDraft, draft_of, drafted, with_letters, with_told, with_raised, with_ports, forgets, forgetting, all_posted, changed_to, life_begun};
 
 use super::{Switch, Table};
 use crate::draft::{Draft, Parts, WINDOW};

@@ -1,5 +1,4 @@
 use Rattle.std.proofs.Common.{◌∙◌, ap, sym, arith}
-use Rattle.of_types.specs.declared.message.Happening.{Happening}
 use Rattle.of_switch.specs.Drafts.{Draft, drafted_event}
 use Rattle.of_switch.proofs.Drafts.{kept-joined}
 use Rattle.of_switch.proofs.draft.Draft.join.Goals as goal

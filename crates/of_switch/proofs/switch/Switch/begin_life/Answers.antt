@@ -1,11 +1,11 @@
-use Rattle.std.proofs.Common.{◌≡◌, ◌∙◌, ◌++◌, ◌+◌, ◌≤◌, ◌∷◌, [], List, length, refl, sym, ap, subst, arith}
+use Rattle.std.proofs.Common.{◌≡◌, ◌∙◌, ◌++◌, ◌+◌, ◌≤◌, ◌∷◌, [], List, length, sym, ap, subst, arith}
 use Rattle.std.specs.Prelude.{ℕ}
 use Rattle.of_types.specs.declared.message.Event.{Event}
-use Rattle.event_buffer.specs.Buffer.{Buffer, most_held, next_number}
+use Rattle.event_buffer.specs.Buffer.{Buffer, most_held}
 use Rattle.of_switch.specs.contracts.switch.Switch.{the_view}
 use Rattle.of_switch.specs.State.{SwitchState}
 use Rattle.of_switch.specs.Events.{next_life}
-use Rattle.of_switch.specs.Drafts.{Draft, IsDraft, IsKept, drafted, all_posted}
+use Rattle.of_switch.specs.Drafts.{IsDraft, drafted, all_posted}
 use Rattle.of_switch.proofs.Turns.{joined-is, joins-room, drafted-switch, life-switch, life-made}
 use Rattle.of_switch.proofs.switch.Switch.begin_life.Goals as goal
 use Rattle.of_switch.proofs.switch.Switch.begin_life.Goals.{After-drop-events-2}

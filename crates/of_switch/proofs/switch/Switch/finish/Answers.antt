@@ -1,7 +1,5 @@
-use Rattle.std.proofs.Common.{◌≡◌, ◌++◌, ◌∙◌, refl, sym, ap, subst}
-use Rattle.std.specs.Prelude.{List}
-use Rattle.of_types.specs.declared.message.Event.{Event}
-use Rattle.of_switch.specs.State.{SwitchState, IsSwitch, Turned}
+use Rattle.std.proofs.Common.{◌∙◌, sym, ap, subst}
+use Rattle.of_switch.specs.State.{SwitchState}
 use Rattle.of_switch.specs.Drafts.{IsDraft, drafted}
 use Rattle.of_switch.proofs.Turns.{joined-is, joins-room, drafted-switch}
 use Rattle.of_switch.proofs.switch.Switch.finish.Goals as goal

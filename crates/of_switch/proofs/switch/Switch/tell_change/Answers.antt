@@ -1,5 +1,5 @@
 use Rattle.std.proofs.Common.{◌∙◌, sym, ap, subst}
-use Rattle.of_switch.specs.State.{SwitchState, SwitchTurn, Turned}
+use Rattle.of_switch.specs.State.{SwitchState, SwitchTurn}
 use Rattle.of_switch.specs.Events.{with_port}
 use Rattle.of_switch.specs.Drafts.{Draft, IsDraft, drafted}
 use Rattle.of_switch.proofs.Turns.{change-is, change-drafted}

@@ -1,4 +1,4 @@
-use Rattle.std.proofs.Common.{◌∙◌, ℕ, ◌≤◌, length, List, arith, ap}
+use Rattle.std.proofs.Common.{◌∙◌, ℕ, length, List, arith, ap}
 use Rattle.of_switch.proofs.Ports.{down-taken, down-passed, down-all, places-few}
 use Rattle.of_switch.proofs.switch.ports.down_among.Goals as goal
 use Rattle.of_switch.proofs.switch.ports.down_among.Goals.{then-is_down+in_ok-push, else-is_down}

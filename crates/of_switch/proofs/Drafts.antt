@@ -17,16 +17,16 @@ kept-joined d joining e what kept room next =
     let more : length (d.raised ++ e ∷ []) ≡ length d.raised + 1 = length-append d.raised (e ∷ []) in
     record {
       joins =
-        ap (λ (ws : List Happening). ws ++ what ∷ []) kept.joins
-        ∙ ap (λ (x : Event). whats_of d.raised ++ x.what ∷ []) (sym next)
-        ∙ sym (whats-push d.raised e);
+          ap (λ (ws : List Happening). ws ++ what ∷ []) kept.joins
+          ∙ ap (λ (x : Event). whats_of d.raised ++ x.what ∷ []) (sym next)
+          ∙ sym (whats-push d.raised e);
       enough = omega (arith, more, kept.enough);
       room = omega (arith, room);
       countable = kept.countable;
       numbered =
-        let same : d.cleared + (d.held - length d.raised) ≡ d.cleared + (d.held + 1 - length (d.raised ++ e ∷ [])) = omega (arith, more, kept.enough) in
-        subst (λ (n : ℕ). AreNumbered d.switch d.life n (d.raised ++ e ∷ [])) same
-        (numbered-push d.switch d.life (d.cleared + (d.held - length d.raised)) d.raised e kept.numbered (ap (λ (x : Event). x.switch) next) (ap (λ (x : Event). x.life) next) (omega (arith, kept.enough, ap (λ (x : Event). x.number) next)));
+          let same : d.cleared + (d.held - length d.raised) ≡ d.cleared + (d.held + 1 - length (d.raised ++ e ∷ [])) = omega (arith, more, kept.enough) in
+          subst (λ (n : ℕ). AreNumbered d.switch d.life n (d.raised ++ e ∷ [])) same
+          (numbered-push d.switch d.life (d.cleared + (d.held - length d.raised)) d.raised e kept.numbered (ap (λ (x : Event). x.switch) next) (ap (λ (x : Event). x.life) next) (omega (arith, kept.enough, ap (λ (x : Event). x.number) next)));
     }
 
 -- ---- what joins a buffer

@@ -193,15 +193,15 @@ pub flood-more : (s : SwitchState) (in_port : ℕ) (frame : List ℕ) (start : D
 flood-more s in_port frame start place count more d d' so within is said =
     let first = others-first s in_port place within in
     let counts : length (others_from s in_port place) ≡ length (other_port s in_port (place + 1)) + length (others_from s in_port (place + 1)) =
-      ap (λ (ps : List ℕ). length ps) first ∙ length-append (other_port s in_port (place + 1)) (others_from s in_port (place + 1)) in
+    ap (λ (ps : List ℕ). length ps) first ∙ length-append (other_port s in_port (place + 1)) (others_from s in_port (place + 1)) in
     record {
       counted = omega (arith, so.counted, counts, is);
       few = omega (arith, so.few, is, other-few s in_port (place + 1));
       said =
-        ap (λ (x : Draft). with_letters x (flat_map (over_links s frame) (others_from s in_port (place + 1)))) said
-        ∙ letters-first s frame (other_port s in_port (place + 1)) (others_from s in_port (place + 1)) d
-        ∙ ap (λ (ps : List ℕ). with_letters d (flat_map (over_links s frame) ps)) (sym first)
-        ∙ so.said;
+          ap (λ (x : Draft). with_letters x (flat_map (over_links s frame) (others_from s in_port (place + 1)))) said
+          ∙ letters-first s frame (other_port s in_port (place + 1)) (others_from s in_port (place + 1)) d
+          ∙ ap (λ (ps : List ℕ). with_letters d (flat_map (over_links s frame) ps)) (sym first)
+          ∙ so.said;
     }
 
 -- nothing is added
@@ -219,13 +219,14 @@ flood-ends s in_port frame start place count d so past =
     let counts : length (others_from s in_port place) ≡ 0 = ap (λ (ps : List ℕ). length ps) none in
     let whole : s.ports - 0 ≡ s.ports = omega arith in
     let all : others_from s in_port 0 ≡ filter (λ p. not (nat_eq p in_port)) (ports_up s) =
-      ap (λ (n : ℕ). filter (λ p. not (nat_eq p in_port)) (filter (λ p. not (is_down s p)) (range_with_len 1 n))) whole in
-    let total : count ≡ length (others_from s in_port 0) = omega (arith, so.counted, counts) in
-    (total ∙ ap (λ (ps : List ℕ). length ps) all,
+    ap (λ (n : ℕ). filter (λ p. not (nat_eq p in_port)) (filter (λ p. not (is_down s p)) (range_with_len 1 n))) whole in
+    let total : count ≡ length (others_from s in_port 0) = omega (arith, so.counted, counts) in (
+      total ∙ ap (λ (ps : List ℕ). length ps) all,
       no-letters d
-      ∙ ap (λ (ps : List ℕ). with_letters d (flat_map (over_links s frame) ps)) (sym none)
-      ∙ so.said
-      ∙ ap (λ (ps : List ℕ). with_letters start (flat_map (over_links s frame) ps)) all)
+          ∙ ap (λ (ps : List ℕ). with_letters d (flat_map (over_links s frame) ps)) (sym none)
+          ∙ so.said
+          ∙ ap (λ (ps : List ℕ). with_letters start (flat_map (over_links s frame) ps)) all,
+    )
 
 -- the one port, where it is up
 one-port : (s : SwitchState) (port : ℕ) (there down : Bool) → is_port s port ≡ there → is_down s port ≡ down → filter (λ p. nat_eq p port) (ports_up s) ≡ (if there && not down then port ∷ [] else [])

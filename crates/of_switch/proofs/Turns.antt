@@ -54,12 +54,17 @@ raised-is s d what is =
       held_is = let more = length-append d.raised (drafted_event d what ∷ []) in omega (arith, more, is.held_is);
     }
 
-
 pub raised-drafted : (s : SwitchState) (d : Draft) (what : Happening) → IsDraft s d → then_turn (drafted s d) (raised what) ≡ drafted s (with_raised what d)
 raised-drafted s d what is =
-    rw (held-then s d is, is.switch_is, is.life_is, is.cleared_is, is.master_is,
+    rw (
+      held-then s d is,
+      is.switch_is,
+      is.life_is,
+      is.cleared_is,
+      is.master_is,
       append_assoc s.buffer.held d.raised (record { switch = s.buffer.switch; life = s.buffer.life; number = s.buffer.cleared + d.held; what = what } ∷ []),
-      append_assoc s.events d.raised (record { switch = s.buffer.switch; life = s.buffer.life; number = s.buffer.cleared + d.held; what = what } ∷ [])) refl
+      append_assoc s.events d.raised (record { switch = s.buffer.switch; life = s.buffer.life; number = s.buffer.cleared + d.held; what = what } ∷ []),
+    ) refl
 
 pub sent-drafted : (s : SwitchState) (d : Draft) (frame ports : List ℕ) → then_turn (drafted s d) (sends_to frame ports) ≡ drafted s (with_sent s frame ports d)
 sent-drafted s d frame ports = refl
@@ -196,8 +201,8 @@ drafted-switch s d known =
     record {
       ports = known.ports;
       events =
-        let held = length-append s.buffer.held d.raised in
-        let events = length-append s.events d.raised in omega (arith, held, events, known.events);
+          let held = length-append s.buffer.held d.raised in
+          let events = length-append s.events d.raised in omega (arith, held, events, known.events);
       executed = known.executed;
     }
 
@@ -270,7 +275,7 @@ pub restart-drafted : (s : SwitchState) → nat_lt (life_of s) last_life ≡ tru
 restart-drafted s more =
     let b : SwitchState = next_life s in
     let first : raised switch_up b ≡ drafted b (with_raised switch_up (draft_of b)) =
-      ap (λ (t : SwitchTurn). then_turn t (raised switch_up)) (starts b) ∙ raised-drafted b (draft_of b) switch_up (start-is b) in
+    ap (λ (t : SwitchTurn). then_turn t (raised switch_up)) (starts b) ∙ raised-drafted b (draft_of b) switch_up (start-is b) in
     let told = ports-drafted s b s.down (with_raised switch_up (draft_of b)) refl (raised-is b (draft_of b) switch_up (start-is b)) in
     rw more
     (ap (λ (t : SwitchTurn). then_turn (tells_ports s.down t) (λ now. posts now (greetings now))) first

@@ -102,11 +102,7 @@ pub fn push_greetings(
 }
 
 /// The letter that brings a frame to a port of another switch.
-pub fn frame_letter(
-    switch: u8,
-    port: u32,
-    frame: &Octets,
-) -> Result<Letter<SwitchSays>, AllocError>
+pub fn frame_letter(switch: u8, port: u32, frame: &Octets) -> Result<Letter<SwitchSays>, AllocError>
     ensures { IfOk result (λ letter. letter ≡ letter_of_frame frame.now switch port) }
 {
     let bytes = frame.copy()?;

@@ -106,7 +106,8 @@ impl Switch {
         let outcome = change_rows(&mut self.rows, &change, ports)?;
         letters.push_reserved(cmd_ack(command, life, outcome));
         count(&mut self.results, command.settled, outcome);
-        self.executed.push_reserved(executed(command, life, Order::FlowMod(change)));
+        self.executed
+            .push_reserved(executed(command, life, Order::FlowMod(change)));
         Ok(Items::from_vec(letters))
     }
 
@@ -128,7 +129,8 @@ impl Switch {
         let parts = draft.into_parts();
         self.sent = parts.sent;
         count(&mut self.results, command.settled, outcome);
-        self.executed.push_reserved(executed(command, life, Order::PacketOut(out)));
+        self.executed
+            .push_reserved(executed(command, life, Order::PacketOut(out)));
         Ok(Items::from_vec(parts.letters))
     }
 
@@ -169,7 +171,12 @@ impl Switch {
         let mut draft = self.draft();
         match outcome {
             Outcome::Done => {
-                self.send_all(&mut draft, out.in_port, &out.payload, out.actions.as_slice())?;
+                self.send_all(
+                    &mut draft,
+                    out.in_port,
+                    &out.payload,
+                    out.actions.as_slice(),
+                )?;
                 Ok(draft)
             }
             Outcome::Failed { .. } | Outcome::Cleared => Ok(draft),

@@ -38,11 +38,7 @@ impl Switch {
     }
 
     /// One of its ports goes down, or comes up. What changes nothing tells nothing.
-    pub(super) fn on_port(
-        &mut self,
-        port: u32,
-        up: bool,
-    ) -> Result<Letters<SwitchSays>, AllocError>
+    pub(super) fn on_port(&mut self, port: u32, up: bool) -> Result<Letters<SwitchSays>, AllocError>
         ensures ok { IfOk result (λ letters. Turned (on_port self.old port up) self.new letters) }
         ensures err { OnErr result (self.new ≡ self.old) }
     {
@@ -143,7 +139,13 @@ impl Switch {
         ensures { result ≡ draft_of (cleared self.now through) }
     {
         let left = self.leaving(through);
-        Draft::new(self.alloc, &self.buffer, left, self.fence.master(), self.sent)
+        Draft::new(
+            self.alloc,
+            &self.buffer,
+            left,
+            self.fence.master(),
+            self.sent,
+        )
     }
 
     /// The events that come among the first once some have left.

@@ -42,11 +42,7 @@ impl Switch {
     }
 
     /// A frame meets the table. One that no row matches is dropped.
-    fn meet_table(
-        &mut self,
-        port: u32,
-        frame: &Octets,
-    ) -> Result<Letters<SwitchSays>, AllocError>
+    fn meet_table(&mut self, port: u32, frame: &Octets) -> Result<Letters<SwitchSays>, AllocError>
         ensures ok { IfOk result (λ letters. Turned (through_row self.old port frame.now (chosen_row self.old.rows (fields_at port frame.now))) self.new letters) }
         ensures err { OnErr result (self.new ≡ self.old) }
     {
@@ -277,7 +273,11 @@ fn packet_in(row: &Row, port: u32, frame: &Octets) -> Result<Happening, AllocErr
     ensures { IfOk result (λ what. what ≡ packet_in_of row.now port frame.now) }
 {
     Ok(Happening::PacketIn(PacketIn {
-        reason: if is_miss(row) { REASON_NO_MATCH } else { REASON_ACTION },
+        reason: if is_miss(row) {
+            REASON_NO_MATCH
+        } else {
+            REASON_ACTION
+        },
         cookie: row.cookie,
         in_port: port,
         payload: frame.copy()?,

@@ -18,17 +18,29 @@ post_all-requires-clause-countable c =
 pub invariant_of-self-2 : goal.invariant_of-self-2
 invariant_of-self-2 c =
     let is = subst (λ (s : SwitchState). IsDraft (cleared s c.args.through) c.args.draft) (sym c.self.view_is) c.requires.kind in
-    rw (c.post_all.ensures, c.forget_all.ensures, c.clear.ensures.after,
+    rw (
+      c.post_all.ensures,
+      c.forget_all.ensures,
+      c.clear.ensures.after,
       joined-is _ _ _ (forgetting-is c.args.ports.now _ _ is) c.into_parts-events.ensures.kept,
-      c.in_ok-append.ensures.items, c.into_parts-events.ensures.events, c.into_parts-events.ensures.sent)
+      c.in_ok-append.ensures.items,
+      c.into_parts-events.ensures.events,
+      c.into_parts-events.ensures.sent,
+    )
     (drafted-switch _ c.args.draft (forgotten-switch c.args.ports.now _ c.args.through c.self.invariant))
 
 pub returns-clause-ok : goal.returns-clause-ok
 returns-clause-ok c =
     let is = subst (λ (s : SwitchState). IsDraft (cleared s c.args.through) c.args.draft) (sym c.self.view_is) c.requires.kind in
-    rw (c.post_all.ensures, c.forget_all.ensures, c.clear.ensures.after,
+    rw (
+      c.post_all.ensures,
+      c.forget_all.ensures,
+      c.clear.ensures.after,
       joined-is _ _ _ (forgetting-is c.args.ports.now _ _ is) c.into_parts-events.ensures.kept,
-      c.in_ok-append.ensures.items, c.into_parts-events.ensures.events, c.into_parts-events.ensures.sent)
+      c.in_ok-append.ensures.items,
+      c.into_parts-events.ensures.events,
+      c.into_parts-events.ensures.sent,
+    )
     (record {
       state_is = ap (λ (s : SwitchState). (drafted (forgetting c.args.ports.now (cleared s c.args.through)) c.args.draft).state) c.self.view_is;
       letters_are = c.from_vec.ensures ∙ c.into_parts-events.ensures.letters;

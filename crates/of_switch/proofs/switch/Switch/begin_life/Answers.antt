@@ -46,7 +46,7 @@ returns-clause-ok c =
     let ended = c.push_reserved.ensures.items ∙ ap (λ (ns : List ℕ). ns ++ c.cleared.result ∷ []) c.reserve.ensures.items ∙ ap (λ (n : ℕ). s.ended ++ n ∷ []) c.cleared.ensures in
     record {
       state_is =
-        life-made s c.args.draft _ _ _ _ _ _ _ (buffer-is c) c.in_ok-results.ensures c.in_ok-rows.ensures c.new-self-inside.ensures (events-are c) c.into_parts-events.ensures.sent ended
-        ∙ ap (λ (x : SwitchState). (drafted (next_life x) c.args.draft).state) c.self.view_is;
+          life-made s c.args.draft _ _ _ _ _ _ _ (buffer-is c) c.in_ok-results.ensures c.in_ok-rows.ensures c.new-self-inside.ensures (events-are c) c.into_parts-events.ensures.sent ended
+          ∙ ap (λ (x : SwitchState). (drafted (next_life x) c.args.draft).state) c.self.view_is;
       letters_are = c.from_vec.ensures ∙ c.into_parts-events.ensures.letters;
     }

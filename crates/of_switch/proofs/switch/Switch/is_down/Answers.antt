@@ -23,5 +23,5 @@ returns-else-is_port c =
     let port = c.args.port in
     let ports = ap (λ (s : SwitchState). s.ports) c.self.view_is in
     let out : (port < 1) ⊎ (1 + length c.self.inside.down.items ≤ port) =
-      elim (port-outside c.args.self.now port (sym c.if-is_port.ensures)) [ inl low ↦ inl low | inr high ↦ inr (omega (arith, ports, high)) ] in
+    elim (port-outside c.args.self.now port (sym c.if-is_port.ensures)) [ inl low ↦ inl low | inr high ↦ inr (omega (arith, ports, high)) ] in
     c.if-is_port.false ∙ sym (places-outside port 1 c.self.inside.down.items out) ∙ ap (λ (s : SwitchState). is_down s port) c.self.view_is

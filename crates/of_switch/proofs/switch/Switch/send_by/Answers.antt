@@ -13,7 +13,7 @@ pub returns-then-not-is_up-clause-letters : goal.returns-then-not-is_up-clause-l
 returns-then-not-is_up-clause-letters c =
     no-letters c.args.draft.now
     ∙ ap (λ (ps : List ℕ). with_letters c.args.draft.now (flat_map (over_links c.args.self.now c.args.frame.now) ps))
-      (sym (only-up c.args.self.now c.args.port false (sym c.is_up.ensures ∙ c.if-not-is_up.true)))
+    (sym (only-up c.args.self.now c.args.port false (sym c.is_up.ensures ∙ c.if-not-is_up.true)))
 
 pub returns-clause-count : goal.returns-clause-count
 returns-clause-count c =
@@ -24,4 +24,4 @@ returns-clause-letters c =
     c.in_ok-send_over_links.ensures
     ∙ one-list c.args.self.now c.args.frame.now c.args.port c.args.draft.now
     ∙ ap (λ (ps : List ℕ). with_letters c.args.draft.now (flat_map (over_links c.args.self.now c.args.frame.now) ps))
-      (sym (only-up c.args.self.now c.args.port true (sym c.is_up.ensures ∙ c.if-not-is_up.false)))
+    (sym (only-up c.args.self.now c.args.port true (sym c.is_up.ensures ∙ c.if-not-is_up.false)))

@@ -14,8 +14,8 @@ returns-clause-ok c =
     let same = ap (λ (d : Draft). drafted s' d) c.in_ok-draft.ensures ∙ sym (change-drafted c.args.self.now c.args.port c.args.up) in
     record {
       state_is =
-        c.set_port.ensures
-        ∙ ap (λ (s : SwitchState). with_port s c.args.port c.args.up) c.in_ok-letters.ensures.ok.state_is
-        ∙ ap (λ (t : SwitchTurn). t.state) same;
+          c.set_port.ensures
+          ∙ ap (λ (s : SwitchState). with_port s c.args.port c.args.up) c.in_ok-letters.ensures.ok.state_is
+          ∙ ap (λ (t : SwitchTurn). t.state) same;
       letters_are = c.in_ok-letters.ensures.ok.letters_are ∙ ap (λ (t : SwitchTurn). t.letters) same;
     }

@@ -56,13 +56,38 @@ fn executes_once_and_in_order(rt: HostRuntime) -> Result<(), Fail> {
         },
     );
     let done = result(0, 0, Outcome::Done);
-    hears(&rt, &mut switch, command(0, 0, 0, flood(rt.alloc())?), &[refused])?;
+    hears(
+        &rt,
+        &mut switch,
+        command(0, 0, 0, flood(rt.alloc())?),
+        &[refused],
+    )?;
     hears(&rt, &mut switch, command(0, 1, 1, flood(rt.alloc())?), &[])?;
     assert_eq!(rt; (switch.executed().len(), switch.sent()), (0, 0));
-    hears(&rt, &mut switch, command(0, 1, 0, flood(rt.alloc())?), &[OVER_LINK, done])?;
-    hears(&rt, &mut switch, command(0, 1, 0, flood(rt.alloc())?), &[done])?;
-    hears(&rt, &mut switch, command(0, 1, 1, flood(rt.alloc())?), &[OVER_LINK, result(0, 1, Outcome::Done)])?;
-    hears(&rt, &mut switch, command(0, 1, 0, flood(rt.alloc())?), &[result(0, 0, Outcome::Cleared)])?;
+    hears(
+        &rt,
+        &mut switch,
+        command(0, 1, 0, flood(rt.alloc())?),
+        &[OVER_LINK, done],
+    )?;
+    hears(
+        &rt,
+        &mut switch,
+        command(0, 1, 0, flood(rt.alloc())?),
+        &[done],
+    )?;
+    hears(
+        &rt,
+        &mut switch,
+        command(0, 1, 1, flood(rt.alloc())?),
+        &[OVER_LINK, result(0, 1, Outcome::Done)],
+    )?;
+    hears(
+        &rt,
+        &mut switch,
+        command(0, 1, 0, flood(rt.alloc())?),
+        &[result(0, 0, Outcome::Cleared)],
+    )?;
     assert_eq!(rt; (switch.executed().len(), switch.sent()), (2, 2));
     Ok(())
 }
@@ -75,7 +100,12 @@ fn results_in(
     order: Order,
     outcome: Outcome,
 ) -> Result<(), AllocError> {
-    hears(rt, switch, command(0, 1, number, order), &[result(0, number, outcome)])
+    hears(
+        rt,
+        switch,
+        command(0, 1, number, order),
+        &[result(0, number, outcome)],
+    )
 }
 
 /// A table of 2,048 rows refuses one more. Each refusal of a FLOW_MOD comes before those behind it.
@@ -106,10 +136,19 @@ fn tells_six_refusals_of_changes(rt: HostRuntime) -> Result<(), Fail> {
     ];
     let mut number = 2047;
     for (change, outcome) in cases {
-        results_in(&rt, &mut switch, number, flow_mod(rt.alloc(), change)?, outcome)?;
+        results_in(
+            &rt,
+            &mut switch,
+            number,
+            flow_mod(rt.alloc(), change)?,
+            outcome,
+        )?;
         number += 1;
     }
-    assert_eq!(rt; (switch.rows()?.len(), switch.executed().len()), (2048, 2054));
+    assert_eq!(rt;
+        (switch.rows()?.len(), switch.executed().len()),
+        (2048, 2054)
+    );
     Ok(())
 }
 
@@ -170,7 +209,13 @@ fn forwards_by_a_row(rt: HostRuntime) -> Result<(), Fail> {
     ];
     let mut number = 0;
     for (output, want, sent) in cases {
-        results_in(&rt, &mut switch, number, flow_mod(rt.alloc(), learned(output))?, Outcome::Done)?;
+        results_in(
+            &rt,
+            &mut switch,
+            number,
+            flow_mod(rt.alloc(), learned(output))?,
+            Outcome::Done,
+        )?;
         hears(&rt, &mut switch, frame_at(rt.alloc(), 2, BACK)?, want)?;
         assert_eq!(rt; switch.sent(), sent);
         number += 1;
@@ -179,7 +224,13 @@ fn forwards_by_a_row(rt: HostRuntime) -> Result<(), Fail> {
         command: FlowCommand::Delete,
         ..add(0)
     };
-    results_in(&rt, &mut switch, number, flow_mod(rt.alloc(), delete)?, Outcome::Done)?;
+    results_in(
+        &rt,
+        &mut switch,
+        number,
+        flow_mod(rt.alloc(), delete)?,
+        Outcome::Done,
+    )?;
     hears(&rt, &mut switch, frame_at(rt.alloc(), 2, BACK)?, &[])?;
     assert_eq!(rt; switch.rows()?.len(), 0);
     Ok(())
@@ -192,13 +243,27 @@ fn lists_commands_of_all_lives(rt: HostRuntime) -> Result<(), Fail> {
     for life in 0..2u32 {
         switch.turn(crate::samples::role_request(1, of_types::MASTER, 1))?;
         let order = packet_out(rt.alloc(), NO_BUFFER, 2, FRAME)?;
-        hears(&rt, &mut switch, command(life, 1, 0, order), &[OVER_LINK, result(life, 0, Outcome::Done)])?;
+        hears(
+            &rt,
+            &mut switch,
+            command(life, 1, 0, order),
+            &[OVER_LINK, result(life, 0, Outcome::Done)],
+        )?;
         switch.turn(SwitchInput::Local(Local::Restart))?;
     }
     let lives = switch.executed().iter().map(|executed| executed.life);
     assert!(rt; lives.eq([0, 1]));
     let bytes = of_types::Octets::from_slice(rt.alloc(), FRAME)?;
-    hears(&rt, &mut switch, SwitchInput::Frame { from: 1, port: 2, bytes }, &[])?;
+    hears(
+        &rt,
+        &mut switch,
+        SwitchInput::Frame {
+            from: 1,
+            port: 2,
+            bytes,
+        },
+        &[],
+    )?;
     assert_eq!(rt; (switch.held(), switch.sent()), (2, 2));
     Ok(())
 }

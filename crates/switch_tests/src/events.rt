@@ -52,7 +52,10 @@ fn full_buffer_remembers_a_port(rt: HostRuntime) -> Result<(), Fail> {
     let mut switch = first_switch(rt.alloc())?;
     frames(rt.alloc(), &mut switch, 257)?;
     hears(&rt, &mut switch, port(2, false), &[])?;
-    assert_eq!(rt; (switch.held(), switch.events().len(), switch.sent()), (256, 256, 0));
+    assert_eq!(rt;
+        (switch.held(), switch.events().len(), switch.sent()),
+        (256, 256, 0)
+    );
     let role = Told::Role {
         role: MASTER,
         generation: 1,
@@ -63,14 +66,24 @@ fn full_buffer_remembers_a_port(rt: HostRuntime) -> Result<(), Fail> {
         first.push(packet(0, number))?;
     }
     hears(&rt, &mut switch, role_request(1, MASTER, 1), &first)?;
-    hears(&rt, &mut switch, SwitchInput::Local(Local::Tick), &first[1..])?;
+    hears(
+        &rt,
+        &mut switch,
+        SwitchInput::Local(Local::Tick),
+        &first[1..],
+    )?;
     hears(&rt, &mut switch, event_ack(1), &[packet(0, 8)])?;
     assert_eq!(rt; (switch.held(), switch.events().len()), (256, 257));
     let last = Extension::EventAck {
         life: 0,
         through: 256,
     };
-    hears(&rt, &mut switch, extension(0, last), &[changed(0, 256, 2, false)])?;
+    hears(
+        &rt,
+        &mut switch,
+        extension(0, last),
+        &[changed(0, 256, 2, false)],
+    )?;
     hears(&rt, &mut switch, event_ack(999), &[])?;
     assert_eq!(rt; switch.held(), 0);
     Ok(())
@@ -98,12 +111,25 @@ fn tells_ports(rt: HostRuntime) -> Result<(), Fail> {
 #[test]
 fn restarts_begin_a_life(rt: HostRuntime) -> Result<(), Fail> {
     let mut switch = mastered_switch(rt.alloc())?;
-    hears(&rt, &mut switch, frame_at(rt.alloc(), 1, FRAME)?, &[packet(0, 0)])?;
+    hears(
+        &rt,
+        &mut switch,
+        frame_at(rt.alloc(), 1, FRAME)?,
+        &[packet(0, 0)],
+    )?;
     hears(&rt, &mut switch, port(2, false), &[changed(0, 1, 2, false)])?;
     let hellos = [0, 1, 2].map(|controller| (Actor::Controller(controller), 0, Told::Hello));
-    hears(&rt, &mut switch, SwitchInput::Local(Local::Restart), &hellos)?;
+    hears(
+        &rt,
+        &mut switch,
+        SwitchInput::Local(Local::Restart),
+        &hellos,
+    )?;
     hears(&rt, &mut switch, SwitchInput::Local(Local::Tick), &hellos)?;
-    assert_eq!(rt; (switch.life(), switch.held(), switch.events().len()), (1, 2, 4));
+    assert_eq!(rt;
+        (switch.life(), switch.held(), switch.events().len()),
+        (1, 2, 4)
+    );
     assert_eq!(rt; (switch.fence().master(), switch.rows()?.len()), (None, 1));
     let late = packet_out(rt.alloc(), NO_BUFFER, FLOOD, BACK)?;
     hears(&rt, &mut switch, command(0, 1, 0, late), &[])?;
@@ -118,7 +144,11 @@ fn restarts_begin_a_life(rt: HostRuntime) -> Result<(), Fail> {
         reason: 0,
         up: true,
     };
-    let first = [(MASTER_1, 7, role), (MASTER_1, 0, up), changed(1, 1, 2, false)];
+    let first = [
+        (MASTER_1, 7, role),
+        (MASTER_1, 0, up),
+        changed(1, 1, 2, false),
+    ];
     hears(&rt, &mut switch, role_request(1, MASTER, 0), &first)?;
     for _ in 1..16 {
         switch.turn(SwitchInput::Local(Local::Restart))?;

@@ -66,7 +66,12 @@ fn answers_each_message(rt: HostRuntime) -> Result<(), Fail> {
     let mut switch = first_switch(rt.alloc())?;
     let body = Octets::from_slice(rt.alloc(), &[1, 2, 3])?;
     let echo = answer(Told::Echo { length: 3 });
-    hears(&rt, &mut switch, plain(0, OfMessage::EchoRequest { body }), &[echo])?;
+    hears(
+        &rt,
+        &mut switch,
+        plain(0, OfMessage::EchoRequest { body }),
+        &[echo],
+    )?;
     let head = Octets::new(rt.alloc());
     let error = OfMessage::Error {
         kind: 1,
@@ -75,19 +80,54 @@ fn answers_each_message(rt: HostRuntime) -> Result<(), Fail> {
     };
     hears(&rt, &mut switch, plain(0, error), &[])?;
     let body = Octets::new(rt.alloc());
-    hears(&rt, &mut switch, plain(0, OfMessage::EchoReply { body }), &[])?;
+    hears(
+        &rt,
+        &mut switch,
+        plain(0, OfMessage::EchoReply { body }),
+        &[],
+    )?;
     let body = Octets::new(rt.alloc());
-    hears(&rt, &mut switch, plain(0, OfMessage::Experimenter { body }), &[BAD_TYPE])?;
-    hears(&rt, &mut switch, plain(0, packet_in(rt.alloc())), &[BAD_TYPE])?;
+    hears(
+        &rt,
+        &mut switch,
+        plain(0, OfMessage::Experimenter { body }),
+        &[BAD_TYPE],
+    )?;
+    hears(
+        &rt,
+        &mut switch,
+        plain(0, packet_in(rt.alloc())),
+        &[BAD_TYPE],
+    )?;
     let order = packet_out(rt.alloc(), NO_BUFFER, FLOOD, &[])?;
     hears(&rt, &mut switch, plain(0, bare(order)), &[NOT_PERMITTED])?;
     hears(&rt, &mut switch, plain(0, OfMessage::Hello), &[])?;
     let datapath = answer(Told::Datapath(0));
-    hears(&rt, &mut switch, plain(0, OfMessage::FeaturesRequest), &[datapath])?;
-    hears(&rt, &mut switch, plain(0, OfMessage::FeaturesReply { datapath: 1 }), &[BAD_TYPE])?;
+    hears(
+        &rt,
+        &mut switch,
+        plain(0, OfMessage::FeaturesRequest),
+        &[datapath],
+    )?;
+    hears(
+        &rt,
+        &mut switch,
+        plain(0, OfMessage::FeaturesReply { datapath: 1 }),
+        &[BAD_TYPE],
+    )?;
     let barrier = answer(Told::Barrier);
-    hears(&rt, &mut switch, plain(0, OfMessage::BarrierRequest), &[barrier])?;
-    hears(&rt, &mut switch, plain(0, OfMessage::BarrierReply), &[BAD_TYPE])?;
+    hears(
+        &rt,
+        &mut switch,
+        plain(0, OfMessage::BarrierRequest),
+        &[barrier],
+    )?;
+    hears(
+        &rt,
+        &mut switch,
+        plain(0, OfMessage::BarrierReply),
+        &[BAD_TYPE],
+    )?;
     hears(&rt, &mut switch, plain(0, port_status()), &[BAD_TYPE])?;
     let reply = OfMessage::RoleReply {
         role: MASTER,
@@ -118,7 +158,12 @@ fn refuses_malformed_bodies(rt: HostRuntime) -> Result<(), Fail> {
         head: 2,
     });
     hears(&rt, &mut switch, malformed(rt.alloc(), ASKER)?, &[why])?;
-    hears(&rt, &mut switch, malformed(rt.alloc(), Actor::Switch(1))?, &[])?;
+    hears(
+        &rt,
+        &mut switch,
+        malformed(rt.alloc(), Actor::Switch(1))?,
+        &[],
+    )?;
     let outcome = of_types::Outcome::Done;
     let ack = Extension::CmdAck {
         life: 0,
@@ -127,7 +172,12 @@ fn refuses_malformed_bodies(rt: HostRuntime) -> Result<(), Fail> {
     };
     hears(&rt, &mut switch, extension(0, ack), &[BAD_TYPE])?;
     for life in [0, 1] {
-        hears(&rt, &mut switch, extension(0, Extension::Clear { life, through: 9 }), &[])?;
+        hears(
+            &rt,
+            &mut switch,
+            extension(0, Extension::Clear { life, through: 9 }),
+            &[],
+        )?;
     }
     for input in [Local::Crash, Local::Suspect { view: 1 }, Local::Tick] {
         hears(&rt, &mut switch, SwitchInput::Local(input), &[])?;
@@ -164,7 +214,12 @@ fn fences_roles(rt: HostRuntime) -> Result<(), Fail> {
     ];
     for (from, asked, generation, want) in cases {
         let said = (Actor::Controller(from), 7, want);
-        hears(&rt, &mut switch, role_request(from, asked, generation), &[said])?;
+        hears(
+            &rt,
+            &mut switch,
+            role_request(from, asked, generation),
+            &[said],
+        )?;
     }
     assert_eq!(rt; switch.fence().master(), None);
     assert_eq!(rt; switch.fence().generation(), Some(5));

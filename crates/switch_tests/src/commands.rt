@@ -31,7 +31,10 @@ fn executes_once_and_in_order(rt: HostRuntime) -> Result<(), Fail> {
     let gone = (C1, 0, Told::Result(0, 0, Outcome::Cleared));
     let script: &[(Step, &[Said])] = &[
         MASTERED,
-        (Step::Command(0, 0, 0, FLOODED), &[(C1, 7, Told::Error(1, 10, 0))]),
+        (
+            Step::Command(0, 0, 0, FLOODED),
+            &[(C1, 7, Told::Error(1, 10, 0))],
+        ),
         (Step::Command(0, 1, 1, FLOODED), &[]),
         (Step::Command(0, 1, 0, FLOODED), &[OVER_LINK, done]),
         (Step::Command(0, 1, 0, FLOODED), &[done]),
@@ -54,7 +57,13 @@ fn results(
     for (place, &(what, outcome)) in cases.iter().enumerate() {
         let number = first.wrapping_add(place as u64);
         let told = (C1, 0, Told::Result(0, number, outcome));
-        hears(rt, alloc, switch, Step::Command(0, 1, number, what), &[told])?;
+        hears(
+            rt,
+            alloc,
+            switch,
+            Step::Command(0, 1, number, what),
+            &[told],
+        )?;
     }
     Ok(())
 }
@@ -87,7 +96,10 @@ fn tells_six_refusals_of_changes(rt: HostRuntime) -> Result<(), Fail> {
         (What::Change(add(9)), Outcome::Done),
     ];
     results(&rt, rt.alloc(), &mut switch, 2047, &cases)?;
-    assert_eq!(rt; (switch.rows()?.len(), switch.executed().len()), (2048, 2054));
+    assert_eq!(rt;
+        (switch.rows()?.len(), switch.executed().len()),
+        (2048, 2054)
+    );
     Ok(())
 }
 
@@ -98,10 +110,16 @@ fn tells_refusals_of_packets(rt: HostRuntime) -> Result<(), Fail> {
     plays(&rt, rt.alloc(), &mut switch, &[MASTERED])?;
     let bad_port = Outcome::Failed { kind: 2, code: 4 };
     let cases = [
-        (What::Packet(7, 3, SHORT), Outcome::Failed { kind: 1, code: 8 }),
+        (
+            What::Packet(7, 3, SHORT),
+            Outcome::Failed { kind: 1, code: 8 },
+        ),
         (What::Packet(NO_BUFFER, 3, SHORT), bad_port),
         (What::Packet(NO_BUFFER, TO_CONTROLLER, SHORT), bad_port),
-        (What::Packet(NO_BUFFER, FLOOD, SHORT), Outcome::Failed { kind: 1, code: 12 }),
+        (
+            What::Packet(NO_BUFFER, FLOOD, SHORT),
+            Outcome::Failed { kind: 1, code: 12 },
+        ),
     ];
     results(&rt, rt.alloc(), &mut switch, 0, &cases)?;
     assert_eq!(rt; switch.sent(), 0);
@@ -148,7 +166,13 @@ fn forwards_by_a_row(rt: HostRuntime) -> Result<(), Fail> {
         command: FlowCommand::Delete,
         ..add(0)
     };
-    results(&rt, rt.alloc(), &mut switch, 4, &[(What::Change(delete), Outcome::Done)])?;
+    results(
+        &rt,
+        rt.alloc(),
+        &mut switch,
+        4,
+        &[(What::Change(delete), Outcome::Done)],
+    )?;
     hears(&rt, rt.alloc(), &mut switch, Step::Frame(2, BACK), &[])?;
     assert_eq!(rt; switch.rows()?.len(), 0);
     Ok(())
@@ -162,13 +186,22 @@ fn lists_commands_of_all_lives(rt: HostRuntime) -> Result<(), Fail> {
     let hello = |controller| (Actor::Controller(controller), 0, Told::Hello);
     let hellos = [hello(0), hello(1), hello(2)];
     let order = What::Packet(NO_BUFFER, 2, FRAME);
-    let again = [(C1, 7, Told::Role(MASTER, 1)), (C1, 0, Told::Port(1, 0, of_types::ANY_PORT, 0, true))];
+    let again = [
+        (C1, 7, Told::Role(MASTER, 1)),
+        (C1, 0, Told::Port(1, 0, of_types::ANY_PORT, 0, true)),
+    ];
     let script: &[(Step, &[Said])] = &[
         MASTERED,
-        (Step::Command(0, 1, 0, order), &[OVER_LINK, (C1, 0, Told::Result(0, 0, Outcome::Done))]),
+        (
+            Step::Command(0, 1, 0, order),
+            &[OVER_LINK, (C1, 0, Told::Result(0, 0, Outcome::Done))],
+        ),
         (Step::Restart, &hellos),
         (Step::Role(1, MASTER, 1), &again),
-        (Step::Command(1, 1, 0, order), &[OVER_LINK, (C1, 0, Told::Result(1, 0, Outcome::Done))]),
+        (
+            Step::Command(1, 1, 0, order),
+            &[OVER_LINK, (C1, 0, Told::Result(1, 0, Outcome::Done))],
+        ),
         (Step::Linked(2), &[(C1, 0, Told::Packet(1, 1, 2, 0))]),
     ];
     plays(&rt, rt.alloc(), &mut switch, script)?;

@@ -26,13 +26,28 @@ fn full_buffer_remembers_a_port(rt: HostRuntime) -> Result<(), Fail> {
         hears(&rt, rt.alloc(), &mut switch, Step::Frame(1, FRAME), &[])?;
     }
     hears(&rt, rt.alloc(), &mut switch, Step::Port(2, false), &[])?;
-    assert_eq!(rt; (switch.held(), switch.events().len(), switch.sent()), (256, 256, 0));
+    assert_eq!(rt;
+        (switch.held(), switch.events().len(), switch.sent()),
+        (256, 256, 0)
+    );
     let mut told = Vec::new(rt.alloc());
     told.push((C1, 7, Told::Role(MASTER, 1)))?;
     told.extend_from_slice(FIRST)?;
-    hears(&rt, rt.alloc(), &mut switch, Step::Role(1, MASTER, 1), &told)?;
+    hears(
+        &rt,
+        rt.alloc(),
+        &mut switch,
+        Step::Role(1, MASTER, 1),
+        &told,
+    )?;
     hears(&rt, rt.alloc(), &mut switch, Step::Tick, FIRST)?;
-    hears(&rt, rt.alloc(), &mut switch, Step::Ack(1), &[(C1, 0, Told::Packet(0, 8, 1, 0))])?;
+    hears(
+        &rt,
+        rt.alloc(),
+        &mut switch,
+        Step::Ack(1),
+        &[(C1, 0, Told::Packet(0, 8, 1, 0))],
+    )?;
     assert_eq!(rt; (switch.held(), switch.events().len()), (256, 257));
     let last = (C1, 0, Told::Port(0, 256, 2, 2, false));
     let script: &[(Step, &[Said])] = &[(Step::Ack(256), &[last]), (Step::Ack(999), &[])];
@@ -50,11 +65,17 @@ fn tells_ports(rt: HostRuntime) -> Result<(), Fail> {
         (Step::Port(2, true), &[]),
         (Step::Port(3, false), &[]),
         (Step::Port(0, false), &[]),
-        (Step::Port(1, false), &[(C1, 0, Told::Port(0, 0, 1, 2, false))]),
+        (
+            Step::Port(1, false),
+            &[(C1, 0, Told::Port(0, 0, 1, 2, false))],
+        ),
         (Step::Frame(1, FRAME), &[]),
         (Step::Frame(3, FRAME), &[]),
         (Step::Frame(2, SHORT), &[]),
-        (Step::Port(1, true), &[(C1, 0, Told::Port(0, 1, 1, 2, true))]),
+        (
+            Step::Port(1, true),
+            &[(C1, 0, Told::Port(0, 1, 1, 2, true))],
+        ),
     ];
     plays(&rt, rt.alloc(), &mut switch, script)?;
     assert_eq!(rt; switch.held(), 2);
@@ -81,14 +102,23 @@ fn restarts_begin_a_life(rt: HostRuntime) -> Result<(), Fail> {
     let script: &[(Step, &[Said])] = &[
         (Step::Role(1, MASTER, 1), &[(C1, 7, Told::Role(MASTER, 1))]),
         (Step::Frame(1, FRAME), &[(C1, 0, Told::Packet(0, 0, 1, 0))]),
-        (Step::Port(2, false), &[(C1, 0, Told::Port(0, 1, 2, 2, false))]),
+        (
+            Step::Port(2, false),
+            &[(C1, 0, Told::Port(0, 1, 2, 2, false))],
+        ),
         (Step::Restart, HELLOS),
         (Step::Tick, HELLOS),
         (Step::Command(0, 1, 0, late), &[]),
         (Step::Role(1, MASTER, 0), &first),
     ];
     plays(&rt, rt.alloc(), &mut switch, script)?;
-    assert_eq!(rt; (switch.life(), switch.held(), switch.events().len()), (1, 2, 4));
-    assert_eq!(rt; (switch.fence().generation(), switch.rows()?.len()), (Some(0), 1));
+    assert_eq!(rt;
+        (switch.life(), switch.held(), switch.events().len()),
+        (1, 2, 4)
+    );
+    assert_eq!(rt;
+        (switch.fence().generation(), switch.rows()?.len()),
+        (Some(0), 1)
+    );
     Ok(())
 }

@@ -29,7 +29,13 @@ fn answers_each_message(rt: HostRuntime) -> Result<(), Fail> {
     for &(kind, answer) in ANSWERS {
         match answer {
             Some(told) => {
-                hears(&rt, rt.alloc(), &mut switch, Step::Plain(kind), &[(ASKER, 7, told)])?;
+                hears(
+                    &rt,
+                    rt.alloc(),
+                    &mut switch,
+                    Step::Plain(kind),
+                    &[(ASKER, 7, told)],
+                )?;
             }
             None => hears(&rt, rt.alloc(), &mut switch, Step::Plain(kind), &[])?,
         }
@@ -75,7 +81,13 @@ fn fences_roles(rt: HostRuntime) -> Result<(), Fail> {
     let mut switch = first_switch(rt.alloc())?;
     for &(from, role, generation, told) in ROLES {
         let said = (Actor::Controller(from), 7, told);
-        hears(&rt, rt.alloc(), &mut switch, Step::Role(from, role, generation), &[said])?;
+        hears(
+            &rt,
+            rt.alloc(),
+            &mut switch,
+            Step::Role(from, role, generation),
+            &[said],
+        )?;
     }
     assert_eq!(rt; switch.fence().master(), None);
     assert_eq!(rt; switch.fence().generation(), Some(5));

@@ -237,7 +237,9 @@ fn plain(alloc: Global, kind: u8) -> Result<OfMessage, AllocError> {
             code: 1,
             head: none,
         },
-        2 => OfMessage::EchoRequest { body: Octets::from_slice(alloc, &[1, 2, 3])? },
+        2 => OfMessage::EchoRequest {
+            body: Octets::from_slice(alloc, &[1, 2, 3])?,
+        },
         3 => OfMessage::EchoReply { body: none },
         4 => OfMessage::Experimenter { body: none },
         5 => OfMessage::FeaturesRequest,

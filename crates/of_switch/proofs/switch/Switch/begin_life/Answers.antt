@@ -41,9 +41,9 @@ done-is c =
     let s : SwitchState = the_view c.self.inside in
     let is = subst (λ (x : SwitchState). IsDraft (next_life x) c.args.draft) (sym c.self.view_is) c.requires.kind in
     let joined =
-      c.post_all.ensures
-      ∙ ap (λ (x : SwitchState). all_posted c.into_parts-events.result.joining.items x.buffer) (life-is c)
-      ∙ joined-is (next_life s) c.args.draft c.into_parts-events.result.joining.items is c.into_parts-events.ensures.kept in
+    c.post_all.ensures
+    ∙ ap (λ (x : SwitchState). all_posted c.into_parts-events.result.joining.items x.buffer) (life-is c)
+    ∙ joined-is (next_life s) c.args.draft c.into_parts-events.result.joining.items is c.into_parts-events.ensures.kept in
     begun (next_life s) (the_view c.self-2.inside) c.args.draft _ _ (life-is c) joined c.into_parts-events.ensures.sent
 
 pub invariant_of-self-3 : goal.invariant_of-self-3

@@ -17,7 +17,7 @@ use Rattle.rv_base.specs.declared.journal.Letter.{Letter}
 use Rattle.event_buffer.specs.Buffer.{Buffer, AreNumbered, most_held, is_full, next_event, next_number, without_dirty, without_events_below, cleared_to}
 use Rattle.command_buffer.specs.Results.{Results, no_results, with_result, without_results_below}
 use Rattle.flow_table.specs.Table.{opening_rows}
-use Rattle.role_fence.specs.Fence.{Fence, starting_fence}
+use Rattle.role_fence.specs.Fence.{starting_fence}
 use Rattle.of_switch.specs.declared.says.SwitchSays.{SwitchSays}
 use Rattle.of_switch.specs.State.{SwitchState, IsSwitch, SwitchTurn, quiet, posts, then_turn, greetings, life_of}
 use Rattle.of_switch.specs.Events.{event_letters, raised, packet_raised, port_status, with_port, coming, cleared, remembers, tells_ports, next_life, on_event_ack, on_restart}
@@ -286,12 +286,17 @@ restart-is s =
     let is = ports-is s (next_life s) s.down (with_raised switch_up (draft_of (next_life s))) (raised-is (next_life s) (draft_of (next_life s)) switch_up (start-is (next_life s))) in
     record { switch_is = is.switch_is; life_is = is.life_is; master_is = is.master_is; cleared_is = is.cleared_is; held_is = is.held_is }
 
--- what a switch is made of in its next life
-pub life-made : (s : SwitchState) (d : Draft) (buffer : Buffer) (results : Results) (rows : List Row) (fence : Fence) (events : List Event) (sent : ℕ) (ended : List ℕ) →
-    buffer ≡ record (next_life s).buffer { held = (next_life s).buffer.held ++ d.raised } → results ≡ no_results → rows ≡ opening_rows → fence ≡ starting_fence →
-    events ≡ s.events ++ d.raised → sent ≡ d.sent → ended ≡ s.ended ++ s.buffer.cleared ∷ [] →
-    record s { buffer = buffer; results = results; rows = rows; fence = fence; events = events; sent = sent; ended = ended } ≡ (drafted (next_life s) d).state
-life-made s d buffer results rows fence events sent ended b r w f e n l = rw (b, r, w, f, e, n, l) refl
+-- what gives way in the next life, and the events that are new
+pub renewed : (s s' : SwitchState) (d : Draft) (buffer : Buffer) (results : Results) (rows : List Row) (events : List Event) (ended : List ℕ) →
+    s' ≡ record s { buffer = buffer; results = results; rows = rows; fence = starting_fence; events = events; ended = ended } →
+    buffer ≡ (next_life s).buffer → results ≡ no_results → rows ≡ opening_rows → events ≡ s.events ++ d.raised → ended ≡ s.ended ++ s.buffer.cleared ∷ [] →
+    s' ≡ record (next_life s) { events = s.events ++ d.raised }
+renewed s s' d buffer results rows events ended is b r w n l = is ∙ rw (b, r, w, n, l) refl
+
+-- and those that join the buffer
+pub begun : (b s' : SwitchState) (d : Draft) (buffer : Buffer) (sent : ℕ) → s' ≡ record b { events = b.events ++ d.raised } →
+    buffer ≡ record b.buffer { held = b.buffer.held ++ d.raised } → sent ≡ d.sent → record s' { buffer = buffer; sent = sent } ≡ (drafted b d).state
+begun b s' d buffer sent is joined n = rw (is, joined, n) refl
 
 -- ---- a PACKET_OUT
 

@@ -8,10 +8,10 @@ ghost use Rattle.of_switch.specs.State.{to_controller};
 ghost use Rattle.of_switch.specs.Events.{window, event_letters};
 ghost use Rattle.of_switch.specs.Drafts.{draft_from, with_letters, with_told, with_raised, drafted_event, IsKept};
 
-use crate::letters::{frame_letter, push_events, push_greetings};
+use crate::letters::{push_events, push_greetings};
 use crate::says::SwitchSays;
 use event_buffer::{EventBuffer, MOST_HELD};
-use of_types::{Event, Happening, Octets};
+use of_types::{Event, Happening};
 use rv_base::Letter;
 use std::alloc::{AllocError, Global};
 use std::marker::Model;

@@ -1,8 +1,8 @@
 use of_switch::{Switch, SwitchInput, SwitchSays};
 use of_types::{
     ANY_GROUP, ANY_PORT, Actions, Extension, FlowCommand, FlowMod, Happening, Items, Link, Links,
-    MASTER, Match, NO_BUFFER, Octets, OfMessage, Order, Outcome, PacketOut, PortCounts, Setup,
-    Spoken, any_match,
+    Match, NO_BUFFER, Octets, OfMessage, Order, Outcome, PacketIn, PacketOut, PortCounts,
+    PortStatus, Setup, Spoken, any_match,
 };
 use rv_base::{Actor, Letter, Local};
 use std::alloc::{AllocError, Global};
@@ -14,46 +14,29 @@ pub const FRAME: &[u8] = b"\x02\0\0\0\0\x02\x02\0\0\0\0\x01\x88\xb5";
 /// The frame from 02:00:00:00:00:02 to 02:00:00:00:00:01.
 pub const BACK: &[u8] = b"\x02\0\0\0\0\x01\x02\0\0\0\0\x02\x88\xb5";
 
+/// Thirteen bytes: too few for a frame.
+pub const SHORT: &[u8] = b"\0\0\0\0\0\0\0\0\0\0\0\0\0";
+
 /// What a letter tells.
 #[derive(Clone, Copy, PartialEq, Eq, Debug)]
 pub enum Told {
-    Packet {
-        life: u32,
-        number: u64,
-        port: u32,
-        reason: u8,
-    },
-    Port {
-        life: u32,
-        number: u64,
-        port: u32,
-        reason: u8,
-        up: bool,
-    },
-    Result {
-        life: u32,
-        number: u64,
-        outcome: Outcome,
-    },
-    Role {
-        role: u32,
-        generation: u64,
-    },
-    Error {
-        kind: u16,
-        code: u16,
-        head: usize,
-    },
-    Echo {
-        length: usize,
-    },
+    /// A packet-in: life, number, port, reason.
+    Packet(u32, u64, u32, u8),
+    /// A change of a port: life, number, port, reason, whether it is up.
+    Port(u32, u64, u32, u8, bool),
+    /// The result of a command: life, number, result.
+    Result(u32, u64, Outcome),
+    /// A role, and a generation.
+    Role(u32, u64),
+    /// An error's type and code, and how many bytes it holds.
+    Error(u16, u16, usize),
+    /// An echo of so many bytes.
+    Echo(usize),
     Datapath(u64),
     Barrier,
     Hello,
-    Frame {
-        port: u32,
-        length: usize,
-    },
+    /// A frame to a port, and its length.
+    Frame(u32, usize),
     Other,
 }
 
@@ -62,19 +45,14 @@ pub type Said = (Actor, u32, Told);
 
 fn tell_event(life: u32, number: u64, what: &Happening) -> Told {
     match what {
-        Happening::PacketIn(packet) => Told::Packet {
+        Happening::PacketIn(packet) => Told::Packet(life, number, packet.in_port, packet.reason),
+        Happening::PortStatus(status) => Told::Port(
             life,
             number,
-            port: packet.in_port,
-            reason: packet.reason,
-        },
-        Happening::PortStatus(status) => Told::Port {
-            life,
-            number,
-            port: status.port,
-            reason: status.reason,
-            up: status.up,
-        },
+            status.port,
+            status.reason,
+            status.up,
+        ),
     }
 }
 
@@ -89,21 +67,12 @@ fn tell(message: &Spoken) -> Told {
                 number,
                 outcome,
             },
-        ) => Told::Result {
-            life: *life,
-            number: *number,
-            outcome: *outcome,
-        },
-        Spoken::Plain(OfMessage::RoleReply { role, generation }) => Told::Role {
-            role: *role,
-            generation: *generation,
-        },
-        Spoken::Plain(OfMessage::Error { kind, code, head }) => Told::Error {
-            kind: *kind,
-            code: *code,
-            head: head.len(),
-        },
-        Spoken::Plain(OfMessage::EchoReply { body }) => Told::Echo { length: body.len() },
+        ) => Told::Result(*life, *number, *outcome),
+        Spoken::Plain(OfMessage::RoleReply { role, generation }) => Told::Role(*role, *generation),
+        Spoken::Plain(OfMessage::Error { kind, code, head }) => {
+            Told::Error(*kind, *code, head.len())
+        }
+        Spoken::Plain(OfMessage::EchoReply { body }) => Told::Echo(body.len()),
         Spoken::Plain(OfMessage::FeaturesReply { datapath }) => Told::Datapath(*datapath),
         Spoken::Plain(OfMessage::BarrierReply) => Told::Barrier,
         Spoken::Plain(OfMessage::Hello) => Told::Hello,
@@ -114,30 +83,8 @@ fn tell(message: &Spoken) -> Told {
 fn said(letter: &Letter<SwitchSays>) -> Said {
     match &letter.body {
         SwitchSays::Of { xid, message } => (letter.to, *xid, tell(message)),
-        SwitchSays::Frame { port, bytes } => (
-            letter.to,
-            0,
-            Told::Frame {
-                port: *port,
-                length: bytes.len(),
-            },
-        ),
+        SwitchSays::Frame { port, bytes } => (letter.to, 0, Told::Frame(*port, bytes.len())),
     }
-}
-
-/// A switch says this and no more to an input.
-pub fn hears(
-    rt: &impl Abort,
-    switch: &mut Switch,
-    input: SwitchInput,
-    want: &[Said],
-) -> Result<(), AllocError> {
-    let letters = switch.turn(input)?;
-    assert_eq!(rt; letters.len(), want.len());
-    for (letter, want) in letters.as_slice().iter().zip(want) {
-        assert_eq!(rt; said(letter), *want);
-    }
-    Ok(())
 }
 
 /// Switch 0 of two switches with two ports each, whose ports 2 are linked. There are three controllers.
@@ -162,61 +109,7 @@ pub fn first_switch(alloc: Global) -> Result<Switch, AllocError> {
     Switch::new(alloc, 0, &setup)
 }
 
-/// The same, and controller 1 is its master, by generation 1.
-pub fn mastered_switch(alloc: Global) -> Result<Switch, AllocError> {
-    let mut switch = first_switch(alloc)?;
-    switch.turn(role_request(1, MASTER, 1))?;
-    Ok(switch)
-}
-
-pub fn plain(from: u8, message: OfMessage) -> SwitchInput {
-    let message = Spoken::Plain(message);
-    SwitchInput::Of {
-        from,
-        xid: 7,
-        message,
-    }
-}
-
-pub fn extension(from: u8, message: Extension) -> SwitchInput {
-    let message = Spoken::Ravana(message);
-    SwitchInput::Of {
-        from,
-        xid: 7,
-        message,
-    }
-}
-
-pub fn role_request(from: u8, role: u32, generation: u64) -> SwitchInput {
-    plain(from, OfMessage::RoleRequest { role, generation })
-}
-
-/// A frame comes in by a port.
-pub fn frame_at(alloc: Global, port: u32, frame: &[u8]) -> Result<SwitchInput, AllocError> {
-    let bytes = Octets::from_slice(alloc, frame)?;
-    Ok(SwitchInput::Local(Local::Frame { port, bytes }))
-}
-
-/// A port goes down, or comes up.
-pub fn port(port: u32, up: bool) -> SwitchInput {
-    SwitchInput::Local(Local::Port { port, up })
-}
-
-/// A command of controller 1.
-pub fn command(life: u32, generation: u64, number: u64, order: Order) -> SwitchInput {
-    extension(
-        1,
-        Extension::Command {
-            life,
-            generation,
-            number,
-            settled: number,
-            order,
-        },
-    )
-}
-
-/// What orders of a test differ in.
+/// What a FLOW_MOD of a test differs in.
 #[derive(Clone, Copy)]
 pub struct Change {
     pub command: FlowCommand,
@@ -243,7 +136,15 @@ pub fn add(priority: u16) -> Change {
     }
 }
 
-pub fn flow_mod(alloc: Global, change: Change) -> Result<Order, AllocError> {
+/// What a command of a test asks.
+#[derive(Clone, Copy)]
+pub enum What {
+    Change(Change),
+    /// A PACKET_OUT of a frame that came in by port 1: buffer, output, frame.
+    Packet(u32, u32, &'static [u8]),
+}
+
+fn flow_mod(alloc: Global, change: Change) -> Result<Order, AllocError> {
     let mut actions = Actions::new(alloc);
     actions.push(change.output)?;
     Ok(Order::FlowMod(FlowMod {
@@ -263,20 +164,202 @@ pub fn flow_mod(alloc: Global, change: Change) -> Result<Order, AllocError> {
     }))
 }
 
-/// A PACKET_OUT of a frame that came in by port 1.
-pub fn packet_out(
+fn packet_out(
     alloc: Global,
     buffer: u32,
     output: u32,
     frame: &[u8],
-) -> Result<Order, AllocError> {
+) -> Result<PacketOut, AllocError> {
     let mut actions = Actions::new(alloc);
     actions.push(output)?;
     let payload = Octets::from_slice(alloc, frame)?;
-    Ok(Order::PacketOut(PacketOut {
+    Ok(PacketOut {
         buffer,
         in_port: 1,
         actions,
         payload,
-    }))
+    })
+}
+
+fn order(alloc: Global, what: What) -> Result<Order, AllocError> {
+    match what {
+        What::Change(change) => flow_mod(alloc, change),
+        What::Packet(buffer, output, frame) => {
+            Ok(Order::PacketOut(packet_out(alloc, buffer, output, frame)?))
+        }
+    }
+}
+
+/// An input of a test. Messages of controllers have number 7.
+#[derive(Clone, Copy)]
+pub enum Step {
+    /// A frame comes in by a port.
+    Frame(u32, &'static [u8]),
+    /// A frame of switch 1 comes in by a port.
+    Linked(u32),
+    /// A port goes down, or comes up.
+    Port(u32, bool),
+    Tick,
+    Suspect,
+    Crash,
+    Restart,
+    /// A controller asks for a role, with a generation.
+    Role(u8, u32, u64),
+    /// Controller 2 acknowledges the events of life 0 below a number.
+    Ack(u64),
+    /// Controller 0 has settled the commands of a life.
+    Clear(u32),
+    /// Controller 0 tells a result.
+    Result,
+    /// A command of controller 1: life, generation, number, and what it asks. Those below its number are settled.
+    Command(u32, u64, u64, What),
+    /// Controller 0 sends an OpenFlow message, by its type.
+    Plain(u8),
+    /// A body that spells nothing.
+    Malformed(Actor),
+}
+
+fn from(controller: u8, message: Spoken) -> SwitchInput {
+    SwitchInput::Of {
+        from: controller,
+        xid: 7,
+        message,
+    }
+}
+
+/// A message of OpenFlow of a type, with nothing in it. ECHO_REQUEST has three bytes.
+fn plain(alloc: Global, kind: u8) -> Result<OfMessage, AllocError> {
+    let none = Octets::new(alloc);
+    Ok(match kind {
+        0 => OfMessage::Hello,
+        1 => OfMessage::Error {
+            kind: 1,
+            code: 1,
+            head: none,
+        },
+        2 => OfMessage::EchoRequest {
+            body: Octets::from_slice(alloc, &[1, 2, 3])?,
+        },
+        3 => OfMessage::EchoReply { body: none },
+        4 => OfMessage::Experimenter { body: none },
+        5 => OfMessage::FeaturesRequest,
+        6 => OfMessage::FeaturesReply { datapath: 1 },
+        10 => OfMessage::PacketIn(PacketIn {
+            reason: 0,
+            cookie: 0,
+            in_port: 1,
+            payload: none,
+        }),
+        12 => OfMessage::PortStatus(PortStatus {
+            reason: 2,
+            port: 1,
+            up: false,
+        }),
+        13 => OfMessage::PacketOut(packet_out(alloc, NO_BUFFER, 1, FRAME)?),
+        20 => OfMessage::BarrierRequest,
+        21 => OfMessage::BarrierReply,
+        _ => OfMessage::RoleReply {
+            role: 2,
+            generation: 1,
+        },
+    })
+}
+
+/// A message of the extension.
+fn ravana(alloc: Global, step: Step) -> Result<Option<(u8, Extension)>, AllocError> {
+    Ok(match step {
+        Step::Ack(through) => Some((2, Extension::EventAck { life: 0, through })),
+        Step::Clear(life) => Some((0, Extension::Clear { life, through: 9 })),
+        Step::Result => Some((
+            0,
+            Extension::CmdAck {
+                life: 0,
+                number: 0,
+                outcome: Outcome::Done,
+            },
+        )),
+        Step::Command(life, generation, number, what) => Some((
+            1,
+            Extension::Command {
+                life,
+                generation,
+                number,
+                settled: number,
+                order: order(alloc, what)?,
+            },
+        )),
+        _ => None,
+    })
+}
+
+fn local(alloc: Global, step: Step) -> Result<Local, AllocError> {
+    Ok(match step {
+        Step::Frame(port, frame) => {
+            let bytes = Octets::from_slice(alloc, frame)?;
+            Local::Frame { port, bytes }
+        }
+        Step::Port(port, up) => Local::Port { port, up },
+        Step::Suspect => Local::Suspect { view: 1 },
+        Step::Crash => Local::Crash,
+        Step::Restart => Local::Restart,
+        _ => Local::Tick,
+    })
+}
+
+fn input(alloc: Global, step: Step) -> Result<SwitchInput, AllocError> {
+    if let Some((controller, message)) = ravana(alloc, step)? {
+        return Ok(from(controller, Spoken::Ravana(message)));
+    }
+    match step {
+        Step::Role(controller, role, generation) => {
+            let message = OfMessage::RoleRequest { role, generation };
+            Ok(from(controller, Spoken::Plain(message)))
+        }
+        Step::Plain(kind) => Ok(from(0, Spoken::Plain(plain(alloc, kind)?))),
+        Step::Malformed(sender) => Ok(SwitchInput::Malformed {
+            from: sender,
+            kind: 5,
+            code: 6,
+            xid: 7,
+            head: Octets::from_slice(alloc, &[4, 14])?,
+        }),
+        Step::Linked(port) => {
+            let bytes = Octets::from_slice(alloc, FRAME)?;
+            Ok(SwitchInput::Frame {
+                from: 1,
+                port,
+                bytes,
+            })
+        }
+        step => Ok(SwitchInput::Local(local(alloc, step)?)),
+    }
+}
+
+/// A switch says this and no more to an input.
+pub fn hears(
+    rt: &impl Abort,
+    alloc: Global,
+    switch: &mut Switch,
+    step: Step,
+    want: &[Said],
+) -> Result<(), AllocError> {
+    let letters = switch.turn(input(alloc, step)?)?;
+    assert_eq!(rt; letters.len(), want.len());
+    for (letter, want) in letters.as_slice().iter().zip(want) {
+        assert_eq!(rt; said(letter), *want);
+    }
+    Ok(())
+}
+
+/// Inputs, and what a switch says to each.
+pub fn plays(
+    rt: &impl Abort,
+    alloc: Global,
+    switch: &mut Switch,
+    script: &[(Step, &[Said])],
+) -> Result<(), AllocError> {
+    for (step, want) in script {
+        hears(rt, alloc, switch, *step, want)?;
+    }
+    Ok(())
 }

@@ -4,6 +4,7 @@ ghost use Rattle.event_buffer.specs.Buffer.{most_held, highest_port, is_full, ne
 ghost use Rattle.of_switch.specs.State.{Turned, posts, life_of};
 ghost use Rattle.of_switch.specs.Events.{window, coming as coming_events, first_held, cleared, raised, port_status, port_raised, with_port, next_life, on_port, on_event_ack, brings, on_restart, on_tick};
 ghost use Rattle.of_types.specs.Lives.{last_life};
+ghost use Rattle.role_fence.specs.Fence.{starting_fence};
 ghost use Rattle.of_switch.specs.Drafts.{IsDraft, draft_of, drafted, with_letters, with_told, with_raised, with_ports, forgets, forgetting, all_posted, changed_to, life_begun};
 
 use super::{Switch, Table};
@@ -255,13 +256,22 @@ impl Switch {
         } = draft.into_parts();
         self.events.append(&mut events)?;
         self.ended.push_reserved(self.buffer.cleared());
+        self.renew(buffer, results, rows);
+        post_all(&mut self.buffer, joining);
+        self.sent = sent;
+        Ok(Items::from_vec(letters))
+    }
+
+    /// What the switch held of its last life gives way.
+    fn renew(&mut self, buffer: EventBuffer, results: CommandBuffer, rows: Table)
+        requires events { next_number buffer ≤ length self.old.events }
+        requires executed { results.executed ≤ length self.old.executed }
+        ensures { self.new ≡ record self.old { buffer = buffer; results = results; rows = rows; fence = starting_fence } }
+    {
         self.buffer = buffer;
         self.results = results;
         self.rows = rows;
         self.fence = RoleFence::new();
-        self.sent = sent;
-        post_all(&mut self.buffer, joining);
-        Ok(Items::from_vec(letters))
     }
 
     /// A tick: the first events are sent again. A later life without a master greets again.

@@ -1,4 +1,0 @@
-pub mod Entering
-pub mod Starting
-pub mod Adopting
-pub mod Cases

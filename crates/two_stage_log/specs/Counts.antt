@@ -1,21 +1,22 @@
 -- What is counted in the first entries of a log (Ravana, 3.2): an event is received, and later processed.
 use Rattle.std.specs.Prelude.{◌≡◌, ◌<◌, ℕ, Bool, true, false, nat_eq, nat_lt, List, length, take, Option, Some, None, if◌then◌else◌}
 use Rattle.std.specs.List.{list_any}
+use Rattle.of_types.specs.Lives.{count_in}
 use Rattle.vr_log.specs.declared.entry.Entry.{Entry}
 use Rattle.vr_log.specs.declared.entry.Entry.TheVariants.{Received, Processed}
-use Rattle.vr_log.specs.Log.{received, processed, count_from}
+use Rattle.vr_log.specs.Log.{received, processed}
 
--- the number that the next event of a switch has
-abbrev pub next_number : List Entry → ℕ → ℕ
-next_number log switch = count_from switch (received log)
+-- an event that is received is not processed
+abbrev pub has_unprocessed : List Entry → Bool
+has_unprocessed log = nat_lt (processed log) (length (received log))
 
 -- the place of the first event that is received and not processed: events are processed in their order
 abbrev pub first_unprocessed : List Entry → Option ℕ
-first_unprocessed log = if nat_lt (processed log) (length (received log)) then Some (processed log) else None
+first_unprocessed log = if has_unprocessed log then Some (processed log) else None
 
--- how many events of a switch are processed
-abbrev pub processed_of : List Entry → ℕ → ℕ
-processed_of log switch = count_from switch (take (processed log) (received log))
+-- how many events of a life of a switch are processed
+abbrev pub processed_of : List Entry → ℕ → ℕ → ℕ
+processed_of log switch life = count_in switch life (take (processed log) (received log))
 
 -- an entry tells that the event at this place is processed
 abbrev pub tells_processed : ℕ → Entry → Bool

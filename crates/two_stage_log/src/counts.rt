@@ -1,24 +1,27 @@
 //! What is counted in a log. None of these calls takes memory.
-ghost use Rattle.std.specs.Prelude.{◌≡◌, ◌↔◌, true, take, None};
-ghost use Rattle.vr_log.specs.Log.{is_log, may_follow as may_stand};
+ghost use Rattle.std.specs.Prelude.{◌≡◌, ◌↔◌, ◌≤◌, nat_eq, ◌&&◌, true, length, take, None};
+ghost use Rattle.of_types.specs.Lives.{count_in};
+ghost use Rattle.vr_log.specs.Log as logs;
+ghost use Rattle.vr_log.specs.Log.{is_log, received, processed, may_follow as may_stand};
 ghost use Rattle.two_stage_log.specs.Counts as counts;
 ghost use Rattle.two_stage_log.specs.Counts.{AllProcessed};
 
-use vr_log::{Entry, Log, count_from, count_processed, count_received, is_next};
+use of_types::Event;
+use vr_log::{Entry, Log};
 
-/// Whether an entry may follow the log: an event with the next number of its switch, or the first event
-/// that is not processed.
+/// Whether an entry may follow the log: an event with the next number of its switch's life, the switch-up
+/// event of a later life, or the first event that is not processed.
 pub fn may_follow(log: &Log, entry: &Entry) -> bool
     ensures { result ≡ may_stand log.now entry.now }
 {
-    is_next(log.as_slice(), entry)
+    log.may_follow(entry)
 }
 
-/// The number that the next event of a switch has.
-pub fn next_number(log: &Log, switch: u8) -> u64
-    ensures { result ≡ counts.next_number log.now switch }
+/// The life that a switch has in the log, and the number that its next event of that life has.
+pub fn next_place(log: &Log, switch: u8) -> (u32, u64)
+    ensures { result ≡ logs.next_place log.now switch }
 {
-    count_from(switch, log.as_slice()) as u64
+    log.next_place(switch)
 }
 
 /// The first entries of a log, so many as there are.
@@ -31,6 +34,30 @@ fn front(log: &Log, through: u64) -> &[Entry]
     &entries[..through.min(len) as usize]
 }
 
+fn is_processed(entry: &Entry) -> bool
+    ensures { result ≡ logs.is_processed entry.now }
+{
+    match entry {
+        Entry::Received(_) => false,
+        Entry::Processed(_) => true,
+    }
+}
+
+fn count_processed(entries: &[Entry]) -> usize
+    ensures exact { result ≡ processed entries.now }
+    ensures small { result ≤ length entries.now }
+{
+    entries.iter().filter(|entry| is_processed(entry)).count()
+}
+
+#[tactic(auto, using(vr_log::proofs::Logs::length_is))]
+fn count_received(entries: &[Entry]) -> usize
+    ensures { result ≡ length (received entries.now) }
+{
+    entries.len() - count_processed(entries)
+}
+
+/// The place of the first event that is received and not processed among these entries.
 fn first_of(entries: &[Entry]) -> Option<u64>
     ensures { result ≡ counts.first_unprocessed entries.now }
 {
@@ -51,9 +78,16 @@ pub fn first_unprocessed(log: &Log, through: u64) -> Option<u64>
     first_of(front(log, through))
 }
 
-/// How many of so many first events are of a switch.
-fn count_first(switch: u8, events: usize, entries: &[Entry]) -> usize
-    ensures { result ≡ Rattle.vr_log.specs.Log.count_from switch (take events (Rattle.vr_log.specs.Log.received entries.now)) }
+/// Whether an event is of a life of a switch.
+fn is_of(event: &Event, switch: u8, life: u32) -> bool
+    ensures { result ≡ (nat_eq event.now.switch switch && nat_eq event.now.life life) }
+{
+    event.switch == switch && event.life == life
+}
+
+/// How many of so many first events are of a life of a switch.
+fn count_first(switch: u8, life: u32, events: usize, entries: &[Entry]) -> usize
+    ensures { result ≡ count_in switch life (take events (received entries.now)) }
 {
     let mut count = 0;
     let mut left = events;
@@ -61,7 +95,7 @@ fn count_first(switch: u8, events: usize, entries: &[Entry]) -> usize
         if let Entry::Received(event) = entry {
             if left > 0 {
                 left -= 1;
-                if event.switch == switch {
+                if is_of(event, switch, life) {
                     count += 1;
                 }
             }
@@ -70,10 +104,10 @@ fn count_first(switch: u8, events: usize, entries: &[Entry]) -> usize
     count
 }
 
-/// How many events of a switch are processed in the first entries of a log.
-pub fn processed_of(log: &Log, through: u64, switch: u8) -> u64
-    ensures { result ≡ counts.processed_of (take through log.now) switch }
+/// How many events of a life of a switch are processed in the first entries of a log.
+pub fn processed_of(log: &Log, through: u64, switch: u8, life: u32) -> u64
+    ensures { result ≡ counts.processed_of (take through log.now) switch life }
 {
     let entries = front(log, through);
-    count_first(switch, count_processed(entries), entries) as u64
+    count_first(switch, life, count_processed(entries), entries) as u64
 }

@@ -18,8 +18,8 @@ use Rattle.vr_log.specs.declared.message.Filled.{Filled}
 use Rattle.vr_log.specs.declared.message.VrMessage.{VrMessage}
 use Rattle.vr_log.specs.declared.message.VrMessage.TheVariants as message
 use Rattle.vr_log.specs.Log.{log_entries, log_bytes}
-use Rattle.vr_codec.specs.Grammar.{IsReceived, IsProcessed, SpellsEntry, SpellsEntries, SpellsLog, IsPrepare, IsNumbered, IsStartViewChange, IsDoViewChange, IsStartView, IsRecovery, IsFilled, SpellsFilled, IsResponse, IsNewState, SpellsVr}
-use Rattle.vr_codec.specs.Reading.{event_at, told_at, received_at, processed_at, entry_at, entries_at, log_at, last_entry_at, last_log_at, numbered_at, start_view_change_at, recovery_at, prepare_at, do_view_change_at, start_view_at, filled_at, option_at, response_at, new_state_at, body_at, vr_at}
+use Rattle.vr_codec.specs.Grammar.{IsReceived, IsProcessed, SpellsEntry, SpellsEntries, SpellsLog, IsPrepare, IsNumbered, IsStartViewChange, IsDoViewChange, IsLogBehind, IsSupply, IsRecovery, IsFilled, SpellsFilled, IsResponse, SpellsVr}
+use Rattle.vr_codec.specs.Reading.{event_at, told_at, received_at, processed_at, entry_at, entries_at, log_at, last_entry_at, last_log_at, numbered_at, start_view_change_at, recovery_at, prepare_at, do_view_change_at, filled_at, option_at, response_at, log_behind_at, supply_at, body_at, vr_at}
 
 -- ---- entries
 
@@ -127,10 +127,10 @@ unfolding do_view_change_at
 do_view_change_again bytes view normal commit log s =
     rw (le-ltb (length bytes) 17 s.front.there, last_log_again (drop 17 bytes) log s.log_is, s.view_is, s.normal_is, s.commit_is) refl
 
-start_view_again : (bytes : List ℕ) (view commit : ℕ) (log : List Entry) → IsStartView bytes view commit log → start_view_at bytes ≡ Ok (message.StartView view commit log)
-unfolding start_view_at
-start_view_again bytes view commit log s =
-    rw (le-ltb (length bytes) 13 s.front.there, last_log_again (drop 13 bytes) log s.log_is, s.view_is, s.commit_is) refl
+supply_again : (bytes : List ℕ) (view first : ℕ) (log : List Entry) → IsSupply bytes view first log → supply_at bytes ≡ Ok (message.Supply view first log)
+unfolding supply_at
+supply_again bytes view first log s =
+    rw (le-ltb (length bytes) 13 s.front.there, last_log_again (drop 13 bytes) log s.log_is, s.view_is, s.first_is) refl
 
 filled_again : (bytes : List ℕ) (filled : Filled) → IsFilled bytes filled → filled_at bytes ≡ Ok (Some filled)
 unfolding filled_at
@@ -147,10 +147,10 @@ unfolding response_at
 response_again bytes view nonce filled s =
     rw (le-ltb (length bytes) 14 s.front.there, option_again bytes filled s.filled_is, s.view_is, s.nonce_is) refl
 
-new_state_again : (bytes : List ℕ) (view first commit : ℕ) (log : List Entry) → IsNewState bytes view first commit log
-    → new_state_at bytes ≡ Ok (message.NewState view first commit log)
-unfolding new_state_at
-new_state_again bytes view first commit log s =
+log_behind_again : (bytes : List ℕ) (kind view first commit : ℕ) (log : List Entry) → IsLogBehind bytes kind view first commit log
+    → log_behind_at bytes ≡ Ok (view, first, commit, log)
+unfolding log_behind_at
+log_behind_again bytes kind view first commit log s =
     rw (le-ltb (length bytes) 21 s.front.there, last_log_again (drop 21 bytes) log s.log_is, s.view_is, s.first_is, s.commit_is) refl
 
 front_again : (bytes : List ℕ) (kind size : ℕ) (m : VrMessage) → size ≤ length bytes → 1 ≤ size → number 1 0 bytes ≡ kind → body_at kind bytes ≡ Ok m → vr_at bytes ≡ Ok m
@@ -172,8 +172,8 @@ vr_again bytes (message.StartViewChange view) s =
     front_again bytes 4 5 _ (same_size _ _ s.whole) (omega arith) s.kind_is (start_view_change_again bytes view s)
 vr_again bytes (message.DoViewChange view normal commit log) s =
     front_again bytes 5 17 _ s.front.there (omega arith) s.front.kind_is (do_view_change_again bytes view normal commit log s)
-vr_again bytes (message.StartView view commit log) s =
-    front_again bytes 6 13 _ s.front.there (omega arith) s.front.kind_is (start_view_again bytes view commit log s)
+vr_again bytes (message.StartView view first commit log) s =
+    front_again bytes 6 21 _ s.front.there (omega arith) s.front.kind_is (rw (log_behind_again bytes 6 view first commit log s) refl)
 vr_again bytes (message.Recovery nonce promise) s =
     front_again bytes 7 13 _ (same_size _ _ s.whole) (omega arith) s.kind_is (recovery_again bytes nonce promise s)
 vr_again bytes (message.RecoveryResponse view nonce filled) s =
@@ -181,4 +181,8 @@ vr_again bytes (message.RecoveryResponse view nonce filled) s =
 vr_again bytes (message.GetState view op) s =
     front_again bytes 9 13 _ (same_size _ _ s.whole) (omega arith) s.kind_is (rw (numbered_again bytes 9 view op s) refl)
 vr_again bytes (message.NewState view first commit log) s =
-    front_again bytes 10 21 _ s.front.there (omega arith) s.front.kind_is (new_state_again bytes view first commit log s)
+    front_again bytes 10 21 _ s.front.there (omega arith) s.front.kind_is (rw (log_behind_again bytes 10 view first commit log s) refl)
+vr_again bytes (message.Fetch view op) s =
+    front_again bytes 11 13 _ (same_size _ _ s.whole) (omega arith) s.kind_is (rw (numbered_again bytes 11 view op s) refl)
+vr_again bytes (message.Supply view first log) s =
+    front_again bytes 12 13 _ s.front.there (omega arith) s.front.kind_is (supply_again bytes view first log s)

@@ -9,7 +9,8 @@ use Rattle.vr_codec.specs.declared.fault.VrFault.TheVariants as fault
 use Rattle.vr_codec.specs.declared.fault.VrRefusal.{VrRefusal}
 use Rattle.vr_codec.specs.Answers.{GivesVr, IsRead}
 use Rattle.vr_codec.specs.Canonical.{canonical_vr}
-use Rattle.vr_codec.specs.Fits.{IsValidVr, FitsVr}
+use Rattle.vr_log.specs.Sizes.{IsValidVr}
+use Rattle.vr_codec.specs.Fits.{FitsVr}
 use Rattle.vr_codec.specs.Grammar.{SpellsVr}
 use Rattle.vr_codec.specs.Reading.{vr_at}
 use Rattle.vr_codec.proofs.Again.{vr_again}

@@ -26,8 +26,8 @@ use Rattle.vr_log.specs.declared.message.VrMessage.TheVariants as message
 use Rattle.vr_log.specs.Log.{log_entries, log_bytes}
 use Rattle.vr_codec.specs.declared.fault.VrRefusal.{VrRefusal}
 use Rattle.vr_codec.specs.declared.fault.VrRefusal.TheVariants.{Short, BadKind, BadLength}
-use Rattle.vr_codec.specs.Grammar.{SpellsEntry, SpellsEntries, SpellsLog, IsFront, IsPrepare, IsNumbered, IsStartViewChange, IsDoViewChange, IsStartView, IsRecovery, IsFilled, SpellsFilled, IsResponse, IsNewState, SpellsVr}
-use Rattle.vr_codec.specs.Reading.{as_event, event_at, told_at, received_at, processed_at, entry_at, entries_at, log_at, last_of, last_entry_at, last_log_at, size_at, numbered_at, start_view_change_at, recovery_at, prepare_at, do_view_change_at, start_view_at, filled_at, option_at, response_at, new_state_at, messages_at, beside, body_at, vr_at}
+use Rattle.vr_codec.specs.Grammar.{SpellsEntry, SpellsEntries, SpellsLog, IsFront, IsPrepare, IsNumbered, IsStartViewChange, IsDoViewChange, IsLogBehind, IsSupply, IsRecovery, IsFilled, SpellsFilled, IsResponse, SpellsVr}
+use Rattle.vr_codec.specs.Reading.{as_event, event_at, told_at, received_at, processed_at, entry_at, entries_at, log_at, last_of, last_entry_at, last_log_at, size_at, numbered_at, start_view_change_at, recovery_at, prepare_at, do_view_change_at, filled_at, option_at, response_at, LogBehind, log_behind_at, supply_at, as_start_view, as_new_state, as_fetch, messages_at, beside, body_at, vr_at}
 
 -- ---- entries
 
@@ -331,34 +331,49 @@ do_view_change_takes bytes m fits e k =
     } in
     subst (λ (y : VrMessage). SpellsVr bytes y) (ok_is VrRefusal (make b.0) m b.2) made
 
-start_view_takes : (bytes : List ℕ) (m : VrMessage) → IsBytes bytes → start_view_at bytes ≡ Ok m → IsOf 6 bytes m
-unfolding start_view_at
-start_view_takes bytes m fits e k =
-    let make : List Entry → VrMessage = λ log. message.StartView (number 4 1 bytes) (number 8 5 bytes) log in
+supply_takes : (bytes : List ℕ) (m : VrMessage) → IsBytes bytes → supply_at bytes ≡ Ok m → IsOf 12 bytes m
+unfolding supply_at
+supply_takes bytes m fits e k =
+    let make : List Entry → VrMessage = λ log. message.Supply (number 4 1 bytes) (number 8 5 bytes) log in
     let a = passed (ltb (length bytes) 13) Short (last_log_at (drop 13 bytes) >>= λ log. Ok (make log)) m e in
     let b = bind_ok (last_log_at (drop 13 bytes)) (λ log. Ok (make log)) m a.1 in
-    let made : IsStartView bytes (number 4 1 bytes) (number 8 5 bytes) b.0 = record {
-      front = fronted bytes 6 13 k (ltb-false (length bytes) 13 a.0);
+    let made : IsSupply bytes (number 4 1 bytes) (number 8 5 bytes) b.0 = record {
+      front = fronted bytes 12 13 k (ltb-false (length bytes) 13 a.0);
       view_is = refl;
-      commit_is = refl;
+      first_is = refl;
       log_is = last_log_takes (drop 13 bytes) b.0 (IsBytes-drop 13 bytes fits) b.1;
     } in
     subst (λ (y : VrMessage). SpellsVr bytes y) (ok_is VrRefusal (make b.0) m b.2) made
 
-new_state_takes : (bytes : List ℕ) (m : VrMessage) → IsBytes bytes → new_state_at bytes ≡ Ok m → IsOf 10 bytes m
-unfolding new_state_at
-new_state_takes bytes m fits e k =
-    let make : List Entry → VrMessage = λ log. message.NewState (number 4 1 bytes) (number 8 5 bytes) (number 8 13 bytes) log in
-    let a = passed (ltb (length bytes) 21) Short (last_log_at (drop 21 bytes) >>= λ log. Ok (make log)) m e in
-    let b = bind_ok (last_log_at (drop 21 bytes)) (λ log. Ok (make log)) m a.1 in
-    let made : IsNewState bytes (number 4 1 bytes) (number 8 5 bytes) (number 8 13 bytes) b.0 = record {
-      front = fronted bytes 10 21 k (ltb-false (length bytes) 21 a.0);
+log_behind_takes : (bytes : List ℕ) (kind : ℕ) (x : LogBehind) → IsBytes bytes → number 1 0 bytes ≡ kind → log_behind_at bytes ≡ Ok x → IsLogBehind bytes kind x.0 x.1 x.2 x.3
+unfolding log_behind_at
+log_behind_takes bytes kind x fits k e =
+    let make : List Entry → LogBehind = λ log. (number 4 1 bytes, number 8 5 bytes, number 8 13 bytes, log) in
+    let a = passed (ltb (length bytes) 21) Short (last_log_at (drop 21 bytes) >>= λ log. Ok (make log)) x e in
+    let b = bind_ok (last_log_at (drop 21 bytes)) (λ log. Ok (make log)) x a.1 in
+    let made : IsLogBehind bytes kind (number 4 1 bytes) (number 8 5 bytes) (number 8 13 bytes) b.0 = record {
+      front = fronted bytes kind 21 k (ltb-false (length bytes) 21 a.0);
       view_is = refl;
       first_is = refl;
       commit_is = refl;
       log_is = last_log_takes (drop 21 bytes) b.0 (IsBytes-drop 21 bytes fits) b.1;
     } in
-    subst (λ (y : VrMessage). SpellsVr bytes y) (ok_is VrRefusal (make b.0) m b.2) made
+    subst (λ (y : LogBehind). IsLogBehind bytes kind y.0 y.1 y.2 y.3) (ok_is VrRefusal (make b.0) x b.2) made
+
+start_view_takes : (bytes : List ℕ) (m : VrMessage) → IsBytes bytes → as_start_view (log_behind_at bytes) ≡ Ok m → IsOf 6 bytes m
+start_view_takes bytes m fits e k =
+    let a = bind_ok (log_behind_at bytes) (λ x. Ok (message.StartView x.0 x.1 x.2 x.3)) m e in
+    subst (λ (y : VrMessage). SpellsVr bytes y) (ok_is VrRefusal (message.StartView a.0.0 a.0.1 a.0.2 a.0.3) m a.2) (log_behind_takes bytes 6 a.0 fits k a.1)
+
+new_state_takes : (bytes : List ℕ) (m : VrMessage) → IsBytes bytes → as_new_state (log_behind_at bytes) ≡ Ok m → IsOf 10 bytes m
+new_state_takes bytes m fits e k =
+    let a = bind_ok (log_behind_at bytes) (λ x. Ok (message.NewState x.0 x.1 x.2 x.3)) m e in
+    subst (λ (y : VrMessage). SpellsVr bytes y) (ok_is VrRefusal (message.NewState a.0.0 a.0.1 a.0.2 a.0.3) m a.2) (log_behind_takes bytes 10 a.0 fits k a.1)
+
+fetch_takes : (bytes : List ℕ) (m : VrMessage) → as_fetch (numbered_at bytes) ≡ Ok m → IsOf 11 bytes m
+fetch_takes bytes m e k =
+    let a = bind_ok (numbered_at bytes) (λ x. Ok (message.Fetch x.0 x.1)) m e in
+    subst (λ (y : VrMessage). SpellsVr bytes y) (ok_is VrRefusal (message.Fetch a.0.0 a.0.1) m a.2) (numbered_takes bytes 11 a.0 k a.1)
 
 filled_takes : (bytes : List ℕ) (filled : Option Filled) → IsBytes bytes → number 1 13 bytes ≡ 1 → filled_at bytes ≡ Ok filled → SpellsFilled bytes filled
 unfolding filled_at
@@ -438,7 +453,7 @@ rows_take bytes m fits = (
         start_view_change_takes bytes m,
         (
           do_view_change_takes bytes m fits,
-          (start_view_takes bytes m fits, (recovery_takes bytes m, (response_takes bytes m fits, (get_state_takes bytes m, (new_state_takes bytes m fits, tt))))),
+          (start_view_takes bytes m fits, (recovery_takes bytes m, (response_takes bytes m fits, (get_state_takes bytes m, (new_state_takes bytes m fits, (fetch_takes bytes m, (supply_takes bytes m fits, tt))))))),
         ),
       ),
     ),

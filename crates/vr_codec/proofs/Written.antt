@@ -18,8 +18,9 @@ use Rattle.vr_log.specs.declared.message.VrMessage.{VrMessage}
 use Rattle.vr_log.specs.declared.message.VrMessage.TheVariants as message
 use Rattle.vr_log.specs.Log.{entry_size, log_size}
 use Rattle.vr_codec.specs.Canonical.{received_front, received_bytes, processed_bytes, canonical_entry, canonical_log, front, pair, recovery_bytes, canonical_vr}
-use Rattle.vr_codec.specs.Fits.{IsValidEntry, IsValidLog, IsValidVr, FitsEntry, FitsLog, FitsVr}
-use Rattle.vr_codec.specs.Grammar.{IsReceived, IsProcessed, SpellsEntry, SpellsEntries, SpellsLog, IsPrepare, IsNumbered, IsStartViewChange, IsDoViewChange, IsStartView, IsRecovery, IsResponse, IsNewState, SpellsVr}
+use Rattle.vr_log.specs.Sizes.{IsValidEntry, IsValidLog, IsValidVr}
+use Rattle.vr_codec.specs.Fits.{FitsEntry, FitsLog, FitsVr}
+use Rattle.vr_codec.specs.Grammar.{IsReceived, IsProcessed, SpellsEntry, SpellsEntries, SpellsLog, IsPrepare, IsNumbered, IsStartViewChange, IsDoViewChange, IsLogBehind, IsSupply, IsRecovery, IsResponse, SpellsVr}
 
 -- ---- entries
 
@@ -112,13 +113,13 @@ do_view_change_spelled view normal commit log text v u k s = record {
   log_is = s;
 }
 
-start_view_spelled : (view commit : ℕ) (log : List Entry) (text : List ℕ) → view < 2 ^ 32 → commit < 2 ^ 64 → SpellsLog text log
-    → IsStartView (front 6 view ++ (eight commit ++ text)) view commit log
+supply_spelled : (view first : ℕ) (log : List Entry) (text : List ℕ) → view < 2 ^ 32 → first < 2 ^ 64 → SpellsLog text log
+    → IsSupply (front 12 view ++ (eight first ++ text)) view first log
 unfolding front one four eight
-start_view_spelled view commit log text v k s = record {
+supply_spelled view first log text v k s = record {
   front = record { there = omega arith; kind_is = refl };
   view_is = number_bytes 4 view [] v;
-  commit_is = number_bytes 8 commit [] k;
+  first_is = number_bytes 8 first [] k;
   log_is = s;
 }
 
@@ -145,11 +146,11 @@ filled_spelled view nonce filled text v n k s = record {
   filled_is = record { there = omega arith; filled_is = refl; commit_is = number_bytes 8 filled.commit [] k; log_is = s };
 }
 
-new_state_spelled : (view first commit : ℕ) (log : List Entry) (text : List ℕ) → view < 2 ^ 32 → first < 2 ^ 64 → commit < 2 ^ 64 → SpellsLog text log
-    → IsNewState (front 10 view ++ (pair first commit ++ text)) view first commit log
+log_behind_spelled : (kind view first commit : ℕ) (log : List Entry) (text : List ℕ) → kind < 2 ^ 8 → view < 2 ^ 32 → first < 2 ^ 64 → commit < 2 ^ 64 → SpellsLog text log
+    → IsLogBehind (front kind view ++ (pair first commit ++ text)) kind view first commit log
 unfolding front pair one four eight
-new_state_spelled view first commit log text v o k s = record {
-  front = record { there = omega arith; kind_is = refl };
+log_behind_spelled kind view first commit log text n v o k s = record {
+  front = record { there = omega arith; kind_is = number_bytes 1 kind [] n };
   view_is = number_bytes 4 view [] v;
   first_is = number_bytes 8 first [] o;
   commit_is = number_bytes 8 commit [] k;
@@ -162,9 +163,11 @@ vr_spelled (message.PrepareOk view op) v f = numbered_spelled 2 view op (lit< tt
 vr_spelled (message.Commit view commit) v f = numbered_spelled 3 view commit (lit< tt) f.0 f.1
 vr_spelled (message.StartViewChange view) v f = start_view_change_spelled view f
 vr_spelled (message.DoViewChange view normal commit log) v f = do_view_change_spelled view normal commit log (canonical_log log) f.0 f.1 f.2 (log_spelled log v f.3)
-vr_spelled (message.StartView view commit log) v f = start_view_spelled view commit log (canonical_log log) f.0 f.1 (log_spelled log v f.2)
+vr_spelled (message.StartView view first commit log) v f = log_behind_spelled 6 view first commit log (canonical_log log) (lit< tt) f.0 f.1 f.2 (log_spelled log v f.3)
 vr_spelled (message.Recovery nonce promise) v f = recovery_spelled nonce promise f.0 f.1
 vr_spelled (message.RecoveryResponse view nonce None) v f = empty_spelled view nonce f.0 f.1
 vr_spelled (message.RecoveryResponse view nonce (Some filled)) v f = filled_spelled view nonce filled (canonical_log filled.log) f.0 f.1 f.2.0 (log_spelled filled.log v f.2.1)
 vr_spelled (message.GetState view op) v f = numbered_spelled 9 view op (lit< tt) f.0 f.1
-vr_spelled (message.NewState view first commit log) v f = new_state_spelled view first commit log (canonical_log log) f.0 f.1 f.2 (log_spelled log v f.3)
+vr_spelled (message.NewState view first commit log) v f = log_behind_spelled 10 view first commit log (canonical_log log) (lit< tt) f.0 f.1 f.2 (log_spelled log v f.3)
+vr_spelled (message.Fetch view op) v f = numbered_spelled 11 view op (lit< tt) f.0 f.1
+vr_spelled (message.Supply view first log) v f = supply_spelled view first log (canonical_log log) f.0 f.1 (log_spelled log v f.2)

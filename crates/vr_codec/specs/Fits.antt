@@ -1,37 +1,12 @@
--- Which messages are valid: a log is within the limits, and each event's message fits its header. And
--- that each number fits its field, as the types of the code have it.
-use Rattle.std.specs.Prelude.{All, ◌≤◌, ◌<◌, ◌^◌, List, length, Option, None, Some}
-use Rattle.std.specs.List.{AllByRecursion}
+-- Each number fits its field, as the types of the code have it. (Which messages are valid stands with their sizes.)
+use Rattle.std.specs.Prelude.{All, ◌<◌, ◌^◌, List, Option, None, Some}
 use Rattle.of_messages.specs.Fits.{FitsPlain}
 use Rattle.of_ravana.specs.Canonical.{happening_message}
-use Rattle.of_types.specs.Sizes.{happening_size}
 use Rattle.vr_log.specs.declared.entry.Entry.{Entry}
 use Rattle.vr_log.specs.declared.entry.Entry.TheVariants.{Received, Processed}
 use Rattle.vr_log.specs.declared.message.Filled.{Filled}
 use Rattle.vr_log.specs.declared.message.VrMessage.{VrMessage}
 use Rattle.vr_log.specs.declared.message.VrMessage.TheVariants as message
-use Rattle.vr_log.specs.Log.{log_entries, log_bytes, log_size}
-
-abbrev pub IsValidEntry : Entry → Type 0
-IsValidEntry (Received event) = happening_size event.what ≤ 65535
-IsValidEntry (Processed j) = Unit {0}
-
-pub record IsValidLog (log : List Entry) : Type 0 where
-  pub few : length log ≤ log_entries
-  pub small : log_size log ≤ log_bytes
-  pub entries : AllByRecursion (λ entry. IsValidEntry entry) log
-
-abbrev pub IsValidFilled : Option Filled → Type 0
-IsValidFilled None = Unit {0}
-IsValidFilled (Some filled) = IsValidLog filled.log
-
-abbrev pub IsValidVr : VrMessage → Type 0
-IsValidVr (message.Prepare view op commit entry) = IsValidEntry entry
-IsValidVr (message.DoViewChange view normal commit log) = IsValidLog log
-IsValidVr (message.StartView view commit log) = IsValidLog log
-IsValidVr (message.RecoveryResponse view nonce filled) = IsValidFilled filled
-IsValidVr (message.NewState view first commit log) = IsValidLog log
-IsValidVr _ = Unit {0}
 
 abbrev pub FitsEntry : Entry → Type 0
 FitsEntry (Received event) =
@@ -51,8 +26,10 @@ FitsVr (message.PrepareOk view op) = (view < 2 ^ 32) × (op < 2 ^ 64)
 FitsVr (message.Commit view commit) = (view < 2 ^ 32) × (commit < 2 ^ 64)
 FitsVr (message.StartViewChange view) = view < 2 ^ 32
 FitsVr (message.DoViewChange view normal commit log) = (view < 2 ^ 32) × (normal < 2 ^ 32) × (commit < 2 ^ 64) × FitsLog log
-FitsVr (message.StartView view commit log) = (view < 2 ^ 32) × (commit < 2 ^ 64) × FitsLog log
+FitsVr (message.StartView view first commit log) = (view < 2 ^ 32) × (first < 2 ^ 64) × (commit < 2 ^ 64) × FitsLog log
 FitsVr (message.Recovery nonce promise) = (nonce < 2 ^ 64) × (promise < 2 ^ 32)
 FitsVr (message.RecoveryResponse view nonce filled) = (view < 2 ^ 32) × (nonce < 2 ^ 64) × FitsFilled filled
 FitsVr (message.GetState view op) = (view < 2 ^ 32) × (op < 2 ^ 64)
 FitsVr (message.NewState view first commit log) = (view < 2 ^ 32) × (first < 2 ^ 64) × (commit < 2 ^ 64) × FitsLog log
+FitsVr (message.Fetch view op) = (view < 2 ^ 32) × (op < 2 ^ 64)
+FitsVr (message.Supply view first log) = (view < 2 ^ 32) × (first < 2 ^ 64) × FitsLog log

@@ -120,7 +120,7 @@ fn read_log(alloc: Global, bytes: &[u8]) -> Result<(Entries, &[u8]), VrFault>
         return Err(VrFault::Refused(VrRefusal::Short));
     }
     let count = u32_at(bytes, 0) as usize;
-    if count > LOG_ENTRIES {
+    if count as u64 > LOG_ENTRIES {
         return Err(VrFault::Refused(VrRefusal::BadLength));
     }
     read_entries(alloc, count, &bytes[4..])

@@ -1,7 +1,8 @@
 //! What the types of a message say of its numbers. These functions do nothing when they run.
 ghost use Rattle.std.specs.Prelude.{◌≡◌, Ok};
 ghost use Rattle.vr_codec.specs.Canonical.{canonical_vr};
-ghost use Rattle.vr_codec.specs.Fits.{IsValidVr, FitsEntry, FitsLog, FitsFilled, FitsVr};
+ghost use Rattle.vr_log.specs.Sizes.{IsValidVr};
+ghost use Rattle.vr_codec.specs.Fits.{FitsEntry, FitsLog, FitsFilled, FitsVr};
 ghost use Rattle.vr_codec.specs.Grammar.{SpellsVr};
 ghost use Rattle.vr_codec.specs.Reading.{vr_at};
 
@@ -56,7 +57,9 @@ fn vr_fits(message: &VrMessage)
             u64_fits(*commit);
             entry_fits(entry);
         }
-        VrMessage::PrepareOk { view, op } | VrMessage::GetState { view, op } => {
+        VrMessage::PrepareOk { view, op }
+        | VrMessage::GetState { view, op }
+        | VrMessage::Fetch { view, op } => {
             u32_fits(*view);
             u64_fits(*op);
         }
@@ -76,8 +79,14 @@ fn vr_fits(message: &VrMessage)
             u64_fits(*commit);
             log_fits(log.as_slice());
         }
-        VrMessage::StartView { view, commit, log } => {
+        VrMessage::StartView {
+            view,
+            first,
+            commit,
+            log,
+        } => {
             u32_fits(*view);
+            u64_fits(*first);
             u64_fits(*commit);
             log_fits(log.as_slice());
         }
@@ -103,6 +112,11 @@ fn vr_fits(message: &VrMessage)
             u32_fits(*view);
             u64_fits(*first);
             u64_fits(*commit);
+            log_fits(log.as_slice());
+        }
+        VrMessage::Supply { view, first, log } => {
+            u32_fits(*view);
+            u64_fits(*first);
             log_fits(log.as_slice());
         }
     }

@@ -5,15 +5,16 @@ ghost use Rattle.vr_log.specs.declared.message.VrMessage.{VrMessage};
 ghost use Rattle.vr_log.specs.Log.{entry_size};
 ghost use Rattle.vr_codec.specs.Answers.{GivesVr, IsRead};
 ghost use Rattle.vr_codec.specs.Canonical.{canonical_entry, canonical_vr};
-ghost use Rattle.vr_codec.specs.Fits.{IsValidVr, FitsVr};
+ghost use Rattle.vr_log.specs.Sizes.{IsValidVr};
+ghost use Rattle.vr_codec.specs.Fits.{FitsVr};
 ghost use Rattle.vr_codec.specs.Grammar.{SpellsVr};
-ghost use Rattle.vr_codec.specs.Reading.{prepare_at, do_view_change_at, start_view_at, filled_at, option_at, response_at, new_state_at, body_at, vr_at};
+ghost use Rattle.vr_codec.specs.Reading.{prepare_at, do_view_change_at, filled_at, option_at, response_at, log_behind_at, as_start_view, as_new_state, supply_at, body_at, vr_at};
 
 use crate::entries::{read_last_entry, read_last_log};
 use crate::fault::{VrFault, VrRefusal};
 use of_bytes::{u8_at, u32_at, u64_at};
 use std::alloc::Global;
-use vr_log::{Filled, VrMessage};
+use vr_log::{Entries, Filled, VrMessage};
 
 #[tactic(auto, unfolding(crate::specs::Reading::prepare_at))]
 fn read_prepare(alloc: Global, bytes: &[u8]) -> Result<VrMessage, VrFault>
@@ -47,17 +48,17 @@ fn read_do_view_change(alloc: Global, bytes: &[u8]) -> Result<VrMessage, VrFault
     })
 }
 
-#[tactic(auto, unfolding(crate::specs::Reading::start_view_at))]
-fn read_start_view(alloc: Global, bytes: &[u8]) -> Result<VrMessage, VrFault>
-    ensures { GivesVr (λ m. m) result (start_view_at bytes.now) }
+#[tactic(auto, unfolding(crate::specs::Reading::supply_at))]
+fn read_supply(alloc: Global, bytes: &[u8]) -> Result<VrMessage, VrFault>
+    ensures { GivesVr (λ m. m) result (supply_at bytes.now) }
 {
     if bytes.len() < 13 {
         return Err(VrFault::Refused(VrRefusal::Short));
     }
     let log = read_last_log(alloc, &bytes[13..])?;
-    Ok(VrMessage::StartView {
+    Ok(VrMessage::Supply {
         view: u32_at(bytes, 1),
-        commit: u64_at(bytes, 5),
+        first: u64_at(bytes, 5),
         log,
     })
 }
@@ -110,18 +111,38 @@ fn read_response(alloc: Global, bytes: &[u8]) -> Result<VrMessage, VrFault>
     })
 }
 
-#[tactic(auto, unfolding(crate::specs::Reading::new_state_at))]
-fn read_new_state(alloc: Global, bytes: &[u8]) -> Result<VrMessage, VrFault>
-    ensures { GivesVr (λ m. m) result (new_state_at bytes.now) }
+/// STARTVIEW and NEWSTATE have a view, a place, a commit number and the entries behind that place.
+#[tactic(auto, unfolding(crate::specs::Reading::log_behind_at))]
+fn read_log_behind(alloc: Global, bytes: &[u8]) -> Result<(u32, u64, u64, Entries), VrFault>
+    ensures { GivesVr (λ x. x) result (log_behind_at bytes.now) }
 {
     if bytes.len() < 21 {
         return Err(VrFault::Refused(VrRefusal::Short));
     }
     let log = read_last_log(alloc, &bytes[21..])?;
+    Ok((u32_at(bytes, 1), u64_at(bytes, 5), u64_at(bytes, 13), log))
+}
+
+fn read_start_view(alloc: Global, bytes: &[u8]) -> Result<VrMessage, VrFault>
+    ensures { GivesVr (λ m. m) result (as_start_view (log_behind_at bytes.now)) }
+{
+    let (view, first, commit, log) = read_log_behind(alloc, bytes)?;
+    Ok(VrMessage::StartView {
+        view,
+        first,
+        commit,
+        log,
+    })
+}
+
+fn read_new_state(alloc: Global, bytes: &[u8]) -> Result<VrMessage, VrFault>
+    ensures { GivesVr (λ m. m) result (as_new_state (log_behind_at bytes.now)) }
+{
+    let (view, first, commit, log) = read_log_behind(alloc, bytes)?;
     Ok(VrMessage::NewState {
-        view: u32_at(bytes, 1),
-        first: u64_at(bytes, 5),
-        commit: u64_at(bytes, 13),
+        view,
+        first,
+        commit,
         log,
     })
 }
@@ -139,7 +160,7 @@ fn has_size(bytes: &[u8], size: usize) -> Result<(), VrRefusal>
     Ok(())
 }
 
-/// PREPAREOK, COMMIT and GETSTATE have a view and a number.
+/// PREPAREOK, COMMIT, GETSTATE and FETCH have a view and a number.
 #[tactic(auto, unfolding(crate::specs::Reading::numbered_at))]
 fn read_numbered(bytes: &[u8]) -> Result<(u32, u64), VrRefusal>
     ensures { result ≡ Rattle.vr_codec.specs.Reading.numbered_at bytes.now }
@@ -200,6 +221,11 @@ fn read_body(alloc: Global, kind: u8, bytes: &[u8]) -> Result<VrMessage, VrFault
             Ok(VrMessage::GetState { view, op })
         }
         10 => read_new_state(alloc, bytes),
+        11 => {
+            let (view, op) = read_numbered(bytes)?;
+            Ok(VrMessage::Fetch { view, op })
+        }
+        12 => read_supply(alloc, bytes),
         _ => Err(VrFault::Refused(VrRefusal::BadKind)),
     }
 }

@@ -171,16 +171,16 @@ fn write_do_view_change(
     Ok(())
 }
 
-fn write_start_view(
+fn write_supply(
     alloc: Global,
     out: &mut Octets,
     view: u32,
-    commit: u64,
+    first: u64,
     log: &[Entry],
 ) -> Result<(), AllocError>
-    ensures { OnOk result (out.new ≡ out.old ++ (front 6 view ++ (eight commit ++ canonical_log log.now))) }
+    ensures { OnOk result (out.new ≡ out.old ++ (front 12 view ++ (eight first ++ canonical_log log.now))) }
 {
-    write_numbered(out, 6, view, commit)?;
+    write_numbered(out, 12, view, first)?;
     write_log(alloc, out, log)?;
     Ok(())
 }
@@ -199,17 +199,19 @@ fn write_response(
     Ok(())
 }
 
-fn write_new_state(
+/// STARTVIEW and NEWSTATE, by their kind.
+fn write_log_behind(
     alloc: Global,
     out: &mut Octets,
+    kind: u8,
     view: u32,
     first: u64,
     commit: u64,
     log: &[Entry],
 ) -> Result<(), AllocError>
-    ensures { OnOk result (out.new ≡ out.old ++ (front 10 view ++ (pair first commit ++ canonical_log log.now))) }
+    ensures { OnOk result (out.new ≡ out.old ++ (front kind view ++ (pair first commit ++ canonical_log log.now))) }
 {
-    write_front(out, 10, view)?;
+    write_front(out, kind, view)?;
     write_pair(out, first, commit)?;
     write_log(alloc, out, log)?;
     Ok(())
@@ -234,9 +236,12 @@ fn write_vr(alloc: Global, out: &mut Octets, message: &VrMessage) -> Result<(), 
             commit,
             log,
         } => write_do_view_change(alloc, out, *view, *normal, *commit, log.as_slice()),
-        VrMessage::StartView { view, commit, log } => {
-            write_start_view(alloc, out, *view, *commit, log.as_slice())
-        }
+        VrMessage::StartView {
+            view,
+            first,
+            commit,
+            log,
+        } => write_log_behind(alloc, out, 6, *view, *first, *commit, log.as_slice()),
         VrMessage::Recovery { nonce, promise } => write_recovery(out, *nonce, *promise),
         VrMessage::RecoveryResponse {
             view,
@@ -249,7 +254,11 @@ fn write_vr(alloc: Global, out: &mut Octets, message: &VrMessage) -> Result<(), 
             first,
             commit,
             log,
-        } => write_new_state(alloc, out, *view, *first, *commit, log.as_slice()),
+        } => write_log_behind(alloc, out, 10, *view, *first, *commit, log.as_slice()),
+        VrMessage::Fetch { view, op } => write_numbered(out, 11, *view, *op),
+        VrMessage::Supply { view, first, log } => {
+            write_supply(alloc, out, *view, *first, log.as_slice())
+        }
     }
 }
 

@@ -1,2 +1,5 @@
 pub mod Logs
+pub mod Tallies
+pub mod Equal
+pub mod Steps
 pub mod Valid

@@ -1,7 +1,8 @@
 -- The replicated log of a group (Ravana, 3.2; Viewstamped Replication Revisited, 4): which entry may
 -- follow, and the limits.
-use Rattle.std.specs.Prelude.{◌≡◌, ◌≤◌, ℕ, ◌+◌, ◌-◌, ◌^◌, min, Bool, true, false, not, nat_eq, nat_lt, nat_le, ◌&&◌, List, [], ◌∷◌, ◌++◌, length, count_by, sum_by, Result, Ok, Err}
+use Rattle.std.specs.Prelude.{◌≡◌, ◌≤◌, ℕ, ◌+◌, ◌-◌, ◌^◌, min, Bool, true, false, not, nat_eq, nat_lt, nat_le, ◌&&◌, List, [], ◌∷◌, ◌++◌, length, count_by, sum_by, Result, Ok, Err, if◌then◌else◌}
 use Rattle.of_types.specs.declared.message.Event.{Event}
+use Rattle.of_types.specs.Lives.{life_in, count_in, is_switch_up}
 use Rattle.of_types.specs.Sizes.{happening_size}
 use Rattle.vr_log.specs.declared.entry.Entry.{Entry}
 use Rattle.vr_log.specs.declared.entry.Entry.TheVariants.{Received, Processed}
@@ -30,10 +31,6 @@ is_processed (Processed j) = true
 abbrev pub processed : List Entry → ℕ
 processed log = count_by is_processed log
 
--- how many events are of a switch
-abbrev pub count_from : ℕ → List Event → ℕ
-count_from switch events = count_by (λ e. nat_eq e.switch switch) events
-
 -- the bytes of an entry, and of a log
 abbrev pub entry_size : Entry → ℕ
 entry_size (Received event) = 18 + happening_size event.what
@@ -46,11 +43,22 @@ log_size log = sum_by entry_size log
 abbrev pub is_past_limits : List Entry → Entry → Bool
 is_past_limits log entry = not (nat_le (length log + 1) log_entries && nat_le (log_size log + entry_size entry) log_bytes)
 
--- The entry may follow the log (Ravana, 3.2). Each switch's events come by number, from 0 on, and
--- events are processed in the order in which they were received.
+-- An event may follow a log (Ravana, 3.2; the lives are our own rule). A switch's events come by number, from 0
+-- on in each of its lives, and a later life begins with its switch-up event.
+abbrev pub may_be_received : Event → List Event → Bool
+may_be_received event events =
+    let life = life_in event.switch events in
+    if nat_eq event.life life then nat_eq event.number (count_in event.switch life events)
+    else nat_lt life event.life && nat_eq event.number 0 && is_switch_up event.what
+
+-- The entry may follow the log. Events are processed in the order in which they were received.
 abbrev pub may_follow : List Entry → Entry → Bool
-may_follow log (Received event) = nat_eq event.number (count_from event.switch (received log))
+may_follow log (Received event) = may_be_received event (received log)
 may_follow log (Processed j) = nat_eq j (processed log) && nat_lt j (length (received log))
+
+-- the life that a switch has in a log, and the number that its next event of that life has
+abbrev pub next_place : List Entry → ℕ → ℕ × ℕ
+next_place log switch = (life_in switch (received log), count_in switch (life_in switch (received log)) (received log))
 
 -- the log takes the entry
 abbrev pub fits : List Entry → Entry → Bool
@@ -69,6 +77,10 @@ pub record IsLog (entries : List Entry) : Type 0 where
   pub follow : is_log entries ≡ true
   pub short : length entries ≤ log_entries
   pub small : log_size entries ≤ log_bytes
+
+-- a front of a log is one
+abbrev pub FrontsAreLogs : Type 0
+FrontsAreLogs = (front rest : List Entry) → is_log (front ++ rest) ≡ true → is_log front ≡ true
 
 -- The limits that an entry meets: the length and the bytes of the log, and the bytes of the entry, as
 -- far as a number of 64 bits goes.

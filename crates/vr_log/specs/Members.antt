@@ -1,5 +1,5 @@
 -- What the rules of a member of a group ask of its state (Viewstamped Replication Revisited, 4).
-use Rattle.std.specs.Prelude.{ℕ, zero, suc, ◌/◌, ◌%◌, Bool, true, false, not, nat_eq, nat_lt, ◌&&◌, List, [], ◌∷◌, ◌++◌, if◌then◌else◌}
+use Rattle.std.specs.Prelude.{ℕ, zero, suc, ◌/◌, ◌%◌, Bool, true, false, not, nat_eq, nat_lt, ◌&&◌, ◌||◌, List, [], ◌∷◌, ◌++◌, if◌then◌else◌}
 use Rattle.vr_log.specs.declared.state.Status.TheVariants.{Normal, ViewChange, Recovering, Down}
 use Rattle.vr_log.specs.declared.state.VrState.{VrState}
 
@@ -8,6 +8,13 @@ is_normal s = elim s.status [ Normal ↦ true | ViewChange ↦ false | Recoverin
 
 abbrev pub is_changing : VrState → Bool
 is_changing s = elim s.status [ Normal ↦ false | ViewChange ↦ true | Recovering ↦ false | Down ↦ false ]
+
+-- it takes part: it is not recovering, nor down
+abbrev pub is_up : VrState → Bool
+is_up s = elim s.status [ Normal ↦ true | ViewChange ↦ true | Recovering ↦ false | Down ↦ false ]
+
+abbrev pub is_recovering : VrState → Bool
+is_recovering s = elim s.status [ Normal ↦ false | ViewChange ↦ false | Recovering ↦ true | Down ↦ false ]
 
 -- the primary of a view: members take their turns
 abbrev pub primary_of : VrState → ℕ → ℕ
@@ -20,9 +27,9 @@ is_primary s = nat_eq (primary_of s s.view) s.me
 abbrev pub is_other : VrState → ℕ → Bool
 is_other s j = nat_lt j s.controllers && not (nat_eq j s.me)
 
--- it came from the primary of this view
-abbrev pub is_from_primary : VrState → ℕ → ℕ → Bool
-is_from_primary s from view = is_other s from && nat_eq from (primary_of s view)
+-- it is the primary of this view
+abbrev pub is_primary_of : VrState → ℕ → ℕ → Bool
+is_primary_of s member view = nat_eq member (primary_of s view)
 
 -- it is of this view, in which the member is normal
 abbrev pub is_here : VrState → ℕ → Bool
@@ -30,7 +37,15 @@ is_here s view = is_normal s && nat_eq view s.view
 
 -- it is of a later view
 abbrev pub is_later : VrState → ℕ → Bool
-is_later s view = (if is_normal s then true else is_changing s) && nat_lt s.view view
+is_later s view = is_up s && nat_lt s.view view
+
+-- it is of a later view, or of this one while the view changes
+abbrev pub is_newer : VrState → ℕ → Bool
+is_newer s view = is_later s view || (is_changing s && nat_eq view s.view)
+
+-- it leads: normal, and the primary of its view
+abbrev pub leads : VrState → Bool
+leads s = is_normal s && is_primary s
 
 -- f of a group of 2f + 1
 abbrev pub most_failures : VrState → ℕ

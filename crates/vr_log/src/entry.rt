@@ -1,9 +1,9 @@
 //! The entries of a log.
-ghost use Rattle.std.specs.Prelude.{◌≡◌, ◌-◌, ◌^◌, min, IfOk};
+ghost use Rattle.std.specs.Prelude.{◌≡◌, ◌++◌, ◌-◌, ◌^◌, min, IfOk, OnOk};
 ghost use Rattle.vr_log.specs.Log.{entry_size};
 
 use of_types::{Event, Items, size_of_happening};
-use std::alloc::AllocError;
+use std::alloc::{AllocError, Global};
 
 /// An entry of the replicated log (Ravana, 3.2): an event was received, or the event at a place of the
 /// received ones was processed.
@@ -32,6 +32,25 @@ impl Entry {
     {
         self.clone()
     }
+}
+
+/// Appends equal entries to a list.
+pub fn append_entries(list: &mut Entries, entries: &[Entry]) -> Result<(), AllocError>
+    ensures { OnOk result (list.new ≡ list.old ++ entries.now) }
+{
+    for entry in entries {
+        list.push(entry.copy()?)?;
+    }
+    Ok(())
+}
+
+/// Equal entries, in order.
+pub fn copy_entries(alloc: Global, entries: &[Entry]) -> Result<Entries, AllocError>
+    ensures { IfOk result (λ copied. copied ≡ entries.now) }
+{
+    let mut copied = Entries::new(alloc);
+    append_entries(&mut copied, entries)?;
+    Ok(copied)
 }
 
 /// The bytes of an entry, as far as numbers go.

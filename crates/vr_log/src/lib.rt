@@ -3,17 +3,23 @@
 #![tactic(auto)]
 
 mod acked;
+mod choosing;
 mod entry;
 mod log;
 mod members;
 mod message;
 mod out;
+mod replacing;
+mod same;
 mod state;
+mod tally;
 
 pub use acked::Acked;
-pub use entry::{Entries, Entry, LogFull, size_of_entry};
-pub use log::{
-    LOG_BYTES, LOG_ENTRIES, Log, PushFault, count_from, count_processed, count_received, is_next,
-};
+pub use choosing::best_of;
+pub use entry::{Entries, Entry, LogFull, append_entries, copy_entries, size_of_entry};
+pub use log::{LOG_BYTES, LOG_ENTRIES, Log, PushFault, logs_have_fronts};
 pub use message::{Filled, VrLetter, VrLetters, VrMessage};
-pub use state::{Collected, Collection, Members, Response, Responses, Status, VrOut, VrState};
+pub use same::{same_entries, same_entry};
+pub use state::{
+    Collected, Collection, Members, Response, Responses, Status, Supplied, VrOut, VrState,
+};

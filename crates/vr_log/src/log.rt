@@ -1,35 +1,38 @@
 //! A log in which each entry may follow those before it.
-ghost use Rattle.std.specs.Prelude.{◌≡◌, ◌++◌, ◌∷◌, [], ◌≤◌, length, drop, true, ◌==◌, if◌then◌else◌, IfOk, OnOk, OnErr};
-ghost use Rattle.vr_log.specs.Log.{log_entries, log_size, is_past_limits, may_follow, received, processed, is_processed, fits, follows, IsLog, full_at, Pushes};
-ghost use Rattle.vr_log.specs.Log as logs;
+ghost use Rattle.std.specs.Prelude.{◌≡◌, ◌++◌, ◌∷◌, [], ◌≤◌, length, take, drop, true, ◌==◌, if◌then◌else◌, IfOk, OnOk, OnErr};
+ghost use Rattle.vr_log.specs.Log.{log_entries, log_size, is_past_limits, may_follow, next_place, received, processed, fits, follows, is_log, IsLog, FrontsAreLogs, full_at, Pushes};
+ghost use Rattle.vr_log.specs.Tally.{IsTally};
 
-use crate::entry::{Entries, Entry, LogFull, size_of_entry};
+use crate::entry::{Entries, Entry, LogFull, copy_entries, size_of_entry};
+use crate::tally::Tally;
 use std::alloc::{AllocError, Global};
 use std::marker::Model;
 
 /// The most entries of a log.
-pub const LOG_ENTRIES: usize = 4096;
+pub const LOG_ENTRIES: u64 = 4096;
 
 /// The most bytes of a log.
 pub const LOG_BYTES: u64 = 4_194_304;
 
-/// The replicated log with its bytes. Each entry may follow those before it.
+/// The replicated log with what is counted of it, so that appending costs the entry. Each entry may follow
+/// those before it.
 #[derive(Drop)]
 pub struct Log {
     entries: Vec<Entry>,
-    bytes: u64,
+    tally: Tally,
 }
 
 impl Model for Log {
-    ghost use Rattle.std.specs.Prelude.{List, ◌≡◌};
+    ghost use Rattle.std.specs.Prelude.{List};
     ghost use Rattle.vr_log.specs.declared.entry.Entry.{Entry};
-    ghost use Rattle.vr_log.specs.Log.{IsLog, log_size};
+    ghost use Rattle.vr_log.specs.Log.{IsLog};
+    ghost use Rattle.vr_log.specs.Tally.{IsTally};
 
     ghost Value = { List Entry };
 
     ghost view = { λ l. l.entries.items };
 
-    ghost invariant = { λ l. (l.bytes ≡ log_size l.entries.items) × IsLog l.entries.items };
+    ghost invariant = { λ l. IsLog l.entries.items × IsTally l.entries.items l.tally };
 }
 
 /// Why an entry was not appended.
@@ -40,61 +43,21 @@ pub enum PushFault {
     OutOfMemory,
 }
 
-fn is_processed(entry: &Entry) -> bool
-    ensures { result ≡ is_processed entry.now }
-{
-    match entry {
-        Entry::Received(_) => false,
-        Entry::Processed(_) => true,
-    }
-}
+/// A theorem on which entries may follow.
+pub fn logs_have_fronts()
+    ensures { FrontsAreLogs }
+{}
 
-/// How many events a list of entries has as processed.
-pub fn count_processed(entries: &[Entry]) -> usize
-    ensures exact { result ≡ processed entries.now }
-    ensures small { result ≤ length entries.now }
+/// The counts of a log.
+fn tally_of(alloc: Global, entries: &[Entry]) -> Result<Tally, AllocError>
+    requires { is_log entries.now ≡ true }
+    ensures { IfOk result (λ tally. IsTally entries.now tally) }
 {
-    entries.iter().filter(|entry| is_processed(entry)).count()
-}
-
-/// How many events it has received.
-pub fn count_received(entries: &[Entry]) -> usize
-    ensures { result ≡ length (received entries.now) }
-{
-    let mut count = 0;
+    let mut tally = Tally::new(alloc);
     for entry in entries {
-        if let Entry::Received(_) = entry {
-            count += 1;
-        }
+        tally.add(entry)?;
     }
-    count
-}
-
-/// How many events of a switch it has received.
-pub fn count_from(switch: u8, entries: &[Entry]) -> usize
-    ensures { result ≡ logs.count_from switch (received entries.now) }
-{
-    let mut count = 0;
-    for entry in entries {
-        if let Entry::Received(event) = entry {
-            if event.switch == switch {
-                count += 1;
-            }
-        }
-    }
-    count
-}
-
-/// Whether an entry may follow a list of entries.
-pub fn is_next(entries: &[Entry], entry: &Entry) -> bool
-    ensures { result ≡ may_follow entries.now entry.now }
-{
-    match entry {
-        Entry::Received(event) => event.number == count_from(event.switch, entries) as u64,
-        Entry::Processed(place) => {
-            *place == count_processed(entries) as u64 && *place < count_received(entries) as u64
-        }
-    }
+    Ok(tally)
 }
 
 impl Log {
@@ -104,7 +67,7 @@ impl Log {
     {
         Log {
             entries: Vec::new(alloc),
-            bytes: 0,
+            tally: Tally::new(alloc),
         }
     }
 
@@ -112,7 +75,7 @@ impl Log {
         ensures entries { result.now ≡ self.now }
         ensures lawful { IsLog self.now }
     {
-        let _ = &self.bytes;
+        let _ = &self.tally;
         &self.entries
     }
 
@@ -120,7 +83,7 @@ impl Log {
         ensures count { result ≡ length self.now }
         ensures small { length self.now ≤ log_entries }
     {
-        let _ = &self.bytes;
+        let _ = &self.tally;
         self.entries.len()
     }
 
@@ -134,7 +97,29 @@ impl Log {
     pub fn size(&self) -> u64
         ensures { result ≡ log_size self.now }
     {
-        self.bytes
+        self.tally.bytes
+    }
+
+    /// How many events it has received.
+    pub fn received(&self) -> u64
+        ensures { result ≡ length (received self.now) }
+    {
+        self.tally.received
+    }
+
+    /// How many of these are processed.
+    pub fn processed(&self) -> u64
+        ensures { result ≡ processed self.now }
+    {
+        self.tally.processed
+    }
+
+    /// The life that a switch has in the log, and the number that its next event of that life has.
+    pub fn next_place(&self, switch: u8) -> (u32, u64)
+        ensures { result ≡ next_place self.now switch }
+    {
+        let place = self.tally.places.of(switch);
+        (place.life, place.number)
     }
 
     /// Where the log takes its memory.
@@ -143,10 +128,19 @@ impl Log {
     }
 
     /// Whether the log with this entry would be past its limits.
+    #[tactic(auto, using(crate::proofs::Tallies::full_is))]
     pub fn is_past_limits(&self, entry: &Entry) -> bool
         ensures { result ≡ is_past_limits self.now entry.now }
     {
-        !(self.entries.len() < LOG_ENTRIES && size_of_entry(entry) <= LOG_BYTES - self.bytes)
+        self.tally.is_full(entry)
+    }
+
+    /// Whether the entry may follow the log.
+    #[tactic(auto, using(crate::proofs::Tallies::may_is))]
+    pub fn may_follow(&self, entry: &Entry) -> bool
+        ensures { result ≡ may_follow self.now entry.now }
+    {
+        self.tally.may_join(entry)
     }
 
     /// The three numbers of an entry that finds no room.
@@ -155,7 +149,7 @@ impl Log {
     {
         LogFull {
             length: self.entries.len() as u64,
-            bytes: self.bytes,
+            bytes: self.tally.bytes,
             next: size_of_entry(entry),
         }
     }
@@ -164,7 +158,7 @@ impl Log {
     pub fn takes(&self, entry: &Entry) -> bool
         ensures { result ≡ fits self.now entry.now }
     {
-        !self.is_past_limits(entry) && is_next(&self.entries, entry)
+        !self.is_past_limits(entry) && self.may_follow(entry)
     }
 
     /// Appends an entry that the log takes. An `Err` changes nothing.
@@ -173,9 +167,9 @@ impl Log {
         ensures ok { OnOk result (self.new ≡ self.old ++ entry ∷ []) }
         ensures err { OnErr result (self.new ≡ self.old) }
     {
-        let size = size_of_entry(&entry);
+        self.entries.reserve(1)?;
+        self.tally.add(&entry)?;
         self.entries.push(entry)?;
-        self.bytes += size;
         Ok(())
     }
 
@@ -186,7 +180,7 @@ impl Log {
         if self.is_past_limits(&entry) {
             return Err(PushFault::LogFull(self.full_at(&entry)));
         }
-        if !is_next(&self.entries, &entry) {
+        if !self.may_follow(&entry) {
             return Err(PushFault::Misplaced);
         }
         match self.append(entry) {
@@ -195,22 +189,34 @@ impl Log {
         }
     }
 
-    /// Appends all of these entries, or none where one of them does not fit, and tells which. After an
-    /// `Err` the first of them may stand there.
-    pub fn extend(&mut self, entries: &[Entry]) -> Result<bool, AllocError>
-        ensures answer { IfOk result (λ taken. taken ≡ follows self.old entries.now) }
-        ensures after { IfOk result (λ taken. self.new ≡ (if taken then self.old ++ entries.now else self.old)) }
+    /// The counts of its first entries.
+    fn tally_through(&self, first: usize) -> Result<Tally, AllocError>
+        requires { first ≤ length self.now }
+        ensures { IfOk result (λ tally. IsTally (take first self.now) tally) }
     {
-        let len = self.entries.len();
-        let bytes = self.bytes;
-        for entry in entries {
-            if !self.takes(entry) {
-                self.entries.truncate(len);
-                self.bytes = bytes;
-                return Ok(false);
-            }
-            self.append(entry.copy()?)?;
+        if first == self.entries.len() {
+            self.tally.copy()
+        } else {
+            tally_of(*self.entries.allocator(), &self.entries[..first])
         }
+    }
+
+    /// Keeps the first entries and puts these behind them, or changes nothing where one of them does not
+    /// fit, and tells which. After an `Err` the first ones stand there, or all.
+    pub fn replace_after(&mut self, first: usize, entries: Entries) -> Result<bool, AllocError>
+        requires { first ≤ length self.old }
+        ensures answer { IfOk result (λ taken. taken ≡ follows (take first self.old) entries) }
+        ensures after { IfOk result (λ taken. self.new ≡ (if taken then take first self.old ++ entries else self.old)) }
+    {
+        let kept = self.tally_through(first)?;
+        let mut tally = kept.copy()?;
+        if !tally.add_all(entries.as_slice())? {
+            return Ok(false);
+        }
+        self.entries.truncate(first);
+        self.tally = kept;
+        self.entries.append(&mut entries.into_vec())?;
+        self.tally = tally;
         Ok(true)
     }
 
@@ -218,12 +224,8 @@ impl Log {
     pub fn entries_after(&self, place: usize) -> Result<Entries, AllocError>
         ensures { IfOk result (λ entries. entries ≡ drop place self.now) }
     {
-        let _ = &self.bytes;
+        let _ = &self.tally;
         let rest = self.entries.get(place..).unwrap_or_default();
-        let mut copied = Entries::new(*self.entries.allocator());
-        for entry in rest {
-            copied.push(entry.copy()?)?;
-        }
-        Ok(copied)
+        copy_entries(*self.entries.allocator(), rest)
     }
 }

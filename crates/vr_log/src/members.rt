@@ -1,7 +1,7 @@
 //! What the rules ask of the state of a member.
 ghost use Rattle.std.specs.Prelude.{◌≡◌, ◌<◌, OnOk};
-ghost use Rattle.vr_log.specs.Members.{is_normal, is_changing, primary_of, is_primary, is_other, is_from_primary, is_here, is_later, most_failures};
-ghost use Rattle.vr_log.specs.Steps.{Did, acknowledges};
+ghost use Rattle.vr_log.specs.Members.{is_normal, is_changing, primary_of, is_primary, is_other, is_primary_of, is_here, is_later, is_newer, is_up, is_recovering, leads, most_failures};
+ghost use Rattle.vr_log.specs.Steps.{Did, asks, acknowledges};
 
 use crate::message::VrMessage;
 use crate::state::{Status, VrOut, VrState};
@@ -18,6 +18,19 @@ impl VrState {
         ensures { result ≡ is_changing self.now }
     {
         matches!(self.status, Status::ViewChange)
+    }
+
+    /// Whether it takes part: it is not recovering, nor down.
+    pub fn is_up(&self) -> bool
+        ensures { result ≡ is_up self.now }
+    {
+        matches!(self.status, Status::Normal | Status::ViewChange)
+    }
+
+    pub fn is_recovering(&self) -> bool
+        ensures { result ≡ is_recovering self.now }
+    {
+        matches!(self.status, Status::Recovering)
     }
 
     /// The primary of a view.
@@ -44,12 +57,12 @@ impl VrState {
         member < self.controllers && member != self.me
     }
 
-    /// Whether this is the primary of a view, and another member.
-    pub fn is_from_primary(&self, from: u8, view: u32) -> bool
+    /// Whether this is the primary of a view.
+    pub fn is_primary_of(&self, member: u8, view: u32) -> bool
         requires { 0 < self.now.controllers }
-        ensures { result ≡ is_from_primary self.now from view }
+        ensures { result ≡ is_primary_of self.now member view }
     {
-        self.is_other(from) && from == self.primary_of(view)
+        member == self.primary_of(view)
     }
 
     /// Whether this is the view in which the member is normal.
@@ -63,7 +76,22 @@ impl VrState {
     pub fn is_later(&self, view: u32) -> bool
         ensures { result ≡ is_later self.now view }
     {
-        (self.is_normal() || self.is_changing()) && self.view < view
+        self.is_up() && self.view < view
+    }
+
+    /// Whether this is a later view, or the member's own while it changes.
+    pub fn is_newer(&self, view: u32) -> bool
+        ensures { result ≡ is_newer self.now view }
+    {
+        self.is_later(view) || (self.is_changing() && view == self.view)
+    }
+
+    /// Whether this member leads: it is normal, and the primary of its view.
+    pub fn leads(&self) -> bool
+        requires { 0 < self.now.controllers }
+        ensures { result ≡ leads self.now }
+    {
+        self.is_normal() && self.is_primary()
     }
 
     /// How many members may fail.
@@ -71,6 +99,15 @@ impl VrState {
         ensures { result ≡ most_failures self.now }
     {
         usize::from(self.controllers / 2)
+    }
+
+    /// Asks the primary of a view for what follows an op.
+    pub fn ask(&self, view: u32, op: u64, out: &mut VrOut) -> Result<(), AllocError>
+        requires { 0 < self.now.controllers }
+        ensures { OnOk result (Did (asks self.now view op) self.now out.old out.new) }
+    {
+        out.tell(self.primary_of(view), VrMessage::GetState { view, op })?;
+        Ok(())
     }
 
     /// Learns of a commit number, and acknowledges the log to the primary of the view.

@@ -36,16 +36,18 @@ pub enum VrMessage {
     StartViewChange {
         view: u32,
     },
-    /// A member gives its log to the primary of a new view (4.2). `normal` is its last normal view.
+    /// A member gives its log behind its commit number to the primary of a new view (4.2). `normal` is its
+    /// last normal view.
     DoViewChange {
         view: u32,
         normal: u32,
         commit: u64,
         log: Entries,
     },
-    /// The log with which a view starts (4.2).
+    /// The log with which a view starts, behind a place of it (4.2).
     StartView {
         view: u32,
+        first: u64,
         commit: u64,
         log: Entries,
     },
@@ -70,6 +72,18 @@ pub enum VrMessage {
         view: u32,
         first: u64,
         commit: u64,
+        log: Entries,
+    },
+    /// The primary of a new view asks the sender of the log that it chose for committed entries behind a
+    /// place (our own rule).
+    Fetch {
+        view: u32,
+        op: u64,
+    },
+    /// The committed entries behind a place (our own rule).
+    Supply {
+        view: u32,
+        first: u64,
         log: Entries,
     },
 }

@@ -18,7 +18,7 @@ pub enum Status {
     Down,
 }
 
-/// A log that came with a DOVIEWCHANGE, and from whom.
+/// A log that came with a DOVIEWCHANGE, and from whom: its entries behind the commit number.
 #[derive(Clone, Drop)]
 pub struct Collected {
     pub from: u8,
@@ -33,6 +33,13 @@ pub struct Response {
     pub from: u8,
     pub view: u32,
     pub filled: Option<Filled>,
+}
+
+/// Committed entries that came with a SUPPLY, and the place that they stand behind.
+#[derive(Clone, Drop)]
+pub struct Supplied {
+    pub first: u64,
+    pub log: Entries,
 }
 
 pub type Members = Items<u8>;
@@ -59,15 +66,19 @@ pub struct VrState {
     pub promise: u32,
     /// How often the member has started.
     pub life: u64,
-    /// The other members whose STARTVIEWCHANGE of this view was taken.
+    /// The other members whose STARTVIEWCHANGE of this view was taken, ascending.
     pub votes: Members,
     /// Whether this view's DOVIEWCHANGE was sent or collected.
     pub sent: bool,
     pub collected: Collection,
     /// Up to which op each member has acknowledged.
     pub acked: Acked,
-    /// The recovery responses that are kept.
+    /// The recovery responses that are kept, one of each member.
     pub responses: Responses,
+    /// The least commit number of the logs that the view was started from, at the primary that started it.
+    pub base: u64,
+    /// What was fetched for the view that is to start.
+    pub supply: Option<Supplied>,
 }
 
 impl VrState {
@@ -93,6 +104,8 @@ impl VrState {
             collected: Collection::new(alloc),
             acked: Acked::new(alloc, controllers)?,
             responses: Responses::new(alloc),
+            base: 0,
+            supply: None,
         })
     }
 }

@@ -6,16 +6,19 @@ use Rattle.vr_log.specs.declared.message.VrMessage.{VrMessage}
 use Rattle.vr_log.specs.declared.message.VrMessage.TheVariants as message
 use Rattle.vr_log.specs.declared.state.VrState.{VrState}
 use Rattle.vr_log.specs.Log.{fits}
-use Rattle.vr_log.specs.Members.{primary_of, is_primary, is_other, is_from_primary, is_here, is_later, most_failures, others}
-use Rattle.vr_log.specs.Steps.{VrStep, quiet, tells, appended, acknowledges}
+use Rattle.vr_log.specs.Members.{is_primary, is_primary_of, is_other, is_here, is_later, most_failures, others}
+use Rattle.vr_log.specs.Steps.{VrStep, quiet, asks, appended, acknowledges}
 
--- what follows an op of the log is asked for, from the primary of a view
-abbrev pub asks : VrState → ℕ → ℕ → VrStep
-asks s view op = tells s (primary_of s view) (message.GetState view op)
-
--- a message of a later view: its log is asked for from the start
+-- a message of a later view: its log is asked for behind what is committed here
 abbrev pub asks_later : VrState → ℕ → VrStep
-asks_later s view = if is_later s view then asks s view 0 else quiet s
+asks_later s view = if is_later s view then asks s view s.commit else quiet s
+
+-- what the primary of a view tells: in this view it is done, and of a later one the log is asked for
+abbrev pub from_primary : VrState → ℕ → ℕ → VrStep → VrStep
+from_primary s from view here =
+    if is_other s from
+    then (if is_primary_of s from view then (if is_here s view then here else asks_later s view) else quiet s)
+    else quiet s
 
 -- PREPARE of this view: a new entry joins the log where it fits, and the message is dropped where it does
 -- not; an entry that is there already is acknowledged again; over a gap what lacks is asked for.
@@ -26,8 +29,7 @@ prepares s op commit entry =
     else asks s s.view (length s.log))
 
 abbrev pub prepare : VrState → ℕ → VrMessage → VrStep
-prepare s from (message.Prepare view op commit entry) =
-    if is_from_primary s from view then (if is_here s view then prepares s op commit entry else asks_later s view) else quiet s
+prepare s from (message.Prepare view op commit entry) = from_primary s from view (prepares s op commit entry)
 prepare s from _ = quiet s
 
 -- COMMIT of this view: the commit number rises, or what lacks is asked for
@@ -36,8 +38,7 @@ commits s commit =
     if nat_le commit (length s.log) then quiet (record s { commit = max s.commit commit }) else asks s s.view (length s.log)
 
 abbrev pub commit_told : VrState → ℕ → VrMessage → VrStep
-commit_told s from (message.Commit view commit) =
-    if is_from_primary s from view then (if is_here s view then commits s commit else asks_later s view) else quiet s
+commit_told s from (message.Commit view commit) = from_primary s from view (commits s commit)
 commit_told s from _ = quiet s
 
 -- how many other members have acknowledged at least this op
@@ -70,10 +71,10 @@ abbrev pub counted : VrState → VrState
 counted s = record s { commit = agreed s }
 
 -- PREPAREOK: it counts at the normal primary of this view, as far as the log goes
-abbrev pub is_counted : VrState → ℕ → ℕ → ℕ → Bool
-is_counted s from view op = is_other s from && is_here s view && is_primary s && nat_le op (length s.log)
+abbrev pub is_counted : VrState → ℕ → ℕ → Bool
+is_counted s view op = is_here s view && is_primary s && nat_le op (length s.log)
 
 abbrev pub prepare_ok : VrState → ℕ → VrMessage → VrStep
 prepare_ok s from (message.PrepareOk view op) =
-    if is_counted s from view op then quiet (counted (acked_by s from op)) else quiet s
+    if is_other s from then (if is_counted s view op then quiet (counted (acked_by s from op)) else quiet s) else quiet s
 prepare_ok s from _ = quiet s

@@ -3,7 +3,7 @@ ghost use Rattle.std.specs.Prelude.{◌≡◌, ◌<◌, true, IsTrue, is_ok, OnO
 ghost use Rattle.vr_log.specs.Log.{fits, may_follow};
 ghost use Rattle.vr_log.specs.Steps.{Did};
 ghost use Rattle.vr_log.specs.Valid.{IsValid};
-ghost use Rattle.vr_normal.specs.Cases.{asks, asks_later, prepares, prepare, commits, commit_told, prepare_ok};
+ghost use Rattle.vr_normal.specs.Cases.{asks_later, prepares, prepare, commits, commit_told, prepare_ok};
 ghost use Rattle.vr_normal.specs.Proposing.{proposed, Proposes};
 
 use crate::acks::agreed_op;
@@ -18,20 +18,12 @@ pub enum ProposeFault {
     OutOfMemory,
 }
 
-fn ask(state: &VrState, view: u32, op: u64, out: &mut VrOut) -> Result<(), AllocError>
-    requires { 0 < state.now.controllers }
-    ensures { OnOk result (Did (asks state.now view op) state.now out.old out.new) }
-{
-    out.tell(state.primary_of(view), VrMessage::GetState { view, op })?;
-    Ok(())
-}
-
 fn ask_later(state: &VrState, view: u32, out: &mut VrOut) -> Result<(), AllocError>
     requires { 0 < state.now.controllers }
     ensures { OnOk result (Did (asks_later state.now view) state.now out.old out.new) }
 {
     if state.is_later(view) {
-        ask(state, view, 0, out)
+        state.ask(view, state.commit, out)
     } else {
         Ok(())
     }
@@ -59,7 +51,7 @@ fn take_prepare(
             Ok(())
         }
     } else {
-        ask(state, state.view, len, out)
+        state.ask(state.view, len, out)
     }
 }
 
@@ -79,7 +71,7 @@ fn prepare_step(
             commit,
             entry,
         } => {
-            if !state.is_from_primary(from, *view) {
+            if !(state.is_other(from) && state.is_primary_of(from, *view)) {
                 Ok(())
             } else if state.is_here(*view) {
                 take_prepare(state, *op, *commit, entry, out)
@@ -116,7 +108,7 @@ fn take_commit(state: &mut VrState, commit: u64, out: &mut VrOut) -> Result<(), 
         state.commit = state.commit.max(commit);
         Ok(())
     } else {
-        ask(state, state.view, len, out)
+        state.ask(state.view, len, out)
     }
 }
 
@@ -131,7 +123,7 @@ fn commit_step(
 {
     match message {
         VrMessage::Commit { view, commit } => {
-            if !state.is_from_primary(from, *view) {
+            if !(state.is_other(from) && state.is_primary_of(from, *view)) {
                 Ok(())
             } else if state.is_here(*view) {
                 take_commit(state, *commit, out)

@@ -1,8 +1,9 @@
 //! What is sent again when time passes.
 ghost use Rattle.std.specs.Prelude.{◌≡◌, ◌<◌, ◌≤◌, ◌+◌, ◌^◌, ◌++◌, length, OnOk};
-ghost use Rattle.vr_log.specs.Steps.{Did};
+ghost use Rattle.vr_log.specs.declared.message.VrMessage.TheVariants as message;
+ghost use Rattle.vr_log.specs.Steps.{Did, to_others};
 ghost use Rattle.vr_log.specs.Valid.{IsValid};
-ghost use Rattle.vr_normal.specs.Ticks.{prepares_from, repeats_to, tick_primary, tick_changing, tick_recovering, ticked};
+ghost use Rattle.vr_normal.specs.Ticks.{prepares_from, repeats_to, sent_log, tick_primary, tick_changing, tick_recovering, ticked};
 
 use std::alloc::AllocError;
 use vr_log::{Entry, Status, VrMessage, VrOut, VrState};
@@ -66,26 +67,42 @@ fn tick_as_primary(state: &VrState, out: &mut VrOut) -> Result<(), AllocError>
     Ok(())
 }
 
+/// The vote again.
+fn vote_again(state: &VrState, out: &mut VrOut) -> Result<(), AllocError>
+    ensures promise { out.new.promise ≡ out.old.promise }
+    ensures letters { OnOk result (out.new.letters ≡ out.old.letters ++ to_others state.now (message.StartViewChange state.now.view)) }
+{
+    let message = VrMessage::StartViewChange { view: state.view };
+    out.tell_others(state.me, state.controllers, &message)?;
+    drop(message);
+    Ok(())
+}
+
+/// The log again, where it was sent. No member sends its log to itself.
+fn send_log_again(state: &VrState, out: &mut VrOut) -> Result<(), AllocError>
+    requires { IsValid state.now }
+    ensures promise { out.new.promise ≡ out.old.promise }
+    ensures letters { OnOk result (out.new.letters ≡ out.old.letters ++ sent_log state.now) }
+{
+    if !state.sent || state.is_primary() {
+        return Ok(());
+    }
+    let message = VrMessage::DoViewChange {
+        view: state.view,
+        normal: state.normal,
+        commit: state.commit,
+        log: state.log.entries_after(state.commit as usize)?,
+    };
+    out.tell(state.primary_of(state.view), message)
+}
+
 fn tick_as_changing(state: &VrState, out: &mut VrOut) -> Result<(), AllocError>
     requires { IsValid state.now }
     ensures { OnOk result (Did (tick_changing state.now) state.now out.old out.new) }
 {
-    let view = state.view;
-    out.tell_others(
-        state.me,
-        state.controllers,
-        &VrMessage::StartViewChange { view },
-    )?;
-    if state.sent && !state.is_primary() {
-        let message = VrMessage::DoViewChange {
-            view,
-            normal: state.normal,
-            commit: state.commit,
-            log: state.log.entries_after(0)?,
-        };
-        out.tell(state.primary_of(view), message)?;
-    }
-    Ok(())
+    vote_again(state, out)?;
+    send_log_again(state, out)?;
+    state.fetch(out)
 }
 
 fn tick_as_recovering(state: &VrState, out: &mut VrOut) -> Result<(), AllocError>
@@ -95,7 +112,9 @@ fn tick_as_recovering(state: &VrState, out: &mut VrOut) -> Result<(), AllocError
         nonce: state.life,
         promise: state.promise,
     };
-    out.tell_others(state.me, state.controllers, &message)
+    out.tell_others(state.me, state.controllers, &message)?;
+    drop(message);
+    Ok(())
 }
 
 /// Sends again what may have been lost. The state stays. After an `Err` it is to be dropped.

@@ -2,10 +2,11 @@
 ghost use Rattle.std.specs.Prelude.{◌≡◌, ◌<◌, ◌≤◌, ◌+◌, length, OnOk};
 ghost use Rattle.vr_log.specs.Steps.{Did};
 ghost use Rattle.vr_log.specs.Valid.{IsValid};
-ghost use Rattle.vr_recovery.specs.Cases.{get_state, is_longer, completes, new_state};
+ghost use Rattle.vr_recovery.specs.Cases.{get_state, is_longer, is_adopted, completes, new_state};
 
 use std::alloc::AllocError;
-use vr_log::{Entry, VrMessage, VrOut, VrState};
+use view_change::adopt;
+use vr_log::{Entry, VrMessage, VrOut, VrState, copy_entries};
 
 /// GETSTATE: a member asks for what follows an op of the log. A message that is not of that kind changes
 /// nothing. After an `Err` the state is to be dropped.
@@ -21,33 +22,40 @@ pub fn on_get_state(
 {
     match message {
         VrMessage::GetState { view, op } => {
-            let answered = state.is_other(from)
-                && state.is_here(*view)
-                && *op <= state.log.len() as u64;
-            if answered {
-                let message = VrMessage::NewState {
-                    view: *view,
-                    first: *op,
-                    commit: state.commit,
-                    log: state.log.entries_after(*op as usize)?,
-                };
-                out.tell(from, message)
-            } else {
-                Ok(())
+            if !state.is_other(from) {
+                return Ok(());
             }
+            if !(state.is_here(*view) && *op <= state.log.len() as u64) {
+                return Ok(());
+            }
+            let message = VrMessage::NewState {
+                view: *view,
+                first: *op,
+                commit: state.commit,
+                log: state.log.entries_after(*op as usize)?,
+            };
+            out.tell(from, message)
         }
         _ => Ok(()),
     }
 }
 
 /// Whether entries behind an op join the log of this member, and go on behind it.
-fn is_longer(state: &VrState, from: u8, view: u32, first: u64, log: &[Entry]) -> bool
+fn is_longer(state: &VrState, view: u32, first: u64, log: &[Entry]) -> bool
     requires { 0 < state.now.controllers }
-    ensures { result ≡ is_longer state.now from view first log.now }
+    ensures { result ≡ is_longer state.now view first log.now }
 {
     let len = state.log.len() as u64;
-    let joins = state.is_other(from) && state.is_here(view) && !state.is_primary() && first <= len;
+    let joins = state.is_here(view) && !state.is_primary() && first <= len;
     joins && len - first < log.len() as u64
+}
+
+/// Whether a log of a newer view, of which this member is not the primary, is adopted.
+fn is_adopted(state: &VrState, view: u32, first: u64) -> bool
+    requires { 0 < state.now.controllers }
+    ensures { result ≡ is_adopted state.now view first }
+{
+    !state.is_primary_of(state.me, view) && first <= state.commit && state.is_newer(view)
 }
 
 /// Appends the entries that this member lacks, and acknowledges its log.
@@ -63,8 +71,10 @@ fn complete(
     requires longer { length state.old.log < first + length log.now }
     ensures { OnOk result (Did (completes state.old first commit log.now) state.new out.old out.new) }
 {
-    let known = state.log.len() - first as usize;
-    if state.log.extend(&log[known..])? {
+    let len = state.log.len();
+    let known = len - first as usize;
+    let lacking = copy_entries(state.log.allocator(), &log[known..])?;
+    if state.log.replace_after(len, lacking)? {
         state.acknowledge(commit, out)
     } else {
         Ok(())
@@ -77,7 +87,7 @@ fn new_state_step(
     message: &VrMessage,
     out: &mut VrOut,
 ) -> Result<(), AllocError>
-    requires { 0 < state.old.controllers }
+    requires { IsValid state.old }
     ensures { OnOk result (Did (new_state state.old from message.now) state.new out.old out.new) }
 {
     match message {
@@ -87,12 +97,19 @@ fn new_state_step(
             commit,
             log,
         } => {
-            let log = log.as_slice();
-            if is_longer(state, from, *view, *first, log) {
-                complete(state, *first, *commit, log, out)
-            } else {
-                Ok(())
+            if !state.is_other(from) {
+                return Ok(());
             }
+            let log = log.as_slice();
+            if is_longer(state, *view, *first, log) {
+                return complete(state, *first, *commit, log, out);
+            }
+            if !is_adopted(state, *view, *first) {
+                return Ok(());
+            }
+            let entries = copy_entries(state.log.allocator(), log)?;
+            adopt(state, *view, *first, *commit, entries, out)?;
+            Ok(())
         }
         _ => Ok(()),
     }

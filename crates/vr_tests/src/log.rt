@@ -1,10 +1,10 @@
-use crate::cluster::{packet_event, port_event};
+use crate::cluster::{life_event, packet_event, port_event};
 use std::alloc::AllocError;
 use std::process::Abort;
 use std::test::Fail;
 use vr_log::{
-    Acked, Entry, Log, LogFull, PushFault, VrLetter, VrMessage, VrOut, VrState, count_from,
-    count_processed, count_received, size_of_entry,
+    Acked, Entries, Entry, Log, LogFull, PushFault, VrLetter, VrMessage, VrOut, VrState,
+    copy_entries, same_entry, size_of_entry,
 };
 
 /// The longest frame: its event has 1,574 bytes in a log.
@@ -30,17 +30,45 @@ fn entries_follow_by_number_and_in_order(rt: HostRuntime) -> Result<(), Fail> {
     assert!(rt; is_misplaced(&mut log, Entry::Processed(1)));
     assert!(rt; is_taken(&mut log, Entry::Processed(0)));
     assert_eq!(rt; (log.len(), log.size()), (4, 303));
-    assert_eq!(rt; count_received(log.as_slice()), 3);
-    assert_eq!(rt; count_from(1, log.as_slice()), 2);
-    assert_eq!(rt; count_processed(log.as_slice()), 1);
+    assert_eq!(rt; (log.received(), log.processed()), (3, 1));
+    assert_eq!(rt; (log.next_place(1), log.next_place(7)), ((0, 2), (0, 0)));
     Ok(())
 }
 
-/// Whether two events join, the first of them processed; and then whether one joins behind a gap.
-fn join(log: &mut Log) -> Result<(bool, bool), AllocError> {
-    let fitting = log.extend(&[port_event(0, 0), Entry::Processed(0), port_event(0, 1)])?;
-    let gap = log.extend(&[Entry::Processed(1), port_event(0, 3)])?;
-    Ok((fitting, gap))
+/// A switch begins its second life with the event that tells so, and goes on in it.
+#[test]
+fn a_later_life_begins_with_its_event(rt: HostRuntime) -> Result<(), Fail> {
+    let mut log = Log::new(rt.alloc());
+    assert!(rt; is_taken(&mut log, port_event(1, 0)));
+    assert!(rt; is_misplaced(&mut log, life_event(1, 2, 0, false)));
+    assert!(rt; is_misplaced(&mut log, life_event(1, 2, 1, true)));
+    assert!(rt; is_taken(&mut log, life_event(1, 2, 0, true)));
+    assert!(rt; is_misplaced(&mut log, port_event(1, 1)));
+    assert!(rt; is_taken(&mut log, life_event(1, 2, 1, false)));
+    assert_eq!(rt; (log.next_place(1), log.next_place(0)), ((2, 2), (0, 0)));
+    Ok(())
+}
+
+/// Whether entries take the place of those behind the first ones.
+fn replace(log: &mut Log, first: usize, entries: &[Entry]) -> Result<bool, AllocError> {
+    if first > log.len() {
+        return Ok(false);
+    }
+    let entries: Entries = copy_entries(log.allocator(), entries)?;
+    log.replace_after(first, entries)
+}
+
+/// Whether two events join, the first of them processed; then whether one joins behind a gap; and then
+/// whether another second event takes the place of the last two entries.
+fn join(log: &mut Log) -> Result<(bool, bool, bool), AllocError> {
+    let fitting = replace(
+        log,
+        0,
+        &[port_event(0, 0), Entry::Processed(0), port_event(0, 1)],
+    )?;
+    let gap = replace(log, 3, &[Entry::Processed(1), port_event(0, 3)])?;
+    let other = replace(log, 1, &[port_event(0, 1), Entry::Processed(0)])?;
+    Ok((fitting, gap, other))
 }
 
 /// Behind three entries stands one more, and nothing behind five.
@@ -55,7 +83,9 @@ fn assert_rest(rt: &impl Abort, log: &Log) -> Result<(), AllocError> {
 #[test]
 fn entries_join_all_or_none(rt: HostRuntime) -> Result<(), Fail> {
     let mut log = Log::new(rt.alloc());
-    assert_eq!(rt; join(&mut log)?, (true, false));
+    assert_eq!(rt; join(&mut log)?, (true, false, true));
+    let last = log.as_slice().last();
+    assert!(rt; last.is_some_and(|entry| same_entry(entry, &Entry::Processed(0))));
     assert_eq!(rt; (log.len(), log.size()), (3, 205));
     assert!(rt; log.takes(&Entry::Processed(1)) && !log.takes(&port_event(0, 3)));
     log.append(Entry::Processed(1))?;
@@ -105,7 +135,7 @@ fn the_limit_of_bytes(rt: HostRuntime) -> Result<(), Fail> {
 fn members(rt: HostRuntime) -> Result<(), Fail> {
     let state = VrState::new(rt.alloc(), 2, 3)?;
     assert_eq!(rt; (state.primary_of(0), state.primary_of(5)), (0, 2));
-    assert!(rt; state.is_from_primary(0, 0) && !state.is_from_primary(2, 5));
+    assert!(rt; state.is_primary_of(0, 0) && state.is_primary_of(2, 5) && !state.is_other(2));
     assert_eq!(rt; state.most_failures(), 1);
     Ok(())
 }

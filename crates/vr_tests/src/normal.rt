@@ -5,7 +5,7 @@ use crate::cluster::{member, port_event};
 use std::alloc::{AllocError, Global};
 use std::process::Abort;
 use std::test::Fail;
-use vr_log::{Entry, LogFull, Status, VrLetter, VrMessage, VrOut, VrState, is_next};
+use vr_log::{Entry, LogFull, Status, VrLetter, VrMessage, VrOut, VrState};
 use vr_normal::{ProposeFault, on_commit, on_prepare, on_prepare_ok, propose, tick};
 
 /// Member 0, with one entry, in the change to view 1.
@@ -24,7 +24,7 @@ fn propose_next(state: &mut VrState, entry: Entry, out: &mut VrOut) -> Result<()
     requires { IsValid state.old }
     ensures { OnOk result (IsValid state.new) }
 {
-    if !is_next(state.log.as_slice(), &entry) {
+    if !state.log.may_follow(&entry) {
         return Err(ProposeFault::OutOfMemory);
     }
     propose(state, entry, out)
@@ -147,7 +147,7 @@ fn assert_followed(rt: &impl Abort, letters: &[VrLetter]) {
             assert_eq!(rt; (first.to, second.to, third.to), (0, 0, 1));
             assert!(rt; matches!(first.message, VrMessage::PrepareOk { view: 0, op: 1 }));
             assert!(rt; matches!(second.message, VrMessage::GetState { view: 0, op: 1 }));
-            assert!(rt; matches!(third.message, VrMessage::GetState { view: 4, op: 0 }));
+            assert!(rt; matches!(third.message, VrMessage::GetState { view: 4, op: 1 }));
         }
         _ => assert!(rt; false),
     }

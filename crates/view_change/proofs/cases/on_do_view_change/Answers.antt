@@ -1,0 +1,7 @@
+use Rattle.vr_log.proofs.Valid.{did_valid, on_ok}
+use Rattle.view_change.proofs.Valid.{do_view_change_valid}
+use Rattle.view_change.proofs.cases.on_do_view_change.Goals as goal
+
+pub returns-clause-valid : goal.returns-clause-valid
+returns-clause-valid c =
+    on_ok c.do_view_change_step.result (did_valid _ c.do_view_change_step.new.state c.args.out.now c.do_view_change_step.new.out (do_view_change_valid c.args.state.now c.args.from c.args.message.now c.requires)) c.do_view_change_step.ensures

@@ -1,0 +1,7 @@
+use Rattle.vr_log.proofs.Valid.{did_valid, on_ok}
+use Rattle.view_change.proofs.Valid.{enters_valid}
+use Rattle.view_change.proofs.cases.suspect.Goals as goal
+
+pub returns-then-is_later-clause-valid : goal.returns-then-is_later-clause-valid
+returns-then-is_later-clause-valid c =
+    on_ok c.enter_and_check.result (did_valid _ c.enter_and_check.new.state c.args.out.now c.enter_and_check.new.out (enters_valid c.args.state.now c.args.view c.requires)) c.enter_and_check.ensures

@@ -1,0 +1,4 @@
+pub mod Entering
+pub mod Starting
+pub mod Adopting
+pub mod Cases

@@ -1,0 +1,121 @@
+//! A member with its state.
+ghost use Rattle.std.specs.Prelude.{◌≡◌, ◌<◌, ◌∷◌, [], true, Contains, IfOk, OnOk};
+ghost use Rattle.vr_log.specs.Log.{may_follow};
+ghost use Rattle.vr_log.specs.Members as members;
+ghost use Rattle.vr_log.specs.Valid.{IsValid, starting_state};
+ghost use Rattle.vr_recovery.specs.Recovering.{restarted};
+ghost use Rattle.vr_core.specs.Step.{vr_step, Stepped, ProposesTo};
+
+use crate::input::VrInput;
+use crate::stepping::take;
+use std::alloc::{AllocError, Global};
+use std::marker::Model;
+use vr_log::{Entry, Log, Status, VrOut, VrState};
+use vr_normal::{ProposeFault, propose};
+use vr_recovery::restart;
+
+/// A member of a group, which contracts see as its state. They ask for a valid one, which each call leaves; one
+/// whose call found no memory is to be dropped. No letter of an output may leave before its promise is saved.
+#[derive(Drop)]
+pub struct Replica {
+    state: VrState,
+}
+
+impl Model for Replica {
+    ghost use Rattle.vr_log.specs.declared.state.VrState.{VrState};
+
+    ghost Value = { VrState };
+
+    ghost view = { λ r. r.state };
+}
+
+impl Replica {
+    /// A member as a group starts.
+    pub fn new(alloc: Global, me: u8, controllers: u8) -> Result<Replica, AllocError>
+        requires group { Contains (1 ∷ 3 ∷ 5 ∷ 7 ∷ []) controllers }
+        requires member { me < controllers }
+        ensures state { IfOk result (λ replica. replica ≡ starting_state me controllers) }
+        ensures valid { IfOk result (λ replica. IsValid replica) }
+    {
+        Ok(Replica {
+            state: VrState::new(alloc, me, controllers)?,
+        })
+    }
+
+    /// A member that comes back with nothing but its stable pair: the greatest view that it promised, and the
+    /// life that begins.
+    pub fn restart(
+        alloc: Global,
+        me: u8,
+        controllers: u8,
+        promise: u32,
+        life: u64,
+    ) -> Result<(Replica, VrOut), AllocError>
+        requires group { Contains (1 ∷ 3 ∷ 5 ∷ 7 ∷ []) controllers }
+        requires member { me < controllers }
+        ensures step { IfOk result (λ r. Stepped (restarted me controllers promise life) r.0 r.1) }
+        ensures valid { IfOk result (λ r. IsValid r.0) }
+    {
+        let mut out = VrOut::new(alloc);
+        let state = restart(alloc, me, controllers, promise, life, &mut out)?;
+        Ok((Replica { state }, out))
+    }
+
+    /// The step of an input: what is to be saved and then sent.
+    pub fn step(&mut self, input: &VrInput) -> Result<VrOut, AllocError>
+        requires { IsValid self.old }
+        ensures step { IfOk result (λ out. Stepped (vr_step self.old input.now) self.new out) }
+        ensures valid { OnOk result (IsValid self.new) }
+    {
+        let mut out = VrOut::new(self.state.log.allocator());
+        take(&mut self.state, input, &mut out)?;
+        Ok(out)
+    }
+
+    /// The primary proposes an entry. The first refusal that holds is the answer: the member is not normal or
+    /// not the primary of its view; then the limits of the log. A refusal changes nothing.
+    pub fn propose(&mut self, entry: Entry) -> Result<VrOut, ProposeFault>
+        requires valid { IsValid self.old }
+        requires follows { may_follow self.old.log entry ≡ true }
+        ensures step { ProposesTo self.old entry result self.new }
+        ensures valid { OnOk result (IsValid self.new) }
+    {
+        let mut out = VrOut::new(self.state.log.allocator());
+        propose(&mut self.state, entry, &mut out)?;
+        Ok(out)
+    }
+
+    pub fn status(&self) -> Status
+        ensures { result ≡ self.now.status }
+    {
+        self.state.status
+    }
+
+    pub fn view(&self) -> u32
+        ensures { result ≡ self.now.view }
+    {
+        self.state.view
+    }
+
+    /// Its log.
+    pub fn log(&self) -> &Log
+        ensures { result.now ≡ self.now.log }
+    {
+        &self.state.log
+    }
+
+    /// How many entries of the log are committed.
+    pub fn committed(&self) -> u64
+        ensures { result ≡ self.now.commit }
+    {
+        self.state.commit
+    }
+
+    /// Whether this member leads: it is normal, and the primary of its view.
+    pub fn leads(&self) -> bool
+        requires { IsValid self.now }
+        ensures { result ≡ members.leads self.now }
+    {
+        self.state.leads()
+    }
+}

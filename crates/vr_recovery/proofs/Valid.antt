@@ -1,0 +1,108 @@
+-- Each step of a transfer and of a recovery keeps a state valid.
+use Rattle.std.proofs.Common.{inl, inr, ◌≡◌, ◌<◌, ℕ, Bool, true, false, ◌&&◌, not, Option, None, Some, List, [], ◌∷◌, ◌++◌, refl, ap, sym, subst, ◌∙◌}
+use Rattle.std.specs.Prelude.{nat_eq, nat_lt, map, if◌then◌else◌}
+use Rattle.std.specs.List.{AllByRecursion, IsDistinct}
+use Rattle.std.proofs.lemmas.Bool.{eqb-true, and_parts, ltb-true, cases_Bool}
+use Rattle.vr_log.specs.declared.entry.Entry.{Entry}
+use Rattle.vr_log.specs.declared.message.Filled.{Filled}
+use Rattle.vr_log.specs.declared.message.VrMessage.{VrMessage}
+use Rattle.vr_log.specs.declared.message.VrMessage.TheVariants as message
+use Rattle.vr_log.specs.declared.state.Response.{Response}
+use Rattle.vr_log.specs.declared.state.VrOut.{VrOut}
+use Rattle.vr_log.specs.declared.state.VrState.{VrState}
+use Rattle.vr_log.specs.Log.{follows}
+use Rattle.vr_log.specs.Members.{is_other, is_normal, is_recovering}
+use Rattle.vr_log.specs.Steps.{VrStep, Did, quiet, guarded}
+use Rattle.vr_log.specs.Valid.{AreMembers, IsValid}
+use Rattle.vr_log.proofs.Valid.{either, chosen_by, nobody, Sound, guarded_valid, grown_valid, acknowledges_valid}
+use Rattle.view_change.specs.Adopting.{adopt}
+use Rattle.view_change.specs.Cases.{enters}
+use Rattle.view_change.proofs.Valid.{adopt_passes, adopt_valid, enters_valid}
+use Rattle.vr_recovery.specs.Cases.{is_longer, is_adopted, lacking, completes, new_state}
+use Rattle.vr_recovery.specs.Recovering.{newest, with_response, greatest_view, responded, responds, ending, ends_with, recovers, recovery, response}
+
+-- the case of a log that is adopted
+pub adopts_newer : (s u : VrState) (m : VrMessage) (from view first commit : ℕ) (log copied told : List Entry) (old new : VrOut) → is_other s from ≡ true → is_longer s view first log ≡ false → is_adopted s view first ≡ true →
+    m ≡ message.NewState view first commit log → told ≡ copied → copied ≡ log → Did (guarded s (adopt s view first commit told)) u old new → Did (new_state s from m) u old new
+adopts_newer s u m from view first commit log copied told old new other short adopted is a b h =
+    let here : new_state s from (message.NewState view first commit log) ≡ guarded s (adopt s view first commit log) = rw (other, short, adopted) refl in
+    let step : new_state s from m ≡ guarded s (adopt s view first commit told) =
+    ap (λ (x : VrMessage). new_state s from x) is ∙ (here ∙ ap (λ (l : List Entry). guarded s (adopt s view first commit l)) (sym (a ∙ b))) in
+    subst (λ (x : VrStep). Did x u old new) (sym step) h
+
+completes_valid : (s : VrState) (first commit : ℕ) (log : List Entry) → IsValid s → IsValid (completes s first commit log).state
+completes_valid s first commit log v =
+    chosen_by IsValid (follows s.log (lacking s first log)) _ _ (λ f. acknowledges_valid (record s { log = s.log ++ lacking s first log }) commit (grown_valid s (lacking s first log) v f)) (λ f. v)
+
+pub new_state_valid : (s : VrState) (from : ℕ) (m : VrMessage) → IsValid s → IsValid (new_state s from m).state
+new_state_valid s from (message.NewState view first commit log) v =
+    either IsValid (is_other s from) _ _
+    (either IsValid (is_longer s view first log) (completes s first commit log) _ (completes_valid s first commit log v)
+    (either IsValid (is_adopted s view first) (guarded s (adopt s view first commit log)) (quiet s) (adopt_valid s view first commit log v) v)) v
+new_state_valid s from _ v = v
+
+pub recovery_valid : (s : VrState) (from : ℕ) (m : VrMessage) → IsValid s → IsValid (recovery s from m).state
+recovery_valid s from (message.Recovery nonce promise) v =
+    either IsValid (is_other s from) _ _
+    (either IsValid (is_normal s) _ _ (either IsValid (nat_lt s.view promise) (guarded s (enters s promise)) (responds s from nonce) (enters_valid s promise v) v) v) v
+recovery_valid s from _ v = v
+
+-- of each member one response is kept
+newest_from : (kept r : Response) → kept.from ≡ r.from → (newest kept r).from ≡ kept.from
+newest_from kept r same = chosen (nat_lt kept.view r.view)
+  where
+    chosen : (b : Bool) → (if b then r else kept).from ≡ kept.from
+    chosen true = sym same
+    chosen false = refl
+
+all_with : (P : ℕ → Type 0) (responses : List Response) (r : Response) → AllByRecursion P (map (λ k. k.from) responses) → P r.from → AllByRecursion P (map (λ k. k.from) (with_response responses r))
+all_with P [] r a p = (p, tt)
+all_with P (kept ∷ responses) r a p = elim (cases_Bool (nat_eq kept.from r.from)) [
+  | inl here ↦ rw here (subst P (sym (newest_from kept r (eqb-true kept.from r.from here))) a.0, a.1)
+  | inr other ↦ rw other (a.0, all_with P responses r a.1 p)
+]
+
+distinct_with : (responses : List Response) (r : Response) → IsDistinct nat_eq (map (λ k. k.from) responses) → IsDistinct nat_eq (map (λ k. k.from) (with_response responses r))
+unfolding IsDistinct
+distinct_with [] r d = (tt, tt)
+distinct_with (kept ∷ responses) r d = elim (cases_Bool (nat_eq kept.from r.from)) [
+  | inl here ↦ rw here (subst (λ (n : ℕ). AllByRecursion (λ y. nat_eq n y ≡ false) (map (λ k. k.from) responses)) (sym (newest_from kept r (eqb-true kept.from r.from here))) d.0, d.1)
+  | inr other ↦ rw other (all_with (λ y. nat_eq kept.from y ≡ false) responses r d.0 other, distinct_with responses r d.1)
+]
+
+told_valid : (s : VrState) (responses : List Response) → IsValid s → AreMembers s.controllers (map (λ k. k.from) responses) → IsValid (record s { responses = responses })
+told_valid s responses v a = record {
+  log = v.log;
+  group = v.group;
+  member = v.member;
+  commit = v.commit;
+  acked = v.acked;
+  votes = v.votes;
+  collected = v.collected;
+  responses = a;
+  base = v.base;
+  supply = v.supply;
+}
+
+pub emptied_valid : (s : VrState) → IsValid s → IsValid (record s { responses = [] })
+emptied_valid s v = told_valid s [] v (nobody s.controllers)
+
+responded_valid : (s : VrState) (r : Response) → IsValid s → r.from < s.controllers → IsValid (responded s r)
+responded_valid s r v lt =
+    told_valid s (with_response s.responses r) v (record { below = all_with (λ j. j < s.controllers) s.responses r v.responses.below lt; once = distinct_with s.responses r v.responses.once })
+
+ends_passes : (t : VrState) (view : ℕ) (told : Option Filled) → IsValid t → Sound (ends_with t view told).state (ends_with t view told).state → IsValid (ends_with t view told).state
+ends_passes t view None v sound = v
+ends_passes t view (Some told) v sound = adopt_passes (record t { responses = [] }) view 0 told.commit told.log (emptied_valid t v) sound
+
+pub response_valid : (s : VrState) (from : ℕ) (m : VrMessage) → IsValid s → IsValid (response s from m).state
+response_valid s from (message.RecoveryResponse view nonce filled) v =
+    let r : Response = record { from = from; view = view; filled = filled } in
+    let t = responded s r in
+    chosen_by IsValid (is_other s from) _ _
+    (λ other.
+    let lt = ltb-true from s.controllers (and_parts (nat_lt from s.controllers) (not (nat_eq from s.me)) other).0 in
+    either IsValid (is_recovering s && nat_eq nonce s.life) (guarded s (recovers t)) (quiet s)
+    (guarded_valid s (recovers t) v (λ sound. ends_passes t (greatest_view t.responses) (ending t) (responded_valid s r v lt) (record { log = sound.log; commit = sound.commit }))) v)
+    (λ no. v)
+response_valid s from _ v = v

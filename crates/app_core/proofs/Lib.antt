@@ -1,2 +1,4 @@
 pub mod Hosts
 pub mod Denials
+pub mod Installed
+pub mod Issuing

@@ -5,7 +5,8 @@ use Rattle.of_types.specs.declared.message.Event.{Event}
 use Rattle.of_types.specs.declared.message.Order.{Order}
 use Rattle.of_types.specs.declared.setup.Setup.{Setup}
 use Rattle.app_core.specs.declared.host.Host.{Host}
-use Rattle.app_core.specs.Firewall.{first_hit, installed_after, firewall_commands}
+use Rattle.of_types.specs.Lives.{is_switch_up}
+use Rattle.app_core.specs.Firewall.{first_hit, installed_after, firewall_commands, rows_at}
 use Rattle.app_core.specs.Learning.{hosts_after, learning_commands}
 
 -- lists, one after another
@@ -32,9 +33,11 @@ hosts_of _ = []
 abbrev pub passes_on : List ℕ → PartStep
 passes_on state = record { state = state; commands = []; stops = false }
 
--- the firewall (Firewall.antt). A packet-in that a rule denies goes no further
+-- the firewall (Firewall.antt). A packet-in that a rule denies goes no further, and a switch that is up again gets its rows
 abbrev pub firewall_step : Setup → List ℕ → Event → PartStep
 firewall_step setup installed event =
+    if is_switch_up event.what then record { state = installed; commands = rows_at setup event.switch installed; stops = false }
+    else
     let hit = first_hit setup.deny event.what in
     record {
       state = installed_after installed hit;

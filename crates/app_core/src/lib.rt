@@ -5,9 +5,11 @@
 mod app;
 mod commands;
 mod host;
+mod issued;
 mod part;
 
 pub use app::App;
 pub use commands::{flow_mod, packet_out};
 pub use host::Host;
+pub use issued::Issued;
 pub use part::{Part, joined_reactions, start_parts};

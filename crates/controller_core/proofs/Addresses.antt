@@ -1,6 +1,6 @@
 -- To whom the rules of a controller send.
 use Rattle.std.proofs.Common.{◌≡◌, ◌<◌, ◌≤◌, ◌+◌, ℕ, zero, suc, Bool, true, false, List, [], ◌∷◌, ◌++◌, length, take, refl, arith}
-use Rattle.std.specs.Prelude.{nat_lt, nat_eq, not, ◌&&◌, slice_get, Option, Some, None, if◌then◌else◌}
+use Rattle.std.specs.Prelude.{is_some, nat_lt, nat_eq, not, ◌&&◌, option_map, option_to_list, slice_get, Option, Some, None, if◌then◌else◌}
 use Rattle.std.specs.List.{AllByRecursion, range_with_len}
 use Rattle.std.proofs.lemmas.Bool.{ltb-true}
 use Rattle.of_types.specs.declared.message.Command.{Command}
@@ -15,6 +15,7 @@ use Rattle.of_types.specs.declared.message.Spoken.TheVariants as spoken
 use Rattle.of_types.specs.declared.numbers.TheConstants.{MASTER}
 use Rattle.of_types.specs.declared.setup.Rule.{Rule}
 use Rattle.of_types.specs.declared.setup.Setup.{Setup}
+use Rattle.of_types.specs.Lives.{is_switch_up}
 use Rattle.rv_base.specs.declared.journal.Local.TheVariants as local
 use Rattle.rv_base.specs.Actors.{IsActor, AreAddressed}
 use Rattle.rv_base.proofs.All.{all_append, all_map, all_weaker, all_filter, all_get, all_index_or}
@@ -25,7 +26,7 @@ use Rattle.controller_core.specs.declared.says.Entry.{Entry}
 use Rattle.controller_core.specs.declared.says.Entry.TheVariants.{Received, Processed}
 use Rattle.controller_core.specs.declared.says.Numbered.{Numbered}
 use Rattle.app_core.specs.Chain.{PartStep, ChainStep, passes_on, firewall_step, learning_step, part_next, chain_next, reactions_from, reactions, starting_chain, concat, firewall, learning, hosts_of}
-use Rattle.app_core.specs.Firewall.{first_hit, is_installed, dropping_row, dropping_rows, firewall_commands}
+use Rattle.app_core.specs.Firewall.{first_hit, is_installed, installed_after, dropping_row, dropping_rows, rows_at, firewall_commands}
 use Rattle.app_core.specs.Learning.{hosts_after, learning_commands, forwarded}
 use Rattle.controller_core.specs.Log.{received, processed, is_past_limits, count_from}
 use Rattle.controller_core.specs.Marks.{with_numbers, commands_of, outstanding, unacknowledged, is_pending, is_finished, has_unprocessed}
@@ -76,6 +77,23 @@ module _ (setup : Setup) where
   firewall_for installed None = tt
   firewall_for installed (Some place) = commands_either (is_installed installed place) [] _ tt (rows_for (slice_get setup.deny place))
 
+  -- a switch that is up again gets all rows
+  at_place_for : (switch : ℕ) (found : Option Rule) → switch < length setup.ports → AreFor setup (option_to_list (option_map (λ rule. dropping_row rule switch) found))
+  at_place_for switch None there = tt
+  at_place_for switch (Some rule) there = (there, tt)
+
+  rows_at_for : (switch : ℕ) (installed : List ℕ) → switch < length setup.ports → AreFor setup (rows_at setup switch installed)
+  rows_at_for switch [] there = tt
+  rows_at_for switch (place ∷ installed) there =
+      all_append _ (option_to_list (option_map (λ rule. dropping_row rule switch) (slice_get setup.deny place))) (rows_at setup switch installed)
+      (at_place_for switch (slice_get setup.deny place) there) (rows_at_for switch installed there)
+
+  wall_for : (state : List ℕ) (event : Event) → event.switch < length setup.ports → AreFor setup (firewall_step setup state event).commands
+  wall_for state event there =
+      step_either (is_switch_up event.what) (record { state = state; commands = rows_at setup event.switch state; stops = false })
+      (record { state = installed_after state (first_hit setup.deny event.what); commands = firewall_commands setup state (first_hit setup.deny event.what); stops = is_some (first_hit setup.deny event.what) })
+      (λ _. rows_at_for event.switch state there) (λ _. firewall_for state (first_hit setup.deny event.what))
+
   not_false : (b : Bool) → not b ≡ false → b ≡ true
   not_false true is = refl
   not_false false is = cc
@@ -88,7 +106,7 @@ module _ (setup : Setup) where
       (λ is.
       let there = ltb-true event.switch (length setup.ports) (not_false _ is) in
       step_either (nat_eq kind firewall) (firewall_step setup state event) _
-      (λ _. firewall_for state (first_hit setup.deny event.what))
+      (λ _. wall_for state event there)
       (λ _.
       step_either (nat_eq kind learning) (learning_step (hosts_of state) event) (passes_on state)
       (λ _. learning_for (hosts_after (hosts_of state) event.switch event.what) event.switch event.what there) (λ _. tt)))

@@ -3,12 +3,12 @@ ghost use Rattle.std.specs.Prelude.{ℕ, ◌≡◌, ◌≤◌, ◌<◌, ◌+◌,
 ghost use Rattle.of_types.specs.Header.{number_at};
 ghost use Rattle.app_core.specs.Chain.{reactions, learning_alone};
 ghost use Rattle.app_core.specs.Commands.{packet_out};
-ghost use Rattle.app_core.specs.Learning.{is_single, seen_at, seen_destination, learned, with_source, forgotten, forwarding_row, forgetting_rows, forwarded, hosts_after, learning_commands, hosts_next, commands_next};
+ghost use Rattle.app_core.specs.Learning.{is_single, seen_at, seen_destination, learned, with_source, forgotten, forgotten_at, forwarding_row, forgetting_rows, forwarded, hosts_after, learning_commands, hosts_next, commands_next};
 
 use app_core::{Host, flow_mod, packet_out};
 use of_types::{
     ANY_PORT, Command, Commands, Event, FLOOD, FlowCommand, Happening, Items, Masked48, Match,
-    Octets, PacketIn, Setup, any_match, fields,
+    Octets, PacketIn, Setup, any_match, fields, is_switch_up,
 };
 use std::alloc::{AllocError, Global};
 
@@ -98,6 +98,13 @@ fn forget(hosts: &mut Vec<Host>, switch: u8, port: u32)
     ensures { hosts.new.items ≡ forgotten hosts.old.items switch port }
 {
     hosts.retain(|h| !(h.switch == switch && h.port == port));
+}
+
+/// All addresses that were seen at a switch are forgotten.
+fn forget_switch(hosts: &mut Vec<Host>, switch: u8)
+    ensures { hosts.new.items ≡ forgotten_at hosts.old.items switch }
+{
+    hosts.retain(|h| h.switch != switch);
 }
 
 /// The row for frames to an address that come in by a port.
@@ -210,6 +217,10 @@ fn on_happening(
 {
     match what {
         Happening::PacketIn(packet) => on_packet_in(alloc, hosts, switch, packet),
+        Happening::PortStatus(_) if is_switch_up(what) => {
+            forget_switch(hosts, switch);
+            Ok(Items::new(alloc))
+        }
         Happening::PortStatus(status) => {
             if status.up {
                 Ok(Items::new(alloc))

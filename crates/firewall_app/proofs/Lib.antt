@@ -1,2 +1,4 @@
 pub mod Rows
+pub mod Denied
+pub mod Installed
 pub mod Firewalls

@@ -1,7 +1,11 @@
 //! Which frames a rule denies, and the rows that drop them.
-ghost use Rattle.std.specs.Prelude.{◌≡◌, ◌++◌, Some, position, slice_get, OnOk};
-ghost use Rattle.of_types.specs.Matching.{has_value};
-ghost use Rattle.app_core.specs.Firewall.{asked_protocol, destination_port, denies, first_hit, asked_port, denied_match, dropping_row, dropping_rows};
+ghost use Rattle.std.specs.Prelude.{◌≡◌, ◌++◌, ℕ, List, Some, position, slice_get, option_map, option_to_list, OnOk};
+ghost use Rattle.of_types.specs.Header.{fields_of};
+ghost use Rattle.of_types.specs.Matching.{has_value, matches};
+ghost use Rattle.of_types.specs.Setups.{IsRule};
+ghost use Rattle.of_types.specs.declared.setup.Rule.{Rule};
+ghost use Rattle.app_core.specs.Firewall.{asked_protocol, destination_port, denies, first_hit, asked_port, denied_match, dropping_row, dropping_rows, rows_at};
+ghost use Rattle.of_types.specs.declared.setup.Setup.{Setup};
 
 use crate::prefix::{is_within, matched_prefix};
 use app_core::flow_mod;
@@ -141,3 +145,43 @@ pub fn drop_denied_at(
         None => Ok(()),
     }
 }
+
+/// A switch drops what the rule at a place denies.
+fn drop_at(
+    alloc: Global,
+    rules: &[Rule],
+    place: usize,
+    switch: u8,
+    out: &mut Commands,
+) -> Result<(), AllocError>
+    ensures { OnOk result (out.new ≡ out.old ++ option_to_list (option_map (λ rule. dropping_row rule switch) (slice_get rules.now place))) }
+{
+    match rules.get(place) {
+        Some(rule) => {
+            out.push(dropping_row(alloc, rule, switch))?;
+            Ok(())
+        }
+        None => Ok(()),
+    }
+}
+
+/// A switch drops what each of the installed rules denies, in the order in which they were installed.
+pub fn drop_installed(
+    alloc: Global,
+    rules: &[Rule],
+    installed: &[usize],
+    switch: u8,
+    out: &mut Commands,
+) -> Result<(), AllocError>
+    ensures { (s : Setup) → s.deny ≡ rules.now → OnOk result (out.new ≡ out.old ++ rows_at s switch installed.now) }
+{
+    'places: for place in installed {
+        drop_at(alloc, rules, *place, switch, out)?;
+    }
+    Ok(())
+}
+
+/// An installed row meets exactly the frames that its rule denies, and drops them, since it has no action.
+pub fn drops_denied()
+    ensures { (rule : Rule) (frame : List ℕ) → IsRule rule → matches (denied_match rule) (fields_of frame) ≡ denies (fields_of frame) rule }
+{}

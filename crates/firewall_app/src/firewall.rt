@@ -1,10 +1,11 @@
 //! The firewall as a part.
-ghost use Rattle.std.specs.Prelude.{◌≡◌, ◌≤◌, ◌<◌, ◌++◌, [], Some, length, slice_get, OnOk, if◌then◌else◌};
+ghost use Rattle.std.specs.Prelude.{◌≡◌, ◌≤◌, ◌<◌, ◌++◌, [], Some, length, slice_get, IfOk, OnOk, OnErr, ◌⊎◌, if◌then◌else◌};
+ghost use Rattle.firewall_app.specs.Installed.{IsFirewallOf};
 ghost use Rattle.app_core.specs.Firewall.{first_hit, dropping_rows, is_installed, installed_after, firewall_commands};
 
-use crate::denying::{drop_denied_at, first_hit};
+use crate::denying::{drop_denied_at, drop_installed, first_hit};
 use app_core::Part;
-use of_types::{Commands, Event, Items, Rule, Rules, Setup};
+use of_types::{Commands, Event, Items, Rule, Rules, Setup, is_switch_up};
 use std::alloc::{AllocError, Global};
 
 /// The rules of a setup, and which of them are installed.
@@ -31,6 +32,7 @@ fn install(
     out: &mut Commands,
 ) -> Result<(), AllocError>
     ensures known { OnOk result (installed.new.items ≡ installed_after installed.old.items (Some place)) }
+    ensures kept { OnErr result ((installed.new.items ≡ installed.old.items) ⊎ (installed.new.items ≡ installed_after installed.old.items (Some place))) }
     ensures asked { OnOk result (out.new ≡ out.old ++ (if is_installed installed.old.items place then [] else dropping_rows switches (slice_get rules.now place))) }
 {
     if is_installed(installed.as_slice(), place) {
@@ -38,6 +40,13 @@ fn install(
     }
     installed.push(place)?;
     drop_denied_at(alloc, rules, place, switches, out)
+}
+
+/// The rules of a setup.
+fn rules_of(setup: &Setup) -> Result<Rules, AllocError>
+    ensures { IfOk result (λ rules. rules ≡ setup.now.deny) }
+{
+    setup.deny.clone()
 }
 
 impl Firewall {
@@ -60,8 +69,8 @@ impl Part for Firewall {
 
     ghost numbers = { λ f. f.installed.items };
 
-    // A setup with these rules, and so many switches.
-    ghost is_fit = { λ f setup. (f.rules ≡ setup.deny) × (f.switches ≡ length setup.ports) × (f.switches ≤ 64) };
+    // A setup with these rules, and so many switches. Each installed rule is one of them, once.
+    ghost is_fit = { λ f setup. IsFirewallOf f.rules f.switches f.installed.items setup };
 
     fn kind(&self) -> u8 {
         1
@@ -72,7 +81,7 @@ impl Part for Firewall {
     }
 
     fn start(&mut self, alloc: Global, setup: &Setup) -> Result<(), AllocError> {
-        self.rules = setup.deny.clone()?;
+        self.rules = rules_of(setup)?;
         self.switches = setup.ports.len() as u8;
         self.installed = Vec::new(alloc);
         Ok(())
@@ -85,6 +94,11 @@ impl Part for Firewall {
         out: &mut Commands,
     ) -> Result<bool, AllocError> {
         if event.switch >= self.switches {
+            return Ok(false);
+        }
+        if is_switch_up(&event.what) {
+            let installed = self.installed.as_slice();
+            drop_installed(alloc, self.rules.as_slice(), installed, event.switch, out)?;
             return Ok(false);
         }
         let Some(place) = first_hit(self.rules.as_slice(), &event.what) else {

@@ -6,4 +6,5 @@ mod denying;
 mod firewall;
 mod prefix;
 
+pub use denying::drops_denied;
 pub use firewall::Firewall;

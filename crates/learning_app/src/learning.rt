@@ -7,7 +7,7 @@ ghost use Rattle.app_core.specs.Learning.{is_single, seen_destination, with_sour
 use crate::commands::{forgetting_rows, forward};
 use crate::hosts::{HostList, HostMap, Hosts};
 use app_core::Part;
-use of_types::{Commands, Event, Happening, PacketIn, PortStatus, Setup, fields};
+use of_types::{Commands, Event, Happening, PacketIn, PortStatus, Setup, fields, is_switch_up};
 use std::alloc::{AllocError, Global};
 
 /// Learning over some form of its hosts.
@@ -90,7 +90,7 @@ fn on_port_status<H: Hosts>(
     Ok(())
 }
 
-/// What learning does with what happened at a switch.
+/// What learning does with what happened at a switch. Of one that is up again all addresses are forgotten.
 fn on_happening<H: Hosts>(
     alloc: Global,
     hosts: &mut H,
@@ -103,6 +103,10 @@ fn on_happening<H: Hosts>(
 {
     match what {
         Happening::PacketIn(packet) => on_packet_in(alloc, hosts, switch, packet, out),
+        Happening::PortStatus(_) if is_switch_up(what) => {
+            hosts.forget_switch(switch);
+            Ok(())
+        }
         Happening::PortStatus(status) => on_port_status(alloc, hosts, switch, status, out),
     }
 }

@@ -1,5 +1,6 @@
 //! What every crate above stands on: actors, letters, packets and the journal; the journal beside
-//! its pool, on which actors take their turns; the source and the sink of a run.
+//! its pool, on which actors take their turns; the source and the sink of a run, and what is left of a
+//! controller that crashes.
 #![tactic(auto)]
 
 mod journal;
@@ -7,6 +8,7 @@ mod ledger;
 mod memory;
 mod outside;
 mod pool;
+mod stable;
 mod standard;
 mod wire;
 
@@ -14,6 +16,7 @@ pub use journal::{
     Actor, Journal, JournalEntry, Letter, Letters, Local, Packet, SaveResult, Turn, Weight,
 };
 pub use memory::{MemorySink, MemorySource};
-pub use outside::{Failed, Sink, Source};
+pub use outside::{Failed, Sink, Source, Stable};
+pub use stable::{FailingSave, MemoryStable};
 pub use standard::{StdSink, StdSource};
 pub use wire::{BYTES_LIMIT, Drawn, LETTERS_LIMIT, POOL_BYTES, POOL_PACKETS, Refused, Stop, Wire};

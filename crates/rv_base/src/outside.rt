@@ -1,8 +1,9 @@
 //! Where a run reads from and writes to, and the counts of what failed there.
-ghost use Rattle.std.specs.Prelude.{◌≡◌, ◌≤◌, ◌+◌, ◌-◌, ◌^◌, min, ℕ, List, Option, IfOk};
+ghost use Rattle.std.specs.Prelude.{◌≡◌, ◌≤◌, ◌+◌, ◌-◌, ◌^◌, min, ℕ, List, Option, IfOk, OnOk, OnErr};
 ghost use Rattle.std.specs.Io.{ReadsAtMost};
 ghost use Rattle.std.specs.Io.KnownBytes.{ReadConsumes, WriteAppends};
 ghost use Rattle.rv_base.specs.Causes.{HasCause, TakesSome};
+ghost use Rattle.rv_base.specs.Stables.{StandsAsItWasOr};
 
 /// A call was not served, and a count of faults rose.
 #[derive(Clone, Copy, PartialEq, Eq, Debug)]
@@ -36,6 +37,25 @@ pub trait Sink {
         ensures some { IfOk result (λ count. TakesSome count from.now) }
         ensures bytes { WriteAppends (taken self.old) (taken self.new) result from.now }
         ensures cause { HasCause (faults self.old) (faults self.new) result };
+}
+
+/// What is left of a controller that crashes: the greatest view that it promised, and its life.
+pub trait Stable {
+    /// The promise and the life that stand.
+    ghost pair: { Self → ℕ × ℕ };
+    /// How often a save has failed. It never falls.
+    ghost faults: { Self → ℕ };
+
+    /// The pair stands from now on. After `Failed` it stands, or the one before does: `load` tells
+    /// which. The count of faults rises at `Failed` alone.
+    fn save(&mut self, promise: u64, life: u64) -> Result<(), Failed>
+        ensures saved { OnOk result (pair self.new ≡ (promise, life)) }
+        ensures kept { OnErr result (StandsAsItWasOr (promise, life) (pair self.old) (pair self.new)) }
+        ensures cause { HasCause (faults self.old) (faults self.new) result };
+
+    /// The pair that stands.
+    fn load(&self) -> (u64, u64)
+        ensures { result ≡ pair self.now };
 }
 
 /// Counts a fault.

@@ -38,7 +38,7 @@ use Rattle.rv_safety.proofs.Issued.{reactions-take, done_through, command_betwee
 use Rattle.rv_safety.proofs.More.{received-append, processed-append}
 use Rattle.rv_safety.proofs.Orderings.{get_within}
 use Rattle.rv_safety.specs.Room.{most_commands}
-use Rattle.rv_safety.proofs.Commands.{commands_few}
+use Rattle.rv_safety.proofs.Commands.{AreFew, commands_few}
 use Rattle.rv_safety.proofs.Loads.{weigh, weigh-append, times, times_suc, to_process, to_send, budget, unprocessed, untold, load, sums_same, filter_few}
 use Rattle.rv_safety.proofs.Flights.{Flight, controller_flight, Carries, carries_left, carries_right, event_number, events_in, commands_in, events_in-append, commands_in-append, logged, AreDue, due_append}
 use Rattle.rv_safety.proofs.Dues.{IsRequest, IsReply, IsAnswer, IsUnderWay, is_asked, IsOfView, sent_of, IsDueAt, AreUnderWay, Leads, IsDue}
@@ -126,13 +126,13 @@ pub sent_weigh : (kinds : List ℕ) (setup : Setup) (c : ControllerState) (ns : 
 sent_weigh kinds setup c [] = refl
 sent_weigh kinds setup c (n ∷ ns) = let h = sent_weigh kinds setup c ns in omega (arith, h)
 
-pub unacknowledged_few : (kinds : List ℕ) (setup : Setup) → length setup.ports ≤ 64 → (c : ControllerState) → length (unacknowledged kinds setup c) ≤ most_commands kinds
+pub unacknowledged_few : (kinds : List ℕ) (setup : Setup) → AreFew setup → (c : ControllerState) → length (unacknowledged kinds setup c) ≤ most_commands kinds
 unacknowledged_few kinds setup few c =
     let all = commands_few kinds setup few (received (committed c)) (processed (committed c)) in
     let left = filter_few (λ (n : Numbered). not (is_acked c n)) (commands_of kinds setup (received (committed c)) (processed (committed c))) in
     omega (arith, all, left)
 
-outstanding_few : (kinds : List ℕ) (setup : Setup) → length setup.ports ≤ 64 → (c : ControllerState) → length (outstanding kinds setup c) ≤ most_commands kinds
+outstanding_few : (kinds : List ℕ) (setup : Setup) → AreFew setup → (c : ControllerState) → length (outstanding kinds setup c) ≤ most_commands kinds
 outstanding_few kinds setup few c =
     let all = unacknowledged_few kinds setup few c in
     let left = filter_few (λ (n : Numbered). is_confirmed c n.switch) (unacknowledged kinds setup c) in

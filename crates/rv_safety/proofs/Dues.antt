@@ -17,6 +17,7 @@ use Rattle.controller_core.specs.Log.{received, processed, count_from}
 use Rattle.controller_core.specs.Marks.{is_confirmed, is_acked, unacknowledged, has_unprocessed, settled_commands}
 use Rattle.controller_core.specs.State.{ControllerState, committed, is_up}
 use Rattle.controller_core.specs.Rules.{is_some_of, processed_from}
+use Rattle.rv_safety.proofs.Commands.{AreFew}
 use Rattle.rv_safety.proofs.Loads.{load}
 use Rattle.rv_safety.proofs.Flights.{Flight, To_switch, To_controller, Carries, events_in, commands_in, logged, AreDue, AreFrom}
 
@@ -79,7 +80,7 @@ pub record Leads (kinds : List ℕ) (setup : Setup) (view : ℕ) (states : ℕ �
   pub up : is_up c.status ≡ true
   pub view_is : c.view ≡ view
   pub whole : committed c ≡ c.log
-  pub switches : length setup.ports ≤ 64
+  pub switches : AreFew setup
   pub counted : processed (committed c) ≤ length (received (committed c))
   pub confirmed : (s : ℕ) → is_confirmed c s ≡ true → is_asked view (states s) ≡ true
   pub marks : (n : Numbered) → is_acked c n ≡ true → n.number < length (states n.switch).executed

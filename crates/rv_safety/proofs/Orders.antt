@@ -1,6 +1,6 @@
 -- Each order that is issued for events with good frames can be spelled.
 use Rattle.std.proofs.Common.{◌≡◌, ◌≤◌, ◌<◌, ℕ, ◌+◌, ◌*◌, ◌^◌, Bool, true, false, not, List, [], ◌∷◌, ◌++◌, length, get_or, zero, suc, refl, sym, ◌∙◌, subst, inl, inr, arith, pow-suc, mul-le-mul_right, mod-eq_of_lt}
-use Rattle.std.specs.Prelude.{slice_get, nat_eq, nat_le, nat_lt, Option, Some, None, unwrap_or, if◌then◌else◌}
+use Rattle.std.specs.Prelude.{slice_get, is_some, option_map, option_to_list, nat_eq, nat_le, nat_lt, Option, Some, None, unwrap_or, if◌then◌else◌}
 use Rattle.std.specs.List.{AllByRecursion, range_with_len}
 use Rattle.std.proofs.lemmas.Bool.{and_parts, cond_both, leb-true}
 use Rattle.std.proofs.lemmas.Nat.{and_mask}
@@ -16,13 +16,14 @@ use Rattle.of_types.specs.declared.numbers.TheConstants.{FLOOD}
 use Rattle.of_types.specs.declared.setup.Rule.{Rule}
 use Rattle.of_types.specs.declared.setup.Setup.{Setup}
 use Rattle.of_types.specs.Header.{number_at}
+use Rattle.of_types.specs.Lives.{is_switch_up}
 use Rattle.of_types.specs.Sizes.{order_size}
 use Rattle.of_types.specs.Valid.{IsValidOrder, IsValid}
 use Rattle.rv_base.proofs.Among.{Among, among_append, among_map}
 use Rattle.app_core.specs.declared.host.Host.{Host}
 use Rattle.app_core.specs.Chain.{concat, PartStep, ChainStep, hosts_of, passes_on, firewall_step, learning_step, firewall, learning, part_next, chain_next, starting_chain, reactions_from, reactions, single, orders_for, issued}
 use Rattle.app_core.specs.Commands.{packet_out}
-use Rattle.app_core.specs.Firewall.{first_hit, is_installed, dropping_row, dropping_rows, firewall_commands}
+use Rattle.app_core.specs.Firewall.{first_hit, is_installed, installed_after, dropping_row, dropping_rows, rows_at, firewall_commands}
 use Rattle.app_core.proofs.Denials.{denied_valid, denied_small}
 use Rattle.app_core.specs.Learning.{forwarding_row, forgetting_rows, forwarded, seen_destination, hosts_after, learning_commands}
 use Rattle.switch_core.specs.Rules.{is_frame}
@@ -124,6 +125,26 @@ firewall_sendable setup installed (Some place) c h =
     cond_both (is_installed installed place) [] (dropping_rows (length setup.ports) (slice_get setup.deny place)) (λ (l : List Command). Among c l → IsSendable c.order)
     (λ _ k. absurd k) (λ _ k. rows_sendable (length setup.ports) (slice_get setup.deny place) c k) h
 
+installed_sendable : (setup : Setup) (switch : ℕ) (installed : List ℕ) (c : Command) → Among c (rows_at setup switch installed) → IsSendable c.order
+installed_sendable setup switch [] c h = absurd h
+installed_sendable setup switch (place ∷ installed) c h =
+    elim (among_append c (option_to_list (option_map (λ rule. dropping_row rule switch) (slice_get setup.deny place))) (rows_at setup switch installed) h) [
+      | inl here ↦ at_place (slice_get setup.deny place) here
+      | inr behind ↦ installed_sendable setup switch installed c behind
+    ]
+  where
+    at_place : (found : Option Rule) → Among c (option_to_list (option_map (λ rule. dropping_row rule switch) found)) → IsSendable c.order
+    at_place None here = absurd here
+    at_place (Some rule) (inl is) = subst (λ (x : Command). IsSendable x.order) (sym is) (denied_valid rule, omega (arith, denied_small rule))
+    at_place (Some rule) (inr none) = absurd none
+
+wall_sendable : (setup : Setup) (state : List ℕ) (e : Event) (c : Command) → Among c (firewall_step setup state e).commands → IsSendable c.order
+wall_sendable setup state e c h =
+    cond_both (is_switch_up e.what) (record { state = state; commands = rows_at setup e.switch state; stops = false })
+    (record { state = installed_after state (first_hit setup.deny e.what); commands = firewall_commands setup state (first_hit setup.deny e.what); stops = is_some (first_hit setup.deny e.what) })
+    (λ (s : PartStep). Among c s.commands → IsSendable c.order)
+    (λ _ k. installed_sendable setup e.switch state c k) (λ _ k. firewall_sendable setup state (first_hit setup.deny e.what) c k) h
+
 learns_sendable : (kind : ℕ) (state : List ℕ) (e : Event) → IsGoodHappening e.what → (c : Command) → Among c (if nat_eq kind learning then learning_step (hosts_of state) e else passes_on state).commands → IsSendable c.order
 learns_sendable kind state e good c h =
     cond_both (nat_eq kind learning) (learning_step (hosts_of state) e) (passes_on state) (λ (s : PartStep). Among c s.commands → IsSendable c.order)
@@ -136,7 +157,7 @@ part_sendable kind setup state e good c h =
     cond_both (not (nat_lt e.switch (length setup.ports))) (passes_on state) (if nat_eq kind firewall then firewall_step setup state e else others)
     (λ (s : PartStep). Among c s.commands → IsSendable c.order) (λ _ k. absurd k)
     (λ _ k. cond_both (nat_eq kind firewall) (firewall_step setup state e) others (λ (s : PartStep). Among c s.commands → IsSendable c.order)
-    (λ _ m. firewall_sendable setup state (first_hit setup.deny e.what) c m) (λ _ m. learns_sendable kind state e good c m) k)
+    (λ _ m. wall_sendable setup state e c m) (λ _ m. learns_sendable kind state e good c m) k)
     h
 
 chain_sendable : (kinds : List ℕ) (setup : Setup) (states : List (List ℕ)) (e : Event) → IsGoodHappening e.what → (c : Command) → Among c (chain_next kinds setup states e).commands → IsSendable c.order

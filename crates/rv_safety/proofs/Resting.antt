@@ -83,7 +83,7 @@ use Rattle.rv_safety.proofs.Askings.{below, is_fresh, is_unasked}
 use Rattle.rv_safety.proofs.Keeping.{keeps_few}
 use Rattle.rv_safety.proofs.Rooms.{nothing_lost}
 use Rattle.rv_safety.specs.Room.{most_commands}
-use Rattle.rv_safety.proofs.Commands.{issued_few}
+use Rattle.rv_safety.proofs.Commands.{AreFew, issued_few}
 use Rattle.controller_core.proofs.Addresses.{commands_of_for}
 
 -- a list from which nothing is made is empty
@@ -177,7 +177,7 @@ module _ {B : Type 0} (scene : Scene B) (results : List (List SaveResult)) where
         | Another apart is ↦ ap (λ (p : List (JournalEntry B × Option (Packet B))). switch_at scene s p) is
       ]
 
-  module _ (one : scene.setup.controllers ≡ 1) (few_switches : length scene.setup.ports ≤ 64) (faithful : IsFaithful scene.sealing) where
+  module _ (one : scene.setup.controllers ≡ 1) (few_switches : AreFew scene.setup) (faithful : IsFaithful scene.sealing) where
     state : List (JournalEntry B) → ControllerState
     state entries = controller_state scene results 0 entries
 

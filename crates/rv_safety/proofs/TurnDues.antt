@@ -21,6 +21,7 @@ use Rattle.controller_core.specs.Log.{received, processed}
 use Rattle.controller_core.specs.Marks.{is_finished, settled_commands}
 use Rattle.controller_core.specs.State.{ControllerState, Work, committed, is_up, with_no_met_limit}
 use Rattle.controller_core.specs.Rules.{numbers_below, role_letters, started_view, with_commands_sent, controller_work}
+use Rattle.rv_safety.proofs.Commands.{AreFew}
 use Rattle.rv_safety.specs.Truths.{IsReported}
 use Rattle.rv_safety.proofs.Conditions.{differ}
 use Rattle.rv_safety.proofs.Loads.{load}
@@ -94,7 +95,7 @@ module _ (kinds : List ℕ) (setup : Setup) (view : ℕ) (states : ℕ → Switc
       ]
 
   -- the controller starts a view
-  module _ (c : ControllerState) (few_switches : length setup.ports ≤ 64) (whole : committed c ≡ c.log) (counted : processed c.log ≤ length (received c.log)) (up : is_up c.status ≡ true) (above : c.view < view)
+  module _ (c : ControllerState) (few_switches : AreFew setup) (whole : committed c ≡ c.log) (counted : processed c.log ≤ length (received c.log)) (up : is_up c.status ≡ true) (above : c.view < view)
       (settled : (s : ℕ) → s < length setup.ports → settled_commands kinds setup (committed c) s ≤ length (states s).executed)
       (fresh : (s : ℕ) → s < length setup.ports → is_stale (states s).fence.generation view ≡ false)
       (unasked : (s : ℕ) → s < length setup.ports → is_asked view (states s) ≡ false)

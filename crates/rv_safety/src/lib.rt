@@ -42,6 +42,7 @@ fn grounds<B: Body>(world: &World<B>)
     ensures bytes { AllByRecursion (λ e. HasBytes e) (past world.now.journal) }
     ensures within { IsWithinLimits B.size (past world.now.journal) }
     ensures few { length world.now.setup.ports ≤ 64 }
+    ensures few_rules { length world.now.setup.deny ≤ 16 }
 {
     world.lawful();
 }

@@ -18,5 +18,5 @@ returns g c =
     let given : IsGiven scene [] (past journal) =
     record { legal = c.grounds.ensures.legal; bytes = c.grounds.ensures.bytes; within = c.grounds.ensures.within } in
     subst (λ l. IsClosed scene [] l) joined
-    (closes_whole scene [] c.requires.one c.grounds.ensures.few g.met.B.Body.unsealed (omega arith) (past front) closing c.requires.closes.0 (subst (λ l. IsGiven scene [] l) (sym joined) given)
+    (closes_whole scene [] c.requires.one (c.grounds.ensures.few, c.grounds.ensures.few_rules) g.met.B.Body.unsealed (omega arith) (past front) closing c.requires.closes.0 (subst (λ l. IsGiven scene [] l) (sym joined) given)
     (λ up view. starts_within scene [] c.requires.one (past front) up c.requires.room view) c.requires.closes.1)

@@ -1,0 +1,4 @@
+pub mod Counting
+pub mod Ledgers
+pub mod Standing
+pub mod Telling

@@ -1,0 +1,138 @@
+-- What is kept of a committed log, so that no question asks for the whole of it again.
+use Rattle.std.specs.Prelude.{◌≡◌, ◌≤◌, ℕ, ◌+◌, ◌-◌, ◌*◌, ◌^◌, min, Bool, not, nat_eq, nat_lt, ◌&&◌, List, [], ◌∷◌, length, take, drop, get_or, slice_get, Option, Some, None, if◌then◌else◌}
+use Rattle.std.specs.List.{list_any}
+use Rattle.std.specs.Map.{lookup}
+use Rattle.of_types.specs.declared.message.Event.{Event}
+use Rattle.of_types.specs.declared.setup.Setup.{Setup}
+use Rattle.of_types.specs.Lives.{life_in, count_in}
+use Rattle.vr_log.specs.declared.entry.Entry.{Entry}
+use Rattle.vr_log.specs.declared.entry.Entry.TheVariants.{Received, Processed}
+use Rattle.vr_log.specs.Log.{received, processed}
+use Rattle.app_core.specs.declared.issued.Issued.{Issued}
+use Rattle.app_core.specs.Chain.{concat, chain_after, starting_chain}
+use Rattle.app_core.specs.Issued.{count_issued, issues}
+use Rattle.dispatcher.specs.declared.answers.Handled.{Handled}
+use Rattle.dispatcher.specs.declared.answers.Through.{Through}
+use Rattle.dispatcher.specs.declared.counts.Counts.{Counts}
+use Rattle.dispatcher.specs.declared.ledger.Ledger.{Ledger}
+use Rattle.dispatcher.specs.declared.numbered.Numbered.{Numbered}
+use Rattle.dispatcher.specs.Marks.{Marks, has_result, is_confirmed}
+
+abbrev pub no_counts : Counts
+no_counts = record { processed = 0; issued = 0; settled = 0 }
+
+-- a key is that of a life of a switch
+abbrev pub is_life : ℕ → ℕ → ℕ × ℕ → Bool
+is_life switch life key = nat_eq switch key.0 && nat_eq life key.1
+
+abbrev pub or_none : Option Counts → Counts
+or_none None = no_counts
+or_none (Some counts) = counts
+
+-- the counts of a life of a switch, in a list with a key for each life that has any
+abbrev pub counts_of : List ((ℕ × ℕ) × Counts) → ℕ → ℕ → Counts
+counts_of entries switch life = or_none (lookup (is_life switch life) entries)
+
+-- one life has these counts from now on
+abbrev pub IsCountedAs : List ((ℕ × ℕ) × Counts) → ℕ → ℕ → Counts → List ((ℕ × ℕ) × Counts) → Type 0
+IsCountedAs old switch life counts new =
+    (s l : ℕ) → counts_of new s l ≡ (if nat_eq s switch && nat_eq l life then counts else counts_of old s l)
+
+-- the counts are those of the events that are processed, and of the commands that are issued and settled
+abbrev pub AreCounts : List Event → List Issued → List Issued → List ((ℕ × ℕ) × Counts) → Type 0
+AreCounts done issued settled counts =
+    (s l : ℕ) → counts_of counts s l ≡ record { processed = count_in s l done; issued = count_issued s l issued; settled = count_issued s l settled }
+
+-- the lives are those that switches have with these events
+abbrev pub AreLives : List Event → List ℕ → Type 0
+AreLives events lives = (s : ℕ) → get_or lives s 0 ≡ life_in s events
+
+-- the most that a count can be: it stands still there
+abbrev pub most_count : ℕ
+most_count = 2 ^ 64 - 1
+
+-- one event more of a life is processed, one command more is issued to it, or one more is settled
+abbrev pub one_processed : Counts → Counts
+one_processed c = record c { processed = min (c.processed + 1) most_count }
+
+abbrev pub one_issued : Counts → Counts
+one_issued c = record c { issued = min (c.issued + 1) most_count }
+
+abbrev pub one_settled : Counts → Counts
+one_settled c = record c { settled = min (c.settled + 1) most_count }
+
+-- events beside what is issued for them
+abbrev pub handled_of : List Event → List (List Issued) → List Handled
+handled_of (event ∷ events) (commands ∷ lists) =
+    record { switch = event.switch; life = event.life; commands = commands } ∷ handled_of events lists
+handled_of _ _ = []
+
+-- the most commands of an application for an event
+abbrev pub most_commands : ℕ
+most_commands = 128
+
+-- the ledger is that of a committed log: of the events that it has as received, and how many of them it has as processed
+pub record IsLedgerOf (kinds : List ℕ) (setup : Setup) (events : List Event) (done : ℕ) (ledger : Ledger) : Type 0 where
+  pub lives : AreLives events ledger.lives
+  pub counts : AreCounts (take done events) (concat (issues kinds setup events)) (concat (take done (issues kinds setup events))) ledger.counts
+  pub pending : ledger.pending.items ≡ drop done (handled_of events (issues kinds setup events))
+  pub processed_is : ledger.processed ≡ done
+  pub ordered : done ≤ length events
+  pub few : length (concat (issues kinds setup events)) ≤ most_commands * length events
+
+abbrev pub IsLedger : List ℕ → Setup → List Entry → Ledger → Type 0
+IsLedger kinds setup log ledger = IsLedgerOf kinds setup (received log) (processed log) ledger
+
+-- the commands of the first of these
+abbrev pub first_commands : List Handled → List Issued
+first_commands [] = []
+first_commands (h ∷ pending) = h.commands
+
+-- what contracts see of a dispatcher: its application, how many switches there are, what it keeps of the committed log,
+-- and the marks of its view
+pub record Dispatching (A : Type 0) : Type 0 where
+  pub app : A
+  pub switches : ℕ
+  pub ledger : Ledger
+  pub marks : Marks
+
+-- it stands for a committed log: its application has taken the events of that log, and no others
+pub record StandsFor {A : Type 0} (kinds_of : A → List ℕ) (most_of : A → ℕ) (states_of : A → List (List ℕ)) (suits : A → Setup → Type 0)
+    (d : Dispatching A) (kinds : List ℕ) (setup : Setup) (log : List Entry) : Type 0 where
+  pub kind : kinds_of d.app ≡ kinds
+  pub few : most_of d.app ≤ most_commands
+  pub suited : suits d.app setup
+  pub states : states_of d.app ≡ chain_after kinds setup (starting_chain kinds) (received log)
+  pub size : d.switches ≡ length setup.ports
+  pub ledger : IsLedger kinds setup log d.ledger
+
+-- a command of the log wants a result, by what is kept: none came, and its life goes on
+abbrev pub wants : Ledger → Marks → Issued → Bool
+wants ledger marks x = not (has_result marks x.switch x.life x.number) && not (nat_lt x.life (get_or ledger.lives x.switch 0))
+
+abbrev pub is_outstanding : Ledger → Marks → Issued → Bool
+is_outstanding ledger marks x = wants ledger marks x && is_confirmed marks x.switch
+
+-- a command as it is sent
+abbrev pub as_numbered : Ledger → Issued → Numbered
+as_numbered ledger x =
+    record { switch = x.switch; life = x.life; number = x.number; settled = (counts_of ledger.counts x.switch x.life).settled; order = x.order }
+
+-- the present life of a switch has one of these commands
+abbrev pub has_told : Ledger → List Issued → ℕ → Bool
+has_told ledger commands switch = list_any (λ x. nat_eq x.switch switch && not (nat_lt x.life (get_or ledger.lives x.switch 0))) commands
+
+-- what is settled of the present life of a switch
+abbrev pub cleared : Ledger → ℕ → Through
+cleared ledger switch =
+    let life = get_or ledger.lives switch 0 in
+    record { switch = switch; life = life; through = (counts_of ledger.counts switch life).settled }
+
+-- whatever the committed log is that it stands for
+abbrev pub ForEachLog : (List ℕ → Setup → List Entry → Type 0) → (List ℕ → Setup → List Entry → Type 0) → Type 0
+ForEachLog stands says = (kinds : List ℕ) (setup : Setup) (log : List Entry) → stands kinds setup log → says kinds setup log
+
+-- what an entry tells of an event that it has as processed
+abbrev pub handled_by : List ℕ → Setup → List Entry → Entry → Option Handled
+handled_by kinds setup log (Received event) = None
+handled_by kinds setup log (Processed j) = slice_get (handled_of (received log) (issues kinds setup (received log))) j

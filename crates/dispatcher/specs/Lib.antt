@@ -1,0 +1,3 @@
+pub mod Marks
+pub mod Folding
+pub mod Ledger

@@ -1,0 +1,124 @@
+//! The commands of the first event that is not processed.
+ghost use Rattle.std.specs.Prelude.{◌≡◌, ◌&&◌, map, filter, count_by, nat_eq, nat_lt, get_or, length, IfOk};
+ghost use Rattle.std.specs.List.{range_with_len};
+ghost use Rattle.dispatcher.specs.Ledger.{as_numbered, cleared, first_commands, has_told, is_outstanding, wants};
+
+use crate::answers::Through;
+use crate::ledger::Ledger;
+use crate::marks::ViewMarks;
+use crate::numbered::Numbered;
+use app_core::Issued;
+use std::alloc::{AllocError, Global};
+
+/// Whether a command still wants a result: none came, and its life goes on.
+fn wants(ledger: &Ledger, marks: &ViewMarks, command: &Issued) -> bool
+    ensures { result ≡ wants ledger.now marks.now command.now }
+{
+    !marks.has_result(command.switch, command.life, command.number)
+        && !ledger.has_ended(command.switch, command.life)
+}
+
+/// How many commands of the first event that is not processed want a result.
+pub(crate) fn count_wanted(ledger: &Ledger, marks: &ViewMarks) -> usize
+    ensures { result ≡ count_by (wants ledger.now marks.now) (first_commands ledger.now.pending.items) }
+{
+    ledger
+        .first()
+        .iter()
+        .filter(|command| wants(ledger, marks, command))
+        .count()
+}
+
+/// Whether a command wants a result, and its switch took this controller as master.
+fn is_outstanding(ledger: &Ledger, marks: &ViewMarks, command: &Issued) -> bool
+    ensures { result ≡ is_outstanding ledger.now marks.now command.now }
+{
+    wants(ledger, marks, command) && marks.is_confirmed(command.switch)
+}
+
+/// A command as it is sent.
+fn number(ledger: &Ledger, command: &Issued) -> Result<Numbered, AllocError>
+    ensures { IfOk result (λ n. n ≡ as_numbered ledger.now command.now) }
+{
+    let counts = ledger.counts_of(command.switch, command.life);
+    Ok(Numbered {
+        switch: command.switch,
+        life: command.life,
+        number: command.number,
+        settled: counts.settled,
+        order: command.order.copy()?,
+    })
+}
+
+/// The commands of the first event that is not processed that want a result, on switches that took this controller
+/// as master.
+pub(crate) fn outstanding(
+    alloc: Global,
+    ledger: &Ledger,
+    marks: &ViewMarks,
+) -> Result<Vec<Numbered>, AllocError>
+    ensures { IfOk result (λ list. list.items ≡ map (as_numbered ledger.now) (filter (is_outstanding ledger.now marks.now) (first_commands ledger.now.pending.items))) }
+{
+    let mut list = Vec::new(alloc);
+    for command in ledger.first() {
+        if is_outstanding(ledger, marks, command) {
+            list.push(number(ledger, command)?)?;
+        }
+    }
+    Ok(list)
+}
+
+/// Those of them on one switch.
+pub(crate) fn outstanding_on(
+    alloc: Global,
+    switch: u8,
+    ledger: &Ledger,
+    marks: &ViewMarks,
+) -> Result<Vec<Numbered>, AllocError>
+    ensures { IfOk result (λ list. list.items ≡ map (as_numbered ledger.now) (filter (λ x. is_outstanding ledger.now marks.now x && nat_eq x.switch switch) (first_commands ledger.now.pending.items))) }
+{
+    let mut list = Vec::new(alloc);
+    for command in ledger.first() {
+        if is_outstanding(ledger, marks, command) && command.switch == switch {
+            list.push(number(ledger, command)?)?;
+        }
+    }
+    Ok(list)
+}
+
+/// Whether the present life of a switch has one of these commands.
+fn has_told(ledger: &Ledger, switch: u8, commands: &[Issued]) -> bool
+    ensures { result ≡ has_told ledger.now commands.now switch }
+{
+    commands.iter().any(|x| x.switch == switch && !ledger.has_ended(x.switch, x.life))
+}
+
+/// How many commands of the present life of a switch are settled.
+fn cleared(ledger: &Ledger, switch: u8) -> Through
+    ensures { result ≡ cleared ledger.now switch }
+{
+    let life = ledger.life_of(switch);
+    Through {
+        switch,
+        life,
+        through: ledger.counts_of(switch, life).settled,
+    }
+}
+
+/// What each switch whose present life has one of these commands is told, ascending.
+pub(crate) fn clears(
+    alloc: Global,
+    switches: u8,
+    ledger: &Ledger,
+    commands: &[Issued],
+) -> Result<Vec<Through>, AllocError>
+    ensures { IfOk result (λ list. list.items ≡ map (cleared ledger.now) (filter (has_told ledger.now commands.now) (range_with_len 0 switches))) }
+{
+    let mut list = Vec::new(alloc);
+    for switch in 0..switches {
+        if has_told(ledger, switch, commands) {
+            list.push(cleared(ledger, switch))?;
+        }
+    }
+    Ok(list)
+}

@@ -1,0 +1,220 @@
+//! The dispatcher of a primary.
+ghost use Rattle.std.specs.Prelude.{◌≡◌, ◌≤◌, ◌∷◌, ◌++◌, ℕ, [], List, Option, Some, None, map, filter, nat_eq, nat_lt, ◌&&◌, true, IfOk, OnOk, if◌then◌else◌};
+ghost use Rattle.of_types.specs.declared.setup.Setup.{Setup};
+ghost use Rattle.of_types.specs.Setups.{IsSetup};
+ghost use Rattle.of_types.specs.Lives.{has_ended, is_switch_up};
+ghost use Rattle.vr_log.specs.declared.entry.Entry.{Entry};
+ghost use Rattle.vr_log.specs.Log.{fits, received, processed};
+ghost use Rattle.two_stage_log.specs.Counts as counts;
+ghost use Rattle.dispatcher.specs.Folding as folding;
+ghost use Rattle.dispatcher.specs.Folding.{numbered, wish};
+ghost use Rattle.dispatcher.specs.Ledger.{ForEachLog, StandsFor, handled_by, most_commands};
+ghost use Rattle.dispatcher.specs.Marks as marks;
+ghost use Rattle.dispatcher.specs.Marks.{confirmed_by, is_confirmed, is_finished, is_pending, no_marks, with_result};
+
+use crate::answers::{Handled, Through, Wish};
+use crate::commands;
+use crate::ledger::Ledger;
+use crate::marks::ViewMarks;
+use crate::numbered::Numbered;
+use app_core::App;
+use of_types::{Event, Setup, is_switch_up};
+use std::alloc::{AllocError, Global};
+use std::marker::Model;
+use vr_log::{Entry, Log};
+
+/// What a primary makes of the committed log: its application has taken the events of that log, each once and in
+/// order. Beside it stand the marks of this view: which switches took the controller as master, and of which commands
+/// results came. Contracts ask for the log that it stands for. At want of memory it is to be dropped.
+#[derive(Drop)]
+pub struct Dispatcher<A> {
+    alloc: Global,
+    app: A,
+    switches: u8,
+    ledger: Ledger,
+    marks: ViewMarks,
+}
+
+impl<A> Model for Dispatcher<A> {
+    ghost use Rattle.dispatcher.specs.Ledger.{Dispatching};
+
+    ghost Value = { Dispatching A };
+
+    ghost view = { λ d. record { app = d.app; switches = d.switches; ledger = d.ledger; marks = d.marks } };
+}
+
+/// Whether an event may follow a log in which its switch has this life, and this number is next in it.
+fn may_follow(event: &Event, life: u32, next: u64) -> bool
+    ensures { result ≡ (if nat_eq event.now.life life then nat_eq event.now.number next else nat_lt life event.now.life && nat_eq event.now.number 0 && is_switch_up event.now.what) }
+{
+    if event.life == life {
+        event.number == next
+    } else {
+        life < event.life && event.number == 0 && is_switch_up(&event.what)
+    }
+}
+
+impl<A: App> Dispatcher<A> {
+    /// Owns the application of a life, which starts here. No entry is committed.
+    pub fn new(alloc: Global, app: A, setup: &Setup) -> Result<Dispatcher<A>, AllocError>
+        requires setup { IsSetup setup.now }
+        requires few { A.most app ≤ most_commands }
+        ensures stands { IfOk result (λ d. StandsFor A.kinds A.most A.states A.suits d (A.kinds app) setup.now []) }
+        ensures marks { IfOk result (λ d. d.marks ≡ no_marks) }
+    {
+        let mut app = app;
+        app.start(alloc, setup)?;
+        Ok(Dispatcher {
+            alloc,
+            app,
+            switches: setup.ports.len() as u8,
+            ledger: Ledger::new(alloc),
+            marks: ViewMarks::new(alloc),
+        })
+    }
+
+    /// One entry more is committed: the application reacts to an event that is received. What is processed
+    /// comes back.
+    pub fn fold(&mut self, entry: &Entry) -> Result<Option<Handled>, AllocError>
+        ensures folds { ForEachLog (StandsFor A.kinds A.most A.states A.suits self.old) (λ kinds setup log. fits log entry.now ≡ true →
+            IfOk result (λ handled. (handled ≡ handled_by kinds setup log entry.now) × StandsFor A.kinds A.most A.states A.suits self.new kinds setup (log ++ entry.now ∷ []))) }
+        ensures marks { self.new.marks ≡ self.old.marks }
+    {
+        match entry {
+            Entry::Received(event) => {
+                let commands = self.app.react(self.alloc, event)?;
+                self.ledger.receive(event, commands)?;
+                Ok(None)
+            }
+            Entry::Processed(_) => self.ledger.process(),
+        }
+    }
+
+    /// What is done with an event from a switch, by the log and what is committed of it.
+    pub fn on_event(&self, event: &Event, log: &Log) -> Wish
+        ensures { ForEachLog (StandsFor A.kinds A.most A.states A.suits self.now) (λ kinds setup committed. result ≡ wish log.now committed event.now) }
+    {
+        let (life, next) = log.next_place(event.switch);
+        if may_follow(event, life, next) {
+            return Wish::Propose;
+        }
+        let through = self.ledger.counts_of(event.switch, event.life).processed;
+        if event.life == life && event.number < through {
+            Wish::Acknowledge { through }
+        } else {
+            Wish::Nothing
+        }
+    }
+
+    /// A result of a command came: it counts where the command is of an event that is not processed, and tells
+    /// whether it is.
+    pub fn on_result(&mut self, switch: u8, life: u32, number: u64) -> Result<bool, AllocError>
+        ensures pending { ForEachLog (StandsFor A.kinds A.most A.states A.suits self.old) (λ kinds setup log. IfOk result (λ b. b ≡ is_pending kinds setup log switch life number)) }
+        ensures marks { ForEachLog (StandsFor A.kinds A.most A.states A.suits self.old) (λ kinds setup log. OnOk result (self.new.marks ≡ with_result kinds setup log self.old.marks switch life number)) }
+        ensures same { self.new ≡ record self.old { marks = self.new.marks } }
+    {
+        let counts = self.ledger.counts_of(switch, life);
+        let pending = counts.settled <= number && number < counts.issued;
+        if pending {
+            self.marks.note_result(switch, life, number)?;
+        }
+        Ok(pending)
+    }
+
+    /// A switch took this controller as master. It takes no memory.
+    pub fn on_role(&mut self, switch: u8)
+        ensures { self.new ≡ record self.old { marks = confirmed_by self.old.marks switch } }
+    {
+        self.marks.confirm(switch);
+    }
+
+    /// A switch no longer has this controller as master. It takes no memory.
+    pub fn off_role(&mut self, switch: u8)
+        ensures { self.new ≡ record self.old { marks = marks.off_role self.old.marks switch } }
+    {
+        self.marks.unconfirm(switch);
+    }
+
+    /// A view begins: what came in earlier ones is forgotten. It takes no memory.
+    pub fn begin_view(&mut self)
+        ensures { self.new ≡ record self.old { marks = no_marks } }
+    {
+        self.marks.clear();
+    }
+
+    /// Whether a switch took this controller as master in this view.
+    pub fn confirmed(&self, switch: u8) -> bool
+        ensures { result ≡ is_confirmed self.now.marks switch }
+    {
+        self.marks.is_confirmed(switch)
+    }
+
+    /// How many events are processed: the place of the first one that is not.
+    pub fn processed(&self) -> u64
+        ensures { ForEachLog (StandsFor A.kinds A.most A.states A.suits self.now) (λ kinds setup log. result ≡ processed log) }
+    {
+        self.ledger.processed()
+    }
+
+    /// Whether an event is received and not processed.
+    pub fn has_unprocessed(&self) -> bool
+        ensures { ForEachLog (StandsFor A.kinds A.most A.states A.suits self.now) (λ kinds setup log. result ≡ counts.has_unprocessed log) }
+    {
+        self.ledger.has_unprocessed()
+    }
+
+    /// The commands of the first unprocessed event that want a result, on confirmed switches, in the order of issue.
+    pub fn outstanding(&self) -> Result<Vec<Numbered>, AllocError>
+        ensures { ForEachLog (StandsFor A.kinds A.most A.states A.suits self.now) (λ kinds setup log.
+            IfOk result (λ list. list.items ≡ map (numbered kinds setup log) (marks.outstanding kinds setup log self.now.marks))) }
+    {
+        commands::outstanding(self.alloc, &self.ledger, &self.marks)
+    }
+
+    /// Those of them on one switch.
+    pub fn outstanding_on(&self, switch: u8) -> Result<Vec<Numbered>, AllocError>
+        ensures { ForEachLog (StandsFor A.kinds A.most A.states A.suits self.now) (λ kinds setup log.
+            IfOk result (λ list. list.items ≡ map (numbered kinds setup log) (filter (λ x. nat_eq x.switch switch) (marks.outstanding kinds setup log self.now.marks)))) }
+    {
+        commands::outstanding_on(self.alloc, switch, &self.ledger, &self.marks)
+    }
+
+    /// Whether there is a first unprocessed event, and none of its commands wants a result.
+    pub fn finished(&self) -> bool
+        ensures { ForEachLog (StandsFor A.kinds A.most A.states A.suits self.now) (λ kinds setup log. result ≡ is_finished kinds setup log self.now.marks) }
+    {
+        self.ledger.has_unprocessed() && commands::count_wanted(&self.ledger, &self.marks) == 0
+    }
+
+    /// What acknowledges an event that is processed: so many events of its life are, while that life goes on.
+    pub fn acknowledgement(&self, handled: &Handled) -> Option<Through>
+        ensures { ForEachLog (StandsFor A.kinds A.most A.states A.suits self.now) (λ kinds setup log.
+            result ≡ (if has_ended handled.now.switch handled.now.life (received log) then None else Some (folding.acknowledgement log handled.now.switch handled.now.life))) }
+    {
+        if self.ledger.has_ended(handled.switch, handled.life) {
+            return None;
+        }
+        Some(Through {
+            switch: handled.switch,
+            life: handled.life,
+            through: self
+                .ledger
+                .counts_of(handled.switch, handled.life)
+                .processed,
+        })
+    }
+
+    /// What is told to each switch whose present life has a command of an event that is processed, ascending: so
+    /// many commands of that life are settled.
+    pub fn clears(&self, handled: &Handled) -> Result<Vec<Through>, AllocError>
+        ensures { ForEachLog (StandsFor A.kinds A.most A.states A.suits self.now) (λ kinds setup log.
+            IfOk result (λ list. list.items ≡ folding.clears kinds setup log handled.now.commands)) }
+    {
+        commands::clears(
+            self.alloc,
+            self.switches,
+            &self.ledger,
+            handled.commands.as_slice(),
+        )
+    }
+}

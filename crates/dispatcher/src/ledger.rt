@@ -1,0 +1,181 @@
+//! What is kept of a committed log.
+ghost use Rattle.std.specs.Prelude.{◌≡◌, ◌∷◌, ◌++◌, ◌<◌, ◌≤◌, ◌+◌, ◌^◌, ℕ, [], List, Option, None, Some, length, get_or, nat_lt, replicate, take, true, IfOk, OnOk};
+ghost use Rattle.of_types.specs.declared.message.Event.{Event};
+ghost use Rattle.of_types.specs.declared.setup.Setup.{Setup};
+ghost use Rattle.vr_log.specs.declared.entry.Entry.{Entry};
+ghost use Rattle.vr_log.specs.declared.entry.Entry.TheVariants.{Received, Processed};
+ghost use Rattle.vr_log.specs.Log.{received, fits};
+ghost use Rattle.app_core.specs.declared.issued.Issued.{Issued};
+ghost use Rattle.app_core.specs.Chain.{chain_next, chain_after, starting_chain};
+ghost use Rattle.app_core.specs.Issued.{issue_each};
+ghost use Rattle.dispatcher.specs.Ledger.{AreCounts, AreLives, IsCountedAs, IsLedger, counts_of, first_commands, handled_by, most_commands, one_issued, one_processed, one_settled};
+
+use crate::answers::Handled;
+use crate::counts::{Counts, LifeCounts};
+use crate::lives::Lives;
+use app_core::Issued;
+use of_types::{Command, Commands, Event, Items};
+use std::alloc::{AllocError, Global};
+use std::collections::VecDeque;
+
+/// What is kept of a committed log: the present life of each switch, what is counted of each life, and the events that
+/// are received and not processed, with their commands.
+#[derive(Drop)]
+pub(crate) struct Ledger {
+    alloc: Global,
+    lives: Lives,
+    counts: LifeCounts,
+    pending: VecDeque<Handled>,
+    processed: u64,
+}
+
+impl Ledger {
+    /// That of the empty log. It takes no memory.
+    pub(crate) fn new(alloc: Global) -> Ledger
+        ensures { (kinds : List ℕ) (setup : Setup) → IsLedger kinds setup [] result }
+    {
+        Ledger {
+            alloc,
+            lives: Lives::new(),
+            counts: LifeCounts::new(alloc),
+            pending: VecDeque::new(alloc),
+            processed: 0,
+        }
+    }
+
+    /// How many events it has as processed.
+    pub(crate) fn processed(&self) -> u64
+        ensures { result ≡ self.now.processed }
+    {
+        self.processed
+    }
+
+    /// Whether an event is received and not processed.
+    pub(crate) fn has_unprocessed(&self) -> bool
+        ensures { result ≡ nat_lt 0 (length self.now.pending.items) }
+    {
+        !self.pending.is_empty()
+    }
+
+    /// The commands of the first event that is not processed.
+    pub(crate) fn first(&self) -> &[Issued]
+        ensures { result.now ≡ first_commands self.now.pending.items }
+    {
+        match self.pending.front() {
+            Some(handled) => handled.commands.as_slice(),
+            None => &[],
+        }
+    }
+
+    /// Whether a later life of a switch has begun.
+    pub(crate) fn has_ended(&self, switch: u8, life: u32) -> bool
+        ensures { result ≡ nat_lt life (get_or self.now.lives switch 0) }
+    {
+        life < self.lives.of(switch)
+    }
+
+    /// The present life of a switch.
+    pub(crate) fn life_of(&self, switch: u8) -> u32
+        ensures { result ≡ get_or self.now.lives switch 0 }
+    {
+        self.lives.of(switch)
+    }
+
+    /// What is counted of a life of a switch.
+    pub(crate) fn counts_of(&self, switch: u8, life: u32) -> Counts
+        ensures { result ≡ counts_of self.now.counts switch life }
+    {
+        self.counts.of(switch, life)
+    }
+
+    /// A command gets the present life of its switch, and the next number there.
+    fn issue(&mut self, command: Command) -> Result<Issued, AllocError>
+        ensures given { IfOk result (λ x. x ≡ record { switch = command.switch; life = get_or self.old.lives command.switch 0; number = (counts_of self.old.counts command.switch (get_or self.old.lives command.switch 0)).issued; order = command.order }) }
+        ensures counted { IfOk result (λ x. IsCountedAs self.old.counts x.switch x.life (one_issued (counts_of self.old.counts x.switch x.life)) self.new.counts) }
+        ensures same { self.new ≡ record self.old { counts = self.new.counts } }
+    {
+        let switch = command.switch;
+        let life = self.lives.of(switch);
+        let mut counts = self.counts.of(switch, life);
+        let number = counts.issued;
+        counts.issued = number.saturating_add(1);
+        self.counts.put(switch, life, counts)?;
+        Ok(Issued {
+            switch,
+            life,
+            number,
+            order: command.order,
+        })
+    }
+
+    fn issue_each(&mut self, commands: Commands) -> Result<Items<Issued>, AllocError>
+        ensures issued { (events done : List Event) (before settled : List Issued) → AreLives events self.old.lives → AreCounts done before settled self.old.counts →
+            length before + length commands < 2 ^ 64 → IfOk result (λ issued. (issued ≡ issue_each events before commands) × AreCounts done (before ++ issued) settled self.new.counts) }
+        ensures same { self.new ≡ record self.old { counts = self.new.counts } }
+    {
+        let mut issued = Items::new(self.alloc);
+        'commands: for command in commands.into_vec() {
+            issued.push(self.issue(command)?)?;
+        }
+        Ok(issued)
+    }
+
+    /// An event is committed as received, and these commands are issued for it.
+    pub(crate) fn receive(&mut self, event: &Event, commands: Commands) -> Result<(), AllocError>
+        ensures { (kinds : List ℕ) (setup : Setup) (log : List Entry) → IsLedger kinds setup log self.old → fits log (Received event.now) ≡ true →
+            commands ≡ (chain_next kinds setup (chain_after kinds setup (starting_chain kinds) (received log)) event.now).commands → length commands ≤ most_commands →
+            OnOk result (IsLedger kinds setup (log ++ Received event.now ∷ []) self.new) }
+    {
+        self.lives.begin(event.switch, event.life);
+        let commands = self.issue_each(commands)?;
+        self.pending.push_back(Handled {
+            switch: event.switch,
+            life: event.life,
+            commands,
+        })?;
+        Ok(())
+    }
+
+    fn count_processed(&mut self, switch: u8, life: u32) -> Result<(), AllocError>
+        ensures counted { OnOk result (IsCountedAs self.old.counts switch life (one_processed (counts_of self.old.counts switch life)) self.new.counts) }
+        ensures same { self.new ≡ record self.old { counts = self.new.counts } }
+    {
+        let mut counts = self.counts.of(switch, life);
+        counts.processed = counts.processed.saturating_add(1);
+        self.counts.put(switch, life, counts)
+    }
+
+    fn settle(&mut self, command: &Issued) -> Result<(), AllocError>
+        ensures counted { OnOk result (IsCountedAs self.old.counts command.now.switch command.now.life (one_settled (counts_of self.old.counts command.now.switch command.now.life)) self.new.counts) }
+        ensures same { self.new ≡ record self.old { counts = self.new.counts } }
+    {
+        let mut counts = self.counts.of(command.switch, command.life);
+        counts.settled = counts.settled.saturating_add(1);
+        self.counts.put(command.switch, command.life, counts)
+    }
+
+    fn settle_each(&mut self, commands: &[Issued]) -> Result<(), AllocError>
+        ensures settled { (done : List Event) (issued settled : List Issued) → AreCounts done issued settled self.old.counts →
+            length settled + length commands.now < 2 ^ 64 → OnOk result (AreCounts done issued (settled ++ commands.now) self.new.counts) }
+        ensures same { self.new ≡ record self.old { counts = self.new.counts } }
+    {
+        'commands: for command in commands {
+            self.settle(command)?;
+        }
+        Ok(())
+    }
+
+    /// The first event that is not processed is committed as processed, and its commands are settled.
+    pub(crate) fn process(&mut self) -> Result<Option<Handled>, AllocError>
+        ensures { (kinds : List ℕ) (setup : Setup) (log : List Entry) (j : ℕ) → IsLedger kinds setup log self.old → fits log (Processed j) ≡ true →
+            IfOk result (λ handled. (handled ≡ handled_by kinds setup log (Processed j)) × IsLedger kinds setup (log ++ Processed j ∷ []) self.new) }
+    {
+        let Some(handled) = self.pending.pop_front() else {
+            return Ok(None);
+        };
+        self.processed = self.processed.saturating_add(1);
+        self.count_processed(handled.switch, handled.life)?;
+        self.settle_each(handled.commands.as_slice())?;
+        Ok(Some(handled))
+    }
+}

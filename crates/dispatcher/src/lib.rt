@@ -1,0 +1,16 @@
+//! What a primary makes of the committed log (Ravana, 4.2): what its application issues for each event, which commands
+//! still want a result, and what is answered to switches.
+#![tactic(auto)]
+
+mod answers;
+mod commands;
+mod counts;
+mod dispatcher;
+mod ledger;
+mod lives;
+mod marks;
+mod numbered;
+
+pub use answers::{Handled, Through, Wish};
+pub use dispatcher::Dispatcher;
+pub use numbered::Numbered;

@@ -1,6 +1,9 @@
-use crate::samples::{Said, Step, Told, first_switch, hears, plays};
+use crate::samples::{End, Said, Step, Told, first_switch, hears, plays_to_end};
+use of_switch::Switch;
 use of_types::{EQUAL, MASTER, NO_CHANGE, SLAVE};
 use rv_base::Actor;
+use std::alloc::{AllocError, Global};
+use std::process::Abort;
 use std::test::Fail;
 
 const ASKER: Actor = Actor::Controller(0);
@@ -22,31 +25,26 @@ const ANSWERS: &[(u8, Option<Told>)] = &[
     (25, Some(Told::Error(1, 1, 0))),
 ];
 
-/// Each message of OpenFlow has its answer.
-#[test]
-fn answers_each_message(rt: HostRuntime) -> Result<(), Fail> {
-    let mut switch = first_switch(rt.alloc())?;
+fn answers(rt: &impl Abort, alloc: Global, switch: &mut Switch) -> Result<(), Fail> {
     for &(kind, answer) in ANSWERS {
         match answer {
-            Some(told) => {
-                hears(
-                    &rt,
-                    rt.alloc(),
-                    &mut switch,
-                    Step::Plain(kind),
-                    &[(ASKER, 7, told)],
-                )?;
-            }
-            None => hears(&rt, rt.alloc(), &mut switch, Step::Plain(kind), &[])?,
+            Some(told) => hears(rt, alloc, switch, Step::Plain(kind), &[(ASKER, 7, told)])?,
+            None => hears(rt, alloc, switch, Step::Plain(kind), &[])?,
         }
     }
     Ok(())
 }
 
+/// Each message of OpenFlow has its answer.
+#[test]
+fn answers_each_message(rt: HostRuntime) -> Result<(), Fail> {
+    let mut switch = first_switch(rt.alloc())?;
+    answers(&rt, rt.alloc(), &mut switch)
+}
+
 /// A controller is told why its body spells nothing, a switch isn't. What is none of its business changes nothing.
 #[test]
 fn refuses_malformed_bodies(rt: HostRuntime) -> Result<(), Fail> {
-    let mut switch = first_switch(rt.alloc())?;
     let script: &[(Step, &[Said])] = &[
         (Step::Malformed(ASKER), &[(ASKER, 7, Told::Error(5, 6, 2))]),
         (Step::Malformed(Actor::Switch(1)), &[]),
@@ -57,8 +55,16 @@ fn refuses_malformed_bodies(rt: HostRuntime) -> Result<(), Fail> {
         (Step::Suspect, &[]),
         (Step::Tick, &[]),
     ];
-    plays(&rt, rt.alloc(), &mut switch, script)?;
-    Ok(())
+    let end = End {
+        life: 0,
+        held: 0,
+        events: 0,
+        executed: &[],
+        sent: 0,
+        rows: 1,
+        generation: None,
+    };
+    plays_to_end(&rt, rt.alloc(), script, end)
 }
 
 /// Requests for roles by controller, role and generation, and the answers.
@@ -74,17 +80,13 @@ const ROLES: &[(u8, u32, u64, Told)] = &[
     (1, EQUAL, 0, Told::Role(EQUAL, 5)),
 ];
 
-/// A second controller asks with an older generation and is refused; the first asks again. Roles change as the
-/// fence says.
-#[test]
-fn fences_roles(rt: HostRuntime) -> Result<(), Fail> {
-    let mut switch = first_switch(rt.alloc())?;
+fn fences(rt: &impl Abort, alloc: Global, switch: &mut Switch) -> Result<(), Fail> {
     for &(from, role, generation, told) in ROLES {
         let said = (Actor::Controller(from), 7, told);
         hears(
-            &rt,
-            rt.alloc(),
-            &mut switch,
+            rt,
+            alloc,
+            switch,
             Step::Role(from, role, generation),
             &[said],
         )?;
@@ -92,4 +94,12 @@ fn fences_roles(rt: HostRuntime) -> Result<(), Fail> {
     assert_eq!(rt; switch.fence().master(), None);
     assert_eq!(rt; switch.fence().generation(), Some(5));
     Ok(())
+}
+
+/// A second controller asks with an older generation and is refused; the first asks again. Roles change as the
+/// fence says.
+#[test]
+fn fences_roles(rt: HostRuntime) -> Result<(), Fail> {
+    let mut switch = first_switch(rt.alloc())?;
+    fences(&rt, rt.alloc(), &mut switch)
 }

@@ -7,6 +7,7 @@ use of_types::{
 use rv_base::{Actor, Letter, Local};
 use std::alloc::{AllocError, Global};
 use std::process::Abort;
+use std::test::Fail;
 
 /// The frame from 02:00:00:00:00:01 to 02:00:00:00:00:02.
 pub const FRAME: &[u8] = b"\x02\0\0\0\0\x02\x02\0\0\0\0\x01\x88\xb5";
@@ -16,6 +17,15 @@ pub const BACK: &[u8] = b"\x02\0\0\0\0\x01\x02\0\0\0\0\x02\x88\xb5";
 
 /// Thirteen bytes: too few for a frame.
 pub const SHORT: &[u8] = b"\0\0\0\0\0\0\0\0\0\0\0\0\0";
+
+pub const C1: Actor = Actor::Controller(1);
+
+/// Each controller is greeted.
+pub const HELLOS: &[Said] = &[
+    (Actor::Controller(0), 0, Told::Hello),
+    (Actor::Controller(1), 0, Told::Hello),
+    (Actor::Controller(2), 0, Told::Hello),
+];
 
 /// What a letter tells.
 #[derive(Clone, Copy, PartialEq, Eq, Debug)]
@@ -362,4 +372,67 @@ pub fn plays(
         hears(rt, alloc, switch, *step, want)?;
     }
     Ok(())
+}
+
+/// What a switch tells of itself at the end of a script.
+#[derive(Clone, Copy)]
+pub struct End {
+    pub life: u32,
+    pub held: u64,
+    pub events: usize,
+    /// The lives of the commands that it carried out, in order.
+    pub executed: &'static [u32],
+    pub sent: u64,
+    pub rows: usize,
+    pub generation: Option<u64>,
+}
+
+/// A switch has carried out commands of these lives.
+fn executed_in(rt: &impl Abort, switch: &Switch, lives: &[u32]) {
+    assert_eq!(rt; switch.executed().len(), lives.len());
+    for (executed, life) in switch.executed().iter().zip(lives) {
+        assert_eq!(rt; executed.life, *life);
+    }
+}
+
+fn counts(rt: &impl Abort, switch: &Switch, end: End) {
+    let told = (
+        switch.life(),
+        switch.held(),
+        switch.events().len(),
+        switch.sent(),
+    );
+    assert_eq!(rt; told, (end.life, end.held, end.events, end.sent));
+}
+
+fn ends(rt: &impl Abort, switch: &Switch, end: End) -> Result<(), AllocError> {
+    counts(rt, switch, end);
+    executed_in(rt, switch, end.executed);
+    assert_eq!(rt; switch.fence().generation(), end.generation);
+    let rows = switch.rows()?.len();
+    assert_eq!(rt; rows, end.rows);
+    Ok(())
+}
+
+fn plays_and_ends(
+    rt: &impl Abort,
+    alloc: Global,
+    switch: &mut Switch,
+    script: &[(Step, &[Said])],
+    end: End,
+) -> Result<(), Fail> {
+    plays(rt, alloc, switch, script)?;
+    ends(rt, switch, end)?;
+    Ok(())
+}
+
+/// Inputs, what a switch says to each from its start on, and what it then tells of itself.
+pub fn plays_to_end(
+    rt: &impl Abort,
+    alloc: Global,
+    script: &[(Step, &[Said])],
+    end: End,
+) -> Result<(), Fail> {
+    let mut switch = first_switch(alloc)?;
+    plays_and_ends(rt, alloc, &mut switch, script, end)
 }

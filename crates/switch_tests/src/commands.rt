@@ -1,6 +1,6 @@
 use crate::samples::{
-    BACK, C1, Change, End, FRAME, HELLOS, SHORT, Said, Step, Told, What, add, first_switch, hears,
-    plays, plays_to_end,
+    BACK, C1, Change, End, FRAME, HELLOS, MASTERED, SHORT, Said, Step, Told, What, add,
+    first_switch, hears, plays, plays_to_end,
 };
 use of_switch::Switch;
 use of_types::{
@@ -11,9 +11,6 @@ use rv_base::Actor;
 use std::alloc::{AllocError, Global};
 use std::process::Abort;
 use std::test::Fail;
-
-/// Controller 1 becomes master, by generation 1.
-const MASTERED: (Step, &[Said]) = (Step::Role(1, MASTER, 1), &[(C1, 7, Told::Role(MASTER, 1))]);
 
 /// A frame goes over the link of port 2 to switch 1.
 const OVER_LINK: Said = (Actor::Switch(1), 0, Told::Frame(2, 14));
@@ -92,6 +89,7 @@ fn fills(rt: &impl Abort, alloc: Global, switch: &mut Switch) -> Result<(), Allo
     Ok(())
 }
 
+/// An output to a port that there is not. Each change below has one more fault, which is told first.
 fn bad_port(change: Change) -> Change {
     Change {
         output: 3,

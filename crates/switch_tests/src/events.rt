@@ -1,5 +1,6 @@
 use crate::samples::{
-    BACK, C1, End, FRAME, HELLOS, SHORT, Said, Step, Told, What, first_switch, hears, plays_to_end,
+    BACK, C1, End, FRAME, HELLOS, MASTERED, SHORT, Said, Step, Told, What, first_switch, hears,
+    plays_to_end,
 };
 use of_switch::Switch;
 use of_types::{ANY_PORT, FLOOD, MASTER, NO_BUFFER};
@@ -72,7 +73,7 @@ fn full_buffer_remembers_a_port(rt: HostRuntime) -> Result<(), Fail> {
 #[test]
 fn tells_ports(rt: HostRuntime) -> Result<(), Fail> {
     let script: &[(Step, &[Said])] = &[
-        (Step::Role(1, MASTER, 1), &[(C1, 7, Told::Role(MASTER, 1))]),
+        MASTERED,
         (Step::Port(2, true), &[]),
         (Step::Port(3, false), &[]),
         (Step::Port(0, false), &[]),
@@ -115,7 +116,7 @@ const BEGUN: &[Said] = &[
 #[test]
 fn restarts_begin_a_life(rt: HostRuntime) -> Result<(), Fail> {
     let script: &[(Step, &[Said])] = &[
-        (Step::Role(1, MASTER, 1), &[(C1, 7, Told::Role(MASTER, 1))]),
+        MASTERED,
         (Step::Frame(1, FRAME), &[(C1, 0, Told::Packet(0, 0, 1, 0))]),
         (
             Step::Port(2, false),

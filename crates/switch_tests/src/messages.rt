@@ -1,6 +1,6 @@
 use crate::samples::{End, Said, Step, Told, first_switch, hears, plays_to_end};
 use of_switch::Switch;
-use of_types::{EQUAL, MASTER, NO_CHANGE, SLAVE};
+use of_types::{EQUAL, MASTER, NO_CHANGE, SLAVE, message_type};
 use rv_base::Actor;
 use std::alloc::{AllocError, Global};
 use std::process::Abort;
@@ -10,19 +10,20 @@ const ASKER: Actor = Actor::Controller(0);
 
 /// Each type of message, and the answer to it, if there is one.
 const ANSWERS: &[(u8, Option<Told>)] = &[
-    (0, None),
-    (1, None),
-    (2, Some(Told::Echo(3))),
-    (3, None),
-    (4, Some(Told::Error(1, 1, 0))),
-    (5, Some(Told::Datapath(0))),
-    (6, Some(Told::Error(1, 1, 0))),
-    (10, Some(Told::Error(1, 1, 0))),
-    (12, Some(Told::Error(1, 1, 0))),
-    (13, Some(Told::Error(1, 5, 0))),
-    (20, Some(Told::Barrier)),
-    (21, Some(Told::Error(1, 1, 0))),
-    (25, Some(Told::Error(1, 1, 0))),
+    (message_type::HELLO, None),
+    (message_type::ERROR, None),
+    (message_type::ECHO_REQUEST, Some(Told::Echo(3))),
+    (message_type::ECHO_REPLY, None),
+    (message_type::EXPERIMENTER, Some(Told::Error(1, 1, 0))),
+    (message_type::FEATURES_REQUEST, Some(Told::Datapath(0))),
+    (message_type::FEATURES_REPLY, Some(Told::Error(1, 1, 0))),
+    (message_type::PACKET_IN, Some(Told::Error(1, 1, 0))),
+    (message_type::PORT_STATUS, Some(Told::Error(1, 1, 0))),
+    (message_type::PACKET_OUT, Some(Told::Error(1, 5, 0))),
+    (message_type::FLOW_MOD, Some(Told::Error(1, 5, 0))),
+    (message_type::BARRIER_REQUEST, Some(Told::Barrier)),
+    (message_type::BARRIER_REPLY, Some(Told::Error(1, 1, 0))),
+    (message_type::ROLE_REPLY, Some(Told::Error(1, 1, 0))),
 ];
 
 fn answers(rt: &impl Abort, alloc: Global, switch: &mut Switch) -> Result<(), Fail> {

@@ -1,8 +1,8 @@
 use of_switch::{Switch, SwitchInput, SwitchSays};
 use of_types::{
     ANY_GROUP, ANY_PORT, Actions, Extension, FlowCommand, FlowMod, Happening, Items, Link, Links,
-    Match, NO_BUFFER, Octets, OfMessage, Order, Outcome, PacketIn, PacketOut, PortCounts,
-    PortStatus, Setup, Spoken, any_match,
+    MASTER, Match, NO_BUFFER, Octets, OfMessage, Order, Outcome, PacketIn, PacketOut, PortCounts,
+    PortStatus, Setup, Spoken, any_match, message_type,
 };
 use rv_base::{Actor, Letter, Local};
 use std::alloc::{AllocError, Global};
@@ -154,10 +154,10 @@ pub enum What {
     Packet(u32, u32, &'static [u8]),
 }
 
-fn flow_mod(alloc: Global, change: Change) -> Result<Order, AllocError> {
+fn flow_mod(alloc: Global, change: Change) -> Result<FlowMod, AllocError> {
     let mut actions = Actions::new(alloc);
     actions.push(change.output)?;
-    Ok(Order::FlowMod(FlowMod {
+    Ok(FlowMod {
         cookie: 2,
         cookie_mask: 0,
         table: change.table,
@@ -171,7 +171,7 @@ fn flow_mod(alloc: Global, change: Change) -> Result<Order, AllocError> {
         flags: change.flags,
         matching: change.matching,
         actions,
-    }))
+    })
 }
 
 fn packet_out(
@@ -193,7 +193,7 @@ fn packet_out(
 
 fn order(alloc: Global, what: What) -> Result<Order, AllocError> {
     match what {
-        What::Change(change) => flow_mod(alloc, change),
+        What::Change(change) => Ok(Order::FlowMod(flow_mod(alloc, change)?)),
         What::Packet(buffer, output, frame) => {
             Ok(Order::PacketOut(packet_out(alloc, buffer, output, frame)?))
         }
@@ -229,6 +229,9 @@ pub enum Step {
     Malformed(Actor),
 }
 
+/// Controller 1 becomes master, by generation 1.
+pub const MASTERED: (Step, &[Said]) = (Step::Role(1, MASTER, 1), &[(C1, 7, Told::Role(MASTER, 1))]);
+
 fn from(controller: u8, message: Spoken) -> SwitchInput {
     SwitchInput::Of {
         from: controller,
@@ -241,33 +244,34 @@ fn from(controller: u8, message: Spoken) -> SwitchInput {
 fn plain(alloc: Global, kind: u8) -> Result<OfMessage, AllocError> {
     let none = Octets::new(alloc);
     Ok(match kind {
-        0 => OfMessage::Hello,
-        1 => OfMessage::Error {
+        message_type::HELLO => OfMessage::Hello,
+        message_type::ERROR => OfMessage::Error {
             kind: 1,
             code: 1,
             head: none,
         },
-        2 => OfMessage::EchoRequest {
+        message_type::ECHO_REQUEST => OfMessage::EchoRequest {
             body: Octets::from_slice(alloc, &[1, 2, 3])?,
         },
-        3 => OfMessage::EchoReply { body: none },
-        4 => OfMessage::Experimenter { body: none },
-        5 => OfMessage::FeaturesRequest,
-        6 => OfMessage::FeaturesReply { datapath: 1 },
-        10 => OfMessage::PacketIn(PacketIn {
+        message_type::ECHO_REPLY => OfMessage::EchoReply { body: none },
+        message_type::EXPERIMENTER => OfMessage::Experimenter { body: none },
+        message_type::FEATURES_REQUEST => OfMessage::FeaturesRequest,
+        message_type::FEATURES_REPLY => OfMessage::FeaturesReply { datapath: 1 },
+        message_type::PACKET_IN => OfMessage::PacketIn(PacketIn {
             reason: 0,
             cookie: 0,
             in_port: 1,
             payload: none,
         }),
-        12 => OfMessage::PortStatus(PortStatus {
+        message_type::PORT_STATUS => OfMessage::PortStatus(PortStatus {
             reason: 2,
             port: 1,
             up: false,
         }),
-        13 => OfMessage::PacketOut(packet_out(alloc, NO_BUFFER, 1, FRAME)?),
-        20 => OfMessage::BarrierRequest,
-        21 => OfMessage::BarrierReply,
+        message_type::PACKET_OUT => OfMessage::PacketOut(packet_out(alloc, NO_BUFFER, 1, FRAME)?),
+        message_type::FLOW_MOD => OfMessage::FlowMod(flow_mod(alloc, add(0))?),
+        message_type::BARRIER_REQUEST => OfMessage::BarrierRequest,
+        message_type::BARRIER_REPLY => OfMessage::BarrierReply,
         _ => OfMessage::RoleReply {
             role: 2,
             generation: 1,

@@ -240,42 +240,52 @@ fn from(controller: u8, message: Spoken) -> SwitchInput {
     }
 }
 
-/// A message of OpenFlow of a type, with nothing in it. ECHO_REQUEST has three bytes.
-fn plain(alloc: Global, kind: u8) -> Result<OfMessage, AllocError> {
-    let none = Octets::new(alloc);
-    Ok(match kind {
-        message_type::HELLO => OfMessage::Hello,
-        message_type::ERROR => OfMessage::Error {
-            kind: 1,
-            code: 1,
-            head: none,
-        },
-        message_type::ECHO_REQUEST => OfMessage::EchoRequest {
-            body: Octets::from_slice(alloc, &[1, 2, 3])?,
-        },
-        message_type::ECHO_REPLY => OfMessage::EchoReply { body: none },
-        message_type::EXPERIMENTER => OfMessage::Experimenter { body: none },
-        message_type::FEATURES_REQUEST => OfMessage::FeaturesRequest,
+/// A message that a switch sends, by its type.
+fn of_a_switch(alloc: Global, kind: u8) -> OfMessage {
+    match kind {
         message_type::FEATURES_REPLY => OfMessage::FeaturesReply { datapath: 1 },
         message_type::PACKET_IN => OfMessage::PacketIn(PacketIn {
             reason: 0,
             cookie: 0,
             in_port: 1,
-            payload: none,
+            payload: Octets::new(alloc),
         }),
         message_type::PORT_STATUS => OfMessage::PortStatus(PortStatus {
             reason: 2,
             port: 1,
             up: false,
         }),
-        message_type::PACKET_OUT => OfMessage::PacketOut(packet_out(alloc, NO_BUFFER, 1, FRAME)?),
-        message_type::FLOW_MOD => OfMessage::FlowMod(flow_mod(alloc, add(0))?),
-        message_type::BARRIER_REQUEST => OfMessage::BarrierRequest,
         message_type::BARRIER_REPLY => OfMessage::BarrierReply,
         _ => OfMessage::RoleReply {
             role: 2,
             generation: 1,
         },
+    }
+}
+
+/// A message of OpenFlow, by its type. ECHO_REQUEST has three bytes.
+fn plain(alloc: Global, kind: u8) -> Result<OfMessage, AllocError> {
+    Ok(match kind {
+        message_type::HELLO => OfMessage::Hello,
+        message_type::ERROR => OfMessage::Error {
+            kind: 1,
+            code: 1,
+            head: Octets::new(alloc),
+        },
+        message_type::ECHO_REQUEST => OfMessage::EchoRequest {
+            body: Octets::from_slice(alloc, &[1, 2, 3])?,
+        },
+        message_type::ECHO_REPLY => OfMessage::EchoReply {
+            body: Octets::new(alloc),
+        },
+        message_type::EXPERIMENTER => OfMessage::Experimenter {
+            body: Octets::new(alloc),
+        },
+        message_type::FEATURES_REQUEST => OfMessage::FeaturesRequest,
+        message_type::PACKET_OUT => OfMessage::PacketOut(packet_out(alloc, NO_BUFFER, 1, FRAME)?),
+        message_type::FLOW_MOD => OfMessage::FlowMod(flow_mod(alloc, add(0))?),
+        message_type::BARRIER_REQUEST => OfMessage::BarrierRequest,
+        kind => of_a_switch(alloc, kind),
     })
 }
 
@@ -349,6 +359,13 @@ fn input(alloc: Global, step: Step) -> Result<SwitchInput, AllocError> {
     }
 }
 
+fn says(rt: &impl Abort, letters: &[Letter<SwitchSays>], want: &[Said]) {
+    assert_eq!(rt; letters.len(), want.len());
+    for (letter, want) in letters.iter().zip(want) {
+        assert_eq!(rt; said(letter), *want);
+    }
+}
+
 /// A switch says this and no more to an input.
 pub fn hears(
     rt: &impl Abort,
@@ -358,10 +375,8 @@ pub fn hears(
     want: &[Said],
 ) -> Result<(), AllocError> {
     let letters = switch.turn(input(alloc, step)?)?;
-    assert_eq!(rt; letters.len(), want.len());
-    for (letter, want) in letters.as_slice().iter().zip(want) {
-        assert_eq!(rt; said(letter), *want);
-    }
+    says(rt, letters.as_slice(), want);
+    drop(letters);
     Ok(())
 }
 

@@ -177,7 +177,8 @@ impl EventBuffer {
 
     /// The ports that are remembered, ascending.
     pub fn dirty(&self) -> Result<Vec<u32>, AllocError>
-        ensures { IfOk result (λ ports. ports.items ≡ self.now.dirty) }
+        ensures ports { IfOk result (λ ports. ports.items ≡ self.now.dirty) }
+        ensures lawful { IsBuffer self.now }
     {
         let alloc = *self.held.allocator();
         let ports = self.dirty.to_vec(alloc)?;

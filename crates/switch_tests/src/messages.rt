@@ -1,52 +1,51 @@
-use crate::samples::{Said, Step, Told, first_switch, hears, plays};
-use of_types::{EQUAL, MASTER, NO_CHANGE, SLAVE};
+use crate::samples::{End, Said, Step, Told, first_switch, hears, plays_to_end};
+use of_switch::Switch;
+use of_types::{EQUAL, MASTER, NO_CHANGE, SLAVE, message_type};
 use rv_base::Actor;
+use std::alloc::{AllocError, Global};
+use std::process::Abort;
 use std::test::Fail;
 
 const ASKER: Actor = Actor::Controller(0);
 
 /// Each type of message, and the answer to it, if there is one.
 const ANSWERS: &[(u8, Option<Told>)] = &[
-    (0, None),
-    (1, None),
-    (2, Some(Told::Echo(3))),
-    (3, None),
-    (4, Some(Told::Error(1, 1, 0))),
-    (5, Some(Told::Datapath(0))),
-    (6, Some(Told::Error(1, 1, 0))),
-    (10, Some(Told::Error(1, 1, 0))),
-    (12, Some(Told::Error(1, 1, 0))),
-    (13, Some(Told::Error(1, 5, 0))),
-    (20, Some(Told::Barrier)),
-    (21, Some(Told::Error(1, 1, 0))),
-    (25, Some(Told::Error(1, 1, 0))),
+    (message_type::HELLO, None),
+    (message_type::ERROR, None),
+    (message_type::ECHO_REQUEST, Some(Told::Echo(3))),
+    (message_type::ECHO_REPLY, None),
+    (message_type::EXPERIMENTER, Some(Told::Error(1, 1, 0))),
+    (message_type::FEATURES_REQUEST, Some(Told::Datapath(0))),
+    (message_type::FEATURES_REPLY, Some(Told::Error(1, 1, 0))),
+    (message_type::PACKET_IN, Some(Told::Error(1, 1, 0))),
+    (message_type::PORT_STATUS, Some(Told::Error(1, 1, 0))),
+    (message_type::PACKET_OUT, Some(Told::Error(1, 5, 0))),
+    (message_type::FLOW_MOD, Some(Told::Error(1, 5, 0))),
+    (message_type::BARRIER_REQUEST, Some(Told::Barrier)),
+    (message_type::BARRIER_REPLY, Some(Told::Error(1, 1, 0))),
+    (message_type::ROLE_REPLY, Some(Told::Error(1, 1, 0))),
 ];
 
-/// Each message of OpenFlow has its answer.
-#[test]
-fn answers_each_message(rt: HostRuntime) -> Result<(), Fail> {
-    let mut switch = first_switch(rt.alloc())?;
+fn answers(rt: &impl Abort, alloc: Global, switch: &mut Switch) -> Result<(), Fail> {
     for &(kind, answer) in ANSWERS {
         match answer {
-            Some(told) => {
-                hears(
-                    &rt,
-                    rt.alloc(),
-                    &mut switch,
-                    Step::Plain(kind),
-                    &[(ASKER, 7, told)],
-                )?;
-            }
-            None => hears(&rt, rt.alloc(), &mut switch, Step::Plain(kind), &[])?,
+            Some(told) => hears(rt, alloc, switch, Step::Plain(kind), &[(ASKER, 7, told)])?,
+            None => hears(rt, alloc, switch, Step::Plain(kind), &[])?,
         }
     }
     Ok(())
 }
 
+/// Each message of OpenFlow has its answer.
+#[test]
+fn answers_each_message(rt: HostRuntime) -> Result<(), Fail> {
+    let mut switch = first_switch(rt.alloc())?;
+    answers(&rt, rt.alloc(), &mut switch)
+}
+
 /// A controller is told why its body spells nothing, a switch isn't. What is none of its business changes nothing.
 #[test]
 fn refuses_malformed_bodies(rt: HostRuntime) -> Result<(), Fail> {
-    let mut switch = first_switch(rt.alloc())?;
     let script: &[(Step, &[Said])] = &[
         (Step::Malformed(ASKER), &[(ASKER, 7, Told::Error(5, 6, 2))]),
         (Step::Malformed(Actor::Switch(1)), &[]),
@@ -57,8 +56,16 @@ fn refuses_malformed_bodies(rt: HostRuntime) -> Result<(), Fail> {
         (Step::Suspect, &[]),
         (Step::Tick, &[]),
     ];
-    plays(&rt, rt.alloc(), &mut switch, script)?;
-    Ok(())
+    let end = End {
+        life: 0,
+        held: 0,
+        events: 0,
+        executed: &[],
+        sent: 0,
+        rows: 1,
+        generation: None,
+    };
+    plays_to_end(&rt, rt.alloc(), script, end)
 }
 
 /// Requests for roles by controller, role and generation, and the answers.
@@ -74,17 +81,13 @@ const ROLES: &[(u8, u32, u64, Told)] = &[
     (1, EQUAL, 0, Told::Role(EQUAL, 5)),
 ];
 
-/// A second controller asks with an older generation and is refused; the first asks again. Roles change as the
-/// fence says.
-#[test]
-fn fences_roles(rt: HostRuntime) -> Result<(), Fail> {
-    let mut switch = first_switch(rt.alloc())?;
+fn fences(rt: &impl Abort, alloc: Global, switch: &mut Switch) -> Result<(), Fail> {
     for &(from, role, generation, told) in ROLES {
         let said = (Actor::Controller(from), 7, told);
         hears(
-            &rt,
-            rt.alloc(),
-            &mut switch,
+            rt,
+            alloc,
+            switch,
             Step::Role(from, role, generation),
             &[said],
         )?;
@@ -92,4 +95,12 @@ fn fences_roles(rt: HostRuntime) -> Result<(), Fail> {
     assert_eq!(rt; switch.fence().master(), None);
     assert_eq!(rt; switch.fence().generation(), Some(5));
     Ok(())
+}
+
+/// A second controller asks with an older generation and is refused; the first asks again. Roles change as the
+/// fence says.
+#[test]
+fn fences_roles(rt: HostRuntime) -> Result<(), Fail> {
+    let mut switch = first_switch(rt.alloc())?;
+    fences(&rt, rt.alloc(), &mut switch)
 }

@@ -1,12 +1,13 @@
 use of_switch::{Switch, SwitchInput, SwitchSays};
 use of_types::{
     ANY_GROUP, ANY_PORT, Actions, Extension, FlowCommand, FlowMod, Happening, Items, Link, Links,
-    Match, NO_BUFFER, Octets, OfMessage, Order, Outcome, PacketIn, PacketOut, PortCounts,
-    PortStatus, Setup, Spoken, any_match,
+    MASTER, Match, NO_BUFFER, Octets, OfMessage, Order, Outcome, PacketIn, PacketOut, PortCounts,
+    PortStatus, Setup, Spoken, any_match, message_type,
 };
 use rv_base::{Actor, Letter, Local};
 use std::alloc::{AllocError, Global};
 use std::process::Abort;
+use std::test::Fail;
 
 /// The frame from 02:00:00:00:00:01 to 02:00:00:00:00:02.
 pub const FRAME: &[u8] = b"\x02\0\0\0\0\x02\x02\0\0\0\0\x01\x88\xb5";
@@ -16,6 +17,15 @@ pub const BACK: &[u8] = b"\x02\0\0\0\0\x01\x02\0\0\0\0\x02\x88\xb5";
 
 /// Thirteen bytes: too few for a frame.
 pub const SHORT: &[u8] = b"\0\0\0\0\0\0\0\0\0\0\0\0\0";
+
+pub const C1: Actor = Actor::Controller(1);
+
+/// Each controller is greeted.
+pub const HELLOS: &[Said] = &[
+    (Actor::Controller(0), 0, Told::Hello),
+    (Actor::Controller(1), 0, Told::Hello),
+    (Actor::Controller(2), 0, Told::Hello),
+];
 
 /// What a letter tells.
 #[derive(Clone, Copy, PartialEq, Eq, Debug)]
@@ -144,10 +154,10 @@ pub enum What {
     Packet(u32, u32, &'static [u8]),
 }
 
-fn flow_mod(alloc: Global, change: Change) -> Result<Order, AllocError> {
+fn flow_mod(alloc: Global, change: Change) -> Result<FlowMod, AllocError> {
     let mut actions = Actions::new(alloc);
     actions.push(change.output)?;
-    Ok(Order::FlowMod(FlowMod {
+    Ok(FlowMod {
         cookie: 2,
         cookie_mask: 0,
         table: change.table,
@@ -161,7 +171,7 @@ fn flow_mod(alloc: Global, change: Change) -> Result<Order, AllocError> {
         flags: change.flags,
         matching: change.matching,
         actions,
-    }))
+    })
 }
 
 fn packet_out(
@@ -183,7 +193,7 @@ fn packet_out(
 
 fn order(alloc: Global, what: What) -> Result<Order, AllocError> {
     match what {
-        What::Change(change) => flow_mod(alloc, change),
+        What::Change(change) => Ok(Order::FlowMod(flow_mod(alloc, change)?)),
         What::Packet(buffer, output, frame) => {
             Ok(Order::PacketOut(packet_out(alloc, buffer, output, frame)?))
         }
@@ -219,6 +229,9 @@ pub enum Step {
     Malformed(Actor),
 }
 
+/// Controller 1 becomes master, by generation 1.
+pub const MASTERED: (Step, &[Said]) = (Step::Role(1, MASTER, 1), &[(C1, 7, Told::Role(MASTER, 1))]);
+
 fn from(controller: u8, message: Spoken) -> SwitchInput {
     SwitchInput::Of {
         from: controller,
@@ -227,41 +240,52 @@ fn from(controller: u8, message: Spoken) -> SwitchInput {
     }
 }
 
-/// A message of OpenFlow of a type, with nothing in it. ECHO_REQUEST has three bytes.
-fn plain(alloc: Global, kind: u8) -> Result<OfMessage, AllocError> {
-    let none = Octets::new(alloc);
-    Ok(match kind {
-        0 => OfMessage::Hello,
-        1 => OfMessage::Error {
-            kind: 1,
-            code: 1,
-            head: none,
-        },
-        2 => OfMessage::EchoRequest {
-            body: Octets::from_slice(alloc, &[1, 2, 3])?,
-        },
-        3 => OfMessage::EchoReply { body: none },
-        4 => OfMessage::Experimenter { body: none },
-        5 => OfMessage::FeaturesRequest,
-        6 => OfMessage::FeaturesReply { datapath: 1 },
-        10 => OfMessage::PacketIn(PacketIn {
+/// A message that a switch sends, by its type.
+fn of_a_switch(alloc: Global, kind: u8) -> OfMessage {
+    match kind {
+        message_type::FEATURES_REPLY => OfMessage::FeaturesReply { datapath: 1 },
+        message_type::PACKET_IN => OfMessage::PacketIn(PacketIn {
             reason: 0,
             cookie: 0,
             in_port: 1,
-            payload: none,
+            payload: Octets::new(alloc),
         }),
-        12 => OfMessage::PortStatus(PortStatus {
+        message_type::PORT_STATUS => OfMessage::PortStatus(PortStatus {
             reason: 2,
             port: 1,
             up: false,
         }),
-        13 => OfMessage::PacketOut(packet_out(alloc, NO_BUFFER, 1, FRAME)?),
-        20 => OfMessage::BarrierRequest,
-        21 => OfMessage::BarrierReply,
+        message_type::BARRIER_REPLY => OfMessage::BarrierReply,
         _ => OfMessage::RoleReply {
             role: 2,
             generation: 1,
         },
+    }
+}
+
+/// A message of OpenFlow, by its type. ECHO_REQUEST has three bytes.
+fn plain(alloc: Global, kind: u8) -> Result<OfMessage, AllocError> {
+    Ok(match kind {
+        message_type::HELLO => OfMessage::Hello,
+        message_type::ERROR => OfMessage::Error {
+            kind: 1,
+            code: 1,
+            head: Octets::new(alloc),
+        },
+        message_type::ECHO_REQUEST => OfMessage::EchoRequest {
+            body: Octets::from_slice(alloc, &[1, 2, 3])?,
+        },
+        message_type::ECHO_REPLY => OfMessage::EchoReply {
+            body: Octets::new(alloc),
+        },
+        message_type::EXPERIMENTER => OfMessage::Experimenter {
+            body: Octets::new(alloc),
+        },
+        message_type::FEATURES_REQUEST => OfMessage::FeaturesRequest,
+        message_type::PACKET_OUT => OfMessage::PacketOut(packet_out(alloc, NO_BUFFER, 1, FRAME)?),
+        message_type::FLOW_MOD => OfMessage::FlowMod(flow_mod(alloc, add(0))?),
+        message_type::BARRIER_REQUEST => OfMessage::BarrierRequest,
+        kind => of_a_switch(alloc, kind),
     })
 }
 
@@ -335,6 +359,13 @@ fn input(alloc: Global, step: Step) -> Result<SwitchInput, AllocError> {
     }
 }
 
+fn says(rt: &impl Abort, letters: &[Letter<SwitchSays>], want: &[Said]) {
+    assert_eq!(rt; letters.len(), want.len());
+    for (letter, want) in letters.iter().zip(want) {
+        assert_eq!(rt; said(letter), *want);
+    }
+}
+
 /// A switch says this and no more to an input.
 pub fn hears(
     rt: &impl Abort,
@@ -344,10 +375,8 @@ pub fn hears(
     want: &[Said],
 ) -> Result<(), AllocError> {
     let letters = switch.turn(input(alloc, step)?)?;
-    assert_eq!(rt; letters.len(), want.len());
-    for (letter, want) in letters.as_slice().iter().zip(want) {
-        assert_eq!(rt; said(letter), *want);
-    }
+    says(rt, letters.as_slice(), want);
+    drop(letters);
     Ok(())
 }
 
@@ -362,4 +391,67 @@ pub fn plays(
         hears(rt, alloc, switch, *step, want)?;
     }
     Ok(())
+}
+
+/// What a switch tells of itself at the end of a script.
+#[derive(Clone, Copy)]
+pub struct End {
+    pub life: u32,
+    pub held: u64,
+    pub events: usize,
+    /// The lives of the commands that it carried out, in order.
+    pub executed: &'static [u32],
+    pub sent: u64,
+    pub rows: usize,
+    pub generation: Option<u64>,
+}
+
+/// A switch has carried out commands of these lives.
+fn executed_in(rt: &impl Abort, switch: &Switch, lives: &[u32]) {
+    assert_eq!(rt; switch.executed().len(), lives.len());
+    for (executed, life) in switch.executed().iter().zip(lives) {
+        assert_eq!(rt; executed.life, *life);
+    }
+}
+
+fn counts(rt: &impl Abort, switch: &Switch, end: End) {
+    let told = (
+        switch.life(),
+        switch.held(),
+        switch.events().len(),
+        switch.sent(),
+    );
+    assert_eq!(rt; told, (end.life, end.held, end.events, end.sent));
+}
+
+fn ends(rt: &impl Abort, switch: &Switch, end: End) -> Result<(), AllocError> {
+    counts(rt, switch, end);
+    executed_in(rt, switch, end.executed);
+    assert_eq!(rt; switch.fence().generation(), end.generation);
+    let rows = switch.rows()?.len();
+    assert_eq!(rt; rows, end.rows);
+    Ok(())
+}
+
+fn plays_and_ends(
+    rt: &impl Abort,
+    alloc: Global,
+    switch: &mut Switch,
+    script: &[(Step, &[Said])],
+    end: End,
+) -> Result<(), Fail> {
+    plays(rt, alloc, switch, script)?;
+    ends(rt, switch, end)?;
+    Ok(())
+}
+
+/// Inputs, what a switch says to each from its start on, and what it then tells of itself.
+pub fn plays_to_end(
+    rt: &impl Abort,
+    alloc: Global,
+    script: &[(Step, &[Said])],
+    end: End,
+) -> Result<(), Fail> {
+    let mut switch = first_switch(alloc)?;
+    plays_and_ends(rt, alloc, &mut switch, script, end)
 }

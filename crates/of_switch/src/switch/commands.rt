@@ -1,5 +1,5 @@
 //! What a switch does with commands (Ravana, 4.2; OpenFlow 1.3, 6.4 and 7.3.7).
-ghost use Rattle.std.specs.Prelude.{◌≡◌, ◌≢◌, ◌<◌, ◌-◌, ◌^◌, [], ◌∷◌, ◌++◌, true, false, not, length, vec_len, vec_capacity, IfOk, OnErr};
+ghost use Rattle.std.specs.Prelude.{◌≡◌, ◌≢◌, ◌<◌, ◌-◌, ◌^◌, true, not, length, IfOk, OnErr};
 ghost use Rattle.std.specs.List.{list_any};
 ghost use Rattle.of_types.specs.declared.message.Order.TheVariants as orders;
 ghost use Rattle.of_types.specs.declared.message.Outcome.TheVariants as outcomes;

@@ -1,11 +1,11 @@
 //! What a switch makes of what happens (Ravana, 4.1).
-ghost use Rattle.std.specs.Prelude.{◌≡◌, ◌≤◌, ◌<◌, ◌+◌, ◌-◌, ◌^◌, [], true, false, length, take, drop, All, nat_lt, if◌then◌else◌, IfOk, OnOk, OnErr};
+ghost use Rattle.std.specs.Prelude.{◌≡◌, ◌≤◌, ◌<◌, ◌+◌, ◌-◌, ◌^◌, [], true, false, length, take, drop, All, if◌then◌else◌, IfOk, OnOk, OnErr};
 ghost use Rattle.event_buffer.specs.Buffer.{most_held, highest_port, is_full, next_number, cleared_to, with_dirty};
-ghost use Rattle.of_switch.specs.State.{Turned, posts, life_of};
+ghost use Rattle.of_switch.specs.State.{Turned, life_of};
 ghost use Rattle.of_switch.specs.Events.{window, coming as coming_events, first_held, cleared, raised, port_status, port_raised, with_port, next_life, on_port, on_event_ack, brings, on_restart, on_tick};
 ghost use Rattle.of_types.specs.Lives.{last_life};
 ghost use Rattle.role_fence.specs.Fence.{starting_fence};
-ghost use Rattle.of_switch.specs.Drafts.{IsDraft, draft_of, drafted, with_letters, with_told, with_raised, with_ports, forgets, forgetting, all_posted, changed_to, life_begun};
+ghost use Rattle.of_switch.specs.Drafts.{IsDraft, draft_of, drafted, with_raised, with_ports, forgets, forgetting, all_posted, changed_to, life_begun};
 
 use super::{Switch, Table};
 use crate::draft::{Draft, Parts, WINDOW};
@@ -166,7 +166,6 @@ impl Switch {
             return Ok(Vec::new(self.alloc));
         }
         let mut ports = self.buffer.dirty()?;
-        let _held = self.buffer.held();
         ports.truncate(room);
         Ok(ports)
     }

@@ -1,5 +1,5 @@
 //! The ports of a switch (OpenFlow 1.3, 4.1 and 7.2.1).
-ghost use Rattle.std.specs.Prelude.{◌≡◌, ◌≤◌, ◌^◌, ◌<◌, length, not, IfOk};
+ghost use Rattle.std.specs.Prelude.{◌≡◌, ◌≤◌, ◌<◌, length, IfOk};
 ghost use Rattle.of_types.specs.SmallSets.{places_from};
 ghost use Rattle.event_buffer.specs.Buffer.{highest_port};
 ghost use Rattle.of_switch.specs.Events.{is_port, is_down, with_port, port_status};

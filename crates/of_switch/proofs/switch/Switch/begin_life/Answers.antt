@@ -1,28 +1,20 @@
 use Rattle.std.proofs.Common.{◌≡◌, ◌∙◌, ◌++◌, ◌+◌, ◌≤◌, ◌∷◌, [], List, length, sym, ap, subst}
 use Rattle.std.specs.Prelude.{ℕ}
 use Rattle.of_types.specs.declared.message.Event.{Event}
-use Rattle.event_buffer.specs.Buffer.{most_held}
+use Rattle.event_buffer.specs.Buffer.{Buffer, most_held}
 use Rattle.of_switch.specs.contracts.switch.Switch.{the_view}
 use Rattle.of_switch.specs.State.{SwitchState, IsSwitch}
 use Rattle.of_switch.specs.Events.{next_life}
 use Rattle.of_switch.specs.Drafts.{IsDraft, drafted, all_posted}
 use Rattle.of_switch.proofs.Turns.{joined-is, joins-room, drafted-switch, life-switch, renewed, begun}
 use Rattle.of_switch.proofs.switch.Switch.begin_life.Goals as goal
-use Rattle.of_switch.proofs.switch.Switch.begin_life.Goals.{After-drop-events-2, After-post_all-arg-1}
-
--- the switch once its last life has given way
-gave_way : (c : After-post_all-arg-1) → the_view c.self-2.inside ≡ record (next_life (the_view c.self.inside)) { events = c.self.inside.events.items ++ c.args.draft.raised }
-gave_way c =
-    let s : SwitchState = the_view c.self.inside in
-    let new = c.requires.buffer ∙ ap (λ (x : SwitchState). (next_life x).buffer) (sym c.self.view_is) in
-    let events = c.in_ok-append.ensures.items ∙ ap (λ (es : List Event). s.events ++ es) c.into_parts-events.ensures.events in
-    let ended = c.push_reserved.ensures.items ∙ ap (λ (ns : List ℕ). ns ++ c.cleared.result ∷ []) c.reserve.ensures.items ∙ ap (λ (n : ℕ). s.ended ++ n ∷ []) c.cleared.ensures in
-    renewed s (the_view c.self-2.inside) c.args.draft _ _ _ _ _ (c.self-2.view_is ∙ c.renew.ensures) new c.in_ok-results.ensures c.in_ok-rows.ensures events ended
+use Rattle.of_switch.proofs.switch.Switch.begin_life.Goals.{After-drop-events-2}
 
 pub post_all-requires-clause-room : goal.post_all-requires-clause-room
 post_all-requires-clause-room c =
     let is = subst (λ (s : SwitchState). IsDraft (next_life s) c.args.draft) (sym c.self.view_is) c.requires.kind in
-    subst (λ (s : SwitchState). length s.buffer.held + length c.into_parts-events.result.joining.items ≤ most_held) (sym (gave_way c))
+    let new = ap (λ (s : SwitchState). s.buffer) (c.self-2.view_is ∙ c.renew.ensures) ∙ c.requires.buffer ∙ ap (λ (s : SwitchState). (next_life s).buffer) (sym c.self.view_is) in
+    subst (λ (b : Buffer). length b.held + length c.into_parts-events.result.joining.items ≤ most_held) (sym new)
     (joins-room _ c.args.draft _ is c.into_parts-events.ensures.kept)
 
 -- the switch once its last life has given way

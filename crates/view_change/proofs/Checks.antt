@@ -17,7 +17,7 @@ use Rattle.vr_log.specs.declared.message.VrMessage.{VrMessage}
 use Rattle.vr_log.specs.declared.message.VrMessage.TheVariants as message
 use Rattle.vr_log.specs.Valid.{IsValid}
 use Rattle.vr_log.proofs.Steps.{did_then, sound_here}
-use Rattle.view_change.specs.Cases.{do_view_change, collect, supply, supplied, is_wanted}
+use Rattle.view_change.specs.Cases.{do_view_change, collect}
 use Rattle.view_change.specs.Entering.{enter, entered, collects, own_log, sends_log, votes, chooses, check}
 
 -- a choice, state by state and step by step
@@ -197,13 +197,4 @@ collect_on r s u m from view normal commit log copied told old new other mine is
     let here : do_view_change s from (message.DoViewChange view normal commit log) ≡ collect s view (record { from = from; normal = normal; commit = commit; log = log }) = rw (other, mine) refl in
     let step : do_view_change s from m ≡ collect s view (record { from = from; normal = normal; commit = commit; log = told }) =
     ap (λ (x : VrMessage). do_view_change s from x) is ∙ (here ∙ ap (λ (l : List Entry). collect s view (record { from = from; normal = normal; commit = commit; log = l })) (sym (a ∙ b))) in
-    subst (λ (x : VrStep). OnOk r (Did x u old new)) (sym step) h
-
-pub supply_on : {E : Type 0} (r : Result (Unit {0}) E) (s u : VrState) (m : VrMessage) (from view first : ℕ) (log copied told : List Entry) (old new : VrOut) → is_other s from ≡ true → is_wanted s view first log ≡ true →
-    m ≡ message.Supply view first log → told ≡ copied → copied ≡ log →
-    OnOk r (Did (guarded s (check (supplied s first told))) u old new) → OnOk r (Did (supply s from m) u old new)
-supply_on r s u m from view first log copied told old new other wanted is a b h =
-    let here : supply s from (message.Supply view first log) ≡ guarded s (check (supplied s first log)) = rw (other, wanted) refl in
-    let step : supply s from m ≡ guarded s (check (supplied s first told)) =
-    ap (λ (x : VrMessage). supply s from x) is ∙ (here ∙ ap (λ (l : List Entry). guarded s (check (supplied s first l))) (sym (a ∙ b))) in
     subst (λ (x : VrStep). OnOk r (Did x u old new)) (sym step) h

@@ -316,18 +316,33 @@ fn is_wanted(state: &VrState, view: u32, first: u64, log: &[Entry]) -> bool
         && state.front_len() < u128::from(first) + log.len() as u128
 }
 
-/// Keeps supplied entries, and does Check. They join the log only with the view's start.
+/// Takes committed entries, and gives those that there were. They join the log only with the view's start.
+fn take_supply(
+    state: &mut VrState,
+    first: u64,
+    log: &[Entry],
+) -> Result<Option<Supplied>, AllocError>
+    requires valid { IsValid state.old }
+    requires first { first ≤ state.old.commit }
+    ensures former { IfOk result (λ former. former ≡ state.old.supply) }
+    ensures state { OnOk result (state.new ≡ cases.supplied state.old first log.now) }
+{
+    let log = copy_entries(state.log.allocator(), log)?;
+    Ok(mem::replace(&mut state.supply, Some(Supplied { first, log })))
+}
+
+/// Supplied entries for the view that is to start.
 fn keep_supply(
     state: &mut VrState,
     first: u64,
-    log: Entries,
+    log: &[Entry],
     out: &mut VrOut,
 ) -> Result<(), AllocError>
     requires valid { IsValid state.old }
     requires first { first ≤ state.old.commit }
-    ensures { OnOk result (Did (guarded state.old (entering.check (cases.supplied state.old first log))) state.new out.old out.new) }
+    ensures { OnOk result (Did (guarded state.old (entering.check (cases.supplied state.old first log.now))) state.new out.old out.new) }
 {
-    let former = mem::replace(&mut state.supply, Some(Supplied { first, log }));
+    let former = take_supply(state, first, log)?;
     let kept = check(state, out)?;
     if !kept {
         state.supply = former;
@@ -352,8 +367,7 @@ fn supply_step(
             if !is_wanted(state, *view, *first, log.as_slice()) {
                 return Ok(());
             }
-            let entries = copy_entries(state.log.allocator(), log.as_slice())?;
-            keep_supply(state, *first, entries, out)
+            keep_supply(state, *first, log.as_slice(), out)
         }
         _ => Ok(()),
     }

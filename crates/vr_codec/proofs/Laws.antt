@@ -15,11 +15,16 @@ use Rattle.vr_codec.specs.Grammar.{SpellsVr}
 use Rattle.vr_codec.specs.Reading.{vr_at}
 use Rattle.vr_codec.proofs.Again.{vr_again}
 use Rattle.vr_codec.proofs.Takes.{vr_takes}
+use Rattle.vr_codec.proofs.Valid.{vr_valid}
 use Rattle.vr_codec.proofs.Written.{vr_spelled}
 
 pub is_found : (bytes : List ℕ) (r : Result VrMessage VrFault) → IsBytes bytes → GivesVr (λ m. m) r (vr_at bytes) → IfOk r (λ m. SpellsVr bytes m)
 is_found bytes (Ok m) fits e = vr_takes bytes m fits e
 is_found bytes (Err d) fits e = tt
+
+pub is_valid : (bytes : List ℕ) (r : Result VrMessage VrFault) → IsBytes bytes → GivesVr (λ m. m) r (vr_at bytes) → IfOk r (λ m. IsValidVr m)
+is_valid bytes (Ok m) fits e = vr_valid bytes m fits (vr_takes bytes m fits e)
+is_valid bytes (Err d) fits e = tt
 
 not_both : (bytes : List ℕ) (m : VrMessage) (e : VrRefusal) → vr_at bytes ≡ Ok m → vr_at bytes ≡ Err e → ⊥
 not_both bytes m e p q = cc

@@ -1,5 +1,5 @@
--- What is written is spelled.
-use Rattle.std.proofs.Common.{◌≡◌, ℕ, ◌+◌, ◌^◌, ◌<◌, List, [], ◌∷◌, ◌++◌, length, Some, None, refl, ap, ◌∙◌, arith, lit<, length-append}
+-- What is written is spelled, and has the stated size.
+use Rattle.std.proofs.Common.{◌≡◌, ℕ, ◌+◌, ◌^◌, ◌<◌, List, [], ◌∷◌, ◌++◌, length, Option, Some, None, refl, ap, ◌∙◌, arith, lit<, length-append}
 use Rattle.std.specs.Prelude.{flat_map}
 use Rattle.std.specs.List.{AllByRecursion}
 use Rattle.std.proofs.lemmas.List.Concat.{flat_map-cons}
@@ -17,8 +17,8 @@ use Rattle.vr_log.specs.declared.message.Filled.{Filled}
 use Rattle.vr_log.specs.declared.message.VrMessage.{VrMessage}
 use Rattle.vr_log.specs.declared.message.VrMessage.TheVariants as message
 use Rattle.vr_log.specs.Log.{entry_size, log_size}
-use Rattle.vr_codec.specs.Canonical.{received_front, received_bytes, processed_bytes, canonical_entry, canonical_log, front, pair, recovery_bytes, canonical_vr}
-use Rattle.vr_log.specs.Sizes.{IsValidEntry, IsValidLog, IsValidVr}
+use Rattle.vr_codec.specs.Canonical.{received_front, received_bytes, processed_bytes, canonical_entry, canonical_log, front, pair, recovery_bytes, filled_bytes, canonical_vr}
+use Rattle.vr_log.specs.Sizes.{filled_size, vr_size, IsValidEntry, IsValidLog, IsValidVr}
 use Rattle.vr_codec.specs.Fits.{FitsEntry, FitsLog, FitsVr}
 use Rattle.vr_codec.specs.Grammar.{IsReceived, IsProcessed, SpellsEntry, SpellsEntries, SpellsLog, IsPrepare, IsNumbered, IsStartViewChange, IsDoViewChange, IsLogBehind, IsSupply, IsRecovery, IsResponse, SpellsVr}
 
@@ -171,3 +171,64 @@ vr_spelled (message.GetState view op) v f = numbered_spelled 9 view op (lit< tt)
 vr_spelled (message.NewState view first commit log) v f = log_behind_spelled 10 view first commit log (canonical_log log) (lit< tt) f.0 f.1 f.2 (log_spelled log v f.3)
 vr_spelled (message.Fetch view op) v f = numbered_spelled 11 view op (lit< tt) f.0 f.1
 vr_spelled (message.Supply view first log) v f = supply_spelled view first log (canonical_log log) f.0 f.1 (log_spelled log v f.2)
+
+-- ---- sizes
+
+log_length : (log : List Entry) → length (canonical_log log) ≡ 4 + log_size log
+unfolding canonical_log four
+log_length log = omega (arith, entries_length log)
+
+front_length : (kind view : ℕ) (rest : List ℕ) → length (front kind view ++ rest) ≡ 5 + length rest
+unfolding front one four
+front_length kind view rest = omega arith
+
+pair_length : (a b : ℕ) (rest : List ℕ) → length (pair a b ++ rest) ≡ 16 + length rest
+unfolding pair eight
+pair_length a b rest = omega arith
+
+four_length : (n : ℕ) (rest : List ℕ) → length (four n ++ rest) ≡ 4 + length rest
+unfolding four
+four_length n rest = omega arith
+
+eight_length : (n : ℕ) (rest : List ℕ) → length (eight n ++ rest) ≡ 8 + length rest
+unfolding eight
+eight_length n rest = omega arith
+
+numbered_length : (kind view n : ℕ) → length (front kind view ++ eight n) ≡ 13
+unfolding front one four eight
+numbered_length kind view n = refl
+
+start_view_change_length : (view : ℕ) → length (front 4 view) ≡ 5
+unfolding front one four
+start_view_change_length view = refl
+
+recovery_length : (nonce promise : ℕ) → length (recovery_bytes nonce promise) ≡ 13
+unfolding recovery_bytes one four eight
+recovery_length nonce promise = refl
+
+filled_length : (filled : Option Filled) → length (filled_bytes filled) ≡ 1 + filled_size filled
+unfolding one eight
+filled_length None = refl
+filled_length (Some filled) = omega (arith, log_length filled.log)
+
+log_behind_length : (kind view first commit : ℕ) (log : List Entry) → length (front kind view ++ (pair first commit ++ canonical_log log)) ≡ 25 + log_size log
+log_behind_length kind view first commit log =
+    omega (arith, front_length kind view (pair first commit ++ canonical_log log), pair_length first commit (canonical_log log), log_length log)
+
+pub vr_length : (m : VrMessage) → length (canonical_vr m) ≡ vr_size m
+vr_length (message.Prepare view op commit entry) =
+    omega (arith, front_length 1 view (pair op commit ++ canonical_entry entry), pair_length op commit (canonical_entry entry), entry_length entry)
+vr_length (message.PrepareOk view op) = numbered_length 2 view op
+vr_length (message.Commit view commit) = numbered_length 3 view commit
+vr_length (message.StartViewChange view) = start_view_change_length view
+vr_length (message.DoViewChange view normal commit log) =
+    omega (arith, front_length 5 view (four normal ++ (eight commit ++ canonical_log log)), four_length normal (eight commit ++ canonical_log log), eight_length commit (canonical_log log), log_length log)
+vr_length (message.StartView view first commit log) = log_behind_length 6 view first commit log
+vr_length (message.Recovery nonce promise) = recovery_length nonce promise
+vr_length (message.RecoveryResponse view nonce filled) =
+    omega (arith, front_length 8 view (eight nonce ++ filled_bytes filled), eight_length nonce (filled_bytes filled), filled_length filled)
+vr_length (message.GetState view op) = numbered_length 9 view op
+vr_length (message.NewState view first commit log) = log_behind_length 10 view first commit log
+vr_length (message.Fetch view op) = numbered_length 11 view op
+vr_length (message.Supply view first log) =
+    omega (arith, front_length 12 view (eight first ++ canonical_log log), eight_length first (canonical_log log), log_length log)

@@ -247,6 +247,8 @@ fn first_answer(alloc: Global, bytes: &[u8]) -> Result<VrMessage, VrFault>
 pub fn decode_vr(alloc: Global, bytes: &[u8]) -> Result<VrMessage, VrFault>
     // What is read is spelled so.
     ensures found { IfOk result (λ m. SpellsVr bytes.now m) }
+    // What is read is valid.
+    ensures valid { IfOk result (λ m. IsValidVr m) }
     // What is spelled so is read, unless memory runs out.
     ensures only { (m : VrMessage) → SpellsVr bytes.now m → IsRead m result }
     // Which answer it is.

@@ -1,9 +1,12 @@
 //! Writing a message in its one form.
-ghost use Rattle.std.specs.Prelude.{◌≡◌, ◌++◌, flat_map, IfOk, OnOk};
+ghost use Rattle.std.specs.Prelude.{◌≡◌, ◌++◌, length, flat_map, IfOk, OnOk};
 ghost use Rattle.of_bytes.specs.Numbers.{four, eight};
 ghost use Rattle.of_ravana.specs.Canonical as told;
 ghost use Rattle.vr_codec.specs.Canonical.{received_front, received_bytes, processed_bytes, canonical_entry, canonical_log, front, pair, recovery_bytes, filled_bytes, canonical_vr};
+ghost use Rattle.vr_codec.specs.Grammar.{SpellsVr};
+ghost use Rattle.vr_log.specs.Sizes.{IsValidVr, vr_size};
 
+use crate::fitting::reads_back;
 use of_bytes::{eight, four, one};
 use of_ravana::canonical_happening;
 use of_types::{Event, Octets};
@@ -264,9 +267,15 @@ fn write_vr(alloc: Global, out: &mut Octets, message: &VrMessage) -> Result<(), 
 
 /// The bytes of a message between members of a group. Counts and lengths stand in four bytes; of greater
 /// ones their lowest four bytes stand there.
+#[tactic(auto, using(crate::proofs::Written::vr_length))]
 pub fn encode_vr(alloc: Global, message: &VrMessage) -> Result<Octets, AllocError>
-    ensures { IfOk result (λ bytes. bytes ≡ canonical_vr message.now) }
+    ensures bytes { IfOk result (λ bytes. bytes ≡ canonical_vr message.now) }
+    // Those of a valid message spell it.
+    ensures spelled { IsValidVr message.now → SpellsVr (canonical_vr message.now) message.now }
+    // They are as many as its size tells.
+    ensures size { length (canonical_vr message.now) ≡ vr_size message.now }
 {
+    reads_back(message);
     let mut out = Octets::new(alloc);
     write_vr(alloc, &mut out, message)?;
     Ok(out)

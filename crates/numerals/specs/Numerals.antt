@@ -22,3 +22,7 @@ is_numeral (digit ∷ more ∷ digits) = not (digit == 48) && are_digits (digit 
 -- the number that a text spells
 unfoldable pub numeral : List ℕ → Option ℕ
 numeral text = if is_numeral text then Some (number_behind 0 text) else None
+
+-- that number, where it is at most this one
+unfoldable pub numeral_within : ℕ → List ℕ → Option ℕ
+numeral_within most text = elim (numeral text) [ None ↦ None | Some n ↦ if nat_le n most then Some n else None ]

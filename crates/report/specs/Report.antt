@@ -13,9 +13,9 @@ use Rattle.rv_base.specs.declared.journal.JournalEntry.TheVariants as entry
 use Rattle.rv_base.specs.declared.journal.Letter.{Letter}
 use Rattle.rv_base.specs.declared.journal.Local.{Local}
 use Rattle.rv_base.specs.declared.journal.Local.TheVariants as local
-use Rattle.controller_core.specs.declared.says.Entry.{Entry}
-use Rattle.controller_core.specs.declared.says.Entry.TheVariants.{Received, Processed}
-use Rattle.controller_core.specs.Log.{log_size}
+use Rattle.vr_log.specs.declared.entry.Entry.{Entry}
+use Rattle.vr_log.specs.declared.entry.Entry.TheVariants.{Received, Processed}
+use Rattle.vr_log.specs.Log.{log_size}
 use Rattle.report.specs.declared.record.Record.{Record}
 use Rattle.report.specs.declared.record.Shown.{Shown}
 use Rattle.report.specs.declared.record.Told.{Told}
@@ -177,15 +177,15 @@ switch_lines s [] = []
 switch_lines s (t ∷ switches) = told_lines s t ++ switch_lines (s + 1) switches
 
 -- the last line: the turns, and the sums over all switches
-unfoldable pub sum_words : Record → List ℕ
-sum_words r =
-    labelled (codes "events") (number (sum_by (λ t. length t.events) r.switches)) ++ (labelled (codes "log") (number (length r.log))
-    ++ (labelled (codes "commands") (number (sum_by (λ t. length t.executed) r.switches))
-    ++ labelled (codes "rows") (number (sum_by (λ t. length t.rows) r.switches))))
+unfoldable pub sum_words : ℕ → List Told → List ℕ
+sum_words entries switches =
+    labelled (codes "events") (number (sum_by (λ t. length t.events) switches)) ++ (labelled (codes "log") (number entries)
+    ++ (labelled (codes "commands") (number (sum_by (λ t. length t.executed) switches))
+    ++ labelled (codes "rows") (number (sum_by (λ t. length t.rows) switches))))
 
 unfoldable pub end_line : Record → List ℕ
 end_line r =
-    codes "end" ++ (labelled (codes "script") (number r.script) ++ (labelled (codes "closing") (number r.closing) ++ (sum_words r ++ newline)))
+    codes "end" ++ (labelled (codes "script") (number r.script) ++ (labelled (codes "closing") (number r.closing) ++ (sum_words (length r.log) r.switches ++ newline)))
 
 -- the report
 unfoldable pub text : Record → List ℕ

@@ -1,13 +1,24 @@
-//! The report of a run: what it holds, and its text.
+//! The report of a run: what it holds, its text, and how it is read back.
 #![tactic(auto)]
 
+mod canonical;
+mod counted;
+mod fault;
+mod journal_lines;
 mod lines;
+mod log_lines;
+mod reading;
 mod record;
 mod report_text;
+mod setup_lines;
+mod spelled;
+mod switch_lines;
 mod switches;
 mod words;
 mod writing;
 
+pub use fault::ReportFault;
+pub use reading::read_report;
 pub use record::{Record, Shown, Told};
 pub use report_text::text;
 pub use words::{write_newline, write_number, write_word};

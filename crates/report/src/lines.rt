@@ -6,11 +6,11 @@ use crate::words::{
     write_actor, write_address, write_flag, write_hex, write_newline, write_number,
     write_number_or_dash, write_word,
 };
-use controller_core::Entry;
 use of_ravana::canonical_happening;
 use of_types::{Event, Link, Octets, Rule};
 use rv_base::{JournalEntry, Letter, Local};
 use std::alloc::{AllocError, Global};
+use vr_log::Entry;
 
 /// What stands in a report as a line or as several.
 pub trait Lines {

@@ -1,8 +1,8 @@
 //! What a report holds.
 
-use controller_core::Entry;
 use of_types::{Actions, Event, Executed, Items, Match, Octets, Setup};
 use rv_base::Journal;
+use vr_log::Entries;
 
 /// A row of a flow table, without its cookie.
 #[derive(Drop)]
@@ -32,7 +32,7 @@ pub struct Told {
 pub struct Record {
     pub setup: Setup,
     pub journal: Journal<Octets>,
-    pub log: Items<Entry>,
+    pub log: Entries,
     pub switches: Items<Told>,
     pub script: u64,
     pub closing: u64,

@@ -1,15 +1,15 @@
 //! The text of a report.
 ghost use Rattle.std.specs.Prelude.{◌≡◌, ◌≤◌, ◌^◌, ◌++◌, length, sum_by, IfOk, OnOk};
-ghost use Rattle.controller_core.specs.Log.{entry_size, log_size};
+ghost use Rattle.vr_log.specs.Log.{entry_size, log_size};
 ghost use Rattle.report.specs.Report.{port_line, port_lines, setup_line, setup_lines, log_lines, sum_words, end_line, text};
 
 use crate::lines::write_each;
 use crate::record::{Record, Told};
 use crate::switches::{write_labelled, write_switches};
 use crate::words::{write_newline, write_number};
-use controller_core::Entry;
 use of_types::{Happening, Octets, Setup};
 use std::alloc::{AllocError, Global};
+use vr_log::Entry;
 
 #[tactic(auto, unfolding(crate::specs::Report::line, crate::specs::Report::number, crate::specs::Report::port_line))]
 fn write_port_line(out: &mut Octets, switch: usize, count: u32) -> Result<(), AllocError>
@@ -70,7 +70,7 @@ fn size_of_entry(entry: &Entry) -> u128
 }
 
 /// The bytes of a log.
-fn size_of_log(log: &[Entry]) -> u128
+pub fn size_of_log(log: &[Entry]) -> u128
     ensures { result ≡ log_size log.now }
 {
     let mut size = 0u128;
@@ -108,12 +108,16 @@ fn sums(switches: &[Told]) -> (u128, u128, u128)
 }
 
 #[tactic(auto, unfolding(crate::specs::Report::number, crate::specs::Report::sum_words))]
-fn write_sum_words(out: &mut Octets, told: &Record) -> Result<(), AllocError>
-    ensures { OnOk result (out.new ≡ out.old ++ sum_words told.now) }
+pub fn write_sum_words(
+    out: &mut Octets,
+    entries: usize,
+    switches: &[Told],
+) -> Result<(), AllocError>
+    ensures { OnOk result (out.new ≡ out.old ++ sum_words entries switches.now) }
 {
-    let (events, executed, rows) = sums(told.switches.as_slice());
+    let (events, executed, rows) = sums(switches);
     write_labelled(out, b"events", events)?;
-    write_labelled(out, b"log", told.log.len())?;
+    write_labelled(out, b"log", entries)?;
     write_labelled(out, b"commands", executed)?;
     write_labelled(out, b"rows", rows)?;
     Ok(())
@@ -126,7 +130,7 @@ fn write_end(out: &mut Octets, told: &Record) -> Result<(), AllocError>
     out.append(b"end")?;
     write_labelled(out, b"script", told.script)?;
     write_labelled(out, b"closing", told.closing)?;
-    write_sum_words(out, told)?;
+    write_sum_words(out, told.log.len(), told.switches.as_slice())?;
     write_newline(out)?;
     Ok(())
 }

@@ -1,6 +1,6 @@
 use Rattle.std.proofs.Common.{◌≡◌, ◌≤◌, ◌*◌, ◌^◌, take}
 use Rattle.std.specs.Prelude.{sum_by}
-use Rattle.controller_core.specs.Log.{entry_size}
+use Rattle.vr_log.specs.Log.{entry_size}
 use Rattle.report.proofs.report_text.size_of_log.Given as goal
 
 abbrev pub invariant-loop-entry : goal.invariant-loop-entry

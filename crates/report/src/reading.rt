@@ -1,0 +1,103 @@
+//! Reading a report.
+ghost use Rattle.std.specs.Prelude.{◌≡◌, IfOk};
+ghost use Rattle.report.specs.Lines.{GivesLines};
+ghost use Rattle.report.specs.OneLine.{first_line_at, last_line_at};
+ghost use Rattle.report.specs.Reading.{record_at, line_number, IsReadAs};
+ghost use Rattle.report.specs.Report as report;
+ghost use Rattle.report.specs.Spelled.{Gives};
+
+use crate::fault::{Broken, Misfit, ReportFault, on_line};
+use crate::journal_lines::journal;
+use crate::log_lines::log;
+use crate::record::{Record, Told};
+use crate::report_text::write_sum_words;
+use crate::setup_lines::setup;
+use crate::spelled::{after, end_of_line, labelled};
+use crate::switch_lines::switches;
+use of_types::Octets;
+use std::alloc::{AllocError, Global};
+
+#[tactic(auto, unfolding(crate::specs::OneLine::first_line_at))]
+fn first_line(bytes: &[u8]) -> Result<&[u8], Misfit>
+    ensures { Gives (λ x. x.now) result (first_line_at bytes.now) }
+{
+    let rest = after(b"ravana report 1", bytes)?;
+    end_of_line(rest)
+}
+
+/// The turns of the script and of the closing. The line ends with these words.
+#[tactic(auto, unfolding(crate::specs::OneLine::last_line_at))]
+fn last_line<'a>(sums: &[u8], bytes: &'a [u8]) -> Result<((u64, u64), &'a [u8]), Misfit>
+    ensures { Gives (λ x. (x.0, x.1.now)) result (last_line_at sums.now bytes.now) }
+{
+    let rest = after(b"end", bytes)?;
+    let (script, rest) = labelled(b"script", rest)?;
+    let (closing, rest) = labelled(b"closing", rest)?;
+    let rest = after(sums, rest)?;
+    let rest = end_of_line(rest)?;
+    Ok(((script, closing), rest))
+}
+
+/// The words of the sums.
+fn sum_words(alloc: Global, entries: usize, switches: &[Told]) -> Result<Octets, AllocError>
+    ensures { IfOk result (λ words. words ≡ report.sum_words entries switches.now) }
+{
+    let mut words = Octets::new(alloc);
+    write_sum_words(&mut words, entries, switches)?;
+    Ok(words)
+}
+
+/// The record that the front of these bytes is the text of, and what comes behind it.
+#[tactic(auto, unfolding(crate::specs::Reading::record_at))]
+fn record(alloc: Global, bytes: &[u8]) -> Result<(Record, &[u8]), Broken>
+    ensures { GivesLines (λ x. (x.0, x.1.now)) result (record_at bytes.now) }
+{
+    let rest = on_line(bytes, first_line(bytes))?;
+    let (setup, rest) = setup(alloc, rest)?;
+    let (journal, rest) = journal(alloc, rest)?;
+    let (log, rest) = log(alloc, rest)?;
+    let (switches, rest) = switches(alloc, setup.ports.len(), rest)?;
+    let sums = sum_words(alloc, log.len(), switches.as_slice())?;
+    let ((script, closing), rest) = on_line(rest, last_line(sums.as_slice(), rest))?;
+    Ok((
+        Record {
+            setup,
+            journal,
+            log,
+            switches,
+            script,
+            closing,
+        },
+        rest,
+    ))
+}
+
+/// The number, from 1 on, of the line with which so many bytes are left.
+fn line_number(bytes: &[u8], left: usize) -> u64
+    ensures { result ≡ line_number bytes.now left }
+{
+    let mut line = 1;
+    for byte in &bytes[..bytes.len().saturating_sub(left)] {
+        if *byte == b'\n' {
+            line += 1;
+        }
+    }
+    line
+}
+
+/// The record that bytes are the text of.
+#[tactic(auto, unfolding(crate::specs::Reading::report_at))]
+pub fn read_report(alloc: Global, bytes: &[u8]) -> Result<Record, ReportFault>
+    ensures { IsReadAs bytes.now result }
+{
+    match record(alloc, bytes) {
+        Ok((record, [])) => Ok(record),
+        Ok((_, rest)) => Err(ReportFault::NotText {
+            line: line_number(bytes, rest.len()),
+        }),
+        Err(Broken::Line { left }) => Err(ReportFault::NotText {
+            line: line_number(bytes, left),
+        }),
+        Err(Broken::OutOfMemory) => Err(ReportFault::OutOfMemory),
+    }
+}

@@ -1,0 +1,325 @@
+//! The words of a line as they are read. Each stands behind a space, and ends before the next space or the end of
+//! the line.
+ghost use Rattle.std.specs.Prelude.{◌≡◌, ◌≤◌, length, position, IfOk, IfSome};
+ghost use Rattle.report.specs.Spelled as spelled;
+ghost use Rattle.report.specs.Spelled.{Gives};
+
+use crate::fault::Misfit;
+use numerals::numeral_within;
+use of_types::Octets;
+use rv_base::Actor;
+use std::alloc::Global;
+
+/// What comes behind a text.
+#[tactic(auto, unfolding(crate::specs::Spelled::after_at))]
+pub fn after<'a>(text: &[u8], bytes: &'a [u8]) -> Result<&'a [u8], Misfit>
+    ensures { Gives (λ x. x.now) result (spelled.after_at text.now bytes.now) }
+{
+    if bytes.starts_with(text) {
+        Ok(&bytes[text.len()..])
+    } else {
+        Err(Misfit::Text)
+    }
+}
+
+/// What comes behind the end of a line.
+#[tactic(auto, unfolding(crate::specs::Spelled::end_at))]
+pub fn end_of_line(bytes: &[u8]) -> Result<&[u8], Misfit>
+    ensures { Gives (λ x. x.now) result (spelled.end_at bytes.now) }
+{
+    after(b"\n", bytes)
+}
+
+/// What comes behind a word that is known.
+#[tactic(auto, unfolding(crate::specs::Spelled::known_at))]
+pub fn known<'a>(name: &[u8], bytes: &'a [u8]) -> Result<&'a [u8], Misfit>
+    ensures { Gives (λ x. x.now) result (spelled.known_at name.now bytes.now) }
+{
+    let rest = after(b" ", bytes)?;
+    after(name, rest)
+}
+
+fn ends_word(byte: u8) -> bool
+    ensures { result ≡ spelled.ends_word byte }
+{
+    byte == b' ' || byte == b'\n'
+}
+
+/// Where a word ends, if it ends.
+fn word_end(text: &[u8]) -> Option<usize>
+    ensures exact { result ≡ position spelled.ends_word text.now }
+    ensures within { IfSome result (λ n. n ≤ length text.now) }
+{
+    text.iter().position(|byte| ends_word(*byte))
+}
+
+/// A word, and what comes behind it.
+#[tactic(auto, unfolding(crate::specs::Spelled::word_at))]
+pub fn word(bytes: &[u8]) -> Result<(&[u8], &[u8]), Misfit>
+    ensures { Gives (λ x. (x.0.now, x.1.now)) result (spelled.word_at bytes.now) }
+{
+    let text = after(b" ", bytes)?;
+    Ok(text.split_at(word_end(text).unwrap_or(text.len())))
+}
+
+/// A number up to a greatest one.
+#[tactic(auto, unfolding(crate::specs::Spelled::number_at))]
+pub fn number(most: u64, bytes: &[u8]) -> Result<(u64, &[u8]), Misfit>
+    ensures exact { Gives (λ x. (x.0, x.1.now)) result (spelled.number_at most bytes.now) }
+    ensures small { IfOk result (λ x. x.0 ≤ most) }
+{
+    let (text, rest) = word(bytes)?;
+    let Some(number) = numeral_within(text, most) else {
+        return Err(Misfit::Text);
+    };
+    Ok((number, rest))
+}
+
+/// A number of one byte.
+pub fn number8(bytes: &[u8]) -> Result<(u8, &[u8]), Misfit>
+    ensures { Gives (λ x. (x.0, x.1.now)) result (spelled.number8_at bytes.now) }
+{
+    let (number, rest) = number(u64::from(u8::MAX), bytes)?;
+    Ok((number as u8, rest))
+}
+
+/// A number of two bytes.
+pub fn number16(bytes: &[u8]) -> Result<(u16, &[u8]), Misfit>
+    ensures { Gives (λ x. (x.0, x.1.now)) result (spelled.number16_at bytes.now) }
+{
+    let (number, rest) = number(u64::from(u16::MAX), bytes)?;
+    Ok((number as u16, rest))
+}
+
+/// A number of four bytes.
+pub fn number32(bytes: &[u8]) -> Result<(u32, &[u8]), Misfit>
+    ensures { Gives (λ x. (x.0, x.1.now)) result (spelled.number32_at bytes.now) }
+{
+    let (number, rest) = number(u64::from(u32::MAX), bytes)?;
+    Ok((number as u32, rest))
+}
+
+/// A number of eight bytes.
+pub fn number64(bytes: &[u8]) -> Result<(u64, &[u8]), Misfit>
+    ensures { Gives (λ x. (x.0, x.1.now)) result (spelled.number64_at bytes.now) }
+{
+    number(u64::MAX, bytes)
+}
+
+/// A number behind its name.
+#[tactic(auto, unfolding(crate::specs::Spelled::labelled_at))]
+pub fn labelled<'a>(name: &[u8], bytes: &'a [u8]) -> Result<(u64, &'a [u8]), Misfit>
+    ensures { Gives (λ x. (x.0, x.1.now)) result (spelled.labelled_at name.now bytes.now) }
+{
+    let rest = known(name, bytes)?;
+    number64(rest)
+}
+
+fn actor_of(text: &[u8]) -> Option<Actor>
+    ensures { result ≡ spelled.actor_of text.now }
+{
+    let [letter, digits @ ..] = text else {
+        return None;
+    };
+    let number = numeral_within(digits, u64::from(u8::MAX))?;
+    match *letter {
+        b'c' => Some(Actor::Controller(number as u8)),
+        b's' => Some(Actor::Switch(number as u8)),
+        _ => None,
+    }
+}
+
+/// A controller or a switch.
+#[tactic(auto, unfolding(crate::specs::Spelled::actor_at))]
+pub fn actor(bytes: &[u8]) -> Result<(Actor, &[u8]), Misfit>
+    ensures { Gives (λ x. (x.0, x.1.now)) result (spelled.actor_at bytes.now) }
+{
+    let (text, rest) = word(bytes)?;
+    let Some(actor) = actor_of(text) else {
+        return Err(Misfit::Text);
+    };
+    Ok((actor, rest))
+}
+
+/// A controller.
+#[tactic(auto, unfolding(crate::specs::Spelled::controller_at))]
+pub fn controller(bytes: &[u8]) -> Result<(u8, &[u8]), Misfit>
+    ensures { Gives (λ x. (x.0, x.1.now)) result (spelled.controller_at bytes.now) }
+{
+    let (actor, rest) = actor(bytes)?;
+    let Actor::Controller(number) = actor else {
+        return Err(Misfit::Text);
+    };
+    Ok((number, rest))
+}
+
+/// A controller, or a dash for none.
+#[tactic(auto, unfolding(crate::specs::Spelled::dash_or))]
+pub fn master(bytes: &[u8]) -> Result<(Option<u8>, &[u8]), Misfit>
+    ensures { Gives (λ x. (x.0, x.1.now)) result (spelled.dash_or spelled.controller_at bytes.now) }
+{
+    if bytes.starts_with(b" -") {
+        return Ok((None, &bytes[2..]));
+    }
+    let (number, rest) = controller(bytes)?;
+    Ok((Some(number), rest))
+}
+
+/// A number of two bytes, or a dash for none.
+#[tactic(auto, unfolding(crate::specs::Spelled::dash_or))]
+pub fn number16_or_dash(bytes: &[u8]) -> Result<(Option<u16>, &[u8]), Misfit>
+    ensures { Gives (λ x. (x.0, x.1.now)) result (spelled.dash_or spelled.number16_at bytes.now) }
+{
+    if bytes.starts_with(b" -") {
+        return Ok((None, &bytes[2..]));
+    }
+    let (number, rest) = number16(bytes)?;
+    Ok((Some(number), rest))
+}
+
+/// A number of eight bytes, or a dash for none.
+#[tactic(auto, unfolding(crate::specs::Spelled::dash_or))]
+pub fn number64_or_dash(bytes: &[u8]) -> Result<(Option<u64>, &[u8]), Misfit>
+    ensures { Gives (λ x. (x.0, x.1.now)) result (spelled.dash_or spelled.number64_at bytes.now) }
+{
+    if bytes.starts_with(b" -") {
+        return Ok((None, &bytes[2..]));
+    }
+    let (number, rest) = number64(bytes)?;
+    Ok((Some(number), rest))
+}
+
+fn flag_of(text: &[u8]) -> Option<bool>
+    ensures { result ≡ spelled.flag_of text.now }
+{
+    match text {
+        [b'1'] => Some(true),
+        [b'0'] => Some(false),
+        _ => None,
+    }
+}
+
+/// 1 or 0, for what is so and what is not.
+#[tactic(auto, unfolding(crate::specs::Spelled::flag_at))]
+pub fn flag(bytes: &[u8]) -> Result<(bool, &[u8]), Misfit>
+    ensures { Gives (λ x. (x.0, x.1.now)) result (spelled.flag_at bytes.now) }
+{
+    let (text, rest) = word(bytes)?;
+    let Some(flag) = flag_of(text) else {
+        return Err(Misfit::Text);
+    };
+    Ok((flag, rest))
+}
+
+fn is_dot(byte: u8) -> bool
+    ensures { result ≡ spelled.is_dot byte }
+{
+    byte == b'.'
+}
+
+/// Where the first dot stands, if there is one.
+fn dot_place(text: &[u8]) -> Option<usize>
+    ensures exact { result ≡ position spelled.is_dot text.now }
+    ensures within { IfSome result (λ n. n ≤ length text.now) }
+{
+    text.iter().position(|byte| is_dot(*byte))
+}
+
+/// A number of one byte before a dot, and what comes behind the dot.
+#[tactic(auto, unfolding(crate::specs::Spelled::dotted_at))]
+fn dotted(text: &[u8]) -> Result<(u8, &[u8]), Misfit>
+    ensures { Gives (λ x. (x.0, x.1.now)) result (spelled.dotted_at text.now) }
+{
+    let (digits, rest) = text.split_at(dot_place(text).unwrap_or(text.len()));
+    let Some(number) = numeral_within(digits, u64::from(u8::MAX)) else {
+        return Err(Misfit::Text);
+    };
+    let rest = after(b".", rest)?;
+    Ok((number as u8, rest))
+}
+
+#[tactic(auto, unfolding(crate::specs::Spelled::address_of))]
+fn address_of(text: &[u8]) -> Result<u32, Misfit>
+    ensures { Gives (λ x. x) result (spelled.address_of text.now) }
+{
+    let (a, rest) = dotted(text)?;
+    let (b, rest) = dotted(rest)?;
+    let (c, rest) = dotted(rest)?;
+    let Some(d) = numeral_within(rest, u64::from(u8::MAX)) else {
+        return Err(Misfit::Text);
+    };
+    Ok(16_777_216 * u32::from(a) + 65_536 * u32::from(b) + 256 * u32::from(c) + d as u32)
+}
+
+/// An IPv4 address as its four bytes.
+#[tactic(auto, unfolding(crate::specs::Spelled::address_at))]
+pub fn address(bytes: &[u8]) -> Result<(u32, &[u8]), Misfit>
+    ensures { Gives (λ x. (x.0, x.1.now)) result (spelled.address_at bytes.now) }
+{
+    let (text, rest) = word(bytes)?;
+    let address = address_of(text)?;
+    Ok((address, rest))
+}
+
+/// The number of a digit of base sixteen, in lower case.
+fn digit_of(digit: u8) -> Option<u8>
+    ensures { result ≡ spelled.digit_of digit }
+{
+    match digit {
+        b'0'..=b'9' => Some(digit - b'0'),
+        b'a'..=b'f' => Some(digit - 87),
+        _ => None,
+    }
+}
+
+#[tactic(auto, unfolding(crate::specs::Spelled::byte_of))]
+fn byte_of(high: u8, low: u8) -> Option<u8>
+    ensures { result ≡ spelled.byte_of high low }
+{
+    let high = digit_of(high)?;
+    let low = digit_of(low)?;
+    Some(16 * high + low)
+}
+
+fn digits_of(alloc: Global, digits: &[u8]) -> Result<Octets, Misfit>
+    ensures { Gives (λ x. x) result (spelled.digits_of digits.now) }
+{
+    let mut bytes = Vec::with_capacity(alloc, digits.len() / 2)?;
+    let mut rest = digits;
+    'pairs: while rest.len() >= 2 {
+        let Some(byte) = byte_of(rest[0], rest[1]) else {
+            return Err(Misfit::Text);
+        };
+        bytes.push(byte)?;
+        let (_, after) = rest.split_at(2);
+        rest = after;
+    }
+    if rest.is_empty() {
+        Ok(Octets::from_vec(bytes))
+    } else {
+        Err(Misfit::Text)
+    }
+}
+
+/// The bytes of a text in base sixteen.
+#[tactic(auto, unfolding(crate::specs::Spelled::hex_bytes))]
+fn hex_bytes(alloc: Global, text: &[u8]) -> Result<Octets, Misfit>
+    ensures { Gives (λ x. x) result (spelled.hex_bytes text.now) }
+{
+    match text {
+        [] => Err(Misfit::Text),
+        [b'-'] => Ok(Octets::new(alloc)),
+        [b'-', ..] => Err(Misfit::Text),
+        digits => digits_of(alloc, digits),
+    }
+}
+
+/// Bytes as digits of base sixteen in lower case, or a dash for none.
+#[tactic(auto, unfolding(crate::specs::Spelled::hex_at))]
+pub fn hex(alloc: Global, bytes: &[u8]) -> Result<(Octets, &[u8]), Misfit>
+    ensures { Gives (λ x. (x.0, x.1.now)) result (spelled.hex_at bytes.now) }
+{
+    let (text, rest) = word(bytes)?;
+    let bytes = hex_bytes(alloc, text)?;
+    Ok((bytes, rest))
+}

@@ -140,23 +140,41 @@ fn take<A: App>(
     }
 }
 
-/// Plays steps at a dispatcher with one part.
+/// A dispatcher whose application has one part.
+fn dispatcher_of<P: Part>(
+    rt: &impl Abort,
+    alloc: Global,
+    part: P,
+) -> Result<Dispatcher<ChainOf<P>>, Fail> {
+    let setup = one_switch(alloc)?;
+    let parts = Vec::from_array(alloc, [part])?;
+    assert!(rt; is_within(parts.as_slice(), 128));
+    Ok(Dispatcher::new(alloc, ChainOf::new(parts), &setup)?)
+}
+
+/// Plays steps, each with what is then seen, and what the switch is told.
+fn play<A: App>(
+    rt: &impl Abort,
+    alloc: Global,
+    dispatcher: &mut Dispatcher<A>,
+    table: &[(Step, Look, (Told, Told))],
+) -> Result<(), Fail> {
+    for (step, seen, answer) in table {
+        assert_eq!(rt; take(alloc, dispatcher, *step)?, *answer);
+        assert_eq!(rt; look(dispatcher)?, *seen);
+    }
+    Ok(())
+}
+
+/// The same at a dispatcher whose application has one part.
 fn plays<P: Part>(
     rt: &impl Abort,
     alloc: Global,
     part: P,
     table: &[(Step, Look, (Told, Told))],
 ) -> Result<(), Fail> {
-    let setup = one_switch(alloc)?;
-    let mut parts = Vec::new(alloc);
-    parts.push(part)?;
-    assert!(rt; is_within(parts.as_slice(), 128));
-    let mut dispatcher = Dispatcher::new(alloc, ChainOf::new(parts), &setup)?;
-    for (step, seen, answer) in table {
-        assert_eq!(rt; take(alloc, &mut dispatcher, *step)?, *answer);
-        assert_eq!(rt; look(&dispatcher)?, *seen);
-    }
-    Ok(())
+    let mut dispatcher = dispatcher_of(rt, alloc, part)?;
+    play(rt, alloc, &mut dispatcher, table)
 }
 
 const NOBODY: (Told, Told) = (None, None);
@@ -209,44 +227,67 @@ const WISHES: [(u64, u64, Wish); 5] = [
     (3, 2, Wish::Propose),
 ];
 
-/// The log that so many entries make.
-fn log_of(alloc: Global, entries: u64) -> Result<Log, Fail> {
-    let mut log = Log::new(alloc);
-    for number in 0..entries.min(2) {
-        log.push(Entry::Received(frame_event(alloc, number)?))?;
-    }
-    if entries > 2 {
-        log.push(Entry::Processed(0))?;
-    }
-    Ok(log)
+/// An entry is committed, in the log and at a dispatcher.
+fn commit<A: App>(dispatcher: &mut Dispatcher<A>, log: &mut Log, entry: Entry) -> Result<(), Fail> {
+    dispatcher.fold(&entry)?;
+    log.push(entry)?;
+    Ok(())
 }
 
-/// A dispatcher that has folded a log.
-fn folded<P: Part>(
-    rt: &impl Abort,
+/// So many entries are committed.
+fn commit_all<A: App>(
     alloc: Global,
-    part: P,
-    log: &Log,
-) -> Result<Dispatcher<ChainOf<P>>, Fail> {
-    let setup = one_switch(alloc)?;
-    let mut parts = Vec::new(alloc);
-    parts.push(part)?;
-    assert!(rt; is_within(parts.as_slice(), 128));
-    let mut dispatcher = Dispatcher::new(alloc, ChainOf::new(parts), &setup)?;
-    for entry in log.as_slice() {
-        dispatcher.fold(entry)?;
+    dispatcher: &mut Dispatcher<A>,
+    log: &mut Log,
+    entries: u64,
+) -> Result<(), Fail> {
+    for number in 0..entries.min(2) {
+        commit(
+            dispatcher,
+            log,
+            Entry::Received(frame_event(alloc, number)?),
+        )?;
     }
-    Ok(dispatcher)
+    if entries > 2 {
+        commit(dispatcher, log, Entry::Processed(0))?;
+    }
+    Ok(())
+}
+
+/// What is done with an event of life 0 and this number.
+fn wish_at<A: App>(
+    alloc: Global,
+    dispatcher: &Dispatcher<A>,
+    log: &Log,
+    number: u64,
+) -> Result<Wish, AllocError> {
+    let event = frame_event(alloc, number)?;
+    Ok(dispatcher.on_event(&event, log))
+}
+
+/// What is done with an event behind so many entries.
+fn wish_behind<A: App>(
+    alloc: Global,
+    dispatcher: &mut Dispatcher<A>,
+    log: &mut Log,
+    entries: u64,
+    number: u64,
+) -> Result<Wish, Fail> {
+    commit_all(alloc, dispatcher, log, entries)?;
+    Ok(wish_at(alloc, dispatcher, log, number)?)
+}
+
+/// The same at a dispatcher that begins with no entry.
+fn wish_of(rt: &impl Abort, alloc: Global, entries: u64, number: u64) -> Result<Wish, Fail> {
+    let mut dispatcher = dispatcher_of(rt, alloc, PlainLearning::new(alloc))?;
+    let mut log = Log::new(alloc);
+    wish_behind(alloc, &mut dispatcher, &mut log, entries, number)
 }
 
 #[test]
 fn an_event_is_proposed_once(rt: HostRuntime) -> Result<(), Fail> {
-    let alloc = rt.alloc();
     for (entries, number, wish) in WISHES {
-        let log = log_of(alloc, entries)?;
-        let dispatcher = folded(&rt, alloc, PlainLearning::new(alloc), &log)?;
-        let event = frame_event(alloc, number)?;
-        assert_eq!(rt; dispatcher.on_event(&event, &log), wish);
+        assert_eq!(rt; wish_of(&rt, rt.alloc(), entries, number)?, wish);
     }
     Ok(())
 }

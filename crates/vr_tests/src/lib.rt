@@ -7,7 +7,6 @@ mod cluster;
 #[cfg(test)]
 mod codec;
 #[cfg(test)]
-#[cfg(test)]
 mod log;
 #[cfg(test)]
 mod normal;

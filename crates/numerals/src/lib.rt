@@ -1,7 +1,7 @@
 //! Decimal numerals without leading zeros, as words of a command line, names of actors and lines of a report have them.
 #![tactic(auto)]
 
-ghost use Rattle.std.specs.Prelude.{◌≡◌, ◌≤◌, ◌<◌, ◌^◌, ℕ, List, Some, min, option_map, if◌then◌else◌};
+ghost use Rattle.std.specs.Prelude.{◌≡◌, ◌≤◌, ◌<◌, ◌^◌, ℕ, List, Some, IfSome, min, option_map, if◌then◌else◌};
 ghost use Rattle.std.specs.Fmt.{decimal};
 ghost use Rattle.numerals.specs.Numerals.{numeral, numeral_within, is_numeral, are_digits, number_behind};
 
@@ -21,7 +21,8 @@ pub fn numeral(text: &[u8], most: u64) -> Option<u64>
 /// than `most`.
 #[tactic(auto, unfolding(crate::specs::Numerals::numeral_within))]
 pub fn numeral_within(text: &[u8], most: u64) -> Option<u64>
-    ensures { result ≡ numeral_within most text.now }
+    ensures exact { result ≡ numeral_within most text.now }
+    ensures small { IfSome result (λ n. n ≤ most) }
 {
     let number = bounded(text, u128::from(most) + 1)?;
     if number <= u128::from(most) {

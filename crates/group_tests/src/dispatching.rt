@@ -147,7 +147,8 @@ fn dispatcher_of<P: Part>(
     part: P,
 ) -> Result<Dispatcher<ChainOf<P>>, Fail> {
     let setup = one_switch(alloc)?;
-    let parts = Vec::from_array(alloc, [part])?;
+    let mut parts = Vec::new(alloc);
+    parts.push(part)?;
     assert!(rt; is_within(parts.as_slice(), 128));
     Ok(Dispatcher::new(alloc, ChainOf::new(parts), &setup)?)
 }

@@ -5,6 +5,8 @@
 #[cfg(test)]
 mod controller;
 #[cfg(test)]
+mod reading;
+#[cfg(test)]
 mod switch;
 #[cfg(test)]
 mod text;

@@ -1,4 +1,3 @@
-use controller_core::Entry;
 use of_types::{
     Actions, Event, Executed, FLOOD, Happening, Items, Link, Links, NO_BUFFER, Octets, Order,
     PacketIn, PacketOut, PortCounts, Prefix, Rule, Rules, Setup, TO_CONTROLLER, any_match,
@@ -11,6 +10,7 @@ use rv_base::{Actor, Journal, JournalEntry, Letter, Letters, Local, MemorySink};
 use std::alloc::{AllocError, Global};
 use std::process::Abort;
 use std::test::Fail;
+use vr_log::Entry;
 
 /// The frame that the messages hold.
 const FRAME: &[u8] = b"\x02\0\0\0\0\x02\x02\0\0\0\0\x01\x88\xb5";
@@ -19,7 +19,7 @@ const CONTROLLER: Actor = Actor::Controller(0);
 
 const SWITCH: Actor = Actor::Switch(0);
 
-const SHORTEST_REPORT: &[u8] = b"\
+pub const SHORTEST_REPORT: &[u8] = b"\
 ravana report 1
 setup 1 1
 ports 0 2
@@ -36,7 +36,7 @@ row 0 0 00010004 00000010fffffffdffff000000000000
 end script 0 closing 3 events 0 log 0 commands 0 rows 1
 ";
 
-const REPORT: &[u8] = b"\
+pub const REPORT: &[u8] = b"\
 ravana report 1
 setup 1 1
 ports 0 2

@@ -6,6 +6,10 @@ use Rattle.rv_base.specs.declared.journal.JournalEntry.{JournalEntry}
 use Rattle.rv_base.specs.declared.journal.JournalEntry.TheVariants.{Post, Draw, Lose, Local, Idle, Refused}
 use Rattle.rv_base.specs.declared.journal.Letter.{Letter}
 use Rattle.rv_base.specs.Pool.{past}
+use Rattle.controller_core.specs.declared.says.Entry as own
+use Rattle.controller_core.specs.declared.says.Entry.TheVariants as own_entry
+use Rattle.vr_log.specs.declared.entry.Entry.{Entry}
+use Rattle.vr_log.specs.declared.entry.Entry.TheVariants.{Received, Processed}
 use Rattle.switch_core.specs.Buffer.{held_of}
 use Rattle.switch_core.specs.State.{SwitchState}
 use Rattle.controller_core.specs.Rules.{numbers_below}
@@ -49,6 +53,11 @@ bare_entry bytes (Refused actor) = Refused actor
 abbrev pub bare : {B : Type 0} → (B → List ℕ) → List (JournalEntry B) → List (JournalEntry (List ℕ))
 bare bytes journal = map (λ e. bare_entry bytes e) journal
 
+-- an entry of the log as it is told
+abbrev pub told_entry : own.Entry → Entry
+told_entry (own_entry.Received e) = Received e
+told_entry (own_entry.Processed j) = Processed j
+
 -- a row without its cookie
 abbrev pub shown_row : Row → Shown
 shown_row r = record { priority = r.priority; matching = r.matching; actions = r.actions }
@@ -72,7 +81,7 @@ told_of s =
 pub record Shows {B : Type 0} (scene : Scene B) (bytes : B → List ℕ) (steps : ℕ) (closing journal : List (JournalEntry B)) (told : Record) : Type 0 where
   pub setup : told.setup ≡ scene.setup
   pub journal_is : told.journal ≡ bare bytes journal
-  pub log : told.log ≡ decided scene [] (past journal)
+  pub log : told.log ≡ map told_entry (decided scene [] (past journal))
   pub script : told.script ≡ steps
   pub closing_is : told.closing ≡ count_turns closing
   pub switches : told.switches ≡ map (λ s. told_of (switch_state scene s (past journal))) (numbers_below (length scene.setup.ports))

@@ -12,8 +12,7 @@ mod bare;
 mod told;
 
 use crate::bare::bare;
-use crate::told::told_all;
-use of_types::Items;
+use crate::told::{told_all, told_log};
 use report::Record;
 use rv_base::JournalEntry;
 use rv_safety::committed_log;
@@ -64,7 +63,7 @@ pub fn record_of(
     let entries = world.journal();
     let setup = world.setup().copy()?;
     let journal = bare(alloc, entries)?;
-    let log = Items::from_vec(world.controller(0).committed().to_vec(alloc)?);
+    let log = told_log(alloc, world.controller(0).committed())?;
     let switches = told_all(alloc, world)?;
     Ok(Record {
         setup,

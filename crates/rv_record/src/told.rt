@@ -1,15 +1,38 @@
-//! What is told of the switches.
+//! What is told of the log and of the switches.
 ghost use Rattle.std.specs.Prelude.{◌≡◌, true, length, map, IfOk};
 ghost use Rattle.rv_base.specs.Pool.{past};
 ghost use Rattle.controller_core.specs.Rules.{numbers_below};
 ghost use Rattle.rv_world.specs.Committed.{switch_state};
-ghost use Rattle.rv_record.specs.Shows.{shown_row, told_of, scene_typed};
+ghost use Rattle.rv_record.specs.Shows.{told_entry, shown_row, told_of, scene_typed};
 
+use controller_core::Entry;
 use of_types::{Items, Row};
 use report::{Shown, Told};
 use rv_world::{Typed, World};
 use std::alloc::{AllocError, Global};
 use switch_core::Switch;
+use vr_log::Entries;
+
+/// An entry as it is told.
+fn told_entry(entry: &Entry) -> Result<vr_log::Entry, AllocError>
+    ensures { IfOk result (λ told. told ≡ told_entry entry.now) }
+{
+    match entry {
+        Entry::Received(event) => Ok(vr_log::Entry::Received(event.copy()?)),
+        Entry::Processed(place) => Ok(vr_log::Entry::Processed(*place)),
+    }
+}
+
+/// A log as it is told.
+pub fn told_log(alloc: Global, log: &[Entry]) -> Result<Entries, AllocError>
+    ensures { IfOk result (λ told. told ≡ map told_entry log.now) }
+{
+    let mut told = Items::new(alloc);
+    for entry in log {
+        told.push(told_entry(entry)?)?;
+    }
+    Ok(told)
+}
 
 /// A row without its cookie.
 fn shown_row(row: &Row) -> Result<Shown, AllocError>

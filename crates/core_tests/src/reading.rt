@@ -33,7 +33,9 @@ const BROKEN: &[(&[u8], u64)] = &[
 ];
 
 fn assert_broken(rt: &impl Abort, alloc: Global, bytes: &[u8], line: u64) {
-    assert!(rt; read_report(alloc, bytes).is_err_and(|fault| fault == ReportFault::NotText { line }));
+    assert!(rt;
+        read_report(alloc, bytes).is_err_and(|fault| fault == ReportFault::NotText { line })
+    );
 }
 
 #[test]
@@ -50,7 +52,12 @@ fn names_the_first_line_that_does_not_fit(rt: HostRuntime) -> Result<(), Fail> {
     assert_broken(&rt, rt.alloc(), b"", 1);
     assert_broken(&rt, rt.alloc(), b"ravana report 1", 1);
     assert_broken(&rt, rt.alloc(), b"ravana report 1\nsetup 2 1\n", 2);
-    assert_broken(&rt, rt.alloc(), b"ravana report 1\nsetup 1 1\nports 0 49\n", 3);
+    assert_broken(
+        &rt,
+        rt.alloc(),
+        b"ravana report 1\nsetup 1 1\nports 0 49\n",
+        3,
+    );
     for (lines, line) in BROKEN {
         let mut bytes = Octets::from_slice(rt.alloc(), SETUP)?;
         bytes.append(lines)?;

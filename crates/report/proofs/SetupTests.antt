@@ -1,0 +1,95 @@
+-- A setup that is read is within the limits.
+use Rattle.std.proofs.Common.{rules, ◌≡◌, ◌<◌, ◌≤◌, ◌+◌, ◌-◌, ◌%◌, ◌^◌, ◌&&◌, ◌||◌, ◌==◌, nat_eq, nat_lt, nat_le, not, cond, ℕ, zero, suc, Bool, true, false, List, [], ◌∷◌, ◌++◌, length, Result, Ok, Err, refl, sym, ap, subst, ◌∙◌, length-append, arith}
+use Rattle.std.proofs.lemmas.Option.{slice_get-get_or}
+use Rattle.std.specs.Prelude.{slice_index, Contains, Option, Some, None, codes}
+use Rattle.std.specs.List.{All, AllByRecursion, list_any, starts_with}
+use Rattle.std.proofs.lemmas.Bool.{and_parts}
+use Rattle.std.proofs.lemmas.List.Elements.{All-append}
+use Rattle.of_types.specs.declared.setup.Link.{Link}
+use Rattle.of_types.specs.declared.setup.Prefix.{Prefix}
+use Rattle.of_types.specs.declared.setup.Rule.{Rule}
+use Rattle.of_types.specs.declared.setup.Setup.{Setup}
+use Rattle.of_types.specs.Setups.{IsPort, IsAddressPrefix, IsRule, IsSetup, AreApart, ends_of}
+use Rattle.rv_base.proofs.All.{all_append}
+use Rattle.report.specs.Lines.{line_at, while_at}
+use Rattle.report.specs.OneLine.{begins, is_group, is_port, is_end, is_taken, may_join, is_asked, counts_at, ports_at, link_at, link_words_at, prefix_at, rule_words_at, rule_at}
+use Rattle.report.specs.Reading.{port_counts_at, links_at, rules_at, setup_at}
+use Rattle.report.specs.Spelled.{◌>>=◌}
+use Rattle.report.proofs.Apart.{same_end, same_end_sym, apart_link, ends_any}
+
+-- ---- tests
+
+or_is : (x y : Bool) (P : Type 0) → (x || y) ≡ true → (x ≡ true → P) → (y ≡ true → P) → P
+or_is true y P e one other = one refl
+or_is false y P e one other = other e
+
+number_is : (m n : ℕ) → (m == n) ≡ true → m ≡ n
+number_is m n e = search (rules, e)
+
+pub not_true : (b : Bool) → not b ≡ true → b ≡ false
+not_true true e = absurd cc
+not_true false e = refl
+
+pub group_is : (n : ℕ) → is_group n ≡ true → Contains (1 ∷ 3 ∷ 5 ∷ 7 ∷ []) n
+group_is n e =
+    let P = Contains (1 ∷ 3 ∷ 5 ∷ 7 ∷ []) n in
+    or_is (n == 1 || n == 3 || n == 5) (n == 7) P e
+    (λ e. or_is (n == 1 || n == 3) (n == 5) P e
+    (λ e. or_is (n == 1) (n == 3) P e (λ e. (0, omega arith, sym (number_is n 1 e))) (λ e. (1, omega arith, sym (number_is n 3 e))))
+    (λ e. (2, omega arith, sym (number_is n 5 e))))
+    (λ e. (3, omega arith, sym (number_is n 7 e)))
+
+-- ---- wires between ports, whose ends stand once
+
+pub record AreLinks (setup : Setup) (links : List Link) : Type 0 where
+  pub between : AllByRecursion (λ l. IsPort setup l.switch l.port × IsPort setup l.peer l.peer_port) links
+  pub apart : AreApart (ends_of links)
+
+port_is : (setup : Setup) (switch port : ℕ) → is_port setup.ports switch port ≡ true → IsPort setup switch port
+port_is setup switch port e =
+    let there : switch < length setup.ports = search (rules, e) in
+    let within : (1 ≤ port) × (port ≤ slice_index setup.ports switch) = search (rules, e) in
+    (within.0, (slice_index setup.ports switch, slice_get-get_or setup.ports switch 0 there, within.1))
+
+free_is : (switch port : ℕ) (links : List Link) → not (is_taken switch port links) ≡ true → list_any (same_end (switch, port)) (ends_of links) ≡ false
+free_is switch port links e = ends_any (same_end (switch, port)) links ∙ not_true (is_taken switch port links) e
+
+pub joined_link : (setup : Setup) (before : List Link) (l : Link) → AreLinks setup before → may_join setup.ports before l ≡ true → AreLinks setup (before ++ l ∷ [])
+joined_link setup before l h e =
+    let four = and_parts (is_port setup.ports l.switch l.port && is_port setup.ports l.peer l.peer_port && not (l.switch == l.peer && l.port == l.peer_port) && not (is_taken l.switch l.port before)) (not (is_taken l.peer l.peer_port before)) e in
+    let three = and_parts (is_port setup.ports l.switch l.port && is_port setup.ports l.peer l.peer_port && not (l.switch == l.peer && l.port == l.peer_port)) (not (is_taken l.switch l.port before)) four.0 in
+    let two = and_parts (is_port setup.ports l.switch l.port && is_port setup.ports l.peer l.peer_port) (not (l.switch == l.peer && l.port == l.peer_port)) three.0 in
+    let one = and_parts (is_port setup.ports l.switch l.port) (is_port setup.ports l.peer l.peer_port) two.0 in
+    record {
+      between = all_append (λ l. IsPort setup l.switch l.port × IsPort setup l.peer l.peer_port) before (l ∷ []) h.between
+          ((port_is setup l.switch l.port one.0, port_is setup l.peer l.peer_port one.1), tt);
+      apart = apart_link before l h.apart (free_is l.switch l.port before three.1) (free_is l.peer l.peer_port before four.1)
+          (same_end_sym (l.switch, l.port) (l.peer, l.peer_port) ∙ not_true (l.switch == l.peer && l.port == l.peer_port) two.1);
+    }
+
+-- ---- rules
+
+pub prefix_is : (p : Prefix) → (nat_le p.length 32 && p.address % 2 ^ (32 - p.length) == 0) ≡ true → IsAddressPrefix p
+prefix_is p e =
+    let parts = and_parts (nat_le p.length 32) (p.address % 2 ^ (32 - p.length) == 0) e in
+    record { short = (let le = parts.0 in search (rules, le)); clean = number_is (p.address % 2 ^ (32 - p.length)) 0 parts.1 }
+
+proto_is : (proto : ℕ) → proto == 0 || proto == 6 || proto == 17 ≡ true → Contains (0 ∷ 6 ∷ 17 ∷ []) proto
+proto_is proto e =
+    or_is (proto == 0 || proto == 6) (proto == 17) (Contains (0 ∷ 6 ∷ 17 ∷ []) proto) e
+    (λ e. or_is (proto == 0) (proto == 6) (Contains (0 ∷ 6 ∷ 17 ∷ []) proto) e (λ e. (0, omega arith, sym (number_is proto 0 e))) (λ e. (1, omega arith, sym (number_is proto 6 e))))
+    (λ e. (2, omega arith, sym (number_is proto 17 e)))
+
+named_proto : (proto : ℕ) → proto == 6 || proto == 17 ≡ true → Contains (0 ∷ 6 ∷ 17 ∷ []) proto
+named_proto proto e = or_is (proto == 6) (proto == 17) (Contains (0 ∷ 6 ∷ 17 ∷ []) proto) e (λ e. (1, omega arith, sym (number_is proto 6 e))) (λ e. (2, omega arith, sym (number_is proto 17 e)))
+
+pub asked_proto : (proto : ℕ) (port : Option ℕ) → is_asked proto port ≡ true → Contains (0 ∷ 6 ∷ 17 ∷ []) proto
+asked_proto proto None e = proto_is proto e
+asked_proto proto (Some port) e = named_proto proto e
+
+pub asked_portless : (proto : ℕ) (port : Option ℕ) → is_asked proto port ≡ true → proto ≡ 0 → port ≡ None
+asked_portless proto None e none = refl
+asked_portless proto (Some port) e none = absurd (no_port (subst (λ p. is_asked p (Some port) ≡ true) none e))
+  where
+    no_port : false ≡ true → ⊥
+    no_port e = cc

@@ -1,5 +1,5 @@
 -- Ends of wires that stand once.
-use Rattle.std.proofs.Common.{◌≡◌, ◌&&◌, ◌||◌, nat_eq, ℕ, Bool, true, false, List, [], ◌∷◌, ◌++◌, refl, sym, ap, subst, ◌∙◌, arith}
+use Rattle.std.proofs.Common.{◌≡◌, ◌&&◌, ◌||◌, nat_eq, ℕ, Bool, true, false, List, [], ◌∷◌, ◌++◌, refl, sym, ap, subst, ◌∙◌, append_assoc, arith}
 use Rattle.std.specs.List.{list_any}
 use Rattle.std.proofs.lemmas.Bool.{or_from, or_parts}
 use Rattle.std.proofs.lemmas.List.Folds.{list_any-append}
@@ -47,3 +47,30 @@ or_again false false c d e = e
 pub ends_any : (test : ℕ × ℕ → Bool) (links : List Link) → list_any test (ends_of links) ≡ list_any (λ l. test (l.switch, l.port) || test (l.peer, l.peer_port)) links
 ends_any test [] = refl
 ends_any test (l ∷ links) = or_again (test (l.switch, l.port)) (test (l.peer, l.peer_port)) _ _ (ends_any test links)
+
+-- ---- what ends that stand once tell of one of them
+
+apart_front : (ends : List (ℕ × ℕ)) (end : ℕ × ℕ) (more : List (ℕ × ℕ)) → AreApart (ends ++ end ∷ more) → list_any (same_end end) ends ≡ false
+apart_front [] end more apart = refl
+apart_front (other ∷ ends) end more apart =
+    let parts = or_parts (list_any (same_end other) ends) (same_end other end || list_any (same_end other) more) (sym (list_any-append (same_end other) ends (end ∷ more)) ∙ apart.0) in
+    or_from (same_end end other) (list_any (same_end end) ends)
+    (same_end_sym end other ∙ (or_parts (same_end other end) (list_any (same_end other) more) parts.1).0)
+    (apart_front ends end more apart.1)
+
+-- a wire behind others: its ends are none of theirs, and two
+pub record IsFree (before : List Link) (l : Link) : Type 0 where
+  pub one : list_any (same_end (l.switch, l.port)) (ends_of before) ≡ false
+  pub other : list_any (same_end (l.peer, l.peer_port)) (ends_of before) ≡ false
+  pub two : same_end (l.peer, l.peer_port) (l.switch, l.port) ≡ false
+
+pub free_link : (before : List Link) (l : Link) (more : List Link) → AreApart (ends_of (before ++ l ∷ more)) → IsFree before l
+free_link before l more apart =
+    let ends : List (ℕ × ℕ) = ends_of before in
+    let a : ℕ × ℕ = (l.switch, l.port) in
+    let b : ℕ × ℕ = (l.peer, l.peer_port) in
+    let all : AreApart (ends ++ a ∷ b ∷ ends_of more) = subst AreApart (ends_of-append before (l ∷ more)) apart in
+    let grouped : AreApart ((ends ++ a ∷ []) ++ b ∷ ends_of more) = subst AreApart (sym (append_assoc ends (a ∷ []) (b ∷ ends_of more))) all in
+    let behind = apart_front (ends ++ a ∷ []) b (ends_of more) grouped in
+    let parts = or_parts (list_any (same_end b) ends) (same_end b a || false) (sym (list_any-append (same_end b) ends (a ∷ [])) ∙ behind) in
+    record { one = apart_front ends a (b ∷ ends_of more) all; other = parts.0; two = (or_parts (same_end b a) false parts.1).0 }

@@ -1,6 +1,14 @@
 pub mod Apart
+pub mod LinesAgain
+pub mod ListsAgain
+pub mod LogAgain
+pub mod MessagesAgain
 pub mod Outputs
+pub mod Readers
+pub mod RecordAgain
+pub mod Rereads
 pub mod Sequences
+pub mod SetupAgain
 pub mod SetupRead
 pub mod SetupTests
 pub mod Steps

@@ -5,7 +5,7 @@ use Rattle.std.specs.List.{starts_with, position_or_len}
 use Rattle.std.specs.Fmt.{decimal}
 use Rattle.std.proofs.lemmas.Bool.{and_parts, cases_lt, lt-ltb, le-ltb, leb-true, le-leb}
 use Rattle.std.proofs.lemmas.Bool.Decides.{Decides-eqb, eqb_tells}
-use Rattle.std.proofs.lemmas.List.{take-append-drop, length-append}
+use Rattle.std.proofs.lemmas.List.{take-append-drop, length-append, get_or_append_left}
 use Rattle.std.proofs.lemmas.List.Sums.{position_or_len_is}
 use Rattle.std.proofs.lemmas.Slice.Eq.{starts_is}
 use Rattle.std.proofs.Math.Seq.{drop-append_seam, take-append_seam}
@@ -85,11 +85,6 @@ word_takes bytes text rest e =
     let cut = some_is (cut_at ends_word a.0) (text, rest) a.2 in
     after_takes (32 ∷ []) bytes a.0 a.1 ∙ ap (λ l. 32 ∷ l) (sym (take-append-drop (length_before ends_word a.0) a.0)) ∙ ap (λ (p : List ℕ × List ℕ). 32 ∷ (p.0 ++ p.1)) cut
 
-get-front : (xs ys : List ℕ) (i d : ℕ) → i < length xs → get_or (xs ++ ys) i d ≡ get_or xs i d
-get-front [] ys i d less = absurd (omega arith)
-get-front (x ∷ xs) ys zero d less = refl
-get-front (x ∷ xs) ys (suc i) d less = get-front xs ys i d (omega arith)
-
 get-seam : (xs ys : List ℕ) (d : ℕ) → get_or (xs ++ ys) (length xs) d ≡ get_or ys 0 d
 get-seam [] ys d = refl
 get-seam (x ∷ xs) ys d = get-seam xs ys d
@@ -98,7 +93,7 @@ get-seam (x ∷ xs) ys d = get-seam xs ys d
 first_there : (test : ℕ → Bool) (text rest : List ℕ) → ((i : ℕ) → i < length text → test (get_or text i 10) ≡ false) → test (get_or rest 0 10) ≡ true → position_or_len test (text ++ rest) ≡ length text
 first_there test text rest is there =
     position_or_len_is test (text ++ rest) (length text) 10 (omega (arith, length-append text rest))
-    (λ k less. rw (get-front text rest k 10 less) (is k less)) (λ less. rw (get-seam text rest 10) there)
+    (λ k less. rw (get_or_append_left text rest 10 k less) (is k less)) (λ less. rw (get-seam text rest 10) there)
 
 length_is : (n m : ℕ) → n ≤ m → unwrap_or (cond (nat_lt n m) (Some n) None) m ≡ n
 length_is n m le =
@@ -153,12 +148,12 @@ digit_goes_on d e =
     let low = leb-true 48 d p.0 in
     rw (not_same d 32 (λ same. absurd (omega (arith, low, same))), not_same d 10 (λ same. absurd (omega (arith, low, same)))) refl
 
-digits_word : (ds : List ℕ) → are_digits ds ≡ true → IsWord ds
+pub digits_word : (ds : List ℕ) → are_digits ds ≡ true → IsWord ds
 digits_word [] e i less = absurd (omega arith)
 digits_word (d ∷ ds) e zero less = let p = and_parts (is_digit d) (are_digits ds) e in digit_goes_on d p.0
 digits_word (d ∷ ds) e (suc i) less = let p = and_parts (is_digit d) (are_digits ds) e in digits_word ds p.1 i (omega arith)
 
-numeral_digits : (ds : List ℕ) → is_numeral ds ≡ true → are_digits ds ≡ true
+pub numeral_digits : (ds : List ℕ) → is_numeral ds ≡ true → are_digits ds ≡ true
 numeral_digits [] e = absurd cc
 numeral_digits (d ∷ []) e = rw e refl
 numeral_digits (d ∷ f ∷ ds) e = (and_parts (not (d == 48)) (are_digits (d ∷ f ∷ ds)) e).1

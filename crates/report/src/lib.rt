@@ -5,6 +5,7 @@ mod canonical;
 mod counted;
 mod fault;
 mod journal_lines;
+mod laws;
 mod lines;
 mod log_lines;
 mod reading;
@@ -18,6 +19,7 @@ mod words;
 mod writing;
 
 pub use fault::ReportFault;
+pub use laws::report_law;
 pub use reading::read_report;
 pub use record::{Record, Shown, Told};
 pub use report_text::text;

@@ -1,0 +1,14 @@
+//! Laws of reports as text.
+ghost use Rattle.std.specs.Prelude.{◌≡◌, Ok};
+ghost use Rattle.report.specs.Reading.{report_at};
+ghost use Rattle.report.specs.Records.{IsRecord};
+ghost use Rattle.report.specs.Report.{text};
+ghost use Rattle.report.specs.declared.record.Record.{Record};
+
+/// Laws of reports as text.
+pub fn report_law()
+    // What is written of a record is read as it.
+    ensures again { (r : Record) → IsRecord r → report_at (text r) ≡ Ok r }
+    // No two records have one text.
+    ensures one { (r other : Record) → IsRecord r → IsRecord other → text r ≡ text other → r ≡ other }
+{}

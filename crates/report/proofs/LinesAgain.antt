@@ -25,7 +25,7 @@ use Rattle.report.specs.Records.{AreBytes, FitsActor, FitsLetter, FitsInput, IsT
 use Rattle.report.specs.Report.{word, newline, further, line, number, actor_word, flag, hex, letter_line, input_words, entry_lines, event_words, log_line, event_line, executed_line, row_line, link_line}
 use Rattle.report.specs.Spelled.{◌>>=◌, after_at, end_at}
 use Rattle.report.proofs.Readers.{ after_then, again_then, known_then, test_then, end_then, parted, parted_end, chain, line_is}
-use Rattle.report.proofs.Rereads.{number8, number16, number32, number64, actor, controller, is_flag, hexed}
+use Rattle.report.proofs.WordsAgain.{number8, number16, number32, number64, actor, controller, is_flag, hexed}
 use Rattle.report.proofs.MessagesAgain.{happenings, orders, matchings, outputs}
 use Rattle.report.proofs.Texts.{IsParted}
 
@@ -40,7 +40,7 @@ letter_is l rest fits =
     (again_then hexed l.body _ _ _ fits.body (parted_end rest)
     (end_then rest _ _ refl)))
 
-abbrev post_words : PostLine → List (List ℕ)
+abbrev pub post_words : PostLine → List (List ℕ)
 post_words p = actor_word p.actor ∷ number p.first ∷ number p.count ∷ number p.lost ∷ []
 
 pub record FitsPost (p : PostLine) : Type 0 where

@@ -1,5 +1,5 @@
 -- The lines of the log are read as they are written.
-use Rattle.std.proofs.Common.{rules, ◌≡◌, ℕ, zero, suc, ◌+◌, ◌-◌, ◌*◌, ◌/◌, ◌%◌, ◌^◌, ◌≤◌, ◌<◌, Bool, true, false, cond, not, ◌&&◌, ◌==◌, List, [], ◌∷◌, ◌++◌, length, get_or, Result, Ok, Err, refl, sym, ap, subst, ◌∙◌, append_assoc, length-append, arith}
+use Rattle.std.proofs.Common.{rules, ◌≡◌, ℕ, zero, suc, ◌+◌, ◌-◌, ◌*◌, ◌/◌, ◌%◌, ◌^◌, ◌≤◌, ◌<◌, Bool, true, false, cond, not, ◌&&◌, ◌==◌, List, [], ◌∷◌, ◌++◌, length, drop, get_or, Result, Ok, Err, refl, sym, ap, subst, ◌∙◌, append_assoc, length-append, arith}
 use Rattle.std.specs.Prelude.{Option, Some, None, codes, sum_by, nat_le}
 use Rattle.std.specs.List.{AllByRecursion}
 use Rattle.std.specs.Fmt.{decimal}
@@ -15,17 +15,22 @@ use Rattle.vr_log.specs.declared.entry.Entry.TheVariants.{Received, Processed}
 use Rattle.vr_log.specs.Log.{log_size, entry_size}
 use Rattle.vr_log.specs.Same.{same_numbers}
 use Rattle.vr_log.proofs.Equal.{numbers_same}
-use Rattle.of_types.specs.Sizes.{happening_size}
+use Rattle.of_bytes.proofs.Bytes.{big_from-lt, IsBytes-drop}
+use Rattle.of_bytes.specs.Numbers as numbers
+use Rattle.of_messages.specs.Canonical.{canonical}
+use Rattle.of_messages.proofs.Written.{message_size}
+use Rattle.of_types.specs.declared.message.OfMessage.{OfMessage}
+use Rattle.of_types.specs.Sizes.{happening_size, plain_size}
 use Rattle.of_ravana.specs.Canonical.{happening_message}
 use Rattle.report.specs.OneLine.{log_line_at, log_entry_at}
 use Rattle.report.specs.Reading.{log_at}
-use Rattle.report.specs.Records.{IsSpelled, IsLogEntry}
+use Rattle.report.specs.Records.{IsTellable, IsLogEntry}
 use Rattle.report.specs.Report.{word, newline, line, number, log_line, log_lines, lines_of}
 use Rattle.report.specs.Spelled.{◌>>=◌, word_at}
 use Rattle.report.proofs.LinesAgain.{log_entry_is}
 use Rattle.report.proofs.ListsAgain.{lines_then, line_then, each_again}
 use Rattle.report.proofs.Readers.{after_then, again_then, test_then, end_then, parted, parted_end, line_is}
-use Rattle.report.proofs.Rereads.{number64}
+use Rattle.report.proofs.WordsAgain.{number64}
 use Rattle.report.proofs.Texts.{word_again, digits_word, numeral_digits, not_same}
 
 -- ---- a numeral of many digits
@@ -71,9 +76,16 @@ written n small = decimal_by_steps_wide IsWritten one_digit next_digit n small
 
 -- ---- the bytes of a log
 
-small_happening : (what : Happening) → IsSpelled (happening_message what) → happening_size what ≤ 65535
-small_happening (happening.PacketIn p) s = s.small
-small_happening (happening.PortStatus p) s = s.small
+small_message : (m : OfMessage) → IsTellable m → plain_size m ≤ 65535
+small_message m is =
+    let bound : numbers.number 2 2 (canonical 0 m) < 65536 = big_from-lt 0 2 (drop 2 (canonical 0 m)) (IsBytes-drop 2 (canonical 0 m) is.bytes) in
+    let size = message_size 0 m in
+    let told = is.spelled.length_is in
+    omega (arith, bound, size, told)
+
+pub small_happening : (what : Happening) → IsTellable (happening_message what) → happening_size what ≤ 65535
+small_happening (happening.PacketIn p) is = small_message (happening_message (happening.PacketIn p)) is
+small_happening (happening.PortStatus p) is = small_message (happening_message (happening.PortStatus p)) is
 
 small_entry : (e : Entry) → IsLogEntry e → entry_size e ≤ 65553
 small_entry (Received e) is = let small = small_happening e.what is.what in omega (arith, small)

@@ -6,15 +6,13 @@ use Rattle.std.proofs.lemmas.Bool.{le-leb}
 use Rattle.std.proofs.lemmas.List.{append-nil}
 use Rattle.of_bytes.specs.Numbers as numbers
 use Rattle.of_match.specs.Reading.{match_at}
-use Rattle.of_match.specs.Spelling.{Fits}
 use Rattle.of_match.specs.Writing.{canonical_bare_match, canonical_match}
-use Rattle.of_match.proofs.Laws.{reads_back}
+use Rattle.of_match.proofs.Laws.{spelled_read}
 use Rattle.of_messages.specs.Canonical as messages
-use Rattle.of_messages.specs.Fits.{FitPorts, FitsPlain}
 use Rattle.of_messages.specs.Grammar.{SpellsActions}
 use Rattle.of_messages.specs.Reading.{message_at}
 use Rattle.of_messages.proofs.Again.{message_again}
-use Rattle.of_messages.proofs.Written.{actions_size, actions_spelled, message_spelled}
+use Rattle.of_messages.proofs.Written.{actions_size, actions_spelled}
 use Rattle.of_ravana.specs.Canonical.{canonical_happening, canonical_order, happening_message, order_message}
 use Rattle.of_types.specs.declared.message.Happening.{Happening}
 use Rattle.of_types.specs.declared.message.Happening.TheVariants as happening
@@ -23,49 +21,48 @@ use Rattle.of_types.specs.declared.message.OfMessage.{OfMessage}
 use Rattle.of_types.specs.declared.message.Order.{Order}
 use Rattle.of_types.specs.declared.message.Order.TheVariants as order
 use Rattle.of_types.specs.Sizes as sizes
-use Rattle.of_types.specs.Valid.{IsValidMatch}
 use Rattle.vr_log.proofs.Equal.{numbers_same}
 use Rattle.report.specs.Canonical.{happening_of, happening_at, order_of, order_at, padded, matching_of, matching_at, ports_of, most_actions, actions_in, actions_at}
 use Rattle.report.specs.Report.{word, hex}
-use Rattle.report.specs.Records.{AreBytes, IsSpelled, IsMatch, AreOutputs}
+use Rattle.report.specs.Records.{AreBytes, IsTellable, IsMatch, AreOutputs}
 use Rattle.report.specs.Spelled.{◌>>=◌, hex_at}
 use Rattle.report.proofs.Readers.{Again}
-use Rattle.report.proofs.Rereads.{hexed}
+use Rattle.report.proofs.WordsAgain.{hexed}
 use Rattle.report.proofs.Texts.{IsParted}
 
-read_again : (m : OfMessage) → IsSpelled m → message_at (messages.canonical 0 m) ≡ Ok m
-read_again m s = message_again (messages.canonical 0 m) 0 m (message_spelled 0 m s.valid s.fits s.small (omega arith))
+read_again : (m : OfMessage) → IsTellable m → message_at (messages.canonical 0 m) ≡ Ok m
+read_again m s = message_again (messages.canonical 0 m) 0 m s.spelled
 
-happening_again : (what : Happening) → IsSpelled (happening_message what) → happening_of (canonical_happening what) ≡ Some what
+happening_again : (what : Happening) → IsTellable (happening_message what) → happening_of (canonical_happening what) ≡ Some what
 unfolding happening_of canonical_happening
 happening_again (happening.PacketIn p) s = rw (read_again (happening_message (happening.PacketIn p)) s, numbers_same (messages.canonical 0 (happening_message (happening.PacketIn p)))) refl
 happening_again (happening.PortStatus p) s = rw (read_again (happening_message (happening.PortStatus p)) s, numbers_same (messages.canonical 0 (happening_message (happening.PortStatus p)))) refl
 
-happening_bytes : (what : Happening) → IsSpelled (happening_message what) → AreBytes (canonical_happening what)
+happening_bytes : (what : Happening) → IsTellable (happening_message what) → AreBytes (canonical_happening what)
 unfolding canonical_happening
 happening_bytes what s = s.bytes
 
-happening_is : (what : Happening) (rest : List ℕ) → IsSpelled (happening_message what) → IsParted rest → happening_at (word (hex (canonical_happening what)) ++ rest) ≡ Some (what, rest)
+happening_is : (what : Happening) (rest : List ℕ) → IsTellable (happening_message what) → IsParted rest → happening_at (word (hex (canonical_happening what)) ++ rest) ≡ Some (what, rest)
 unfolding happening_at
 happening_is what rest s parted = rw (hexed.again (canonical_happening what) rest (happening_bytes what s) parted, happening_again what s) refl
 
-pub happenings : Again happening_at (λ what. word (hex (canonical_happening what))) (λ what. IsSpelled (happening_message what)) IsParted
+pub happenings : Again happening_at (λ what. word (hex (canonical_happening what))) (λ what. IsTellable (happening_message what)) IsParted
 happenings = record { again = happening_is }
 
-order_again : (what : Order) → IsSpelled (order_message what) → order_of (canonical_order what) ≡ Some what
+order_again : (what : Order) → IsTellable (order_message what) → order_of (canonical_order what) ≡ Some what
 unfolding order_of canonical_order
 order_again (order.FlowMod c) s = rw (read_again (order_message (order.FlowMod c)) s, numbers_same (messages.canonical 0 (order_message (order.FlowMod c)))) refl
 order_again (order.PacketOut p) s = rw (read_again (order_message (order.PacketOut p)) s, numbers_same (messages.canonical 0 (order_message (order.PacketOut p)))) refl
 
-order_bytes : (what : Order) → IsSpelled (order_message what) → AreBytes (canonical_order what)
+order_bytes : (what : Order) → IsTellable (order_message what) → AreBytes (canonical_order what)
 unfolding canonical_order
 order_bytes what s = s.bytes
 
-order_is : (what : Order) (rest : List ℕ) → IsSpelled (order_message what) → IsParted rest → order_at (word (hex (canonical_order what)) ++ rest) ≡ Some (what, rest)
+order_is : (what : Order) (rest : List ℕ) → IsTellable (order_message what) → IsParted rest → order_at (word (hex (canonical_order what)) ++ rest) ≡ Some (what, rest)
 unfolding order_at
 order_is what rest s parted = rw (hexed.again (canonical_order what) rest (order_bytes what s) parted, order_again what s) refl
 
-pub orders : Again order_at (λ what. word (hex (canonical_order what))) (λ what. IsSpelled (order_message what)) IsParted
+pub orders : Again order_at (λ what. word (hex (canonical_order what))) (λ what. IsTellable (order_message what)) IsParted
 orders = record { again = order_is }
 
 -- ---- matches
@@ -73,12 +70,12 @@ orders = record { again = order_is }
 up_to_eight : (n : ℕ) → (8 - n % 8) % 8 ≡ sizes.padded n - n
 up_to_eight n = omega arith
 
-padded_is : (m : Match) → padded (canonical_bare_match m) ≡ canonical_match m
+pub padded_is : (m : Match) → padded (canonical_bare_match m) ≡ canonical_match m
 unfolding padded canonical_match
 padded_is m = ap (λ (n : ℕ). canonical_bare_match m ++ replicate n 0) (up_to_eight (length (canonical_bare_match m)))
 
-match_read : (m : Match) → IsMatch m → match_at (canonical_match m) ≡ Ok (m, sizes.match_size m)
-match_read m is = ap match_at (sym (append-nil (canonical_match m))) ∙ reads_back m [] is.valid is.fits
+match_read : (m : Match) → IsMatch m → match_at (canonical_match m) ≡ Ok (m, length (canonical_match m))
+match_read m is = spelled_read (canonical_match m) (canonical_match m) [] m (sym (append-nil (canonical_match m))) is.spelled
 
 matching_again : (m : Match) → IsMatch m → matching_of (canonical_bare_match m) ≡ Some m
 unfolding matching_of

@@ -29,7 +29,7 @@ use Rattle.report.specs.Spelled.{◌>>=◌, labelled_at, dash_or, number64_at, c
 use Rattle.report.proofs.LinesAgain as again
 use Rattle.report.proofs.ListsAgain.{lines_then, line_then, fits_line, no_lines, more_lines, each_again, while_again, all_behind}
 use Rattle.report.proofs.Readers.{Again, after_then, again_then, known_then, test_then, end_then, parted, parted_end, chain, line_is}
-use Rattle.report.proofs.Rereads.{number32, number64, number64_or_dash, controller_or_dash, or_dash, labelled_then, parted_label}
+use Rattle.report.proofs.WordsAgain.{number32, number64, number64_or_dash, controller_or_dash, or_dash, labelled_then, parted_label}
 use Rattle.report.proofs.SetupAgain.{setup_again}
 use Rattle.report.proofs.Texts.{IsParted, end_again}
 use Rattle.report.proofs.LogAgain.{log_again}
@@ -112,11 +112,11 @@ no_deny (x ∷ journal) rest told e = ap (begins (codes "deny")) (more_lines ent
 three_labels : (a b c d e f rest : List ℕ) → ((a ++ b) ++ ((c ++ d) ++ (e ++ f))) ++ rest ≡ a ++ (b ++ (c ++ (d ++ (e ++ (f ++ rest)))))
 three_labels a b c d e f rest = simp append_assoc refl
 
-role_parts : (t : Told) (rest : List ℕ) → role_words t ++ rest ≡ word (codes "generation") ++ (word (number_or_dash t.generation) ++ (word (codes "master") ++ (word (master_word t.master) ++ (word (codes "life") ++ (word (number t.life) ++ rest)))))
+pub role_parts : (t : Told) (rest : List ℕ) → role_words t ++ rest ≡ word (codes "generation") ++ (word (number_or_dash t.generation) ++ (word (codes "master") ++ (word (master_word t.master) ++ (word (codes "life") ++ (word (number t.life) ++ rest)))))
 unfolding role_words labelled
 role_parts t rest = three_labels (word (codes "generation")) (word (number_or_dash t.generation)) (word (codes "master")) (word (master_word t.master)) (word (codes "life")) (word (number t.life)) rest
 
-generation_word : (g : Option ℕ) → number_or_dash g ≡ or_dash number g
+pub generation_word : (g : Option ℕ) → number_or_dash g ≡ or_dash number g
 unfolding number_or_dash number
 generation_word None = refl
 generation_word (Some g) = refl
@@ -126,7 +126,7 @@ generation_then : {R : Type 0} (g : Option ℕ) (rest : List ℕ) (more : Option
 generation_then g rest more y fits follows e =
     subst (λ t. (dash_or number64_at (word t ++ rest) >>= more) ≡ y) (sym (generation_word g)) (again_then number64_or_dash g rest more y fits follows e)
 
-master_is : (c : Option ℕ) → master_word c ≡ or_dash (λ c. actor_word (Controller c)) c
+pub master_is : (c : Option ℕ) → master_word c ≡ or_dash (λ c. actor_word (Controller c)) c
 unfolding master_word
 master_is None = refl
 master_is (Some c) = refl
@@ -159,7 +159,7 @@ parted_role t rest = refl
 five_parts : (first of role a b c d e end rest : List ℕ) → (first ++ (of ++ (role ++ ((a ++ (b ++ (c ++ (d ++ e)))) ++ end)))) ++ rest ≡ first ++ (of ++ (role ++ (a ++ (b ++ (c ++ (d ++ (e ++ (end ++ rest))))))))
 five_parts first of role a b c d e end rest = simp append_assoc refl
 
-switch_parts : (s : ℕ) (t : Told) (rest : List ℕ) → switch_line s t ++ rest ≡
+pub switch_parts : (s : ℕ) (t : Told) (rest : List ℕ) → switch_line s t ++ rest ≡
     codes "switch" ++ (word (number s) ++ (role_words t ++ (labelled (codes "events") (number (length t.events)) ++ (labelled (codes "held") (number t.held) ++ (labelled (codes "executed") (number (length t.executed))
     ++ (labelled (codes "rows") (number (length t.rows)) ++ (labelled (codes "sent") (number t.sent) ++ (newline ++ rest))))))))
 unfolding switch_line count_words
@@ -167,7 +167,7 @@ switch_parts s t rest =
     five_parts (codes "switch") (word (number s)) (role_words t) (labelled (codes "events") (number (length t.events))) (labelled (codes "held") (number t.held)) (labelled (codes "executed") (number (length t.executed)))
     (labelled (codes "rows") (number (length t.rows))) (labelled (codes "sent") (number t.sent)) newline rest
 
-abbrev line_of : Told → SwitchLine
+abbrev pub line_of : Told → SwitchLine
 line_of t = record { generation = t.generation; master = t.master; life = t.life; events = length t.events; held = t.held; executed = length t.executed; rows = length t.rows; sent = t.sent }
 
 switch_line_is : (s : ℕ) (t : Told) (rest : List ℕ) → s < 2 ^ 8 → IsTold s t → switch_line_at s (switch_line s t ++ rest) ≡ Some (line_of t, rest)
@@ -187,7 +187,7 @@ switch_line_is s t rest small told =
 four_parts : (a b c d rest : List ℕ) → (a ++ (b ++ (c ++ d))) ++ rest ≡ a ++ (b ++ (c ++ (d ++ rest)))
 four_parts a b c d rest = simp append_assoc refl
 
-told_parts : (s : ℕ) (t : Told) (rest : List ℕ) → told_lines s t ++ rest ≡ switch_line s t ++ (lines_of event_line t.events ++ (lines_of (executed_line s) t.executed ++ (lines_of (row_line s) t.rows ++ rest)))
+pub told_parts : (s : ℕ) (t : Told) (rest : List ℕ) → told_lines s t ++ rest ≡ switch_line s t ++ (lines_of event_line t.events ++ (lines_of (executed_line s) t.executed ++ (lines_of (row_line s) t.rows ++ rest)))
 unfolding told_lines
 told_parts s t rest = four_parts (switch_line s t) (lines_of event_line t.events) (lines_of (executed_line s) t.executed) (lines_of (row_line s) t.rows) rest
 
@@ -200,11 +200,11 @@ told_is s t rest small told =
     (lines_then _ _ _ _ (each_again (executed_at s) (executed_line s) IsToldExecuted (λ x rest is. again.executed_is s x rest small is) t.executed _ told.executed)
     (lines_then _ _ _ _ (each_again (row_at s) (row_line s) IsShown (λ r rest is. again.row_is s r rest small is) t.rows _ told.rows) refl)))
 
-more_switches : (s : ℕ) (t : Told) (switches : List Told) (rest : List ℕ) → switch_lines s (t ∷ switches) ++ rest ≡ told_lines s t ++ (switch_lines (s + 1) switches ++ rest)
+pub more_switches : (s : ℕ) (t : Told) (switches : List Told) (rest : List ℕ) → switch_lines s (t ∷ switches) ++ rest ≡ told_lines s t ++ (switch_lines (s + 1) switches ++ rest)
 unfolding switch_lines
 more_switches s t switches rest = append_assoc (told_lines s t) (switch_lines (s + 1) switches) rest
 
-no_switches : (s : ℕ) (rest : List ℕ) → switch_lines s [] ++ rest ≡ rest
+pub no_switches : (s : ℕ) (rest : List ℕ) → switch_lines s [] ++ rest ≡ rest
 unfolding switch_lines
 no_switches s rest = refl
 

@@ -19,7 +19,7 @@ use Rattle.report.proofs.Apart.{same_end, same_end_sym, ends_any, IsFree, free_l
 use Rattle.report.proofs.LinesAgain as again
 use Rattle.report.proofs.ListsAgain.{lines_then, line_then, fits_line, while_again, AllBehind}
 use Rattle.report.proofs.Readers.{Again, after_then, again_then, test_then, end_then, parted, parted_end, chain, line_is}
-use Rattle.report.proofs.Rereads.{number8, number32, number64, number16_or_dash, or_dash, address}
+use Rattle.report.proofs.WordsAgain.{number8, number32, number64, number16_or_dash, or_dash, address}
 use Rattle.report.proofs.Texts.{IsParted}
 
 -- ---- counts
@@ -52,11 +52,11 @@ port_count_is s n rest small some few =
     (again_then number32 n _ _ _ (omega (arith, few)) (parted_end rest)
     (end_then rest _ _ (test_then _ _ _ within refl))))
 
-more_ports : (s n : ℕ) (counts rest : List ℕ) → port_lines s (n ∷ counts) ++ rest ≡ port_line s n ++ (port_lines (s + 1) counts ++ rest)
+pub more_ports : (s n : ℕ) (counts rest : List ℕ) → port_lines s (n ∷ counts) ++ rest ≡ port_line s n ++ (port_lines (s + 1) counts ++ rest)
 unfolding port_lines
 more_ports s n counts rest = append_assoc (port_line s n) (port_lines (s + 1) counts) rest
 
-no_ports : (s : ℕ) (rest : List ℕ) → port_lines s [] ++ rest ≡ rest
+pub no_ports : (s : ℕ) (rest : List ℕ) → port_lines s [] ++ rest ≡ rest
 unfolding port_lines
 no_ports s rest = refl
 
@@ -165,7 +165,7 @@ prefix_then p rest more y fits is follows e =
         (test_then _ _ _ within refl)) in
     rw read e
 
-port_word : (port : Option ℕ) → number_or_dash port ≡ or_dash number port
+pub port_word : (port : Option ℕ) → number_or_dash port ≡ or_dash number port
 unfolding number_or_dash number
 port_word None = refl
 port_word (Some p) = refl
@@ -205,7 +205,7 @@ asked_again n (Some p) (suc zero, less, e) portless = rw (sym e) refl
 asked_again n (Some p) (suc (suc zero), less, e) portless = rw (sym e) refl
 asked_again n (Some p) (suc (suc (suc k)), less, e) portless = absurd (omega (arith, less))
 
-record MayDeny (r : Rule) : Type 0 where
+pub record MayDeny (r : Rule) : Type 0 where
   pub is : IsRule r
   pub fits : FitsRule r
 
@@ -237,7 +237,7 @@ unfolding line lines_of
 deny_no_link [] rest ends = ends
 deny_no_link (r ∷ rules) rest ends = refl
 
-setup_parts : (s : Setup) (rest : List ℕ) → setup_lines s ++ rest ≡ setup_line s ++ (port_lines 0 s.ports ++ (lines_of link_line s.links ++ (lines_of deny_line s.deny ++ rest)))
+pub setup_parts : (s : Setup) (rest : List ℕ) → setup_lines s ++ rest ≡ setup_line s ++ (port_lines 0 s.ports ++ (lines_of link_line s.links ++ (lines_of deny_line s.deny ++ rest)))
 unfolding setup_lines
 setup_parts s rest =
     append_assoc (setup_line s) (port_lines 0 s.ports ++ (lines_of link_line s.links ++ lines_of deny_line s.deny)) rest

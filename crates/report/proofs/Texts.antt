@@ -119,7 +119,7 @@ word_again text rest is parted =
 
 -- ---- numbers
 
-within_takes : (most n : ℕ) (text : List ℕ) → numeral_within most text ≡ Some n → (numeral text ≡ Some n) × (n ≤ most)
+pub within_takes : (most n : ℕ) (text : List ℕ) → numeral_within most text ≡ Some n → (numeral text ≡ Some n) × (n ≤ most)
 unfolding numeral_within
 within_takes most n text e = held (numeral text) e
   where

@@ -1,10 +1,11 @@
--- What a record holds: numbers within their types, a setup within its limits, and messages that can be spelled.
+-- What a record holds: numbers within their types, a setup within its limits, and messages that their bytes spell.
 use Rattle.std.specs.Prelude.{◌≡◌, ◌≤◌, ◌<◌, ◌+◌, ◌^◌, ℕ, IfSome, List, [], ◌∷◌, length, get_or}
 use Rattle.std.specs.List.{AllByRecursion}
-use Rattle.of_match.specs.Spelling.{Fits}
-use Rattle.of_match.specs.Writing.{canonical_bare_match}
+use Rattle.of_match.specs.Spelling.{IsSpelled}
+use Rattle.of_match.specs.Writing.{canonical_bare_match, canonical_match}
 use Rattle.of_messages.specs.Canonical.{canonical, actions_of}
-use Rattle.of_messages.specs.Fits.{FitPorts, FitsPlain}
+use Rattle.of_messages.specs.Fits.{FitPorts}
+use Rattle.of_messages.specs.Grammar.{Spells}
 use Rattle.of_ravana.specs.Canonical.{happening_message, order_message}
 use Rattle.of_types.specs.declared.message.Event.{Event}
 use Rattle.of_types.specs.declared.message.Executed.{Executed}
@@ -12,8 +13,6 @@ use Rattle.of_types.specs.declared.message.Match.{Match}
 use Rattle.of_types.specs.declared.message.OfMessage.{OfMessage}
 use Rattle.of_types.specs.declared.setup.Rule.{Rule}
 use Rattle.of_types.specs.Setups.{IsSetup}
-use Rattle.of_types.specs.Sizes.{plain_size}
-use Rattle.of_types.specs.Valid.{IsValidMatch, IsValidPlain}
 use Rattle.rv_base.specs.declared.journal.Actor.{Actor}
 use Rattle.rv_base.specs.declared.journal.Actor.TheVariants.{Controller, Switch}
 use Rattle.rv_base.specs.declared.journal.JournalEntry.{JournalEntry}
@@ -66,16 +65,13 @@ IsToldEntry (entry.Refused a) = ⊥
 
 -- ---- messages
 
--- a message that can be spelled, in bytes
-pub record IsSpelled (m : OfMessage) : Type 0 where
-  pub valid : IsValidPlain m
-  pub fits : FitsPlain m
-  pub small : plain_size m ≤ 65535
+-- a message that its written form spells
+pub record IsTellable (m : OfMessage) : Type 0 where
+  pub spelled : Spells (canonical 0 m) 0 m
   pub bytes : AreBytes (canonical 0 m)
 
 pub record IsMatch (m : Match) : Type 0 where
-  pub valid : IsValidMatch m
-  pub fits : Fits m
+  pub spelled : IsSpelled (canonical_match m) m
   pub bytes : AreBytes (canonical_bare_match m)
 
 -- the ports of actions that one message can hold
@@ -90,7 +86,7 @@ pub record IsToldEvent (e : Event) : Type 0 where
   pub switch : e.switch < 2 ^ 8
   pub life : e.life < 2 ^ 32
   pub number : e.number < 2 ^ 64
-  pub what : IsSpelled (happening_message e.what)
+  pub what : IsTellable (happening_message e.what)
 
 abbrev pub IsLogEntry : Entry → Type 0
 IsLogEntry (Received e) = IsToldEvent e
@@ -101,7 +97,7 @@ pub record IsToldExecuted (x : Executed) : Type 0 where
   pub number : x.number < 2 ^ 64
   pub generation : x.generation < 2 ^ 64
   pub from : x.from < 2 ^ 8
-  pub order : IsSpelled (order_message x.order)
+  pub order : IsTellable (order_message x.order)
 
 pub record IsShown (r : Shown) : Type 0 where
   pub priority : r.priority < 2 ^ 16

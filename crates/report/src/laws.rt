@@ -1,5 +1,5 @@
 //! Laws of reports as text.
-ghost use Rattle.std.specs.Prelude.{◌≡◌, Ok};
+ghost use Rattle.std.specs.Prelude.{◌≡◌, ℕ, List, Ok};
 ghost use Rattle.report.specs.Reading.{report_at};
 ghost use Rattle.report.specs.Records.{IsRecord};
 ghost use Rattle.report.specs.Report.{text};
@@ -11,4 +11,8 @@ pub fn report_law()
     ensures again { (r : Record) → IsRecord r → report_at (text r) ≡ Ok r }
     // No two records have one text.
     ensures one { (r other : Record) → IsRecord r → IsRecord other → text r ≡ text other → r ≡ other }
+    // What is read is a record.
+    ensures found { (bytes : List ℕ) (r : Record) → report_at bytes ≡ Ok r → IsRecord r }
+    // It is read of its text alone.
+    ensures only { (bytes : List ℕ) (r : Record) → report_at bytes ≡ Ok r → text r ≡ bytes }
 {}

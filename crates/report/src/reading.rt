@@ -3,7 +3,9 @@ ghost use Rattle.std.specs.Prelude.{◌≡◌, IfOk};
 ghost use Rattle.report.specs.Lines.{GivesLines};
 ghost use Rattle.report.specs.OneLine.{first_line_at, last_line_at};
 ghost use Rattle.report.specs.Reading.{record_at, line_number, IsReadAs};
+ghost use Rattle.report.specs.Records.{IsRecord};
 ghost use Rattle.report.specs.Report as report;
+ghost use Rattle.report.specs.Report.{text};
 ghost use Rattle.report.specs.Spelled.{Gives};
 
 use crate::fault::{Broken, Misfit, ReportFault, on_line};
@@ -85,9 +87,9 @@ fn line_number(bytes: &[u8], left: usize) -> u64
     line
 }
 
-/// The record that bytes are the text of.
+/// The record that bytes, all of them, are the text of.
 #[tactic(auto, unfolding(crate::specs::Reading::report_at))]
-pub fn read_report(alloc: Global, bytes: &[u8]) -> Result<Record, ReportFault>
+fn whole(alloc: Global, bytes: &[u8]) -> Result<Record, ReportFault>
     ensures { IsReadAs bytes.now result }
 {
     match record(alloc, bytes) {
@@ -100,4 +102,14 @@ pub fn read_report(alloc: Global, bytes: &[u8]) -> Result<Record, ReportFault>
         }),
         Err(Broken::OutOfMemory) => Err(ReportFault::OutOfMemory),
     }
+}
+
+/// The record that bytes are the text of.
+pub fn read_report(alloc: Global, bytes: &[u8]) -> Result<Record, ReportFault>
+    // It is what reading gives, or the first line that does not fit.
+    ensures exact { IsReadAs bytes.now result }
+    // What is read is a record, and the bytes are its text.
+    ensures found { IfOk result (λ r. IsRecord r × (text r ≡ bytes.now)) }
+{
+    whole(alloc, bytes)
 }

@@ -17,9 +17,6 @@ use Rattle.report.proofs.Readers.{Again, again_then, Any}
 
 -- ---- numbers
 
-pub small_number : (most : ℕ) → most < 2 ^ 64 → Again (number_at most) (λ n. word (number n)) (λ n. n ≤ most) IsParted
-small_number most small = record { again = λ n rest fits parted. number_again most n rest small fits parted }
-
 pub number8 : Again number8_at (λ n. word (number n)) (λ n. n < 2 ^ 8) IsParted
 number8 = record { again = λ n rest fits parted. number_again 255 n rest (omega arith) (omega (arith, fits)) parted }
 
@@ -235,10 +232,10 @@ regrouped a b c d =
     append_assoc (a ++ (46 ∷ b)) (46 ∷ c) (46 ∷ d) ∙ append_assoc a (46 ∷ b) (46 ∷ (c ++ (46 ∷ d)))
 
 -- four numbers of one byte, with a dot between them
-abbrev four_dotted : ℕ → ℕ → ℕ → ℕ → List ℕ
+abbrev pub four_dotted : ℕ → ℕ → ℕ → ℕ → List ℕ
 four_dotted a b c d = decimal a ++ (46 ∷ (decimal b ++ (46 ∷ (decimal c ++ (46 ∷ decimal d)))))
 
-address_parts : (a : ℕ) → address_word a ≡ four_dotted (a / 16777216 % 256) (a / 65536 % 256) (a / 256 % 256) (a % 256)
+pub address_parts : (a : ℕ) → address_word a ≡ four_dotted (a / 16777216 % 256) (a / 65536 % 256) (a / 256 % 256) (a % 256)
 unfolding address_word
 address_parts a = regrouped (decimal (a / 16777216 % 256)) (decimal (a / 65536 % 256)) (decimal (a / 256 % 256)) (decimal (a % 256))
 

@@ -1,14 +1,11 @@
 -- Lines are read as they are written.
-use Rattle.std.proofs.Common.{◌≡◌, ℕ, zero, suc, ◌+◌, ◌-◌, ◌%◌, ◌^◌, ◌≤◌, ◌<◌, Bool, true, false, List, [], ◌∷◌, ◌++◌, length, drop, refl, sym, ap, subst, ◌∙◌, append_assoc, arith}
+use Rattle.std.proofs.Common.{◌≡◌, ℕ, ◌^◌, ◌<◌, Bool, List, [], ◌∷◌, ◌++◌, refl, ap, ◌∙◌}
 use Rattle.std.proofs.lemmas.Bool.{eq-eqb}
-use Rattle.std.specs.Prelude.{Option, Some, None, codes, IfSome, nat_le, ◌&&◌, ◌==◌}
+use Rattle.std.specs.Prelude.{Option, Some, codes, ◌==◌}
 use Rattle.of_types.specs.declared.message.Event.{Event}
 use Rattle.of_types.specs.declared.message.Executed.{Executed}
-use Rattle.of_types.specs.declared.setup.Link.{Link}
-use Rattle.of_types.specs.declared.setup.Rule.{Rule}
 use Rattle.rv_base.specs.declared.journal.Actor.{Actor}
-use Rattle.rv_base.specs.declared.journal.Actor.TheVariants.{Controller, Switch}
-use Rattle.rv_base.specs.declared.journal.JournalEntry.{JournalEntry}
+use Rattle.rv_base.specs.declared.journal.Actor.TheVariants.{Controller}
 use Rattle.rv_base.specs.declared.journal.JournalEntry.TheVariants as entry
 use Rattle.rv_base.specs.declared.journal.Letter.{Letter}
 use Rattle.rv_base.specs.declared.journal.Local.{Local}
@@ -20,11 +17,11 @@ use Rattle.vr_log.specs.declared.entry.Entry.{Entry}
 use Rattle.vr_log.specs.declared.entry.Entry.TheVariants.{Received, Processed}
 use Rattle.report.specs.declared.journal_lines.PostLine.{PostLine}
 use Rattle.report.specs.declared.record.Shown.{Shown}
-use Rattle.report.specs.OneLine.{letter_at, post_line_at, draw_at, lose_at, idle_at, local_at, input_at, frame_at, port_at, suspect_at, bare_at, short_entry_at, event_words_at, received_at, processed_at, log_entry_at, event_at, executed_at, row_at, of_at, link_words_at}
-use Rattle.report.specs.Records.{AreBytes, FitsActor, FitsLetter, FitsInput, IsToldEntry, IsToldEvent, IsLogEntry, IsToldExecuted, IsShown, IsEventOf}
-use Rattle.report.specs.Report.{word, newline, further, line, number, actor_word, flag, hex, letter_line, input_words, entry_lines, event_words, log_line, event_line, executed_line, row_line, link_line}
-use Rattle.report.specs.Spelled.{◌>>=◌, after_at, end_at}
-use Rattle.report.proofs.Readers.{ after_then, again_then, known_then, test_then, end_then, parted, parted_end, chain, line_is}
+use Rattle.report.specs.OneLine.{letter_at, post_line_at, draw_at, lose_at, idle_at, local_at, input_at, frame_at, port_at, suspect_at, bare_at, event_words_at, received_at, processed_at, log_entry_at, event_at, executed_at, row_at, of_at}
+use Rattle.report.specs.Records.{AreBytes, FitsActor, FitsLetter, FitsInput, IsToldEvent, IsLogEntry, IsToldExecuted, IsShown, IsEventOf}
+use Rattle.report.specs.Report.{word, newline, line, number, actor_word, flag, hex, letter_line, input_words, entry_lines, event_words, log_line, event_line, executed_line, row_line}
+use Rattle.report.specs.Spelled.{◌>>=◌}
+use Rattle.report.proofs.Readers.{after_then, again_then, known_then, test_then, end_then, parted, parted_end, chain, line_is}
 use Rattle.report.proofs.WordsAgain.{number8, number16, number32, number64, actor, controller, is_flag, hexed}
 use Rattle.report.proofs.MessagesAgain.{happenings, orders, matchings, outputs}
 use Rattle.report.proofs.Texts.{IsParted}

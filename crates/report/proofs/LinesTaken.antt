@@ -1,12 +1,10 @@
 -- Lines are written as they were read.
-use Rattle.std.proofs.Common.{◌≡◌, ℕ, ◌+◌, ◌^◌, ◌≤◌, ◌<◌, Bool, true, false, cond, List, [], ◌∷◌, ◌++◌, length, refl, sym, ap, subst, ◌∙◌, append_assoc, arith}
-use Rattle.std.specs.Prelude.{Option, Some, None, codes, nat_eq, ◌==◌}
-use Rattle.std.specs.List.{starts_with}
+use Rattle.std.proofs.Common.{◌≡◌, ℕ, List, [], ◌∷◌, ◌++◌, refl, sym, ap, ◌∙◌}
+use Rattle.std.specs.Prelude.{Option, Some, codes, ◌==◌}
 use Rattle.std.proofs.lemmas.Bool.{eqb-true}
 use Rattle.of_types.specs.declared.message.Event.{Event}
 use Rattle.of_types.specs.declared.message.Executed.{Executed}
-use Rattle.rv_base.specs.declared.journal.Actor.{Actor}
-use Rattle.rv_base.specs.declared.journal.Actor.TheVariants.{Controller, Switch}
+use Rattle.rv_base.specs.declared.journal.Actor.TheVariants.{Controller}
 use Rattle.rv_base.specs.declared.journal.JournalEntry.{JournalEntry}
 use Rattle.rv_base.specs.declared.journal.JournalEntry.TheVariants as entry
 use Rattle.rv_base.specs.declared.journal.Letter.{Letter}
@@ -14,19 +12,19 @@ use Rattle.rv_base.specs.declared.journal.Local.{Local}
 use Rattle.rv_base.specs.declared.journal.Local.TheVariants as local
 use Rattle.of_messages.specs.Canonical.{actions_of}
 use Rattle.of_match.specs.Writing.{canonical_bare_match}
-use Rattle.of_ravana.specs.Canonical.{canonical_happening, canonical_order}
+use Rattle.of_ravana.specs.Canonical.{canonical_order}
 use Rattle.vr_log.specs.declared.entry.Entry.{Entry}
 use Rattle.vr_log.specs.declared.entry.Entry.TheVariants.{Received, Processed}
 use Rattle.report.specs.declared.journal_lines.PostLine.{PostLine}
 use Rattle.report.specs.declared.record.Shown.{Shown}
 use Rattle.report.specs.OneLine.{begins, letter_at, post_line_at, draw_at, lose_at, idle_at, local_at, input_at, frame_at, port_at, suspect_at, bare_at, short_entry_at, event_words_at, received_at, processed_at, log_entry_at, event_at, executed_at, row_at, of_at}
-use Rattle.report.specs.Records.{AreBytes, FitsActor, FitsLetter, FitsInput, IsToldEntry, IsToldEvent, IsLogEntry, IsToldExecuted, IsShown, IsEventOf}
-use Rattle.report.specs.Report.{word, newline, further, line, number, actor_word, flag, hex, letter_line, input_words, entry_lines, event_words, log_line, event_line, executed_line, row_line}
-use Rattle.report.specs.Spelled.{◌>>=◌, after_at, end_at, number8_at, known_at}
+use Rattle.report.specs.Records.{FitsLetter, FitsInput, IsToldEntry, IsToldEvent, IsLogEntry, IsToldExecuted, IsShown, IsEventOf}
+use Rattle.report.specs.Report.{word, newline, line, number, actor_word, flag, hex, letter_line, input_words, entry_lines, event_words, log_line, event_line, executed_line, row_line}
+use Rattle.report.specs.Spelled.{◌>>=◌}
 use Rattle.report.proofs.LinesAgain.{FitsPost, post_words}
 use Rattle.report.proofs.MessagesTaken.{happening_takes, order_takes, matching_takes, actions_takes}
 use Rattle.report.proofs.Readers.{chain, line_is}
-use Rattle.report.proofs.Takers.{then, branches, both_found, found_as, tested, Takes, Spelt, took, took_text, took_known, took_end, closes}
+use Rattle.report.proofs.Takers.{then, branches, both_found, tested, Takes, Spelt, took, took_text, took_known, closes}
 use Rattle.report.proofs.Texts.{some_is}
 use Rattle.report.proofs.WordsTaken.{number8_takes, number16_takes, number32_takes, number64_takes, actor_takes, controller_takes, flag_takes, hex_takes}
 
@@ -230,10 +228,11 @@ executed_is s bytes x rest e =
     took number64_takes b3 _ _ e (λ generation b4 e4 f4 e.
     took controller_takes b4 _ _ e (λ from b5 e5 f5 e.
     took order_takes b5 _ _ e (λ order b6 e6 f6 e.
-    closes (Spelt (executed_line s) IsToldExecuted bytes) (record { life = life; number = n; generation = generation; from = from; order = order }) b6 x rest e (λ end e7.
-    (rw (e0, e1, e2, e3, e4, e5, e6, e7)
-     (sym (line_is (codes "executed") (number s ∷ number life ∷ number n ∷ number generation ∷ actor_word (Controller from) ∷ hex (canonical_order order) ∷ []) end)),
-    record { life = f2; number = f3; generation = f4; from = f5; order = f6 })))))))))
+    closes (Spelt (executed_line s) IsToldExecuted bytes) (record { life = life; number = n; generation = generation; from = from; order = order }) b6 x rest e (λ end e7. (
+      rw (e0, e1, e2, e3, e4, e5, e6, e7)
+          (sym (line_is (codes "executed") (number s ∷ number life ∷ number n ∷ number generation ∷ actor_word (Controller from) ∷ hex (canonical_order order) ∷ []) end)),
+      record { life = f2; number = f3; generation = f4; from = f5; order = f6 },
+    )))))))))
 
 pub executed_takes : (s : ℕ) → Takes (executed_at s) (executed_line s) IsToldExecuted
 executed_takes s = record { takes = executed_is s }
@@ -246,9 +245,10 @@ row_is s bytes x rest e =
     took number16_takes b1 _ _ e (λ priority b2 e2 f2 e.
     took matching_takes b2 _ _ e (λ matching b3 e3 f3 e.
     took actions_takes b3 _ _ e (λ actions b4 e4 f4 e.
-    closes (Spelt (row_line s) IsShown bytes) (record { priority = priority; matching = matching; actions = actions }) b4 x rest e (λ end e5.
-    (rw (e0, e1, e2, e3, e4, e5) (sym (line_is (codes "row") (number s ∷ number priority ∷ hex (canonical_bare_match matching) ∷ hex (actions_of actions) ∷ []) end)),
-    record { priority = f2; matching = f3; actions = f4 })))))))
+    closes (Spelt (row_line s) IsShown bytes) (record { priority = priority; matching = matching; actions = actions }) b4 x rest e (λ end e5. (
+      rw (e0, e1, e2, e3, e4, e5) (sym (line_is (codes "row") (number s ∷ number priority ∷ hex (canonical_bare_match matching) ∷ hex (actions_of actions) ∷ []) end)),
+      record { priority = f2; matching = f3; actions = f4 },
+    )))))))
 
 pub row_takes : (s : ℕ) → Takes (row_at s) (row_line s) IsShown
 row_takes s = record { takes = row_is s }

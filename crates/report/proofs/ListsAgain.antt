@@ -1,8 +1,7 @@
 -- Lines one after another are read as they are written.
-use Rattle.std.proofs.Common.{◌≡◌, ℕ, zero, suc, ◌+◌, ◌-◌, ◌^◌, ◌≤◌, ◌<◌, Bool, true, false, cond, not, List, [], ◌∷◌, ◌++◌, length, refl, sym, ap, subst, ◌∙◌, append_assoc, length-append, arith}
+use Rattle.std.proofs.Common.{◌≡◌, ℕ, zero, suc, ◌≤◌, Bool, true, false, List, [], ◌∷◌, ◌++◌, length, refl, sym, ap, ◌∙◌, append_assoc, arith}
 use Rattle.std.proofs.lemmas.List.{append-nil}
-use Rattle.std.proofs.lemmas.Bool.{eq-eqb}
-use Rattle.std.specs.Prelude.{Option, Some, None, Result, Ok, Err, codes, ◌==◌}
+use Rattle.std.specs.Prelude.{Option, Some, Result, Ok}
 use Rattle.std.specs.List.{AllByRecursion}
 use Rattle.of_bytes.specs.Reading as lines
 use Rattle.report.specs.Lines.{line_at, each_at, while_at}
@@ -62,5 +61,5 @@ module _ {A : Type 0} (test : List ℕ → Bool) (read : List A → List ℕ →
   while_again (suc n) before (x ∷ xs) rest few are fails =
       ap (while_at test read (suc n) before) (more_lines text x xs rest)
       ∙ rw (holds before x (lines_of text xs ++ rest) are.0, again before x (lines_of text xs ++ rest) are.0)
-        (while_again n (before ++ x ∷ []) xs rest (omega (arith, few)) are.1 fails)
+      (while_again n (before ++ x ∷ []) xs rest (omega (arith, few)) are.1 fails)
       ∙ ap (λ l. Ok (l, rest)) (append_assoc before (x ∷ []) xs)

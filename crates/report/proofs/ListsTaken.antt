@@ -1,13 +1,12 @@
 -- Lines one after another are written as they were read.
-use Rattle.std.proofs.Common.{◌≡◌, ℕ, zero, suc, ◌+◌, ◌≤◌, Bool, true, false, cond, List, [], ◌∷◌, ◌++◌, length, Result, Ok, Err, refl, sym, ap, subst, ◌∙◌, append_assoc, arith}
+use Rattle.std.proofs.Common.{◌≡◌, ℕ, zero, suc, ◌≤◌, Bool, List, [], ◌∷◌, ◌++◌, length, Result, Ok, Err, refl, sym, ap, ◌∙◌, append_assoc, arith}
 use Rattle.std.proofs.lemmas.List.{append-nil}
 use Rattle.std.specs.Prelude.{Option}
 use Rattle.std.specs.List.{AllByRecursion}
-use Rattle.of_bytes.specs.Reading as lines
 use Rattle.report.specs.Lines.{line_at, each_at, while_at}
 use Rattle.report.specs.Report.{lines_of}
 use Rattle.report.proofs.ListsAgain.{more_lines, no_lines}
-use Rattle.report.proofs.Takers.{then_lines, branches, read_as, both_are, fits, Takes, Spelt}
+use Rattle.report.proofs.Takers.{then_lines, branches, read_as, both_are, fits, Takes}
 
 -- lines of these values, as many as were counted
 pub record Counted {A : Type 0} (text : A → List ℕ) (IsFit : A → Type 0) (count : ℕ) (bytes : List ℕ) (xs : List A) (rest : List ℕ) : Type 0 where

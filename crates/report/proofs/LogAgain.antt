@@ -1,6 +1,6 @@
 -- The lines of the log are read as they are written.
-use Rattle.std.proofs.Common.{rules, ◌≡◌, ℕ, zero, suc, ◌+◌, ◌-◌, ◌*◌, ◌/◌, ◌%◌, ◌^◌, ◌≤◌, ◌<◌, Bool, true, false, cond, not, ◌&&◌, ◌==◌, List, [], ◌∷◌, ◌++◌, length, drop, get_or, Result, Ok, Err, refl, sym, ap, subst, ◌∙◌, append_assoc, length-append, arith}
-use Rattle.std.specs.Prelude.{Option, Some, None, codes, sum_by, nat_le}
+use Rattle.std.proofs.Common.{◌≡◌, ℕ, ◌+◌, ◌*◌, ◌/◌, ◌%◌, ◌^◌, ◌≤◌, ◌<◌, true, false, ◌==◌, List, [], ◌∷◌, ◌++◌, length, drop, get_or, Ok, refl, ap, ◌∙◌, append_assoc, length-append, arith}
+use Rattle.std.specs.Prelude.{Option, Some, codes}
 use Rattle.std.specs.List.{AllByRecursion}
 use Rattle.std.specs.Fmt.{decimal}
 use Rattle.std.proofs.lemmas.Bool.{and_parts, le-leb}
@@ -13,7 +13,6 @@ use Rattle.of_types.specs.declared.message.Happening.TheVariants as happening
 use Rattle.vr_log.specs.declared.entry.Entry.{Entry}
 use Rattle.vr_log.specs.declared.entry.Entry.TheVariants.{Received, Processed}
 use Rattle.vr_log.specs.Log.{log_size, entry_size}
-use Rattle.vr_log.specs.Same.{same_numbers}
 use Rattle.vr_log.proofs.Equal.{numbers_same}
 use Rattle.of_bytes.proofs.Bytes.{big_from-lt, IsBytes-drop}
 use Rattle.of_bytes.specs.Numbers as numbers
@@ -29,7 +28,7 @@ use Rattle.report.specs.Report.{word, newline, line, number, log_line, log_lines
 use Rattle.report.specs.Spelled.{◌>>=◌, word_at}
 use Rattle.report.proofs.LinesAgain.{log_entry_is}
 use Rattle.report.proofs.ListsAgain.{lines_then, line_then, each_again}
-use Rattle.report.proofs.Readers.{after_then, again_then, test_then, end_then, parted, parted_end, line_is}
+use Rattle.report.proofs.Readers.{after_then, again_then, test_then, end_then, parted, line_is}
 use Rattle.report.proofs.WordsAgain.{number64}
 use Rattle.report.proofs.Texts.{word_again, digits_word, numeral_digits, not_same}
 

@@ -1,10 +1,8 @@
 -- Messages, matches and actions in base sixteen are read as they are written.
-use Rattle.std.proofs.Common.{◌≡◌, ℕ, zero, suc, ◌+◌, ◌-◌, ◌*◌, ◌/◌, ◌%◌, ◌^◌, ◌≤◌, ◌<◌, Bool, true, false, List, [], ◌∷◌, ◌++◌, length, drop, refl, sym, ap, subst, ◌∙◌, arith}
-use Rattle.std.specs.Prelude.{Option, Some, None, Result, Ok, Err, nat_le, replicate}
-use Rattle.std.specs.Result.{result_ok}
+use Rattle.std.proofs.Common.{◌≡◌, ℕ, ◌-◌, ◌*◌, ◌/◌, ◌%◌, List, [], ◌∷◌, ◌++◌, length, drop, refl, sym, ap, arith}
+use Rattle.std.specs.Prelude.{Some, Ok, replicate}
 use Rattle.std.proofs.lemmas.Bool.{le-leb}
 use Rattle.std.proofs.lemmas.List.{append-nil}
-use Rattle.of_bytes.specs.Numbers as numbers
 use Rattle.of_match.specs.Reading.{match_at}
 use Rattle.of_match.specs.Writing.{canonical_bare_match, canonical_match}
 use Rattle.of_match.proofs.Laws.{spelled_read}
@@ -25,7 +23,6 @@ use Rattle.vr_log.proofs.Equal.{numbers_same}
 use Rattle.report.specs.Canonical.{happening_of, happening_at, order_of, order_at, padded, matching_of, matching_at, ports_of, most_actions, actions_in, actions_at}
 use Rattle.report.specs.Report.{word, hex}
 use Rattle.report.specs.Records.{AreBytes, IsTellable, IsMatch, AreOutputs}
-use Rattle.report.specs.Spelled.{◌>>=◌, hex_at}
 use Rattle.report.proofs.Readers.{Again}
 use Rattle.report.proofs.WordsAgain.{hexed}
 use Rattle.report.proofs.Texts.{IsParted}

@@ -1,5 +1,5 @@
 -- Messages, matches and actions in base sixteen are written as they were read.
-use Rattle.std.proofs.Common.{◌≡◌, ℕ, zero, suc, ◌+◌, ◌-◌, ◌*◌, ◌/◌, ◌%◌, ◌^◌, ◌≤◌, ◌<◌, Bool, true, false, cond, List, [], ◌∷◌, ◌++◌, length, take, drop, get_or, refl, sym, ap, subst, ◌∙◌, append_assoc, length-append, arith}
+use Rattle.std.proofs.Common.{◌≡◌, ℕ, zero, suc, ◌+◌, ◌-◌, ◌/◌, ◌%◌, ◌^◌, ◌≤◌, ◌<◌, Bool, true, false, cond, List, [], ◌∷◌, ◌++◌, length, take, drop, refl, sym, ap, subst, ◌∙◌, append_assoc, length-append, arith}
 use Rattle.std.specs.Prelude.{Option, Some, None, Result, Ok, Err, nat_le, nat_eq, replicate}
 use Rattle.std.specs.Result.{result_ok}
 use Rattle.std.proofs.lemmas.Bool.{leb-true}
@@ -13,7 +13,6 @@ use Rattle.of_match.proofs.Sizes.{has_size}
 use Rattle.of_match.proofs.Whole.{match_takes}
 use Rattle.of_messages.specs.Canonical as messages
 use Rattle.of_messages.specs.Fits.{FitPorts}
-use Rattle.of_messages.specs.Grammar.{Spells}
 use Rattle.of_messages.specs.Reading.{message_at}
 use Rattle.of_messages.proofs.Takes.{message_takes}
 use Rattle.of_ravana.specs.Canonical.{canonical_happening, canonical_order, happening_message, order_message}
@@ -211,7 +210,7 @@ whole_match m bytes taken len within s told size =
     let short = by.short in
     let filled = by.filled in
     let two_parts : bytes ≡ bare_match fields ++ (s.1 ++ drop taken bytes) =
-        sym (take-append-drop taken bytes) ∙ ap (λ l. l ++ drop taken bytes) by.whole ∙ append_assoc (bare_match fields) s.1 (drop taken bytes) in
+    sym (take-append-drop taken bytes) ∙ ap (λ l. l ++ drop taken bytes) by.whole ∙ append_assoc (bare_match fields) s.1 (drop taken bytes) in
     let front : number 2 2 bytes ≡ 4 + length fields = ap (number 2 2) two_parts ∙ front_number fields (s.1 ++ drop taken bytes) short in
     let long : length (take taken bytes) ≡ 4 + length fields + length s.1 = ap length by.whole ∙ omega (arith, length-append (bare_match fields) s.1, bare_length fields) in
     let all : length bytes ≤ taken = omega (arith, length-take taken bytes, long, filled, front, told, size) in
@@ -242,11 +241,13 @@ matching_text bare m are e =
     let size = has_size m in
     let bound = small_match m in
     let long = canonical_length m in
-    let fields = bare_is m in
-    (sym w.1, record {
-      spelled = whole_match m (canonical_match m) found.1 (length (canonical_bare_match m)) t.0 t.1 (canonical_front m (omega (arith, size, bound, long, fields)) ∙ sym fields) long;
-      bytes = subst AreBytes (sym w.1) are;
-    }))
+    let fields = bare_is m in (
+      sym w.1,
+      record {
+        spelled = whole_match m (canonical_match m) found.1 (length (canonical_bare_match m)) t.0 t.1 (canonical_front m (omega (arith, size, bound, long, fields)) ∙ sym fields) long;
+        bytes = subst AreBytes (sym w.1) are;
+      },
+    ))
 
 matching_is : (bytes : List ℕ) (m : Match) (rest : List ℕ) → matching_at bytes ≡ Some (m, rest) → Spelt (λ m. word (hex (canonical_bare_match m))) IsMatch bytes m rest
 unfolding matching_at
@@ -272,12 +273,14 @@ actions_text bytes ports are e =
     let p = passed (nat_le (length bytes) 65520) (if_written messages.actions_of bytes (ports_of (length bytes / 16) bytes)) ports e in
     let w = as_written messages.actions_of bytes (ports_of (length bytes / 16) bytes) ports p.1 in
     let few = leb-true (length bytes) 65520 p.0 in
-    let many = ports_many (length bytes / 16) bytes in
-    (sym w.1, subst AreOutputs w.0 (record {
-      few = omega (arith, many, few);
-      ports = ports_fit (length bytes / 16) bytes are;
-      bytes = subst AreBytes (sym (ap messages.actions_of w.0 ∙ w.1)) are;
-    }))
+    let many = ports_many (length bytes / 16) bytes in (
+      sym w.1,
+      subst AreOutputs w.0 (record {
+        few = omega (arith, many, few);
+        ports = ports_fit (length bytes / 16) bytes are;
+        bytes = subst AreBytes (sym (ap messages.actions_of w.0 ∙ w.1)) are;
+      }),
+    )
 
 actions_are : (bytes ports rest : List ℕ) → actions_at bytes ≡ Some (ports, rest) → Spelt (λ ports. word (hex (messages.actions_of ports))) AreOutputs bytes ports rest
 unfolding actions_at

@@ -1,5 +1,5 @@
 -- What is written is read again: readers, one behind the other.
-use Rattle.std.proofs.Common.{◌≡◌, ℕ, Bool, true, cond, List, [], ◌∷◌, ◌++◌, refl, sym, ap, ◌∙◌, append_assoc}
+use Rattle.std.proofs.Common.{◌≡◌, ℕ, Bool, true, cond, List, [], ◌∷◌, ◌++◌, refl, ap, ◌∙◌, append_assoc}
 use Rattle.std.specs.Prelude.{Option, Some, None}
 use Rattle.report.specs.Report.{word, newline, further, line}
 use Rattle.report.specs.Spelled.{◌>>=◌, after_at, end_at, known_at}

@@ -1,35 +1,24 @@
 -- The text of a record is read as that record.
-use Rattle.std.proofs.Common.{◌≡◌, ℕ, zero, suc, ◌+◌, ◌-◌, ◌*◌, ◌^◌, ◌≤◌, ◌<◌, Bool, true, false, cond, not, ◌==◌, List, [], ◌∷◌, ◌++◌, length, Result, Ok, Err, refl, sym, ap, subst, ◌∙◌, append_assoc, length-append, arith}
-use Rattle.std.specs.Prelude.{Option, Some, None, codes, IfSome, sum_by}
+use Rattle.std.proofs.Common.{◌≡◌, ℕ, suc, ◌+◌, ◌^◌, ◌≤◌, ◌<◌, true, false, not, List, [], ◌∷◌, ◌++◌, length, Ok, refl, sym, ap, subst, ◌∙◌, append_assoc, length-append, arith}
+use Rattle.std.specs.Prelude.{Option, Some, None, codes, IfSome}
 use Rattle.std.specs.List.{AllByRecursion}
-use Rattle.std.specs.Fmt.{decimal}
-use Rattle.std.proofs.lemmas.Bool.{eq-eqb}
-use Rattle.numerals.specs.Numerals.{is_numeral}
-use Rattle.of_types.specs.declared.message.Event.{Event}
-use Rattle.of_types.specs.declared.message.Executed.{Executed}
-use Rattle.rv_base.specs.declared.journal.Actor.TheVariants.{Controller, Switch}
+use Rattle.rv_base.specs.declared.journal.Actor.TheVariants.{Controller}
 use Rattle.rv_base.specs.declared.journal.JournalEntry.{JournalEntry}
 use Rattle.rv_base.specs.declared.journal.JournalEntry.TheVariants as entry
 use Rattle.rv_base.specs.declared.journal.Letter.{Letter}
 use Rattle.vr_log.specs.declared.entry.Entry.{Entry}
-use Rattle.vr_log.specs.declared.entry.Entry.TheVariants.{Received, Processed}
-use Rattle.vr_log.specs.Log.{log_size, entry_size}
-use Rattle.vr_log.specs.Same.{same_numbers}
-use Rattle.vr_log.proofs.Equal.{numbers_same}
 use Rattle.report.specs.declared.record.Record.{Record}
-use Rattle.report.specs.declared.record.Shown.{Shown}
 use Rattle.report.specs.declared.record.Told.{Told}
 use Rattle.report.specs.declared.switch_lines.SwitchLine.{SwitchLine}
-use Rattle.report.specs.Lines.{line_at, each_at, while_at}
-use Rattle.report.specs.OneLine.{begins, letter_at, short_entry_at, log_line_at, log_entry_at, of_at, role_words_at, switch_line_at, event_at, executed_at, row_at, first_line_at, last_line_at}
-use Rattle.report.specs.Reading.{post_at, entry_at, journal_at, log_at, told_at, switches_at, setup_at, record_at, report_at, all_of, line_number}
-use Rattle.report.specs.Records.{IsToldEntry, FitsLetter, IsLogEntry, IsEventOf, IsToldExecuted, IsShown, IsTold, AreTold, IsRecord}
-use Rattle.report.specs.Report.{word, newline, line, number, hex, actor_word, number_or_dash, master_word, labelled, role_words, count_words, switch_line, told_lines, switch_lines, event_line, executed_line, row_line, letter_line, entry_lines, log_line, log_lines, lines_of, sum_words, end_line, setup_lines, text}
-use Rattle.report.specs.Spelled.{◌>>=◌, labelled_at, dash_or, number64_at, controller_at}
+use Rattle.report.specs.OneLine.{begins, letter_at, short_entry_at, role_words_at, switch_line_at, event_at, executed_at, row_at, first_line_at, last_line_at}
+use Rattle.report.specs.Reading.{post_at, entry_at, journal_at, told_at, switches_at, record_at, report_at}
+use Rattle.report.specs.Records.{IsToldEntry, FitsLetter, IsEventOf, IsToldExecuted, IsShown, IsTold, AreTold, IsRecord}
+use Rattle.report.specs.Report.{word, newline, line, number, actor_word, number_or_dash, master_word, labelled, role_words, count_words, switch_line, told_lines, switch_lines, event_line, executed_line, row_line, letter_line, entry_lines, log_lines, lines_of, sum_words, end_line, text}
+use Rattle.report.specs.Spelled.{◌>>=◌, dash_or, number64_at, controller_at}
 use Rattle.report.proofs.LinesAgain as again
 use Rattle.report.proofs.ListsAgain.{lines_then, line_then, fits_line, no_lines, more_lines, each_again, while_again, all_behind}
-use Rattle.report.proofs.Readers.{Again, after_then, again_then, known_then, test_then, end_then, parted, parted_end, chain, line_is}
-use Rattle.report.proofs.WordsAgain.{number32, number64, number64_or_dash, controller_or_dash, or_dash, labelled_then, parted_label}
+use Rattle.report.proofs.Readers.{after_then, again_then, known_then, end_then, parted, parted_end}
+use Rattle.report.proofs.WordsAgain.{number32, number64_or_dash, controller_or_dash, or_dash, labelled_then, parted_label}
 use Rattle.report.proofs.SetupAgain.{setup_again}
 use Rattle.report.proofs.Texts.{IsParted, end_again}
 use Rattle.report.proofs.LogAgain.{log_again}

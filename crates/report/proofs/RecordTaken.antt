@@ -1,12 +1,9 @@
 -- A record is written as it was read.
-use Rattle.std.proofs.Common.{◌≡◌, ℕ, zero, suc, ◌+◌, ◌^◌, ◌≤◌, ◌<◌, Bool, true, false, cond, not, List, [], ◌∷◌, ◌++◌, length, Result, Ok, Err, refl, sym, ap, subst, ◌∙◌, append_assoc, arith}
-use Rattle.std.specs.Prelude.{Option, Some, None, codes, IfOk, IfSome}
+use Rattle.std.proofs.Common.{◌≡◌, ℕ, zero, suc, ◌+◌, ◌^◌, ◌<◌, not, List, [], ◌∷◌, ◌++◌, length, Result, Ok, Err, refl, sym, ap, ◌∙◌, append_assoc, arith}
+use Rattle.std.specs.Prelude.{Option, Some, codes, IfOk, IfSome}
 use Rattle.std.specs.List.{AllByRecursion}
 use Rattle.of_bytes.proofs.Steps.{ok_is}
 use Rattle.numerals.specs.Numerals.{is_numeral}
-use Rattle.of_types.specs.declared.message.Event.{Event}
-use Rattle.of_types.specs.declared.message.Executed.{Executed}
-use Rattle.rv_base.specs.declared.journal.Actor.TheVariants.{Controller, Switch}
 use Rattle.rv_base.specs.declared.journal.JournalEntry.{JournalEntry}
 use Rattle.rv_base.specs.declared.journal.JournalEntry.TheVariants as entry
 use Rattle.rv_base.proofs.All.{all_append}
@@ -16,22 +13,21 @@ use Rattle.vr_log.specs.Same.{same_numbers}
 use Rattle.vr_log.proofs.Equal.{numbers_equal}
 use Rattle.report.specs.declared.fault.ReportFault.{ReportFault}
 use Rattle.report.specs.declared.record.Record.{Record}
-use Rattle.report.specs.declared.record.Shown.{Shown}
 use Rattle.report.specs.declared.record.Told.{Told}
 use Rattle.report.specs.declared.switch_lines.SwitchLine.{SwitchLine}
 use Rattle.report.specs.Lines.{line_at, each_at}
 use Rattle.report.specs.OneLine.{begins, letter_at, post_line_at, short_entry_at, log_line_at, log_entry_at, role_words_at, switch_line_at, event_at, executed_at, row_at, first_line_at, last_line_at}
 use Rattle.report.specs.Reading.{post_at, entry_at, journal_at, log_at, told_at, switches_at, setup_at, record_at, report_at, all_of, line_number, IsReadAs}
-use Rattle.report.specs.Records.{IsToldEntry, FitsLetter, IsLogEntry, IsEventOf, IsToldExecuted, IsShown, IsTold, AreTold, IsRecord}
-use Rattle.report.specs.Report.{word, newline, line, number, actor_word, number_or_dash, master_word, labelled, role_words, switch_line, told_lines, switch_lines, event_line, executed_line, row_line, letter_line, entry_lines, log_line, log_lines, lines_of, sum_words, end_line, setup_lines, text}
-use Rattle.report.specs.Spelled.{◌>>=◌, word_at}
+use Rattle.report.specs.Records.{IsToldEntry, IsLogEntry, IsTold, AreTold, IsRecord}
+use Rattle.report.specs.Report.{word, newline, line, number, actor_word, number_or_dash, master_word, labelled, switch_line, told_lines, switch_lines, event_line, executed_line, letter_line, entry_lines, log_line, log_lines, lines_of, sum_words, end_line, setup_lines, text}
+use Rattle.report.specs.Spelled.{word_at}
 use Rattle.report.proofs.LinesAgain.{post_words}
 use Rattle.report.proofs.LinesTaken.{letter_takes, post_takes, short_takes, log_entry_takes, event_takes, executed_takes, row_takes, took_of}
-use Rattle.report.proofs.ListsTaken.{Counted, each_takes, Kept, while_takes}
+use Rattle.report.proofs.ListsTaken.{each_takes, Kept, while_takes}
 use Rattle.report.proofs.Readers.{line_is}
 use Rattle.report.proofs.RecordAgain.{role_parts, generation_word, master_is, switch_parts, line_of, told_parts, more_switches, no_switches}
 use Rattle.report.proofs.SetupTaken.{setup_takes}
-use Rattle.report.proofs.Takers.{then, then_lines, branches, tested, fits, both_found, both_are, found_as, took, took_text, took_known, took_end, closes, Spelt}
+use Rattle.report.proofs.Takers.{then, then_lines, branches, tested, fits, both_found, both_are, took, took_text, took_known, took_end, closes, Spelt}
 use Rattle.report.proofs.Texts.{word_takes, end_takes}
 use Rattle.report.proofs.WordsTaken.{number32_takes, number64_takes, number64_or_dash_takes, controller_or_dash_takes, labelled_takes}
 

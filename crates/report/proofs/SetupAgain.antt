@@ -1,6 +1,6 @@
 -- The lines of a setup are read as they are written.
-use Rattle.std.proofs.Common.{rules, ◌≡◌, ℕ, zero, suc, ◌+◌, ◌-◌, ◌%◌, ◌^◌, ◌≤◌, ◌<◌, Bool, true, false, cond, not, nat_eq, nat_lt, nat_le, ◌&&◌, ◌||◌, ◌==◌, List, [], ◌∷◌, ◌++◌, length, get_or, Result, Ok, Err, refl, sym, ap, subst, ◌∙◌, append_assoc, length-append, arith}
-use Rattle.std.specs.Prelude.{Option, Some, None, codes, Contains, slice_index, slice_get, IfSome}
+use Rattle.std.proofs.Common.{rules, ◌≡◌, ℕ, zero, suc, ◌+◌, ◌-◌, ◌%◌, ◌^◌, ◌≤◌, ◌<◌, true, false, nat_le, ◌&&◌, ◌==◌, List, [], ◌∷◌, ◌++◌, length, get_or, Ok, refl, sym, ap, subst, ◌∙◌, append_assoc, arith}
+use Rattle.std.specs.Prelude.{Option, Some, None, codes, Contains, slice_index, IfSome}
 use Rattle.std.specs.List.{All, AllByRecursion, list_any}
 use Rattle.std.proofs.lemmas.Bool.{eq-eqb, le-leb, lt-ltb}
 use Rattle.std.proofs.lemmas.Option.{get_or_from_slice_get, slice_get_within}
@@ -9,16 +9,15 @@ use Rattle.of_types.specs.declared.setup.Prefix.{Prefix}
 use Rattle.of_types.specs.declared.setup.Rule.{Rule}
 use Rattle.of_types.specs.declared.setup.Setup.{Setup}
 use Rattle.of_types.specs.Setups.{IsPort, IsAddressPrefix, IsRule, IsSetup, AreApart, ends_of}
-use Rattle.report.specs.Lines.{line_at, while_at}
-use Rattle.report.specs.OneLine.{begins, is_group, is_port, is_end, is_taken, may_join, is_asked, counts_at, ports_at, link_at, link_words_at, prefix_at, rule_words_at, rule_at}
+use Rattle.report.specs.Lines.{line_at}
+use Rattle.report.specs.OneLine.{begins, is_group, is_port, is_taken, may_join, is_asked, counts_at, ports_at, link_at, link_words_at, prefix_at, rule_words_at, rule_at}
 use Rattle.report.specs.Reading.{port_counts_at, links_at, rules_at, setup_at}
 use Rattle.report.specs.Records.{FitsRule}
 use Rattle.report.specs.Report.{word, newline, line, number, address_word, number_or_dash, port_line, port_lines, link_line, deny_line, lines_of, setup_line, setup_lines}
 use Rattle.report.specs.Spelled.{◌>>=◌, dash_or, number16_at}
-use Rattle.report.proofs.Apart.{same_end, same_end_sym, ends_any, IsFree, free_link}
-use Rattle.report.proofs.LinesAgain as again
+use Rattle.report.proofs.Apart.{same_end, ends_any, IsFree, free_link}
 use Rattle.report.proofs.ListsAgain.{lines_then, line_then, fits_line, while_again, AllBehind}
-use Rattle.report.proofs.Readers.{Again, after_then, again_then, test_then, end_then, parted, parted_end, chain, line_is}
+use Rattle.report.proofs.Readers.{after_then, again_then, test_then, end_then, parted, parted_end, line_is}
 use Rattle.report.proofs.WordsAgain.{number8, number32, number64, number16_or_dash, or_dash, address}
 use Rattle.report.proofs.Texts.{IsParted}
 
@@ -160,9 +159,9 @@ prefix_then p rest more y fits is follows e =
     let short = is.short in
     let within : (nat_le p.length 32 && p.address % 2 ^ (32 - p.length) == 0) ≡ true = rw (le-leb p.length 32 short, is.clean) refl in
     let read : prefix_at (word (address_word p.address) ++ (word (number p.length) ++ rest)) ≡ Some (p, rest) =
-        again_then address p.address _ _ _ fits (parted (number p.length) _)
-        (again_then number8 p.length _ _ _ (omega (arith, short)) follows
-        (test_then _ _ _ within refl)) in
+    again_then address p.address _ _ _ fits (parted (number p.length) _)
+    (again_then number8 p.length _ _ _ (omega (arith, short)) follows
+    (test_then _ _ _ within refl)) in
     rw read e
 
 pub port_word : (port : Option ℕ) → number_or_dash port ≡ or_dash number port

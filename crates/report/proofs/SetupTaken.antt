@@ -1,5 +1,5 @@
 -- A setup is written as it was read, and is within the limits.
-use Rattle.std.proofs.Common.{◌≡◌, ◌≤◌, ◌<◌, ◌+◌, ◌-◌, ◌%◌, ◌^◌, ◌&&◌, ◌==◌, nat_le, ℕ, zero, suc, Bool, true, List, [], ◌∷◌, ◌++◌, length, Result, Ok, refl, sym, ap, subst, ◌∙◌, append_assoc, arith}
+use Rattle.std.proofs.Common.{◌≡◌, ◌≤◌, ◌<◌, ◌+◌, ◌^◌, ◌&&◌, ◌==◌, nat_le, ℕ, zero, suc, true, List, [], ◌∷◌, ◌++◌, length, Ok, refl, sym, ap, subst, ◌∙◌, arith}
 use Rattle.std.specs.Prelude.{Option, Some, codes}
 use Rattle.std.specs.List.{All, AllByRecursion}
 use Rattle.std.proofs.lemmas.Bool.{and_parts, leb-true, eqb-true}
@@ -14,12 +14,12 @@ use Rattle.report.specs.OneLine.{begins, is_group, may_join, is_asked, counts_at
 use Rattle.report.specs.Reading.{port_counts_at, links_at, rules_at, setup_at}
 use Rattle.report.specs.Records.{FitsRule}
 use Rattle.report.specs.Report.{word, line, number, address_word, number_or_dash, port_line, port_lines, link_line, deny_line, lines_of, setup_line, setup_lines}
-use Rattle.report.specs.Spelled.{◌>>=◌, after_at, number8_at, address_at}
+use Rattle.report.specs.Spelled.{◌>>=◌}
 use Rattle.report.proofs.ListsTaken.{Kept, while_takes}
-use Rattle.report.proofs.Readers.{line_is, chain}
+use Rattle.report.proofs.Readers.{line_is}
 use Rattle.report.proofs.SetupAgain.{MayDeny, more_ports, no_ports, port_word, setup_parts}
 use Rattle.report.proofs.SetupTests.{AreLinks, joined_link, group_is, prefix_is, asked_proto, asked_portless}
-use Rattle.report.proofs.Takers.{then, then_lines, tested, fits, both_found, both_are, took, took_text, took_end, closes, Spelt}
+use Rattle.report.proofs.Takers.{then, then_lines, tested, fits, both_are, took, took_text, took_end, closes, Spelt}
 use Rattle.report.proofs.WordsTaken.{number8_takes, number32_takes, number64_takes, number16_or_dash_takes, address_takes}
 
 -- ---- the counts of controllers, switches and ports
@@ -145,26 +145,29 @@ words_are bytes r rest e =
     took_prefix b1 _ _ e (λ src b2 source e.
     took_prefix b2 _ _ e (λ dst b3 destination e.
     took number16_or_dash_takes b3 _ _ e (λ port b4 e4 f4 e.
-    closes (Spelt deny_line HasPrefixes bytes) (record { proto = proto; src = src; dst = dst; port = port }) b4 r rest e (λ end e5.
-    (rw (e0, e1, source.spelled, destination.spelled, e4, e5, ← port_word port)
-     (sym (line_is (codes "deny") (number proto ∷ address_word src.address ∷ number src.length ∷ address_word dst.address ∷ number dst.length ∷ number_or_dash port ∷ []) end)),
-    record { source = source.is; destination = destination.is; fits = record { source = source.small; destination = destination.small; port = f4 } })))))))
+    closes (Spelt deny_line HasPrefixes bytes) (record { proto = proto; src = src; dst = dst; port = port }) b4 r rest e (λ end e5. (
+      rw (e0, e1, source.spelled, destination.spelled, e4, e5, ← port_word port)
+          (sym (line_is (codes "deny") (number proto ∷ address_word src.address ∷ number src.length ∷ address_word dst.address ∷ number dst.length ∷ number_or_dash port ∷ []) end)),
+      record { source = source.is; destination = destination.is; fits = record { source = source.small; destination = destination.small; port = f4 } },
+    )))))))
 
 rule_is : (bytes : List ℕ) (r : Rule) (rest : List ℕ) → rule_at bytes ≡ Some (r, rest) → Spelt deny_line MayDeny bytes r rest
 unfolding rule_at
 rule_is bytes r rest e =
     then (rule_words_at bytes) _ _ e (λ rule here e.
     tested (Spelt deny_line MayDeny bytes) (is_asked rule.0.proto rule.0.port) rule.0 rule.1 r rest e (λ holds.
-    let w = words_are bytes rule.0 rule.1 here in
-    (w.0, record {
-      is = record {
-        proto = asked_proto rule.0.proto rule.0.port holds;
-        portless = asked_portless rule.0.proto rule.0.port holds;
-        source = w.1.source;
-        destination = w.1.destination;
-      };
-      fits = w.1.fits;
-    })))
+    let w = words_are bytes rule.0 rule.1 here in (
+      w.0,
+      record {
+        is = record {
+          proto = asked_proto rule.0.proto rule.0.port holds;
+          portless = asked_portless rule.0.proto rule.0.port holds;
+          source = w.1.source;
+          destination = w.1.destination;
+        };
+        fits = w.1.fits;
+      },
+    )))
 
 rules_are : (bytes : List ℕ) (rules : List Rule) (rest : List ℕ) → rules_at bytes ≡ Ok (rules, rest) → Kept deny_line (AllByRecursion MayDeny) 16 [] bytes rules rest
 unfolding rules_at

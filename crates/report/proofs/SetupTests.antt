@@ -1,20 +1,15 @@
 -- A setup that is read is within the limits.
-use Rattle.std.proofs.Common.{rules, ◌≡◌, ◌<◌, ◌≤◌, ◌+◌, ◌-◌, ◌%◌, ◌^◌, ◌&&◌, ◌||◌, ◌==◌, nat_eq, nat_lt, nat_le, not, cond, ℕ, zero, suc, Bool, true, false, List, [], ◌∷◌, ◌++◌, length, Result, Ok, Err, refl, sym, ap, subst, ◌∙◌, length-append, arith}
+use Rattle.std.proofs.Common.{rules, ◌≡◌, ◌<◌, ◌≤◌, ◌-◌, ◌%◌, ◌^◌, ◌&&◌, ◌||◌, ◌==◌, nat_le, not, ℕ, Bool, true, false, List, [], ◌∷◌, ◌++◌, length, refl, sym, subst, ◌∙◌, arith}
 use Rattle.std.proofs.lemmas.Option.{slice_get-get_or}
-use Rattle.std.specs.Prelude.{slice_index, Contains, Option, Some, None, codes}
-use Rattle.std.specs.List.{All, AllByRecursion, list_any, starts_with}
+use Rattle.std.specs.Prelude.{slice_index, Contains, Option, Some, None}
+use Rattle.std.specs.List.{AllByRecursion, list_any}
 use Rattle.std.proofs.lemmas.Bool.{and_parts}
-use Rattle.std.proofs.lemmas.List.Elements.{All-append}
 use Rattle.of_types.specs.declared.setup.Link.{Link}
 use Rattle.of_types.specs.declared.setup.Prefix.{Prefix}
-use Rattle.of_types.specs.declared.setup.Rule.{Rule}
 use Rattle.of_types.specs.declared.setup.Setup.{Setup}
-use Rattle.of_types.specs.Setups.{IsPort, IsAddressPrefix, IsRule, IsSetup, AreApart, ends_of}
+use Rattle.of_types.specs.Setups.{IsPort, IsAddressPrefix, AreApart, ends_of}
 use Rattle.rv_base.proofs.All.{all_append}
-use Rattle.report.specs.Lines.{line_at, while_at}
-use Rattle.report.specs.OneLine.{begins, is_group, is_port, is_end, is_taken, may_join, is_asked, counts_at, ports_at, link_at, link_words_at, prefix_at, rule_words_at, rule_at}
-use Rattle.report.specs.Reading.{port_counts_at, links_at, rules_at, setup_at}
-use Rattle.report.specs.Spelled.{◌>>=◌}
+use Rattle.report.specs.OneLine.{is_group, is_port, is_taken, may_join, is_asked}
 use Rattle.report.proofs.Apart.{same_end, same_end_sym, apart_link, ends_any}
 
 -- ---- tests

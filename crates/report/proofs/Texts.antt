@@ -1,6 +1,6 @@
 -- The words of a line: what is read was spelled so, and what is spelled so is read.
-use Rattle.std.proofs.Common.{◌≡◌, ℕ, zero, suc, ◌+◌, ◌-◌, ◌*◌, ◌/◌, ◌%◌, ◌^◌, ◌≤◌, ◌<◌, Bool, true, false, List, [], ◌∷◌, ◌++◌, length, take, drop, get_or, refl, sym, ap, subst, ◌∙◌, append_assoc, arith, cond, inl, inr}
-use Rattle.std.specs.Prelude.{Option, Some, None, codes, not, nat_eq, nat_le, nat_lt, position, unwrap_or, ◌==◌, ◌||◌}
+use Rattle.std.proofs.Common.{◌≡◌, ℕ, zero, suc, ◌^◌, ◌≤◌, ◌<◌, Bool, true, false, List, [], ◌∷◌, ◌++◌, length, drop, get_or, refl, sym, ap, ◌∙◌, arith, cond, inl, inr}
+use Rattle.std.specs.Prelude.{Option, Some, None, not, nat_eq, nat_le, nat_lt, unwrap_or, ◌==◌}
 use Rattle.std.specs.List.{starts_with, position_or_len}
 use Rattle.std.specs.Fmt.{decimal}
 use Rattle.std.proofs.lemmas.Bool.{and_parts, cases_lt, lt-ltb, le-ltb, leb-true, le-leb}
@@ -135,9 +135,10 @@ number_takes most bytes n rest small e =
     let b = bind_some (numeral_within most a.0.0) (λ m. Some (m, a.0.1)) (n, rest) a.2 in
     let same = some_is (b.0, a.0.1) (n, rest) b.2 in
     let within = within_takes most b.0 a.0.0 b.1 in
-    let spelled = numeral_spells a.0.0 b.0 within.0 (omega (arith, within.1, small)) in
-    (word_takes bytes a.0.0 a.0.1 a.1 ∙ ap (λ t. word t ++ a.0.1) spelled ∙ ap (λ (p : ℕ × List ℕ). word (decimal p.0) ++ p.1) same,
-    omega (arith, within.1, ap (λ (p : ℕ × List ℕ). p.0) same))
+    let spelled = numeral_spells a.0.0 b.0 within.0 (omega (arith, within.1, small)) in (
+      word_takes bytes a.0.0 a.0.1 a.1 ∙ ap (λ t. word t ++ a.0.1) spelled ∙ ap (λ (p : ℕ × List ℕ). word (decimal p.0) ++ p.1) same,
+      omega (arith, within.1, ap (λ (p : ℕ × List ℕ). p.0) same),
+    )
 
 pub not_same : (a b : ℕ) → (a ≡ b → ⊥) → (a == b) ≡ false
 not_same a b differ = elim (eqb_tells a b) [ inl p ↦ absurd (differ p.1) | inr p ↦ p.0 ]

@@ -1,19 +1,19 @@
 -- The words of a line are read as they are written.
-use Rattle.std.proofs.Common.{◌≡◌, ℕ, zero, suc, ◌+◌, ◌-◌, ◌*◌, ◌/◌, ◌%◌, ◌^◌, ◌≤◌, ◌<◌, Bool, true, false, List, [], ◌∷◌, ◌++◌, length, take, drop, get_or, refl, sym, ap, subst, ◌∙◌, append_assoc, arith, cond, inl, inr}
-use Rattle.std.specs.Prelude.{Option, Some, None, codes, not, nat_eq, nat_le, nat_lt, ◌==◌, ◌||◌, ◌&&◌, IfSome}
+use Rattle.std.proofs.Common.{◌≡◌, ℕ, zero, suc, ◌+◌, ◌*◌, ◌/◌, ◌%◌, ◌^◌, ◌≤◌, ◌<◌, Bool, true, false, List, [], ◌∷◌, ◌++◌, length, get_or, refl, sym, ap, subst, ◌∙◌, append_assoc, arith, inl, inr}
+use Rattle.std.specs.Prelude.{Option, Some, None, codes, not, nat_eq, nat_le, ◌==◌, IfSome}
 use Rattle.std.specs.List.{starts_with}
 use Rattle.std.specs.Fmt.{decimal}
 use Rattle.std.proofs.lemmas.Bool.{and_parts, cases_lt, lt-leb, leb-true, le-leb}
 use Rattle.std.proofs.lemmas.Fmt.{decimal_nonempty}
-use Rattle.numerals.specs.Numerals.{is_digit, are_digits, is_numeral, numeral, numeral_within}
-use Rattle.numerals.proofs.Decimal.{decimal_is, numeral_again, numeral_spells}
+use Rattle.numerals.specs.Numerals.{is_digit, are_digits, numeral_within}
+use Rattle.numerals.proofs.Decimal.{numeral_again}
 use Rattle.rv_base.specs.declared.journal.Actor.{Actor}
 use Rattle.rv_base.specs.declared.journal.Actor.TheVariants.{Controller, Switch}
 use Rattle.report.specs.Records.{AreBytes, FitsActor}
-use Rattle.report.specs.Report.{word, newline, number, labelled, actor_word, flag, number_or_dash, master_word, address_word, hex, hex_of, hex_digit}
-use Rattle.report.specs.Spelled.{◌>>=◌, after_at, end_at, known_at, word_at, ends_word, number_at, number8_at, number16_at, number32_at, number64_at, labelled_at, actor_at, controller_at, dash_or, flag_at, is_dot, cut_at, length_before, dotted_at, address_of, address_at, digit_of, byte_of, digits_of, hex_bytes, hex_at}
+use Rattle.report.specs.Report.{word, number, labelled, actor_word, flag, address_word, hex, hex_of, hex_digit}
+use Rattle.report.specs.Spelled.{◌>>=◌, after_at, ends_word, number8_at, number16_at, number32_at, number64_at, labelled_at, actor_at, controller_at, dash_or, flag_at, is_dot, dotted_at, address_of, address_at, digit_of, byte_of, digits_of, hex_bytes, hex_at}
 use Rattle.report.proofs.Texts.{IsWord, IsParted, word_again, number_again, decimal_word, decimal_digits, known_again, within_again, after_again, begins_is, not_same, cut_again}
-use Rattle.report.proofs.Readers.{Again, again_then, Any}
+use Rattle.report.proofs.Readers.{Again, Any}
 
 -- ---- numbers
 

@@ -1,5 +1,5 @@
 -- The words of a line are written as they were read.
-use Rattle.std.proofs.Common.{◌≡◌, ℕ, zero, suc, ◌+◌, ◌-◌, ◌*◌, ◌/◌, ◌%◌, ◌^◌, ◌≤◌, ◌<◌, Bool, true, false, List, [], ◌∷◌, ◌++◌, length, take, drop, get_or, refl, sym, ap, subst, ◌∙◌, append_assoc, arith, cond}
+use Rattle.std.proofs.Common.{◌≡◌, ℕ, zero, suc, ◌+◌, ◌-◌, ◌*◌, ◌/◌, ◌%◌, ◌^◌, ◌≤◌, ◌<◌, Bool, true, false, List, [], ◌∷◌, ◌++◌, length, drop, refl, sym, ap, subst, ◌∙◌, append_assoc, arith, cond}
 use Rattle.std.specs.Prelude.{Option, Some, None, codes, nat_eq, nat_le, ◌==◌, ◌&&◌, IfSome}
 use Rattle.std.specs.List.{starts_with}
 use Rattle.std.specs.Fmt.{decimal}
@@ -10,12 +10,12 @@ use Rattle.numerals.proofs.Decimal.{numeral_spells}
 use Rattle.rv_base.specs.declared.journal.Actor.{Actor}
 use Rattle.rv_base.specs.declared.journal.Actor.TheVariants.{Controller, Switch}
 use Rattle.report.specs.Records.{AreBytes, FitsActor}
-use Rattle.report.specs.Report.{word, newline, number, labelled, actor_word, flag, address_word, hex, hex_of, hex_digit}
-use Rattle.report.specs.Spelled.{◌>>=◌, after_at, end_at, known_at, word_at, number_at, number8_at, number16_at, number32_at, number64_at, labelled_at, actor_of, actor_at, controller_of, controller_at, dash_or, flag_of, flag_at, is_dot, cut_at, length_before, dotted_at, address_of, address_at, digit_of, byte_of, digits_of, hex_bytes, hex_at}
+use Rattle.report.specs.Report.{word, number, labelled, actor_word, flag, address_word, hex, hex_of, hex_digit}
+use Rattle.report.specs.Spelled.{◌>>=◌, after_at, word_at, number8_at, number16_at, number32_at, number64_at, labelled_at, actor_of, actor_at, controller_of, controller_at, dash_or, flag_of, flag_at, is_dot, cut_at, length_before, dotted_at, address_of, address_at, digit_of, byte_of, digits_of, hex_bytes, hex_at}
 use Rattle.report.proofs.Readers.{Any}
 use Rattle.report.proofs.WordsAgain.{or_dash, four_dotted, address_parts}
 use Rattle.report.proofs.Takers.{then, branches, both_found, found_as, Takes, Spelt, took, took_known}
-use Rattle.report.proofs.Texts.{some_is, passed, word_takes, within_takes, number_takes, begins_is, after_takes}
+use Rattle.report.proofs.Texts.{some_is, word_takes, within_takes, number_takes, begins_is, after_takes}
 
 -- a word, and a value that it spells
 spelt : {A : Type 0} (P : A → List ℕ → Type 0) (of : List ℕ → Option A) (bytes : List ℕ) (x : A) (rest : List ℕ) → (word_at bytes >>= λ w. of w.0 >>= λ v. found_as v w.1) ≡ found_as x rest →
@@ -271,7 +271,7 @@ address_text text n e =
     let four = numeral8_is c.1 d is_d in
     let parts = parts_of a.0 b.0 c.0 d one.1 two.1 three.1 four.1 in
     let whole : text ≡ four_dotted a.0 b.0 c.0 d =
-        one.0 ∙ ap (λ l. decimal a.0 ++ (46 ∷ l)) (two.0 ∙ ap (λ l. decimal b.0 ++ (46 ∷ l)) (three.0 ∙ ap (λ l. decimal c.0 ++ (46 ∷ l)) four.0)) in
+    one.0 ∙ ap (λ l. decimal a.0 ++ (46 ∷ l)) (two.0 ∙ ap (λ l. decimal b.0 ++ (46 ∷ l)) (three.0 ∙ ap (λ l. decimal c.0 ++ (46 ∷ l)) four.0)) in
     subst (λ n. (text ≡ address_word n) × (n < 2 ^ 32)) (some_is (16777216 * a.0 + 65536 * b.0 + 256 * c.0 + d) n e)
     (four_is (16777216 * a.0 + 65536 * b.0 + 256 * c.0 + d) a.0 b.0 c.0 d text parts whole, parts.small)))))
 

@@ -7,6 +7,8 @@ mod cluster;
 #[cfg(test)]
 mod codec;
 #[cfg(test)]
+mod group;
+#[cfg(test)]
 mod log;
 #[cfg(test)]
 mod normal;

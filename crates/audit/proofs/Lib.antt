@@ -1,0 +1,9 @@
+pub mod Committed
+pub mod Failing
+pub mod Finding
+pub mod Followed
+pub mod Issues
+pub mod Judged
+pub mod Logs
+pub mod Naming
+pub mod Standing

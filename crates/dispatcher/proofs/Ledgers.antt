@@ -191,7 +191,7 @@ module _ (kinds : List ℕ) (setup : Setup) where
       first : (s : ℕ) → get_or zeros s 0 ≡ 0
       first s = elim (cases_lt s 256) [ inl lt ↦ get_or-replicate 256 s 0 0 lt | inr past ↦ get_or_past zeros s 0 past ]
 
-  handled_push : (es : List Event) (is : List (List Issued)) (e : Event) (given : List Issued) → length is ≡ length es →
+  pub handled_push : (es : List Event) (is : List (List Issued)) (e : Event) (given : List Issued) → length is ≡ length es →
       handled_of (es ++ e ∷ []) (is ++ given ∷ []) ≡ handled_of es is ++ record { switch = e.switch; life = e.life; commands = given } ∷ []
   handled_push [] [] e given h = refl
   handled_push [] (i ∷ is) e given h = absurd (omega (arith, h))
@@ -261,20 +261,20 @@ module _ (kinds : List ℕ) (setup : Setup) where
   take_at n xs x h = take_more xs n x (slice_get_within xs n x h) ∙ ap (λ y. take n xs ++ y ∷ []) (get_or_from_slice_get xs n x x h)
 
   -- an event beside what is issued for it
-  record IsHandled (es : List Event) (is : List (List Issued)) (n : ℕ) (h : Handled) : Type 0 where
+  pub record IsHandled (es : List Event) (is : List (List Issued)) (n : ℕ) (h : Handled) : Type 0 where
     pub event : Event
     pub stands : slice_get es n ≡ Some event
     pub commands : slice_get is n ≡ Some h.commands
     pub switch_is : event.switch ≡ h.switch
     pub life_is : event.life ≡ h.life
 
-  handled_at : (es : List Event) (is : List (List Issued)) (n : ℕ) (h : Handled) → slice_get (handled_of es is) n ≡ Some h → IsHandled es is n h
-  handled_at [] is n h e = absurd cc e
-  handled_at (d ∷ es) [] n h e = absurd cc e
-  handled_at (d ∷ es) (i ∷ is) zero h e =
+  pub is_handled : (es : List Event) (is : List (List Issued)) (n : ℕ) (h : Handled) → slice_get (handled_of es is) n ≡ Some h → IsHandled es is n h
+  is_handled [] is n h e = absurd cc e
+  is_handled (d ∷ es) [] n h e = absurd cc e
+  is_handled (d ∷ es) (i ∷ is) zero h e =
       let s : record { switch = d.switch; life = d.life; commands = i } ≡ h = cc e in
       record { event = d; stands = refl; commands = ap (λ (x : Handled). Some x.commands) s; switch_is = ap (λ (x : Handled). x.switch) s; life_is = ap (λ (x : Handled). x.life) s }
-  handled_at (d ∷ es) (i ∷ is) (suc n) h e = let r = handled_at es is n h e in record { event = r.event; stands = r.stands; commands = r.commands; switch_is = r.switch_is; life_is = r.life_is }
+  is_handled (d ∷ es) (i ∷ is) (suc n) h e = let r = is_handled es is n h e in record { event = r.event; stands = r.stands; commands = r.commands; switch_is = r.switch_is; life_is = r.life_is }
 
   concat_front : (n : ℕ) (xs : List (List Issued)) → length (concat (take n xs)) ≤ length (concat xs)
   concat_front zero xs = omega arith
@@ -290,7 +290,7 @@ module _ (kinds : List ℕ) (setup : Setup) where
   one_done es done h rest old new counted kept short front here settles left count lives =
       let all = issues kinds setup es in
       let at = drop_front done (handled_of es all) h rest (sym kept.pending ∙ front) in
-      let r = handled_at es all done h at.0 in
+      let r = is_handled es all done h at.0 in
       let low : length (take done es) < most_count = let g = length-take done es in omega (arith, g, short) in
       let there : done < length es = slice_get_within es done r.event r.stands in
       let grown : take (done + 1) es ≡ take done es ++ r.event ∷ [] = take_at done es r.event r.stands in

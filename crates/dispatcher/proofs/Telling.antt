@@ -9,14 +9,14 @@ use Rattle.dispatcher.specs.declared.ledger.Ledger.{Ledger}
 use Rattle.dispatcher.specs.Ledger.{cleared, has_told}
 
 -- one number more of those from 0 on
-range_more : (n : ℕ) → range_with_len 0 (n + 1) ≡ range_with_len 0 n ++ n ∷ []
+pub range_more : (n : ℕ) → range_with_len 0 (n + 1) ≡ range_with_len 0 n ++ n ∷ []
 range_more n = sym (map_self (range_with_len 0 (n + 1))) ∙ map-range_with_len_more (λ (k : ℕ). k) 0 n n (omega arith) ∙ ap (λ (l : List ℕ). l ++ n ∷ []) (map_self (range_with_len 0 n))
   where
     map_self : (xs : List ℕ) → map (λ k. k) xs ≡ xs
     map_self [] = refl
     map_self (x ∷ xs) = ap (λ (l : List ℕ). x ∷ l) (map_self xs)
 
-filter_more : (p : ℕ → Bool) (xs : List ℕ) (n : ℕ) → filter p (xs ++ n ∷ []) ≡ filter p xs ++ (if p n then n ∷ [] else [])
+pub filter_more : (p : ℕ → Bool) (xs : List ℕ) (n : ℕ) → filter p (xs ++ n ∷ []) ≡ filter p xs ++ (if p n then n ∷ [] else [])
 filter_more p [] n = refl
 filter_more p (x ∷ xs) n = ap (λ (l : List ℕ). if p x then x ∷ l else l) (filter_more p xs n) ∙ moved (p x)
   where

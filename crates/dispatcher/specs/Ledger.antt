@@ -1,5 +1,5 @@
 -- What is kept of a committed log, so that no question asks for the whole of it again.
-use Rattle.std.specs.Prelude.{◌≡◌, ◌≤◌, ℕ, ◌+◌, ◌-◌, ◌*◌, ◌^◌, min, Bool, not, nat_eq, nat_lt, ◌&&◌, List, [], ◌∷◌, length, take, drop, get_or, slice_get, Option, Some, None, if◌then◌else◌}
+use Rattle.std.specs.Prelude.{◌≡◌, ◌≤◌, ℕ, ◌+◌, ◌-◌, ◌*◌, ◌^◌, min, Bool, not, nat_eq, nat_lt, ◌&&◌, List, [], ◌∷◌, length, take, drop, get_or, map, slice_get, Option, Some, None, if◌then◌else◌}
 use Rattle.std.specs.List.{list_any}
 use Rattle.std.specs.Map.{lookup}
 use Rattle.of_types.specs.declared.message.Event.{Event}
@@ -132,7 +132,15 @@ cleared ledger switch =
 abbrev pub ForEachLog : (List ℕ → Setup → List Entry → Type 0) → (List ℕ → Setup → List Entry → Type 0) → Type 0
 ForEachLog stands says = (kinds : List ℕ) (setup : Setup) (log : List Entry) → stands kinds setup log → says kinds setup log
 
+-- the event that a log has as received at a place, beside what is issued for it
+abbrev pub handled_at : List ℕ → Setup → List Entry → ℕ → Option Handled
+handled_at kinds setup log j = slice_get (handled_of (received log) (issues kinds setup (received log))) j
+
 -- what an entry tells of an event that it has as processed
 abbrev pub handled_by : List ℕ → Setup → List Entry → Entry → Option Handled
 handled_by kinds setup log (Received event) = None
-handled_by kinds setup log (Processed j) = slice_get (handled_of (received log) (issues kinds setup (received log))) j
+handled_by kinds setup log (Processed j) = handled_at kinds setup log j
+
+-- these are the events that a log has as received at these places, beside what is issued for them
+abbrev pub AreHandledAt : List ℕ → Setup → List Entry → List ℕ → List Handled → Type 0
+AreHandledAt kinds setup log places handled = map (handled_at kinds setup log) places ≡ map Some handled

@@ -4,11 +4,11 @@ ghost use Rattle.of_types.specs.declared.setup.Setup.{Setup};
 ghost use Rattle.of_types.specs.Setups.{IsSetup};
 ghost use Rattle.of_types.specs.Lives.{has_ended, is_switch_up};
 ghost use Rattle.vr_log.specs.declared.entry.Entry.{Entry};
-ghost use Rattle.vr_log.specs.Log.{fits, received, processed};
+ghost use Rattle.vr_log.specs.Log.{fits, follows, received, processed};
 ghost use Rattle.two_stage_log.specs.Counts as counts;
 ghost use Rattle.dispatcher.specs.Folding as folding;
-ghost use Rattle.dispatcher.specs.Folding.{numbered, wish};
-ghost use Rattle.dispatcher.specs.Ledger.{ForEachLog, StandsFor, handled_by, most_commands};
+ghost use Rattle.dispatcher.specs.Folding.{numbered, places_processed, wish};
+ghost use Rattle.dispatcher.specs.Ledger.{AreHandledAt, ForEachLog, StandsFor, handled_by, most_commands};
 ghost use Rattle.dispatcher.specs.Marks as marks;
 ghost use Rattle.dispatcher.specs.Marks.{confirmed_by, is_confirmed, is_finished, is_pending, no_marks, with_result};
 
@@ -73,6 +73,13 @@ impl<A: App> Dispatcher<A> {
         })
     }
 
+    /// How many switches there are.
+    pub fn switches(&self) -> u8
+        ensures { result ≡ self.now.switches }
+    {
+        self.switches
+    }
+
     /// One entry more is committed: the application reacts to an event that is received. What is processed
     /// comes back.
     pub fn fold(&mut self, entry: &Entry) -> Result<Option<Handled>, AllocError>
@@ -88,6 +95,28 @@ impl<A: App> Dispatcher<A> {
             }
             Entry::Processed(_) => self.ledger.process(),
         }
+    }
+
+    /// These entries more are committed. What they have as processed comes back, in order.
+    pub fn fold_each(&mut self, entries: &[Entry]) -> Result<Vec<Handled>, AllocError>
+        ensures folds { ForEachLog (StandsFor A.kinds A.most A.states A.suits self.old) (λ kinds setup log. follows log entries.now ≡ true →
+            IfOk result (λ list. AreHandledAt kinds setup (log ++ entries.now) (places_processed entries.now) list.items × StandsFor A.kinds A.most A.states A.suits self.new kinds setup (log ++ entries.now))) }
+        ensures marks { self.new.marks ≡ self.old.marks }
+    {
+        let mut processed = Vec::new(self.alloc);
+        'entries: for entry in entries {
+            if let Some(handled) = self.fold(entry)? {
+                processed.push(handled)?;
+            }
+        }
+        Ok(processed)
+    }
+
+    /// The application, for another dispatcher that starts it.
+    pub fn into_app(self) -> A
+        ensures { result ≡ self.app }
+    {
+        self.app
     }
 
     /// What is done with an event from a switch, by the log and what is committed of it.

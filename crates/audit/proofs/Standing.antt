@@ -119,11 +119,11 @@ pub starts : (f : Following) → IsStart f → IsStanding [] f
 starts f start =
     record {
       followed = record {
-          lives = λ s. ap (λ (l : List ℕ). get_or l s 0) start.lives ∙ zero_at s;
-          numbers = λ s. ap (λ (l : List ℕ). get_or l s 0) start.numbers ∙ zero_at s;
-          events = start.received;
-          finished = start.processed;
-        };
+        lives = λ s. ap (λ (l : List ℕ). get_or l s 0) start.lives ∙ zero_at s;
+        numbers = λ s. ap (λ (l : List ℕ). get_or l s 0) start.numbers ∙ zero_at s;
+        events = start.received;
+        finished = start.processed;
+      };
       sound = nothing_sound;
     }
 
@@ -153,21 +153,21 @@ module _ (log : List Entry) (old new : Following) (standing : IsStanding log old
       let number = number_is e (received log) standing.sound.none_after may in
       record {
         followed = record {
-            lives = λ s. joined.lives s ∙ ap (λ (n : ℕ). if nat_eq e.switch s then e.life else n) (standing.followed.lives s) ∙ sym (life_in-append s (received log) e) ∙ ap (λ (l : List Event). life_in s l) (sym events);
-            numbers = λ s. numbers_more e s joined number ∙ ap (λ (l : List Event). count_in s (life_in s l) l) (sym events);
-            events = let a = joined.received in let b = standing.followed.events in let d = length-append (received log) (e ∷ []) in let x = ap (λ (l : List Event). length l) events in omega (arith, a, b, d, x);
-            finished = let a = joined.processed in let b = standing.followed.finished in let d = processed_push log (Received e) in omega (arith, a, b, d);
-          };
+          lives = λ s. joined.lives s ∙ ap (λ (n : ℕ). if nat_eq e.switch s then e.life else n) (standing.followed.lives s) ∙ sym (life_in-append s (received log) e) ∙ ap (λ (l : List Event). life_in s l) (sym events);
+          numbers = λ s. numbers_more e s joined number ∙ ap (λ (l : List Event). count_in s (life_in s l) l) (sym events);
+          events = let a = joined.received in let b = standing.followed.events in let d = length-append (received log) (e ∷ []) in let x = ap (λ (l : List Event). length l) events in omega (arith, a, b, d, x);
+          finished = let a = joined.processed in let b = standing.followed.finished in let d = processed_push log (Received e) in omega (arith, a, b, d);
+        };
         sound = subst (λ (l : List Event). IsSound l) (sym events) (sound_more e (received log) standing.sound may);
       }
   stands_more (Processed j) may joined =
       let events : received (log ++ Processed j ∷ []) ≡ received log = received-append log (Processed j ∷ []) ∙ append-nil (received log) in
       record {
         followed = record {
-            lives = λ s. ap (λ (f : Following). get_or f.lives s 0) joined ∙ standing.followed.lives s ∙ ap (λ (l : List Event). life_in s l) (sym events);
-            numbers = λ s. ap (λ (f : Following). get_or f.numbers s 0) joined ∙ standing.followed.numbers s ∙ ap (λ (l : List Event). count_in s (life_in s l) l) (sym events);
-            events = ap (λ (f : Following). f.received) joined ∙ standing.followed.events ∙ ap (λ (l : List Event). length l) (sym events);
-            finished = ap (λ (f : Following). f.processed) joined ∙ (let b = standing.followed.finished in let d = processed_push log (Processed j) in omega (arith, b, d));
-          };
+          lives = λ s. ap (λ (f : Following). get_or f.lives s 0) joined ∙ standing.followed.lives s ∙ ap (λ (l : List Event). life_in s l) (sym events);
+          numbers = λ s. ap (λ (f : Following). get_or f.numbers s 0) joined ∙ standing.followed.numbers s ∙ ap (λ (l : List Event). count_in s (life_in s l) l) (sym events);
+          events = ap (λ (f : Following). f.received) joined ∙ standing.followed.events ∙ ap (λ (l : List Event). length l) (sym events);
+          finished = ap (λ (f : Following). f.processed) joined ∙ (let b = standing.followed.finished in let d = processed_push log (Processed j) in omega (arith, b, d));
+        };
         sound = subst (λ (l : List Event). IsSound l) (sym events) standing.sound;
       }

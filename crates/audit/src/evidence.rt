@@ -68,11 +68,7 @@ pub fn told_events(
     Ok(told)
 }
 
-fn note_each(
-    names: &mut Named<()>,
-    switch: usize,
-    executed: &[Executed],
-) -> Result<(), AllocError>
+fn note_each(names: &mut Named<()>, switch: usize, executed: &[Executed]) -> Result<(), AllocError>
     ensures { OnOk result ((q : Name) → is_some (value_of names.new q) ≡ (is_some (value_of names.old q) || list_any (executes switch q) executed.now)) }
 {
     for command in executed {

@@ -31,11 +31,7 @@ impl Model for Received {
 }
 
 /// An event more.
-fn keep(
-    events: &mut Vec<Event>,
-    places: &mut Named<usize>,
-    event: &Event,
-) -> Result<(), AllocError>
+fn keep(events: &mut Vec<Event>, places: &mut Named<usize>, event: &Event) -> Result<(), AllocError>
     ensures events { OnOk result (events.new.items ≡ events.old.items ++ event.now ∷ []) }
     ensures places { ArePlaces events.old.items places.old → OnOk result (ArePlaces events.new.items places.new) }
 {

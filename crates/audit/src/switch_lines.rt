@@ -55,11 +55,7 @@ fn event_fails(left: u64, told: &Told, line: &Event, committed: &Committed) -> b
 }
 
 /// The first event line that fails. They are numbered from this line on.
-fn first_of_events(
-    line: u64,
-    told: &Told,
-    committed: &Committed,
-) -> Result<Option<u64>, AllocError>
+fn first_of_events(line: u64, told: &Told, committed: &Committed) -> Result<Option<u64>, AllocError>
     ensures { IfOk result (λ first. first ≡ first_failing line (events_fail_by committed.now told.now.life told.now.held told.now.events)) }
 {
     let mut left = count_of_life(told.life, told.events.as_slice());
@@ -78,10 +74,7 @@ fn first_of_events(
 fn fails(switch: usize, command: &Executed, committed: &Committed) -> bool
     ensures { result ≡ executed_fails_by committed.now switch command.now }
 {
-    match committed
-        .orders
-        .get((switch, command.life, command.number))
-    {
+    match committed.orders.get((switch, command.life, command.number)) {
         Some(order) => !same_order(order, &command.order),
         None => true,
     }

@@ -1,7 +1,5 @@
 //! What an audit finds in reports, by a firewall before a learning.
-use crate::reports::{
-    BEHIND_A_DIGIT, DIGIT, OUT_OF_TURN, RESTARTED, SKIPPING, UP_TO_A_DIGIT,
-};
+use crate::reports::{BEHIND_A_DIGIT, DIGIT, OUT_OF_TURN, RESTARTED, SKIPPING, UP_TO_A_DIGIT};
 use app_chain::ChainOf;
 use app_core::Part;
 use audit::{Verdict, check};

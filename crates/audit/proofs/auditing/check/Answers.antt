@@ -1,5 +1,5 @@
-use Rattle.report.proofs.SetupRead.{read_setup}
 use Rattle.audit.proofs.auditing.check.Goals as goal
 
+-- what is read is a record
 pub first_of_record-requires : goal.first_of_record-requires
-first_of_record-requires g c = read_setup c.args.bytes.now c.in-Ok.record c.in-Ok.ensures
+first_of_record-requires g c = c.in-Ok.ensures.found.0.setup

@@ -10,7 +10,8 @@ returns-in-Some c =
     (first_failing c.args.line (switches_fail_by c.args.committed.now 0 c.args.switches.now)) c.loop-told.invariant.1 (sym c.in-Some.is ∙ c.in_ok-first.ensures)
 
 pub loop-told-preserved : goal.loop-told-preserved
-loop-told-preserved c =
-    (ap (λ (n : ℕ). n + 1) c.loop-told.invariant.0,
-    told_goes c.args.committed.now c.args.switches.now c.loop-told.switch c.loop-told.told-index c.told-item.result (search rules) c.told-item.is c.loop-told.number c.in_ok-number.number
-    (first_failing c.args.line (switches_fail_by c.args.committed.now 0 c.args.switches.now)) c.loop-told.invariant.1 (sym c.in-None.is ∙ c.in_ok-first.ensures) c.in_ok-number.ensures)
+loop-told-preserved c = (
+  ap (λ (n : ℕ). n + 1) c.loop-told.invariant.0,
+  told_goes c.args.committed.now c.args.switches.now c.loop-told.switch c.loop-told.told-index c.told-item.result (search rules) c.told-item.is c.loop-told.number c.in_ok-number.number
+      (first_failing c.args.line (switches_fail_by c.args.committed.now 0 c.args.switches.now)) c.loop-told.invariant.1 (sym c.in-None.is ∙ c.in_ok-first.ensures) c.in_ok-number.ensures,
+)

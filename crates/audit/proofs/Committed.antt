@@ -1,5 +1,5 @@
 -- The lines of the switches are judged as the audit has it, where no line of the log fails.
-use Rattle.std.proofs.Common.{inl, inr, ◌≡◌, ◌<◌, ◌≤◌, ℕ, zero, suc, ◌+◌, Bool, true, false, not, ◌&&◌, ◌||◌, List, ◌∷◌, [], ◌++◌, length, map, take, replicate, Option, Some, None, cond, refl, sym, ap, subst, ◌∙◌, arith, length-append}
+use Rattle.std.proofs.Common.{◌≡◌, ℕ, zero, suc, ◌+◌, Bool, true, false, not, ◌&&◌, ◌||◌, List, ◌∷◌, [], ◌++◌, length, map, take, replicate, Option, Some, None, cond, refl, sym, ap, ◌∙◌, arith}
 use Rattle.std.specs.Prelude.{nat_eq, nat_lt, nat_le, count_by, option_map, if◌then◌else◌}
 use Rattle.std.specs.List.{list_any, find}
 use Rattle.std.proofs.lemmas.Bool.Decides.{nat_tests}
@@ -19,7 +19,7 @@ use Rattle.audit.specs.declared.switch_lines.Committed.{Committed}
 use Rattle.audit.specs.Audit.{is_processed, events_fail, differs_from, executed_fails, told_fails, switches_fail, log_fails, lines_before, lines_fail, first_failing}
 use Rattle.audit.specs.Issuing.{order_in}
 use Rattle.audit.specs.Judging.{is_below, is_processed_by, events_fail_by, order_fails, executed_fails_by, told_fails_by, switches_fail_by, IsCommitted}
-use Rattle.audit.specs.Names.{Name, same_name, name_of, issued_name, value_of}
+use Rattle.audit.specs.Names.{Name, same_name, name_of, issued_name}
 use Rattle.audit.specs.Received.{equal_at}
 use Rattle.audit.proofs.Failing.{first_here, first_behind, none_fails}
 use Rattle.audit.proofs.Followed.{sound_all}

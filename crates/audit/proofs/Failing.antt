@@ -1,16 +1,11 @@
 -- The first line that fails, of lines one after another.
-use Rattle.std.proofs.Common.{◌≡◌, ◌<◌, ◌≤◌, ℕ, zero, suc, ◌+◌, ◌-◌, Bool, true, false, not, ◌&&◌, ◌||◌, List, ◌∷◌, [], ◌++◌, length, get_or, map, take, drop, replicate, Option, Some, None, cond, refl, sym, ap, subst, ◌∙◌, arith, length-append}
-use Rattle.std.specs.Prelude.{nat_eq, nat_le, count_by, is_some, if◌then◌else◌}
-use Rattle.std.specs.List.{list_any}
-use Rattle.std.proofs.lemmas.List.{drop_more, drop_all, length-map, length-replicate}
-use Rattle.std.proofs.lemmas.List.Sums.{sum_by-cons}
+use Rattle.std.proofs.Common.{◌≡◌, ◌<◌, ℕ, zero, suc, ◌+◌, Bool, true, false, List, ◌∷◌, [], ◌++◌, length, get_or, map, drop, replicate, Option, Some, None, refl, sym, ap, ◌∙◌, arith, length-append}
+use Rattle.std.proofs.lemmas.List.{drop_more, length-map, length-replicate}
 use Rattle.of_types.specs.declared.message.Event.{Event}
-use Rattle.of_types.specs.declared.message.Executed.{Executed}
 use Rattle.report.specs.declared.record.Told.{Told}
 use Rattle.audit.specs.declared.switch_lines.Committed.{Committed}
 use Rattle.audit.specs.Audit.{first_failing}
-use Rattle.audit.specs.Names.{Name, value_of}
-use Rattle.audit.specs.Judging.{executes, is_executed, is_processed_by, events_fail_by, executed_fails_by, told_fails_by, switches_fail_by}
+use Rattle.audit.specs.Judging.{events_fail_by, executed_fails_by, told_fails_by, switches_fail_by}
 
 pub first_here : (line n : ℕ) (xs ys : List Bool) → first_failing line xs ≡ Some n → first_failing line (xs ++ ys) ≡ Some n
 first_here line n [] ys h = absurd cc

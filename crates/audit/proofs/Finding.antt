@@ -1,5 +1,5 @@
 -- How events are found by their names.
-use Rattle.std.proofs.Common.{◌≡◌, ◌<◌, ℕ, zero, suc, ◌+◌, Bool, true, false, ◌||◌, List, ◌∷◌, [], ◌++◌, length, get_or, take, drop, Option, Some, None, cond, refl, sym, ap, ◌∙◌, arith, append-nil}
+use Rattle.std.proofs.Common.{◌≡◌, ◌<◌, ℕ, zero, suc, Bool, true, false, List, ◌∷◌, [], ◌++◌, length, get_or, Option, Some, None, cond, refl, sym, ap, ◌∙◌, arith}
 use Rattle.std.specs.Prelude.{option_map, if◌then◌else◌}
 use Rattle.of_types.specs.declared.message.Event.{Event}
 use Rattle.vr_log.specs.Same.{same_event}

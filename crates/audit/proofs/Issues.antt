@@ -1,13 +1,12 @@
 -- What is kept while commands are issued.
-use Rattle.std.proofs.Common.{inl, inr, ◌≡◌, ◌<◌, ◌≤◌, ℕ, ◌+◌, Bool, true, false, ◌&&◌, List, ◌∷◌, [], ◌++◌, length, get_or, map, replicate, take, drop, Option, Some, None, cond, refl, sym, ap, subst, ◌∙◌, arith, append-nil, append_assoc}
+use Rattle.std.proofs.Common.{inl, inr, ◌≡◌, ◌<◌, ◌≤◌, ℕ, ◌+◌, Bool, true, false, ◌&&◌, List, ◌∷◌, [], ◌++◌, length, get_or, map, replicate, take, drop, Option, Some, cond, refl, sym, ap, subst, ◌∙◌, arith, append-nil, append_assoc}
 use Rattle.std.specs.Prelude.{nat_eq, unwrap_or, if◌then◌else◌}
 use Rattle.std.specs.Map.{lookup}
-use Rattle.std.proofs.lemmas.Bool.{and_parts, eqb-true, eq-eqb, cases_lt}
+use Rattle.std.proofs.lemmas.Bool.{and_parts, eqb-true, cases_lt}
 use Rattle.std.proofs.lemmas.List.{get_or-replicate, get_or_past, drop_more, drop_all, take_more, map-append}
 use Rattle.std.proofs.lemmas.List.Sums.{sum_by-cons, sum_by-append}
 use Rattle.of_types.specs.declared.message.Command.{Command}
 use Rattle.of_types.specs.declared.message.Event.{Event}
-use Rattle.of_types.specs.declared.message.Order.{Order}
 use Rattle.of_types.specs.Lives.{life_in}
 use Rattle.of_types.proofs.Counts.{life_in-append}
 use Rattle.app_core.specs.declared.issued.Issued.{Issued}

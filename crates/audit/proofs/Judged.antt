@@ -1,17 +1,15 @@
 -- Lines are judged as the audit has it.
-use Rattle.std.proofs.Common.{inl, inr, ◌≡◌, ◌<◌, ◌≤◌, ℕ, zero, suc, ◌+◌, Bool, true, false, not, ◌&&◌, ◌||◌, List, ◌∷◌, [], ◌++◌, length, get_or, map, take, drop, Option, Some, None, cond, refl, sym, ap, subst, ◌∙◌, arith, append-nil, append_assoc}
-use Rattle.std.specs.Prelude.{nat_eq, nat_lt, option_map, slice_get, slice_index_or, is_some, if◌then◌else◌}
+use Rattle.std.proofs.Common.{inl, inr, ◌≡◌, ◌<◌, ℕ, zero, suc, ◌+◌, Bool, true, false, not, ◌&&◌, ◌||◌, List, ◌∷◌, [], ◌++◌, length, get_or, map, Option, Some, None, refl, sym, ap, subst, ◌∙◌, arith}
+use Rattle.std.specs.Prelude.{nat_eq, nat_lt, option_map, slice_index_or, if◌then◌else◌}
 use Rattle.std.specs.List.{list_any, list_all}
-use Rattle.std.proofs.lemmas.Bool.{and_parts, eqb-true, eq-eqb, ne_eqb, cases_eq}
+use Rattle.std.proofs.lemmas.Bool.{eq-eqb, ne_eqb, cases_eq}
 use Rattle.of_types.specs.declared.message.Command.{Command}
 use Rattle.of_types.specs.declared.message.Event.{Event}
-use Rattle.of_types.specs.declared.message.Executed.{Executed}
 use Rattle.of_types.specs.declared.message.Order.{Order}
 use Rattle.of_types.specs.declared.setup.Setup.{Setup}
-use Rattle.of_types.specs.Lives.{life_in}
 use Rattle.vr_log.specs.declared.entry.Entry.{Entry}
 use Rattle.vr_log.specs.declared.entry.Entry.TheVariants.{Received, Processed}
-use Rattle.vr_log.specs.Log.{received, processed, may_follow}
+use Rattle.vr_log.specs.Log.{received, may_follow}
 use Rattle.vr_log.specs.Same.{same_event, same_happening}
 use Rattle.vr_log.proofs.Logs.{received-append}
 use Rattle.app_core.specs.declared.issued.Issued.{Issued}
@@ -22,10 +20,9 @@ use Rattle.report.specs.declared.record.Told.{Told}
 use Rattle.audit.specs.declared.evidence.Evidence.{Evidence}
 use Rattle.audit.specs.declared.following.Following.{Following}
 use Rattle.audit.specs.Audit.{has_event_line, has_executed_line, is_settled, entry_fails}
-use Rattle.audit.specs.Following.{may_join}
 use Rattle.audit.specs.Issuing.{HoldsOrders}
 use Rattle.audit.specs.Judging.{is_place, tells, is_told, executes, is_executed, IsEvidence, is_settled_by, entry_fails_by}
-use Rattle.audit.specs.Names.{Name, same_name, name_of, issued_name, value_of}
+use Rattle.audit.specs.Names.{Name, same_name, name_of, issued_name}
 use Rattle.audit.specs.Received.{equal_at}
 use Rattle.audit.proofs.Naming.{name_equal, name_same}
 use Rattle.audit.proofs.Standing.{IsStanding, may_is, is_fresh}

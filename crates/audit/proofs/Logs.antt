@@ -1,13 +1,11 @@
 -- The front of a log, with one entry more.
-use Rattle.std.proofs.Common.{◌≡◌, ◌<◌, ℕ, ◌+◌, List, ◌∷◌, [], ◌++◌, length, get_or, take, refl, sym, ap, ◌∙◌, append-nil}
+use Rattle.std.proofs.Common.{◌≡◌, ◌<◌, ℕ, ◌+◌, List, ◌∷◌, [], ◌++◌, length, get_or, take, sym, ap, ◌∙◌, append-nil}
 use Rattle.std.proofs.lemmas.List.{take_more}
 use Rattle.of_types.specs.declared.message.Event.{Event}
 use Rattle.vr_log.specs.declared.entry.Entry.{Entry}
 use Rattle.vr_log.specs.declared.entry.Entry.TheVariants.{Received, Processed}
 use Rattle.vr_log.specs.Log.{received}
 use Rattle.vr_log.proofs.Logs.{received-append}
-use Rattle.audit.specs.Names.{Name}
-use Rattle.audit.specs.Received.{ArePlaces}
 
 module _ (log : List Entry) (i : ℕ) (item : Entry) (lt : i < length log) (at : item ≡ get_or log i item) where
   pub front_more : take (i + 1) log ≡ take i log ++ item ∷ []

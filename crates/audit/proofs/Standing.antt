@@ -1,23 +1,20 @@
 -- What a log that was followed tells of its next line.
-use Rattle.std.proofs.Common.{inl, inr, ◌≡◌, ◌<◌, ◌≤◌, ℕ, zero, suc, ◌+◌, Bool, true, false, not, ◌&&◌, ◌||◌, List, ◌∷◌, [], ◌++◌, length, get_or, map, take, drop, Option, Some, None, cond, refl, sym, ap, subst, ◌∙◌, arith, append-nil, append_assoc, length-append}
-use Rattle.std.specs.Prelude.{nat_eq, nat_lt, option_map, slice_index_or, is_some, if◌then◌else◌}
-use Rattle.std.specs.List.{list_any, list_all}
+use Rattle.std.proofs.Common.{inl, inr, ◌≡◌, ◌<◌, ℕ, ◌+◌, Bool, true, false, ◌&&◌, ◌||◌, List, ◌∷◌, [], ◌++◌, length, get_or, refl, sym, ap, subst, ◌∙◌, arith, append-nil, length-append}
+use Rattle.std.specs.Prelude.{nat_eq, nat_lt, if◌then◌else◌}
+use Rattle.std.specs.List.{list_any}
 use Rattle.std.proofs.lemmas.Bool.{and_parts, eqb-true, eq-eqb, ne_eqb, ltb-true, cases_eq}
 use Rattle.std.proofs.lemmas.List.Folds.{list_any-append}
 use Rattle.of_types.specs.declared.message.Event.{Event}
 use Rattle.of_types.specs.Lives.{life_in, count_in, is_switch_up}
-use Rattle.of_types.proofs.Counts.{NoneAfter, none_after-append, life_in-append, count_in-append, count_here, count_there, one_of}
+use Rattle.of_types.proofs.Counts.{NoneAfter, none_after-append, life_in-append, count_in-append, count_here, count_there}
 use Rattle.vr_log.specs.declared.entry.Entry.{Entry}
 use Rattle.vr_log.specs.declared.entry.Entry.TheVariants.{Received, Processed}
-use Rattle.vr_log.specs.Log.{received, processed, may_be_received, may_follow}
-use Rattle.vr_log.specs.Same.{same_event}
+use Rattle.vr_log.specs.Log.{received, may_be_received, may_follow}
 use Rattle.vr_log.proofs.Logs.{received-append, processed_push, no_earlier}
 use Rattle.audit.specs.declared.following.Following.{Following}
 use Rattle.audit.specs.Following.{IsStart, IsFollowed, may_join, Joined, Joins}
 use Rattle.audit.specs.Names.{Name, same_name, name_of}
-use Rattle.audit.specs.Judging.{is_place, tells}
-use Rattle.audit.specs.Received.{equal_at}
-use Rattle.audit.proofs.Issues.{zeros, zero_at}
+use Rattle.audit.proofs.Issues.{zero_at}
 use Rattle.audit.proofs.Naming.{name_equal, name_same}
 
 -- each of these events has a number below the count of its life

@@ -1,6 +1,6 @@
 -- The audit of a report: which of its lines fail, by the lines alone and by what the controller that never fails does.
 -- Nothing here knows what a switch or a controller is.
-use Rattle.std.specs.Prelude.{◌≡◌, ℕ, ◌+◌, Bool, true, false, not, ◌==◌, ◌&&◌, ◌||◌, nat_le, List, [], ◌∷◌, ◌++◌, length, take, map, sum_by, count_by, replicate, slice_get, Option, Some, None, Result, Ok, Err}
+use Rattle.std.specs.Prelude.{ℕ, ◌+◌, Bool, true, false, not, ◌==◌, ◌&&◌, ◌||◌, nat_le, List, [], ◌∷◌, ◌++◌, length, take, map, sum_by, count_by, replicate, slice_get, Option, Some, None, Ok, Err}
 use Rattle.std.specs.List.{list_any, list_all, find}
 use Rattle.of_types.specs.declared.message.Event.{Event}
 use Rattle.of_types.specs.declared.message.Executed.{Executed}

@@ -1,5 +1,5 @@
 -- What is kept while commands are issued.
-use Rattle.std.specs.Prelude.{◌≡◌, ℕ, ◌+◌, nat_eq, ◌&&◌, List, [], ◌∷◌, ◌++◌, get_or, Option, Some, None, unwrap_or, if◌then◌else◌}
+use Rattle.std.specs.Prelude.{◌≡◌, ℕ, ◌+◌, nat_eq, ◌&&◌, List, [], ◌∷◌, get_or, Option, Some, None, unwrap_or, if◌then◌else◌}
 use Rattle.std.specs.Map.{lookup}
 use Rattle.of_types.specs.declared.message.Command.{Command}
 use Rattle.of_types.specs.declared.message.Event.{Event}

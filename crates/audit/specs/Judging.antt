@@ -1,5 +1,5 @@
 -- What the lines of a report are judged by.
-use Rattle.std.specs.Prelude.{◌≡◌, ℕ, ◌+◌, Bool, true, false, not, ◌==◌, ◌&&◌, ◌||◌, nat_eq, nat_lt, nat_le, List, [], ◌∷◌, ◌++◌, length, map, count_by, replicate, get_or, slice_index_or, is_some, Option, Some, None}
+use Rattle.std.specs.Prelude.{◌≡◌, ℕ, ◌+◌, Bool, true, false, not, ◌&&◌, ◌||◌, nat_eq, nat_lt, nat_le, List, [], ◌∷◌, ◌++◌, length, map, count_by, replicate, get_or, slice_index_or, is_some, Option, Some, None}
 use Rattle.std.specs.List.{list_any, list_all}
 use Rattle.of_types.specs.declared.message.Event.{Event}
 use Rattle.of_types.specs.declared.message.Executed.{Executed}
@@ -14,7 +14,6 @@ use Rattle.report.specs.declared.record.Told.{Told}
 use Rattle.audit.specs.declared.following.Following.{Following}
 use Rattle.audit.specs.declared.evidence.Evidence.{Evidence}
 use Rattle.audit.specs.declared.switch_lines.Committed.{Committed}
-use Rattle.audit.specs.Audit.{has_executed_line}
 use Rattle.audit.specs.Following.{may_join, has_begun}
 use Rattle.audit.specs.Issuing.{HoldsOrders}
 use Rattle.audit.specs.Names.{Name, same_name, issued_name, value_of}

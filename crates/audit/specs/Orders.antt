@@ -1,5 +1,5 @@
 -- Whether two orders are equal.
-use Rattle.std.specs.Prelude.{ℕ, Bool, true, false, nat_eq, ◌&&◌}
+use Rattle.std.specs.Prelude.{Bool, true, false, nat_eq, ◌&&◌}
 use Rattle.of_types.specs.declared.message.FlowCommand.{FlowCommand}
 use Rattle.of_types.specs.declared.message.FlowCommand.TheVariants.{Add, Modify, ModifyStrict, Delete, DeleteStrict}
 use Rattle.of_types.specs.declared.message.FlowMod.{FlowMod}

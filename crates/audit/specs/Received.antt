@@ -1,5 +1,5 @@
 -- How the events of a log are found by their names.
-use Rattle.std.specs.Prelude.{◌≡◌, ℕ, suc, Bool, nat_eq, List, [], ◌∷◌, Option, Some, None, option_map, if◌then◌else◌}
+use Rattle.std.specs.Prelude.{◌≡◌, ℕ, suc, Bool, List, [], ◌∷◌, Option, Some, None, option_map, if◌then◌else◌}
 use Rattle.of_types.specs.declared.message.Event.{Event}
 use Rattle.vr_log.specs.Same.{same_event}
 use Rattle.audit.specs.Names.{Name, same_name, name_of, value_of}

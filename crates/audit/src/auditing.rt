@@ -116,7 +116,8 @@ fn verdict_of(first: Option<u64>) -> Verdict
     }
 }
 
-/// Audits a report.
+/// Audits a report: tells whether no line fails, or the first that does. The application is started for the report's setup.
+/// At want of memory it is to be dropped.
 #[tactic(auto, unfolding(crate::specs::Audit::differs))]
 pub fn check<A: App>(alloc: Global, bytes: &[u8], app: &mut A) -> Result<Verdict, AllocError>
     ensures { IfOk result (λ verdict. verdict ≡ verdict_of (differs (A.kinds app.old) bytes.now)) }

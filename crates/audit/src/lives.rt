@@ -25,6 +25,7 @@ impl Lives {
         Lives { lives: [0; 256] }
     }
 
+    /// The life of a switch.
     pub fn of(&self, switch: usize) -> u32
         ensures { result ≡ get_or self.now switch 0 }
     {

@@ -63,6 +63,7 @@ impl Received {
         self.events.as_slice()
     }
 
+    /// How many events there are.
     pub fn len(&self) -> usize
         ensures { result ≡ length self.now }
     {

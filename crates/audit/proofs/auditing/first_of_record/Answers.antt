@@ -2,7 +2,7 @@ use Rattle.std.proofs.Common.{◌≡◌, ◌+◌, ℕ, List, [], length, ap, sym
 use Rattle.std.specs.Prelude.{IfOk, Option}
 use Rattle.vr_log.specs.declared.entry.Entry.{Entry}
 use Rattle.report.specs.declared.record.Told.{Told}
-use Rattle.audit.specs.Audit.{log_fails, lines_before, lines_fail, first_failing}
+use Rattle.audit.specs.Audit.{log_fails, lines_fail, first_failing}
 use Rattle.audit.specs.Judging.{switches_fail_by}
 use Rattle.audit.proofs.Committed.{log_first, switches_first}
 use Rattle.audit.proofs.auditing.first_of_record.Goals as goal

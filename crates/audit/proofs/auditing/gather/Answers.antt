@@ -1,7 +1,6 @@
-use Rattle.std.proofs.Common.{◌≡◌, ◌≤◌, ℕ, List, length, map, ap, sym, ◌∙◌, arith}
-use Rattle.of_types.specs.declared.message.Command.{Command}
+use Rattle.std.proofs.Common.{◌≡◌, ℕ, List, length, ap, ◌∙◌, arith}
 use Rattle.of_types.specs.declared.message.Event.{Event}
-use Rattle.vr_log.specs.Log.{received, processed}
+use Rattle.vr_log.specs.Log.{received}
 use Rattle.vr_log.proofs.Logs.{length_is}
 use Rattle.report.specs.declared.record.Told.{Told}
 use Rattle.app_core.specs.Chain.{reactions}

@@ -1,4 +1,4 @@
-use Rattle.std.proofs.Common.{◌≡◌, ◌+◌, List, [], ◌++◌, ◌∷◌, sym, subst, ◌∙◌, rules}
+use Rattle.std.proofs.Common.{◌+◌, List, sym, subst, ◌∙◌, rules}
 use Rattle.std.proofs.lemmas.List.{nil_from_length}
 use Rattle.audit.specs.Names.{Name}
 use Rattle.audit.proofs.Issues.{IssuingAll, all_goes_on, ends_with_lists, ends_with_events}

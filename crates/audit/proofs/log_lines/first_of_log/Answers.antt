@@ -1,4 +1,4 @@
-use Rattle.std.proofs.Common.{◌≡◌, ◌+◌, ℕ, sym, subst, rules}
+use Rattle.std.proofs.Common.{◌+◌, ℕ, sym, subst, rules}
 use Rattle.audit.proofs.Followed.{Follows, follows_starts, follows_stops, follows_on, follows_ends}
 use Rattle.audit.proofs.log_lines.first_of_log.Goals as goal
 

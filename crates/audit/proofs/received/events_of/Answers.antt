@@ -1,4 +1,4 @@
-use Rattle.std.proofs.Common.{◌≡◌, List, sym, ap, subst, ◌∙◌, ◌++◌, ◌∷◌, [], rules}
+use Rattle.std.proofs.Common.{List, sym, ap, ◌∙◌, ◌++◌, ◌∷◌, [], rules}
 use Rattle.of_types.specs.declared.message.Event.{Event}
 use Rattle.audit.proofs.Finding.{joined_places}
 use Rattle.audit.proofs.Logs.{received_one, received_none}

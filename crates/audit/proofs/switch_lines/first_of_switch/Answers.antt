@@ -1,4 +1,4 @@
-use Rattle.std.proofs.Common.{◌≡◌, ◌+◌, ℕ, List, map, length, subst, refl, ap, sym, ◌∙◌, arith}
+use Rattle.std.proofs.Common.{◌≡◌, ◌+◌, ℕ, List, map, length, subst, refl, ap, ◌∙◌, arith}
 use Rattle.std.specs.Prelude.{IfOk, Option}
 use Rattle.of_types.specs.declared.message.Executed.{Executed}
 use Rattle.audit.specs.Audit.{first_failing}

@@ -1,5 +1,3 @@
-use Rattle.std.proofs.Common.{◌≡◌, ℕ, ap, ◌∙◌}
-use Rattle.audit.specs.Issuing.{count_of}
 use Rattle.audit.proofs.Issues.{counted_as}
 use Rattle.audit.proofs.issuing.Counts.put.Goals as goal
 

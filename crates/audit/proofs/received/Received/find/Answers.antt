@@ -1,8 +1,8 @@
-use Rattle.std.proofs.Common.{◌≡◌, ◌<◌, ℕ, Bool, List, length, sym, ap, subst, ◌∙◌, arith}
-use Rattle.std.specs.Prelude.{Option, Some, None, option_copied, if◌then◌else◌}
+use Rattle.std.proofs.Common.{◌<◌, Bool, List, length, sym, ap, subst, ◌∙◌, arith}
+use Rattle.std.specs.Prelude.{Some, None, option_copied, if◌then◌else◌}
 use Rattle.of_types.specs.declared.message.Event.{Event}
 use Rattle.audit.specs.Names.{name_of, same_name}
-use Rattle.audit.specs.Received.{equal_at, first_at}
+use Rattle.audit.specs.Received.{equal_at}
 use Rattle.audit.proofs.Finding.{none_found, one_found, found_by, first_within}
 use Rattle.audit.proofs.received.Received.find.Goals as goal
 

@@ -5,11 +5,10 @@ ghost use Rattle.vr_log.specs.Log as logs;
 ghost use Rattle.audit.specs.Received.{ArePlaces, equal_at};
 
 use crate::named::{Named, name_of};
-use crate::same::same_event;
 use of_types::Event;
 use std::alloc::{AllocError, Global};
 use std::marker::Model;
-use vr_log::Entry;
+use vr_log::{Entry, same_event};
 
 /// The received events of a log in order, and where each stands by its name.
 #[derive(Drop)]

@@ -1,11 +1,9 @@
-//! Whether events and orders are equal.
+//! Whether two orders are equal.
 ghost use Rattle.std.specs.Prelude.{◌≡◌};
 ghost use Rattle.audit.specs.Orders as orders;
 ghost use Rattle.vr_log.specs.Same as same;
 
-use of_types::{
-    Event, FlowCommand, FlowMod, Happening, Order, PacketIn, PacketOut, PortStatus, same_match,
-};
+use of_types::{FlowCommand, FlowMod, Order, PacketOut, same_match};
 
 fn same_bytes(a: &[u8], b: &[u8]) -> bool
     ensures { result ≡ same.same_numbers a.now b.now }
@@ -17,41 +15,6 @@ fn same_actions(a: &[u32], b: &[u32]) -> bool
     ensures { result ≡ same.same_numbers a.now b.now }
 {
     a == b
-}
-
-fn same_packet(a: &PacketIn, b: &PacketIn) -> bool
-    ensures { result ≡ same.same_packet a.now b.now }
-{
-    a.reason == b.reason
-        && a.cookie == b.cookie
-        && a.in_port == b.in_port
-        && same_bytes(a.payload.as_slice(), b.payload.as_slice())
-}
-
-fn same_status(a: PortStatus, b: PortStatus) -> bool
-    ensures { result ≡ same.same_status a b }
-{
-    a.reason == b.reason && a.port == b.port && a.up == b.up
-}
-
-fn same_happening(a: &Happening, b: &Happening) -> bool
-    ensures { result ≡ same.same_happening a.now b.now }
-{
-    match (a, b) {
-        (Happening::PacketIn(p), Happening::PacketIn(q)) => same_packet(p, q),
-        (Happening::PortStatus(p), Happening::PortStatus(q)) => same_status(*p, *q),
-        _ => false,
-    }
-}
-
-/// Whether two events are equal.
-pub fn same_event(a: &Event, b: &Event) -> bool
-    ensures { result ≡ same.same_event a.now b.now }
-{
-    a.switch == b.switch
-        && a.life == b.life
-        && a.number == b.number
-        && same_happening(&a.what, &b.what)
 }
 
 fn same_command(a: FlowCommand, b: FlowCommand) -> bool

@@ -1,6 +1,8 @@
 //! The lines of a report.
 ghost use Rattle.std.specs.Prelude.{◌≡◌, ◌++◌, ℕ, List, OnOk};
-ghost use Rattle.report.specs.Report.{lines_of, newline, word, further, input_words, event_words};
+ghost use Rattle.rv_base.specs.declared.journal.JournalEntry.TheVariants as entry;
+ghost use Rattle.rv_base.specs.declared.journal.Local.TheVariants as local;
+ghost use Rattle.report.specs.Report.{lines_of, newline, word, further, input_words, entry_lines, event_words};
 
 use crate::words::{
     write_actor, write_address, write_flag, write_hex, write_newline, write_number,
@@ -8,7 +10,7 @@ use crate::words::{
 };
 use of_ravana::canonical_happening;
 use of_types::{Event, Link, Octets, Rule};
-use rv_base::{JournalEntry, Letter, Local};
+use rv_base::{Actor, JournalEntry, Letter, Local};
 use std::alloc::{AllocError, Global};
 use vr_log::Entry;
 
@@ -83,32 +85,49 @@ impl Lines for Letter<Octets> {
     }
 }
 
-/// Writes a local input, and the end of its line.
+/// Writes what a line says of a frame that came in.
 #[tactic(auto, unfolding(crate::specs::Report::number))]
+fn write_frame(out: &mut Octets, port: u32, bytes: &[u8]) -> Result<(), AllocError>
+    ensures { OnOk result (out.new ≡ out.old ++ further (input_words (local.Frame port bytes.now))) }
+{
+    write_word(out, b"frame")?;
+    write_number(out, port)?;
+    write_hex(out, bytes)?;
+    write_newline(out)?;
+    Ok(())
+}
+
+/// Writes what a line says of a port that changed.
+#[tactic(auto, unfolding(crate::specs::Report::number))]
+fn write_port(out: &mut Octets, port: u32, up: bool) -> Result<(), AllocError>
+    ensures { OnOk result (out.new ≡ out.old ++ further (input_words (local.Port port up))) }
+{
+    write_word(out, b"port")?;
+    write_number(out, port)?;
+    write_flag(out, up)?;
+    write_newline(out)?;
+    Ok(())
+}
+
+/// Writes what a line says of a suspicion.
+#[tactic(auto, unfolding(crate::specs::Report::number))]
+fn write_suspicion(out: &mut Octets, view: u32) -> Result<(), AllocError>
+    ensures { OnOk result (out.new ≡ out.old ++ further (input_words (local.Suspect view))) }
+{
+    write_word(out, b"suspect")?;
+    write_number(out, view)?;
+    write_newline(out)?;
+    Ok(())
+}
+
+/// Writes a local input, and the end of its line.
 fn write_input(out: &mut Octets, input: &Local) -> Result<(), AllocError>
     ensures { OnOk result (out.new ≡ out.old ++ further (input_words input.now)) }
 {
     match input {
-        Local::Frame { port, bytes } => {
-            write_word(out, b"frame")?;
-            write_number(out, *port)?;
-            write_hex(out, bytes.as_slice())?;
-            write_newline(out)?;
-            Ok(())
-        }
-        Local::Port { port, up } => {
-            write_word(out, b"port")?;
-            write_number(out, *port)?;
-            write_flag(out, *up)?;
-            write_newline(out)?;
-            Ok(())
-        }
-        Local::Suspect { view } => {
-            write_word(out, b"suspect")?;
-            write_number(out, *view)?;
-            write_newline(out)?;
-            Ok(())
-        }
+        Local::Frame { port, bytes } => write_frame(out, *port, bytes.as_slice()),
+        Local::Port { port, up } => write_port(out, *port, *up),
+        Local::Suspect { view } => write_suspicion(out, *view),
         Local::Tick => write_last_word(out, b"tick"),
         Local::Crash => write_last_word(out, b"crash"),
         Local::Restart => write_last_word(out, b"restart"),
@@ -124,12 +143,74 @@ fn write_last_word(out: &mut Octets, text: &[u8]) -> Result<(), AllocError>
     Ok(())
 }
 
-impl Lines for JournalEntry<Octets> {
-    ghost use Rattle.report.specs.Report.{entry_lines};
+/// Writes a post, and its letters.
+#[tactic(auto, unfolding(crate::specs::Report::line, crate::specs::Report::number))]
+fn write_post(
+    alloc: Global,
+    out: &mut Octets,
+    actor: Actor,
+    first: u64,
+    letters: &[Letter<Octets>],
+    lost: u64,
+) -> Result<(), AllocError>
+    ensures { OnOk result (out.new ≡ out.old ++ entry_lines (entry.Post actor first letters.now lost)) }
+{
+    out.append(b"post")?;
+    write_actor(out, actor)?;
+    write_number(out, first)?;
+    write_number(out, letters.len())?;
+    write_number(out, lost)?;
+    write_newline(out)?;
+    write_each(alloc, out, letters)?;
+    Ok(())
+}
 
+#[tactic(auto, unfolding(crate::specs::Report::line, crate::specs::Report::number))]
+fn write_draw(out: &mut Octets, actor: Actor, id: u64, keep: bool) -> Result<(), AllocError>
+    ensures { OnOk result (out.new ≡ out.old ++ entry_lines (entry.Draw actor id keep)) }
+{
+    out.append(b"draw")?;
+    write_actor(out, actor)?;
+    write_number(out, id)?;
+    write_flag(out, keep)?;
+    write_newline(out)?;
+    Ok(())
+}
+
+#[tactic(auto, unfolding(crate::specs::Report::line, crate::specs::Report::number))]
+fn write_loss(out: &mut Octets, actor: Actor, id: u64) -> Result<(), AllocError>
+    ensures { OnOk result (out.new ≡ out.old ++ entry_lines (entry.Lose actor id)) }
+{
+    out.append(b"lose")?;
+    write_actor(out, actor)?;
+    write_number(out, id)?;
+    write_newline(out)?;
+    Ok(())
+}
+
+#[tactic(auto, unfolding(crate::specs::Report::line))]
+fn write_local(out: &mut Octets, actor: Actor, input: &Local) -> Result<(), AllocError>
+    ensures { OnOk result (out.new ≡ out.old ++ entry_lines (entry.Local actor input.now)) }
+{
+    out.append(b"local")?;
+    write_actor(out, actor)?;
+    write_input(out, input)?;
+    Ok(())
+}
+
+#[tactic(auto, unfolding(crate::specs::Report::line))]
+fn write_idle(out: &mut Octets, actor: Actor) -> Result<(), AllocError>
+    ensures { OnOk result (out.new ≡ out.old ++ entry_lines (entry.Idle actor)) }
+{
+    out.append(b"idle")?;
+    write_actor(out, actor)?;
+    write_newline(out)?;
+    Ok(())
+}
+
+impl Lines for JournalEntry<Octets> {
     ghost lines = { entry_lines };
 
-    #[tactic(auto, unfolding(crate::specs::Report::line, crate::specs::Report::number))]
     fn write_lines(&self, alloc: Global, out: &mut Octets) -> Result<(), AllocError> {
         match self {
             JournalEntry::Post {
@@ -137,43 +218,11 @@ impl Lines for JournalEntry<Octets> {
                 first,
                 letters,
                 lost,
-            } => {
-                out.append(b"post")?;
-                write_actor(out, *actor)?;
-                write_number(out, *first)?;
-                write_number(out, letters.len())?;
-                write_number(out, *lost)?;
-                write_newline(out)?;
-                write_each(alloc, out, letters.as_slice())?;
-                Ok(())
-            }
-            JournalEntry::Draw { actor, id, keep } => {
-                out.append(b"draw")?;
-                write_actor(out, *actor)?;
-                write_number(out, *id)?;
-                write_flag(out, *keep)?;
-                write_newline(out)?;
-                Ok(())
-            }
-            JournalEntry::Lose { actor, id } => {
-                out.append(b"lose")?;
-                write_actor(out, *actor)?;
-                write_number(out, *id)?;
-                write_newline(out)?;
-                Ok(())
-            }
-            JournalEntry::Local { actor, input } => {
-                out.append(b"local")?;
-                write_actor(out, *actor)?;
-                write_input(out, input)?;
-                Ok(())
-            }
-            JournalEntry::Idle { actor } => {
-                out.append(b"idle")?;
-                write_actor(out, *actor)?;
-                write_newline(out)?;
-                Ok(())
-            }
+            } => write_post(alloc, out, *actor, *first, letters.as_slice(), *lost),
+            JournalEntry::Draw { actor, id, keep } => write_draw(out, *actor, *id, *keep),
+            JournalEntry::Lose { actor, id } => write_loss(out, *actor, *id),
+            JournalEntry::Local { actor, input } => write_local(out, *actor, input),
+            JournalEntry::Idle { actor } => write_idle(out, *actor),
             JournalEntry::Refused { .. } => Ok(()),
         }
     }

@@ -19,7 +19,7 @@ pub use choosing::best_of;
 pub use entry::{Entries, Entry, LogFull, append_entries, copy_entries, size_of_entry};
 pub use log::{LOG_BYTES, LOG_ENTRIES, Log, PushFault, logs_have_fronts};
 pub use message::{Filled, VrLetter, VrLetters, VrMessage};
-pub use same::{same_entries, same_entry};
+pub use same::{same_entries, same_entry, same_event};
 pub use state::{
     Collected, Collection, Members, Response, Responses, Status, Supplied, VrOut, VrState,
 };

@@ -1,4 +1,4 @@
-//! Whether entries are equal.
+//! Whether entries and events are equal.
 ghost use Rattle.std.specs.Prelude.{◌≡◌, ◌↔◌, IsTrue};
 ghost use Rattle.vr_log.specs.Same as same;
 
@@ -36,7 +36,8 @@ fn same_happening(a: &Happening, b: &Happening) -> bool
     }
 }
 
-fn same_event(a: &Event, b: &Event) -> bool
+/// Whether two events are equal.
+pub fn same_event(a: &Event, b: &Event) -> bool
     ensures { result ≡ same.same_event a.now b.now }
 {
     a.switch == b.switch

@@ -1,0 +1,335 @@
+-- Turns of a controller: what its rule is, and what stands after it.
+use Rattle.std.proofs.Common.{◌≡◌, ◌≤◌, ◌<◌, ℕ, ◌+◌, Bool, true, false, List, [], ◌∷◌, ◌++◌, refl, sym, ap, subst, ◌∙◌}
+use Rattle.std.specs.Prelude.{Result, Ok, Err, IfOk, OnErr, IfSome, Option, Some, None, option_to_list, if◌then◌else◌}
+use Rattle.std.specs.List.{AllByRecursion}
+use Rattle.rv_base.specs.declared.journal.Letter.{Letter}
+use Rattle.rv_base.specs.declared.journal.SaveResult.{SaveResult}
+use Rattle.rv_base.specs.declared.journal.SaveResult.TheVariants.{Saved, KeptOld, KeptNew}
+use Rattle.rv_base.specs.Stables.{standing}
+use Rattle.vr_log.specs.declared.message.VrLetter.{VrLetter}
+use Rattle.vr_log.specs.declared.state.VrOut.{VrOut}
+use Rattle.vr_recovery.specs.Recovering.{restarted}
+use Rattle.vr_core.specs.Step.{Stepped}
+use Rattle.dispatcher.specs.Ledger.{most_commands}
+use Rattle.group_controller.specs.declared.messages.ControllerSays.{ControllerSays}
+use Rattle.of_types.specs.declared.setup.Setup.{Setup}
+use Rattle.of_types.specs.Lives.{last_life}
+use Rattle.of_types.specs.Setups.{IsSetup}
+use Rattle.std.proofs.lemmas.Bool.{lt-ltb}
+use Rattle.rv_base.specs.declared.journal.Local.{Local}
+use Rattle.rv_base.specs.declared.journal.Local.TheVariants as local
+use Rattle.vr_log.specs.declared.state.Status.{Status}
+use Rattle.vr_log.specs.declared.state.Status.TheVariants.{Normal, ViewChange, Recovering, Down}
+use Rattle.vr_log.specs.declared.state.VrState.{VrState}
+use Rattle.vr_log.specs.Steps.{later_of}
+use Rattle.vr_log.specs.Valid.{down_state}
+use Rattle.vr_core.specs.Lasting.{Lasts, promised}
+use Rattle.vr_core.proofs.Lasting.{later_than_none}
+use Rattle.group_controller.specs.declared.messages.ControllerInput.{ControllerInput}
+use Rattle.group_controller.specs.declared.messages.ControllerInput.TheVariants as controller_input
+use Rattle.group_controller.specs.Acting.{Acting, Acts, Begins, pair_with, with_out, with_state, Works}
+use Rattle.group_controller.specs.Rules.{controller_work, is_crash, is_down, is_restart, on_crash, on_input, on_local, on_restart, when_down}
+use Rattle.group_controller.specs.State.{ControllerState, Work, down, fresh, resting, stepped, to_members, with_no_met_limit}
+use Rattle.group_controller.specs.Turns.{acting_by, Done, Keeps, KnowsPair, left_by, pair_in, Restarts, Saves, Turns, AreAlike, Born, Controlling, Controls, Stands, state_of, state_or}
+
+-- one that is awake does what the rule of its input says
+awake_is : (c : ControllerState) → (c.vr.status ≡ Down → ⊥) → is_down c ≡ false
+awake_is c awake = by_status c.vr.status awake
+  where
+    by_status : (status : Status) → (status ≡ Down → ⊥) → (elim status as (λ _. Bool) [ Normal ↦ false | ViewChange ↦ false | Recovering ↦ false | Down ↦ true ]) ≡ false
+    by_status Normal h = refl
+    by_status ViewChange h = refl
+    by_status Recovering h = refl
+    by_status Down h = absurd (h refl)
+
+module _ (kinds : List ℕ) (setup : Setup) where
+  pub awake_work : (c : ControllerState) (input : ControllerInput) → (c.vr.status ≡ Down → ⊥) → controller_work kinds setup c input ≡ on_input kinds setup (with_no_met_limit c) input
+  unfolding controller_work
+  awake_work c input awake = ap (λ (b : Bool). if b then when_down c input else on_input kinds setup (with_no_met_limit c) input) (awake_is c awake)
+
+  crash_is : (c : ControllerState) (what : Local) → is_crash (controller_input.Local what) ≡ true → on_local kinds setup c what ≡ on_crash c
+  crash_is c (local.Frame port bytes) h = absurd cc h
+  crash_is c (local.Port port up) h = absurd cc h
+  crash_is c local.Tick h = absurd cc h
+  crash_is c (local.Suspect view) h = absurd cc h
+  crash_is c local.Crash h = refl
+  crash_is c local.Restart h = absurd cc h
+
+  pub crash_work : (c : ControllerState) (input : ControllerInput) → is_crash input ≡ true → on_input kinds setup c input ≡ on_crash c
+  crash_work c (controller_input.Local what) h = crash_is c what h
+  crash_work c (controller_input.Of switch xid said) h = absurd cc h
+  crash_work c (controller_input.Malformed sender) h = absurd cc h
+  crash_work c (controller_input.Vr from message) h = absurd cc h
+
+restart_local : (c : ControllerState) (what : Local) → is_restart (controller_input.Local what) ≡ true → when_down c (controller_input.Local what) ≡ on_restart c
+restart_local c (local.Frame port bytes) h = absurd cc h
+restart_local c (local.Port port up) h = absurd cc h
+restart_local c local.Tick h = absurd cc h
+restart_local c (local.Suspect view) h = absurd cc h
+restart_local c local.Crash h = absurd cc h
+restart_local c local.Restart h = refl
+
+-- one that is down and is told to restart does so
+restart_rule : (c : ControllerState) (input : ControllerInput) → is_restart input ≡ true → when_down c input ≡ on_restart c
+restart_rule c (controller_input.Local what) h = restart_local c what h
+restart_rule c (controller_input.Of switch xid said) h = absurd cc h
+restart_rule c (controller_input.Malformed sender) h = absurd cc h
+restart_rule c (controller_input.Vr from message) h = absurd cc h
+
+drop_local : (c : ControllerState) (what : Local) → is_restart (controller_input.Local what) ≡ false → when_down c (controller_input.Local what) ≡ resting c
+drop_local c (local.Frame port bytes) h = refl
+drop_local c (local.Port port up) h = refl
+drop_local c local.Tick h = refl
+drop_local c (local.Suspect view) h = refl
+drop_local c local.Crash h = refl
+drop_local c local.Restart h = absurd cc h
+
+-- one that is down and is told all else does nothing
+drop_rule : (c : ControllerState) (input : ControllerInput) → is_restart input ≡ false → when_down c input ≡ resting c
+drop_rule c (controller_input.Local what) h = drop_local c what h
+drop_rule c (controller_input.Of switch xid said) h = refl
+drop_rule c (controller_input.Malformed sender) h = refl
+drop_rule c (controller_input.Vr from message) h = refl
+
+module _ {A : Type 0} (kinds_of : A → List ℕ) (most_of : A → ℕ) (states_of : A → List (List ℕ)) (suits : A → Setup → Type 0) (kinds : List ℕ) where
+  -- what a turn left stands again, beside the pair that is stable then
+  pub stands_again : (c new : Controlling A) (a began left : Acting A) (work : Work) → Stands kinds_of most_of states_of suits c kinds a →
+      began.work.state.vr ≡ a.work.state.vr → began.promise ≡ None → Works kinds_of most_of states_of suits kinds c.setup began work left →
+      new.setup ≡ c.setup → new.me ≡ c.me → new.promise ≡ promised c.promise left.promise → new.life ≡ c.life →
+      Stands kinds_of most_of states_of suits new kinds (record left { work = resting left.work.state; promise = None })
+  stands_again c new a began left work h same unsaved w setup me promise life =
+      let l = subst (λ (s : VrState). Lasts s w.saved left.work.state.vr) same w.lasts in
+      let saved : left.promise ≡ w.saved = w.promise_is ∙ ap (λ (p : Option ℕ). later_of p w.saved) unsaved ∙ later_than_none w.saved in
+      record {
+        begins = record {
+          acts = subst (λ (s : Setup). Acts kinds_of most_of states_of suits (record left { work = resting left.work.state; promise = None }) kinds s) (sym setup)
+              (record { valid = w.acts.valid; own = w.acts.own; reach = w.acts.reach; stands = w.acts.stands; marks = w.acts.marks; saves = refl });
+          rests = refl;
+          unsaved = refl;
+        };
+        me = l.me ∙ h.me ∙ sym me;
+        controllers = l.controllers ∙ h.controllers ∙ ap (λ (s : Setup). s.controllers) (sym setup);
+        promise = l.promise_is ∙ ap (λ (n : ℕ). promised n w.saved) h.promise ∙ ap (λ (p : Option ℕ). promised c.promise p) (sym saved) ∙ sym promise;
+        life = l.life ∙ h.life ∙ sym life;
+        awake = l.awake h.awake;
+      }
+
+  -- one that goes down knows its stable pair alone
+  pub down_is : (c : Controlling A) (a : Acting A) (promise life : ℕ) → Stands kinds_of most_of states_of suits c kinds a → fresh (down_state c.me c.setup.controllers promise life) ≡ down a.work.state promise life
+  down_is c a promise life h = ap (λ (n : ℕ). fresh (down_state n c.setup.controllers promise life)) (sym h.me) ∙ ap (λ (n : ℕ). fresh (down_state a.work.state.vr.me n promise life)) (sym h.controllers)
+
+  last_of : {X : Type 0} (P : X → Type 0) (xs : List X) (x : X) → AllByRecursion P (xs ++ x ∷ []) → P x
+  last_of P [] x h = h.0
+  last_of P (y ∷ xs) x h = last_of P xs x h.1
+
+  pub last_alike : (all rest : List A) (last : Option A) (app : A) → AreAlike kinds_of most_of kinds all → all ≡ rest ++ option_to_list last → last ≡ Some app → (kinds_of app ≡ kinds) × (most_of app ≤ most_commands)
+  last_alike all rest last app h items is =
+      last_of (λ x. (kinds_of x ≡ kinds) × (most_of x ≤ most_commands)) rest app
+      (subst (λ (l : List A). AreAlike kinds_of most_of kinds l) (items ∙ ap (λ (o : Option A). rest ++ option_to_list o) is) h)
+
+  -- the member of a life that begins
+  pub born_is : (c : Controlling A) (life : ℕ) (a b : Acting A) (r : VrState) (out : VrOut) → Begins kinds_of most_of states_of suits a kinds c.setup → a.work.state ≡ fresh r →
+      Stepped (restarted c.me c.setup.controllers c.promise life) r out → b ≡ with_out a out → Born kinds_of most_of states_of suits c kinds life b
+  born_is c life a b r out h state did is =
+      let step = restarted c.me c.setup.controllers c.promise life in
+      let fresh_is : a.work.state ≡ fresh step.state = state ∙ ap (λ (v : VrState). fresh v) did.state_is in
+      let none : later_of a.promise out.promise ≡ None = ap (λ (p : Option ℕ). later_of p out.promise) h.unsaved ∙ later_than_none out.promise ∙ did.promise_is in
+      let letters : a.work.letters ++ to_members out.letters ≡ to_members step.letters = ap (λ (w : Work). w.letters ++ to_members out.letters) h.rests ∙ ap (λ (l : List VrLetter). to_members l) did.letters_are in
+      subst (λ (x : Acting A). Born kinds_of most_of states_of suits c kinds life x) (sym is)
+      (record {
+        acts = record { valid = h.acts.valid; own = h.acts.own; reach = h.acts.reach; stands = h.acts.stands; marks = h.acts.marks; saves = refl };
+        work_is = ap (λ (s : ControllerState). record { state = s; save = pair_with s.vr.life (later_of a.promise out.promise); letters = a.work.letters ++ to_members out.letters }) fresh_is
+            ∙ ap (λ (p : Option ℕ). record { state = fresh step.state; save = pair_with step.state.life p; letters = a.work.letters ++ to_members out.letters }) none
+            ∙ ap (λ (l : List (Letter ControllerSays)). record { state = fresh step.state; save = None; letters = l }) letters;
+        unsaved = none;
+      })
+
+  -- what a rule left, whose promise was saved
+  left_is : (c : Controlling A) (a left : Acting A) (promise : ℕ) (r : SaveResult) (new : Controlling A) → Stands kinds_of most_of states_of suits c kinds a →
+      new ≡ record c { promise = (standing r (promise, c.life) (c.promise, c.life)).0; life = (standing r (promise, c.life) (c.promise, c.life)).1; results = c.results ++ r ∷ []; acting = acting_by r left } →
+      state_of new ≡ left_by r a.work.state left.work (promise, c.life)
+  left_is c a left promise Saved new h is = ap (λ (x : Controlling A). state_of x) is
+  left_is c a left promise KeptOld new h is =
+      ap (λ (x : Controlling A). state_of x) is ∙ down_is c a c.promise c.life h ∙ ap (λ (n : ℕ). down a.work.state n c.life) (sym h.promise) ∙ ap (λ (n : ℕ). down a.work.state a.work.state.vr.promise n) (sym h.life)
+  left_is c a left promise KeptNew new h is = ap (λ (x : Controlling A). state_of x) is ∙ down_is c a promise c.life h
+
+  rule_is : (c : Controlling A) (a left : Acting A) (input : ControllerInput) → Stands kinds_of most_of states_of suits c kinds a →
+      Works kinds_of most_of states_of suits kinds c.setup (with_state a (with_no_met_limit a.work.state)) (on_input kinds c.setup (with_no_met_limit a.work.state) input) left →
+      left.work ≡ controller_work kinds c.setup a.work.state input
+  rule_is c a left input h w = w.work_is ∙ sym (awake_work kinds c.setup a.work.state input h.awake)
+
+  pub act_saved : (c : Controlling A) (a left : Acting A) (input : ControllerInput) (promise : ℕ) (letters : List (Letter ControllerSays)) (new : Controlling A) (pb pa : ℕ × ℕ) (fb fa : ℕ) →
+      Stands kinds_of most_of states_of suits c kinds a →
+      Works kinds_of most_of states_of suits kinds c.setup (with_state a (with_no_met_limit a.work.state)) (on_input kinds c.setup (with_no_met_limit a.work.state) input) left →
+      left.promise ≡ Some promise → Keeps left (promise, c.life) letters c new pb pa fb fa → Turns kinds (record c { acting = Some a }) input letters new pb pa fb fa
+  act_saved c a left input promise letters new pb pa fb fa h w is k =
+      let life : left.work.state.vr.life ≡ c.life = w.lasts.life ∙ h.life in
+      let save : left.work.save ≡ Some (promise, c.life) = w.acts.saves ∙ ap (λ (p : Option ℕ). pair_with left.work.state.vr.life p) is ∙ ap (λ (n : ℕ). pair_with n (Some promise)) life in
+      subst (λ (work : Work). Done a.work.state work work.save (state_of new) letters c.results new.results pb pa fb fa) (rule_is c a left input h w)
+      (subst (λ (s : Option (ℕ × ℕ)). Done a.work.state left.work s (state_of new) letters c.results new.results pb pa fb fa) (sym save)
+      (record { result = k.result; kept = ap (λ (x : Controlling A). x.results) k.left; saves = k.saves; state_is = left_is c a left promise k.result new h k.left; letters_are = k.letters_are }))
+
+  pub act_unsaved : (c : Controlling A) (a left : Acting A) (input : ControllerInput) (letters : List (Letter ControllerSays)) (new : Controlling A) (pair : ℕ × ℕ) (faults : ℕ) →
+      Stands kinds_of most_of states_of suits c kinds a →
+      Works kinds_of most_of states_of suits kinds c.setup (with_state a (with_no_met_limit a.work.state)) (on_input kinds c.setup (with_no_met_limit a.work.state) input) left →
+      left.promise ≡ None → letters ≡ left.work.letters → new ≡ record c { acting = Some (record left { work = resting left.work.state; promise = None }) } →
+      Turns kinds (record c { acting = Some a }) input letters new pair pair faults faults
+  act_unsaved c a left input letters new pair faults h w is letters_is new_is =
+      let save : left.work.save ≡ None = w.acts.saves ∙ ap (λ (p : Option ℕ). pair_with left.work.state.vr.life p) is in
+      subst (λ (work : Work). Done a.work.state work work.save (state_of new) letters c.results new.results pair pair faults faults) (rule_is c a left input h w)
+      (subst (λ (s : Option (ℕ × ℕ)). Done a.work.state left.work s (state_of new) letters c.results new.results pair pair faults faults) (sym save)
+      (record { kept = ap (λ (x : Controlling A). x.results) new_is; pair_is = refl; faults_are = refl; state_is = ap (λ (x : Controlling A). state_of x) new_is; letters_are = letters_is }))
+
+  pub act_crashed : (c : Controlling A) (a : Acting A) (input : ControllerInput) (letters : List (Letter ControllerSays)) (pair : ℕ × ℕ) (faults : ℕ) →
+      Stands kinds_of most_of states_of suits c kinds a → c.acting ≡ None → is_crash input ≡ true → letters ≡ [] →
+      Turns kinds (record c { acting = Some a }) input letters c pair pair faults faults
+  act_crashed c a input letters pair faults h off crash none =
+      let work = resting (down a.work.state a.work.state.vr.promise a.work.state.vr.life) in
+      let rule : work ≡ controller_work kinds c.setup a.work.state input = sym (awake_work kinds c.setup a.work.state input h.awake ∙ crash_work kinds c.setup (with_no_met_limit a.work.state) input crash) in
+      let state : state_of c ≡ work.state =
+      ap (λ (o : Option (Acting A)). state_of (record c { acting = o })) off ∙ down_is c a c.promise c.life h ∙ ap (λ (n : ℕ). down a.work.state n c.life) (sym h.promise) ∙ ap (λ (n : ℕ). down a.work.state a.work.state.vr.promise n) (sym h.life) in
+      subst (λ (w : Work). Done a.work.state w w.save (state_of c) letters c.results c.results pair pair faults faults) rule
+      (record { kept = refl; pair_is = refl; faults_are = refl; state_is = state; letters_are = none })
+
+  pub began_begins : (c : Controlling A) (a b : Acting A) → Stands kinds_of most_of states_of suits c kinds a → b ≡ with_state a (with_no_met_limit a.work.state) → Begins kinds_of most_of states_of suits b kinds c.setup
+  began_begins c a b h is =
+      let s = h.begins in
+      subst (λ (x : Acting A). Begins kinds_of most_of states_of suits x kinds c.setup) (sym is)
+      (record {
+        acts = record { valid = s.acts.valid; own = s.acts.own; reach = s.acts.reach; stands = s.acts.stands; marks = s.acts.marks; saves = s.acts.saves };
+        rests = ap (λ (w : Work). record w { state = with_no_met_limit a.work.state }) s.rests;
+        unsaved = s.unsaved;
+      })
+
+  -- what is kept of a controller after a turn
+  pub controls_kept : (c new : Controlling A) (a left : Acting A) (work : Work) → Controls kinds_of most_of states_of suits c kinds → Stands kinds_of most_of states_of suits c kinds a →
+      Works kinds_of most_of states_of suits kinds c.setup (with_state a (with_no_met_limit a.work.state)) work left → left.promise ≡ None →
+      new ≡ record c { acting = Some (record left { work = resting left.work.state; promise = None }) } → Controls kinds_of most_of states_of suits new kinds
+  controls_kept c new a left work k h w is new_is =
+      let now : Controlling A = record c { acting = Some (record left { work = resting left.work.state; promise = None }) } in
+      subst (λ (x : Controlling A). Controls kinds_of most_of states_of suits x kinds) (sym new_is)
+      (record {
+        setup = k.setup;
+        member = k.member;
+        acting = stands_again c now a (with_state a (with_no_met_limit a.work.state)) left work h refl h.begins.unsaved w refl refl (ap (λ (p : Option ℕ). promised c.promise p) (sym is)) refl;
+        shelf = k.shelf;
+      })
+
+  abbrev kept_by : Controlling A → Acting A → ℕ → SaveResult → Controlling A
+  kept_by c left promise r =
+      record c { promise = (standing r (promise, c.life) (c.promise, c.life)).0; life = (standing r (promise, c.life) (c.promise, c.life)).1; results = c.results ++ r ∷ []; acting = acting_by r left }
+
+  pub controls_saved : (c new : Controlling A) (a left : Acting A) (work : Work) (promise : ℕ) (letters : List (Letter ControllerSays)) (pb pa : ℕ × ℕ) (fb fa : ℕ) → Controls kinds_of most_of states_of suits c kinds →
+      Stands kinds_of most_of states_of suits c kinds a → Works kinds_of most_of states_of suits kinds c.setup (with_state a (with_no_met_limit a.work.state)) work left → left.promise ≡ Some promise →
+      Keeps left (promise, c.life) letters c new pb pa fb fa → Controls kinds_of most_of states_of suits new kinds
+  controls_saved c new a left work promise letters pb pa fb fa k h w is s = by_result s.result (subst (λ (x : Controlling A). Controls kinds_of most_of states_of suits x kinds) (sym s.left))
+    where
+      by_result : (r : SaveResult) → (Controls kinds_of most_of states_of suits (kept_by c left promise r) kinds → Controls kinds_of most_of states_of suits new kinds) → Controls kinds_of most_of states_of suits new kinds
+      by_result Saved go = go (record {
+        setup = k.setup;
+        member = k.member;
+        acting = stands_again c (kept_by c left promise Saved) a (with_state a (with_no_met_limit a.work.state)) left work h refl h.begins.unsaved w refl refl (ap (λ (p : Option ℕ). promised c.promise p) (sym is)) refl;
+        shelf = k.shelf;
+      })
+      by_result KeptOld go = go (record { setup = k.setup; member = k.member; acting = tt; shelf = k.shelf })
+      by_result KeptNew go = go (record { setup = k.setup; member = k.member; acting = tt; shelf = k.shelf })
+
+  -- a restart whose pair stands all the same
+  pub restart_kept_new : (c mid new : Controlling A) (letters : List (Letter ControllerSays)) (life : ℕ) (r : SaveResult) (pb pa : ℕ × ℕ) (fb fa : ℕ) → c.acting ≡ None → c.life < last_life → life ≡ c.life + 1 → mid ≡ record c { shelf = mid.shelf } →
+      r ≡ KeptNew → Saves r (mid.promise, life) pb pa fb fa →
+      new ≡ record mid { promise = (standing r (mid.promise, life) (mid.promise, mid.life)).0; life = (standing r (mid.promise, life) (mid.promise, mid.life)).1; results = mid.results ++ r ∷ [] } →
+      letters ≡ [] → Restarts c letters new pb pa fb fa
+  restart_kept_new c mid new letters life r pb pa fb fa off low life_is mid_is result_is saves new_is none =
+      let below = fresh (down_state c.me c.setup.controllers c.promise c.life) in
+      let work : Work = record (stepped below (restarted c.me c.setup.controllers c.promise (c.life + 1))) { save = Some (c.promise, c.life + 1) } in
+      let old : state_of c ≡ below = ap (λ (o : Option (Acting A)). state_of (record c { acting = o })) off in
+      let rule : work ≡ on_restart (state_of c) = sym (ap (λ (s : ControllerState). on_restart s) old ∙ ap (λ (b : Bool). if b then work else resting below) (lt-ltb c.life last_life low)) in
+      let promise : mid.promise ≡ c.promise = ap (λ (x : Controlling A). x.promise) mid_is in
+      let results : mid.results ≡ c.results = ap (λ (x : Controlling A). x.results) mid_is in
+      let told : new ≡ record c { shelf = mid.shelf; life = c.life + 1; results = c.results ++ KeptNew ∷ [] } =
+      new_is
+      ∙ ap (λ (x : SaveResult). record mid { promise = (standing x (mid.promise, life) (mid.promise, mid.life)).0; life = (standing x (mid.promise, life) (mid.promise, mid.life)).1; results = mid.results ++ x ∷ [] }) result_is
+      ∙ ap (λ (n : ℕ). record mid { life = n; results = mid.results ++ KeptNew ∷ [] }) life_is
+      ∙ ap (λ (l : List SaveResult). record mid { life = c.life + 1; results = l ++ KeptNew ∷ [] }) results
+      ∙ ap (λ (x : Controlling A). record x { life = c.life + 1; results = c.results ++ KeptNew ∷ [] }) mid_is in
+      let state : state_of new ≡ down (state_of c) c.promise (c.life + 1) =
+      ap (λ (x : Controlling A). state_of x) told ∙ ap (λ (o : Option (Acting A)). state_of (record c { acting = o; life = c.life + 1 })) off ∙ sym (ap (λ (s : ControllerState). down s c.promise (c.life + 1)) old) in
+      subst (λ (w : Work). Done (state_of c) w w.save (state_of new) letters c.results new.results pb pa fb fa) rule
+      (record {
+        result = KeptNew;
+        kept = ap (λ (x : Controlling A). x.results) told;
+        saves = subst (λ (x : SaveResult). Saves x (c.promise, c.life + 1) pb pa fb fa) result_is
+            (subst (λ (n : ℕ). Saves r (c.promise, n) pb pa fb fa) life_is (subst (λ (n : ℕ). Saves r (n, life) pb pa fb fa) promise saves));
+        state_is = state;
+        letters_are = none;
+      })
+
+  all_push : {X : Type 0} (P : X → Type 0) (xs : List X) (x : X) → AllByRecursion P xs → P x → AllByRecursion P (xs ++ x ∷ [])
+  all_push P [] x h p = (p, tt)
+  all_push P (y ∷ xs) x h p = (h.0, all_push P xs x h.1 p)
+
+  -- an application is put back
+  pub pushed_alike : (b : Bool) (xs ys : List A) (app : A) → AreAlike kinds_of most_of kinds xs → kinds_of app ≡ kinds → most_of app ≤ most_commands → ys ≡ (if b then xs ++ app ∷ [] else xs) → AreAlike kinds_of most_of kinds ys
+  pushed_alike true xs ys app h k m is = subst (λ (l : List A). AreAlike kinds_of most_of kinds l) (sym is) (all_push _ xs app h (k, m))
+  pushed_alike false xs ys app h k m is = subst (λ (l : List A). AreAlike kinds_of most_of kinds l) (sym is) h
+
+  pub controls_back : (c after : Controlling A) (shelf : List A) → Controls kinds_of most_of states_of suits c kinds → after.setup ≡ c.setup → after.me ≡ c.me → after.acting ≡ None → AreAlike kinds_of most_of kinds shelf →
+      Controls kinds_of most_of states_of suits (record after { shelf = shelf }) kinds
+  controls_back c after shelf h setup me off alike =
+      record {
+        setup = subst (λ (s : Setup). IsSetup s) (sym setup) h.setup;
+        member = subst (λ (n : ℕ). n < after.setup.controllers) (sym me) (subst (λ (s : Setup). c.me < s.controllers) (sym setup) h.member);
+        acting = subst (λ (o : Option (Acting A)). IfSome o (Stands kinds_of most_of states_of suits (record after { shelf = shelf }) kinds)) (sym off) tt;
+        shelf = alike;
+      }
+
+  pair_by : (c : Controlling A) (o : Option (Acting A)) → IfSome o (Stands kinds_of most_of states_of suits c kinds) → pair_in (state_or (fresh (down_state c.me c.setup.controllers c.promise c.life)) o) ≡ (c.promise, c.life)
+  pair_by c None h = refl
+  pair_by c (Some a) h = ap (λ (n : ℕ). (n, a.work.state.vr.life)) h.promise ∙ ap (λ (n : ℕ). (c.promise, n)) h.life
+
+  -- the stable pair of a controller is that of its state
+  pub pair_known : (c : Controlling A) → Controls kinds_of most_of states_of suits c kinds → pair_in (state_of c) ≡ (c.promise, c.life)
+  pair_known c h = pair_by c c.acting h.acting
+
+  -- what was taken out stands
+  pub taken_stands : (c : Controlling A) (a : Acting A) → Controls kinds_of most_of states_of suits c kinds → c.acting ≡ Some a →
+      Controls kinds_of most_of states_of suits (record c { acting = None }) kinds × Stands kinds_of most_of states_of suits (record c { acting = None }) kinds a
+  taken_stands c a h is =
+      let s = subst (λ (o : Option (Acting A)). IfSome o (Stands kinds_of most_of states_of suits c kinds)) is h.acting in (
+        record { setup = h.setup; member = h.member; acting = tt; shelf = h.shelf },
+        record { begins = s.begins; me = s.me; controllers = s.controllers; promise = s.promise; life = s.life; awake = s.awake },
+      )
+
+  down_work : (c : Controlling A) (input : ControllerInput) → controller_work kinds c.setup (state_of (record c { acting = None })) input ≡ when_down (state_of (record c { acting = None })) input
+  unfolding controller_work
+  down_work c input = refl
+
+  pub turn_restarts : (c : Controlling A) (input : ControllerInput) (letters : List (Letter ControllerSays)) (new : Controlling A) (pb pa : ℕ × ℕ) (fb fa : ℕ) → c.acting ≡ None → is_restart input ≡ true →
+      Restarts (record c { acting = None }) letters new pb pa fb fa → Turns kinds c input letters new pb pa fb fa
+  turn_restarts c input letters new pb pa fb fa off is h =
+      subst (λ (o : Option (Acting A)). Turns kinds (record c { acting = o }) input letters new pb pa fb fa) (sym off)
+      (subst (λ (w : Work). Done (state_of (record c { acting = None })) w w.save (state_of new) letters c.results new.results pb pa fb fa)
+      (sym (down_work c input ∙ restart_rule (state_of (record c { acting = None })) input is)) h)
+
+  pub turn_drops : (c new : Controlling A) (input : ControllerInput) (letters : List (Letter ControllerSays)) (pair : ℕ × ℕ) (faults : ℕ) → c.acting ≡ None → is_restart input ≡ false → letters ≡ [] →
+      new ≡ record c { acting = None } → Turns kinds c input letters new pair pair faults faults
+  turn_drops c new input letters pair faults off is none new_is =
+      subst (λ (o : Option (Acting A)). Turns kinds (record c { acting = o }) input letters new pair pair faults faults) (sym off)
+      (subst (λ (w : Work). Done (state_of (record c { acting = None })) w w.save (state_of new) letters c.results new.results pair pair faults faults)
+      (sym (down_work c input ∙ drop_rule (state_of (record c { acting = None })) input is))
+      (record { kept = ap (λ (x : Controlling A). x.results) new_is; pair_is = refl; faults_are = refl; state_is = ap (λ (x : Controlling A). state_of x) new_is; letters_are = none }))
+
+-- a pair was saved, and its controller knows it
+pub knows_saved : {A : Type 0} (c new : Controlling A) (r : SaveResult) (saved pb pa : ℕ × ℕ) (fb fa : ℕ) → Saves r saved pb pa fb fa →
+    new.promise ≡ (standing r saved (c.promise, c.life)).0 → new.life ≡ (standing r saved (c.promise, c.life)).1 → KnowsPair c new pb pa
+knows_saved c new r saved pb pa fb fa s promise life known =
+    s.pair ∙ ap (λ (p : ℕ × ℕ). standing r saved p) known ∙ ap (λ (n : ℕ). (n, (standing r saved (c.promise, c.life)).1)) (sym promise) ∙ ap (λ (n : ℕ). (new.promise, n)) (sym life)
+
+pub knows_kept : {A : Type 0} (a : Acting A) (saved : ℕ × ℕ) (letters : List (Letter ControllerSays)) (c new : Controlling A) (pb pa : ℕ × ℕ) (fb fa : ℕ) → Keeps a saved letters c new pb pa fb fa → KnowsPair c new pb pa
+knows_kept a saved letters c new pb pa fb fa k =
+    knows_saved c new k.result saved pb pa fb fa k.saves (ap (λ (x : Controlling _). x.promise) k.left) (ap (λ (x : Controlling _). x.life) k.left)
+
+-- whichever a result is
+pub whichever : {X E : Type 0} (r : Result X E) (P : X → Type 0) (Q R : Type 0) → IfOk r P → OnErr r Q → ((x : X) → P x → R) → (Q → R) → R
+whichever (Ok x) P Q R ok err f g = f x ok
+whichever (Err e) P Q R ok err f g = g err

@@ -1,0 +1,7 @@
+pub mod Acting
+pub mod Answering
+pub mod Controlling
+pub mod Events
+pub mod Finishing
+pub mod Lists
+pub mod Settling

@@ -1,0 +1,34 @@
+use Rattle.std.proofs.Common.{rules, ◌≤◌, ◌+◌, ◌∷◌, [], ◌++◌, ap, subst, sym, ◌∙◌}
+use Rattle.rv_base.specs.Stables.{standing}
+use Rattle.dispatcher.specs.Ledger.{most_commands}
+use Rattle.group_controller.specs.Turns.{AreAlike, Controlling, Saves}
+use Rattle.group_controller.proofs.Controlling.{controls_back, pushed_alike, restart_kept_new}
+use Rattle.group_controller.proofs.controller.Controller.restart.Goals as goal
+
+pub returns-in-KeptNew-clause-turn : goal.returns-in-KeptNew-clause-turn
+returns-in-KeptNew-clause-turn g c = λ kinds controls.
+    let life = c.self.inside.life + 1 in
+    let mid = c.born.new.self in
+    let r = c.in_ok-save.field-0 in
+    let saves = subst (λ (x : Controlling _). Saves r (x.promise, life) (g.W.Stable.pair c.args.stable.now) (g.W.Stable.pair c.save-2.new.stable) (g.W.Stable.faults c.args.stable.now) (g.W.Stable.faults c.save-2.new.stable)) c.save.view_is c.in_ok-save.ensures.saves in
+    let left = c.in_ok-save.ensures.left
+    ∙ ap (λ (x : Controlling _). record mid { promise = (standing r (x.promise, life) (mid.promise, mid.life)).0; life = (standing r (x.promise, life) (mid.promise, mid.life)).1; results = mid.results ++ r ∷ [] }) c.save.view_is in
+    restart_kept_new g.A.App.kinds g.A.App.most g.A.App.states g.A.App.suits kinds c.args.self.now mid c.save-2.new.self c.new-in-KeptNew.result life r (g.W.Stable.pair c.args.stable.now) (g.W.Stable.pair c.save-2.new.stable) (g.W.Stable.faults c.args.stable.now) (g.W.Stable.faults c.save-2.new.stable)
+    c.requires.down (search rules) (ap (λ (x : Controlling _). x.life + 1) c.self.view_is) c.in_ok-active.ensures.shelf c.in-KeptNew.is saves left c.new-in-KeptNew.ensures
+
+pub returns-in-KeptOld-clause-controls : goal.returns-in-KeptOld-clause-controls
+returns-in-KeptOld-clause-controls g c = λ kinds controls.
+    let born = c.in_ok-active.ensures.born kinds controls in
+    let alike = c.in_ok-active.ensures.alike kinds controls in
+    let mid_is = c.in_ok-active.ensures.shelf in
+    let after_is = c.self-in-KeptOld.view_is ∙ c.in_ok-save.ensures.left in
+    let before = subst (λ (x : Controlling _). AreAlike g.A.App.kinds g.A.App.most kinds x.shelf) (sym after_is) alike in
+    let kind = ap g.A.App.kinds c.into_app.ensures ∙ born.acts.stands.kind in
+    let few = subst (λ a. g.A.App.most a ≤ most_commands) (sym c.into_app.ensures) born.acts.stands.few in
+    let i = c.self-in-KeptOld.inside in
+    let after : Controlling _ = record { setup = i.setup; me = i.me; promise = i.promise; life = i.life; acting = i.active; shelf = i.shelf.items; results = i.results.items } in
+    controls_back g.A.App.kinds g.A.App.most g.A.App.states g.A.App.suits kinds c.args.self.now after c.push.new.self.items controls
+    (ap (λ (x : Controlling _). x.setup) after_is ∙ ap (λ (x : Controlling _). x.setup) mid_is)
+    (ap (λ (x : Controlling _). x.me) after_is ∙ ap (λ (x : Controlling _). x.me) mid_is)
+    (ap (λ (x : Controlling _). x.acting) after_is ∙ ap (λ (x : Controlling _). x.acting) mid_is ∙ c.requires.down)
+    (pushed_alike g.A.App.kinds g.A.App.most g.A.App.states g.A.App.suits kinds _ _ c.push.new.self.items c.into_app.result before kind few c.push.ensures.items)

@@ -1,0 +1,90 @@
+-- A controller that is not down, as the contracts of its rules see it.
+use Rattle.std.specs.Prelude.{◌≡◌, ◌≤◌, ℕ, List, [], ◌∷◌, ◌++◌, map, take, drop, Option, None, option_map, if◌then◌else◌}
+use Rattle.of_types.specs.declared.setup.Setup.{Setup}
+use Rattle.of_types.specs.Lives.{has_ended}
+use Rattle.rv_base.specs.declared.journal.Letter.{Letter}
+use Rattle.vr_log.specs.declared.state.VrOut.{VrOut}
+use Rattle.vr_log.specs.Log.{received}
+use Rattle.vr_log.specs.Steps.{later_of}
+use Rattle.vr_log.specs.Valid.{IsValid}
+use Rattle.vr_core.specs.Lasting.{CollectsItsOwn, Lasts}
+use Rattle.dispatcher.specs.declared.answers.Handled.{Handled}
+use Rattle.dispatcher.specs.declared.answers.Through.{Through}
+use Rattle.dispatcher.specs.Folding.{acknowledgement, clears, places_processed}
+use Rattle.dispatcher.specs.Ledger.{AreHandledAt, Dispatching, StandsFor}
+use Rattle.group_controller.specs.declared.messages.ControllerSays.{ControllerSays}
+use Rattle.group_controller.specs.Settling.{ack_letter, clear_letter}
+use Rattle.group_controller.specs.State.{ControllerState, Work, committed, posting, resting, to_members}
+
+-- the turn as far as it was done, the promise that is to be saved, and the dispatcher
+pub record Acting (A : Type 0) : Type 0 where
+  pub work : Work
+  pub promise : Option ℕ
+  pub dispatcher : Dispatching A
+
+-- a promise is saved beside the life
+abbrev pub pair_with : ℕ → Option ℕ → Option (ℕ × ℕ)
+pair_with life promise = option_map (λ p. (p, life)) promise
+
+-- letters go behind those that are there
+abbrev pub posts : {A : Type 0} → Acting A → List (Letter ControllerSays) → Acting A
+posts a letters = record a { work = posting a.work letters }
+
+abbrev pub with_state : {A : Type 0} → Acting A → ControllerState → Acting A
+with_state a state = record a { work = record a.work { state = state } }
+
+-- what a step of the member wants to be saved and sent
+abbrev pub with_out : {A : Type 0} → Acting A → VrOut → Acting A
+with_out a out =
+    record a {
+      work = record a.work { save = pair_with a.work.state.vr.life (later_of a.promise out.promise); letters = a.work.letters ++ to_members out.letters };
+      promise = later_of a.promise out.promise;
+    }
+
+-- what answers an event that is processed, once so much is committed
+abbrev pub acknowledges_of : ControllerState → Handled → List Through
+acknowledges_of c h = if has_ended h.switch h.life (received (committed c)) then [] else acknowledgement (committed c) h.switch h.life ∷ []
+
+abbrev pub answers_to : List ℕ → Setup → ControllerState → Handled → List (Letter ControllerSays)
+answers_to kinds setup c h = map ack_letter (acknowledges_of c h) ++ map clear_letter (clears kinds setup (committed c) h.commands)
+
+-- these were newly committed as processed, behind so many entries
+abbrev pub AreNew : List ℕ → Setup → ControllerState → ℕ → List Handled → Type 0
+AreNew kinds setup c before handled = AreHandledAt kinds setup (committed c) (places_processed (drop before (committed c))) handled
+
+-- The member is valid, and the dispatcher stands for its log up to a place.
+pub record ActsUpTo {A : Type 0} (kinds_of : A → List ℕ) (most_of : A → ℕ) (states_of : A → List (List ℕ)) (suits : A → Setup → Type 0)
+    (place : ℕ) (a : Acting A) (kinds : List ℕ) (setup : Setup) : Type 0 where
+  pub valid : IsValid a.work.state.vr
+  pub own : CollectsItsOwn a.work.state.vr
+  pub reach : place ≤ a.work.state.vr.commit
+  pub stands : StandsFor kinds_of most_of states_of suits a.dispatcher kinds setup (take place a.work.state.vr.log)
+  pub marks : a.work.state.marks ≡ a.dispatcher.marks
+  pub saves : a.work.save ≡ pair_with a.work.state.vr.life a.promise
+
+-- The dispatcher stands for all that is committed: so it is where a rule begins, and where it ends.
+abbrev pub Acts : {A : Type 0} → (A → List ℕ) → (A → ℕ) → (A → List (List ℕ)) → (A → Setup → Type 0) → Acting A → List ℕ → Setup → Type 0
+Acts kinds_of most_of states_of suits a kinds setup = ActsUpTo kinds_of most_of states_of suits a.work.state.vr.commit a kinds setup
+
+-- the turn begins: nothing is saved or posted
+pub record Begins {A : Type 0} (kinds_of : A → List ℕ) (most_of : A → ℕ) (states_of : A → List (List ℕ)) (suits : A → Setup → Type 0)
+    (a : Acting A) (kinds : List ℕ) (setup : Setup) : Type 0 where
+  pub acts : Acts kinds_of most_of states_of suits a kinds setup
+  pub rests : a.work ≡ resting a.work.state
+  pub unsaved : a.promise ≡ None
+
+-- whatever the kinds of its application are, and the setup
+abbrev pub ForEachGroup : (List ℕ → Setup → Type 0) → (List ℕ → Setup → Type 0) → Type 0
+ForEachGroup acts says = (kinds : List ℕ) (setup : Setup) → acts kinds setup → says kinds setup
+
+abbrev pub InSomeGroup : (List ℕ → Setup → Type 0) → Type 0
+InSomeGroup acts = (kinds : List ℕ) × (setup : Setup) × acts kinds setup
+
+-- A rule was done: this is its work, and what was committed stays.
+pub record Works {A : Type 0} (kinds_of : A → List ℕ) (most_of : A → ℕ) (states_of : A → List (List ℕ)) (suits : A → Setup → Type 0)
+    (kinds : List ℕ) (setup : Setup) (old : Acting A) (work : Work) (new : Acting A) : Type 0 where
+  pub acts : Acts kinds_of most_of states_of suits new kinds setup
+  pub work_is : new.work ≡ work
+  pub saved : Option ℕ
+  pub lasts : Lasts old.work.state.vr saved new.work.state.vr
+  pub promise_is : new.promise ≡ later_of old.promise saved

@@ -1,0 +1,5 @@
+pub mod State
+pub mod Settling
+pub mod Rules
+pub mod Acting
+pub mod Turns

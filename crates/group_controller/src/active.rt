@@ -1,0 +1,487 @@
+//! A controller that is not down: a member of its group, with the dispatcher of its life.
+ghost use Rattle.std.specs.Prelude.{◌≡◌, ◌≤◌, ◌∷◌, [], true, false, ◌&&◌, not, nat_eq, ℕ, None, map, flat_map, IfOk, OnOk};
+ghost use Rattle.of_types.specs.declared.setup.Setup.{Setup};
+ghost use Rattle.of_types.specs.Setups.{IsSetup};
+ghost use Rattle.vr_log.specs.Log.{may_follow};
+ghost use Rattle.vr_log.specs.Members as members;
+ghost use Rattle.vr_log.specs.Valid.{IsValid};
+ghost use Rattle.vr_core.specs.Lasting.{CollectsItsOwn};
+ghost use Rattle.vr_core.specs.Step.{vr_step};
+ghost use Rattle.dispatcher.specs.Ledger.{most_commands};
+ghost use Rattle.group_controller.specs.Acting.{Acts, ActsUpTo, answers_to, AreNew, Begins, ForEachGroup, InSomeGroup, posts, with_out, with_state, Works};
+ghost use Rattle.group_controller.specs.Rules as rules;
+ghost use Rattle.group_controller.specs.Rules.{after_step, starting_view, unconfirmed};
+ghost use Rattle.group_controller.specs.Settling as settling;
+ghost use Rattle.group_controller.specs.Settling.{after_finishing, after_proposal, command_letter, finishing, goes_on, role_letter, with_commands};
+ghost use Rattle.group_controller.specs.State.{fresh, resting, with_no_met_limit};
+
+use crate::letters::{ack_letter, add_clears, add_commands, add_members, role_letter, to_switch};
+use crate::messages::{ControllerInput, ControllerSays};
+use app_core::App;
+use dispatcher::{Dispatcher, Handled, Numbered, Through, Wish};
+use of_types::{Event, Extension, MASTER, Octets, OfMessage, Setup, Spoken};
+use rv_base::{Letter, Letters, Local};
+use std::alloc::{AllocError, Global};
+use std::marker::Model;
+use std::mem::replace;
+use vr_core::{Replica, VrInput};
+use vr_log::{Entry, LogFull, Status, VrOut};
+use vr_normal::ProposeFault;
+
+/// A member of the group, the dispatcher that stands for its committed log, the event whose commands were last sent in
+/// this view, and of its turn: the proposal that met the log's limit, the promise that is to be saved before anything is
+/// posted, and what is then posted. At want of memory it is to be dropped.
+#[derive(Drop)]
+pub(crate) struct Active<A> {
+    pub(crate) replica: Replica,
+    dispatcher: Dispatcher<A>,
+    last_told: Option<u64>,
+    pub(crate) full: Option<LogFull>,
+    pub(crate) promise: Option<u32>,
+    letters: Letters<ControllerSays>,
+}
+
+impl<A> Model for Active<A> {
+    ghost use Rattle.group_controller.specs.Acting.{Acting, pair_with};
+
+    ghost Value = { Acting A };
+
+    ghost view = { λ a. record {
+      work = record {
+        state = record { vr = a.replica; marks = a.dispatcher.marks; last_told = a.last_told; full = a.full };
+        save = pair_with a.replica.life a.promise;
+        letters = a.letters;
+      };
+      promise = a.promise;
+      dispatcher = a.dispatcher;
+    } };
+}
+
+/// Whether a member started a view, by whether it led before, and in which view.
+fn has_started(led: bool, before: u32, leads: bool, now: u32) -> bool
+    ensures { result ≡ (leads && not (led && nat_eq before now)) }
+{
+    leads && !(led && before == now)
+}
+
+impl<A: App> Active<A> {
+    /// A member that knows no committed entry, with the application of its life.
+    pub(crate) fn new(
+        alloc: Global,
+        setup: &Setup,
+        replica: Replica,
+        app: A,
+    ) -> Result<Active<A>, AllocError>
+        requires setup { IsSetup setup.now }
+        requires few { A.most app ≤ most_commands }
+        requires valid { IsValid replica }
+        requires own { CollectsItsOwn replica }
+        requires none { replica.commit ≡ 0 }
+        ensures begins { IfOk result (λ a. Begins A.kinds A.most A.states A.suits a (A.kinds app) setup.now) }
+        ensures state { IfOk result (λ a. a.work.state ≡ fresh replica) }
+    {
+        Ok(Active {
+            replica,
+            dispatcher: Dispatcher::new(alloc, app, setup)?,
+            last_told: None,
+            full: None,
+            promise: None,
+            letters: Letters::new(alloc),
+        })
+    }
+
+    fn post(&mut self, letter: Letter<ControllerSays>) -> Result<(), AllocError>
+        ensures { OnOk result (self.new ≡ posts self.old (letter ∷ [])) }
+    {
+        self.letters.push(letter)?;
+        Ok(())
+    }
+
+    /// What a step of the member wants to be saved and sent.
+    pub(crate) fn take(&mut self, out: VrOut) -> Result<(), AllocError>
+        ensures { OnOk result (self.new ≡ with_out self.old out) }
+    {
+        if let Some(view) = out.promise {
+            self.promise = Some(view);
+        }
+        add_members(&mut self.letters, out.letters)
+    }
+
+    /// The application takes what was committed behind so many entries. What is processed of it comes back.
+    fn fold_behind(&mut self, before: u64) -> Result<Vec<Handled>, AllocError>
+        requires valid { IsValid self.old.work.state.vr }
+        requires reach { before ≤ self.old.work.state.vr.commit }
+        ensures folds { ForEachGroup (ActsUpTo A.kinds A.most A.states A.suits before self.old) (λ kinds setup.
+            IfOk result (λ handled. AreNew kinds setup self.new.work.state before handled.items × Acts A.kinds A.most A.states A.suits self.new kinds setup)) }
+        ensures work { self.new.work ≡ self.old.work }
+        ensures promise { self.new.promise ≡ self.old.promise }
+    {
+        let committed = self.replica.committed() as usize;
+        let entries = &self.replica.log().as_slice()[before as usize..committed];
+        self.dispatcher.fold_each(entries)
+    }
+
+    /// An event that is processed is answered.
+    fn answer(&mut self, handled: &Handled) -> Result<(), AllocError>
+        ensures { ForEachGroup (Acts A.kinds A.most A.states A.suits self.old) (λ kinds setup. OnOk result (self.new ≡ posts self.old (answers_to kinds setup self.old.work.state handled.now))) }
+    {
+        if let Some(told) = self.dispatcher.acknowledgement(handled) {
+            self.post(ack_letter(told))?;
+        }
+        let clears = self.dispatcher.clears(handled)?;
+        add_clears(&mut self.letters, clears)
+    }
+
+    /// Settle, first step: events that are processed are answered.
+    fn answer_each(&mut self, processed: &[Handled]) -> Result<(), AllocError>
+        ensures { ForEachGroup (Acts A.kinds A.most A.states A.suits self.old) (λ kinds setup. OnOk result (self.new ≡ posts self.old (flat_map (answers_to kinds setup self.old.work.state) processed.now))) }
+    {
+        'processed: for handled in processed {
+            self.answer(handled)?;
+        }
+        Ok(())
+    }
+
+    fn send(&mut self, commands: Vec<Numbered>) -> Result<(), AllocError>
+        ensures { OnOk result (self.new ≡ posts self.old (map (command_letter self.old.work.state.vr.view) commands.items)) }
+    {
+        add_commands(&mut self.letters, self.replica.view(), commands)
+    }
+
+    /// The commands of this event were the last that went out in this view.
+    fn was_told(&self, place: u64) -> bool
+        ensures { result ≡ settling.is_some_of place self.now.work.state.last_told }
+    {
+        match self.last_told {
+            Some(told) => told == place,
+            None => false,
+        }
+    }
+
+    /// Settle, second step: the commands of the first unprocessed event go out, where they were not the last that did
+    /// in this view.
+    fn send_untold(&mut self) -> Result<(), AllocError>
+        ensures { ForEachGroup (Acts A.kinds A.most A.states A.suits self.old) (λ kinds setup. OnOk result (Works A.kinds A.most A.states A.suits kinds setup self.old (with_commands kinds setup self.old.work) self.new)) }
+    {
+        let place = self.dispatcher.processed();
+        if self.dispatcher.has_unprocessed() && !self.was_told(place) {
+            let commands = self.dispatcher.outstanding()?;
+            self.send(commands)?;
+            self.last_told = Some(place);
+        }
+        Ok(())
+    }
+
+    /// The first unprocessed event is finished, and not yet proposed as processed.
+    fn is_settled(&self) -> bool
+        ensures { ForEachGroup (Acts A.kinds A.most A.states A.suits self.now) (λ kinds setup. result ≡ settling.is_settled kinds setup self.now.work.state) }
+    {
+        self.dispatcher.finished() && self.replica.log().processed() <= self.dispatcher.processed()
+    }
+
+    /// What a controller alone in its group commits at once is answered, and its next commands go out.
+    fn follow(&mut self, before: u64) -> Result<(), AllocError>
+        requires valid { IsValid self.old.work.state.vr }
+        requires reach { before ≤ self.old.work.state.vr.commit }
+        ensures { ForEachGroup (ActsUpTo A.kinds A.most A.states A.suits before self.old) (λ kinds setup.
+            OnOk result (Works A.kinds A.most A.states A.suits kinds setup self.old (with_commands kinds setup (settling.with_answers kinds setup before self.old.work)) self.new)) }
+    {
+        let processed = self.fold_behind(before)?;
+        self.answer_each(&processed)?;
+        self.send_untold()
+    }
+
+    /// Proposes an entry. A controller alone in its group commits it at once: then there may be more to settle, which
+    /// is told. Past the limits of the log it doesn't join.
+    fn propose(&mut self, entry: Entry) -> Result<bool, AllocError>
+        requires acts { InSomeGroup (Acts A.kinds A.most A.states A.suits self.old) }
+        requires leads { members.leads self.old.work.state.vr ≡ true }
+        requires follows { may_follow self.old.work.state.vr.log entry ≡ true }
+        ensures { ForEachGroup (Acts A.kinds A.most A.states A.suits self.old) (λ kinds setup. IfOk result (λ again.
+            (again ≡ goes_on self.old.work.state entry) × Works A.kinds A.most A.states A.suits kinds setup self.old (after_proposal kinds setup self.old.work entry) self.new)) }
+    {
+        let before = self.replica.committed();
+        match self.replica.propose(entry) {
+            Ok(out) => self.take(out)?,
+            Err(ProposeFault::LogFull(full)) => self.full = Some(full),
+            Err(ProposeFault::NotPrimary) => return Ok(false),
+            Err(ProposeFault::OutOfMemory) => return Err(AllocError),
+        }
+        if self.replica.committed() == before {
+            return Ok(false);
+        }
+        self.follow(before)?;
+        Ok(true)
+    }
+
+    /// Settle, third step: the first unprocessed event is proposed as processed where it is finished, so many times at
+    /// most.
+    fn finish(&mut self, more: u64) -> Result<(), AllocError>
+        requires acts { InSomeGroup (Acts A.kinds A.most A.states A.suits self.old) }
+        requires leads { members.leads self.old.work.state.vr ≡ true }
+        ensures { ForEachGroup (Acts A.kinds A.most A.states A.suits self.old) (λ kinds setup. OnOk result (Works A.kinds A.most A.states A.suits kinds setup self.old (finishing more kinds setup self.old.work) self.new)) }
+    {
+        if more == 0 || !self.is_settled() {
+            return Ok(());
+        }
+        let place = self.dispatcher.processed();
+        if self.propose(Entry::Processed(place))? {
+            self.finish(more - 1)
+        } else {
+            Ok(())
+        }
+    }
+
+    fn finish_all(&mut self) -> Result<(), AllocError>
+        requires acts { InSomeGroup (Acts A.kinds A.most A.states A.suits self.old) }
+        requires leads { members.leads self.old.work.state.vr ≡ true }
+        ensures { ForEachGroup (Acts A.kinds A.most A.states A.suits self.old) (λ kinds setup. OnOk result (Works A.kinds A.most A.states A.suits kinds setup self.old (after_finishing kinds setup self.old.work) self.new)) }
+    {
+        let most = self.replica.log().received();
+        self.finish(most)
+    }
+
+    /// Settle: these events were newly committed as processed.
+    fn settle(&mut self, processed: &[Handled]) -> Result<(), AllocError>
+        requires acts { InSomeGroup (Acts A.kinds A.most A.states A.suits self.old) }
+        requires leads { members.leads self.old.work.state.vr ≡ true }
+        ensures { ForEachGroup (Acts A.kinds A.most A.states A.suits self.old) (λ kinds setup. (before : ℕ) → AreNew kinds setup self.old.work.state before processed.now →
+            OnOk result (Works A.kinds A.most A.states A.suits kinds setup self.old (settling.settling kinds setup before self.old.work) self.new)) }
+    {
+        self.answer_each(processed)?;
+        self.send_untold()?;
+        self.finish_all()
+    }
+
+    /// Each switch that did not take this controller as master in this view is asked for its role.
+    fn ask_unconfirmed(&mut self) -> Result<(), AllocError>
+        ensures { ForEachGroup (Acts A.kinds A.most A.states A.suits self.old) (λ kinds setup. OnOk result (self.new ≡ posts self.old (map (role_letter self.old.work.state.vr.view) (unconfirmed setup self.old.work.state)))) }
+    {
+        'switches: for switch in 0..self.dispatcher.switches() {
+            if !self.dispatcher.confirmed(switch) {
+                let view = self.replica.view();
+                self.post(role_letter(view, switch))?;
+            }
+        }
+        Ok(())
+    }
+
+    /// The member started a view: what came in earlier ones is forgotten, and each switch is asked for its role. What
+    /// the view begins with as processed is not answered.
+    fn start_view(&mut self) -> Result<(), AllocError>
+        requires acts { InSomeGroup (Acts A.kinds A.most A.states A.suits self.old) }
+        requires leads { members.leads self.old.work.state.vr ≡ true }
+        ensures { ForEachGroup (Acts A.kinds A.most A.states A.suits self.old) (λ kinds setup. OnOk result (Works A.kinds A.most A.states A.suits kinds setup self.old (starting_view kinds setup self.old.work) self.new)) }
+    {
+        self.dispatcher.begin_view();
+        self.last_told = None;
+        self.ask_unconfirmed()?;
+        self.settle(&[])
+    }
+
+    /// A step of the member: a primary settles where it started a view, and where more is committed.
+    fn step(&mut self, input: &VrInput) -> Result<(), AllocError>
+        requires begins { InSomeGroup (Begins A.kinds A.most A.states A.suits self.old) }
+        ensures { ForEachGroup (Begins A.kinds A.most A.states A.suits self.old) (λ kinds setup.
+            OnOk result (Works A.kinds A.most A.states A.suits kinds setup self.old (after_step kinds setup self.old.work.state (vr_step self.old.work.state.vr input.now)) self.new)) }
+    {
+        let led = self.replica.leads();
+        let view = self.replica.view();
+        let before = self.replica.committed();
+        let out = self.replica.step(input)?;
+        self.take(out)?;
+        let processed = self.fold_behind(before)?;
+        let leads = self.replica.leads();
+        let now = self.replica.view();
+        if has_started(led, view, leads, now) {
+            return self.start_view();
+        }
+        if !leads {
+            return Ok(());
+        }
+        if before < self.replica.committed() {
+            self.settle(&processed)
+        } else {
+            Ok(())
+        }
+    }
+
+    /// Time passes: what switches have not answered is sent again.
+    fn tick(&mut self) -> Result<(), AllocError>
+        requires begins { InSomeGroup (Begins A.kinds A.most A.states A.suits self.old) }
+        ensures { ForEachGroup (Begins A.kinds A.most A.states A.suits self.old) (λ kinds setup. OnOk result (Works A.kinds A.most A.states A.suits kinds setup self.old (rules.on_tick kinds setup self.old.work.state) self.new)) }
+    {
+        let out = self.replica.step(&VrInput::Tick)?;
+        self.take(out)?;
+        if self.replica.leads() {
+            self.ask_unconfirmed()?;
+            let commands = self.dispatcher.outstanding()?;
+            self.send(commands)?;
+        }
+        Ok(())
+    }
+
+    /// An event comes: one that may follow is proposed, and one that was processed is acknowledged.
+    fn on_event(&mut self, event: Event) -> Result<(), AllocError>
+        requires begins { InSomeGroup (Begins A.kinds A.most A.states A.suits self.old) }
+        requires leads { members.leads self.old.work.state.vr ≡ true }
+        ensures { ForEachGroup (Begins A.kinds A.most A.states A.suits self.old) (λ kinds setup. OnOk result (Works A.kinds A.most A.states A.suits kinds setup self.old (rules.on_event kinds setup self.old.work.state event) self.new)) }
+    {
+        match self.dispatcher.on_event(&event, self.replica.log()) {
+            Wish::Propose => {
+                if self.propose(Entry::Received(event))? {
+                    self.finish_all()
+                } else {
+                    Ok(())
+                }
+            }
+            Wish::Acknowledge { through } => self.post(ack_letter(Through {
+                switch: event.switch,
+                life: event.life,
+                through,
+            })),
+            Wish::Nothing => Ok(()),
+        }
+    }
+
+    /// A result comes: where its command waits for one, the event may be finished.
+    fn on_result(&mut self, switch: u8, life: u32, number: u64) -> Result<(), AllocError>
+        requires begins { InSomeGroup (Begins A.kinds A.most A.states A.suits self.old) }
+        requires leads { members.leads self.old.work.state.vr ≡ true }
+        ensures { ForEachGroup (Begins A.kinds A.most A.states A.suits self.old) (λ kinds setup. OnOk result (Works A.kinds A.most A.states A.suits kinds setup self.old (rules.on_result kinds setup self.old.work.state switch life number) self.new)) }
+    {
+        if self.dispatcher.on_result(switch, life, number)? {
+            self.finish_all()
+        } else {
+            Ok(())
+        }
+    }
+
+    /// A switch takes this controller as master: it gets its commands.
+    fn on_role_reply(&mut self, switch: u8, role: u32, generation: u64) -> Result<(), AllocError>
+        ensures { ForEachGroup (Begins A.kinds A.most A.states A.suits self.old) (λ kinds setup. OnOk result (Works A.kinds A.most A.states A.suits kinds setup self.old (rules.on_role_reply kinds setup self.old.work.state switch role generation) self.new)) }
+    {
+        if role != MASTER || generation != u64::from(self.replica.view()) {
+            return Ok(());
+        }
+        self.dispatcher.on_role(switch);
+        let commands = self.dispatcher.outstanding_on(switch)?;
+        self.send(commands)
+    }
+
+    /// A switch greets: it may have lost its state, and is asked again.
+    fn on_hello(&mut self, switch: u8) -> Result<(), AllocError>
+        ensures { ForEachGroup (Begins A.kinds A.most A.states A.suits self.old) (λ kinds setup. OnOk result (Works A.kinds A.most A.states A.suits kinds setup self.old (rules.on_hello self.old.work.state switch) self.new)) }
+    {
+        self.dispatcher.off_role(switch);
+        let view = self.replica.view();
+        self.post(role_letter(view, switch))
+    }
+
+    /// What a switch says to a primary.
+    fn on_spoken(&mut self, switch: u8, message: Spoken) -> Result<(), AllocError>
+        requires begins { InSomeGroup (Begins A.kinds A.most A.states A.suits self.old) }
+        requires leads { members.leads self.old.work.state.vr ≡ true }
+        ensures { ForEachGroup (Begins A.kinds A.most A.states A.suits self.old) (λ kinds setup. OnOk result (Works A.kinds A.most A.states A.suits kinds setup self.old (rules.on_spoken kinds setup self.old.work.state switch message) self.new)) }
+    {
+        match message {
+            Spoken::Plain(OfMessage::RoleReply { role, generation }) => {
+                self.on_role_reply(switch, role, generation)
+            }
+            Spoken::Plain(OfMessage::Hello) => self.on_hello(switch),
+            Spoken::Ravana(Extension::Event { life, number, what }) => self.on_event(Event {
+                switch,
+                life,
+                number,
+                what,
+            }),
+            Spoken::Ravana(Extension::CmdAck { life, number, .. }) => {
+                self.on_result(switch, life, number)
+            }
+            _ => Ok(()),
+        }
+    }
+
+    /// Whether it takes part in views: it is not recovering.
+    fn is_up(&self) -> bool
+        ensures { result ≡ members.is_up self.now.work.state.vr }
+    {
+        match self.replica.status() {
+            Status::Normal | Status::ViewChange => true,
+            Status::Recovering | Status::Down => false,
+        }
+    }
+
+    fn echo(&mut self, switch: u8, xid: u32, body: Octets) -> Result<(), AllocError>
+        ensures { ForEachGroup (Begins A.kinds A.most A.states A.suits self.old) (λ kinds setup. OnOk result (Works A.kinds A.most A.states A.suits kinds setup self.old (rules.on_echo self.old.work.state switch xid body) self.new)) }
+    {
+        if self.is_up() {
+            let reply = OfMessage::EchoReply { body };
+            self.post(to_switch(switch, xid, Spoken::Plain(reply)))
+        } else {
+            Ok(())
+        }
+    }
+
+    /// What a switch says. Each controller that is up answers an ECHO_REQUEST; all else is for a primary.
+    fn on_switch(&mut self, switch: u8, xid: u32, message: Spoken) -> Result<(), AllocError>
+        requires begins { InSomeGroup (Begins A.kinds A.most A.states A.suits self.old) }
+        ensures { ForEachGroup (Begins A.kinds A.most A.states A.suits self.old) (λ kinds setup. OnOk result (Works A.kinds A.most A.states A.suits kinds setup self.old (rules.on_switch kinds setup self.old.work.state switch xid message) self.new)) }
+    {
+        match message {
+            Spoken::Plain(OfMessage::EchoRequest { body }) => self.echo(switch, xid, body),
+            message => {
+                if self.replica.leads() {
+                    self.on_spoken(switch, message)
+                } else {
+                    Ok(())
+                }
+            }
+        }
+    }
+
+    /// A turn begins with no proposal that met the limit.
+    pub(crate) fn forget_limit(&mut self)
+        ensures { self.new ≡ with_state self.old (with_no_met_limit self.old.work.state) }
+    {
+        self.full = None;
+    }
+
+    /// What the turn posts. Nothing is left to be saved or posted.
+    pub(crate) fn release(&mut self) -> Letters<ControllerSays>
+        ensures letters { result ≡ self.old.work.letters }
+        ensures rests { self.new ≡ record self.old { work = resting self.old.work.state; promise = None } }
+    {
+        self.promise = None;
+        let letters = Letters::new(self.replica.log().allocator());
+        replace(&mut self.letters, letters)
+    }
+
+    /// Its application, for a later life.
+    pub(crate) fn into_app(self) -> A
+        ensures { result ≡ self.dispatcher.app }
+    {
+        self.dispatcher.into_app()
+    }
+
+    /// What it does with an input. A crash is told by the caller.
+    pub(crate) fn on_input(&mut self, input: ControllerInput) -> Result<(), AllocError>
+        requires begins { InSomeGroup (Begins A.kinds A.most A.states A.suits self.old) }
+        ensures { ForEachGroup (Begins A.kinds A.most A.states A.suits self.old) (λ kinds setup. rules.is_crash input ≡ false →
+            OnOk result (Works A.kinds A.most A.states A.suits kinds setup self.old (rules.on_input kinds setup self.old.work.state input) self.new)) }
+    {
+        match input {
+            ControllerInput::Local(Local::Tick) => self.tick(),
+            ControllerInput::Local(Local::Suspect { view }) => self.step(&VrInput::Suspect {
+                view,
+            }),
+            ControllerInput::Of {
+                switch,
+                xid,
+                message,
+            } => self.on_switch(switch, xid, message),
+            ControllerInput::Vr { from, message } => self.step(&VrInput::From { from, message }),
+            ControllerInput::Local(_) | ControllerInput::Malformed { .. } => Ok(()),
+        }
+    }
+}

@@ -1,0 +1,312 @@
+//! One turn of a controller.
+ghost use Rattle.std.specs.Prelude.{◌≡◌, ◌≤◌, ◌<◌, ◌∷◌, ◌++◌, [], ℕ, List, Some, None, option_map, nat_eq, ◌&&◌, IfOk, OnErr};
+ghost use Rattle.std.specs.List.{AllByRecursion};
+ghost use Rattle.of_types.specs.Setups.{IsSetup};
+ghost use Rattle.rv_base.specs.Stables.{standing};
+ghost use Rattle.dispatcher.specs.Ledger.{most_commands};
+ghost use Rattle.group_controller.specs.Rules.{is_crash, is_restart};
+ghost use Rattle.group_controller.specs.State.{resting, starting_controller};
+ghost use Rattle.group_controller.specs.Turns.{AreAlike, Born, Controls, ForEachKinds, Keeps, KnowsPair, pair_in, Restarts, Saves, Stands, state_of, Turns, Wants};
+
+use crate::active::Active;
+use crate::messages::{ControllerInput, ControllerSays};
+use app_core::App;
+use of_types::{LAST_LIFE, Setup};
+use rv_base::{Failed, Letters, Local, SaveResult, Stable};
+use std::alloc::{AllocError, Global};
+use std::marker::Model;
+use vr_core::Replica;
+use vr_log::{Log, LogFull, Status};
+
+/// A controller of a group, with the applications of its later lives, the next one last. One that is down knows its
+/// stable pair alone.
+#[derive(Drop)]
+pub struct Controller<A> {
+    alloc: Global,
+    me: u8,
+    setup: Setup,
+    active: Option<Active<A>>,
+    promise: u32,
+    life: u64,
+    shelf: Vec<A>,
+    results: Vec<SaveResult>,
+}
+
+impl<A> Model for Controller<A> {
+    ghost use Rattle.group_controller.specs.Turns.{Controlling};
+
+    ghost Value = { Controlling A };
+
+    ghost view = { λ c. record { setup = c.setup; me = c.me; promise = c.promise; life = c.life; acting = c.active; shelf = c.shelf.items; results = c.results.items } };
+}
+
+/// Whether this pair is the one that stands.
+fn is_pair(stands: (u64, u64), promise: u64, life: u64) -> bool
+    ensures { result ≡ (nat_eq stands.0 promise && nat_eq stands.1 life) }
+{
+    stands.0 == promise && stands.1 == life
+}
+
+fn is_crash(input: &ControllerInput) -> bool
+    ensures { result ≡ is_crash input.now }
+{
+    matches!(input, ControllerInput::Local(Local::Crash))
+}
+
+fn is_restart(input: &ControllerInput) -> bool
+    ensures { result ≡ is_restart input.now }
+{
+    matches!(input, ControllerInput::Local(Local::Restart))
+}
+
+impl<A: App> Controller<A> {
+    /// A controller as its group starts, with the application of its first life.
+    pub fn new(
+        alloc: Global,
+        me: u8,
+        setup: &Setup,
+        app: A,
+        shelf: Vec<A>,
+    ) -> Result<Controller<A>, AllocError>
+        requires setup { IsSetup setup.now }
+        requires member { me < setup.now.controllers }
+        requires few { A.most app ≤ most_commands }
+        requires alike { AreAlike A.kinds A.most (A.kinds app) shelf.items }
+        ensures controls { IfOk result (λ c. Controls A.kinds A.most A.states A.suits c (A.kinds app)) }
+        ensures starts { IfOk result (λ c. (c.setup ≡ setup.now) × (state_of c ≡ starting_controller me setup.now.controllers) × (c.results ≡ [])) }
+    {
+        let replica = Replica::new(alloc, me, setup.controllers)?;
+        Ok(Controller {
+            alloc,
+            me,
+            setup: setup.copy()?,
+            active: Some(Active::new(alloc, setup, replica, app)?),
+            promise: 0,
+            life: 0,
+            shelf,
+            results: Vec::new(alloc),
+        })
+    }
+
+    pub fn status(&self) -> Status
+        ensures { result ≡ (state_of self.now).vr.status }
+    {
+        match &self.active {
+            Some(active) => active.replica.status(),
+            None => Status::Down,
+        }
+    }
+
+    /// Its view. None where it is down.
+    pub fn view(&self) -> Option<u32>
+        ensures { result ≡ option_map (λ a. a.work.state.vr.view) self.now.acting }
+    {
+        match &self.active {
+            Some(active) => Some(active.replica.view()),
+            None => None,
+        }
+    }
+
+    /// How many entries of its log are committed. None where it is down.
+    pub fn committed(&self) -> Option<u64>
+        ensures { result ≡ option_map (λ a. a.work.state.vr.commit) self.now.acting }
+    {
+        match &self.active {
+            Some(active) => Some(active.replica.committed()),
+            None => None,
+        }
+    }
+
+    /// Its log. None where it is down.
+    pub fn log(&self) -> Option<&Log>
+        ensures { option_map (λ l. l.now) result ≡ option_map (λ a. a.work.state.vr.log) self.now.acting }
+    {
+        match &self.active {
+            Some(active) => Some(active.replica.log()),
+            None => None,
+        }
+    }
+
+    /// The proposal that the last turn met the log's limit with, if any. None where it is down.
+    pub fn full(&self) -> Option<LogFull>
+        ensures { result ≡ (state_of self.now).full }
+    {
+        match &self.active {
+            Some(active) => active.full,
+            None => None,
+        }
+    }
+
+    /// What became of its saves, in order.
+    pub fn results(&self) -> &[SaveResult]
+        ensures { result.now ≡ self.now.results }
+    {
+        self.results.as_slice()
+    }
+
+    /// A pair is saved. Its place in the list of results was made before.
+    fn save<W: Stable>(
+        &mut self,
+        promise: u32,
+        life: u64,
+        stable: &mut W,
+    ) -> Result<SaveResult, AllocError>
+        ensures saves { IfOk result (λ r. Saves r (promise, life) (W.pair stable.old) (W.pair stable.new) (W.faults stable.old) (W.faults stable.new)) }
+        ensures left { IfOk result (λ r. self.new ≡ record self.old {
+          promise = (standing r (promise, life) (self.old.promise, self.old.life)).0;
+          life = (standing r (promise, life) (self.old.promise, self.old.life)).1;
+          results = self.old.results ++ r ∷ [];
+        }) }
+        ensures wants { OnErr result ((self.new ≡ self.old) × (W.pair stable.new ≡ W.pair stable.old) × (W.faults stable.new ≡ W.faults stable.old)) }
+    {
+        self.results.reserve(1)?;
+        let result = match stable.save(u64::from(promise), life) {
+            Ok(()) => SaveResult::Saved,
+            Err(Failed) => {
+                if is_pair(stable.load(), u64::from(promise), life) {
+                    SaveResult::KeptNew
+                } else {
+                    SaveResult::KeptOld
+                }
+            }
+        };
+        self.results.push(result)?;
+        if result != SaveResult::KeptOld {
+            self.promise = promise;
+            self.life = life;
+        }
+        Ok(result)
+    }
+
+    /// What a turn left is kept, and what it posts is given.
+    fn keep(&mut self, active: Active<A>) -> Letters<ControllerSays>
+        ensures letters { result ≡ active.work.letters }
+        ensures kept { self.new ≡ record self.old { acting = Some (record active { work = resting active.work.state; promise = None }) } }
+    {
+        let mut active = active;
+        let letters = active.release();
+        self.active = Some(active);
+        letters
+    }
+
+    /// A pair is saved before anything that a turn left is kept or posted. Where that fails nothing is.
+    fn keep_saved<W: Stable>(
+        &mut self,
+        active: Active<A>,
+        promise: u32,
+        stable: &mut W,
+    ) -> Result<Letters<ControllerSays>, AllocError>
+        requires down { self.old.acting ≡ None }
+        ensures saves { IfOk result (λ letters. Keeps active (promise, self.old.life) letters self.old self.new (W.pair stable.old) (W.pair stable.new) (W.faults stable.old) (W.faults stable.new)) }
+        ensures wants { OnErr result ((self.new ≡ self.old) × (W.pair stable.new ≡ W.pair stable.old) × (W.faults stable.new ≡ W.faults stable.old)) }
+    {
+        match self.save(promise, self.life, stable)? {
+            SaveResult::Saved => Ok(self.keep(active)),
+            SaveResult::KeptOld => Ok(Letters::new(self.alloc)),
+            SaveResult::KeptNew => Ok(Letters::new(self.alloc)),
+        }
+    }
+
+    /// One that is not down takes an input.
+    fn act<W: Stable>(
+        &mut self,
+        active: Active<A>,
+        input: ControllerInput,
+        stable: &mut W,
+    ) -> Result<Letters<ControllerSays>, AllocError>
+        requires down { self.old.acting ≡ None }
+        requires stands { (kinds : List ℕ) × Stands A.kinds A.most A.states A.suits self.old kinds active }
+        ensures turn { ForEachKinds (λ kinds. Stands A.kinds A.most A.states A.suits self.old kinds active) (λ kinds.
+            IfOk result (λ letters. Turns kinds (record self.old { acting = Some active }) input letters self.new (W.pair stable.old) (W.pair stable.new) (W.faults stable.old) (W.faults stable.new))) }
+        ensures wants { OnErr result (Wants (record self.old { acting = Some active }) self.new (W.pair stable.old) (W.pair stable.new) (W.faults stable.old) (W.faults stable.new)) }
+        ensures controls { ForEachKinds (λ kinds. Controls A.kinds A.most A.states A.suits self.old kinds × Stands A.kinds A.most A.states A.suits self.old kinds active) (λ kinds. Controls A.kinds A.most A.states A.suits self.new kinds) }
+        ensures pair { KnowsPair self.old self.new (W.pair stable.old) (W.pair stable.new) }
+    {
+        if is_crash(&input) {
+            return Ok(Letters::new(self.alloc));
+        }
+        let mut active = active;
+        active.forget_limit();
+        active.on_input(input)?;
+        match active.promise {
+            Some(promise) => self.keep_saved(active, promise, stable),
+            None => Ok(self.keep(active)),
+        }
+    }
+
+    /// The member of a life that begins, which asks the others, with the next application.
+    fn born(&mut self, life: u64) -> Result<Active<A>, AllocError>
+        requires controls { (kinds : List ℕ) × Controls A.kinds A.most A.states A.suits self.old kinds }
+        ensures shelf { self.new ≡ record self.old { shelf = self.new.shelf } }
+        ensures alike { ForEachKinds (Controls A.kinds A.most A.states A.suits self.old) (λ kinds. AreAlike A.kinds A.most kinds self.new.shelf) }
+        ensures born { ForEachKinds (Controls A.kinds A.most A.states A.suits self.old) (λ kinds. IfOk result (Born A.kinds A.most A.states A.suits self.old kinds life)) }
+    {
+        let (replica, out) = Replica::restart(
+            self.alloc,
+            self.me,
+            self.setup.controllers,
+            self.promise,
+            life,
+        )?;
+        let Some(app) = self.shelf.pop() else {
+            return Err(AllocError);
+        };
+        let mut active = Active::new(self.alloc, &self.setup, replica, app)?;
+        active.take(out)?;
+        Ok(active)
+    }
+
+    /// One that is down begins its next life, which it saves first. An application whose life did not begin is for the
+    /// next try.
+    fn restart<W: Stable>(&mut self, stable: &mut W) -> Result<Letters<ControllerSays>, AllocError>
+        requires down { self.old.acting ≡ None }
+        requires controls { (kinds : List ℕ) × Controls A.kinds A.most A.states A.suits self.old kinds }
+        ensures turn { ForEachKinds (Controls A.kinds A.most A.states A.suits self.old) (λ kinds.
+            IfOk result (λ letters. Restarts self.old letters self.new (W.pair stable.old) (W.pair stable.new) (W.faults stable.old) (W.faults stable.new))) }
+        ensures wants { OnErr result (Wants self.old self.new (W.pair stable.old) (W.pair stable.new) (W.faults stable.old) (W.faults stable.new)) }
+        ensures controls { ForEachKinds (Controls A.kinds A.most A.states A.suits self.old) (λ kinds. Controls A.kinds A.most A.states A.suits self.new kinds) }
+        ensures pair { KnowsPair self.old self.new (W.pair stable.old) (W.pair stable.new) }
+    {
+        if self.life >= u64::from(LAST_LIFE) {
+            return Ok(Letters::new(self.alloc));
+        }
+        let life = self.life + 1;
+        let active = self.born(life)?;
+        match self.save(self.promise, life, stable)? {
+            SaveResult::Saved => Ok(self.keep(active)),
+            SaveResult::KeptNew => Ok(Letters::new(self.alloc)),
+            SaveResult::KeptOld => {
+                // (There is room where it was taken from.)
+                let _ = self.shelf.push(active.into_app());
+                Ok(Letters::new(self.alloc))
+            }
+        }
+    }
+
+    /// One turn: what the rule of the input wants to be posted. A promise is saved first; where a save fails nothing
+    /// is posted, and the controller is down. At want of memory it is down, and no save was made.
+    pub fn turn<W: Stable>(
+        &mut self,
+        input: ControllerInput,
+        stable: &mut W,
+    ) -> Result<Letters<ControllerSays>, AllocError>
+        requires controls { (kinds : List ℕ) × Controls A.kinds A.most A.states A.suits self.old kinds }
+        requires pair { W.pair stable.old ≡ pair_in (state_of self.old) }
+        ensures turn { ForEachKinds (Controls A.kinds A.most A.states A.suits self.old) (λ kinds.
+            IfOk result (λ letters. Turns kinds self.old input letters self.new (W.pair stable.old) (W.pair stable.new) (W.faults stable.old) (W.faults stable.new))) }
+        ensures wants { OnErr result (Wants self.old self.new (W.pair stable.old) (W.pair stable.new) (W.faults stable.old) (W.faults stable.new)) }
+        ensures controls { ForEachKinds (Controls A.kinds A.most A.states A.suits self.old) (λ kinds. Controls A.kinds A.most A.states A.suits self.new kinds) }
+        ensures pair { W.pair stable.new ≡ pair_in (state_of self.new) }
+    {
+        match self.active.take() {
+            Some(active) => self.act(active, input, stable),
+            None => {
+                if is_restart(&input) {
+                    self.restart(stable)
+                } else {
+                    Ok(Letters::new(self.alloc))
+                }
+            }
+        }
+    }
+}

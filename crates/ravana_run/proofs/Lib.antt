@@ -1,4 +1,5 @@
 pub mod Tellings
+pub mod Complete
 pub mod Endings
 pub mod Steps
 pub mod Played

@@ -1,6 +1,7 @@
 pub mod Runs
 pub mod Lines
 pub mod Played
+pub mod Audited
 pub mod Play
 pub mod Outcome
 pub mod Ending

@@ -41,3 +41,10 @@ overfull_line limit =
 unfoldable pub unposted_line : ℕ → ℕ → List ℕ
 unposted_line bytes letters =
     line (codes "fault") (codes "10" ∷ codes "bytes" ∷ number bytes ∷ codes "letters" ∷ number letters ∷ [])
+
+-- of a report in which no line fails, and of the first one that does
+unfoldable pub same_line : List ℕ
+same_line = codes "same" ++ newline
+
+unfoldable pub differs_line : ℕ → List ℕ
+differs_line n = line (codes "differs") (codes "line" ∷ number n ∷ [])

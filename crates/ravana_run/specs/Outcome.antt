@@ -1,14 +1,17 @@
 -- Which status comes when, and what is written with it.
-use Rattle.std.specs.Prelude.{◌≡◌, ◌+◌, ℕ, Bool, false, List, [], ◌∷◌, ◌++◌, length, Option, Some, None, Ok, Err}
+use Rattle.std.specs.Prelude.{◌≡◌, ◌≤◌, ◌+◌, ℕ, nat_lt, Bool, true, false, if◌then◌else◌, List, [], ◌∷◌, ◌++◌, length, Option, Some, None, is_some, Ok, Err, Contains}
 use Rattle.controller_core.specs.declared.says.LogFull.{LogFull}
 use Rattle.scenario.specs.declared.scenario.Fault.{Fault}
 use Rattle.scenario.specs.declared.scenario.Scenario.{Scenario}
 use Rattle.scenario.specs.Scenario.{scenario_of, scenario_limit}
 use Rattle.words.specs.declared.Job.{Job}
-use Rattle.words.specs.declared.Job.TheVariants.{Sim}
+use Rattle.words.specs.declared.Job.TheVariants.{Sim, Audit}
 use Rattle.words.specs.Words.{job_of}
-use Rattle.ravana_run.specs.Lines.{usage_line, fault_line, later_line, unread_line, overfull_line, unposted_line}
-use Rattle.ravana_run.specs.Played.{is_served, is_played}
+use Rattle.ravana_run.specs.Lines.{usage_line, fault_line, later_line, unread_line, overfull_line, unposted_line, same_line, differs_line}
+use Rattle.audit.specs.Audit.{differs}
+use Rattle.ravana_run.specs.declared.service.Service.{Service}
+use Rattle.ravana_run.specs.Audited.{audited_kinds, report_limit, too_large}
+use Rattle.ravana_run.specs.Played.{is_played, service_of}
 use Rattle.ravana_run.specs.Runs.{IsDone, IsOverfull, IsUnposted}
 
 -- a claim on what is read and written, where both ends tell it: what the source had left at first, what
@@ -17,29 +20,40 @@ abbrev pub IsTold : Option (List ℕ) → Option (List ℕ) → Option (List ℕ
 IsTold (Some input) (Some rest) (Some before) after P = (written : List ℕ) × (after ≡ Some (before ++ written)) × P input rest written
 IsTold _ _ _ _ P = Unit {0}
 
--- the source was read to its end, or one byte past the most that a scenario has
-pub data HasRead (input : List ℕ) : List ℕ → Type 0 where
-  To_the_end : HasRead input []
-  Past_the_limit : {rest : List ℕ} → length rest + (scenario_limit + 1) ≡ length input → HasRead input rest
+-- the source was read to its end, or one byte past a limit
+pub data HasRead (limit : ℕ) (input : List ℕ) : List ℕ → Type 0 where
+  To_the_end : HasRead limit input []
+  Past_the_limit : {rest : List ℕ} → length rest + (limit + 1) ≡ length input → HasRead limit input rest
+
+-- what serves the job that was found
+abbrev pub service_for : Option Job → Option Service
+service_for None = None
+service_for (Some job) = service_of job
 
 -- whether a job was found and is served
 abbrev pub is_served_job : Option Job → Bool
-is_served_job None = false
-is_served_job (Some job) = is_served job
+is_served_job job = is_some (service_for job)
 
 -- words that are not accepted, or ask for what is not served yet
 abbrev pub IsUnserved : List (List ℕ) → Type 0
 IsUnserved words = is_served_job (job_of words) ≡ false
 
+-- words that ask for an audit
+abbrev pub IsAudit : List (List ℕ) → Type 0
+IsAudit words = job_of words ≡ Some Audit
+
 -- what a call has to write, with its status, by the cause of it: one case for each
 pub data Outcome (words : List (List ℕ)) (input rest : List ℕ) (unread : Type 0) : ℕ → List ℕ → Type 0 where
   Usage : IsUnserved words → Outcome words input rest unread 2 usage_line
-  Refused : (fault : Fault) → job_of words ≡ Some Sim → HasRead input rest → scenario_of input ≡ Err fault → Outcome words input rest unread 3 (fault_line fault)
+  Refused : (fault : Fault) → job_of words ≡ Some Sim → HasRead scenario_limit input rest → scenario_of input ≡ Err fault → Outcome words input rest unread 3 (fault_line fault)
   Later : (scenario : Scenario) → job_of words ≡ Some Sim → rest ≡ [] → scenario_of input ≡ Ok scenario → is_played scenario ≡ false → Outcome words input rest unread 3 later_line
-  Unread : job_of words ≡ Some Sim → unread → Outcome words input rest unread 4 unread_line
+  Unread : is_served_job (job_of words) ≡ true → unread → Outcome words input rest unread 4 unread_line
   Closed : (scenario : Scenario) {written : List ℕ} → job_of words ≡ Some Sim → rest ≡ [] → scenario_of input ≡ Ok scenario → IsDone scenario written → Outcome words input rest unread 0 written
   Overfull : (scenario : Scenario) (limit : LogFull) → job_of words ≡ Some Sim → rest ≡ [] → scenario_of input ≡ Ok scenario → IsOverfull scenario limit → Outcome words input rest unread 9 (overfull_line limit)
   Unposted : (scenario : Scenario) (bytes letters : ℕ) → job_of words ≡ Some Sim → rest ≡ [] → scenario_of input ≡ Ok scenario → IsUnposted scenario bytes letters → Outcome words input rest unread 10 (unposted_line bytes letters)
+  Oversized : IsAudit words → length rest + (report_limit + 1) ≡ length input → Outcome words input rest unread 3 (fault_line too_large)
+  Same : IsAudit words → rest ≡ [] → length input ≤ report_limit → differs audited_kinds input ≡ None → Outcome words input rest unread 0 same_line
+  Differs : (n : ℕ) → IsAudit words → rest ≡ [] → length input ≤ report_limit → differs audited_kinds input ≡ Some n → Outcome words input rest unread 8 (differs_line n)
 
 -- what was taken is the front of what an outcome writes
 pub record IsCut (words : List (List ℕ)) (input rest : List ℕ) (unread : Type 0) (written : List ℕ) : Type 0 where
@@ -55,9 +69,20 @@ pub data Answers (words : List (List ℕ)) (input rest : List ℕ) (unread unwri
   Write_failed : unwritten → IsCut words input rest unread written → Answers words input rest unread unwritten written 5
   No_memory : written ≡ [] → Answers words input rest unread unwritten written 6
 
--- the answers that there are, and those to words that are not accepted
+-- the answers that there are, those to words that are not served, and those to an audit
 abbrev pub statuses : List ℕ
-statuses = 0 ∷ 2 ∷ 3 ∷ 4 ∷ 5 ∷ 6 ∷ 9 ∷ 10 ∷ []
+statuses = 0 ∷ 2 ∷ 3 ∷ 4 ∷ 5 ∷ 6 ∷ 8 ∷ 9 ∷ 10 ∷ []
 
 abbrev pub statuses_of_usage : List ℕ
 statuses_of_usage = 2 ∷ 5 ∷ 6 ∷ []
+
+abbrev pub statuses_of_audit : List ℕ
+statuses_of_audit = 0 ∷ 3 ∷ 4 ∷ 5 ∷ 6 ∷ 8 ∷ []
+
+-- the status that the bytes of a report have
+abbrev pub audit_status : List ℕ → ℕ
+audit_status input = if nat_lt report_limit (length input) then 3 else elim (differs audited_kinds input) [ None ↦ 0 | Some n ↦ 8 ]
+
+-- an audit in which nothing failed ends by that, or finds no memory
+pub record IsComplete (words : List (List ℕ)) (input : List ℕ) (unread unwritten : Type 0) (status : ℕ) : Type 0 where
+  pub ends : IsAudit words → (unread → ⊥) → (unwritten → ⊥) → Contains (audit_status input ∷ 6 ∷ []) status

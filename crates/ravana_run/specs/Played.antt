@@ -1,5 +1,5 @@
 -- What is played and served yet, of what is accepted. Later work widens this, and in the end it goes.
-use Rattle.std.specs.Prelude.{◌≡◌, ◌≤◌, Bool, true, false, ◌==◌, ◌&&◌, List, [], ◌∷◌, length}
+use Rattle.std.specs.Prelude.{◌≡◌, ◌≤◌, ℕ, Bool, true, false, ◌==◌, ◌&&◌, List, [], ◌∷◌, length, Option, Some, None}
 use Rattle.std.specs.List.{AllByRecursion}
 use Rattle.of_types.specs.Setups.{IsSetup}
 use Rattle.rv_base.specs.declared.journal.Actor.TheVariants as actor
@@ -10,12 +10,22 @@ use Rattle.rv_base.specs.Actors.{IsActor}
 use Rattle.rv_base.specs.Turns.{turn_actor, IsCalm}
 use Rattle.scenario.specs.declared.scenario.Scenario.{Scenario}
 use Rattle.words.specs.declared.Job.{Job}
-use Rattle.words.specs.declared.Job.TheVariants.{Sim}
+use Rattle.scenario.specs.Scenario.{scenario_limit}
+use Rattle.words.specs.declared.Job.TheVariants.{Sim, Audit}
+use Rattle.ravana_run.specs.declared.service.Service.{Service}
+use Rattle.ravana_run.specs.declared.service.Service.TheVariants as service
+use Rattle.ravana_run.specs.Audited.{report_limit}
 
--- a job that is served: to play a scenario turn by turn
-abbrev pub is_served : Job → Bool
-is_served Sim = true
-is_served _ = false
+-- what serves a job: a scenario is played turn by turn, and a report is audited
+abbrev pub service_of : Job → Option Service
+service_of Sim = Some service.Sim
+service_of Audit = Some service.Audit
+service_of _ = None
+
+-- the most bytes that a service reads
+abbrev pub limit_of : Service → ℕ
+limit_of service.Sim = scenario_limit
+limit_of service.Audit = report_limit
 
 -- a frame at a switch
 abbrev pub is_frame : Turn → Bool

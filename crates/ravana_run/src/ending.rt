@@ -17,7 +17,7 @@ pub enum Ending {
     Report(Octets),
     /// The words are not accepted, or ask for what is not served yet.
     Usage,
-    /// The bytes are no scenario.
+    /// The bytes are no scenario, or more than a report has.
     Refused(Fault),
     /// The scenario is not played yet.
     Later,
@@ -27,6 +27,10 @@ pub enum Ending {
     Overfull(LogFull),
     /// An outbox found no room in the journal.
     Unposted { bytes: u64, letters: u64 },
+    /// No line of the report differs.
+    Same,
+    /// The first line of the report that differs.
+    Differs { line: u64 },
 }
 
 /// What is written: a line that is always the same, or bytes of its own.
@@ -69,6 +73,13 @@ fn later_line() -> &'static [u8]
     ensures { result.now ≡ lines.later_line }
 {
     b"fault 3 later top\n"
+}
+
+#[tactic(auto, unfolding(crate::specs::Lines::same_line))]
+fn same_line() -> &'static [u8]
+    ensures { result.now ≡ lines.same_line }
+{
+    b"same\n"
 }
 
 fn kind_word(kind: FaultKind) -> &'static [u8]
@@ -159,6 +170,15 @@ fn unposted_line(alloc: Global, bytes: u64, letters: u64) -> Result<Octets, Allo
     Ok(line)
 }
 
+#[tactic(auto, unfolding(crate::specs::Lines::differs_line, report::specs::Report::line))]
+fn differs_line(alloc: Global, number: u64) -> Result<Octets, AllocError>
+    ensures { IfOk result (λ line. line ≡ lines.differs_line number) }
+{
+    let mut line = Octets::from_slice(alloc, b"differs")?;
+    end_with(&mut line, b"line", number)?;
+    Ok(line)
+}
+
 impl Ending {
     ghost use Rattle.ravana_run.specs.Ending.{text_bytes};
 
@@ -167,10 +187,11 @@ impl Ending {
         ensures { result ≡ ending_status self.now }
     {
         match self {
-            Ending::Report(_) => 0,
+            Ending::Report(_) | Ending::Same => 0,
             Ending::Usage => 2,
             Ending::Refused(_) | Ending::Later => 3,
             Ending::Unread => 4,
+            Ending::Differs { .. } => 8,
             Ending::Overfull(_) => 9,
             Ending::Unposted { .. } => 10,
         }
@@ -186,7 +207,9 @@ impl Ending {
             Ending::Usage => Ok(Text::Fixed(usage_line())),
             Ending::Later => Ok(Text::Fixed(later_line())),
             Ending::Unread => Ok(Text::Fixed(unread_line())),
+            Ending::Same => Ok(Text::Fixed(same_line())),
             Ending::Refused(fault) => Ok(Text::Own(fault_line(alloc, fault)?)),
+            Ending::Differs { line } => Ok(Text::Own(differs_line(alloc, line)?)),
             Ending::Overfull(limit) => Ok(Text::Own(overfull_line(alloc, limit)?)),
             Ending::Unposted { bytes, letters } => {
                 Ok(Text::Own(unposted_line(alloc, bytes, letters)?))

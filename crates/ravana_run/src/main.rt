@@ -1,7 +1,9 @@
-//! The program: reads a scenario, plays it, brings it to rest and writes its report.
+//! The program: plays a scenario and writes its report, or audits a report.
 #![tactic(auto)]
 
+mod auditing;
 mod ending;
+mod service;
 mod sim;
 #[cfg(test)]
 mod tests;

@@ -9,6 +9,8 @@ const USAGE: &[u8] = b"fault 2 usage: sim, run, audit or gen NUMBER CONTROLLERS 
 
 const UNREAD: &[u8] = b"fault 4 read\n";
 
+const SAME: &[u8] = b"same\n";
+
 /// A frame to an unknown host: one event, one flood.
 const ONE_FRAME: &str =
     r#"{"controllers": 1, "switches": [{"ports": 2}], "steps": [{"do": "frame", "switch": 0, "port": 1, "bytes": "02000000000202000000000188b5"}]}"#;
@@ -146,47 +148,89 @@ fn serve(
     Ok((status, Octets::from_slice(alloc, sink.taken())?))
 }
 
-/// Serves `sim` in whole pieces and byte by byte.
+/// Serves a word in whole pieces and byte by byte.
 fn assert_served(
     rt: &impl Abort,
     alloc: Global,
-    input: &str,
+    word: &str,
+    input: &[u8],
     status: u8,
     text: &[u8],
 ) -> Result<(), Fail> {
     for most in [1, 65_536] {
         let ends = Ends { most, ..WHOLE };
-        let (found, written) = serve(alloc, &["sim"], input.as_bytes(), ends)?;
-        assert_eq!(rt; found, status, "at {input}");
-        assert_eq!(rt; written.as_slice(), text, "at {input}");
+        let (found, written) = serve(alloc, &[word], input, ends)?;
+        assert_eq!(rt; found, status, "at {most}");
+        assert_eq!(rt; written.as_slice(), text, "at {most}");
     }
     Ok(())
 }
 
+/// Scenarios and their reports.
+const RUNS: &[(&str, &str)] = &[
+    (ONE_FRAME, UNKNOWN_HOST),
+    (
+        r#"{"controllers": 1, "switches": [{"ports": 48}], "steps": [{"do": "frame", "switch": 0, "port": 12, "bytes": "8d5d7d7ca565bfb875c1ce76886a"}]}"#,
+        HIGH_PORT,
+    ),
+    (
+        r#"{"\u0063ontrollers":1,"switches":[{"ports":2}],"steps":[]}"#,
+        NOTHING,
+    ),
+    (
+        r#"{"controllers":9,"controllers":1,"switches":[{"ports":2}],"steps":[]}"#,
+        NOTHING,
+    ),
+    (
+        r#"{"controllers": 1, "switches": [{"ports": 47}], "steps": [], "links": [], "deny": []}"#,
+        MANY_PORTS,
+    ),
+];
+
+/// Each report is audited, too.
 #[test]
 fn reports_runs(rt: HostRuntime) -> Result<(), Fail> {
-    for (input, report) in [
-        (ONE_FRAME, UNKNOWN_HOST),
-        (
-            r#"{"controllers": 1, "switches": [{"ports": 48}], "steps": [{"do": "frame", "switch": 0, "port": 12, "bytes": "8d5d7d7ca565bfb875c1ce76886a"}]}"#,
-            HIGH_PORT,
-        ),
-        (
-            r#"{"\u0063ontrollers":1,"switches":[{"ports":2}],"steps":[]}"#,
-            NOTHING,
-        ),
-        (
-            r#"{"controllers":9,"controllers":1,"switches":[{"ports":2}],"steps":[]}"#,
-            NOTHING,
-        ),
-        (
-            r#"{"controllers": 1, "switches": [{"ports": 47}], "steps": [], "links": [], "deny": []}"#,
-            MANY_PORTS,
-        ),
-    ] {
-        assert_served(&rt, rt.alloc(), input, 0, report.as_bytes())?;
+    for (input, report) in RUNS {
+        assert_served(
+            &rt,
+            rt.alloc(),
+            "sim",
+            input.as_bytes(),
+            0,
+            report.as_bytes(),
+        )?;
+        assert_served(&rt, rt.alloc(), "audit", report.as_bytes(), 0, SAME)?;
     }
     Ok(())
+}
+
+/// A report with its first such bytes replaced.
+fn changed(alloc: Global, report: &str, from: &str, to: &str) -> Result<Octets, AllocError> {
+    Octets::from_slice(alloc, report.replacen(alloc, from, to, 1)?.as_bytes())
+}
+
+/// The last digit of the executed line, one digit more in a letter, a wrong sum, a line more and a line less.
+#[test]
+fn finds_lines_that_differ(rt: HostRuntime) -> Result<(), Fail> {
+    for (from, to, line) in [
+        ("88b5\nrow", "88b4\nrow", "differs line 30\n"),
+        ("letter s0 04", "letter s0 004", "differs line 7\n"),
+        ("rows 1\n", "rows 2\n", "differs line 32\n"),
+        ("rows 1\n", "rows 1\n\n", "differs line 33\n"),
+        ("processed 0\n", "", "differs line 27\n"),
+        ("ravana report 1\n", "", "differs line 1\n"),
+    ] {
+        let report = changed(rt.alloc(), UNKNOWN_HOST, from, to)?;
+        assert_served(
+            &rt,
+            rt.alloc(),
+            "audit",
+            report.as_slice(),
+            8,
+            line.as_bytes(),
+        )?;
+    }
+    assert_served(&rt, rt.alloc(), "audit", b"", 8, b"differs line 1\n")
 }
 
 #[test]
@@ -233,19 +277,20 @@ fn tells_faults_of_scenarios(rt: HostRuntime) -> Result<(), Fail> {
             "fault 3 later top\n",
         ),
     ] {
-        assert_served(&rt, rt.alloc(), input, 3, line.as_bytes())?;
+        assert_served(&rt, rt.alloc(), "sim", input.as_bytes(), 3, line.as_bytes())?;
     }
     Ok(())
 }
 
 #[test]
 fn tells_the_usage(rt: HostRuntime) -> Result<(), Fail> {
-    let words: [&[&str]; 5] = [
+    let words: [&[&str]; 6] = [
         &[],
         &["--help"],
         &["gen", "7", "2", "16", "10"],
         &["gen", "07", "3", "1", "1"],
-        &["audit"],
+        &["run"],
+        &["audit", "audit"],
     ];
     for words in words {
         let (status, written) = serve(rt.alloc(), words, ONE_FRAME.as_bytes(), WHOLE)?;
@@ -262,9 +307,11 @@ fn tells_failing_ends(rt: HostRuntime) -> Result<(), Fail> {
         failing_reads: &[1],
         ..WHOLE
     };
-    let (status, written) = serve(rt.alloc(), &["sim"], ONE_FRAME.as_bytes(), unread)?;
-    assert_eq!(rt; status, 4);
-    assert_eq!(rt; written.as_slice(), UNREAD);
+    for word in ["sim", "audit"] {
+        let (status, written) = serve(rt.alloc(), &[word], ONE_FRAME.as_bytes(), unread)?;
+        assert_eq!(rt; status, 4);
+        assert_eq!(rt; written.as_slice(), UNREAD);
+    }
 
     let unwritten = Ends {
         most: 64,
@@ -274,5 +321,13 @@ fn tells_failing_ends(rt: HostRuntime) -> Result<(), Fail> {
     let (status, written) = serve(rt.alloc(), &["sim"], ONE_FRAME.as_bytes(), unwritten)?;
     assert_eq!(rt; status, 5);
     assert_eq!(rt; written.as_slice(), &UNKNOWN_HOST.as_bytes()[..64]);
+
+    let short = Ends {
+        most: 3,
+        ..unwritten
+    };
+    let (status, written) = serve(rt.alloc(), &["audit"], UNKNOWN_HOST.as_bytes(), short)?;
+    assert_eq!(rt; status, 5);
+    assert_eq!(rt; written.as_slice(), &SAME[..3]);
     Ok(())
 }

@@ -3,18 +3,20 @@ ghost use Rattle.std.specs.Prelude.{◌≡◌, ◌≢◌, ◌≤◌, map, string
 ghost use Rattle.rv_base.specs.Causes.{Rose};
 ghost use Rattle.words.specs.Words.{job_of};
 ghost use Rattle.ravana_run.specs.Played as played;
-ghost use Rattle.ravana_run.specs.Outcome.{Answers, IsTold, IsUnserved, is_served_job, statuses, statuses_of_usage};
-ghost use Rattle.ravana_run.specs.Ending.{ending_status, EndsRead, EndsRun};
+ghost use Rattle.ravana_run.specs.Outcome.{Answers, IsTold, IsUnserved, IsAudit, IsComplete, service_for, statuses, statuses_of_usage, statuses_of_audit};
+ghost use Rattle.ravana_run.specs.Ending.{ending_status, EndsRead, EndsScenario, EndsRun};
 ghost use Rattle.ravana_run.specs.Cause.{HasEndingCause, Tells};
 ghost use Rattle.scenario.specs.Scenario.{IsScenario, scenario_of};
 
+use crate::auditing::audited;
 use crate::ending::Ending;
+use crate::service::Service;
 use crate::sim::simulate;
 use report::write_all;
 use rv_base::{Actor, Local, Sink, Source, Turn};
 use scenario::{InputFault, Scenario, ScenarioFault, read_input, read_scenario};
 use std::alloc::{AllocError, Global};
-use words::{Job, read_words};
+use words::read_words;
 
 /// The status of a call that found no memory.
 pub const NO_MEMORY: u8 = 6;
@@ -22,20 +24,13 @@ pub const NO_MEMORY: u8 = 6;
 /// The status of a call whose sink failed.
 const WRITE_FAILED: u8 = 5;
 
-/// Whether a job is served yet: `sim` alone is.
-fn is_served(job: Job) -> bool
-    ensures { result ≡ played.is_served job }
-{
-    matches!(job, Job::Sim)
-}
-
-/// Whether the words are accepted and their job is served.
-fn are_served(words: &[String]) -> bool
-    ensures { result ≡ is_served_job (job_of (map string_bytes words.now)) }
+/// What serves the job that words ask for.
+fn service_for(words: &[String]) -> Option<Service>
+    ensures { result ≡ service_for (job_of (map string_bytes words.now)) }
 {
     match read_words(words) {
-        Ok(job) => is_served(job),
-        Err(_) => false,
+        Ok(job) => Service::of(job),
+        Err(_) => None,
     }
 }
 
@@ -86,14 +81,24 @@ fn end_of_scenario(alloc: Global, scenario: &Scenario) -> Result<Ending, AllocEr
     }
 }
 
-/// How the bytes that were read end.
-fn end_of(alloc: Global, bytes: &[u8]) -> Result<Ending, AllocError>
-    ensures { IfOk result (λ ending. EndsRead bytes.now ending) }
+/// How the bytes of a scenario end.
+fn simulated(alloc: Global, bytes: &[u8]) -> Result<Ending, AllocError>
+    ensures { IfOk result (λ ending. EndsScenario bytes.now ending) }
 {
     match read_scenario(alloc, bytes) {
         Ok(scenario) => end_of_scenario(alloc, &scenario),
         Err(ScenarioFault::Refused(fault)) => Ok(Ending::Refused(fault)),
         Err(ScenarioFault::OutOfMemory) => Err(AllocError),
+    }
+}
+
+/// How the bytes that were read for a service end.
+fn end_of(alloc: Global, service: Service, bytes: &[u8]) -> Result<Ending, AllocError>
+    ensures { IfOk result (λ ending. EndsRead service bytes.now ending) }
+{
+    match service {
+        Service::Sim => simulated(alloc, bytes),
+        Service::Audit => audited(alloc, bytes),
     }
 }
 
@@ -104,20 +109,21 @@ fn outcome<S: Source>(alloc: Global, words: &[String], source: &mut S) -> Result
     ensures memory { OnErr result (S.faults source.new ≡ S.faults source.old) }
     ensures later { S.faults source.old ≤ S.faults source.new }
 {
-    if !are_served(words) {
+    let Some(service) = service_for(words) else {
         return Ok(Ending::Usage);
-    }
-    match read_input(alloc, source) {
-        Ok(bytes) => end_of(alloc, bytes.as_slice()),
+    };
+    match read_input(alloc, source, service.limit()) {
+        Ok(bytes) => end_of(alloc, service, bytes.as_slice()),
         Err(InputFault::Failed) => Ok(Ending::Unread),
         Err(InputFault::OutOfMemory) => Err(AllocError),
     }
 }
 
-/// Serves one call: reads a scenario from the source, plays it, brings it to rest and writes its report,
-/// or one line that tells why not. It answers the status.
+/// Serves one call. `sim` reads a scenario from the source, plays it, brings it to rest and writes its report;
+/// `audit` reads a report and tells whether a line differs, and which. Else one line tells why not. It answers the
+/// status.
 ///
-/// The words are those behind the program's name. Of the jobs that `read_words` accepts `sim` alone is served
+/// The words are those behind the program's name. Of the jobs that `read_words` accepts these two are served
 /// yet, and of the scenarios that `read_scenario` accepts those of one controller, one switch and at most one
 /// frame are played yet: the others get the usage line, and `fault 3 later top`.
 pub fn ravana<S: Source, K: Sink>(
@@ -129,6 +135,8 @@ pub fn ravana<S: Source, K: Sink>(
     ensures answer { IsTold (S.left source.old) (S.left source.new) (K.taken sink.old) (K.taken sink.new) (λ input rest written. Answers (map string_bytes words.now) input rest (Rose (S.faults source.old) (S.faults source.new)) (Rose (K.faults sink.old) (K.faults sink.new)) written result) }
     ensures usage { result ≡ 2 → IsUnserved (map string_bytes words.now) }
     ensures words { IsUnserved (map string_bytes words.now) → Contains statuses_of_usage result }
+    ensures audit { IsAudit (map string_bytes words.now) → Contains statuses_of_audit result }
+    ensures complete { IsTold (S.left source.old) (S.left source.new) (K.taken sink.old) (K.taken sink.new) (λ input rest written. IsComplete (map string_bytes words.now) input (Rose (S.faults source.old) (S.faults source.new)) (Rose (K.faults sink.old) (K.faults sink.new)) result) }
     ensures unread { result ≡ 4 → Rose (S.faults source.old) (S.faults source.new) }
     ensures unwritten { result ≡ 5 → Rose (K.faults sink.old) (K.faults sink.new) }
     ensures range { Contains statuses result }

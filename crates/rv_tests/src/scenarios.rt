@@ -3,7 +3,8 @@ use rv_base::{Actor, Local, MemorySource, Turn};
 use scenario::FaultKind::{Json, Limit, Shape};
 use scenario::FaultPlace::{Deny, Link as AtLink, Step, Switch, Top};
 use scenario::{
-    Fault, FaultKind, FaultPlace, Scenario, ScenarioFault, generate, read_input, read_scenario,
+    Fault, FaultKind, FaultPlace, SCENARIO_LIMIT, Scenario, ScenarioFault, generate, read_input,
+    read_scenario,
 };
 use std::process::Abort;
 use std::test::Fail;
@@ -371,13 +372,22 @@ fn generates_a_thousand_frames(rt: HostRuntime) -> Result<(), Fail> {
     Ok(())
 }
 
+/// To the end, or one byte past the limit.
 #[test]
-fn reads_to_the_end(rt: HostRuntime) -> Result<(), Fail> {
-    let bytes = Octets::from_slice(rt.alloc(), WHOLE.as_bytes())?;
-    let mut source = MemorySource::new(bytes, 7, Vec::new(rt.alloc()));
-    let Ok(read) = read_input(rt.alloc(), &mut source) else {
-        panic!(rt; "not read");
-    };
-    assert_eq!(rt; read.as_slice(), WHOLE.as_bytes());
+fn reads_up_to_a_limit(rt: HostRuntime) -> Result<(), Fail> {
+    let whole = WHOLE.as_bytes();
+    for (limit, count) in [
+        (SCENARIO_LIMIT, whole.len()),
+        (whole.len(), whole.len()),
+        (8, 9),
+        (0, 1),
+    ] {
+        let bytes = Octets::from_slice(rt.alloc(), whole)?;
+        let mut source = MemorySource::new(bytes, 7, Vec::new(rt.alloc()));
+        let Ok(read) = read_input(rt.alloc(), &mut source, limit) else {
+            panic!(rt; "not read");
+        };
+        assert_eq!(rt; read.as_slice(), &whole[..count], "at {limit}");
+    }
     Ok(())
 }

@@ -1,8 +1,7 @@
-//! The bytes of a scenario, read from a source.
+//! Bytes that are read from a source, up to a limit.
 ghost use Rattle.std.specs.Prelude.{◌≡◌, ◌≢◌, ◌<◌, ◌≤◌, ◌+◌, ◌++◌, ◌⊎◌, length, take, IfOk};
 ghost use Rattle.std.specs.Io.KnownBytes.{Consumes, IsAtEnd};
 ghost use Rattle.rv_base.specs.Causes.{Rose};
-ghost use Rattle.scenario.specs.Scenario.{scenario_limit};
 ghost use Rattle.scenario.specs.declared.input.InputFault.TheVariants as faults_of;
 
 use of_types::Octets;
@@ -55,18 +54,23 @@ fn read_piece<S: Source>(
     Ok(count)
 }
 
-/// Reads a source to its end, or one byte past the most that a scenario has.
-pub fn read_input<S: Source>(alloc: Global, source: &mut S) -> Result<Octets, InputFault>
+/// Reads a source to its end, or one byte past a limit.
+pub fn read_input<S: Source>(
+    alloc: Global,
+    source: &mut S,
+    limit: usize,
+) -> Result<Octets, InputFault>
     ensures later { S.faults source.old ≤ S.faults source.new }
     ensures cause { result ≡ Err faults_of.Failed → Rose (S.faults source.old) (S.faults source.new) }
     ensures served { result ≢ Err faults_of.Failed → S.faults source.new ≡ S.faults source.old }
     ensures consumed { IfOk result (λ bytes. Consumes (S.left source.old) (S.left source.new) bytes) }
-    ensures whole { IfOk result (λ bytes. IsAtEnd (S.left source.new) ⊎ (length bytes ≡ scenario_limit + 1)) }
+    ensures whole { IfOk result (λ bytes. IsAtEnd (S.left source.new) ⊎ (length bytes ≡ limit + 1)) }
+    ensures most { IfOk result (λ bytes. length bytes ≤ limit + 1) }
 {
     let mut bytes = Octets::new(alloc);
     let mut piece = [0u8; 4096];
-    'pieces: while bytes.len() <= SCENARIO_LIMIT {
-        let room = (SCENARIO_LIMIT + 1 - bytes.len()).min(4096);
+    'pieces: while bytes.len() <= limit {
+        let room = (limit - bytes.len()).min(4095) + 1;
         let count = read_piece(source, &mut piece[..room], &mut bytes)?;
         if count == 0 {
             return Ok(bytes);

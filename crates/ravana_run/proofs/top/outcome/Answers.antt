@@ -1,5 +1,4 @@
 use Rattle.std.proofs.Common.{refl, ap, subst, sym, Err, IfOk}
-use Rattle.std.specs.Prelude.{map, string_bytes}
 use Rattle.ravana_run.specs.Ending.{EndsRead}
 use Rattle.ravana_run.proofs.Endings.{usage_caused, unread_caused, read_caused, usage_tells, unread_tells, read_tells}
 use Rattle.ravana_run.proofs.top.outcome.Goals as goal

@@ -1,0 +1,149 @@
+-- Histories of journals, for any rules of a controller. A journal lists what controllers take and post. Its past stands
+-- newest first.
+use Rattle.std.specs.Prelude.{◌≡◌, ◌≢◌, ℕ, ◌<◌, ◌≤◌, ◌⊎◌, Bool, true, false, ◌&&◌, nat_eq, Option, Some, None, List, [], ◌∷◌, ◌++◌, if◌then◌else◌, ⊤}
+use Rattle.agreement.specs.Lists.{IsPrefix, IsIn}
+use Rattle.agreement.specs.History.{Group, size, primary_of, Status, Normal, ViewChange, Recovering, Down, Letter, State, History}
+use Rattle.agreement.specs.Invariant.{is_up, Invariant, IsGroup}
+use Rattle.agreement.specs.Moves.{StandsAt, Moved, Resembles, fallen}
+use Rattle.agreement.specs.Laws.{IsStart, committed_log}
+use Rattle.agreement.specs.Turns.{Turn}
+
+-- what a controller takes: an input of its own, or a letter
+pub data Input (Own E : Type 0) : Type 0 where
+  Local : Own → Input Own E
+  Heard : Letter E → Input Own E
+
+-- The rules of the controllers, on states of a type A: how each starts, what a turn makes of a state and says, and what is
+-- left where a turn is refused; what of such a state counts here; and which states are valid.
+pub record Rules (Own A E : Type 0) : Type 0 where
+  pub start : ℕ → A
+  pub turn : ℕ → A → Input Own E → A × List (Letter E)
+  pub refused : ℕ → A → A
+  pub state : A → State E
+  pub promise : A → ℕ
+  pub life : A → ℕ
+  pub is_valid : ℕ → A → Bool
+
+-- a controller takes an input, or posts what it owes, or its newest input is refused, as if it had not been taken
+pub data Entry (Own E : Type 0) : Type 0 where
+  Takes : (c : ℕ) → Input Own E → Entry Own E
+  Posts : (c : ℕ) → Entry Own E
+  Refused : (c : ℕ) → Entry Own E
+
+-- a state that no refusal takes back any more, and the input since then, which is open
+pub record Held (Own A E : Type 0) : Type 0 where
+  pub now : A
+  pub open_input : Option (Input Own E)
+
+-- the state with the open input done, and what that input owes
+abbrev pub settled_by : {Own A E : Type 0} → Rules Own A E → ℕ → A → Option (Input Own E) → A
+settled_by r c a None = a
+settled_by r c a (Some x) = (r.turn c a x).0
+
+abbrev pub owed_by : {Own A E : Type 0} → Rules Own A E → ℕ → A → Option (Input Own E) → List (Letter E)
+owed_by r c a None = []
+owed_by r c a (Some x) = (r.turn c a x).1
+
+-- an entry of c closes its open input: a next one or a post lets it stand, and a refusal takes it back
+abbrev pub held_on : {Own A E : Type 0} → Rules Own A E → ℕ → Held Own A E → Entry Own E → Held Own A E
+held_on r c w (Takes d x) = if nat_eq d c then record { now = settled_by r c w.now w.open_input; open_input = Some x } else w
+held_on r c w (Posts d) = if nat_eq d c then record { now = settled_by r c w.now w.open_input; open_input = None } else w
+held_on r c w (Refused d) = if nat_eq d c then record { now = r.refused c w.now; open_input = None } else w
+
+-- where c stands after a past
+abbrev pub held : {Own A E : Type 0} → Rules Own A E → ℕ → List (Entry Own E) → Held Own A E
+held r c [] = record { now = r.start c; open_input = None }
+held r c (e ∷ past) = held_on r c (held r c past) e
+
+abbrev pub settled : {Own A E : Type 0} → Rules Own A E → ℕ → List (Entry Own E) → A
+settled r c past = settled_by r c (held r c past).now (held r c past).open_input
+
+abbrev pub owed : {Own A E : Type 0} → Rules Own A E → ℕ → List (Entry Own E) → List (Letter E)
+owed r c past = owed_by r c (held r c past).now (held r c past).open_input
+
+-- the letters that an entry adds to those that were posted
+abbrev pub left_by : {Own A E : Type 0} → Rules Own A E → Entry Own E → List (Entry Own E) → List (Letter E)
+left_by r (Takes d x) past = []
+left_by r (Posts d) past = owed r d past
+left_by r (Refused d) past = []
+
+abbrev pub posted : {Own A E : Type 0} → Rules Own A E → List (Entry Own E) → List (Letter E)
+posted r [] = []
+posted r (e ∷ past) = left_by r e past ++ posted r past
+
+abbrev pub is_normal : Status → Bool
+is_normal Normal = true
+is_normal ViewChange = false
+is_normal Recovering = false
+is_normal Down = false
+
+-- the log of view v, where this is the state of its primary, and that was the log before
+abbrev pub tracked : {E : Type 0} → ℕ → State E → List E → List E
+tracked v s old = if is_normal s.status && nat_eq s.view v then s.log else old
+
+abbrev pub logs : {Own A E : Type 0} → Rules Own A E → Group E → List (Entry Own E) → ℕ → List E
+logs r g [] v = []
+logs r g (e ∷ past) v = tracked v (r.state (held r (primary_of g v) (e ∷ past)).now) (logs r g past v)
+
+-- the history of a past: of each controller the state that no refusal takes back
+abbrev pub history : {Own A E : Type 0} → Rules Own A E → Group E → List (Entry Own E) → History E
+history r g past =
+    record {
+      state = λ c. r.state (held r c past).now;
+      promise = λ c. r.promise (held r c past).now;
+      life = λ c. r.life (held r c past).now;
+      sent = posted r past;
+      logs = logs r g past;
+    }
+
+-- what comes to c is of its own, or a letter to it that was posted
+abbrev pub Comes : {Own E : Type 0} → ℕ → Input Own E → List (Letter E) → Type 0
+Comes c (Local i) sent = ⊤
+Comes c (Heard l) sent = (l.receiver ≡ c) × IsIn l sent
+
+-- The entry may stand behind a past. An input comes where nothing is owed. A letter may come again, late, or never.
+abbrev pub MayStand : {Own A E : Type 0} → Rules Own A E → Group E → Entry Own E → List (Entry Own E) → Type 0
+MayStand r g (Takes c x) past = (c < size g) × Comes c x (posted r past) × (owed r c past ≡ [])
+MayStand r g (Posts c) past = c < size g
+MayStand r g (Refused c) past = c < size g
+
+abbrev pub IsLegal : {Own A E : Type 0} → Rules Own A E → Group E → List (Entry Own E) → Type 0
+IsLegal r g [] = ⊤
+IsLegal r g (e ∷ past) = MayStand r g e past × IsLegal r g past
+
+-- the log of each view of which c is primary follows c, and the others stay
+pub record Tracks {E : Type 0} (g : Group E) (h h' : History E) (c : ℕ) : Type 0 where
+  pub own : (v : ℕ) → c ≡ primary_of g v → h'.logs v ≡ tracked v (h'.state c) (h.logs v)
+  pub others : (v : ℕ) → c ≢ primary_of g v → h'.logs v ≡ h.logs v
+
+-- it was up before, and its log goes on from the one before
+pub record GoesOn {E : Type 0} (s s' : State E) : Type 0 where
+  pub up : is_up s.status ≡ true
+  pub longer : IsPrefix s.log s'.log
+
+-- What is to be shown of rules, case by case, so that the laws hold of their journals.
+pub record Follows {Own A E : Type 0} (r : Rules Own A E) (g : Group E) : Type 0 where
+  pub group : IsGroup g
+  pub starts : IsStart (history r g [])
+  -- each turn of a valid state is a turn of moves, whatever the history is, in a group of more than one
+  pub turns : 1 ≤ g.most_failures → (h h' : History E) (c : ℕ) (a : A) (x : Input Own E) → Invariant g h → c < size g → r.is_valid c a ≡ true
+      → StandsAt h c (r.state a) (r.promise a) (r.life a) → Comes c x h.sent
+      → Moved h h' c (r.state (r.turn c a x).0) (r.promise (r.turn c a x).0) (r.life (r.turn c a x).0) (r.turn c a x).1 → Tracks g h h' c → Turn g c h h'
+  -- in a group of one the log only goes on
+  pub alone : g.most_failures ≡ 0 → (c : ℕ) (a : A) (x : Input Own E) → c < size g → r.is_valid c a ≡ true → is_up (r.state (r.turn c a x).0).status ≡ true
+      → GoesOn (r.state a) (r.state (r.turn c a x).0)
+  -- valid states stay valid
+  pub starts_valid : (c : ℕ) → c < size g → r.is_valid c (r.start c) ≡ true
+  pub turns_valid : (c : ℕ) (a : A) (x : Input Own E) → c < size g → r.is_valid c a ≡ true → r.is_valid c (r.turn c a x).0 ≡ true
+  pub refuses_valid : (c : ℕ) (a : A) → c < size g → r.is_valid c a ≡ true → r.is_valid c (r.refused c a) ≡ true
+  -- where a turn is refused the controller goes down, with the stable pair from before
+  pub refuses : (c : ℕ) (a : A) → Resembles (fallen (r.state a)) (r.state (r.refused c a)) × (r.promise (r.refused c a) ≡ r.promise a) × (r.life (r.refused c a) ≡ r.life a)
+
+-- what c shows as committed, where it is up: that of its state with the open input done
+abbrev pub kept : {Own A E : Type 0} → Rules Own A E → ℕ → List (Entry Own E) → List E
+kept r c past = let s = r.state (settled r c past) in if is_up s.status then committed_log s else []
+
+-- whatever two controllers show, at any two times of a journal, one of the two logs begins the other
+abbrev pub JournalsAgree : Type 0 → Type 0 → Type 0 → Type 0
+JournalsAgree Own A E = (r : Rules Own A E) (g : Group E) (more past : List (Entry Own E)) (c d : ℕ) → Follows r g → IsLegal r g (more ++ past) → c < size g → d < size g
+    → IsPrefix (kept r c past) (kept r d (more ++ past)) ⊎ IsPrefix (kept r d (more ++ past)) (kept r c past)

@@ -1,0 +1,13 @@
+pub mod Lists
+pub mod History
+pub mod Quorums
+pub mod Invariant
+pub mod Moves
+pub mod Laws
+pub mod Turns
+pub mod Effects
+pub mod Journals
+pub mod Decided
+pub mod Leading
+pub mod Standing
+pub mod Fitting

@@ -91,7 +91,7 @@ module _ {E : Type 0} {g : Group E} {h : History E} {c : ℕ} {s : State E} wher
   owed_stock x r n small good = record {
     normal = r.normal;
     changing = r.changing;
-    blank = r.blank;
+    blank = λ e. let z : ViewChange ≡ Recovering = sym n ∙ e in absurd cc;
     covers = r.covers;
     of_view = r.of_view;
     counted = r.counted;

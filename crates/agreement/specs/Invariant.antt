@@ -44,12 +44,14 @@ pub record IsGoodState {E : Type 0} (g : Group E) (h : History E) (c : ℕ) (s :
   pub covers : is_up s.status ≡ true → (v m : ℕ) → 1 ≤ m → has_accepted g h v m c ≡ true → IsAtMost v m s.normal (length s.log)
   pub of_view : is_up s.status ≡ true → IsLogOf g h s.normal s.log s.commit
   -- a primary counts what others have accepted
-  pub counted : s.status ≡ Normal → c ≡ primary_of g s.view → (i m : ℕ) → i ≢ c → 1 ≤ m → m ≤ s.acked i → has_accepted g h s.view m i ≡ true
+  pub counted : s.status ≡ Normal → c ≡ primary_of g s.view
+      → (i m : ℕ) → i ≢ c → 1 ≤ m → m ≤ s.acked i → has_accepted g h s.view m i ≡ true
   -- while a view changes, its primary has collected good votes, and was supplied with what is certified
   pub ballot : s.status ≡ ViewChange → c ≡ primary_of g s.view → IsBallot g h s.view s.collected
   pub supplied : s.status ≡ ViewChange → (x : Supplied E) → s.supply ≡ Some x → (x.first ≤ s.commit) × IsGoodSupply g h x.first x.rest
   -- one that recovers keeps responses that others posted to this life of it
-  pub heard : s.status ≡ Recovering → (r : Response E) → IsIn r s.responses → (r.from ≢ c) × IsIn (letter r.from c (RecoveryResponse r.view (h.life c) r.answer)) h.sent
+  pub heard : s.status ≡ Recovering → (r : Response E) → IsIn r s.responses
+      → (r.from ≢ c) × IsIn (letter r.from c (RecoveryResponse r.view (h.life c) r.answer)) h.sent
 
 -- A filled response of i to life x of c: from the primary of its view v, a log of that view. While c recovers in that
 -- life, the log has each place of the view that c has accepted.

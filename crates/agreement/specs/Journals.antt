@@ -126,18 +126,20 @@ pub record Follows {Own A E : Type 0} (r : Rules Own A E) (g : Group E) : Type 0
   pub group : IsGroup g
   pub starts : IsStart (history r g [])
   -- each turn of a valid state is a turn of moves, whatever the history is, in a group of more than one
-  pub turns : 1 ≤ g.most_failures → (h h' : History E) (c : ℕ) (a : A) (x : Input Own E) → Invariant g h → c < size g → r.is_valid c a ≡ true
-      → StandsAt h c (r.state a) (r.promise a) (r.life a) → Comes c x h.sent
-      → Moved h h' c (r.state (r.turn c a x).0) (r.promise (r.turn c a x).0) (r.life (r.turn c a x).0) (r.turn c a x).1 → Tracks g h h' c → Turn g c h h'
+  pub turns : 1 ≤ g.most_failures → (h h' : History E) (c : ℕ) (a : A) (x : Input Own E)
+      → Invariant g h → c < size g → r.is_valid c a ≡ true → StandsAt h c (r.state a) (r.promise a) (r.life a) → Comes c x h.sent
+      → Moved h h' c (r.state (r.turn c a x).0) (r.promise (r.turn c a x).0) (r.life (r.turn c a x).0) (r.turn c a x).1
+      → Tracks g h h' c → Turn g c h h'
   -- in a group of one the log only goes on
-  pub alone : g.most_failures ≡ 0 → (c : ℕ) (a : A) (x : Input Own E) → c < size g → r.is_valid c a ≡ true → is_up (r.state (r.turn c a x).0).status ≡ true
-      → GoesOn (r.state a) (r.state (r.turn c a x).0)
+  pub alone : g.most_failures ≡ 0 → (c : ℕ) (a : A) (x : Input Own E) → c < size g → r.is_valid c a ≡ true
+      → is_up (r.state (r.turn c a x).0).status ≡ true → GoesOn (r.state a) (r.state (r.turn c a x).0)
   -- valid states stay valid
   pub starts_valid : (c : ℕ) → c < size g → r.is_valid c (r.start c) ≡ true
   pub turns_valid : (c : ℕ) (a : A) (x : Input Own E) → c < size g → r.is_valid c a ≡ true → r.is_valid c (r.turn c a x).0 ≡ true
   pub refuses_valid : (c : ℕ) (a : A) → c < size g → r.is_valid c a ≡ true → r.is_valid c (r.refused c a) ≡ true
   -- where a turn is refused the controller goes down, with the stable pair from before
-  pub refuses : (c : ℕ) (a : A) → Resembles (fallen (r.state a)) (r.state (r.refused c a)) × (r.promise (r.refused c a) ≡ r.promise a) × (r.life (r.refused c a) ≡ r.life a)
+  pub refuses : (c : ℕ) (a : A) → Resembles (fallen (r.state a)) (r.state (r.refused c a))
+      × (r.promise (r.refused c a) ≡ r.promise a) × (r.life (r.refused c a) ≡ r.life a)
 
 -- what c shows as committed, where it is up: that of its state with the open input done
 abbrev pub kept : {Own A E : Type 0} → Rules Own A E → ℕ → List (Entry Own E) → List E
@@ -145,5 +147,6 @@ kept r c past = let s = r.state (settled r c past) in if is_up s.status then com
 
 -- whatever two controllers show, at any two times of a journal, one of the two logs begins the other
 abbrev pub JournalsAgree : Type 0 → Type 0 → Type 0 → Type 0
-JournalsAgree Own A E = (r : Rules Own A E) (g : Group E) (more past : List (Entry Own E)) (c d : ℕ) → Follows r g → IsLegal r g (more ++ past) → c < size g → d < size g
+JournalsAgree Own A E = (r : Rules Own A E) (g : Group E) (more past : List (Entry Own E)) (c d : ℕ)
+    → Follows r g → IsLegal r g (more ++ past) → c < size g → d < size g
     → IsPrefix (kept r c past) (kept r d (more ++ past)) ⊎ IsPrefix (kept r d (more ++ past)) (kept r c past)

@@ -13,16 +13,19 @@ VotesMakeASafeLog E = (g : Group E) (h : History E) (w : ℕ) (votes : List (Vot
 
 -- of two certified logs one begins the other
 abbrev pub CertifiedLogsAgree : Type 0 → Type 0
-CertifiedLogsAgree E = (g : Group E) (h : History E) (xs ys : List E) → Invariant g h → IsCertified g h xs → IsCertified g h ys → IsPrefix xs ys ⊎ IsPrefix ys xs
+CertifiedLogsAgree E = (g : Group E) (h : History E) (xs ys : List E) → Invariant g h → IsCertified g h xs → IsCertified g h ys
+    → IsPrefix xs ys ⊎ IsPrefix ys xs
 
 -- a certified front that reaches to where a good vote begins, and what that vote sends, are the vote's whole log
 abbrev pub FrontsComplete : Type 0 → Type 0
-FrontsComplete E = (g : Group E) (h : History E) (c w u k : ℕ) (front rest : List E) → Invariant g h → IsCertified g h front → k ≤ length front
+FrontsComplete E = (g : Group E) (h : History E) (c w u k : ℕ) (front rest : List E)
+    → Invariant g h → IsCertified g h front → k ≤ length front
     → (vote : IsGoodVote g h c w u k rest) → take k front ++ rest ≡ vote.whole
 
 -- what a controller has committed, and what a later view's log has behind that, are the whole log of that view
 abbrev pub SuffixesComplete : Type 0 → Type 0
-SuffixesComplete E = (g : Group E) (h : History E) (c w m k : ℕ) (rest : List E) → Invariant g h → c < size g → is_up (h.state c).status ≡ true → (h.state c).normal < w → m ≤ (h.state c).commit
+SuffixesComplete E = (g : Group E) (h : History E) (c w m k : ℕ) (rest : List E)
+    → Invariant g h → c < size g → is_up (h.state c).status ≡ true → (h.state c).normal < w → m ≤ (h.state c).commit
     → (news : IsGoodNews g h w m k rest) → take m (h.state c).log ++ rest ≡ news.log
 
 -- each move keeps the invariant, and what was certified
@@ -53,7 +56,8 @@ committed_log s = take s.commit s.log
 
 -- whatever two controllers have committed, at any two times, one of the two logs begins the other
 abbrev pub CommittedLogsAgree : Type 0 → Type 0
-CommittedLogsAgree E = (g : Group E) (h0 h1 h2 : History E) (c d : ℕ) → IsGroup g → IsStart h0 → Run g h0 h1 → Run g h1 h2 → c < size g → d < size g
+CommittedLogsAgree E = (g : Group E) (h0 h1 h2 : History E) (c d : ℕ)
+    → IsGroup g → IsStart h0 → Run g h0 h1 → Run g h1 h2 → c < size g → d < size g
     → is_up (h1.state c).status ≡ true → is_up (h2.state d).status ≡ true
     → IsPrefix (committed_log (h1.state c)) (committed_log (h2.state d)) ⊎ IsPrefix (committed_log (h2.state d)) (committed_log (h1.state c))
 
@@ -65,12 +69,17 @@ pub record IsSound {E : Type 0} (g : Group E) (before after : State E) : Type 0 
 
 -- no move gives a controller what is no log, too great a commit number, or another entry in a committed place
 abbrev pub NothingIsDropped : Type 0 → Type 0
-NothingIsDropped E = (g : Group E) (h h' : History E) (c : ℕ) → IsGroup g → Invariant g h → c < size g → Move g h h' c → is_up (h'.state c).status ≡ true → IsSound g (h.state c) (h'.state c)
+NothingIsDropped E = (g : Group E) (h h' : History E) (c : ℕ) → IsGroup g → Invariant g h → c < size g → Move g h h' c
+    → is_up (h'.state c).status ≡ true → IsSound g (h.state c) (h'.state c)
 
--- f + 1 controllers have promised at least the view of each normal primary of a view above 0
+-- f + 1 controllers have promised view w or a later one
+abbrev pub MostPromiseFrom : {E : Type 0} → Group E → History E → ℕ → Type 0
+MostPromiseFrom g h w = g.most_failures < count_below (λ j. nat_le w (h.promise j)) (size g)
+
+-- f + 1 controllers have promised the view of each normal primary of a view above 0, or a later one
 abbrev pub IsBacked : {E : Type 0} → Group E → History E → Type 0
 IsBacked g h = (c : ℕ) → c < size g → (h.state c).status ≡ Normal → c ≡ primary_of g (h.state c).view → 1 ≤ (h.state c).view
-    → g.most_failures < count_below (λ j. nat_le (h.state c).view (h.promise j)) (size g)
+    → MostPromiseFrom g h (h.state c).view
 
 abbrev pub PrimariesAreBacked : Type 0 → Type 0
 PrimariesAreBacked E = (g : Group E) (h0 h : History E) → IsGroup g → IsStart h0 → Run g h0 h → IsBacked g h

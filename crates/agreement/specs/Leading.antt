@@ -5,26 +5,35 @@ use Rattle.agreement.specs.History.{Group, size, primary_of, Normal, History}
 use Rattle.agreement.specs.Quorums.{IsSafe, IsCertified}
 use Rattle.agreement.specs.Invariant.{Invariant, IsGroup}
 use Rattle.agreement.specs.Laws.{Run}
-use Rattle.agreement.specs.Journals.{Rules, Entry, held, IsLegal, Follows}
+use Rattle.agreement.specs.Journals.{Rules, Entry, held, history, IsLegal, Follows}
 use Rattle.agreement.specs.Decided.{decided}
+
+-- f + 1 controllers have promised a view below w
+abbrev pub MostPromiseBelow : {E : Type 0} → Group E → History E → ℕ → Type 0
+MostPromiseBelow g h w = g.most_failures < count_below (λ j. nat_lt (h.promise j) w) (size g)
+
+-- f + 1 controllers have promised view w or an earlier one
+abbrev pub MostPromiseUpTo : {E : Type 0} → Group E → History E → ℕ → Type 0
+MostPromiseUpTo g h w = g.most_failures < count_below (λ j. nat_le (h.promise j) w) (size g)
 
 -- where f + 1 promises are below view w, a log that is safe for w begins with all that is certified
 abbrev pub SafeLogsBegin : Type 0 → Type 0
-SafeLogsBegin E = (g : Group E) (h : History E) (w : ℕ) (xs ys : List E) → Invariant g h → g.most_failures < count_below (λ j. nat_lt (h.promise j) w) (size g)
+SafeLogsBegin E = (g : Group E) (h : History E) (w : ℕ) (xs ys : List E) → Invariant g h → MostPromiseBelow g h w
     → IsCertified g h ys → IsSafe g h w xs → IsPrefix ys xs
 
 -- and with all that was certified at an earlier time, where the promises were below w then
 abbrev pub LaterLogsBegin : Type 0 → Type 0
-LaterLogsBegin E = (g : Group E) (h0 h : History E) (w : ℕ) (xs ys : List E) → IsGroup g → Invariant g h0 → Run g h0 h → g.most_failures < count_below (λ j. nat_lt (h0.promise j) w) (size g)
-    → IsCertified g h0 ys → IsSafe g h w xs → IsPrefix ys xs
+LaterLogsBegin E = (g : Group E) (h0 h : History E) (w : ℕ) (xs ys : List E) → IsGroup g → Invariant g h0 → Run g h0 h
+    → MostPromiseBelow g h0 w → IsCertified g h0 ys → IsSafe g h w xs → IsPrefix ys xs
 
 -- where f + 1 promises are not above its view, the log of a normal primary begins with all that is certified
 abbrev pub PrimariesLead : Type 0 → Type 0
-PrimariesLead E = (g : Group E) (h : History E) (c : ℕ) (ys : List E) → Invariant g h → c < size g → (h.state c).status ≡ Normal → c ≡ primary_of g (h.state c).view
-    → g.most_failures < count_below (λ j. nat_le (h.promise j) (h.state c).view) (size g) → IsCertified g h ys → IsPrefix ys (h.state c).log
+PrimariesLead E = (g : Group E) (h : History E) (c : ℕ) (ys : List E) → Invariant g h → c < size g
+    → (h.state c).status ≡ Normal → c ≡ primary_of g (h.state c).view → MostPromiseUpTo g h (h.state c).view → IsCertified g h ys → IsPrefix ys (h.state c).log
 
 -- and so with what a journal has decided, where no input of the primary is open
 abbrev pub DecidedIsLed : Type 0 → Type 0 → Type 0 → Type 0
-DecidedIsLed Own A E = (r : Rules Own A E) (g : Group E) (past : List (Entry Own E)) (c : ℕ) → Follows r g → IsLegal r g past → c < size g → (held r c past).open_input ≡ None
+DecidedIsLed Own A E = (r : Rules Own A E) (g : Group E) (past : List (Entry Own E)) (c : ℕ) → Follows r g → IsLegal r g past → c < size g
+    → (held r c past).open_input ≡ None
     → (let s = r.state (held r c past).now in
-    s.status ≡ Normal → c ≡ primary_of g s.view → g.most_failures < count_below (λ j. nat_le (r.promise (held r j past).now) s.view) (size g) → IsPrefix (decided r g past) s.log)
+    s.status ≡ Normal → c ≡ primary_of g s.view → MostPromiseUpTo g (history r g past) s.view → IsPrefix (decided r g past) s.log)

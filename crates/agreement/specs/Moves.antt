@@ -101,18 +101,20 @@ pub data MoveOf {E : Type 0} (g : Group E) (h h' : History E) (c : ℕ) (s : Sta
   Enters : (view : ℕ) → is_up s.status ≡ true → s.view < view
       → Moved h h' c (entered s view) view life [] → LogsStay h h' → MoveOf g h h' c s promise life
   -- the primary of a view that is to start collects a good vote, the first of its sender
-  Collects : (vote : Vote E) → s.status ≡ ViewChange → c ≡ primary_of g s.view → (¬ IsIn vote.from (map (λ v. v.from) s.collected)) → vote.from < size g
+  Collects : (vote : Vote E) → s.status ≡ ViewChange → c ≡ primary_of g s.view
+      → (¬ IsIn vote.from (map (λ v. v.from) s.collected)) → vote.from < size g
       → IsGoodVote g h vote.from s.view vote.normal vote.commit vote.rest
       → Moved h h' c (collecting s vote) promise life [] → LogsStay h h' → MoveOf g h h' c s promise life
   -- it keeps certified entries that it was supplied with, and leaves its log
   Stocks : (x : Supplied E) → s.status ≡ ViewChange → x.first ≤ s.commit → IsGoodSupply g h x.first x.rest
       → Moved h h' c (supplying s x) promise life [] → LogsStay h h' → MoveOf g h h' c s promise life
   -- with f + 1 votes it starts the view, with the whole log of the best of them, and a commit number that one of them tells
-  Starts : (best most : Vote E) (good : IsGoodVote g h best.from s.view best.normal best.commit best.rest) → s.status ≡ ViewChange → c ≡ primary_of g s.view
-      → g.most_failures < length s.collected → IsBest s.collected best → IsIn most s.collected
+  Starts : (best most : Vote E) (good : IsGoodVote g h best.from s.view best.normal best.commit best.rest)
+      → s.status ≡ ViewChange → c ≡ primary_of g s.view → g.most_failures < length s.collected → IsBest s.collected best → IsIn most s.collected
       → Moved h h' c (started s good.whole most.commit) promise life [] → LogBecomes h h' s.view good.whole → MoveOf g h h' c s promise life
   -- another takes a log of a later view, or of this one while it changes; the commit number does not fall
-  Adopts : (view commit : ℕ) (log : List E) → is_up s.status ≡ true → c ≢ primary_of g view → IsLogOf g h view log commit → (s.view < view) ⊎ ((s.view ≡ view) × (s.status ≡ ViewChange))
+  Adopts : (view commit : ℕ) (log : List E) → is_up s.status ≡ true → c ≢ primary_of g view → IsLogOf g h view log commit
+      → (s.view < view) ⊎ ((s.view ≡ view) × (s.status ≡ ViewChange))
       → Moved h h' c (adopted s view log (max s.commit commit)) view life [] → LogsStay h h' → MoveOf g h h' c s promise life
   -- a backup takes more entries of its view
   Appends : (log : List E) → s.status ≡ Normal → c ≢ primary_of g s.view → IsPrefix s.log log → IsPrefix log (h.logs s.view)
@@ -129,19 +131,22 @@ pub data MoveOf {E : Type 0} (g : Group E) (h h' : History E) (c : ℕ) (s : Sta
   -- the primary proposes an entry
   Proposes : (e : E) (new : List (Letter E)) → s.status ≡ Normal → c ≡ primary_of g s.view → g.is_log (s.log ++ e ∷ []) ≡ true
       → ((l : Letter E) → IsIn l new → (l.sender ≡ c) × (l.message ≡ Prepare s.view (length s.log + 1) s.commit e))
-      → Moved h h' c (appended s (s.log ++ e ∷ [])) promise life new → LogBecomes h h' s.view (s.log ++ e ∷ []) → MoveOf g h h' c s promise life
+      → Moved h h' c (appended s (s.log ++ e ∷ [])) promise life new
+      → LogBecomes h h' s.view (s.log ++ e ∷ []) → MoveOf g h h' c s promise life
   -- one that recovers keeps a response to its life, which another has posted
-  Keeps : (r : Response E) (responses : List (Response E)) → s.status ≡ Recovering → r.from ≢ c → IsIn (letter r.from c (RecoveryResponse r.view life r.answer)) h.sent
-      → ((x : Response E) → IsIn x responses → (x ≡ r) ⊎ IsIn x s.responses)
+  Keeps : (r : Response E) (responses : List (Response E)) → s.status ≡ Recovering → r.from ≢ c
+      → IsIn (letter r.from c (RecoveryResponse r.view life r.answer)) h.sent → ((x : Response E) → IsIn x responses → (x ≡ r) ⊎ IsIn x s.responses)
       → Moved h h' c (hearing s responses) promise life [] → LogsStay h h' → MoveOf g h h' c s promise life
   -- it is back, with a log of a view that is not below its promise, where that has all that it has accepted of the view
-  Recovers : (view commit : ℕ) (log : List E) → s.status ≡ Recovering → promise ≤ view → c ≢ primary_of g view → IsLogOf g h view log commit
-      → ((m : ℕ) → 1 ≤ m → has_accepted g h view m c ≡ true → m ≤ length log)
+  Recovers : (view commit : ℕ) (log : List E) → s.status ≡ Recovering → promise ≤ view → c ≢ primary_of g view
+      → IsLogOf g h view log commit → ((m : ℕ) → 1 ≤ m → has_accepted g h view m c ≡ true → m ≤ length log)
       → Moved h h' c (adopted s view log commit) view life [] → LogsStay h h' → MoveOf g h h' c s promise life
   -- it crashes, or a save fails: neither number of the pair falls
-  Falls : (new_promise new_life : ℕ) → promise ≤ new_promise → life ≤ new_life → Moved h h' c (fallen s) new_promise new_life [] → LogsStay h h' → MoveOf g h h' c s promise life
+  Falls : (new_promise new_life : ℕ) → promise ≤ new_promise → life ≤ new_life
+      → Moved h h' c (fallen s) new_promise new_life [] → LogsStay h h' → MoveOf g h h' c s promise life
   -- it restarts into a new life, and asks the others
-  Rises : (new : List (Letter E)) → s.status ≡ Down → ((l : Letter E) → IsIn l new → (l.sender ≡ c) × (l.message ≡ Recovery (life + 1) promise))
+  Rises : (new : List (Letter E)) → s.status ≡ Down
+      → ((l : Letter E) → IsIn l new → (l.sender ≡ c) × (l.message ≡ Recovery (life + 1) promise))
       → Moved h h' c (risen s) promise (life + 1) new → LogsStay h h' → MoveOf g h h' c s promise life
   -- it posts good letters that acknowledge nothing
   Speaks : (new : List (Letter E)) → AreFrom c new → AcknowledgeNothing new → ((l : Letter E) → IsIn l new → IsGoodLetter g h l)

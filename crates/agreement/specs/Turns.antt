@@ -47,5 +47,6 @@ pub data Shown {E : Type 0} (g : Group E) (h : History E) (c : ℕ) : List E →
 
 -- whatever two controllers show, at any two times, one of the two logs begins the other
 abbrev pub ShownLogsAgree : Type 0 → Type 0
-ShownLogsAgree E = (g : Group E) (h0 h1 h2 : History E) (c d : ℕ) (xs ys : List E) → IsGroup g → IsStart h0 → Run g h0 h1 → Run g h1 h2 → c < size g → d < size g
+ShownLogsAgree E = (g : Group E) (h0 h1 h2 : History E) (c d : ℕ) (xs ys : List E)
+    → IsGroup g → IsStart h0 → Run g h0 h1 → Run g h1 h2 → c < size g → d < size g
     → Shown g h1 c xs → Shown g h2 d ys → IsPrefix xs ys ⊎ IsPrefix ys xs

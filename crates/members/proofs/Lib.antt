@@ -1,0 +1,9 @@
+pub mod Projected
+pub mod Turned
+pub mod Logs
+pub mod Checked
+pub mod Ticked
+pub mod Entered
+pub mod Shown
+pub mod One
+pub mod Mild

@@ -1,15 +1,19 @@
 -- Each step of a member is a turn of the moves of agreement, so that the laws of agreement hold of members.
-use Rattle.std.specs.Prelude.{◌≡◌, ℕ, ◌<◌, ◌≤◌, true}
+use Rattle.std.specs.Prelude.{◌≡◌, ℕ, ◌+◌, ◌<◌, ◌≤◌, true}
 use Rattle.agreement.specs.Lists.{IsIn}
 use Rattle.agreement.specs.History.{Group, size, letter, History}
-use Rattle.agreement.specs.Invariant.{Invariant, IsGroup}
+use Rattle.agreement.specs.Invariant.{is_up, Invariant, IsGroup}
 use Rattle.agreement.specs.Moves.{StandsAt, Moved}
 use Rattle.agreement.specs.Turns.{Turn}
-use Rattle.agreement.specs.Journals.{Tracks}
+use Rattle.agreement.specs.Journals.{Tracks, GoesOn}
 use Rattle.vr_log.specs.declared.entry.Entry.{Entry}
 use Rattle.vr_log.specs.declared.message.VrMessage.{VrMessage}
 use Rattle.vr_log.specs.declared.state.VrState.{VrState}
-use Rattle.vr_log.specs.Steps.{VrStep}
+use Rattle.vr_log.specs.declared.state.Status.TheVariants.{Down}
+use Rattle.vr_log.specs.Steps.{VrStep, quiet}
+use Rattle.vr_log.specs.Valid.{down_state}
+use Rattle.vr_recovery.specs.Recovering.{restarted}
+use Rattle.vr_core.specs.declared.input.VrInput.{VrInput}
 use Rattle.vr_core.specs.declared.input.VrInput.TheVariants as vr_input
 use Rattle.vr_core.specs.Step.{on_vr, vr_step}
 use Rattle.members.specs.Projection.{message_of, letters_of, state_of, is_member, group_of}
@@ -39,6 +43,27 @@ SuspicionsTurn = (g : Group Entry) (h h' : History Entry) (c : ℕ) (s : VrState
 abbrev pub TicksTurn : Type 0
 TicksTurn = (g : Group Entry) (h h' : History Entry) (c : ℕ) (s : VrState)
     → IsGroup g → Invariant g h → c < size g → IsMemberAt g h c s → IsTurn g h h' c (vr_step s vr_input.Tick)
+
+-- and a crash, and a save that failed: what is left is down, and neither number of the stable pair fell
+abbrev pub FallsTurn : Type 0
+FallsTurn = (g : Group Entry) (h h' : History Entry) (c : ℕ) (s : VrState) (promise life : ℕ)
+    → IsGroup g → Invariant g h → c < size g → IsMemberAt g h c s
+    → s.promise ≤ promise → s.life ≤ life → IsTurn g h h' c (quiet (down_state s.me s.controllers promise life))
+
+-- and a restart of one that is down
+abbrev pub RestartsTurn : Type 0
+RestartsTurn = (g : Group Entry) (h h' : History Entry) (c : ℕ) (s : VrState)
+    → IsGroup g → Invariant g h → c < size g → IsMemberAt g h c s
+    → s.status ≡ Down → IsTurn g h h' c (restarted s.me s.controllers s.promise (s.life + 1))
+
+-- what a step leaves is the state of the same member
+abbrev pub StepsKeepMembers : Type 0
+StepsKeepMembers = (g : Group Entry) (c : ℕ) (s : VrState) (x : VrInput) → is_member g c s ≡ true → is_member g c (vr_step s x).state ≡ true
+
+-- in a group of one, what a step leaves up was up before, and its log goes on from the one before
+abbrev pub AloneGoesOn : Type 0
+AloneGoesOn = (g : Group Entry) (c : ℕ) (s : VrState) (x : VrInput) → g.most_failures ≡ 0 → c < size g → is_member g c s ≡ true
+    → is_up (state_of (vr_step s x).state).status ≡ true → GoesOn (state_of s) (state_of (vr_step s x).state)
 
 -- the logs of members make a group
 abbrev pub LogsMakeGroups : Type 0

@@ -150,10 +150,14 @@ fn one_of_three(alloc: Global, saves: bool) -> Result<Seat<ChainOf<PlainLearning
     seat_of(alloc, 0, &setup_of(alloc, 3)?, parts, failing)
 }
 
+/// Plays turns of one of three as it starts.
+fn plays_in_three(rt: &impl Abort, alloc: Global, saves: bool, rows: &[Row]) -> Result<(), Fail> {
+    let mut seat = one_of_three(alloc, saves)?;
+    play(rt, alloc, &mut seat, rows)
+}
+
 #[test]
 fn a_promise_is_saved_first(rt: HostRuntime) -> Result<(), Fail> {
-    let mut saved = one_of_three(rt.alloc(), true)?;
-    play(&rt, rt.alloc(), &mut saved, SUSPECTS)?;
-    let mut unsaved = one_of_three(rt.alloc(), false)?;
-    play(&rt, rt.alloc(), &mut unsaved, SUSPECTS_UNSAVED)
+    plays_in_three(&rt, rt.alloc(), true, SUSPECTS)?;
+    plays_in_three(&rt, rt.alloc(), false, SUSPECTS_UNSAVED)
 }

@@ -1,0 +1,78 @@
+-- Which journals are those of a run.
+use Rattle.std.specs.Prelude.{◌≡◌, ◌≢◌, ◌<◌, ◌^◌, ℕ, List, [], ◌∷◌, length, slice_index_or, Option}
+use Rattle.std.specs.List.{AllByRecursion}
+use Rattle.rv_base.specs.declared.journal.Actor.TheVariants as actor
+use Rattle.rv_base.specs.declared.journal.JournalEntry.{JournalEntry}
+use Rattle.rv_base.specs.declared.journal.JournalEntry.TheVariants.{Post, Draw, Lose, Local, Idle, Refused}
+use Rattle.rv_base.specs.declared.journal.Letter.{Letter}
+use Rattle.rv_base.specs.declared.journal.Local.{Local as LocalInput}
+use Rattle.rv_base.specs.declared.journal.Local.TheVariants as local
+use Rattle.rv_base.specs.declared.journal.Packet.{Packet}
+use Rattle.rv_base.specs.declared.journal.SaveResult.{SaveResult}
+use Rattle.rv_base.specs.Actors.{actor_of, IsActor}
+use Rattle.rv_base.specs.Pool.{past}
+use Rattle.rv_base.specs.Part.{part}
+use Rattle.rv_base.specs.Orderly.{IsOrderly}
+use Rattle.rv_runs.specs.States.{Scene, switch_at, controller_at, sealed_letters, switch_message, controller_message}
+
+-- the newest entry took an input that may want memory
+abbrev pub IsTurn : {B : Type 0} → List (JournalEntry B × Option (Packet B)) → Type 0
+IsTurn [] = ⊥
+IsTurn (step ∷ before) = elim step.0 [
+  | Draw a id keep ↦ Unit {0}
+  | Local a input ↦ Unit {0}
+  | _ ↦ ⊥
+]
+
+-- an entry stands where it may, over what its actor owes there, sealed
+abbrev pub Fits : {B : Type 0} → List (Letter B) → List (JournalEntry B × Option (Packet B)) → JournalEntry B → Type 0
+Fits owed before (Post a first letters lost) = (letters ≡ owed) × (letters ≢ [])
+Fits owed before (Draw a id keep) = owed ≡ []
+Fits owed before (Lose a id) = owed ≡ []
+Fits owed before (Local a input) = owed ≡ []
+Fits owed before (Idle a) = owed ≡ []
+Fits owed before (Refused a) = IsTurn before
+
+-- each entry of a switch's part stands where it may
+abbrev pub IsSoundSwitch : {B : Type 0} → Scene B → ℕ → List (JournalEntry B × Option (Packet B)) → Type 0
+IsSoundSwitch scene s [] = Unit {0}
+IsSoundSwitch scene s (step ∷ before) =
+    Fits (sealed_letters switch_message scene.sealing (switch_at scene s before).owed) before step.0 × IsSoundSwitch scene s before
+
+-- each entry of a controller's part stands where it may
+abbrev pub IsSoundController : {B : Type 0} → Scene B → List SaveResult → ℕ → List (JournalEntry B × Option (Packet B)) → Type 0
+IsSoundController scene results c [] = Unit {0}
+IsSoundController scene results c (step ∷ before) =
+    Fits (sealed_letters controller_message scene.sealing (controller_at scene results c before).owed) before step.0 × IsSoundController scene results c before
+
+-- the numbers of a local input fit their types
+abbrev pub FitsTypes : LocalInput → Type 0
+FitsTypes (local.Suspect view) = view < 2 ^ 32
+FitsTypes (local.Frame port bytes) = AllByRecursion (λ b. b < 2 ^ 8) bytes
+FitsTypes _ = Unit {0}
+
+abbrev pub EntryFits : {B : Type 0} → JournalEntry B → Type 0
+EntryFits (Local a input) = FitsTypes input
+EntryFits _ = Unit {0}
+
+-- the results of the saves of a controller
+abbrev pub results_of : List (List SaveResult) → ℕ → List SaveResult
+results_of results c = slice_index_or results c []
+
+-- a past that may have come about, its newest entry first, with the results of the controllers' saves and of saves to
+-- come. So is each part of it, without its newest entries
+pub record IsPossible {B : Type 0} (scene : Scene B) (results : List (List SaveResult)) (entries : List (JournalEntry B)) : Type 0 where
+  pub named : AllByRecursion (λ e. IsActor scene.setup (actor_of e)) entries
+  pub views : AllByRecursion (λ e. EntryFits e) entries
+  pub orderly : IsOrderly scene.sealing.size entries
+  pub switches : (s : ℕ) → s < length scene.setup.ports → IsSoundSwitch scene s (part (actor.Switch s) entries)
+  pub controllers : (c : ℕ) → c < scene.setup.controllers → IsSoundController scene (results_of results c) c (part (actor.Controller c) entries)
+
+-- and with no further results
+pub record IsLegalPast {B : Type 0} (scene : Scene B) (results : List (List SaveResult)) (entries : List (JournalEntry B)) : Type 0 where
+  pub possible : IsPossible scene results entries
+  pub saves : (c : ℕ) → c < scene.setup.controllers →
+      length (results_of results c) ≡ (controller_at scene (results_of results c) c (part (actor.Controller c) entries)).saves
+
+abbrev pub IsLegal : {B : Type 0} → Scene B → List (List SaveResult) → List (JournalEntry B) → Type 0
+IsLegal scene results journal = IsLegalPast scene results (past journal)

@@ -225,6 +225,12 @@ module _ {E : Type 0} {g : Group E} {h h' : History E} {c : ℕ} {s' : State E} 
       let q = quiet_by t tr (λ z p. like.log (up_not_down st.status (ap is_up n)) ∙ sym (own_log (good_at i b stand) n is) ∙ ap h.logs (sym view)) in
       tail_end gr b (tail_of gr b w1) t like (λ y m. m) (λ y m. m) q.same
 
+  -- proposals of a normal primary
+  pub turn_propose : (to : List ℕ) (es : List E) {new : List (Letter E)} → st.status ≡ Normal → c ≡ primary_of g st.view → AreLogs g st.log es
+      → Resembles (proposing st es) s' → Moved h h' c s' pr li new
+      → ((x : Letter E) → IsIn x (proposing_letters c to st es []) → IsIn x new) → ((x : Letter E) → IsIn x new → IsIn x (proposing_letters c to st es [])) → Tracks g h h' c → Turn g c h h'
+  turn_propose to es n is valid like t into back tr = end_proposes gr i b (walk_at i stand) to es n is (own_log (good_at i b stand) n is) valid like t into back tr
+
   -- PREPAREOK that lets m entries be committed, and proposals
   pub turn_prepare_ok : (j place m : ℕ) (to : List ℕ) (es : List E) {new : List (Letter E)} → st.status ≡ Normal → c ≡ primary_of g st.view → j ≢ c → IsIn (letter j c (PrepareOk st.view place)) h.sent
       → 1 ≤ g.most_failures → st.commit < m → g.most_failures ≤ count_below (without c (λ i. leb m ((counting st j place).acked i))) (size g) → AreLogs g st.log es

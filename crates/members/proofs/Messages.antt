@@ -1,13 +1,13 @@
 -- More cases of a member: COMMIT, GETSTATE, STARTVIEW, NEWSTATE and PREPAREOK.
-use Rattle.std.proofs.Common.{◌≡◌, ◌≢◌, ℕ, ◌+◌, ◌<◌, ◌≤◌, min, max, inl, inr, Bool, true, false, cond, not, nat_lt, nat_le, ◌&&◌, eqb, leb, List, [], ◌∷◌, ◌++◌, length, take, drop, filter, slice_index, refl, sym, ap, ◌∙◌, subst, subst₂, arith}
-use Rattle.std.proofs.lemmas.Bool.{cases_lt, and_parts, cond_both, leb-true, ltb-true, ltb-false, not-true}
-use Rattle.agreement.specs.Effects.{ack_if}
+use Rattle.std.proofs.Common.{◌≡◌, ◌≢◌, ℕ, ◌+◌, ◌<◌, ◌≤◌, min, max, inl, inr, Bool, true, false, cond, not, nat_lt, nat_le, ◌&&◌, eqb, leb, List, [], ◌∷◌, ◌++◌, length, take, drop, filter, slice_index, refl, sym, ap, ◌∙◌, subst, subst₂, arith, append-nil}
+use Rattle.std.proofs.lemmas.Bool.{cases_lt, and_parts, cond_both, leb-true, ltb-true, ltb-false, not-true, cond-false, ne_eqb}
+use Rattle.agreement.specs.Effects.{prepares, ack_if}
 use Rattle.agreement.specs.History.{Group, size, primary_of, State, Message, Letter, History, letter}
 use Rattle.agreement.specs.Invariant.{IsGoodNews, Invariant, IsGroup}
 use Rattle.agreement.specs.Lists.{IsIn, count_below, without}
 use Rattle.agreement.specs.Moves.{Moved, Resembles, adopted, appended, committing, counting, StandsAt}
 use Rattle.agreement.specs.Quorums.{IsCommitted}
-use Rattle.agreement.proofs.Cases.{turn_commit, turn_adopt, turn_new_state, turn_prepare_ok, turn_count}
+use Rattle.agreement.proofs.Cases.{turn_commit, turn_adopt, turn_new_state, turn_prepare_ok, turn_count, turn_propose}
 use Rattle.agreement.proofs.Conditions.{own_news}
 use Rattle.agreement.proofs.Consequences.{up_view, own_of_view}
 use Rattle.agreement.proofs.Counts.{count_more}
@@ -15,19 +15,22 @@ use Rattle.agreement.proofs.Quorums.{committed_max}
 use Rattle.agreement.proofs.Walks.{good_at, resembles_self}
 use Rattle.agreement.specs.History as core
 use Rattle.vr_log.specs.declared.entry.Entry.{Entry}
+use Rattle.vr_log.specs.declared.message.VrMessage.{VrMessage}
 use Rattle.vr_log.specs.declared.message.VrMessage.TheVariants as message
 use Rattle.vr_log.specs.declared.state.VrState.{VrState}
 use Rattle.vr_log.specs.Log.{follows}
 use Rattle.vr_log.specs.Members as member
 use Rattle.vr_log.specs.Steps as steps
 use Rattle.vr_normal.specs.Cases as normal_case
+use Rattle.vr_normal.specs.Proposing as proposing
 use Rattle.view_change.specs.Adopting as adopting
 use Rattle.view_change.specs.Cases as change
 use Rattle.vr_recovery.specs.Cases as transfer
 use Rattle.vr_normal.proofs.Agreed.{greatest_least}
 use Rattle.members.specs.Projection.{letters_of, state_of}
 use Rattle.members.specs.Laws.{IsTurn}
-use Rattle.members.proofs.Members.{IsMemberOf, here_of, newer_of, own_of, not_own_of, same_half, same_others, normal_like, greatest_good, acked_is, other_not_me, other_below, not_own, primary_is_not, goes_quiet, goes_guarded, goes_tells, goes_other, goes_from_primary}
+use Rattle.members.proofs.Checking.{each_same}
+use Rattle.members.proofs.Members.{IsMemberOf, normal_of, here_of, newer_of, own_of, not_own_of, same_half, same_others, normal_like, greatest_good, acked_is, other_not_me, other_below, not_own, primary_is_not, goes_quiet, goes_guarded, goes_tells, goes_other, goes_from_primary}
 
 -- what is agreed has a majority behind it
 agreed_many : {g : Group Entry} {c : ℕ} {s : VrState} → IsMemberOf g c s → (from op kk : ℕ) → from < length s.acked → normal_case.is_agreed (normal_case.acked_by s from op) kk ≡ true
@@ -142,3 +145,19 @@ module _ {g : Group Entry} {h h' : History Entry} {c : ℕ} {s : VrState} (gr : 
             turn_count gr i b at from op n is ne sent' like t tr
       ])
       (λ ok. goes_quiet gr i b at fine))
+
+  -- a proposal
+  pub goes_proposal : 1 ≤ g.most_failures → (entry : Entry) → proposing.may_propose s ≡ true → g.is_log (s.log ++ entry ∷ []) ≡ true → IsTurn g h h' c (proposing.proposed s entry)
+  goes_proposal o entry may fits t tr =
+      let x = and_parts (member.is_normal s) (member.is_primary s) may in
+      let n = normal_of s.status x.0 in
+      let to : List ℕ = member.others s in
+      let what : VrMessage = message.Prepare s.view (length s.log + 1) s.commit entry in
+      let new : VrState = (proposing.proposed s entry).state in
+      let half : member.most_failures s ≡ g.most_failures = same_half g s fine.controllers in
+      let commit_is : new.commit ≡ s.commit = cond-false (eqb (member.most_failures s) 0) (length s.log + 1) s.commit (ne_eqb (member.most_failures s) 0 (λ q. absurd (omega arith))) in
+      let a : State Entry = appended (state_of s) (s.log ++ entry ∷ []) in
+      let like : Resembles a (state_of new) = normal_like a (state_of new) n refl refl refl refl commit_is (λ j. refl) in
+      let said : letters_of c (steps.to_others s what) ≡ prepares c to (state_of s) entry ++ [] = each_same c what to ∙ sym (append-nil (prepares c to (state_of s) entry)) in
+      turn_propose gr i b at to (entry ∷ []) n (own_of fine s.view x.1) (fits, tt) like t
+      (λ q j. subst (λ (ls : List (Letter Entry)). IsIn q ls) (sym said) j) (λ q j. subst (λ (ls : List (Letter Entry)). IsIn q ls) said j) tr

@@ -11,9 +11,9 @@ use Rattle.vr_log.specs.declared.message.VrMessage.TheVariants as message
 use Rattle.vr_log.specs.declared.state.VrState.{VrState}
 use Rattle.vr_core.specs.Step.{on_vr, vr_step}
 use Rattle.members.specs.Projection.{message_of, state_of, status_of}
-use Rattle.members.specs.Laws.{MessagesTurn, SuspicionsTurn, TicksTurn, FallsTurn, RestartsTurn, StepsKeepMembers, AloneGoesOn, IsTurn}
+use Rattle.members.specs.Laws.{MessagesTurn, SuspicionsTurn, ProposalsTurn, TicksTurn, FallsTurn, RestartsTurn, StepsKeepMembers, AloneGoesOn, IsTurn}
 use Rattle.members.proofs.Members.{IsMemberOf, member_of, goes_fetch, goes_prepare}
-use Rattle.members.proofs.Messages.{goes_commit, goes_get_state, goes_start_view, goes_new_state, goes_prepare_ok}
+use Rattle.members.proofs.Messages.{goes_commit, goes_get_state, goes_start_view, goes_new_state, goes_prepare_ok, goes_proposal}
 use Rattle.members.proofs.Changing.{goes_suspect, goes_start_view_change, goes_do_view_change, goes_supply, goes_recovery, goes_response, goes_down, goes_restart}
 use Rattle.members.proofs.Ticks.{goes_tick}
 use Rattle.members.proofs.Keeping.{step_keeps}
@@ -40,6 +40,9 @@ messages_law g h h' c from s x gr o i b w j = goes_on_vr gr o i b w.stands (memb
 
 pub suspicions_law : SuspicionsTurn
 suspicions_law g h h' c s view gr o i b w = goes_suspect gr o i b w.stands (member_of g c s w.member) view
+
+pub proposals_law : ProposalsTurn
+proposals_law g h h' c s entry gr o i b w may fits = goes_proposal gr i b w.stands (member_of g c s w.member) o entry may fits
 
 pub ticks_law : TicksTurn
 ticks_law g h h' c s gr i b w = goes_tick gr i b w.stands (member_of g c s w.member)

@@ -1,5 +1,5 @@
 -- Each step of a member is a turn of the moves of agreement, so that the laws of agreement hold of members.
-use Rattle.std.specs.Prelude.{◌≡◌, ℕ, ◌+◌, ◌<◌, ◌≤◌, true}
+use Rattle.std.specs.Prelude.{◌≡◌, ℕ, ◌+◌, ◌<◌, ◌≤◌, true, [], ◌∷◌, ◌++◌}
 use Rattle.agreement.specs.Lists.{IsIn}
 use Rattle.agreement.specs.History.{Group, size, letter, History}
 use Rattle.agreement.specs.Invariant.{is_up, Invariant, IsGroup}
@@ -12,6 +12,7 @@ use Rattle.vr_log.specs.declared.state.VrState.{VrState}
 use Rattle.vr_log.specs.declared.state.Status.TheVariants.{Down}
 use Rattle.vr_log.specs.Steps.{VrStep, quiet}
 use Rattle.vr_log.specs.Valid.{down_state}
+use Rattle.vr_normal.specs.Proposing.{may_propose, proposed}
 use Rattle.vr_recovery.specs.Recovering.{restarted}
 use Rattle.vr_core.specs.declared.input.VrInput.{VrInput}
 use Rattle.vr_core.specs.declared.input.VrInput.TheVariants as vr_input
@@ -38,6 +39,12 @@ MessagesTurn = (g : Group Entry) (h h' : History Entry) (c from : ℕ) (s : VrSt
 abbrev pub SuspicionsTurn : Type 0
 SuspicionsTurn = (g : Group Entry) (h h' : History Entry) (c : ℕ) (s : VrState) (view : ℕ)
     → IsGroup g → 1 ≤ g.most_failures → Invariant g h → c < size g → IsMemberAt g h c s → IsTurn g h h' c (vr_step s (vr_input.Suspect view))
+
+-- and the proposal of an entry that makes a log
+abbrev pub ProposalsTurn : Type 0
+ProposalsTurn = (g : Group Entry) (h h' : History Entry) (c : ℕ) (s : VrState) (entry : Entry)
+    → IsGroup g → 1 ≤ g.most_failures → Invariant g h → c < size g → IsMemberAt g h c s
+    → may_propose s ≡ true → g.is_log (s.log ++ entry ∷ []) ≡ true → IsTurn g h h' c (proposed s entry)
 
 -- and a tick, in any group
 abbrev pub TicksTurn : Type 0

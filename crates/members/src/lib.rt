@@ -2,7 +2,7 @@
 //! Each law is a function that does nothing, and whose clause says it.
 #![tactic(auto)]
 
-ghost use Rattle.members.specs.Laws.{AloneGoesOn, FallsTurn, LogsMakeGroups, MessagesTurn, RestartsTurn, StepsKeepMembers, SuspicionsTurn, TicksTurn};
+ghost use Rattle.members.specs.Laws.{AloneGoesOn, FallsTurn, LogsMakeGroups, MessagesTurn, ProposalsTurn, RestartsTurn, StepsKeepMembers, SuspicionsTurn, TicksTurn};
 ghost use Rattle.members.specs.Spelling.{StepsCanBeSpelled};
 
 /// The logs of members make a group: what begins a log is one.
@@ -19,6 +19,11 @@ pub fn messages_turn()
 /// So is what it does with a suspicion.
 pub fn suspicions_turn()
     ensures { SuspicionsTurn }
+{}
+
+/// So is its proposal of an entry that makes a log.
+pub fn proposals_turn()
+    ensures { ProposalsTurn }
 {}
 
 /// So is what it does with a tick, in any group.

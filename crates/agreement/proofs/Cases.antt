@@ -114,68 +114,68 @@ module _ {E : Type 0} {g : Group E} {h h' : History E} {c : ℕ} {s' : State E} 
         | inr z ↦ grown.others v (λ e. z (e ∙ view)) ∙ sym (r.3 v z)
       ])
 
-module _ {E : Type 0} {g : Group E} {h h' : History E} {c : ℕ} {s' : State E} {st : State E} {pr li : ℕ} (gr : IsGroup g) (i : Invariant g h) (b : c < size g) (stand : StandsAt h c st pr li) where
+module _ {E : Type 0} {g : Group E} {h h' : History E} {c : ℕ} {s' : State E} {st : State E} {promise life : ℕ} (gr : IsGroup g) (i : Invariant g h) (b : c < size g) (stand : StandsAt h c st promise life) where
   -- STARTVIEW and NEWSTATE of a later view: its log is adopted, and acknowledged where it has more than is committed
   pub turn_adopt : (w m k to : ℕ) (rest : List E) (acks : Bool) → is_up st.status ≡ true → c ≢ primary_of g w → IsGoodNews g h w m k rest → m ≤ st.commit
       → (st.view < w) ⊎ ((st.view ≡ w) × (st.status ≡ ViewChange))
       → (let log = take m st.log ++ rest in
-      Resembles (adopted st w log (max st.commit k)) s' × Moved h h' c s' w li (ack_if acks c to w (length log)))
+      Resembles (adopted st w log (max st.commit k)) s' × Moved h h' c s' w life (ack_if acks c to w (length log)))
       → Tracks g h h' c → Turn g c h h'
   turn_adopt w m k to rest acks up ne news small later now tr =
       let r = good_at i b stand in
       let above : st.normal < w = adopted_above r up later in
       let same : take m st.log ++ rest ≡ news.log = suffix i (r.of_view up) above news.of_view small news.rest_is in
-      subst (λ (log : List E). Resembles (adopted st w log (max st.commit k)) s' × Moved h h' c s' w li (ack_if acks c to w (length log)) → Turn g c h h') (sym same)
+      subst (λ (log : List E). Resembles (adopted st w log (max st.commit k)) s' × Moved h h' c s' w life (ack_if acks c to w (length log)) → Turn g c h h') (sym same)
       (λ z.
       let s1 : State E = adopted st w news.log (max st.commit k) in
       let w0 = walk_at i stand in
-      let w1 = walk_on gr b w0 s1 w li [] no_letters (Adopts w k news.log up ne news.of_view later (moved_after w0.at c s1 _ _ []) (quiet_after w0.at c s1 _ _ [])) in
+      let w1 = walk_on gr b w0 s1 w life [] no_letters (Adopts w k news.log up ne news.of_view later (moved_after w0.at c s1 _ _ []) (quiet_after w0.at c s1 _ _ [])) in
       end_adopted gr i b to acks w1 refl ne z.0 z.1 tr)
       now
 
   -- a recovery ends with a filled response that is kept, which its view's primary has posted
-  pub turn_recover : {s : State E} (walk : Walk g c h s pr li []) (x : Response E) (k to : ℕ) (log : List E) (acks : Bool) → s.status ≡ Recovering → IsIn x s.responses → x.answer ≡ Filled k log → pr ≤ x.view
-      → Resembles (adopted s x.view log k) s' → Moved h h' c s' x.view li (ack_if acks c to x.view (length log)) → Tracks g h h' c → Turn g c h h'
+  pub turn_recover : {s : State E} (walk : Walk g c h s promise life []) (x : Response E) (k to : ℕ) (log : List E) (acks : Bool) → s.status ≡ Recovering → IsIn x s.responses → x.answer ≡ Filled k log → promise ≤ x.view
+      → Resembles (adopted s x.view log k) s' → Moved h h' c s' x.view life (ack_if acks c to x.view (length log)) → Tracks g h h' c → Turn g c h h'
   turn_recover {s} walk x k to log acks n in' is above like t tr =
       let s1 : State E = adopted s x.view log k in
       let own : walk.at.state c ≡ s = walk.moved.state_own in
       let good = heard_answer walk.inv c b (ap (λ (z : State E). z.status) own ∙ n) x (subst (λ (z : State E). IsIn x z.responses) (sym own) in') k log is in
       let apart = ((walk_good gr b walk).heard n x in').0 in
       let ne : c ≢ primary_of g x.view = λ z. apart (good.by_primary ∙ sym z) in
-      let w1 = walk_on gr b walk s1 x.view li [] no_letters
+      let w1 = walk_on gr b walk s1 x.view life [] no_letters
       (Recovers x.view k log n above ne good.of_view (good.fresh (ap (λ (z : State E). z.status) own ∙ n) refl) (moved_after walk.at c s1 _ _ []) (quiet_after walk.at c s1 _ _ [])) in
       end_adopted gr i b to acks w1 refl ne like t tr
 
   -- a crash, and a save that fails
-  pub turn_fall : (promise life : ℕ) → pr ≤ promise → li ≤ life → Resembles (fallen st) s' → Moved h h' c s' promise life [] → Tracks g h h' c → Turn g c h h'
-  turn_fall promise life up older like t tr =
+  pub turn_fall : (new_promise new_life : ℕ) → promise ≤ new_promise → life ≤ new_life → Resembles (fallen st) s' → Moved h h' c s' new_promise new_life [] → Tracks g h h' c → Turn g c h h'
+  turn_fall new_promise new_life up older like t tr =
       let s1 : State E = fallen st in
       let w0 = walk_at i stand in
-      let w1 = walk_on gr b w0 s1 promise life [] no_letters (Falls promise life up older (moved_after w0.at c s1 _ _ []) (quiet_after w0.at c s1 _ _ [])) in
+      let w1 = walk_on gr b w0 s1 new_promise new_life [] no_letters (Falls new_promise new_life up older (moved_after w0.at c s1 _ _ []) (quiet_after w0.at c s1 _ _ [])) in
       let q = quiet_by t tr (λ z is. absurd (let e : Down ≡ Normal = sym like.status ∙ z in cc)) in
       tail_end gr b (tail_of gr b w1) t like (λ y m. m) (λ y m. m) q.same
 
   -- a restart
-  pub turn_rise : (new : List (Letter E)) → st.status ≡ Down → ((x : Letter E) → IsIn x new → (x.sender ≡ c) × (x.message ≡ Recovery (li + 1) pr)) → Resembles (risen st) s'
-      → Moved h h' c s' pr (li + 1) new → Tracks g h h' c → Turn g c h h'
+  pub turn_rise : (new : List (Letter E)) → st.status ≡ Down → ((x : Letter E) → IsIn x new → (x.sender ≡ c) × (x.message ≡ Recovery (life + 1) promise)) → Resembles (risen st) s'
+      → Moved h h' c s' promise (life + 1) new → Tracks g h h' c → Turn g c h h'
   turn_rise new n says like t tr =
       let s1 : State E = risen st in
       let w0 = walk_at i stand in
-      let w1 = walk_on gr b w0 s1 pr (li + 1) new (λ x j v m. ap (λ (y : Message E). is_prepare_ok y v m) (says x j).1) (Rises new n says (moved_after w0.at c s1 _ _ new) (quiet_after w0.at c s1 _ _ new)) in
+      let w1 = walk_on gr b w0 s1 promise (life + 1) new (λ x j v m. ap (λ (y : Message E). is_prepare_ok y v m) (says x j).1) (Rises new n says (moved_after w0.at c s1 _ _ new) (quiet_after w0.at c s1 _ _ new)) in
       let q = quiet_by t tr (λ z is. absurd (let e : Recovering ≡ Normal = sym like.status ∙ z in cc)) in
       tail_end gr b (tail_of gr b w1) t like (λ y m. subst (λ (ls : List (Letter E)). IsIn y ls) (append-nil new) m) (λ y m. subst (λ (ls : List (Letter E)). IsIn y ls) (sym (append-nil new)) m) q.same
 
   -- cases that only post letters
-  pub turn_speak : (new : List (Letter E)) → AreFrom c new → AcknowledgeNothing new → ((x : Letter E) → IsIn x new → IsGoodLetter g h x) → Resembles st s' → Moved h h' c s' pr li new → LogsStay h h' → Turn g c h h'
+  pub turn_speak : (new : List (Letter E)) → AreFrom c new → AcknowledgeNothing new → ((x : Letter E) → IsIn x new → IsGoodLetter g h x) → Resembles st s' → Moved h h' c s' promise life new → LogsStay h h' → Turn g c h h'
   turn_speak new from' unlike good like t q =
       let w0 = walk_at i stand in
-      let w1 = walk_on gr b w0 st pr li new unlike (Speaks new from' unlike good (moved_after w0.at c st _ _ new) (quiet_after w0.at c st _ _ new)) in
+      let w1 = walk_on gr b w0 st promise life new unlike (Speaks new from' unlike good (moved_after w0.at c st _ _ new) (quiet_after w0.at c st _ _ new)) in
       tail_end gr b (tail_of gr b w1) t like (λ y m. subst (λ (ls : List (Letter E)). IsIn y ls) (append-nil new) m) (λ y m. subst (λ (ls : List (Letter E)). IsIn y ls) (sym (append-nil new)) m) q.same
 
   -- PREPARE of the next place: the log goes on, more may be committed, and it is acknowledged
   pub turn_prepare : (to place k : ℕ) (e : E) → st.status ≡ Normal → c ≢ primary_of g st.view → IsGoodPrepare g h st.view place k e → place ≡ length st.log + 1
       → (let log = st.log ++ e ∷ [] in
-      Resembles (committing (appended st log) (max st.commit (min k (length log)))) s' × Moved h h' c s' pr li (ack_if true c to st.view (length log)))
+      Resembles (committing (appended st log) (max st.commit (min k (length log)))) s' × Moved h h' c s' promise life (ack_if true c to st.view (length log)))
       → Tracks g h h' c → Turn g c h h'
   turn_prepare to place k e n ne good is now tr =
       let s : State E = st in
@@ -187,14 +187,14 @@ module _ {E : Type 0} {g : Group E} {h h' : History E} {c : ℕ} {s' : State E} 
       let s1 : State E = appended s log in
       let s2 : State E = committing s1 k' in
       let w0 = walk_at i stand in
-      let w1 = walk_on gr b w0 s1 pr li [] no_letters (Appends log n ne (prefix_append s.log (e ∷ [])) row.0 (moved_after w0.at c s1 _ _ []) (quiet_after w0.at c s1 _ _ [])) in
-      let w2 = walk_on gr b w1 s2 pr li [] no_letters (Commits k' n (omega arith) (omega arith) (w1.committed s.view k' row.1) (moved_after w1.at c s2 _ _ []) (quiet_after w1.at c s2 _ _ [])) in
+      let w1 = walk_on gr b w0 s1 promise life [] no_letters (Appends log n ne (prefix_append s.log (e ∷ [])) row.0 (moved_after w0.at c s1 _ _ []) (quiet_after w0.at c s1 _ _ [])) in
+      let w2 = walk_on gr b w1 s2 promise life [] no_letters (Commits k' n (omega arith) (omega arith) (w1.committed s.view k' row.1) (moved_after w1.at c s2 _ _ []) (quiet_after w1.at c s2 _ _ [])) in
       end_adopted gr i b to true w2 n ne now.0 now.1 tr
 
   -- NEWSTATE of the own view: the same
   pub turn_new_state : (m k to : ℕ) (rest : List E) → st.status ≡ Normal → c ≢ primary_of g st.view → IsGoodNews g h st.view m k rest → m ≤ length st.log → length st.log < m + length rest
       → (let log = st.log ++ drop (length st.log - m) rest in
-      Resembles (committing (appended st log) (max st.commit (min k (length log)))) s' × Moved h h' c s' pr li (ack_if true c to st.view (length log)))
+      Resembles (committing (appended st log) (max st.commit (min k (length log)))) s' × Moved h h' c s' promise life (ack_if true c to st.view (length log)))
       → Tracks g h h' c → Turn g c h h'
   turn_new_state m k to rest n ne news l more now tr =
       let s : State E = st in
@@ -209,32 +209,32 @@ module _ {E : Type 0} {g : Group E} {h h' : History E} {c : ℕ} {s' : State E} 
       let s1 : State E = appended s log in
       let s2 : State E = committing s1 k' in
       let w0 = walk_at i stand in
-      let w1 = walk_on gr b w0 s1 pr li [] no_letters (Appends log n ne p up (moved_after w0.at c s1 _ _ []) (quiet_after w0.at c s1 _ _ [])) in
-      let w2 = walk_on gr b w1 s2 pr li [] no_letters
+      let w1 = walk_on gr b w0 s1 promise life [] no_letters (Appends log n ne p up (moved_after w0.at c s1 _ _ []) (quiet_after w0.at c s1 _ _ [])) in
+      let w2 = walk_on gr b w1 s2 promise life [] no_letters
       (Commits k' n (omega arith) (omega arith) (w1.committed s.view k' (committed_max own.committed (committed_less row.5 (omega arith) (omega arith)))) (moved_after w1.at c s2 _ _ []) (quiet_after w1.at c s2 _ _ [])) in
       end_adopted gr i b to true w2 n ne now.0 now.1 tr
 
   -- PREPAREOK that lets nothing more be committed
   pub turn_count : (j place : ℕ) → st.status ≡ Normal → c ≡ primary_of g st.view → j ≢ c → IsIn (letter j c (PrepareOk st.view place)) h.sent
-      → Resembles (counting st j place) s' → Moved h h' c s' pr li [] → Tracks g h h' c → Turn g c h h'
+      → Resembles (counting st j place) s' → Moved h h' c s' promise life [] → Tracks g h h' c → Turn g c h h'
   turn_count j place n is ne at like t tr =
       let s1 : State E = counting st j place in
       let w0 = walk_at i stand in
-      let w1 = walk_on gr b w0 s1 pr li [] no_letters (Counts j place n is ne (acknowledged_accepted (good_at i b stand) j place n is ne at) (moved_after w0.at c s1 _ _ []) (quiet_after w0.at c s1 _ _ [])) in
+      let w1 = walk_on gr b w0 s1 promise life [] no_letters (Counts j place n is ne (acknowledged_accepted (good_at i b stand) j place n is ne at) (moved_after w0.at c s1 _ _ []) (quiet_after w0.at c s1 _ _ [])) in
       let view : s'.view ≡ st.view = like.view (ap is_up n) in
       let q = quiet_by t tr (λ z p. like.log (up_not_down st.status (ap is_up n)) ∙ sym (own_log (good_at i b stand) n is) ∙ ap h.logs (sym view)) in
       tail_end gr b (tail_of gr b w1) t like (λ y m. m) (λ y m. m) q.same
 
   -- proposals of a normal primary
   pub turn_propose : (to : List ℕ) (es : List E) {new : List (Letter E)} → st.status ≡ Normal → c ≡ primary_of g st.view → AreLogs g st.log es
-      → Resembles (proposing st es) s' → Moved h h' c s' pr li new
+      → Resembles (proposing st es) s' → Moved h h' c s' promise life new
       → ((x : Letter E) → IsIn x (proposing_letters c to st es []) → IsIn x new) → ((x : Letter E) → IsIn x new → IsIn x (proposing_letters c to st es [])) → Tracks g h h' c → Turn g c h h'
   turn_propose to es n is valid like t into back tr = end_proposes gr i b (walk_at i stand) to es n is (own_log (good_at i b stand) n is) valid like t into back tr
 
   -- PREPAREOK that lets m entries be committed, and proposals
   pub turn_prepare_ok : (j place m : ℕ) (to : List ℕ) (es : List E) {new : List (Letter E)} → st.status ≡ Normal → c ≡ primary_of g st.view → j ≢ c → IsIn (letter j c (PrepareOk st.view place)) h.sent
       → 1 ≤ g.most_failures → st.commit < m → g.most_failures ≤ count_below (without c (λ i. leb m ((counting st j place).acked i))) (size g) → AreLogs g st.log es
-      → Resembles (proposing (committing (counting st j place) m) es) s' → Moved h h' c s' pr li new
+      → Resembles (proposing (committing (counting st j place) m) es) s' → Moved h h' c s' promise life new
       → ((x : Letter E) → IsIn x (proposing_letters c to (committing (counting st j place) m) es []) → IsIn x new) → ((x : Letter E) → IsIn x new → IsIn x (proposing_letters c to (committing (counting st j place) m) es []))
       → Tracks g h h' c → Turn g c h h'
   turn_prepare_ok j place m to es n is ne at f more many valid like t into back tr =
@@ -242,13 +242,13 @@ module _ {E : Type 0} {g : Group E} {h h' : History E} {c : ℕ} {s' : State E} 
       let s1 : State E = counting s j place in
       let s2 : State E = committing s1 m in
       let w0 = walk_at i stand in
-      let w1 = walk_on gr b w0 s1 pr li [] no_letters (Counts j place n is ne (acknowledged_accepted (good_at i b stand) j place n is ne at) (moved_after w0.at c s1 _ _ []) (quiet_after w0.at c s1 _ _ [])) in
+      let w1 = walk_on gr b w0 s1 promise life [] no_letters (Counts j place n is ne (acknowledged_accepted (good_at i b stand) j place n is ne at) (moved_after w0.at c s1 _ _ []) (quiet_after w0.at c s1 _ _ [])) in
       let row = majority_quorum (walk_good gr b w1) m b n is f (omega arith) many w1.inv in
-      let w2 = walk_on gr b w1 s2 pr li [] no_letters (Commits m n (omega arith) row.1 (backed s.view m (omega arith) (omega arith) row.0) (moved_after w1.at c s2 _ _ []) (quiet_after w1.at c s2 _ _ [])) in
+      let w2 = walk_on gr b w1 s2 promise life [] no_letters (Commits m n (omega arith) row.1 (backed s.view m (omega arith) (omega arith) row.0) (moved_after w1.at c s2 _ _ []) (quiet_after w1.at c s2 _ _ [])) in
       end_proposes gr i b w2 to es n is (own_log (good_at i b stand) n is) valid like t into back tr
 
   -- a case that changes nothing that counts
-  pub turn_note : Resembles st s' → Moved h h' c s' pr li [] → Tracks g h h' c → Turn g c h h'
+  pub turn_note : Resembles st s' → Moved h h' c s' promise life [] → Tracks g h h' c → Turn g c h h'
   turn_note like t tr =
       let q = quiet_by t tr (own_log_of like) in
       tail_end gr b (tail_of gr b (walk_at i stand)) t like (λ y m. m) (λ y m. m) q.same
@@ -261,17 +261,17 @@ module _ {E : Type 0} {g : Group E} {h h' : History E} {c : ℕ} {s' : State E} 
 
   -- COMMIT, and PREPARE of a place that the log has, which is acknowledged
   pub turn_commit : (k to : ℕ) (acks : Bool) → st.status ≡ Normal → (acks ≡ true → c ≢ primary_of g st.view) → st.commit ≤ k → k ≤ length st.log → IsCommitted g h st.view k
-      → Resembles (committing st k) s' → Moved h h' c s' pr li (ack_if acks c to st.view (length st.log))
+      → Resembles (committing st k) s' → Moved h h' c s' promise life (ack_if acks c to st.view (length st.log))
       → Tracks g h h' c → Turn g c h h'
   turn_commit k to acks n apart more fits known like t tr =
       let s1 : State E = committing st k in
       let w0 = walk_at i stand in
-      let w1 = walk_on gr b w0 s1 pr li [] no_letters (Commits k n more fits known (moved_after w0.at c s1 _ _ []) (quiet_after w0.at c s1 _ _ [])) in
+      let w1 = walk_on gr b w0 s1 promise life [] no_letters (Commits k n more fits known (moved_after w0.at c s1 _ _ []) (quiet_after w0.at c s1 _ _ [])) in
       let q = quiet_by t tr (λ z is. let v = like.view (ap is_up n) in like.log (up_not_down st.status (ap is_up n)) ∙ sym (own_log (good_at i b stand) n (is ∙ ap (primary_of g) v)) ∙ ap h.logs (sym v)) in
       ends acks apart (tail_of gr b w1) t q
     where
-      ends : (acks : Bool) → (acks ≡ true → c ≢ primary_of g st.view) → Tail g c h (committing st k) pr li [] h.logs
-          → Moved h h' c s' pr li (ack_if acks c to st.view (length st.log)) → LogsStay h h' → Turn g c h h'
+      ends : (acks : Bool) → (acks ≡ true → c ≢ primary_of g st.view) → Tail g c h (committing st k) promise life [] h.logs
+          → Moved h h' c s' promise life (ack_if acks c to st.view (length st.log)) → LogsStay h h' → Turn g c h h'
       ends false apart w t q = tail_end gr b w t like (λ y j. j) (λ y j. j) q.same
       ends true apart w t q =
           let s1 : State E = committing st k in
@@ -295,18 +295,18 @@ module _ {E : Type 0} {g : Group E} {h : History E} {c : ℕ} (gr : IsGroup g) (
       let s1 : State E = supplying s x in
       walk_on gr b w s1 p l [] no_letters (Stocks x n small (w.inv.letters _ (w.moved.sent_more _ at)) (moved_after w.at c s1 p l []) (quiet_after w.at c s1 p l []))
 
-module _ {E : Type 0} {g : Group E} {h : History E} {c : ℕ} {st : State E} {pr li : ℕ} (gr : IsGroup g) (i : Invariant g h) (b : c < size g) (stand : StandsAt h c st pr li) where
+module _ {E : Type 0} {g : Group E} {h : History E} {c : ℕ} {st : State E} {promise life : ℕ} (gr : IsGroup g) (i : Invariant g h) (b : c < size g) (stand : StandsAt h c st promise life) where
   -- a later view is entered
-  pub walk_enter : (w : ℕ) → is_up st.status ≡ true → st.view < w → Walk g c h (entered st w) w li []
+  pub walk_enter : (w : ℕ) → is_up st.status ≡ true → st.view < w → Walk g c h (entered st w) w life []
   walk_enter w up later =
       let s1 : State E = entered st w in
       let w0 = walk_at i stand in
-      walk_on gr b w0 s1 w li [] no_letters (Enters w up later (moved_after w0.at c s1 _ _ []) (quiet_after w0.at c s1 _ _ []))
+      walk_on gr b w0 s1 w life [] no_letters (Enters w up later (moved_after w0.at c s1 _ _ []) (quiet_after w0.at c s1 _ _ []))
 
   -- RECOVERYRESPONSE: one more is kept
-  pub walk_keep : (x : Response E) (responses : List (Response E)) → st.status ≡ Recovering → x.from ≢ c → IsIn (letter x.from c (RecoveryResponse x.view li x.answer)) h.sent
-      → ((y : Response E) → IsIn y responses → (y ≡ x) ⊎ IsIn y st.responses) → Walk g c h (hearing st responses) pr li []
+  pub walk_keep : (x : Response E) (responses : List (Response E)) → st.status ≡ Recovering → x.from ≢ c → IsIn (letter x.from c (RecoveryResponse x.view life x.answer)) h.sent
+      → ((y : Response E) → IsIn y responses → (y ≡ x) ⊎ IsIn y st.responses) → Walk g c h (hearing st responses) promise life []
   walk_keep x responses n apart at these =
       let s1 : State E = hearing st responses in
       let w0 = walk_at i stand in
-      walk_on gr b w0 s1 pr li [] no_letters (Keeps x responses n apart at these (moved_after w0.at c s1 _ _ []) (quiet_after w0.at c s1 _ _ []))
+      walk_on gr b w0 s1 promise life [] no_letters (Keeps x responses n apart at these (moved_after w0.at c s1 _ _ []) (quiet_after w0.at c s1 _ _ []))

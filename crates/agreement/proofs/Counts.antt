@@ -16,11 +16,6 @@ one_apart true false h = omega arith
 one_apart false true h = omega arith
 one_apart false false h = omega arith
 
--- two tests that no number passes both
-pub count_apart : (p q : ℕ → Bool) (n : ℕ) → ((i : ℕ) → i < n → p i ≡ true → q i ≡ true → ⊥) → count_below p n + count_below q n ≤ n
-count_apart p q zero h = omega arith
-count_apart p q (suc n) h = omega (arith, count_apart p q n (λ i l. h i (omega arith)), one_apart (p n) (q n) (h n (omega arith)))
-
 -- a test that passes wherever another does
 pub count_more : (p q : ℕ → Bool) (n : ℕ) → ((i : ℕ) → i < n → p i ≡ true → q i ≡ true) → count_below p n ≤ count_below q n
 count_more p q zero h = omega arith

@@ -18,10 +18,10 @@ prepare_ok_down : {E : Type 0} (x : Message E) (v m n : ℕ) → m ≤ n → is_
 prepare_ok_down (PrepareOk w place) v m n l s = let z = and_parts (eqb w v) (leb n place) s in let k = leb-true n place z.1 in and_from (eqb w v) (leb m place) z.0 (le-leb m place (omega arith))
 prepare_ok_down _ v m n l s = absurd (false≢true s)
 
--- who has accepted a place has accepted those below it
 not_both : (x : Status) → x ≡ Recovering → x ≡ Down → ⊥
 not_both x a b = let z : Recovering ≡ Down = sym a ∙ b in cc
 
+-- who has accepted a place has accepted those below it
 pub accepted_down : {E : Type 0} (g : Group E) (h : History E) (v m n c : ℕ) → m ≤ n → has_accepted g h v n c ≡ true → has_accepted g h v m c ≡ true
 accepted_down g h v m n c l a = elim (cases_eq c (primary_of g v)) [
   | inl e ↦ let k = leb-true n (length (h.logs v)) (sym (accepted_own g h v n c e) ∙ a) in accepted_own g h v m c e ∙ le-leb m (length (h.logs v)) (omega arith)
@@ -43,9 +43,6 @@ no_letters l i = absurd i
 
 pub no_letters_from : {E : Type 0} (c : ℕ) → AreFrom {E = E} c []
 no_letters_from c l i = absurd i
-
-pub nothing_new : {E : Type 0} (g : Group E) (h : History E) (l : Letter E) → IsIn l [] → IsGoodLetter g h l
-nothing_new g h l i = absurd i
 
 module _ {E : Type 0} {g : Group E} {h : History E} {c : ℕ} {s : State E} where
   pub owed_enter : (w l : ℕ) → IsGoodState g h c s → is_up s.status ≡ true → s.view < w → Owed g h c (entered s w) w l

@@ -64,11 +64,6 @@ module _ {E : Type 0} {g : Group E} {h : History E} where
     | inr l ↦ committed_less p (omega arith) (omega arith)
   ]
 
-  pub certified_shorter : {xs ys : List E} → IsCertified g h ys → IsPrefix xs ys → IsCertified g h xs
-  certified_shorter {xs} {ys} (empty e) p = let n = prefix_length p in let z = ap length e in
-      empty (nil_from_length xs (omega arith))
-  certified_shorter {xs} {ys} (shown v m a b c q) p = let n = prefix_length p in shown v m (omega arith) b (prefix_trans p c) q
-
   -- what has a quorum in an earlier view begins each log that is safe
   pub quorum_begins : {v m w : ℕ} {xs : List E} → HasQuorum g h v m → 1 ≤ m → v < w → IsSafe g h w xs → HasFirst h v m xs
   quorum_begins {v} {m} q o l s = elim (s.at v m l o) [ inl f ↦ f | inr b ↦ absurd (no_quorum_blocked q b) ]

@@ -18,7 +18,6 @@ pub record Walk {E : Type 0} (g : Group E) (c : ℕ) (h : History E) (s : State 
   pub quiet : LogsStay h at
   pub inv : Invariant g at
   pub committed : (v k : ℕ) → IsCommitted g h v k → IsCommitted g at v k
-  pub log_of : (v k : ℕ) (log : List E) → IsLogOf g h v log k → IsLogOf g at v log k
 
 pub record Tail {E : Type 0} (g : Group E) (c : ℕ) (h : History E) (s : State E) (p l : ℕ) (new : List (Letter E)) (logs : ℕ → List E) : Type 0 where
   pub at : History E
@@ -61,7 +60,6 @@ module _ {E : Type 0} {g : Group E} {c : ℕ} {h : History E} {s : State E} {p l
     quiet = record { same = λ v. refl };
     inv = i;
     committed = λ v k x. x;
-    log_of = λ v k log x. x;
   }
 
 module _ {E : Type 0} {g : Group E} {c : ℕ} {h : History E} {s : State E} {p l : ℕ} {new : List (Letter E)} (gr : IsGroup g) (b : c < size g) where
@@ -79,7 +77,6 @@ module _ {E : Type 0} {g : Group E} {c : ℕ} {h : History E} {s : State E} {p l
         quiet = record { same = λ v. w.quiet.same v };
         inv = k.inv;
         committed = λ v j x. committed_more k.step (w.committed v j x);
-        log_of = λ v j log x. log_of_more k.step (w.log_of v j log x);
       }
 
   -- the same letters in another order
@@ -101,7 +98,6 @@ module _ {E : Type 0} {g : Group E} {c : ℕ} {h : History E} {s : State E} {p l
     quiet = w.quiet;
     inv = w.inv;
     committed = w.committed;
-    log_of = w.log_of;
   }
 
   -- the state of a walk

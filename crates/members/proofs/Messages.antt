@@ -46,6 +46,10 @@ agreed_many {g = g} {c = c} {s = s} fine from op kk small e =
     let more = count_more (without c p) (without c p') (size g) (λ j b z. ap (λ (q : ℕ). leb kk q && not (eqb j c)) (sym (acked_is s.acked from op j small)) ∙ z) in
     omega arith
 
+-- what is more than was committed before is agreed
+agreed_passes : (t : VrState) → t.commit < normal_case.agreed t → normal_case.is_agreed t (normal_case.agreed t) ≡ true
+agreed_passes t more = elim (greatest_good (normal_case.is_agreed t) t.commit (normal_case.ops (length t.log))) [ inl e ↦ absurd (omega (arith, e, more)) | inr e ↦ e ]
+
 -- an acknowledgement or none, as letters
 pub acks_are : (c : ℕ) (t : VrState) (commit : ℕ) → letters_of c (adopting.adopt_letters t commit) ≡ ack_if (nat_lt commit (length t.log)) c (member.primary_of t t.view) t.view (length t.log)
 acks_are c t commit = by (nat_lt commit (length t.log))
@@ -137,7 +141,7 @@ module _ {g : Group Entry} {h h' : History Entry} {c : ℕ} {s : VrState} (gr : 
         | inl more ↦
             let a2 : State Entry = committing a1 kk in
             let like : Resembles a2 (state_of t2) = normal_like a2 (state_of t2) n refl refl refl refl refl (λ j. acked_is s.acked from op j small) in
-            let many : g.most_failures ≤ count_below (without c (λ q. leb kk (a1.acked q))) (size g) = agreed_many fine from op kk small (elim (greatest_good (normal_case.is_agreed t1) s.commit (normal_case.ops (length s.log))) [ inl e ↦ absurd (omega arith) | inr e ↦ e ]) in
+            let many : g.most_failures ≤ count_below (without c (λ q. leb kk (a1.acked q))) (size g) = agreed_many fine from op kk small (agreed_passes t1 more) in
             turn_prepare_ok gr i b at from op kk [] [] n is ne sent' o more many tt like t (λ q j. j) (λ q j. j) tr
         | inr few ↦
             let same : kk ≡ s.commit = omega arith in

@@ -1,7 +1,7 @@
 -- What quorums say of logs, in any history, with no invariant.
 use Rattle.std.proofs.Common.{◌≡◌, ℕ, zero, suc, ◌<◌, ◌+◌, ◌≤◌, max, ◌⊎◌, inl, inr, ⊎_elim, true, false, not, ltb, List, [], ◌∷◌, length, take, map, refl, sym, ap, ◌∙◌, subst, arith}
 use Rattle.std.proofs.lemmas.Bool.{cases_lt, cases_Bool, both_ways, and_parts, and_from, lt-ltb, not_from_false, not-true}
-use Rattle.std.proofs.lemmas.List.{length-map, nil_from_length}
+use Rattle.std.proofs.lemmas.List.{length-map}
 use Rattle.std.proofs.Common.{length-drop}
 use Rattle.agreement.specs.Lists.{IsPrefix, IsAtMost, IsIn}
 use Rattle.agreement.specs.History.{Group, size, Vote, History}

@@ -2,11 +2,11 @@
 use Rattle.std.proofs.Common.{◌≡◌, ℕ, ◌<◌, inl, inr, cond, eqb, List, [], ◌++◌, refl, sym, ap, ◌∙◌, subst}
 use Rattle.agreement.specs.Lists.{IsIn}
 use Rattle.agreement.specs.History.{Group, size, Letter, State, History}
-use Rattle.agreement.specs.Quorums.{IsCommitted, IsLogOf}
+use Rattle.agreement.specs.Quorums.{IsCommitted}
 use Rattle.agreement.specs.Invariant.{IsGoodState, Invariant, IsGroup}
 use Rattle.agreement.specs.Moves.{Moved, LogsStay, AcknowledgeNothing, Resembles, MoveOf, Move, StandsAt}
 use Rattle.agreement.specs.Turns.{KeepsCommitted, StartsView, FirstMoves, first_none, first_then, last_none, last_then, Turn, plainly, starting}
-use Rattle.agreement.proofs.Frame.{committed_more, log_of_more}
+use Rattle.agreement.proofs.Frame.{committed_more}
 use Rattle.agreement.proofs.Keeping.{move_keeps}
 use Rattle.agreement.proofs.Turns.{alike_of, same_state, like_state}
 use Rattle.agreement.proofs.Chains.{after, after_growth, moved_after, quiet_after, moved_growth, moved_trans, behind, same_but_notes}

@@ -1,5 +1,5 @@
 -- What an actor holds after its part of a journal, and what it owes. Parts have their newest entry first.
-use Rattle.std.specs.Prelude.{ℕ, ◌+◌, Bool, true, false, List, [], ◌∷◌, map, slice_index_or, Option, Some, None}
+use Rattle.std.specs.Prelude.{◌≡◌, ℕ, ◌+◌, Bool, true, false, List, [], ◌∷◌, map, slice_index_or, Option, Some, None}
 use Rattle.of_types.specs.declared.setup.Setup.{Setup}
 use Rattle.rv_base.specs.declared.journal.Actor.{Actor}
 use Rattle.rv_base.specs.declared.journal.Actor.TheVariants as actor
@@ -26,13 +26,17 @@ use Rattle.of_switch.specs.State.{SwitchState, SwitchTurn, starting_switch}
 use Rattle.of_switch.specs.Rules.{switch_turn}
 use Rattle.group_controller.specs.State.{ControllerState, Work, starting_controller, down}
 use Rattle.group_controller.specs.Rules.{controller_work}
-use Rattle.rv_runs.specs.Messages.{way_of}
+use Rattle.rv_runs.specs.Messages.{IsValidMessage, way_of, way_of_message}
 
 -- how bodies stand for messages
 pub record Sealing (B : Type 0) : Type 0 where
   pub sealed : Message → B  -- the body of a message
   pub spelled : Way → B → Unsealed  -- what a body says on a way
   pub size : B → ℕ
+
+-- a body says what was sealed in it: a valid message is read again as it was
+abbrev pub IsFaithful : {B : Type 0} → Sealing B → Type 0
+IsFaithful sealing = (m : Message) → IsValidMessage m → sealing.spelled (way_of_message m) (sealing.sealed m) ≡ unsealed.Message m
 
 -- what a run is about: the setup, the kinds of the chains, and how bodies are read
 pub record Scene (B : Type 0) : Type 0 where

@@ -1,0 +1,108 @@
+-- No stale generation's command is carried out: the fence over every legal past.
+use Rattle.std.proofs.Common.{◌≡◌, ℕ, Bool, true, false, List, [], ◌∷◌, ◌++◌, refl, sym, ◌∙◌, ap, subst}
+use Rattle.std.specs.Prelude.{Option, Some, None}
+use Rattle.std.proofs.lemmas.Bool.{eq-eqb}
+use Rattle.of_types.specs.declared.setup.Setup.{Setup}
+use Rattle.rv_base.specs.declared.journal.Actor.{Actor}
+use Rattle.rv_base.specs.declared.journal.Actor.TheVariants as actor
+use Rattle.rv_base.specs.declared.journal.JournalEntry.{JournalEntry}
+use Rattle.rv_base.specs.declared.journal.JournalEntry.TheVariants.{Post, Draw, Lose, Local, Idle, Refused}
+use Rattle.rv_base.specs.declared.journal.Packet.{Packet}
+use Rattle.rv_base.specs.declared.journal.SaveResult.{SaveResult}
+use Rattle.rv_base.specs.Actors.{same_actor, actor_of}
+use Rattle.rv_base.specs.Part.{part, drawn}
+use Rattle.of_switch.specs.declared.says.SwitchInput.{SwitchInput}
+use Rattle.of_switch.specs.declared.says.SwitchInput.TheVariants as switch_input
+use Rattle.of_switch.specs.State.{SwitchState}
+use Rattle.of_switch.specs.Rules.{switch_turn}
+use Rattle.rv_runs.specs.declared.messages.Message.TheVariants as message
+use Rattle.rv_runs.specs.declared.messages.Unsealed.{Unsealed}
+use Rattle.rv_runs.specs.declared.messages.Unsealed.TheVariants as unsealed
+use Rattle.rv_runs.specs.States.{Scene, SwitchAt, switch_at, switch_step, switch_hears, content}
+use Rattle.rv_runs.specs.Legal.{IsPossible}
+use Rattle.rv_runs.specs.Committed.{switch_state}
+use Rattle.rv_runs.specs.Laws.{Heard, Asked, asked_step, master_asked, masters_asked, IsFenced, IsFencedEntry}
+use Rattle.exactly_once.specs.Facts.{Facts}
+use Rattle.exactly_once.proofs.Entries.{IsHeardAt, From_draw, Mine, Another, switch_after}
+use Rattle.exactly_once.specs.Invariant.{IsHeardBySwitch}
+use Rattle.exactly_once.proofs.Generations.{Unasked, IsFenced as Fenced, life_stays, may_pass, passes_greatest, told_turn, frame_turn, local_turn}
+use Rattle.exactly_once.proofs.Journals.{possible_before, legal_finds}
+
+-- the fence of a switch and its life now, and before what may be its open input
+pub record FencesAt (controllers : ℕ) (asked : Asked) (w : SwitchAt) : Type 0 where
+  pub now : Fenced controllers asked.now w.now
+  pub before : Fenced controllers asked.before w.before
+
+module _ (kinds : List ℕ) (setup : Setup) (f : Facts) (s : ℕ) where
+  -- after what a switch hears from a packet
+  heard_turn : (w : Heard) (start : SwitchState) (from : Actor) (u : Unsealed) → IsHeardBySwitch kinds setup f s (switch_hears from u) → Fenced setup.controllers w start →
+      Fenced setup.controllers (record { life = w.life; masters = master_asked u ++ w.masters }) (switch_turn start (switch_hears from u)).state
+  heard_turn w start (actor.Controller c) (unsealed.Message (message.Of xid m)) h k =
+      record { fence = told_turn kinds setup f c s xid m w.masters start h k.fence; life = k.life ∙ sym (life_stays (switch_input.Of c xid m) start (λ restart. absurd cc)) }
+  heard_turn w start (actor.Controller c) (unsealed.Message (message.Vr m)) h k = absurd h
+  heard_turn w start (actor.Controller c) (unsealed.Message (message.Frame port frame)) h k = absurd h
+  heard_turn w start (actor.Switch t) (unsealed.Message (message.Of xid m)) h k = absurd h
+  heard_turn w start (actor.Switch t) (unsealed.Message (message.Vr m)) h k = absurd h
+  heard_turn w start (actor.Switch t) (unsealed.Message (message.Frame port frame)) h k =
+      record { fence = frame_turn setup.controllers t port frame w.masters start k.fence; life = k.life ∙ sym (life_stays (switch_input.Frame t port frame) start (λ restart. absurd cc)) }
+  heard_turn w start (actor.Controller c) (unsealed.Malformed kind code xid head) h k = absurd h
+  heard_turn w start (actor.Switch t) (unsealed.Malformed kind code xid head) h k = absurd h
+
+  module _ {B : Type 0} (scene : Scene B) (is : scene.setup ≡ setup) where
+    -- after an entry of the switch
+    step_fences : (asked : Asked) (w : SwitchAt) (e : JournalEntry B) (found : Option (Packet B)) → ((x : SwitchInput) → IsHeardAt scene e found x → IsHeardBySwitch kinds setup f s x) →
+        FencesAt setup.controllers asked w → FencesAt setup.controllers (asked_step scene.sealing asked e found) (switch_step scene w e found)
+    step_fences asked w (Draw a id keep) (Some p) hears h =
+        record { now = heard_turn asked.now w.now p.from (content scene.sealing p) (hears _ (From_draw a id keep p refl refl refl)) h.now; before = h.now }
+    step_fences asked w (Draw a id keep) None hears h = record { now = h.now; before = h.before }
+    step_fences asked w (Local a input) found hears h = record { now = local_turn setup.controllers asked.now input w.now h.now; before = h.now }
+    step_fences asked w (Post a first letters lost) found hears h = record { now = h.now; before = h.before }
+    step_fences asked w (Refused a) found hears h = record { now = h.before; before = h.before }
+    step_fences asked w (Lose a id) found hears h = record { now = h.now; before = h.before }
+    step_fences asked w (Idle a) found hears h = record { now = h.now; before = h.before }
+
+module _ {B : Type 0} (scene : Scene B) (results : List (List SaveResult)) (facts : List (JournalEntry B) → Facts)
+    (truth : (e : JournalEntry B) (before : List (JournalEntry B)) → IsPossible scene results (e ∷ before) →
+    (s : ℕ) (x : SwitchInput) → same_actor (actor_of e) (actor.Switch s) ≡ true → IsHeardAt scene e (drawn e before) x → IsHeardBySwitch scene.kinds scene.setup (facts before) s x) where
+  pub fences : (entries : List (JournalEntry B)) → IsPossible scene results entries → (s : ℕ) →
+      FencesAt scene.setup.controllers (masters_asked scene.sealing (part (actor.Switch s) entries)) (switch_at scene s (part (actor.Switch s) entries))
+  fences [] legal s = record { now = record { fence = Unasked refl refl refl; life = refl }; before = record { fence = Unasked refl refl refl; life = refl } }
+  fences (e ∷ before) legal s =
+      let old = fences before (possible_before scene results e before legal) s in
+      elim (switch_after scene s e before) [
+        | Mine same is ↦
+            subst (λ (p : List (JournalEntry B × Option (Packet B))). FencesAt scene.setup.controllers (masters_asked scene.sealing p) (switch_at scene s p)) (sym is)
+            (step_fences scene.kinds scene.setup (facts before) s scene refl (masters_asked scene.sealing (part (actor.Switch s) before)) (switch_at scene s (part (actor.Switch s) before)) e (drawn e before)
+            (λ x heard. truth e before legal s x same heard) old)
+        | Another other is ↦
+            subst (λ (p : List (JournalEntry B × Option (Packet B))). FencesAt scene.setup.controllers (masters_asked scene.sealing p) (switch_at scene s p)) (sym is) old
+      ]
+
+  drawn_fenced : (s id : ℕ) (keep : Bool) (before : List (JournalEntry B)) → IsPossible scene results (Draw (actor.Switch s) id keep ∷ before) →
+      IsFencedEntry scene (Draw (actor.Switch s) id keep) before
+  drawn_fenced s id keep before legal x grown =
+      let e : JournalEntry B = Draw (actor.Switch s) id keep in
+      let w : SwitchAt = switch_at scene s (part (actor.Switch s) before) in
+      let old = fences before (possible_before scene results e before legal) s in
+      elim (switch_after scene s e before) [
+        | Mine same is ↦
+            let r = legal_finds scene results e before legal (actor.Switch s) id keep refl in
+            let to : switch_state scene s (e ∷ before) ≡ (switch_turn w.now (switch_hears r.0.from (content scene.sealing r.0))).state =
+            ap (λ (p : List (JournalEntry B × Option (Packet B))). (switch_at scene s p).now) is ∙ ap (λ (o : Option (Packet B)). (switch_step scene w e o).now) r.1 in
+            let grows : (switch_turn w.now (switch_hears r.0.from (content scene.sealing r.0))).state.executed ≡ w.now.executed ++ x ∷ [] = ap (λ (y : SwitchState). y.executed) (sym to) ∙ grown in
+            passes_greatest scene.setup.controllers (masters_asked scene.sealing (part (actor.Switch s) before)).now.masters w.now.fence x.from x.generation old.now.fence (may_pass (switch_hears r.0.from (content scene.sealing r.0)) w.now x grows)
+        | Another other is ↦ let no_way : true ≡ false = sym (eq-eqb s s refl) ∙ other in absurd cc
+      ]
+
+  entry_fenced : (e : JournalEntry B) (before : List (JournalEntry B)) → IsPossible scene results (e ∷ before) → IsFencedEntry scene e before
+  entry_fenced (Draw (actor.Switch s) id keep) before legal = drawn_fenced s id keep before legal
+  entry_fenced (Draw (actor.Controller c) id keep) before legal = tt
+  entry_fenced (Post a first letters lost) before legal = tt
+  entry_fenced (Lose a id) before legal = tt
+  entry_fenced (Local a input) before legal = tt
+  entry_fenced (Idle a) before legal = tt
+  entry_fenced (Refused a) before legal = tt
+
+  pub all_fenced : (entries : List (JournalEntry B)) → IsPossible scene results entries → IsFenced scene entries
+  all_fenced [] legal = tt
+  all_fenced (e ∷ before) legal = (entry_fenced e before legal, all_fenced before (possible_before scene results e before legal))

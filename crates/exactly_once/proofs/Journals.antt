@@ -1,0 +1,412 @@
+-- All that holds after a past holds after one more entry, and so after every legal past. Of the committed
+-- logs it is asked that they agree with what is decided, and that this lasts.
+use Rattle.std.proofs.Common.{◌≡◌, ◌≢◌, ◌<◌, ℕ, Bool, true, false, List, [], ◌∷◌, length, drop, zero, suc, refl, sym, ◌∙◌, ap, subst, inl, inr, arith}
+use Rattle.std.specs.Prelude.{Option, Some, if◌then◌else◌}
+use Rattle.std.proofs.lemmas.Bool.{eq-eqb}
+use Rattle.rv_base.specs.Orderly.{IsOrderly}
+use Rattle.of_types.specs.declared.message.Event.{Event}
+use Rattle.of_types.specs.declared.message.Executed.{Executed}
+use Rattle.rv_base.specs.declared.journal.Actor.{Actor}
+use Rattle.rv_base.specs.declared.journal.Actor.TheVariants as actor
+use Rattle.rv_base.specs.declared.journal.JournalEntry.{JournalEntry}
+use Rattle.rv_base.specs.declared.journal.JournalEntry.TheVariants.{Post, Draw, Lose, Local, Idle, Refused}
+use Rattle.rv_base.specs.declared.journal.Letter.{Letter}
+use Rattle.rv_base.specs.declared.journal.Packet.{Packet}
+use Rattle.rv_base.specs.declared.journal.SaveResult.{SaveResult}
+use Rattle.rv_base.specs.Actors.{same_actor, actor_of, IsActor}
+use Rattle.rv_base.specs.Part.{part, drawn}
+use Rattle.rv_base.specs.Pool.{pool}
+use Rattle.rv_base.proofs.Among.{Among}
+use Rattle.of_switch.specs.declared.says.SwitchInput.{SwitchInput}
+use Rattle.of_switch.specs.State.{SwitchState, starting_switch}
+use Rattle.of_switch.specs.Rules.{switch_turn}
+use Rattle.group_controller.specs.declared.messages.ControllerInput.{ControllerInput}
+use Rattle.group_controller.specs.declared.messages.ControllerSays.{ControllerSays}
+use Rattle.vr_log.specs.declared.entry.Entry.{Entry}
+use Rattle.vr_log.specs.declared.entry.Entry.TheVariants.{Processed}
+use Rattle.vr_log.specs.Members.{is_up}
+use Rattle.group_controller.specs.State.{ControllerState, starting_controller, committed, down}
+use Rattle.group_controller.specs.Rules.{controller_work}
+use Rattle.rv_runs.specs.States.{Scene, SwitchAt, ControllerAt, switch_at, switch_step, controller_at, sealed_letters, switch_message, controller_message, content}
+use Rattle.rv_runs.specs.Legal.{Fits, IsTurn, IsSoundSwitch, IsSoundController, EntryFits, IsPossible, results_of}
+use Rattle.rv_runs.specs.Committed.{controller_state, kept_of, kept, decided}
+use Rattle.rv_runs.specs.Laws.{IsPrefix}
+use Rattle.exactly_once.specs.Facts.{Facts, Later, firm, facts_of}
+use Rattle.exactly_once.proofs.Lists.{prefix_same, prefix_is, none_at, get_zero}
+use Rattle.exactly_once.proofs.Entries.{ControllerGoes, Turns, Falls, Stays, Own, Other, controller_after, IsHeardAt, From_draw, From_local, SwitchGoes, Takes, Rests, Posts, Refuses, switch_goes, Mine, Another, switch_after}
+use Rattle.rv_runs.specs.States.{IsFaithful}
+use Rattle.exactly_once.specs.Premises.{IsHeard, By_draw, By_local, AreControllers, IsValidLog}
+use Rattle.exactly_once.specs.Invariant.{IsSound, IsSoundAt, IsReport, IsHonest, IsHonestAt, IsOrder, IsTrueBetween, IsHeardBySwitch, IsHeardByController, HoldsEntry, Logged, Gathered, Answered, Fetched, HoldsAhead, Own as Owns, Collects, Answers, Supplies, Holds}
+use Rattle.exactly_once.specs.Truths.{IsTrueEntry, IsAhead}
+use Rattle.exactly_once.proofs.Growing.{sound_more, order_more, sound_at_more, honest_at_more, between_more}
+use Rattle.exactly_once.proofs.Switches.{switch_keeps}
+use Rattle.exactly_once.proofs.ControllerTurns.{controller_keeps}
+use Rattle.exactly_once.proofs.Packets.{one_actor, orderly_before, drawn_found, IsPosted, Was, New, pool_after, heard_by_switch, heard_by_controller, switch_packet, controller_packet}
+
+-- what is firm is a beginning of what a switch has now
+pub firm_events : (w : SwitchAt) (b : Bool) → IsPrefix w.before.events w.now.events → IsPrefix (if b then w.before else w.now).events w.now.events
+firm_events w true p = p
+firm_events w false p = prefix_same w.now.events
+
+pub firm_executed : (w : SwitchAt) (b : Bool) → IsPrefix w.before.executed w.now.executed → IsPrefix (if b then w.before else w.now).executed w.now.executed
+firm_executed w true p = p
+firm_executed w false p = prefix_same w.now.executed
+
+firm_before : (w : SwitchAt) → w.fresh ≡ true → firm w ≡ w.before
+firm_before w h = rw h refl
+
+-- no entries beside number 0
+nothing_ahead : (f : Facts) (k : ℕ) (entries : List Entry) → k ≡ 0 → entries ≡ [] → IsAhead f k entries
+nothing_ahead f k entries is none = record { bound = omega (arith, is); one = λ j among. absurd (subst (λ (l : List Entry). Among (Processed j) l) none among) }
+
+-- an input is fresh
+turn_fresh : {B : Type 0} (scene : Scene B) (w : SwitchAt) (e : JournalEntry B) (found : Option (Packet B)) (rest : List (JournalEntry B × Option (Packet B))) →
+    ((a : Actor) (id : ℕ) (keep : Bool) → e ≡ Draw a id keep → (p : Packet B) × (found ≡ Some p)) → IsTurn ((e, found) ∷ rest) → (switch_step scene w e found).fresh ≡ true
+turn_fresh scene w (Draw a id keep) found rest finds turn = let r = finds a id keep refl in subst (λ (o : Option (Packet _)). (switch_step scene w (Draw a id keep) o).fresh ≡ true) (sym r.1) refl
+turn_fresh scene w (Local a input) found rest finds turn = refl
+turn_fresh scene w (Post a first letters lost) found rest finds turn = absurd turn
+turn_fresh scene w (Lose a id) found rest finds turn = absurd turn
+turn_fresh scene w (Idle a) found rest finds turn = absurd turn
+turn_fresh scene w (Refused a) found rest finds turn = absurd turn
+
+-- a past is possible without its newest entry
+pub possible_before : {B : Type 0} (scene : Scene B) (results : List (List SaveResult)) (e : JournalEntry B) (before : List (JournalEntry B)) → IsPossible scene results (e ∷ before) → IsPossible scene results before
+possible_before {B = B} scene results e before legal =
+    record {
+      named = legal.named.1;
+      views = legal.views.1;
+      orderly = orderly_before scene.sealing.size e before legal.orderly;
+      switches = λ s lt. elim (switch_after scene s e before) [
+        | Mine same is ↦ (subst (λ (p : List (JournalEntry B × Option (Packet B))). IsSoundSwitch scene s p) is (legal.switches s lt)).1
+        | Another other is ↦ subst (λ (p : List (JournalEntry B × Option (Packet B))). IsSoundSwitch scene s p) is (legal.switches s lt)
+      ];
+      controllers = λ c lt. elim (controller_after scene (results_of results c) c e before) [
+        | Own same is goes ↦ (subst (λ (p : List (JournalEntry B × Option (Packet B))). IsSoundController scene (results_of results c) c p) is (legal.controllers c lt)).1
+        | Other other is ↦ subst (λ (p : List (JournalEntry B × Option (Packet B))). IsSoundController scene (results_of results c) c p) is (legal.controllers c lt)
+      ];
+    }
+
+pub possible_drop : {B : Type 0} (scene : Scene B) (results : List (List SaveResult)) (i : ℕ) (entries : List (JournalEntry B)) → IsPossible scene results entries → IsPossible scene results (drop i entries)
+possible_drop scene results zero entries legal = legal
+possible_drop scene results (suc i) [] legal = legal
+possible_drop scene results (suc i) (e ∷ before) legal = possible_drop scene results i before (possible_before scene results e before legal)
+
+pub from_some : {A : Type 0} (x y : A) → Some x ≡ Some y → x ≡ y
+from_some x y h = cc
+
+pub self_switch : (s : ℕ) → same_actor (actor.Switch s) (actor.Switch s) ≡ true
+self_switch s = eq-eqb s s refl
+
+pub self_controller : (c : ℕ) → same_actor (actor.Controller c) (actor.Controller c) ≡ true
+self_controller c = eq-eqb c c refl
+
+-- a draw of a legal journal finds its packet
+pub legal_finds : {B : Type 0} (scene : Scene B) (results : List (List SaveResult)) (e : JournalEntry B) (before : List (JournalEntry B)) → IsPossible scene results (e ∷ before) →
+    (a : Actor) (id : ℕ) (keep : Bool) → e ≡ Draw a id keep → (p : Packet B) × (drawn e before ≡ Some p)
+legal_finds {B = B} scene results e before legal a id keep is =
+    let r = drawn_found scene.sealing.size a id keep before (subst (λ (x : JournalEntry B). IsOrderly scene.sealing.size (x ∷ before)) is legal.orderly) in
+    (r.packet, ap (λ (x : JournalEntry B). drawn x before) is ∙ r.found)
+
+module _ {B : Type 0} (scene : Scene B) (results : List (List SaveResult)) (faithful : IsFaithful scene.sealing)
+    (grows : (e : JournalEntry B) (before : List (JournalEntry B)) → IsPossible scene results (e ∷ before) → ((i : ℕ) → Holds scene results (drop i before)) → IsPrefix (decided scene results before) (decided scene results (e ∷ before)))
+    (front : (e : JournalEntry B) (before : List (JournalEntry B)) → IsPossible scene results (e ∷ before) → ((i : ℕ) → Holds scene results (drop i before)) →
+    (c : ℕ) → c < scene.setup.controllers → IsPrefix (kept scene results c (e ∷ before)) (decided scene results (e ∷ before)))
+    (sides : AreControllers scene results) where
+  module _ (e : JournalEntry B) (before : List (JournalEntry B)) (legal : IsPossible scene results (e ∷ before)) (trust : (i : ℕ) → Holds scene results (drop i before)) where
+    holds : Holds scene results before
+    holds = trust 0
+
+    pub named_switch : (s : ℕ) → same_actor (actor_of e) (actor.Switch s) ≡ true → s < length scene.setup.ports
+    named_switch s h = subst (λ (a : Actor). IsActor scene.setup a) (one_actor (actor_of e) (actor.Switch s) h) legal.named.0
+
+    pub named_controller : (c : ℕ) → same_actor (actor_of e) (actor.Controller c) ≡ true → c < scene.setup.controllers
+    named_controller c h = subst (λ (a : Actor). IsActor scene.setup a) (one_actor (actor_of e) (actor.Controller c) h) legal.named.0
+
+    finds : (a : Actor) (id : ℕ) (keep : Bool) → e ≡ Draw a id keep → (p : Packet B) × (drawn e before ≡ Some p)
+    finds a id keep is = legal_finds scene results e before legal a id keep is
+
+    -- a switch after a step of its own, and of another actor
+    stepped : (s : ℕ) → part (actor.Switch s) (e ∷ before) ≡ (e, drawn e before) ∷ part (actor.Switch s) before →
+        switch_at scene s (part (actor.Switch s) (e ∷ before)) ≡ switch_step scene (switch_at scene s (part (actor.Switch s) before)) e (drawn e before)
+    stepped s is = ap (λ (p : List (JournalEntry B × Option (Packet B))). switch_at scene s p) is
+
+    stayed : (s : ℕ) → part (actor.Switch s) (e ∷ before) ≡ part (actor.Switch s) before →
+        switch_at scene s (part (actor.Switch s) (e ∷ before)) ≡ switch_at scene s (part (actor.Switch s) before)
+    stayed s is = ap (λ (p : List (JournalEntry B × Option (Packet B))). switch_at scene s p) is
+
+    -- a refusal takes back an input that is fresh
+    refused_fresh : (s : ℕ) (a : Actor) → e ≡ Refused a → s < length scene.setup.ports → part (actor.Switch s) (e ∷ before) ≡ (e, drawn e before) ∷ part (actor.Switch s) before →
+        (switch_at scene s (part (actor.Switch s) before)).fresh ≡ true
+    refused_fresh s a refuses there is =
+        let sound = (subst (λ (p : List (JournalEntry B × Option (Packet B))). IsSoundSwitch scene s p) is (legal.switches s there)).0 in
+        let turn : IsTurn (part (actor.Switch s) before) =
+        subst (λ (x : JournalEntry B). Fits (sealed_letters switch_message scene.sealing (switch_at scene s (part (actor.Switch s) before)).owed) (part (actor.Switch s) before) x) refuses sound in
+        holds.turns s there turn
+
+    -- what is firm grows
+    firm_goes : (s : ℕ) (w' : SwitchAt) → s < length scene.setup.ports → part (actor.Switch s) (e ∷ before) ≡ (e, drawn e before) ∷ part (actor.Switch s) before →
+        SwitchGoes scene e (drawn e before) (switch_at scene s (part (actor.Switch s) before)) w' →
+        IsPrefix (firm (switch_at scene s (part (actor.Switch s) before))).events (firm w').events × IsPrefix (firm (switch_at scene s (part (actor.Switch s) before))).executed (firm w').executed
+    firm_goes s w' there is goes =
+        let w : SwitchAt = switch_at scene s (part (actor.Switch s) before) in
+        let h = holds.switches s there in
+        let p = firm_events w w.fresh h.events in
+        let q = firm_executed w w.fresh h.executed in
+        elim goes [
+          | Takes x heard step ↦ subst (λ (v : SwitchAt). IsPrefix (firm w).events (firm v).events × IsPrefix (firm w).executed (firm v).executed) (sym step) (p, q)
+          | Rests step ↦ subst (λ (v : SwitchAt). IsPrefix (firm w).events (firm v).events × IsPrefix (firm w).executed (firm v).executed) (sym step) (p, q)
+          | Posts step ↦ subst (λ (v : SwitchAt). IsPrefix (firm w).events (firm v).events × IsPrefix (firm w).executed (firm v).executed) (sym step) (p, q)
+          | Refuses a refuses step ↦
+              let back = firm_before w (refused_fresh s a refuses there is) in
+              subst (λ (v : SwitchAt). IsPrefix (firm w).events (firm v).events × IsPrefix (firm w).executed (firm v).executed) (sym step)
+              (prefix_is _ _ (ap (λ (v : SwitchState). v.events) (sym back)), prefix_is _ _ (ap (λ (v : SwitchState). v.executed) (sym back)))
+        ]
+
+    firm_grows : (s : ℕ) → IsPrefix (firm (switch_at scene s (part (actor.Switch s) before))).events (firm (switch_at scene s (part (actor.Switch s) (e ∷ before)))).events
+        × IsPrefix (firm (switch_at scene s (part (actor.Switch s) before))).executed (firm (switch_at scene s (part (actor.Switch s) (e ∷ before)))).executed
+    firm_grows s =
+        elim (switch_after scene s e before) [
+          | Mine same is ↦
+              let w' = switch_step scene (switch_at scene s (part (actor.Switch s) before)) e (drawn e before) in
+              let r = firm_goes s w' (named_switch s same) is (switch_goes scene (switch_at scene s (part (actor.Switch s) before)) e (drawn e before)) in
+              subst (λ (v : SwitchAt). IsPrefix (firm (switch_at scene s (part (actor.Switch s) before))).events (firm v).events × IsPrefix (firm (switch_at scene s (part (actor.Switch s) before))).executed (firm v).executed) (sym (stepped s is)) r
+          | Another other is ↦
+              subst (λ (v : SwitchAt). IsPrefix (firm (switch_at scene s (part (actor.Switch s) before))).events (firm v).events × IsPrefix (firm (switch_at scene s (part (actor.Switch s) before))).executed (firm v).executed) (sym (stayed s is))
+              (prefix_same _, prefix_same _)
+        ]
+
+    -- the facts grow
+    pub later : Later (facts_of scene results before) (facts_of scene results (e ∷ before))
+    later = record { decided = grows e before legal trust; events = λ s. (firm_grows s).0; executed = λ s. (firm_grows s).1 }
+
+    -- what a switch hears is true
+    pub switch_hears_truth : (s : ℕ) (x : SwitchInput) → same_actor (actor_of e) (actor.Switch s) ≡ true → IsHeardAt scene e (drawn e before) x → IsHeardBySwitch scene.kinds scene.setup (facts_of scene results before) s x
+    switch_hears_truth s x same (From_draw a id keep p is found hears) =
+        let r = drawn_found scene.sealing.size a id keep before (subst (λ (y : JournalEntry B). IsOrderly scene.sealing.size (y ∷ before)) is legal.orderly) in
+        let it : r.packet ≡ p = from_some r.packet p (sym r.found ∙ ap (λ (y : JournalEntry B). drawn y before) (sym is) ∙ found) in
+        let mine : a ≡ actor.Switch s = one_actor a (actor.Switch s) (ap (λ (y : JournalEntry B). same_actor (actor_of y) (actor.Switch s)) (sym is) ∙ same) in
+        let goes : p.to ≡ actor.Switch s = ap (λ (y : Packet B). y.to) (sym it) ∙ r.goes_to ∙ mine in
+        subst (λ (y : SwitchInput). IsHeardBySwitch scene.kinds scene.setup (facts_of scene results before) s y) (sym hears)
+        (heard_by_switch scene.kinds scene.setup (facts_of scene results before) s p.from p.to (content scene.sealing p) goes
+        (holds.packets p (subst (λ (y : Packet B). Among y (pool before)) it r.among)))
+    switch_hears_truth s x same (From_local a input is hears) =
+        subst (λ (y : SwitchInput). IsHeardBySwitch scene.kinds scene.setup (facts_of scene results before) s y) (sym hears) (subst (λ (y : JournalEntry B). EntryFits y) is legal.views.0)
+
+    pub controller_hears_truth : (c : ℕ) (x : ControllerInput) → same_actor (actor_of e) (actor.Controller c) ≡ true → IsHeard scene e (drawn e before) x → IsHeardByController scene.kinds scene.setup (facts_of scene results before) x
+    controller_hears_truth c x same (By_draw a id keep p is found hears) =
+        let r = drawn_found scene.sealing.size a id keep before (subst (λ (y : JournalEntry B). IsOrderly scene.sealing.size (y ∷ before)) is legal.orderly) in
+        let it : r.packet ≡ p = from_some r.packet p (sym r.found ∙ ap (λ (y : JournalEntry B). drawn y before) (sym is) ∙ found) in
+        let mine : a ≡ actor.Controller c = one_actor a (actor.Controller c) (ap (λ (y : JournalEntry B). same_actor (actor_of y) (actor.Controller c)) (sym is) ∙ same) in
+        let goes : p.to ≡ actor.Controller c = ap (λ (y : Packet B). y.to) (sym it) ∙ r.goes_to ∙ mine in
+        subst (λ (y : ControllerInput). IsHeardByController scene.kinds scene.setup (facts_of scene results before) y) (sym hears)
+        (heard_by_controller scene.kinds scene.setup (facts_of scene results before) c p.from p.to (content scene.sealing p) goes
+        (holds.packets p (subst (λ (y : Packet B). Among y (pool before)) it r.among)))
+    controller_hears_truth c x same (By_local a input is hears) =
+        subst (λ (y : ControllerInput). IsHeardByController scene.kinds scene.setup (facts_of scene results before) y) (sym hears) (subst (λ (y : JournalEntry B). EntryFits y) is legal.views.0)
+
+    -- a switch after an entry of its own
+    sound_goes : (s : ℕ) (w' : SwitchAt) → same_actor (actor_of e) (actor.Switch s) ≡ true → SwitchGoes scene e (drawn e before) (switch_at scene s (part (actor.Switch s) before)) w' →
+        IsSoundAt scene.kinds scene.setup (facts_of scene results (e ∷ before)) s w'
+    sound_goes s w' same goes =
+        let w : SwitchAt = switch_at scene s (part (actor.Switch s) before) in
+        let h = holds.switches s (named_switch s same) in
+        let m = sound_at_more scene.kinds scene.setup later s w h in
+        elim goes [
+          | Takes x heard step ↦
+              let k = switch_keeps scene.kinds scene.setup (facts_of scene results before) s x (switch_hears_truth s x same heard) w.now h.now in
+              subst (λ (v : SwitchAt). IsSoundAt scene.kinds scene.setup (facts_of scene results (e ∷ before)) s v) (sym step)
+              (record { now = sound_more scene.kinds scene.setup later s (switch_turn w.now x).state k.sound; before = m.now; events = k.events; executed = k.executed; owed = k.said })
+          | Rests step ↦
+              subst (λ (v : SwitchAt). IsSoundAt scene.kinds scene.setup (facts_of scene results (e ∷ before)) s v) (sym step)
+              (record { now = m.now; before = m.before; events = m.events; executed = m.executed; owed = m.owed })
+          | Posts step ↦
+              subst (λ (v : SwitchAt). IsSoundAt scene.kinds scene.setup (facts_of scene results (e ∷ before)) s v) (sym step)
+              (record { now = m.now; before = m.before; events = m.events; executed = m.executed; owed = λ l k. absurd k })
+          | Refuses a refuses step ↦
+              subst (λ (v : SwitchAt). IsSoundAt scene.kinds scene.setup (facts_of scene results (e ∷ before)) s v) (sym step)
+              (record { now = m.before; before = m.before; events = prefix_same w.before.events; executed = prefix_same w.before.executed; owed = λ l k. absurd k })
+        ]
+
+    sound_after : (s : ℕ) → s < length scene.setup.ports → IsSoundAt scene.kinds scene.setup (facts_of scene results (e ∷ before)) s (switch_at scene s (part (actor.Switch s) (e ∷ before)))
+    sound_after s there =
+        elim (switch_after scene s e before) [
+          | Mine same is ↦ subst (λ (v : SwitchAt). IsSoundAt scene.kinds scene.setup (facts_of scene results (e ∷ before)) s v) (sym (stepped s is))
+              (sound_goes s _ same (switch_goes scene (switch_at scene s (part (actor.Switch s) before)) e (drawn e before)))
+          | Another other is ↦ subst (λ (v : SwitchAt). IsSoundAt scene.kinds scene.setup (facts_of scene results (e ∷ before)) s v) (sym (stayed s is))
+              (sound_at_more scene.kinds scene.setup later s _ (holds.switches s there))
+        ]
+
+    turns_after : (s : ℕ) → s < length scene.setup.ports → IsTurn (part (actor.Switch s) (e ∷ before)) → (switch_at scene s (part (actor.Switch s) (e ∷ before))).fresh ≡ true
+    turns_after s there turn =
+        elim (switch_after scene s e before) [
+          | Mine same is ↦ ap (λ (v : SwitchAt). v.fresh) (stepped s is)
+              ∙ turn_fresh scene (switch_at scene s (part (actor.Switch s) before)) e (drawn e before) (part (actor.Switch s) before) finds (subst (λ (p : List (JournalEntry B × Option (Packet B))). IsTurn p) is turn)
+          | Another other is ↦ ap (λ (v : SwitchAt). v.fresh) (stayed s is) ∙ holds.turns s there (subst (λ (p : List (JournalEntry B × Option (Packet B))). IsTurn p) is turn)
+        ]
+
+    -- a controller that is down is honest
+    nothing_there : (c : ControllerState) (promise life : ℕ) → IsHonest scene.kinds scene.setup (facts_of scene results (e ∷ before)) (down c promise life)
+    nothing_there c promise life = record { entries = λ i y k. none_held i y k; marks = λ s l i k. absurd k; ahead = λ k entries has. none_ahead k entries has }
+      where
+        none_held : (i : ℕ) (y : Entry) → HoldsEntry (down c promise life).vr i y → IsTrueEntry scene.kinds scene.setup (facts_of scene results (e ∷ before)) i y
+        none_held i y (Logged at) = absurd (none_at i y at)
+        none_held i y (Gathered g among at) = absurd among
+        none_held i y (Answered r filled among is at) = absurd among
+        none_held i y (Fetched p is at) = cc
+
+        none_ahead : (k : ℕ) (entries : List Entry) → HoldsAhead (down c promise life).vr k entries → IsAhead (facts_of scene results (e ∷ before)) k entries
+        none_ahead k entries (Owns is log) = nothing_ahead (facts_of scene results (e ∷ before)) k entries is log
+        none_ahead k entries (Collects g among is log) = absurd among
+        none_ahead k entries (Answers r filled among it is log) = absurd among
+        none_ahead k entries (Supplies p it is log) = cc
+
+    -- what a controller has committed after a turn is decided, and valid
+    work_front : (c : ℕ) (w : ControllerState) → c < scene.setup.controllers → controller_state scene results c (e ∷ before) ≡ w → is_up w.vr ≡ true →
+        IsPrefix (committed w) (decided scene results (e ∷ before)) × IsValidLog (committed w)
+    work_front c w there now up =
+        let on : kept scene results c (e ∷ before) ≡ committed w = ap (λ (y : ControllerState). kept_of y) now ∙ rw up refl in (
+          subst (λ (l : List Entry). IsPrefix l (decided scene results (e ∷ before))) on (front e before legal trust c there),
+          subst (λ (l : List Entry). IsValidLog l) on (sides.valid e before legal trust c there),
+        )
+
+    honest_goes : (c : ℕ) → same_actor (actor_of e) (actor.Controller c) ≡ true →
+        ControllerGoes scene e (drawn e before) (controller_at scene (results_of results c) c (part (actor.Controller c) before)) (controller_at scene (results_of results c) c (part (actor.Controller c) (e ∷ before))) →
+        IsHonestAt scene.kinds scene.setup (facts_of scene results (e ∷ before)) c (controller_at scene (results_of results c) c (part (actor.Controller c) (e ∷ before)))
+    honest_goes c same (Turns x heard now owed) =
+        let w : ControllerAt = controller_at scene (results_of results c) c (part (actor.Controller c) before) in
+        let there = named_controller c same in
+        let h = holds.controllers c there in
+        let hears = controller_hears_truth c x same heard in
+        let goes = sides.turns e before legal trust c there same x heard h.now hears in
+        let k = controller_keeps scene.kinds scene.setup (facts_of scene results before) (facts_of scene results (e ∷ before)) later c w.now x hears h.now goes
+        (λ up. (work_front c (controller_work scene.kinds scene.setup w.now x).state there now up).0) (λ up. (work_front c (controller_work scene.kinds scene.setup w.now x).state there now up).1) in
+        record {
+          now = subst (λ (y : ControllerState). IsHonest scene.kinds scene.setup (facts_of scene results (e ∷ before)) y) (sym now) k.now;
+          owed = subst (λ (ls : List (Letter ControllerSays)). (l : Letter ControllerSays) → Among l ls → IsOrder scene.kinds scene.setup (facts_of scene results (e ∷ before)) c l) (sym owed) k.said;
+        }
+    honest_goes c same (Falls old promise life now owed) =
+        record {
+          now = subst (λ (y : ControllerState). IsHonest scene.kinds scene.setup (facts_of scene results (e ∷ before)) y) (sym now) (nothing_there old promise life);
+          owed = subst (λ (ls : List (Letter ControllerSays)). (l : Letter ControllerSays) → Among l ls → IsOrder scene.kinds scene.setup (facts_of scene results (e ∷ before)) c l) (sym owed) (λ l k. absurd k);
+        }
+    honest_goes c same (Stays now owed) =
+        let m = honest_at_more scene.kinds scene.setup later c _ (holds.controllers c (named_controller c same)) in
+        record {
+          now = subst (λ (y : ControllerState). IsHonest scene.kinds scene.setup (facts_of scene results (e ∷ before)) y) (sym now) m.now;
+          owed = elim owed [
+            | inl is ↦ subst (λ (ls : List (Letter ControllerSays)). (l : Letter ControllerSays) → Among l ls → IsOrder scene.kinds scene.setup (facts_of scene results (e ∷ before)) c l) (sym is) m.owed
+            | inr is ↦ subst (λ (ls : List (Letter ControllerSays)). (l : Letter ControllerSays) → Among l ls → IsOrder scene.kinds scene.setup (facts_of scene results (e ∷ before)) c l) (sym is) (λ l k. absurd k)
+          ];
+        }
+
+    honest_after : (c : ℕ) → c < scene.setup.controllers →
+        IsHonestAt scene.kinds scene.setup (facts_of scene results (e ∷ before)) c (controller_at scene (results_of results c) c (part (actor.Controller c) (e ∷ before)))
+    honest_after c there =
+        elim (controller_after scene (results_of results c) c e before) [
+          | Own same is goes ↦ honest_goes c same goes
+          | Other other is ↦
+              subst (λ (p : List (JournalEntry B × Option (Packet B))). IsHonestAt scene.kinds scene.setup (facts_of scene results (e ∷ before)) c (controller_at scene (results_of results c) c p)) (sym is)
+              (honest_at_more scene.kinds scene.setup later c _ (holds.controllers c there))
+        ]
+
+    -- a packet that is new was owed
+    new_packet : (a : Actor) (first : ℕ) (letters : List (Letter B)) (lost : ℕ) (p : Packet B) → e ≡ Post a first letters lost → IsPosted a letters p →
+        IsTrueBetween scene.kinds scene.setup (facts_of scene results (e ∷ before)) p.from p.to (content scene.sealing p)
+    new_packet (actor.Switch s) first letters lost p is posted =
+        let mine : same_actor (actor_of e) (actor.Switch s) ≡ true = ap (λ (y : JournalEntry B). same_actor (actor_of y) (actor.Switch s)) is ∙ self_switch s in
+        elim (switch_after scene s e before) [
+          | Mine same part_is ↦
+              let there = named_switch s same in
+              let w : SwitchAt = switch_at scene s (part (actor.Switch s) before) in
+              let sound = (subst (λ (q : List (JournalEntry B × Option (Packet B))). IsSoundSwitch scene s q) part_is (legal.switches s there)).0 in
+              let fits : (letters ≡ sealed_letters switch_message scene.sealing w.owed) × (letters ≢ []) =
+              subst (λ (y : JournalEntry B). Fits (sealed_letters switch_message scene.sealing w.owed) (part (actor.Switch s) before) y) is sound in
+              let stepped_to : switch_at scene s (part (actor.Switch s) (e ∷ before)) ≡ record w { owed = []; fresh = false } =
+              stepped s part_is ∙ ap (λ (y : JournalEntry B). switch_step scene w y (drawn e before)) is in
+              let events_are : w.now.events ≡ (firm (switch_at scene s (part (actor.Switch s) (e ∷ before)))).events = ap (λ (v : SwitchAt). (firm v).events) (sym stepped_to) in
+              let executed_are : w.now.executed ≡ (firm (switch_at scene s (part (actor.Switch s) (e ∷ before)))).executed = ap (λ (v : SwitchAt). (firm v).executed) (sym stepped_to) in
+              switch_packet scene.sealing faithful scene.kinds scene.setup (facts_of scene results (e ∷ before)) p s there w.owed
+              (λ l k. subst (λ (xs : List Executed). IsReport s (firm (switch_at scene s (part (actor.Switch s) (e ∷ before)))).events xs l) executed_are
+              (subst (λ (xs : List Event). IsReport s xs w.now.executed l) events_are ((holds.switches s there).owed l k)))
+              (subst (λ (ls : List (Letter B)). IsPosted (actor.Switch s) ls p) fits.0 posted)
+          | Another other part_is ↦ let no : true ≡ false = sym mine ∙ other in absurd cc
+        ]
+    new_packet (actor.Controller c) first letters lost p is posted =
+        let mine : same_actor (actor_of e) (actor.Controller c) ≡ true = ap (λ (y : JournalEntry B). same_actor (actor_of y) (actor.Controller c)) is ∙ self_controller c in
+        elim (controller_after scene (results_of results c) c e before) [
+          | Own same part_is goes ↦
+              let there = named_controller c same in
+              let w : ControllerAt = controller_at scene (results_of results c) c (part (actor.Controller c) before) in
+              let sound = (subst (λ (q : List (JournalEntry B × Option (Packet B))). IsSoundController scene (results_of results c) c q) part_is (legal.controllers c there)).0 in
+              let fits : (letters ≡ sealed_letters controller_message scene.sealing w.owed) × (letters ≢ []) =
+              subst (λ (y : JournalEntry B). Fits (sealed_letters controller_message scene.sealing w.owed) (part (actor.Controller c) before) y) is sound in
+              controller_packet scene.sealing faithful scene.kinds scene.setup (facts_of scene results (e ∷ before)) p c w.owed
+              (λ l k. order_more scene.kinds scene.setup later c l ((holds.controllers c there).owed l k))
+              (subst (λ (ls : List (Letter B)). IsPosted (actor.Controller c) ls p) fits.0 posted)
+          | Other other part_is ↦ let no : true ≡ false = sym mine ∙ other in absurd cc
+        ]
+
+    packets_after : (p : Packet B) → Among p (pool (e ∷ before)) → IsTrueBetween scene.kinds scene.setup (facts_of scene results (e ∷ before)) p.from p.to (content scene.sealing p)
+    packets_after p k =
+        elim (pool_after e before p k) [
+          | Was old ↦ between_more scene.kinds scene.setup later p.from p.to (content scene.sealing p) (holds.packets p old)
+          | New a first letters lost is posted ↦ new_packet a first letters lost p is posted
+        ]
+
+    pub holds_after : Holds scene results (e ∷ before)
+    holds_after = record { switches = sound_after; turns = turns_after; controllers = honest_after; packets = packets_after }
+
+  holds_first : Holds scene results []
+  holds_first = record {
+    switches = λ s there. record {
+      now = starts s;
+      before = starts s;
+      events = prefix_same [];
+      executed = prefix_same [];
+      owed = λ l k. absurd k;
+    };
+    turns = λ s there turn. absurd turn;
+    controllers = λ c there. record {
+      now = record { entries = λ i y k. none_held c i y k; marks = λ s l i k. absurd k; ahead = λ k entries has. none_ahead c k entries has };
+      owed = λ l k. absurd k;
+    };
+    packets = λ p k. absurd k;
+  }
+    where
+      starts : (s : ℕ) → IsSound scene.kinds scene.setup (facts_of scene results []) s (starting_switch s scene.setup)
+      starts s = record {
+        well = record {
+          number_is = refl;
+          lives = refl;
+          made = λ l i x at. absurd (none_at i x at);
+          held = λ x k. absurd k;
+          next = refl;
+          done = λ l i x at. absurd (none_at i x at);
+          count = refl;
+        };
+        good = λ x k. absurd k;
+        issued = λ l i x at. absurd (none_at i x at);
+        dropped = λ l. let none = get_zero [] l in omega (arith, none);
+      }
+
+      none_held : (c i : ℕ) (y : Entry) → HoldsEntry (starting_controller c scene.setup.controllers).vr i y → IsTrueEntry scene.kinds scene.setup (facts_of scene results []) i y
+      none_held c i y (Logged at) = absurd (none_at i y at)
+      none_held c i y (Gathered g among at) = absurd among
+      none_held c i y (Answered r filled among is at) = absurd among
+      none_held c i y (Fetched p is at) = cc
+
+      none_ahead : (c k : ℕ) (entries : List Entry) → HoldsAhead (starting_controller c scene.setup.controllers).vr k entries → IsAhead (facts_of scene results []) k entries
+      none_ahead c k entries (Owns is log) = nothing_ahead (facts_of scene results []) k entries is log
+      none_ahead c k entries (Collects g among is log) = absurd among
+      none_ahead c k entries (Answers r filled among it is log) = absurd among
+      none_ahead c k entries (Supplies p it is log) = cc
+
+  -- after every possible past, and each before it
+  all_hold : (entries : List (JournalEntry B)) → IsPossible scene results entries → (i : ℕ) → Holds scene results (drop i entries)
+  all_hold [] legal zero = holds_first
+  all_hold [] legal (suc i) = holds_first
+  all_hold (e ∷ before) legal zero = holds_after e before legal (all_hold before (possible_before scene results e before legal))
+  all_hold (e ∷ before) legal (suc i) = all_hold before (possible_before scene results e before legal) i
+
+  pub all_holds : (entries : List (JournalEntry B)) → IsPossible scene results entries → Holds scene results entries
+  all_holds entries legal = all_hold entries legal 0

@@ -1,0 +1,5 @@
+use Rattle.exactly_once.proofs.Laws.{is_fenced}
+use Rattle.exactly_once.proofs.fence.Goals as goal
+
+pub returns : goal.returns
+returns g c = λ scene results entries faithful sides legal. is_fenced scene results entries faithful sides legal

@@ -1,0 +1,170 @@
+-- The laws of a turn of a controller.
+use Rattle.std.specs.Prelude.{[], ◌≡◌, ◌<◌, ◌≤◌, ◌⊎◌, ℕ, ◌+◌, true, false, List, ◌∷◌, ◌++◌, length, take, filter, slice_get, Some}
+use Rattle.of_types.specs.declared.message.Event.{Event}
+use Rattle.of_types.specs.declared.setup.Setup.{Setup}
+use Rattle.of_types.specs.Lives.{count_in}
+use Rattle.rv_base.specs.declared.journal.Letter.{Letter}
+use Rattle.rv_base.specs.declared.journal.Local.TheVariants as local
+use Rattle.vr_log.specs.declared.entry.Entry.{Entry}
+use Rattle.vr_log.specs.declared.entry.Entry.TheVariants.{Received, Processed}
+use Rattle.vr_log.specs.declared.message.VrMessage.TheVariants as message
+use Rattle.vr_log.specs.Log.{received, processed, is_log}
+use Rattle.vr_log.specs.Steps.{letter}
+use Rattle.vr_log.specs.Valid.{starting_state, down_state}
+use Rattle.vr_recovery.specs.Recovering.{recovering_state}
+use Rattle.two_stage_log.specs.Counts.{processed_of}
+use Rattle.app_core.specs.Issued.{issued}
+use Rattle.group_controller.specs.declared.messages.ControllerInput.{ControllerInput}
+use Rattle.group_controller.specs.declared.messages.ControllerInput.TheVariants as controller_input
+use Rattle.group_controller.specs.declared.messages.ControllerSays.{ControllerSays}
+use Rattle.group_controller.specs.Rules.{is_down, controller_work}
+use Rattle.group_controller.specs.Settling.{is_settled}
+use Rattle.group_controller.specs.State.{ControllerState, Work, committed, down, fresh, resting, to_member}
+use Rattle.controller_laws.specs.Letters as told
+use Rattle.controller_laws.specs.Lists.{IsIn, IsPrefix}
+use Rattle.controller_laws.specs.CommitNumbers.{IsKnownCommit, WorkCommits}
+use Rattle.controller_laws.specs.Entries.{EachFrom, IsConsistent, SaysHold, WorkHolds}
+use Rattle.controller_laws.specs.Events.{IsNextOfLife, is_event_of}
+use Rattle.controller_laws.specs.Moves.{Chain, IsSaid}
+use Rattle.controller_laws.specs.Sources.{ComesFrom, StoodBeside}
+use Rattle.controller_laws.specs.Views.{IsKnownView, StateViews}
+use Rattle.controller_laws.specs.Truths.{Facts, IsLater, IsDoneAt, IsTrueAt, IsOneAhead, MarksAreDone, IsHonest, HearsTruth, IsTrueLetter}
+use Rattle.controller_laws.specs.Turns.{beginning, IsReached}
+use Rattle.controller_laws.specs.Finished.{IsFinished}
+
+-- a turn of a controller that is not down is a chain of moves, or a crash, which leaves only the stable pair
+abbrev pub TurnsAreChains : Type 0
+TurnsAreChains =
+    (kinds : List ℕ) (setup : Setup) (x : ControllerInput) (c : ControllerState) → is_down c ≡ false →
+    Chain kinds setup x (beginning c) (controller_work kinds setup c x)
+    ⊎ ((x ≡ controller_input.Local local.Crash) × (controller_work kinds setup c x ≡ resting (down c c.vr.promise c.vr.life)))
+
+-- a restart begins anew, and only asks the others
+pub record IsRestarted (c : ControllerState) (w : Work) : Type 0 where
+  pub state_is : w.state ≡ fresh (recovering_state c.vr.me c.vr.controllers c.vr.promise (c.vr.life + 1))
+  pub save_is : w.save ≡ Some (c.vr.promise, c.vr.life + 1)
+  pub letters : (l : Letter ControllerSays) → IsIn l w.letters → (to : ℕ) × (l ≡ to_member (letter (message.Recovery (c.vr.life + 1) c.vr.promise) to))
+
+-- one that is down rests, or restarts
+abbrev pub DownRestsOrRestarts : Type 0
+DownRestsOrRestarts =
+    (kinds : List ℕ) (setup : Setup) (x : ControllerInput) (c : ControllerState) → is_down c ≡ true →
+    (controller_work kinds setup c x ≡ resting c) ⊎ ((x ≡ controller_input.Local local.Restart) × IsRestarted c (controller_work kinds setup c x))
+
+-- every state of a chain has a log that reaches its commit number, of which what is committed stays; its marks stood or
+-- came; its letters were said on the way
+abbrev pub ChainsReach : Type 0
+ChainsReach =
+    (kinds : List ℕ) (setup : Setup) (x : ControllerInput) (c : ControllerState) (w : Work) → IsConsistent c.vr → Chain kinds setup x (beginning c) w → IsReached kinds setup x c w
+
+-- each entry that a controller holds or says stood at its place before, or came with the input, or was proposed there;
+-- and beside a commit number that it goes beyond, it stood or was proposed beside one no greater
+abbrev pub EntriesComeFrom : Type 0
+EntriesComeFrom =
+    (kinds : List ℕ) (setup : Setup) (x : ControllerInput) (c : ControllerState) (w : Work) → IsConsistent c.vr → Chain kinds setup x (beginning c) w →
+    WorkHolds (λ n e. ComesFrom kinds setup x c w.state n e) (λ k n e. StoodBeside kinds setup x c w.state k n e) w
+
+-- an event that is proposed as processed is finished
+abbrev pub SettledAreFinished : Type 0
+SettledAreFinished = (kinds : List ℕ) (setup : Setup) (c : ControllerState) → IsConsistent c.vr → is_settled kinds setup c ≡ true → IsFinished kinds setup c
+
+-- what a letter tells of what is committed
+abbrev pub LettersTell : Type 0
+LettersTell = (kinds : List ℕ) (setup : Setup) (x : ControllerInput) (c : ControllerState) (l : Letter ControllerSays) → IsSaid kinds setup x c l → told.LetterTells kinds setup x c l
+
+-- views come from the member, from its responses, and from the input
+abbrev pub ViewsComeFrom : Type 0
+ViewsComeFrom = (kinds : List ℕ) (setup : Setup) (x : ControllerInput) (c : ControllerState) (w : Work) → Chain kinds setup x (beginning c) w → StateViews (λ v. IsKnownView x c v) w.state.vr
+
+-- members that start, are down, or recover have nothing yet
+abbrev pub EmptyAreConsistent : Type 0
+EmptyAreConsistent = (me controllers promise life : ℕ) → IsConsistent (starting_state me controllers) × IsConsistent (down_state me controllers promise life) × IsConsistent (recovering_state me controllers promise life)
+
+-- what is issued on a longer log begins with what is issued on its beginning
+abbrev pub IssuedLasts : Type 0
+IssuedLasts = (kinds : List ℕ) (setup : Setup) (s l : ℕ) (es fs : List Event) → IsPrefix es fs → IsPrefix (issued kinds setup s l es) (issued kinds setup s l fs)
+
+-- no less is processed, or settled, in a longer log
+pub record CountNoLess (kinds : List ℕ) (setup : Setup) (s l : ℕ) (old new : List Entry) : Type 0 where
+  pub events : processed_of old s l ≤ processed_of new s l
+  pub commands : length (issued kinds setup s l (take (processed old) (received old))) ≤ length (issued kinds setup s l (take (processed new) (received new)))
+
+abbrev pub CountsLast : Type 0
+CountsLast = (kinds : List ℕ) (setup : Setup) (s l : ℕ) (old new : List Entry) → IsPrefix old new → CountNoLess kinds setup s l old new
+
+-- in a log events are processed in their order, each behind where it was received
+pub record AreProcessedInOrder (log : List Entry) : Type 0 where
+  pub each : (front back : List Entry) (j : ℕ) → log ≡ front ++ Processed j ∷ back → (j ≡ processed front) × (j < length (received front))
+  pub all : (j : ℕ) → j < processed log → (front : List Entry) × (back : List Entry) × (log ≡ front ++ Processed j ∷ back)
+
+-- every log
+abbrev pub LogsProcessInOrder : Type 0
+LogsProcessInOrder = (log : List Entry) → is_log log ≡ true → AreProcessedInOrder log
+
+-- where each event of a log is the one of its number that its switch made in its life, the events of a life are the
+-- first that it made
+abbrev pub LogsReceiveInOrder : Type 0
+LogsReceiveInOrder =
+    (made : ℕ → ℕ → List Event) (log : List Entry) → is_log log ≡ true → ((e : Event) → IsIn e (received log) → slice_get (made e.switch e.life) e.number ≡ Some e) →
+    (s l : ℕ) → filter (is_event_of s l) (received log) ≡ take (count_in s l (received log)) (made s l)
+
+-- each commit number that a controller holds of others, or says, is no greater than its own at last, or stood, or came
+abbrev pub CommitsComeFrom : Type 0
+CommitsComeFrom =
+    (kinds : List ℕ) (setup : Setup) (x : ControllerInput) (c : ControllerState) (w : Work) → IsConsistent c.vr → Chain kinds setup x (beginning c) w →
+    WorkCommits (λ k. IsKnownCommit x c w.state k) w
+
+-- what a controller holds, marks and says is true, where it was and heard the truth, and what it has committed is decided
+abbrev pub TurnsTellTruth : Type 0
+TurnsTellTruth =
+    (kinds : List ℕ) (setup : Setup) (f : Facts) (x : ControllerInput) (c : ControllerState) (w : Work) → IsConsistent c.vr → IsHonest kinds setup f c → HearsTruth kinds setup f x →
+    Chain kinds setup x (beginning c) w → IsPrefix (committed w.state) f.decided → WorkHolds (λ n e. IsTrueAt kinds setup f n e) (λ k n e. IsOneAhead f k n e) w × MarksAreDone f w.state
+
+-- and so are its letters
+abbrev pub TurnsSayTruth : Type 0
+TurnsSayTruth =
+    (kinds : List ℕ) (setup : Setup) (f : Facts) (x : ControllerInput) (c : ControllerState) (w : Work) → IsConsistent c.vr → Chain kinds setup x (beginning c) w →
+    IsPrefix (committed w.state) f.decided → (l : Letter ControllerSays) → IsIn l w.letters → IsTrueLetter kinds setup f x c l
+
+-- each event of a log is the next of its life
+abbrev pub LogsNumberByLife : Type 0
+LogsNumberByLife = (log front back : List Entry) (e : Event) → is_log log ≡ true → log ≡ front ++ Received e ∷ back → IsNextOfLife front e
+
+-- what is true stays true
+pub record StaysTrue (kinds : List ℕ) (setup : Setup) (f g : Facts) : Type 0 where
+  pub entries : (n : ℕ) (e : Entry) → IsTrueAt kinds setup f n e → IsTrueAt kinds setup g n e
+  pub ahead : (k n : ℕ) (e : Entry) → IsOneAhead f k n e → IsOneAhead g k n e
+  pub marks : (c : ControllerState) → MarksAreDone f c → MarksAreDone g c
+  pub letters : (x : ControllerInput) (c : ControllerState) (l : Letter ControllerSays) → IsTrueLetter kinds setup f x c l → IsTrueLetter kinds setup g x c l
+  pub honest : (c : ControllerState) → IsHonest kinds setup f c → IsHonest kinds setup g c
+  pub hears : (x : ControllerInput) → HearsTruth kinds setup f x → HearsTruth kinds setup g x
+
+-- over later facts
+abbrev pub TruthsLast : Type 0
+TruthsLast = (kinds : List ℕ) (setup : Setup) (f g : Facts) → IsLater f g → StaysTrue kinds setup f g
+
+-- what a turn leaves, beside the facts: a controller that is kept and honest, letters that are true, and what was
+-- committed, or one that is down or begins anew
+pub record TurnKeeps (kinds : List ℕ) (setup : Setup) (f : Facts) (x : ControllerInput) (c : ControllerState) (w : Work) : Type 0 where
+  pub consistent : IsConsistent w.state.vr
+  pub honest : IsHonest kinds setup f w.state
+  pub letters : (l : Letter ControllerSays) → IsIn l w.letters →
+      IsTrueLetter kinds setup f x c l × SaysHold (λ n e. IsTrueAt kinds setup f n e) (λ k n e. IsOneAhead f k n e) l.body
+  pub lasts : IsPrefix (committed c) (committed w.state) ⊎ (is_down c ≡ true) ⊎ ((is_down w.state ≡ true) × (w.letters ≡ []))
+
+-- whole turns of controllers keep what is true
+abbrev pub TurnsKeep : Type 0
+TurnsKeep =
+    (kinds : List ℕ) (setup : Setup) (f g : Facts) (x : ControllerInput) (c : ControllerState) → IsConsistent c.vr → IsHonest kinds setup f c → HearsTruth kinds setup f x → IsLater f g →
+    IsPrefix (committed (controller_work kinds setup c x).state) g.decided → TurnKeeps kinds setup g x c (controller_work kinds setup c x)
+
+-- where the entries of the decided log are true: the events of a life are the first that its switch made, and where an
+-- event is told as processed, all commands up to it are carried out, but those of lives that were over before that place
+pub record IsDecidedTruly (kinds : List ℕ) (setup : Setup) (f : Facts) : Type 0 where
+  pub events : (s l : ℕ) → filter (is_event_of s l) (received f.decided) ≡ take (count_in s l (received f.decided)) (f.events s l)
+  pub processed_are_done : (j : ℕ) → j < processed f.decided → (place : ℕ) × (slice_get f.decided place ≡ Some (Processed j)) × IsDoneAt kinds setup f place j
+
+-- every decided log of true entries
+abbrev pub DecidedAreTrue : Type 0
+DecidedAreTrue =
+    (kinds : List ℕ) (setup : Setup) (f : Facts) → is_log f.decided ≡ true → EachFrom (λ n e. IsTrueAt kinds setup f n e) 0 f.decided → IsDecidedTruly kinds setup f

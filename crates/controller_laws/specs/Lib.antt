@@ -1,0 +1,13 @@
+pub mod Lists
+pub mod Views
+pub mod Events
+pub mod MemberMoves
+pub mod Moves
+pub mod Entries
+pub mod CommitNumbers
+pub mod Turns
+pub mod Finished
+pub mod Letters
+pub mod Sources
+pub mod Truths
+pub mod Laws

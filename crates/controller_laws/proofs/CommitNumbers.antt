@@ -33,6 +33,7 @@ use Rattle.controller_laws.proofs.Prefixes.{prefix_on, prefix_length}
 use Rattle.controller_laws.proofs.MemberEntries.{response_among}
 use Rattle.controller_laws.proofs.Reached.{move_grows, chain_reaches}
 
+-- the commit numbers that an input of a member tells
 abbrev MemberInputCommits : (ℕ → Type 0) → VrInput → Type 0
 MemberInputCommits IsCommit (vr_input.From from m) = MessageCommits IsCommit m
 MemberInputCommits IsCommit _ = Unit {0}

@@ -38,6 +38,7 @@ any_among (a ∷ acked) s l i h =
       | inr there ↦ inr (any_among acked s l i there)
     ]
 
+-- one element more, of a list in which none passes
 none_choice : {A : Type 0} (b : Bool) (y x : A) (xs zs : List A) (p : A → Bool) → p y ≡ b → length (if b then y ∷ zs else zs) ≡ 0 → (length zs ≡ 0 → IsIn x xs → p x ≡ false) → (x ≡ y) ⊎ IsIn x xs → p x ≡ false
 none_choice false y x xs zs p is none rest (inl e) = ap (λ z. p z) e ∙ is
 none_choice false y x xs zs p is none rest (inr h) = rest none h

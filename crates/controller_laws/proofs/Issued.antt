@@ -16,21 +16,26 @@ use Rattle.app_core.proofs.Issuing.{concat-append, length-issues}
 use Rattle.controller_laws.specs.Lists.{IsIn, IsPrefix}
 use Rattle.controller_laws.proofs.Prefixes.{front_prefix, prefix_length, get_prefix}
 
+-- a beginning of a list of lists
 pub concat_prefix : {A : Type 0} (xs ys : List (List A)) → IsPrefix xs ys → IsPrefix (concat xs) (concat ys)
 concat_prefix xs ys p = record { rest = concat p.rest; joined = ap (λ l. concat l) p.joined ∙ concat-append xs p.rest }
 
+-- a command is for a life of a switch
 abbrev is_of : ℕ → ℕ → Issued → Bool
 is_of s l x = nat_eq x.switch s && nat_eq x.life l
 
+-- one order more or not, before others
 orders-choice : (b : Bool) (o : Order) (xs ys : List Order) → (if b then o ∷ (xs ++ ys) else xs ++ ys) ≡ (if b then o ∷ xs else xs) ++ ys
 orders-choice true o xs ys = refl
 orders-choice false o xs ys = refl
 
+-- the orders of commands, in two parts
 pub orders_in-append : (s l : ℕ) (xs ys : List Issued) → orders_in s l (xs ++ ys) ≡ orders_in s l xs ++ orders_in s l ys
 orders_in-append s l [] ys = refl
 orders_in-append s l (x ∷ xs) ys =
     ap (λ (os : List Order). if is_of s l x then x.order ∷ os else os) (orders_in-append s l xs ys) ∙ orders-choice (is_of s l x) x.order (orders_in s l xs) (orders_in s l ys)
 
+-- and of a beginning
 pub orders_prefix : (s l : ℕ) (xs ys : List Issued) → IsPrefix xs ys → IsPrefix (orders_in s l xs) (orders_in s l ys)
 orders_prefix s l xs ys p = record { rest = orders_in s l p.rest; joined = ap (λ (z : List Issued). orders_in s l z) p.joined ∙ orders_in-append s l xs p.rest }
 
@@ -39,6 +44,7 @@ length-choice : (b : Bool) (o : Order) (xs : List Order) (n : ℕ) → n ≡ len
 length-choice true o xs n e = omega (arith, e)
 length-choice false o xs n e = omega (arith, e)
 
+-- there is an order for each command of a life
 pub count-orders : (s l : ℕ) (xs : List Issued) → count_issued s l xs ≡ length (orders_in s l xs)
 count-orders s l [] = refl
 count-orders s l (x ∷ xs) = sum_by-cons _ x xs ∙ length-choice (is_of s l x) x.order (orders_in s l xs) (count_issued s l xs) (count-orders s l xs)
@@ -51,6 +57,7 @@ reactions_from-take kinds setup states (suc n) [] = refl
 reactions_from-take kinds setup states (suc n) (e ∷ es) =
     ap (λ l. (chain_next kinds setup states e).commands ∷ l) (reactions_from-take kinds setup (chain_next kinds setup states e).states n es)
 
+-- what is issued for the first events
 issue_all-take : (n : ℕ) (past : List Event) (before : List Issued) (es : List Event) (ls : List (List Command)) → issue_all past before (take n es) (take n ls) ≡ take n (issue_all past before es ls)
 issue_all-take zero past before es ls = refl
 issue_all-take (suc n) past before [] [] = refl
@@ -65,6 +72,7 @@ record IsIssuedAt (all : List Issued) (now : List Issued) : Type 0 where
   pub commands : List Command
   pub is : now ≡ issue_each events all commands
 
+-- so is each of what is issued
 issued_at : (j : ℕ) (past : List Event) (before : List Issued) (es : List Event) (ls : List (List Command)) → j < length (issue_all past before es ls) →
     IsIssuedAt (before ++ concat (take j (issue_all past before es ls))) (slice_index_or (issue_all past before es ls) j [])
 issued_at j past before [] ls h = absurd (omega (arith, h))
@@ -80,6 +88,7 @@ issued_at (suc j) past before (e ∷ es) (l ∷ ls) h =
       is = r.is ∙ ap (λ (z : List Issued). issue_each r.events z r.commands) (append_assoc before now (concat (take j (issue_all (past ++ e ∷ []) (before ++ now) es ls))));
     }
 
+-- the order behind others
 order_choice : (b : Bool) (o : Order) (xs ys : List Order) → b ≡ true → slice_get (xs ++ (if b then o ∷ ys else ys)) (length xs) ≡ Some o
 order_choice true o [] ys h = refl
 order_choice true o (x ∷ xs) ys h = order_choice true o xs ys h
@@ -127,6 +136,7 @@ next_list (x ∷ xs) (suc j) lt =
     let e : suc j + 1 ≡ suc (j + 1) = omega arith in
     ap (λ (n : ℕ). concat (take n (x ∷ xs))) e ∙ ap (λ l. x ++ l) (next_list xs j (omega arith)) ∙ sym (append_assoc x (concat (take j xs)) (slice_index_or xs j []))
 
+-- behind the last list there is none
 pub none_past : {A : Type 0} (xs : List (List A)) (j : ℕ) → length xs ≤ j → slice_index_or xs j [] ≡ []
 none_past [] j h = refl
 none_past (x ∷ xs) zero h = absurd (omega arith)

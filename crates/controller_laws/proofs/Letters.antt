@@ -23,6 +23,7 @@ use Rattle.controller_laws.specs.Letters.{Leads}
 use Rattle.controller_laws.proofs.Lists.{in_filter}
 use Rattle.controller_laws.proofs.Issued.{command_between, issued-take, count-orders}
 
+-- the test of one that leads
 pub leads_is : (s : VrState) → leads s ≡ true → Leads s
 leads_is s h = let a = and_parts (is_normal s) (is_primary s) h in record { normal = a.0; primary = eqb-true (s.view % s.controllers) s.me a.1 }
 

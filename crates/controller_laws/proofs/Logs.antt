@@ -18,15 +18,19 @@ use Rattle.controller_laws.proofs.Prefixes.{prefix_length, take_prefix}
 use Rattle.controller_laws.specs.Laws.{CountsLast, LogsProcessInOrder, LogsReceiveInOrder, LogsNumberByLife}
 use Rattle.controller_laws.proofs.Issued.{issued_prefix}
 
+-- the count of two parts
 pub processed-append : (xs ys : List Entry) → processed (xs ++ ys) ≡ processed xs + processed ys
 processed-append xs ys = sum_by-append _ xs ys
 
+-- the events of a beginning
 pub received_prefix : {xs ys : List Entry} → IsPrefix xs ys → IsPrefix (received xs) (received ys)
 received_prefix {xs = xs} p = record { rest = received p.rest; joined = ap (λ l. received l) p.joined ∙ received-append xs p.rest }
 
+-- a beginning has no more processed
 pub processed_prefix : {xs ys : List Entry} → IsPrefix xs ys → processed xs ≤ processed ys
 processed_prefix {xs = xs} {ys = ys} p = let e : processed ys ≡ processed xs + processed p.rest = ap (λ l. processed l) p.joined ∙ processed-append xs p.rest in omega arith
 
+-- nor more events of a life
 pub count_prefix : (s l : ℕ) {xs ys : List Event} → IsPrefix xs ys → count_in s l xs ≤ count_in s l ys
 count_prefix s l {xs = xs} {ys = ys} p =
     let e : count_in s l ys ≡ count_in s l xs + count_in s l p.rest = ap (λ z. count_in s l z) p.joined ∙ sum_by-append _ xs p.rest in omega arith
@@ -41,6 +45,7 @@ fits_at before front e back h =
     let a = sym (follows-append before front (e ∷ back)) ∙ h in
     (and_parts (fits (before ++ front) e) (follows (before ++ front ++ e ∷ []) back) (and_parts (follows before front) (follows (before ++ front) (e ∷ back)) a).1).0
 
+-- so it may follow there
 pub may_follow_at : (front : List Entry) (e : Entry) (back : List Entry) → is_log (front ++ e ∷ back) ≡ true → may_follow front e ≡ true
 may_follow_at front e back h = (and_parts (not (is_past_limits front e)) (may_follow front e) (fits_at [] front e back h)).1
 
@@ -50,6 +55,7 @@ processed_at front j back h =
     let a = and_parts (nat_eq j (processed front)) (nat_lt j (length (received front))) (may_follow_at front (Processed j) back h) in
     (eqb-true j (processed front) a.0, ltb-true j (length (received front)) a.1)
 
+-- so many are processed before an entry that tells of one as processed
 record IsFound (log : List Entry) (j : ℕ) : Type 0 where
   pub front : List Entry
   pub back : List Entry
@@ -57,6 +63,7 @@ record IsFound (log : List Entry) (j : ℕ) : Type 0 where
   pub is : log ≡ front ++ Processed place ∷ back
   pub count : processed front ≡ j
 
+-- there is one for each count
 find_processed : (log : List Entry) (j : ℕ) → j < processed log → IsFound log j
 find_processed [] j lt = absurd (omega arith)
 find_processed (Received e ∷ log) j lt =
@@ -75,6 +82,7 @@ pub record StandsProcessed (log : List Entry) (j : ℕ) : Type 0 where
   pub back : List Entry
   pub is : log ≡ front ++ Processed j ∷ back
 
+-- and it tells of the event of that number
 pub processed_stands : (log : List Entry) (j : ℕ) → is_log log ≡ true → j < processed log → StandsProcessed log j
 processed_stands log j valid lt =
     let r = find_processed log j lt in
@@ -118,6 +126,7 @@ take_next [] n x h = cc
 take_next (y ∷ xs) zero x h = let e : y ≡ x = cc in ap (λ z. z ∷ []) e
 take_next (y ∷ xs) (suc n) x h = let e : suc n + 1 ≡ suc (n + 1) = omega arith in ap (λ (k : ℕ). take k (y ∷ xs)) e ∙ ap (λ l. y ∷ l) (take_next xs n x h)
 
+-- one element more
 filter-push : (p : Event → Bool) (xs : List Event) (e : Event) → filter p (xs ++ e ∷ []) ≡ filter p xs ++ (if p e then e ∷ [] else [])
 filter-push p [] e = refl
 filter-push p (x ∷ xs) e = ap (λ (l : List Event). if p x then x ∷ l else l) (filter-push p xs e) ∙ by_test (p x)
@@ -179,6 +188,7 @@ ended_from life s l (e ∷ events) h =
     by_switch true is k = inr (record { event = e; among = inl refl; switch_is = eqb-true e.switch s is; later = k })
     by_switch false is k = inl k
 
+-- the test of a life that is over
 pub ended_by : (s l : ℕ) (events : List Event) → has_ended s l events ≡ true → IsEndedBy s l events
 ended_by s l events h = elim (ended_from 0 s l events (ltb-true l (life_in s events) h)) [ inl k ↦ absurd (omega (arith, k)) | inr r ↦ r ]
 

@@ -26,16 +26,19 @@ use Rattle.controller_laws.proofs.Lists.{in_append}
 use Rattle.controller_laws.proofs.MemberLogs.{best_among, most_of_all}
 use Rattle.controller_laws.proofs.Places.{stands_append, stands_take, stands_drop, stands_get, raised, covered, bare}
 
+-- a response that is kept
 newest_choice : (b : Bool) (kept r y : Response) → y ≡ (if b then r else kept) → (y ≡ r) ⊎ (y ≡ kept)
 newest_choice true kept r y e = inl e
 newest_choice false kept r y e = inr e
 
+-- of responses, with one more
 response_choice : (b : Bool) (kept r y : Response) (rest others : List Response) → (IsIn y others → (y ≡ r) ⊎ IsIn y rest) → IsIn y (if b then newest kept r ∷ rest else kept ∷ others) → (y ≡ r) ⊎ IsIn y (kept ∷ rest)
 response_choice true kept r y rest others go (inl e) = elim (newest_choice (nat_lt kept.view r.view) kept r y e) [ inl a ↦ inl a | inr b ↦ inr (inl b) ]
 response_choice true kept r y rest others go (inr k) = inr (inr k)
 response_choice false kept r y rest others go (inl e) = inr (inl e)
 response_choice false kept r y rest others go (inr k) = elim (go k) [ inl a ↦ inl a | inr b ↦ inr (inr b) ]
 
+-- a response that is kept came, or was there
 pub response_among : (all : List Response) (r y : Response) → IsIn y (with_response all r) → (y ≡ r) ⊎ IsIn y all
 response_among [] r y h = h
 response_among (kept ∷ all) r y h = response_choice (nat_eq kept.from r.from) kept r y all (with_response all r) (response_among all r y) h

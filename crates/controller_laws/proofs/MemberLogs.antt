@@ -35,15 +35,18 @@ best_among c (d ∷ cs) =
       | inr k ↦ inr (inr k)
     ]
 
+-- the greatest commit number is at least the first
 pub most_low : (most : ℕ) (cs : List Collected) → most ≤ greatest_commit most cs
 most_low most [] = omega arith
 most_low most (c ∷ cs) = let r = most_low (max most c.commit) cs in omega arith
 
+-- at least each of the others
 pub most_all : (most : ℕ) (cs : List Collected) (c : Collected) → IsIn c cs → c.commit ≤ greatest_commit most cs
 most_all most [] c h = absurd h
 most_all most (d ∷ cs) c (inl e) = let r = most_low (max most d.commit) cs in let z : c.commit ≡ d.commit = ap (λ (x : Collected). x.commit) e in omega arith
 most_all most (d ∷ cs) c (inr h) = most_all (max most d.commit) cs c h
 
+-- so at least each
 pub most_of_all : (c : Collected) (cs : List Collected) (d : Collected) → IsIn d (c ∷ cs) → d.commit ≤ greatest_commit c.commit cs
 most_of_all c cs d (inl e) = let r = most_low c.commit cs in let z : d.commit ≡ c.commit = ap (λ (x : Collected). x.commit) e in omega arith
 most_of_all c cs d (inr h) = most_all c.commit cs d h

@@ -32,6 +32,7 @@ module _ (P : ℕ → Entry → Type 0) where
   stands_get n zero (x ∷ xs) e h at = let same : x ≡ e = cc in let z : n ≡ n + 0 = omega arith in subst (λ (y : Entry). P (n + 0) y) same (subst (λ (k : ℕ). P k x) z h.0)
   stands_get n (suc i) (x ∷ xs) e h at = let z : suc n + i ≡ n + suc i = omega arith in subst (λ (k : ℕ). P k e) z (stands_get (suc n) i xs e h.1 at)
 
+-- what makes another property of each entry, up to a place
 pub stands_each : (P Q : ℕ → Entry → Type 0) (n bound : ℕ) (xs : List Entry) → n + length xs ≤ bound → ((m : ℕ) (e : Entry) → n ≤ m → m < bound → P m e → Q m e) → EachFrom P n xs → EachFrom Q n xs
 stands_each P Q n bound [] less made h = tt
 stands_each P Q n bound (x ∷ xs) less made h =

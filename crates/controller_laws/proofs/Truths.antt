@@ -40,12 +40,14 @@ record IsReceivedAt (log : List Entry) (e : Event) : Type 0 where
   pub within : place < length log
   pub stands : slice_get log place ≡ Some (Received e)
 
+-- each event of a log was received somewhere
 received_at : (log : List Entry) (e : Event) → IsIn e (received log) → IsReceivedAt log e
 received_at [] e h = absurd h
 received_at (Received y ∷ log) e (inl is) = record { place = 0; within = omega arith; stands = ap (λ (z : Event). Some (Received z)) (sym is) }
 received_at (Received y ∷ log) e (inr h) = let r = received_at log e h in let w = r.within in record { place = suc r.place; within = omega (arith, w); stands = r.stands }
 received_at (Processed j ∷ log) e h = let r = received_at log e h in let w = r.within in record { place = suc r.place; within = omega (arith, w); stands = r.stands }
 
+-- the entry behind a front
 get_seam : (front back : List Entry) (e : Entry) → slice_get (front ++ e ∷ back) (length front) ≡ Some e
 get_seam [] back e = refl
 get_seam (x ∷ front) back e = get_seam front back e

@@ -1,4 +1,5 @@
--- What is true of each entry that a controller has and hears is true of all that it holds and says in a turn, where it is true of what it proposes.
+-- Where each entry that a controller has and hears is good, and so is what it proposes, all is good that it holds and says in
+-- a turn.
 use Rattle.std.proofs.Common.{inl, inr, ◌≡◌, ℕ, ◌+◌, List, [], ◌∷◌, ◌++◌, length, sym, ap, subst, ◌∙◌, arith}
 use Rattle.std.specs.Prelude.{nat_eq}
 use Rattle.of_types.specs.declared.setup.Setup.{Setup}

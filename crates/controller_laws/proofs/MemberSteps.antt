@@ -18,7 +18,7 @@ use Rattle.vr_log.specs.Steps.{VrStep, quiet, sends, letter, tells, to_others, t
 use Rattle.vr_log.specs.Choosing.{has_collected, may_choose, best_of, front, reaches, fetch_from, fetches}
 use Rattle.vr_normal.specs.Cases.{asks_later, from_primary, commits, prepares, prepare, commit_told, ops, agreed, is_agreed, acked_by, counted, is_counted, prepare_ok}
 use Rattle.vr_normal.specs.Ticks.{prepares_from, repeated, repeats_to, sent_log, tick_primary, tick_changing, tick_recovering}
-use Rattle.view_change.specs.Entering.{entered, enter, voted, collects, own_log, starts, chooses_from, chooses, check}
+use Rattle.view_change.specs.Entering.{sends_log, entered, enter, voted, collects, own_log, starts, chooses_from, chooses, check}
 use Rattle.view_change.specs.Adopting.{adopted, adopt_letters, adopt}
 use Rattle.view_change.specs.Cases.{enters, suspect, vote_here, start_view_change, collect, do_view_change, start_view, is_change, fetch, is_wanted, supplied, supply}
 use Rattle.vr_recovery.specs.Cases.{is_answered, get_state, is_longer, lacking, is_adopted, new_state}
@@ -179,23 +179,30 @@ module _ (x : VrInput) (P : VrState → List VrLetter → Type 0)
   chooses_does : (s : VrState) → is_sound s (chooses s).state ≡ true → Does s (chooses s)
   chooses_does s = cond_both (may_choose s) _ _ (λ t. is_sound s t.state ≡ true → Does s t) (λ may. chosen_does s s.collected refl may) (λ _ _. rests s)
 
-  check_does : (s : VrState) → is_sound s (check s).state ≡ true → Does s (check s)
-  check_does s =
+  -- a step that a start may follow
+  abbrev GoesOn : VrState → VrStep → Type 0
+  GoesOn s step = is_sound s (then_step step chooses).state ≡ true → Does s (then_step step chooses)
+
+  sends_log_goes_on : (s : VrState) → GoesOn s (sends_log s)
+  sends_log_goes_on s =
       let sent : VrState = record s { sent = true } in
       let own : VrState = record s { collected = s.collected ++ own_log s ∷ [] } in
       let both : VrState = record s { collected = s.collected ++ own_log s ∷ []; sent = true } in
-      let what : VrMessage = message.DoViewChange s.view s.normal s.commit (drop s.commit s.log) in
-      cond_both (nat_le (most_failures s) (length s.votes) && not s.sent) _ _ (λ t. is_sound s (then_step t chooses).state ≡ true → Does s (then_step t chooses))
-      (λ _. cond_both (is_primary s) _ _ (λ t. is_sound s (then_step t chooses).state ≡ true → Does s (then_step t chooses))
-      (λ _. cond_both (has_collected s s.me) _ _ (λ u. is_sound s (then_step (quiet (record u { sent = true })) chooses).state ≡ true → Does s (then_step (quiet (record u { sent = true })) chooses))
+      let told : VrStep = tells sent (primary_of s s.view) (message.DoViewChange s.view s.normal s.commit (drop s.commit s.log)) in
+      cond_both (is_primary s) (quiet (record (collects s (own_log s)) { sent = true })) told (GoesOn s)
+      (λ _. cond_both (has_collected s s.me) s own (λ (u : VrState). GoesOn s (quiet (record u { sent = true })))
       (λ _ sound. chained s (quiet sent) chooses (lands s sent (Tallies s.votes true s.acked refl)) (chooses_does sent sound))
       (λ _ sound. chained s (quiet both) chooses
       (moved s own (quiet both) (Collects (own_log s) (inl refl) refl) (lands own both (Tallies s.votes true s.acked refl)))
       (chooses_does both sound)))
-      (λ _ sound. chained s (tells sent (primary_of s s.view) what) chooses
-      (lands_said s sent (letter what (primary_of s s.view) ∷ []) (Tallies s.votes true s.acked refl) (one_said sent _ (λ l e. SendsLog _ e)))
-      (chooses_does sent sound)))
-      (λ _ sound. chained s (quiet s) chooses (rests s) (chooses_does s sound))
+      (λ _ sound. chained s told chooses
+      (lands_said s sent told.letters (Tallies s.votes true s.acked refl) (one_said sent _ (λ l e. SendsLog _ e)))
+      (chooses_does sent sound))
+
+  check_does : (s : VrState) → is_sound s (check s).state ≡ true → Does s (check s)
+  check_does s =
+      cond_both (nat_le (most_failures s) (length s.votes) && not s.sent) (sends_log s) (quiet s) (GoesOn s)
+      (λ _. sends_log_goes_on s) (λ _ sound. chained s (quiet s) chooses (rests s) (chooses_does s sound))
 
   enter_does : (s : VrState) (view : ℕ) → s.view < view → TellsView x view → Does s (enter s view)
   enter_does s view less has = lands_said s (entered s view) (to_others s (message.StartViewChange view)) (Enters view less has refl) (mapped_said (entered s view) _ _ (λ j l e. AsksVote j e))

@@ -64,7 +64,7 @@ EntriesComeFrom =
     (kinds : List ℕ) (setup : Setup) (x : ControllerInput) (c : ControllerState) (w : Work) → IsConsistent c.vr → Chain kinds setup x (beginning c) w →
     WorkHolds (λ n e. ComesFrom kinds setup x c w.state n e) (λ k n e. StoodBeside kinds setup x c w.state k n e) w
 
--- an event that is proposed as processed is finished
+-- an event that may be proposed as processed is finished
 abbrev pub SettledAreFinished : Type 0
 SettledAreFinished = (kinds : List ℕ) (setup : Setup) (c : ControllerState) → IsConsistent c.vr → is_settled kinds setup c ≡ true → IsFinished kinds setup c
 
@@ -76,21 +76,22 @@ LettersTell = (kinds : List ℕ) (setup : Setup) (x : ControllerInput) (c : Cont
 abbrev pub ViewsComeFrom : Type 0
 ViewsComeFrom = (kinds : List ℕ) (setup : Setup) (x : ControllerInput) (c : ControllerState) (w : Work) → Chain kinds setup x (beginning c) w → StateViews (λ v. IsKnownView x c v) w.state.vr
 
--- members that start, are down, or recover have nothing yet
+-- members that start, are down, or recover are consistent: they have nothing yet
 abbrev pub EmptyAreConsistent : Type 0
 EmptyAreConsistent = (me controllers promise life : ℕ) → IsConsistent (starting_state me controllers) × IsConsistent (down_state me controllers promise life) × IsConsistent (recovering_state me controllers promise life)
 
--- what is issued on a longer log begins with what is issued on its beginning
+-- what is issued to a life on more events begins with what is issued on the first of them
 abbrev pub IssuedLasts : Type 0
-IssuedLasts = (kinds : List ℕ) (setup : Setup) (s l : ℕ) (es fs : List Event) → IsPrefix es fs → IsPrefix (issued kinds setup s l es) (issued kinds setup s l fs)
+IssuedLasts = (kinds : List ℕ) (setup : Setup) (switch life : ℕ) (events more : List Event) → IsPrefix events more → IsPrefix (issued kinds setup switch life events) (issued kinds setup switch life more)
 
--- no less is processed, or settled, in a longer log
-pub record CountNoLess (kinds : List ℕ) (setup : Setup) (s l : ℕ) (old new : List Entry) : Type 0 where
-  pub events : processed_of old s l ≤ processed_of new s l
-  pub commands : length (issued kinds setup s l (take (processed old) (received old))) ≤ length (issued kinds setup s l (take (processed new) (received new)))
+-- no fewer events are processed, and no fewer commands settled, in a longer log
+pub record CountNoLess (kinds : List ℕ) (setup : Setup) (switch life : ℕ) (old new : List Entry) : Type 0 where
+  pub events : processed_of old switch life ≤ processed_of new switch life
+  pub commands : length (issued kinds setup switch life (take (processed old) (received old))) ≤ length (issued kinds setup switch life (take (processed new) (received new)))
 
+-- of every life
 abbrev pub CountsLast : Type 0
-CountsLast = (kinds : List ℕ) (setup : Setup) (s l : ℕ) (old new : List Entry) → IsPrefix old new → CountNoLess kinds setup s l old new
+CountsLast = (kinds : List ℕ) (setup : Setup) (switch life : ℕ) (old new : List Entry) → IsPrefix old new → CountNoLess kinds setup switch life old new
 
 -- in a log events are processed in their order, each behind where it was received
 pub record AreProcessedInOrder (log : List Entry) : Type 0 where
@@ -106,7 +107,7 @@ LogsProcessInOrder = (log : List Entry) → is_log log ≡ true → AreProcessed
 abbrev pub LogsReceiveInOrder : Type 0
 LogsReceiveInOrder =
     (made : ℕ → ℕ → List Event) (log : List Entry) → is_log log ≡ true → ((e : Event) → IsIn e (received log) → slice_get (made e.switch e.life) e.number ≡ Some e) →
-    (s l : ℕ) → filter (is_event_of s l) (received log) ≡ take (count_in s l (received log)) (made s l)
+    (switch life : ℕ) → filter (is_event_of switch life) (received log) ≡ take (count_in switch life (received log)) (made switch life)
 
 -- each commit number that a controller holds of others, or says, is no greater than its own at last, or stood, or came
 abbrev pub CommitsComeFrom : Type 0
@@ -120,7 +121,7 @@ TurnsTellTruth =
     (kinds : List ℕ) (setup : Setup) (f : Facts) (x : ControllerInput) (c : ControllerState) (w : Work) → IsConsistent c.vr → IsHonest kinds setup f c → HearsTruth kinds setup f x →
     Chain kinds setup x (beginning c) w → IsPrefix (committed w.state) f.decided → WorkHolds (λ n e. IsTrueAt kinds setup f n e) (λ k n e. IsOneAhead f k n e) w × MarksAreDone f w.state
 
--- and so are its letters
+-- and what its letters tell to switches is true of the decided log
 abbrev pub TurnsSayTruth : Type 0
 TurnsSayTruth =
     (kinds : List ℕ) (setup : Setup) (f : Facts) (x : ControllerInput) (c : ControllerState) (w : Work) → IsConsistent c.vr → Chain kinds setup x (beginning c) w →
@@ -143,8 +144,8 @@ pub record StaysTrue (kinds : List ℕ) (setup : Setup) (f g : Facts) : Type 0 w
 abbrev pub TruthsLast : Type 0
 TruthsLast = (kinds : List ℕ) (setup : Setup) (f g : Facts) → IsLater f g → StaysTrue kinds setup f g
 
--- what a turn leaves, beside the facts: a controller that is kept and honest, letters that are true, and what was
--- committed, or one that is down or begins anew
+-- What a turn leaves, beside the facts: a controller that is consistent and honest, letters that are true, and what was
+-- committed, unless it was down, or is and posts nothing.
 pub record TurnKeeps (kinds : List ℕ) (setup : Setup) (f : Facts) (x : ControllerInput) (c : ControllerState) (w : Work) : Type 0 where
   pub consistent : IsConsistent w.state.vr
   pub honest : IsHonest kinds setup f w.state
@@ -161,7 +162,7 @@ TurnsKeep =
 -- where the entries of the decided log are true: the events of a life are the first that its switch made, and where an
 -- event is told as processed, all commands up to it are carried out, but those of lives that were over before that place
 pub record IsDecidedTruly (kinds : List ℕ) (setup : Setup) (f : Facts) : Type 0 where
-  pub events : (s l : ℕ) → filter (is_event_of s l) (received f.decided) ≡ take (count_in s l (received f.decided)) (f.events s l)
+  pub events : (switch life : ℕ) → filter (is_event_of switch life) (received f.decided) ≡ take (count_in switch life (received f.decided)) (f.events switch life)
   pub processed_are_done : (j : ℕ) → j < processed f.decided → (place : ℕ) × (slice_get f.decided place ≡ Some (Processed j)) × IsDoneAt kinds setup f place j
 
 -- every decided log of true entries

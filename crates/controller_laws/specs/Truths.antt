@@ -25,7 +25,8 @@ use Rattle.controller_laws.specs.Entries.{StateHolds, InputHolds}
 use Rattle.controller_laws.specs.Lists.{IsIn, IsPrefix}
 use Rattle.controller_laws.specs.Views.{IsKnownView}
 
--- what does not change but by growing
+-- What changes only by growing: the decided log, the events that each life of a switch made, and how many commands it
+-- carried out.
 pub record Facts : Type 0 where
   pub decided : List Entry
   pub events : ℕ → ℕ → List Event  -- of a switch, in a life

@@ -1,12 +1,13 @@
 -- The three moves by which more is accepted: Acknowledges, Starts and Proposes.
 use Rattle.std.proofs.Common.{◌≡◌, ◌≢◌, ℕ, ◌≤◌, ◌⊎◌, inl, inr, true, ◌&&◌, eqb, leb, List, [], ◌∷◌, length, sym, ap, ◌∙◌, subst, arith}
 use Rattle.std.proofs.lemmas.Bool.{cases_eq, both_ways, and_parts, leb-true, eqb-true}
-use Rattle.agreement.specs.Lists.{IsPrefix, IsAtMost}
+use Rattle.agreement.specs.Lists.{IsAtMost}
+use Rattle.lists.proofs.Prefixes.{prefix_length, prefix_refl}
+use Rattle.lists.specs.Lists.{IsPrefix}
 use Rattle.agreement.specs.History.{Group, primary_of, Normal, PrepareOk, Letter, State, History, letter}
 use Rattle.agreement.specs.Quorums.{has_acknowledged, is_prepare_ok, has_accepted, IsLogOf}
 use Rattle.agreement.specs.Invariant.{IsGoodState}
 use Rattle.agreement.specs.Moves.{Moved, LogsStay, LogBecomes, AcknowledgeNothing, AreFrom}
-use Rattle.agreement.proofs.Prefixes.{prefix_length, prefix_refl}
 use Rattle.agreement.proofs.Frame.{Step, accepted_own, accepted_posted, acknowledged_by, acknowledged_from, acknowledged_same, step_of}
 
 -- what such a move owes of its state s, which is normal: what c has accepted now it had accepted, or it stands in the state's log

@@ -1,12 +1,13 @@
 -- Quiet moves: after one each controller has accepted what it had, and each view has the log that it had.
 use Rattle.std.proofs.Common.{◌≡◌, ◌≢◌, ℕ, ◌<◌, ◌≤◌, ◌⊎◌, inl, inr, true, leb, Some, List, [], length, refl, sym, ap, ◌∙◌, subst, arith}
 use Rattle.std.proofs.lemmas.Bool.{cases_eq, both_ways}
-use Rattle.agreement.specs.Lists.{IsPrefix, IsAtMost, IsIn}
+use Rattle.agreement.specs.Lists.{IsAtMost}
+use Rattle.lists.proofs.Prefixes.{prefix_refl}
+use Rattle.lists.specs.Lists.{IsIn, IsPrefix}
 use Rattle.agreement.specs.History.{Group, size, primary_of, Status, Normal, ViewChange, Recovering, Down, Supplied, RecoveryResponse, Letter, Response, State, History, letter}
 use Rattle.agreement.specs.Quorums.{is_prepare_ok, has_accepted, IsLogOf}
 use Rattle.agreement.specs.Invariant.{is_up, IsBallot, IsGoodSupply, IsGoodState, IsGoodLetter, Invariant}
 use Rattle.agreement.specs.Moves.{Moved, LogsStay, AcknowledgeNothing, AreFrom}
-use Rattle.agreement.proofs.Prefixes.{prefix_refl}
 use Rattle.agreement.proofs.Frame.{Step, Fresh, same_life, accepted_own, accepted_posted, log_of_more, ballot_more, supply_more, accepted_more, invariant_kept, acknowledged_same, step_of, fresh_unless}
 
 recovering_or_not : (s : Status) → (s ≡ Recovering) ⊎ (s ≢ Recovering)

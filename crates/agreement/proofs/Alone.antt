@@ -1,12 +1,12 @@
 -- A group of one: its log only goes on, and so what it shows agrees.
 use Rattle.std.proofs.Common.{◌≡◌, ℕ, ◌<◌, ◌⊎◌, inl, inr, true, Some, None, List, [], ◌∷◌, ◌++◌, refl, sym, ap, ◌∙◌, subst, arith}
 use Rattle.std.proofs.lemmas.Bool.{cases_eq, cases_Bool, false≢true, cond-true, cond-false}
-use Rattle.agreement.specs.Lists.{IsPrefix}
+use Rattle.lists.proofs.Prefixes.{comparable, front_prefix, prefix_nil, prefix_refl, prefix_trans}
+use Rattle.lists.specs.Lists.{IsPrefix}
 use Rattle.agreement.specs.History.{Group, size, Down, State}
 use Rattle.agreement.specs.Invariant.{is_up}
 use Rattle.agreement.specs.Laws.{committed_log}
 use Rattle.agreement.specs.Journals.{Rules, Entry, Takes, Posts, Refused, Held, settled_by, held, settled, Follows, GoesOn, kept}
-use Rattle.agreement.proofs.Prefixes.{prefix_refl, prefix_nil, prefix_trans, comparable, take_prefix}
 use Rattle.agreement.proofs.Journals.{held_other, taken, posted_now, refused_now, then_ok}
 
 same_state : {E : Type 0} (s s' : State E) → s' ≡ s → is_up s'.status ≡ true → GoesOn s s'
@@ -59,8 +59,8 @@ module _ {Own A E : Type 0} {r : Rules Own A E} {g : Group E} (f : Follows r g) 
         | inr u ↦ inr (subst (λ (l : List E). IsPrefix l (kept r c past)) (sym (cond-false (is_up s'.status) (committed_log s') [] u)) (prefix_nil (kept r c past)))
         | inl u ↦
             let on = journal_goes c more past b u in
-            let front : IsPrefix (committed_log s) s'.log = prefix_trans (take_prefix s.commit s.log) on.longer in
+            let front : IsPrefix (committed_log s) s'.log = prefix_trans (front_prefix s.commit s.log) on.longer in
             subst (λ (l : List E). IsPrefix l (kept r c (more ++ past)) ⊎ IsPrefix (kept r c (more ++ past)) l) (sym (cond-true (is_up s.status) (committed_log s) [] on.up))
             (subst (λ (l : List E). IsPrefix (committed_log s) l ⊎ IsPrefix l (committed_log s)) (sym (cond-true (is_up s'.status) (committed_log s') [] u))
-            (comparable front (take_prefix s'.commit s'.log)))
+            (comparable front (front_prefix s'.commit s'.log)))
       ])

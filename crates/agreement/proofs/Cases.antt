@@ -1,7 +1,9 @@
 -- The cases of the rules are turns, where each view's log follows its primary.
 use Rattle.std.proofs.Common.{◌≡◌, ◌≢◌, ℕ, ◌+◌, ◌-◌, ◌<◌, ◌≤◌, min, max, ◌⊎◌, inl, inr, Bool, true, false, ◌&&◌, eqb, leb, List, [], ◌∷◌, ◌++◌, length, take, drop, map, refl, sym, ap, ◌∙◌, subst, arith, append-nil, length-append}
 use Rattle.std.proofs.lemmas.Bool.{cases_eq, cases_Bool, and_parts, and_from, eqb-true, eq-eqb, ne_eqb, cond-true, cond-false, and_right}
-use Rattle.agreement.specs.Lists.{IsPrefix, IsIn, count_below, without}
+use Rattle.agreement.specs.Lists.{count_below, without}
+use Rattle.lists.proofs.Prefixes.{prefix_append, prefix_length}
+use Rattle.lists.specs.Lists.{IsIn, IsPrefix}
 use Rattle.agreement.specs.History.{Group, size, primary_of, Normal, ViewChange, Recovering, Down, Vote, Supplied, Filled, Message, PrepareOk, DoViewChange, Supply, Recovery, RecoveryResponse, Letter, Response, State, History, letter}
 use Rattle.agreement.specs.Quorums.{is_prepare_ok, backed, IsCommitted}
 use Rattle.agreement.specs.Invariant.{is_up, IsGoodLetter, IsGoodPrepare, IsGoodNews, Invariant, IsGroup}
@@ -9,7 +11,6 @@ use Rattle.agreement.specs.Moves.{Moved, LogsStay, LogBecomes, AcknowledgeNothin
 use Rattle.agreement.specs.Turns.{Turn}
 use Rattle.agreement.specs.Effects.{front_of, proposing, proposing_letters, AreLogs, tells, ack_if}
 use Rattle.agreement.specs.Journals.{is_normal, tracked, Tracks}
-use Rattle.agreement.proofs.Prefixes.{prefix_append, prefix_length}
 use Rattle.agreement.proofs.Quorums.{committed_less, committed_max}
 use Rattle.agreement.proofs.Consequences.{own_log, heard_answer, up_not_down, own_of_view, adopted_above}
 use Rattle.agreement.proofs.OwedStates.{no_letters}

@@ -1,10 +1,10 @@
 -- Histories that a move makes, and how moves go one after another.
 use Rattle.std.proofs.Common.{◌≡◌, ℕ, inl, inr, cond, eqb, List, ◌++◌, refl, sym, ◌∙◌, subst}
 use Rattle.std.proofs.lemmas.Bool.{eq-eqb, ne_eqb, cond-true, cond-false}
-use Rattle.agreement.specs.Lists.{IsIn}
+use Rattle.lists.proofs.Elements.{in_append, in_left, in_right}
+use Rattle.lists.specs.Lists.{IsIn}
 use Rattle.agreement.specs.History.{Group, Letter, State, History}
 use Rattle.agreement.specs.Moves.{Moved, LogsStay, LogBecomes, Resembles, MoveOf, Move, Notes}
-use Rattle.agreement.proofs.Elements.{in_split, in_left, in_right}
 
 -- a history after a move of c
 abbrev pub after : {E : Type 0} → History E → ℕ → State E → ℕ → ℕ → List (Letter E) → History E
@@ -30,9 +30,9 @@ module _ {E : Type 0} (h : History E) (c : ℕ) (s : State E) (promise life : �
     state_other = λ j ne. cond-false (eqb j c) _ _ (ne_eqb j c ne);
     promise_other = λ j ne. cond-false (eqb j c) _ _ (ne_eqb j c ne);
     life_other = λ j ne. cond-false (eqb j c) _ _ (ne_eqb j c ne);
-    sent_more = λ l i. in_right new h.sent l i;
-    sent_new = λ l i. in_left new h.sent l i;
-    sent_split = λ l i. in_split new h.sent l i;
+    sent_more = λ l i. in_right l new h.sent i;
+    sent_new = λ l i. in_left l new h.sent i;
+    sent_split = λ l i. in_append l new h.sent i;
   }
 
   pub quiet_after : LogsStay h (after h c s promise life new)
@@ -46,9 +46,9 @@ module _ {E : Type 0} (h : History E) (c : ℕ) (s : State E) (promise life : �
     state_other = λ j ne. cond-false (eqb j c) _ _ (ne_eqb j c ne);
     promise_other = λ j ne. cond-false (eqb j c) _ _ (ne_eqb j c ne);
     life_other = λ j ne. cond-false (eqb j c) _ _ (ne_eqb j c ne);
-    sent_more = λ l i. in_right new h.sent l i;
-    sent_new = λ l i. in_left new h.sent l i;
-    sent_split = λ l i. in_split new h.sent l i;
+    sent_more = λ l i. in_right l new h.sent i;
+    sent_new = λ l i. in_left l new h.sent i;
+    sent_split = λ l i. in_append l new h.sent i;
   }
 
   pub grown_growth : (w : ℕ) (log : List E) → LogBecomes h (after_growth h c s promise life new w log) w log
@@ -68,10 +68,10 @@ moved_trans {new1 = new1} {new2 = new2} a b = record {
   promise_other = λ j ne. b.promise_other j ne ∙ a.promise_other j ne;
   life_other = λ j ne. b.life_other j ne ∙ a.life_other j ne;
   sent_more = λ l i. b.sent_more l (a.sent_more l i);
-  sent_new = λ l i. elim (in_split new2 new1 l i) [ inl k ↦ b.sent_new l k | inr k ↦ b.sent_more l (a.sent_new l k) ];
+  sent_new = λ l i. elim (in_append l new2 new1 i) [ inl k ↦ b.sent_new l k | inr k ↦ b.sent_more l (a.sent_new l k) ];
   sent_split = λ l i. elim (b.sent_split l i) [
-    | inl k ↦ inl (in_left new2 new1 l k)
-    | inr k ↦ elim (a.sent_split l k) [ inl j ↦ inl (in_right new2 new1 l j) | inr j ↦ inr j ]
+    | inl k ↦ inl (in_left l new2 new1 k)
+    | inr k ↦ elim (a.sent_split l k) [ inl j ↦ inl (in_right l new2 new1 j) | inr j ↦ inr j ]
   ];
 }
 

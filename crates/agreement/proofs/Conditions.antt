@@ -1,11 +1,12 @@
 -- Why the conditions of the moves hold in the cases of the rules. Here s is a good state of c, and the letter was posted.
 use Rattle.std.proofs.Common.{◌≡◌, ◌≢◌, ℕ, ◌+◌, ◌-◌, ◌<◌, ◌≤◌, min, max, true, not, eqb, leb, List, [], ◌∷◌, ◌++◌, length, take, drop, refl, sym, ap, ◌∙◌, subst, arith, length-drop, append_assoc}
 use Rattle.std.proofs.lemmas.Bool.{and_from, le-leb, eq-eqb, leb-true, and_parts, eqb-false, not-true}
-use Rattle.agreement.specs.Lists.{IsPrefix, IsIn, count_below, without}
+use Rattle.agreement.specs.Lists.{count_below, without}
+use Rattle.lists.proofs.Prefixes.{prefix_append, prefix_both, prefix_lacks, prefix_next, prefix_trans, take_within}
+use Rattle.lists.specs.Lists.{IsIn, IsPrefix}
 use Rattle.agreement.specs.History.{Group, size, primary_of, Normal, ViewChange, Filled, PrepareOk, State, History, letter}
 use Rattle.agreement.specs.Quorums.{has_accepted, HasQuorum, IsCommitted, IsVote}
 use Rattle.agreement.specs.Invariant.{is_up, IsGoodState, IsGoodResponse, IsGoodPrepare, IsGoodVote, IsGoodSupply, IsGoodNews, Invariant, IsGroup}
-use Rattle.agreement.proofs.Prefixes.{prefix_trans, prefix_both, prefix_append, prefix_push, prefix_lacks, take_within}
 use Rattle.agreement.proofs.Counts.{count_some, count_others}
 use Rattle.agreement.proofs.Quorums.{committed_less, committed_max}
 use Rattle.agreement.proofs.Frame.{accepted_posted, acknowledged_from}
@@ -53,7 +54,7 @@ module _ {E : Type 0} {g : Group E} {h : History E} {c : ℕ} {s : State E} (r :
   prepare_grows place k e n x at =
       let own = own_of_view r n in
       let y = x.at in
-      (prefix_push x.before e own.front x.front (omega arith), committed_max own.committed (committed_less x.committed (omega arith) (omega arith)))
+      (prefix_next x.before e own.front x.front (omega arith), committed_max own.committed (committed_less x.committed (omega arith) (omega arith)))
 
   -- PREPAREOK: its sender has accepted the place
   pub acknowledged_accepted : (j place : ℕ) → s.status ≡ Normal → c ≡ primary_of g s.view → j ≢ c → IsIn (letter j c (PrepareOk s.view place)) h.sent → has_accepted g h s.view place j ≡ true

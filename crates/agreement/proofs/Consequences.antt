@@ -2,11 +2,12 @@
 use Rattle.std.proofs.Common.{◌≡◌, ◌≢◌, ℕ, zero, suc, ◌<◌, ◌≤◌, ◌⊎◌, inl, inr, true, List, [], ◌∷◌, length, take, refl, sym, ap, ◌∙◌, subst, arith}
 use Rattle.std.proofs.lemmas.Bool.{cases_lt, le-leb, false≢true}
 use Rattle.std.proofs.lemmas.List.{nil_from_length}
-use Rattle.agreement.specs.Lists.{IsPrefix, IsAtMost, IsIn}
+use Rattle.agreement.specs.Lists.{IsAtMost}
+use Rattle.lists.proofs.Prefixes.{comparable, front_prefix, prefix_both, prefix_equal, prefix_length, prefix_nil, prefix_trans, take_within}
+use Rattle.lists.specs.Lists.{IsIn, IsPrefix}
 use Rattle.agreement.specs.History.{Group, size, primary_of, Normal, ViewChange, Recovering, Answer, Filled, Response, State, History, Status, Down}
 use Rattle.agreement.specs.Quorums.{has_accepted, HasQuorum, IsSafe, nothing, backed, IsLogOf, IsCertified, empty, shown}
 use Rattle.agreement.specs.Invariant.{is_up, IsGoodState, IsGoodAnswer, IsGoodResponse, Invariant}
-use Rattle.agreement.proofs.Prefixes.{prefix_length, prefix_nil, prefix_trans, prefix_both, comparable, take_prefix, take_within, prefix_same}
 use Rattle.agreement.proofs.Counts.{count_some}
 use Rattle.agreement.proofs.Quorums.{quorum_begins, certified_front}
 use Rattle.agreement.proofs.Frame.{accepted_own}
@@ -38,7 +39,7 @@ module _ {E : Type 0} {g : Group E} {h : History E} {c : ℕ} {s : State E} wher
             omega arith
         | inr l ↦ omega arith
       ] in
-      sym (prefix_same front long)
+      sym (prefix_equal front long)
 
 pub up_cases : (x : Status) → is_up x ≡ true → (x ≡ Normal) ⊎ (x ≡ ViewChange)
 up_cases Normal e = inl refl
@@ -89,7 +90,7 @@ module _ {E : Type 0} {g : Group E} {h : History E} where
       | inr l ↦
           let same : w ≡ v = omega arith in
           let front : IsPrefix xs (h.logs v) = subst (λ (z : ℕ). IsPrefix xs (h.logs z)) same r.front in
-          shown v m (omega (arith, take_within (suc j) xs r.within)) (quorum_within i q (omega arith)) (prefix_trans (take_prefix (suc j) xs) front) q
+          shown v m (omega (arith, take_within (suc j) xs r.within)) (quorum_within i q (omega arith)) (prefix_trans (front_prefix (suc j) xs) front) q
     ]
   ]
 
@@ -105,11 +106,11 @@ module _ {E : Type 0} {g : Group E} {h : History E} where
         elim (cases_lt v u) [
           | inl l' ↦
               let f' = quorum_begins q (omega arith) l' r.safe in
-              prefix_trans (prefix_both (take_prefix (suc j) ys) f'.front short) f.front
+              prefix_trans (prefix_both (front_prefix (suc j) ys) f'.front short) f.front
           | inr l' ↦
               let same : u ≡ v = omega arith in
               let front : IsPrefix ys (h.logs v) = subst (λ (z : ℕ). IsPrefix ys (h.logs z)) same r.front in
-              prefix_trans (prefix_both (prefix_trans (take_prefix (suc j) ys) front) (take_prefix m (h.logs v)) short) f.front
+              prefix_trans (prefix_both (prefix_trans (front_prefix (suc j) ys) front) (front_prefix m (h.logs v)) short) f.front
         ]
   ]
 
@@ -122,7 +123,7 @@ module _ {E : Type 0} {g : Group E} {h : History E} where
         | inr s ↦
             let f = quorum_begins q (omega arith) l s in
             let n = take_within m (h.logs v) f.within in
-            prefix_trans (prefix_both p (take_prefix m (h.logs v)) (omega arith)) f.front
+            prefix_trans (prefix_both p (front_prefix m (h.logs v)) (omega arith)) f.front
       ]
 
   -- of two certified logs one begins the other

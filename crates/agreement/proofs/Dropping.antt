@@ -1,12 +1,12 @@
 -- Nothing is dropped: each move leaves what was committed in its places.
 use Rattle.std.proofs.Common.{◌≡◌, ℕ, ◌<◌, true, List, [], ◌∷◌, sym, ap, ◌∙◌, subst}
 use Rattle.std.proofs.lemmas.Bool.{false≢true}
-use Rattle.agreement.specs.Lists.{IsPrefix}
+use Rattle.lists.proofs.Prefixes.{front_prefix, prefix_append, prefix_trans}
+use Rattle.lists.specs.Lists.{IsPrefix}
 use Rattle.agreement.specs.History.{Group, size, Status, Recovering, Down, State, History}
 use Rattle.agreement.specs.Invariant.{is_up, Invariant}
 use Rattle.agreement.specs.Moves.{Moved, Move, Enters, Collects, Stocks, Starts, Adopts, Appends, Commits, Acknowledges, Counts, Proposes, Keeps, Recovers, Falls, Rises, Speaks, Notes}
 use Rattle.agreement.specs.Laws.{committed_log, NothingIsDropped}
-use Rattle.agreement.proofs.Prefixes.{prefix_trans, prefix_append, take_prefix}
 use Rattle.agreement.proofs.Quorums.{best_is_safe}
 use Rattle.agreement.proofs.Consequences.{committed_begins, up_not_down, adopted_above}
 use Rattle.agreement.proofs.Keeping.{move_keeps}
@@ -23,13 +23,13 @@ module _ {E : Type 0} {g : Group E} {h h' : History E} {c : ℕ} where
   front_kept i b m u u' = by m
     where
       same : h'.state c ≡ h.state c → IsPrefix (committed_log (h.state c)) (h'.state c).log
-      same e = subst (λ (s : State E). IsPrefix (committed_log (h.state c)) s.log) (sym e) (take_prefix (h.state c).commit (h.state c).log)
+      same e = subst (λ (s : State E). IsPrefix (committed_log (h.state c)) s.log) (sym e) (front_prefix (h.state c).commit (h.state c).log)
 
       to : {s : State E} {p l : ℕ} {new : List _} → Moved h h' c s p l new → IsPrefix (committed_log (h.state c)) s.log → IsPrefix (committed_log (h.state c)) (h'.state c).log
       to t x = subst (λ (s : State E). IsPrefix (committed_log (h.state c)) s.log) (sym t.state_own) x
 
       own : IsPrefix (committed_log (h.state c)) (h.state c).log
-      own = take_prefix (h.state c).commit (h.state c).log
+      own = front_prefix (h.state c).commit (h.state c).log
 
       by : Move g h h' c → IsPrefix (committed_log (h.state c)) (h'.state c).log
       by (Enters w up later t q) = to t own

@@ -2,7 +2,8 @@
 use Rattle.std.proofs.Common.{◌≡◌, ◌≢◌, ℕ, ◌<◌, ◌≤◌, ◌⊎◌, inl, inr, true, cond, ◌&&◌, eqb, Option, Some, None, List, [], ◌∷◌, ◌++◌, refl, sym, ap, ◌∙◌, subst, subst₂, arith, mod-lt, le_refl}
 use mathlib.Core.Path.{subst₃}
 use Rattle.std.proofs.lemmas.Bool.{cases_eq, cases_Bool, and_parts, false≢true, eqb-true, eq-eqb, ne_eqb, cond-true, cond-false, cond_both}
-use Rattle.agreement.specs.Lists.{IsIn}
+use Rattle.lists.proofs.Elements.{in_append, in_left, in_right}
+use Rattle.lists.specs.Lists.{IsIn}
 use Rattle.agreement.specs.History.{Group, size, primary_of, Status, Normal, ViewChange, Recovering, Down, Letter, State, History}
 use Rattle.agreement.specs.Invariant.{is_up, Invariant}
 use Rattle.agreement.specs.Moves.{Moved, LogsStay, fallen, Falls, StandsAt}
@@ -15,7 +16,6 @@ use Rattle.agreement.proofs.Runs.{run_keeps}
 use Rattle.agreement.proofs.Turns.{turn_run}
 use Rattle.agreement.proofs.Chains.{moved_after, quiet_after}
 use Rattle.agreement.proofs.Walks.{at_self, walk_at, walk_on, tail_of, tail_end, resembles_self}
-use Rattle.agreement.proofs.Elements.{in_split, in_left, in_right}
 
 primary_below : {E : Type 0} (g : Group E) (v : ℕ) → primary_of g v < size g
 unfolding primary_of size
@@ -69,7 +69,7 @@ module _ {Own A E : Type 0} (r : Rules Own A E) where
 
 comes_more : {Own E : Type 0} (c : ℕ) (x : Input Own E) (new old : List (Letter E)) → Comes c x old → Comes c x (new ++ old)
 comes_more c (Local i) new old k = k
-comes_more c (Heard l) new old k = (k.0, in_right new old l k.1)
+comes_more c (Heard l) new old k = (k.0, in_right l new old k.1)
 
 module _ {Own A E : Type 0} (r : Rules Own A E) (g : Group E) where
   -- the input that is open has come
@@ -116,9 +116,9 @@ module _ {Own A E : Type 0} (r : Rules Own A E) (g : Group E) where
     state_other = λ j ne. ap (λ (x : Held Own A E). r.state x.now) (held_other r j (held r j past) e ne);
     promise_other = λ j ne. ap (λ (x : Held Own A E). r.promise x.now) (held_other r j (held r j past) e ne);
     life_other = λ j ne. ap (λ (x : Held Own A E). r.life x.now) (held_other r j (held r j past) e ne);
-    sent_more = λ l j. in_right (left_by r e past) (posted r past) l j;
-    sent_new = λ l j. in_left (left_by r e past) (posted r past) l (subst (λ (x : List (Letter E)). IsIn l x) (sym left) j);
-    sent_split = λ l j. subst (λ (x : List (Letter E)). IsIn l x ⊎ IsIn l (posted r past)) left (in_split (left_by r e past) (posted r past) l j);
+    sent_more = λ l j. in_right l (left_by r e past) (posted r past) j;
+    sent_new = λ l j. in_left l (left_by r e past) (posted r past) (subst (λ (x : List (Letter E)). IsIn l x) (sym left) j);
+    sent_split = λ l j. subst (λ (x : List (Letter E)). IsIn l x ⊎ IsIn l (posted r past)) left (in_append l (left_by r e past) (posted r past) j);
   }
 
 -- each state of a journal is valid

@@ -1,12 +1,13 @@
 -- Every move keeps the invariant, and what was certified stays so.
 use Rattle.std.proofs.Common.{◌≡◌, ◌≢◌, ℕ, ◌+◌, ◌<◌, ◌≤◌, inl, inr, true, List, [], ◌∷◌, ◌++◌, length, refl, sym, ap, ◌∙◌, subst, arith, length-append}
 use Rattle.std.proofs.lemmas.Bool.{cases_eq}
-use Rattle.agreement.specs.Lists.{IsPrefix, IsAtMost, IsIn}
+use Rattle.agreement.specs.Lists.{IsAtMost}
+use Rattle.lists.proofs.Prefixes.{prefix_append, prefix_nil, prefix_refl}
+use Rattle.lists.specs.Lists.{IsIn, IsPrefix}
 use Rattle.agreement.specs.History.{Group, size, primary_of, Normal, ViewChange, Vote, Message, Prepare, PrepareOk, Recovery, Letter, State, History, letter}
 use Rattle.agreement.specs.Quorums.{is_prepare_ok, IsSafe, IsLogOf}
 use Rattle.agreement.specs.Invariant.{is_up, IsGoodVote, IsGoodState, IsGoodMessage, IsGoodLetter, IsGoodView, Invariant, IsGroup}
 use Rattle.agreement.specs.Moves.{Moved, LogsStay, LogBecomes, AcknowledgeNothing, AreFrom, started, appended, risen, Move, Enters, Collects, Stocks, Starts, Adopts, Appends, Commits, Acknowledges, Counts, Proposes, Keeps, Recovers, Falls, Rises, Speaks, Notes, IsBest}
-use Rattle.agreement.proofs.Prefixes.{prefix_refl, prefix_nil, prefix_append}
 use Rattle.agreement.proofs.Quorums.{safe_longer, best_is_safe, best_has_room}
 use Rattle.agreement.proofs.Frame.{Step, Fresh, new_life, log_of_more, safe_more, committed_more, accepted_more, message_more, invariant_kept, fresh_unless}
 use Rattle.agreement.proofs.Consequences.{not_begun, own_log, up_view, own_of_view}

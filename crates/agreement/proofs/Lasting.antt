@@ -1,13 +1,13 @@
 -- What was decided stays so.
 use Rattle.std.proofs.Common.{◌≡◌, ℕ, zero, suc, ◌<◌, ◌≤◌, ◌⊎◌, inl, inr, cond, ltb, List, [], ◌∷◌, ◌++◌, length, refl, sym, ap, ◌∙◌, subst, arith, append_assoc}
 use Rattle.std.proofs.lemmas.Bool.{cases_eq, cond_both, ltb-true, ltb-false}
-use Rattle.agreement.specs.Lists.{IsPrefix, IsIn}
+use Rattle.lists.proofs.Elements.{in_append, in_left, in_right}
+use Rattle.lists.proofs.Prefixes.{prefix_equal, prefix_nil, prefix_refl, prefix_trans}
+use Rattle.lists.specs.Lists.{IsIn, IsPrefix}
 use Rattle.agreement.specs.History.{Group, size}
 use Rattle.agreement.specs.Journals.{Rules, Entry, IsLegal, Follows, kept}
 use Rattle.agreement.specs.Decided.{longest, shown_below, decided, DecisionsLast}
-use Rattle.agreement.proofs.Prefixes.{prefix_refl, prefix_nil, prefix_trans, prefix_same}
 use Rattle.agreement.proofs.Agreeing.{legal_past, journals_law}
-use Rattle.agreement.proofs.Elements.{in_split, in_left, in_right}
 
 abbrev longer : {E : Type 0} → List E → List E → List E
 longer best xs = cond (ltb (length best) (length xs)) xs best
@@ -45,7 +45,7 @@ longest_most best (x ∷ rest) =
 
 shown_is : {Own A E : Type 0} (r : Rules Own A E) (n : ℕ) (past : List (Entry Own E)) (xs : List E) → IsIn xs (shown_below r n past) → (c : ℕ) × (c < n) × (xs ≡ kept r c past)
 shown_is r zero past xs i = absurd i
-shown_is r (suc n) past xs i = elim (in_split (shown_below r n past) (kept r n past ∷ []) xs i) [
+shown_is r (suc n) past xs i = elim (in_append xs (shown_below r n past) (kept r n past ∷ []) i) [
   | inl j ↦ let x = shown_is r n past xs j in (x.0, omega (arith, x.1), x.2)
   | inr j ↦ elim j [ inl e ↦ (n, omega arith, e) | inr k ↦ absurd k ]
 ]
@@ -53,15 +53,15 @@ shown_is r (suc n) past xs i = elim (in_split (shown_below r n past) (kept r n p
 shown_at : {Own A E : Type 0} (r : Rules Own A E) (n c : ℕ) (past : List (Entry Own E)) → c < n → IsIn (kept r c past) (shown_below r n past)
 shown_at r zero c past l = absurd (omega arith)
 shown_at {E = E} r (suc n) c past l = elim (cases_eq c n) [
-  | inl e ↦ in_right (shown_below r n past) (kept r n past ∷ []) (kept r c past) (inl (ap (λ (j : ℕ). kept r j past) e))
-  | inr ne ↦ in_left (shown_below r n past) (kept r n past ∷ []) (kept r c past) (shown_at r n c past (omega arith))
+  | inl e ↦ in_right (kept r c past) (shown_below r n past) (kept r n past ∷ []) (inl (ap (λ (j : ℕ). kept r j past) e))
+  | inr ne ↦ in_left (kept r c past) (shown_below r n past) (kept r n past ∷ []) (shown_at r n c past (omega arith))
 ]
 
 -- of two lists one begins the other, and the second is as long: the first begins the second
 begins_longer : {E : Type 0} (xs ys : List E) → IsPrefix xs ys ⊎ IsPrefix ys xs → length xs ≤ length ys → IsPrefix xs ys
 begins_longer {E = E} xs ys p l = elim p [
   | inl q ↦ q
-  | inr q ↦ subst (λ (z : List E). IsPrefix z ys) (prefix_same q l) (prefix_refl ys)
+  | inr q ↦ subst (λ (z : List E). IsPrefix z ys) (prefix_equal q l) (prefix_refl ys)
 ]
 
 module _ {Own A E : Type 0} {r : Rules Own A E} {g : Group E} (f : Follows r g) where

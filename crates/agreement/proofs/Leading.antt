@@ -1,7 +1,9 @@
 -- Whose log begins with what is decided.
 use Rattle.std.proofs.Common.{◌≡◌, ℕ, ◌+◌, ◌<◌, ◌≤◌, inl, inr, Bool, true, leb, ltb, None, List, [], ◌∷◌, ◌++◌, length, sym, ap, ◌∙◌, subst, arith}
 use Rattle.std.proofs.lemmas.Bool.{cases_lt, leb-true, ltb-true, cond-true}
-use Rattle.agreement.specs.Lists.{IsPrefix, count_below}
+use Rattle.agreement.specs.Lists.{count_below}
+use Rattle.lists.proofs.Prefixes.{front_prefix, prefix_both, prefix_nil, prefix_trans, take_within}
+use Rattle.lists.specs.Lists.{IsPrefix}
 use Rattle.agreement.specs.History.{Group, size, primary_of, Normal, State, History}
 use Rattle.agreement.specs.Quorums.{has_accepted, HasQuorum, IsSafe, IsCertified, empty, shown}
 use Rattle.agreement.specs.Invariant.{is_up, Invariant, IsGroup}
@@ -9,7 +11,6 @@ use Rattle.agreement.specs.Laws.{Run, still, then, committed_log}
 use Rattle.agreement.specs.Journals.{Rules, Entry, settled_by, held, settled, history, IsLegal, Follows, kept}
 use Rattle.agreement.specs.Decided.{decided}
 use Rattle.agreement.specs.Leading.{SafeLogsBegin, LaterLogsBegin, PrimariesLead, DecidedIsLed}
-use Rattle.agreement.proofs.Prefixes.{prefix_nil, prefix_trans, prefix_both, take_prefix, take_within}
 use Rattle.agreement.proofs.Counts.{count_share}
 use Rattle.agreement.proofs.Quorums.{quorum_begins}
 use Rattle.agreement.proofs.Frame.{quorum_more}
@@ -38,7 +39,7 @@ module _ {E : Type 0} {g : Group E} where
   below_safe {h} {v} {m} a p q o l s =
       let f = quorum_begins q o l s in
       let n = take_within m (h.logs v) f.within in
-      prefix_trans (prefix_both p (take_prefix m (h.logs v)) (omega arith)) f.front
+      prefix_trans (prefix_both p (front_prefix m (h.logs v)) (omega arith)) f.front
 
   run_quorum : {h0 h : History E} → IsGroup g → Invariant g h0 → Run g h0 h → {v m : ℕ} → HasQuorum g h0 v m → HasQuorum g h v m
   run_quorum gr i still q = q
@@ -98,7 +99,7 @@ module _ {Own A E : Type 0} {r : Rules Own A E} {g : Group E} (f : Follows r g) 
         let up : is_up (r.state (settled r c (x.0 ++ x.1))).status ≡ true = ap (λ (l : List (Entry Own E)). is_up (r.state (settled r c l)).status) (sym x.3) ∙ ap (λ (s : State E). is_up s.status) is ∙ ap is_up n in
         let on = journal_goes f o c x.0 x.1 b up in
         let s : State E = r.state (settled r c x.1) in
-        let front : IsPrefix (committed_log s) (r.state (settled r c (x.0 ++ x.1))).log = prefix_trans (take_prefix s.commit s.log) on.longer in
+        let front : IsPrefix (committed_log s) (r.state (settled r c (x.0 ++ x.1))).log = prefix_trans (front_prefix s.commit s.log) on.longer in
         let now : IsPrefix (committed_log s) (r.state (held r c past).now).log = subst (λ (z : State E). IsPrefix (committed_log s) z.log) is (subst (λ (l : List (Entry Own E)). IsPrefix (committed_log s) (r.state (settled r c l)).log) (sym x.3) front) in
         subst (λ (l : List E). IsPrefix l (r.state (held r c past).now).log) (sym (x.5 ∙ ap (λ (j : ℕ). kept r j x.1) same ∙ cond-true (is_up s.status) (committed_log s) [] on.up)) now
   ]

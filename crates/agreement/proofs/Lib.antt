@@ -1,5 +1,4 @@
-pub mod Prefixes
-pub mod Elements
+pub mod Numbers
 pub mod Counts
 pub mod Quorums
 pub mod Frame

@@ -2,16 +2,17 @@
 use Rattle.std.proofs.Common.{◌≡◌, ◌≢◌, ℕ, ◌<◌, ◌≤◌, max, ◌⊎◌, inl, inr, true, cond, eqb, leb, List, [], ◌∷◌, ◌++◌, length, map, refl, sym, ap, ◌∙◌, subst, arith}
 use Rattle.std.proofs.lemmas.Bool.{cases_lt, cases_eq, and_parts, and_from, leb-true, le-leb, false≢true, ne_eqb, eq-eqb, cond-true, cond-false}
 use Rattle.std.proofs.lemmas.List.{map-append}
-use Rattle.agreement.specs.Lists.{IsPrefix, IsAtMost, IsIn, AreDistinct}
+use Rattle.agreement.specs.Lists.{IsAtMost, AreDistinct}
+use Rattle.lists.proofs.Elements.{in_append}
+use Rattle.lists.proofs.Prefixes.{prefix_length}
+use Rattle.lists.specs.Lists.{IsIn, IsPrefix}
 use Rattle.agreement.specs.History.{Group, size, primary_of, Status, Normal, ViewChange, Recovering, Down, Vote, Supplied, Message, PrepareOk, RecoveryResponse, Response, State, History, letter}
 use Rattle.agreement.specs.Quorums.{is_prepare_ok, has_accepted, IsCommitted, IsLogOf}
 use Rattle.agreement.specs.Invariant.{is_up, IsGoodVote, IsGoodSupply, IsBallot, IsGoodState}
 use Rattle.agreement.specs.Moves.{AcknowledgeNothing, AreFrom, entered, collecting, adopted, supplying, appended, committing, counting, hearing, fallen, risen, Resembles}
-use Rattle.agreement.proofs.Prefixes.{prefix_length}
 use Rattle.agreement.proofs.Quorums.{safe_longer, committed_less, committed_max, committed_has_room}
 use Rattle.agreement.proofs.Frame.{accepted_own, accepted_posted, acknowledged_by, acknowledged_from}
 use Rattle.agreement.proofs.AcceptingNothing.{Owed}
-use Rattle.agreement.proofs.Elements.{in_split}
 use Rattle.agreement.proofs.Consequences.{up_view, up_not_down, adopted_above}
 
 prepare_ok_down : {E : Type 0} (x : Message E) (v m n : ℕ) → m ≤ n → is_prepare_ok x v n ≡ true → is_prepare_ok x v m ≡ true
@@ -31,7 +32,7 @@ accepted_down g h v m n c l a = elim (cases_eq c (primary_of g v)) [
 distinct_push : (xs : List ℕ) (x : ℕ) → AreDistinct xs → ¬ IsIn x xs → AreDistinct (xs ++ x ∷ [])
 distinct_push [] x d n = ((λ y i. absurd i), tt)
 distinct_push (z ∷ xs) x d n = (
-  (λ y i. elim (in_split xs (x ∷ []) y i) [
+  (λ y i. elim (in_append y xs (x ∷ []) i) [
     | inl j ↦ d.0 y j
     | inr j ↦ elim j [ inl e ↦ (λ q. n (inl (sym (q ∙ e)))) | inr k ↦ absurd k ]
   ]),
@@ -71,11 +72,11 @@ module _ {E : Type 0} {g : Group E} {h : History E} {c : ℕ} {s : State E} wher
     counted = r.counted;
     ballot = λ e z. let old = r.ballot e z in record {
       distinct = subst (λ (xs : List ℕ). AreDistinct xs) (sym (map-append (λ (x : Vote E). x.from) s.collected (vote ∷ []))) (distinct_push (map (λ (x : Vote E). x.from) s.collected) vote.from old.distinct new');
-      named = λ x i. elim (in_split s.collected (vote ∷ []) x i) [
+      named = λ x i. elim (in_append x s.collected (vote ∷ []) i) [
         | inl j ↦ old.named x j
         | inr j ↦ elim j [ inl q ↦ subst (λ (y : Vote E). y.from < size g) (sym q) b | inr k ↦ absurd k ]
       ];
-      each = λ x i. elim (in_split s.collected (vote ∷ []) x i) [
+      each = λ x i. elim (in_append x s.collected (vote ∷ []) i) [
         | inl j ↦ old.each x j
         | inr j ↦ elim j [ inl q ↦ subst (λ (y : Vote E). IsGoodVote g h y.from s.view y.normal y.commit y.rest) (sym q) v | inr k ↦ absurd k ]
       ];

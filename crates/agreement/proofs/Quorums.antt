@@ -3,12 +3,14 @@ use Rattle.std.proofs.Common.{◌≡◌, ℕ, zero, suc, ◌<◌, ◌+◌, ◌�
 use Rattle.std.proofs.lemmas.Bool.{cases_lt, cases_Bool, both_ways, and_parts, and_from, lt-ltb, not_from_false, not-true}
 use Rattle.std.proofs.lemmas.List.{length-map}
 use Rattle.std.proofs.Common.{length-drop}
-use Rattle.agreement.specs.Lists.{IsPrefix, IsAtMost, IsIn}
+use Rattle.agreement.specs.Lists.{IsAtMost}
+use Rattle.lists.proofs.Prefixes.{front_prefix, prefix_both, prefix_length, prefix_refl, prefix_trans, take_longer, take_within}
+use Rattle.lists.specs.Lists.{IsIn, IsPrefix}
 use Rattle.agreement.specs.History.{Group, size, Vote, History}
 use Rattle.agreement.specs.Quorums.{has_accepted, blocks, HasQuorum, IsBlocked, HasFirst, IsSafe, IsCommitted, nothing, backed, IsCertified, empty, shown}
 use Rattle.agreement.specs.Invariant.{IsBallot, IsGoodVote}
 use Rattle.agreement.specs.Moves.{IsBest}
-use Rattle.agreement.proofs.Prefixes.{prefix_length, prefix_refl, prefix_trans, prefix_both, take_prefix, take_within, take_longer, below_trans}
+use Rattle.agreement.proofs.Numbers.{below_trans}
 use Rattle.agreement.proofs.Counts.{count_share, count_list}
 
 -- the vote of one who is named
@@ -76,7 +78,7 @@ module _ {E : Type 0} {g : Group E} {h : History E} where
       let n = prefix_length f.front in let n' = take_within m (h.logs v) f.within in
       let long : suc j ≤ length xs = omega arith in
       let back : IsPrefix xs xs = prefix_refl xs in
-      let part : IsPrefix (take (suc j) xs) (h.logs v) = prefix_trans (prefix_both (take_prefix (suc j) xs) f.front (omega (arith, take_within (suc j) xs long))) (take_prefix m (h.logs v)) in
+      let part : IsPrefix (take (suc j) xs) (h.logs v) = prefix_trans (prefix_both (front_prefix (suc j) xs) f.front (omega (arith, take_within (suc j) xs long))) (front_prefix m (h.logs v)) in
       (long, shown v m (omega (arith, take_within (suc j) xs long)) f.within part q)
 
   -- each log that is safe for a view has room for what earlier views committed

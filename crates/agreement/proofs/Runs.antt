@@ -1,12 +1,12 @@
 -- From the start, over any moves.
 use Rattle.std.proofs.Common.{◌≡◌, ℕ, ◌<◌, ◌≤◌, inl, inr, true, List, [], ◌∷◌, length, sym, ap, ◌∙◌, subst, arith}
 use Rattle.std.proofs.lemmas.Bool.{cases_eq, false≢true, leb-true}
-use Rattle.agreement.specs.Lists.{IsPrefix, IsIn}
+use Rattle.lists.proofs.Prefixes.{prefix_nil}
+use Rattle.lists.specs.Lists.{IsIn, IsPrefix}
 use Rattle.agreement.specs.History.{Group, size, primary_of, Letter, History}
 use Rattle.agreement.specs.Quorums.{has_acknowledged, has_accepted, nothing, IsCertified}
 use Rattle.agreement.specs.Invariant.{is_up, Invariant, IsGroup}
 use Rattle.agreement.specs.Laws.{VotesMakeASafeLog, CertifiedLogsAgree, MovesKeepTheInvariant, CommittedLogsAgree, IsStart, Run, still, then, committed_log}
-use Rattle.agreement.proofs.Prefixes.{prefix_nil}
 use Rattle.agreement.proofs.Quorums.{best_is_safe}
 use Rattle.agreement.proofs.Frame.{accepted_own, accepted_posted, certified_more}
 use Rattle.agreement.proofs.Consequences.{committed_certified, certified_agree}

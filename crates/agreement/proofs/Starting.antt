@@ -1,14 +1,14 @@
 -- What several cases of the rules share: proposals, the own vote, and the start of a view.
 use Rattle.std.proofs.Common.{◌≡◌, ◌≢◌, ℕ, ◌+◌, ◌<◌, ◌≤◌, inl, inr, eqb, List, [], ◌∷◌, ◌++◌, length, take, drop, map, refl, sym, ap, ◌∙◌, subst}
 use Rattle.std.proofs.lemmas.Bool.{cond-true, cond-false, eq-eqb, ne_eqb}
-use Rattle.agreement.specs.Lists.{IsIn}
+use Rattle.lists.proofs.Prefixes.{prefix_append}
+use Rattle.lists.specs.Lists.{IsIn}
 use Rattle.agreement.specs.History.{Group, size, primary_of, Normal, ViewChange, Vote, Message, Prepare, StartView, Letter, State, History}
 use Rattle.agreement.specs.Quorums.{is_prepare_ok}
 use Rattle.agreement.specs.Invariant.{IsGoodMessage, IsGoodLetter, IsGroup}
 use Rattle.agreement.specs.Moves.{AcknowledgeNothing, AreFrom, collecting, appended, started, Collects, Proposes, Starts, Speaks, IsBest}
 use Rattle.agreement.specs.Turns.{KeepsCommitted}
 use Rattle.agreement.specs.Effects.{front_of, prepares, proposing, proposing_letters, AreLogs, tells}
-use Rattle.agreement.proofs.Prefixes.{prefix_append}
 use Rattle.agreement.proofs.OwedStates.{no_letters}
 use Rattle.agreement.proofs.Turns.{start_begins}
 use Rattle.agreement.proofs.Conditions.{own_news, own_good_vote}

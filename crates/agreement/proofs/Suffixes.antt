@@ -1,12 +1,12 @@
 -- Logs that are told without their first entries are put together to the whole ones.
 use Rattle.std.proofs.Common.{◌≡◌, ℕ, ◌<◌, ◌≤◌, inl, inr, Option, Some, None, List, ◌++◌, length, take, drop, refl, sym, ap, ◌∙◌, subst, arith, take-take, take-append-drop}
-use Rattle.agreement.specs.Lists.{IsPrefix}
+use Rattle.lists.proofs.Prefixes.{prefix_take, take_within}
+use Rattle.lists.specs.Lists.{IsPrefix}
 use Rattle.agreement.specs.History.{Group, ViewChange, Supplied, State, History}
 use Rattle.agreement.specs.Quorums.{IsLogOf, IsCertified}
 use Rattle.agreement.specs.Invariant.{is_up, IsGoodVote, IsGoodState, Invariant}
 use Rattle.agreement.specs.Laws.{FrontsComplete, SuffixesComplete}
 use Rattle.agreement.specs.Effects.{front_with, front_of}
-use Rattle.agreement.proofs.Prefixes.{prefix_take, take_within}
 use Rattle.agreement.proofs.Consequences.{committed_certified, committed_begins, certified_agree}
 
 same_front : {E : Type 0} (b : ℕ) (front best : List E) → take b front ≡ take b best → take b front ++ drop b best ≡ best

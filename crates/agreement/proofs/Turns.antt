@@ -1,13 +1,13 @@
 -- What a turn shows is certified before any letter of the turn has left.
 use Rattle.std.proofs.Common.{◌≡◌, ℕ, ◌<◌, ◌≤◌, true, List, length, take, refl, sym, ap, ◌∙◌, subst, arith}
-use Rattle.agreement.specs.Lists.{IsPrefix, IsIn}
+use Rattle.lists.proofs.Prefixes.{prefix_refl, prefix_take, prefix_trans}
+use Rattle.lists.specs.Lists.{IsIn, IsPrefix}
 use Rattle.agreement.specs.History.{Group, size, primary_of, ViewChange, Vote, Letter, State, History}
 use Rattle.agreement.specs.Quorums.{has_accepted, IsCertified, empty, shown}
 use Rattle.agreement.specs.Invariant.{is_up, IsGoodVote, IsGoodState, Invariant, IsGroup}
 use Rattle.agreement.specs.Moves.{Moved, LogsStay, AcknowledgeNothing, Resembles, started, IsBest}
 use Rattle.agreement.specs.Laws.{Run, still, then, committed_log}
 use Rattle.agreement.specs.Turns.{AcceptsAlike, KeepsCommitted, StartsView, FirstMoves, first_none, first_then, LastMoves, last_none, last_then, Turn, plainly, starting, Shown, nothing_shown, shown_now, shown_open, ShownLogsAgree}
-use Rattle.agreement.proofs.Prefixes.{prefix_refl, prefix_trans, prefix_take}
 use Rattle.agreement.proofs.Counts.{count_more}
 use Rattle.agreement.proofs.Quorums.{best_has_room}
 use Rattle.agreement.proofs.Consequences.{certified_agree, up_not_down}

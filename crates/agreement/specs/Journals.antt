@@ -1,7 +1,7 @@
 -- Histories of journals, for any rules of a controller. A journal lists what controllers take and post. Its past stands
 -- newest first.
 use Rattle.std.specs.Prelude.{◌≡◌, ◌≢◌, ℕ, ◌<◌, ◌≤◌, ◌⊎◌, Bool, true, false, ◌&&◌, nat_eq, Option, Some, None, List, [], ◌∷◌, ◌++◌, if◌then◌else◌, ⊤}
-use Rattle.agreement.specs.Lists.{IsPrefix, IsIn}
+use Rattle.lists.specs.Lists.{IsIn, IsPrefix}
 use Rattle.agreement.specs.History.{Group, size, primary_of, Status, Normal, ViewChange, Recovering, Down, Letter, State, History}
 use Rattle.agreement.specs.Invariant.{is_up, Invariant, IsGroup}
 use Rattle.agreement.specs.Moves.{StandsAt, Moved, Resembles, fallen}

@@ -1,18 +1,10 @@
 -- Words for lists and for counts.
-use Rattle.std.specs.Prelude.{◌≡◌, ◌≢◌, ℕ, zero, suc, ◌+◌, ◌<◌, ◌≤◌, ◌⊎◌, Bool, not, ◌&&◌, nat_eq, List, [], ◌∷◌, length, take, if◌then◌else◌, ⊤}
-
--- the first list begins the second
-pub record IsPrefix {A : Type 0} (front whole : List A) : Type 0 where
-  pub is : front ≡ take (length front) whole
+use Rattle.std.specs.Prelude.{◌≡◌, ◌≢◌, ℕ, zero, suc, ◌+◌, ◌<◌, ◌≤◌, ◌⊎◌, Bool, not, ◌&&◌, nat_eq, List, [], ◌∷◌, if◌then◌else◌, ⊤}
+use Rattle.lists.specs.Lists.{IsIn}
 
 -- the pair (a, b) is at most the pair (c, d): the first numbers decide, and where they are equal the second
 abbrev pub IsAtMost : ℕ → ℕ → ℕ → ℕ → Type 0
 IsAtMost a b c d = (a < c) ⊎ ((a ≡ c) × (b ≤ d))
-
--- x stands in the list
-abbrev pub IsIn : {A : Type 0} → A → List A → Type 0
-IsIn x [] = ⊥
-IsIn x (y ∷ ys) = (x ≡ y) ⊎ IsIn x ys
 
 -- no number stands twice in the list
 abbrev pub AreDistinct : List ℕ → Type 0

@@ -1,7 +1,8 @@
 -- The moves of one controller. A move changes the state and the stable pair of its controller, may make the log of one
 -- view longer, and adds letters.
 use Rattle.std.specs.Prelude.{◌≡◌, ◌≢◌, ℕ, ◌+◌, ◌<◌, ◌≤◌, ◌⊎◌, true, false, nat_eq, max, Some, None, List, [], ◌∷◌, ◌++◌, length, map, if◌then◌else◌}
-use Rattle.agreement.specs.Lists.{IsPrefix, IsAtMost, IsIn}
+use Rattle.agreement.specs.Lists.{IsAtMost}
+use Rattle.lists.specs.Lists.{IsIn, IsPrefix}
 use Rattle.agreement.specs.History.{Group, size, primary_of, Normal, ViewChange, Recovering, Down, Vote, Supplied, Letter, letter, Prepare, PrepareOk, Recovery, RecoveryResponse, Response, State, History}
 use Rattle.agreement.specs.Quorums.{is_prepare_ok, has_accepted, IsCommitted, IsLogOf}
 use Rattle.agreement.specs.Invariant.{is_up, IsGoodLetter, IsGoodVote, IsGoodSupply}

@@ -24,12 +24,12 @@ use Rattle.controller_laws.specs.MemberMoves as moves
 use Rattle.group_controller.specs.State.{ControllerState, Work, committed, to_member, to_members}
 use Rattle.controller_laws.specs.CommitNumbers.{StateCommits, FilledCommits, MessageCommits, SaysCommits, InputCommits, IsKnownCommit, Below, OfCollected, OfResponse, OfInput, WorkCommits}
 use Rattle.controller_laws.specs.Entries.{IsConsistent}
-use Rattle.controller_laws.specs.Lists.{IsIn, IsPrefix}
+use Rattle.lists.proofs.Elements.{in_append, in_map}
+use Rattle.lists.proofs.Prefixes.{prefix_length, prefix_trans}
+use Rattle.lists.specs.Lists.{IsIn, IsPrefix}
 use Rattle.controller_laws.specs.MemberMoves.{MemberMove, IsSaidByMember}
 use Rattle.controller_laws.specs.Moves.{Tells, member_input, IsSaid, Prepares, Asks, Commands, Acks, Clears, Echoes, Move, Steps, Says, Saves, Begins, Proposes, Results, Notes, Chain, Start, Then}
 use Rattle.controller_laws.specs.Turns.{beginning, IsReached}
-use Rattle.controller_laws.proofs.Lists.{in_append, in_map}
-use Rattle.controller_laws.proofs.Prefixes.{prefix_on, prefix_length}
 use Rattle.controller_laws.proofs.MemberEntries.{response_among}
 use Rattle.controller_laws.proofs.Reached.{move_grows, chain_reaches}
 
@@ -144,7 +144,7 @@ module _ (IsCommit : ℕ → Type 0) where
     chain_commits kept h w Start front = record { state = h; letters = λ l k. absurd k }
     chain_commits kept h w (Then v v' chain move) front =
         let r = chain_reaches kinds setup x c kept v chain in
-        let before = prefix_on (move_grows kinds setup x c v w move r.consistent) front in
+        let before = prefix_trans (move_grows kinds setup x c v w move r.consistent) front in
         step_commits v w move (own v r before) (chain_commits kept h v chain before)
 
 module _ (kinds : List ℕ) (setup : Setup) (x : ControllerInput) (c : ControllerState) where

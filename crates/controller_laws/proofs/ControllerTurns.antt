@@ -40,9 +40,9 @@ use Rattle.group_controller.specs.Settling.{role_letter, command_letter, command
 use Rattle.group_controller.specs.Rules.{switches, has_started, after_step, unconfirmed, tick_letters, on_tick, on_wish, on_event, on_result, on_role_reply, on_hello, on_plain, on_extension, on_spoken, on_switch, on_restart, on_local, on_input, when_down, is_down, controller_work}
 use Rattle.vr_core.proofs.Lasting.{tick_same}
 use Rattle.std.proofs.lemmas.Bool.{cond_both, not-false}
-use Rattle.controller_laws.specs.Lists.{IsIn}
+use Rattle.lists.proofs.Elements.{in_append, in_filter, in_flat_map, in_map}
+use Rattle.lists.specs.Lists.{IsIn}
 use Rattle.controller_laws.specs.Moves.{Tells, member_input, IsProposed, IsSaid, Asks, Commands, Acks, Clears, Echoes, Move, Steps, Says, Saves, Begins, Proposes, Results, Notes, Receives, Processes}
-use Rattle.controller_laws.proofs.Lists.{in_append, in_map, in_filter, in_flat_map}
 use Rattle.controller_laws.proofs.MemberSteps.{step_keeps}
 
 module _ (kinds : List ℕ) (setup : Setup) (x : ControllerInput) (P : Work → Type 0) (step : (w w' : Work) → Move kinds setup x w w' → P w → P w') where

@@ -15,12 +15,12 @@ use Rattle.group_controller.specs.declared.messages.ControllerInput.{ControllerI
 use Rattle.group_controller.specs.State.{ControllerState, committed}
 use Rattle.group_controller.specs.Settling.{is_settled}
 use Rattle.group_controller.proofs.Finishing.{settled_follows}
-use Rattle.controller_laws.specs.Lists.{IsIn}
+use Rattle.lists.proofs.Prefixes.{front_prefix}
+use Rattle.lists.specs.Lists.{IsIn}
 use Rattle.controller_laws.specs.Moves.{IsProposed, Receives, Processes}
 use Rattle.controller_laws.specs.Entries.{IsConsistent}
 use Rattle.controller_laws.specs.Events.{IsEndedBy}
 use Rattle.controller_laws.specs.Finished.{IsFinished}
-use Rattle.controller_laws.proofs.Prefixes.{front_prefix}
 use Rattle.controller_laws.proofs.Logs.{processed_prefix, ended_by}
 
 -- a mark of a result

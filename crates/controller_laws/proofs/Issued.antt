@@ -1,6 +1,6 @@
 -- What the controller that never fails issues on a log that grows, to each life of a switch, and the numbers of its
 -- commands.
-use Rattle.std.proofs.Common.{inl, inr, ◌≡◌, ◌≤◌, ◌<◌, ℕ, ◌+◌, Bool, true, false, ◌&&◌, List, [], ◌∷◌, ◌++◌, length, take, zero, suc, refl, sym, ap, subst, ◌∙◌, arith, append-nil, append_assoc, length-append}
+use Rattle.std.proofs.Common.{inl, inr, ◌⊎◌, ◌≡◌, ◌≤◌, ◌<◌, ℕ, ◌+◌, Bool, true, false, ◌&&◌, List, [], ◌∷◌, ◌++◌, length, take, zero, suc, refl, sym, ap, subst, ◌∙◌, arith, append-nil, append_assoc, length-append}
 use Rattle.std.specs.Prelude.{nat_eq, slice_get, slice_index_or, Some, if◌then◌else◌}
 use Rattle.std.proofs.lemmas.Bool.{eqb-true, eq-eqb, and_parts, cases_lt}
 use Rattle.std.proofs.lemmas.List.Sums.{sum_by-cons}
@@ -13,8 +13,9 @@ use Rattle.app_core.specs.Chain.{concat, chain_next, starting_chain, reactions_f
 use Rattle.app_core.specs.declared.issued.Issued.{Issued}
 use Rattle.app_core.specs.Issued.{count_issued, issue, issue_each, issue_all, issues, commands_of, orders_in, issued}
 use Rattle.app_core.proofs.Issuing.{concat-append, length-issues}
-use Rattle.controller_laws.specs.Lists.{IsIn, IsPrefix}
-use Rattle.controller_laws.proofs.Prefixes.{front_prefix, prefix_length, get_prefix}
+use Rattle.lists.proofs.Places.{get_prefix}
+use Rattle.lists.proofs.Prefixes.{front_prefix, prefix_length}
+use Rattle.lists.specs.Lists.{IsIn, IsPrefix}
 
 -- a beginning of a list of lists
 pub concat_prefix : {A : Type 0} (xs ys : List (List A)) → IsPrefix xs ys → IsPrefix (concat xs) (concat ys)
@@ -197,40 +198,52 @@ module _ (kinds : List ℕ) (setup : Setup) where
         | inr past ↦ absurd (subst (λ (z : List Issued). IsIn n z) (none_past (issues kinds setup es) j past) h)
       ]
 
-  -- the commands of an event whose numbers are all below a bound
-  count_more : (b : Bool) (o : Order) (xs : List Order) (bound : ℕ) → length xs ≤ bound → (b ≡ true → length xs < bound) → length (xs ++ (if b then o ∷ [] else [])) ≤ bound
-  count_more true o xs bound few less = let l = less refl in omega (arith, length-append xs (o ∷ []))
-  count_more false o xs bound few less = omega (arith, length-append xs [])
+  -- the commands of an event whose numbers are all below a bound, unless something else holds
+  each_below : (Q : Type 0) (s l bound : ℕ) (events : List Event) (before : List Issued) (cs : List Command) → length (orders_in s l before) ≤ bound →
+      ((n : Issued) → IsIn n (issue_each events before cs) → n.switch ≡ s → n.life ≡ l → (n.number < bound) ⊎ Q) → (length (orders_in s l (before ++ issue_each events before cs)) ≤ bound) ⊎ Q
+  each_below Q s l bound events before [] few all = inl (subst (λ (z : List Issued). length (orders_in s l z) ≤ bound) (sym (append-nil before)) few)
+  each_below Q s l bound events before (c ∷ cs) few all =
+      by_first (λ few'. each_below Q s l bound events (before ++ issue events before c ∷ []) cs few' (λ n h. all n (inr h))) (is_of s l i) refl
+    where
+      i : Issued
+      i = issue events before c
 
-  pub each_below : (s l bound : ℕ) (events : List Event) (before : List Issued) (cs : List Command) → length (orders_in s l before) ≤ bound →
-      ((n : Issued) → IsIn n (issue_each events before cs) → n.switch ≡ s → n.life ≡ l → n.number < bound) → length (orders_in s l (before ++ issue_each events before cs)) ≤ bound
-  each_below s l bound events before [] few all = subst (λ (z : List Issued). length (orders_in s l z) ≤ bound) (sym (append-nil before)) few
-  each_below s l bound events before (c ∷ cs) few all =
-      let i = issue events before c in
-      let less : is_of s l i ≡ true → length (orders_in s l before) < bound = λ k.
-      let p = and_parts (nat_eq i.switch s) (nat_eq i.life l) k in
-      let e0 : i.switch ≡ s = eqb-true i.switch s p.0 in
-      let e1 : i.life ≡ l = eqb-true i.life l p.1 in
-      let under : i.number < bound = all i (inl refl) e0 e1 in
-      let place : i.number ≡ length (orders_in i.switch i.life before) = count-orders i.switch i.life before in
-      let same : length (orders_in i.switch i.life before) ≡ length (orders_in s l before) = ap (λ (a : ℕ). length (orders_in a i.life before)) e0 ∙ ap (λ (a : ℕ). length (orders_in s a before)) e1 in
-      omega (arith, under, place, same) in
-      let more : length (orders_in s l (before ++ i ∷ [])) ≤ bound = subst (λ (os : List Order). length os ≤ bound) (sym (orders_in-append s l before (i ∷ [])))
-      (count_more (is_of s l i) i.order (orders_in s l before) bound few less) in
-      subst (λ (z : List Issued). length (orders_in s l z) ≤ bound) (append_assoc before (i ∷ []) (issue_each events (before ++ i ∷ []) cs))
-      (each_below s l bound events (before ++ i ∷ []) cs more (λ n h. all n (inr h)))
+      rest : List Issued
+      rest = issue_each events (before ++ i ∷ []) cs
 
-  -- where the commands of all events before one, and its own, are below a bound
-  pub done_through : (s l bound j : ℕ) (es : List Event) → j < length es → length (issued kinds setup s l (take j es)) ≤ bound →
-      ((n : Issued) → IsIn n (commands_of kinds setup es j) → n.switch ≡ s → n.life ≡ l → n.number < bound) → length (issued kinds setup s l (take (j + 1) es)) ≤ bound
-  done_through s l bound j es lt few all =
+      joined : ((length (orders_in s l ((before ++ i ∷ []) ++ rest)) ≤ bound) ⊎ Q) → (length (orders_in s l (before ++ i ∷ rest)) ≤ bound) ⊎ Q
+      joined (inl k) = inl (subst (λ (z : List Issued). length (orders_in s l z) ≤ bound) (append_assoc before (i ∷ []) rest) k)
+      joined (inr q) = inr q
+
+      longer : (b : Bool) → is_of s l i ≡ b → length (orders_in s l (before ++ i ∷ [])) ≡ length (orders_in s l before) + length (if b then i.order ∷ [] else [])
+      longer b e = ap length (orders_in-append s l before (i ∷ [])) ∙ length-append (orders_in s l before) (orders_in s l (i ∷ [])) ∙ ap (λ (z : Bool). length (orders_in s l before) + length (if z then i.order ∷ [] else [])) e
+
+      by_first : (length (orders_in s l (before ++ i ∷ [])) ≤ bound → (length (orders_in s l ((before ++ i ∷ []) ++ rest)) ≤ bound) ⊎ Q) → (b : Bool) → is_of s l i ≡ b → (length (orders_in s l (before ++ i ∷ rest)) ≤ bound) ⊎ Q
+      by_first deeper true mine =
+          let both = and_parts (nat_eq i.switch s) (nat_eq i.life l) mine in
+          let of_switch : i.switch ≡ s = eqb-true i.switch s both.0 in
+          let of_life : i.life ≡ l = eqb-true i.life l both.1 in
+          let place : i.number ≡ length (orders_in i.switch i.life before) = count-orders i.switch i.life before in
+          let same : length (orders_in i.switch i.life before) ≡ length (orders_in s l before) = ap (λ (a : ℕ). length (orders_in a i.life before)) of_switch ∙ ap (λ (a : ℕ). length (orders_in s a before)) of_life in
+          elim (all i (inl refl) of_switch of_life) [
+            | inl lt ↦ joined (deeper (omega (arith, lt, place, same, longer true mine)))
+            | inr q ↦ inr q
+          ]
+      by_first deeper false other = joined (deeper (omega (arith, few, longer false other)))
+
+  -- where the commands of all events before one, and its own, are below a bound, unless something else holds
+  pub done_unless : (Q : Type 0) (s l bound j : ℕ) (es : List Event) → j < length es → length (issued kinds setup s l (take j es)) ≤ bound →
+      ((n : Issued) → IsIn n (commands_of kinds setup es j) → n.switch ≡ s → n.life ≡ l → (n.number < bound) ⊎ Q) → (length (issued kinds setup s l (take (j + 1) es)) ≤ bound) ⊎ Q
+  done_unless Q s l bound j es lt few all =
       let xs = issues kinds setup es in
       let there : j < length xs = omega (arith, length-issues kinds setup es) in
       let r = at_issues es j there in
       let old : length (orders_in s l (concat (take j xs))) ≤ bound = subst (λ (os : List Order). length os ≤ bound) (issued-take s l j es) few in
-      let new = each_below s l bound r.events (concat (take j xs)) r.commands old (λ n h. all n (subst (λ (z : List Issued). IsIn n z) (sym r.is) h)) in
       let whole : concat (take (j + 1) xs) ≡ concat (take j xs) ++ issue_each r.events (concat (take j xs)) r.commands = next_list xs j there ∙ ap (λ (z : List Issued). concat (take j xs) ++ z) r.is in
-      subst (λ (os : List Order). length os ≤ bound) (sym (issued-take s l (j + 1) es)) (subst (λ (z : List Issued). length (orders_in s l z) ≤ bound) (sym whole) new)
+      elim (each_below Q s l bound r.events (concat (take j xs)) r.commands old (λ n h. all n (subst (λ (z : List Issued). IsIn n z) (sym r.is) h))) [
+        | inl k ↦ inl (subst (λ (os : List Order). length os ≤ bound) (sym (issued-take s l (j + 1) es)) (subst (λ (z : List Issued). length (orders_in s l z) ≤ bound) (sym whole) k))
+        | inr q ↦ inr q
+      ]
 
   -- nothing is issued on nothing
   pub issued_none : (s l : ℕ) → issued kinds setup s l [] ≡ []

@@ -20,7 +20,7 @@ use Rattle.controller_laws.specs.Moves as said_of
 use Rattle.controller_laws.specs.Letters as told
 use Rattle.controller_laws.specs.Moves.{IsSaid, Prepares, Asks, Commands, Acks, Clears, Echoes}
 use Rattle.controller_laws.specs.Letters.{Leads}
-use Rattle.controller_laws.proofs.Lists.{in_filter}
+use Rattle.lists.proofs.Elements.{in_filter}
 use Rattle.controller_laws.proofs.Issued.{command_between, issued-take, count-orders}
 
 -- the test of one that leads

@@ -1,5 +1,3 @@
-pub mod Lists
-pub mod Prefixes
 pub mod Places
 pub mod MemberSteps
 pub mod MemberLogs

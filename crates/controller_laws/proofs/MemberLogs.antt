@@ -20,11 +20,11 @@ use Rattle.view_change.specs.Adopting.{adopted}
 use Rattle.vr_core.specs.declared.input.VrInput.{VrInput}
 use Rattle.vr_log.proofs.Equal.{entries_equal}
 use Rattle.vr_log.proofs.Logs.{IsLog_is, IsLog_append}
-use Rattle.controller_laws.specs.Lists.{IsIn, IsPrefix}
+use Rattle.lists.proofs.Elements.{in_append}
+use Rattle.lists.proofs.Prefixes.{prefix_refl, take_prefixes, takes_prefix}
+use Rattle.lists.specs.Lists.{IsIn, IsPrefix}
 use Rattle.controller_laws.specs.Entries.{IsConsistent}
 use Rattle.controller_laws.specs.MemberMoves.{MemberMove, Enters, Tallies, Collects, Stocks, Starts, Adopts, Recovers, Appends, Commits, Keeps}
-use Rattle.controller_laws.proofs.Lists.{in_append}
-use Rattle.controller_laws.proofs.Prefixes.{prefix_same, take_prefixes, takes_prefix}
 
 -- the best of collected logs is one of them, and none has a greater commit number than the greatest
 pub best_among : (c : Collected) (cs : List Collected) → IsIn (best_of c cs) (c ∷ cs)
@@ -96,7 +96,7 @@ module _ (x : VrInput) (s : VrState) (h : IsConsistent s) where
   stays s' log commit supply own me controllers =
       record {
         consistent = record { follow = rw log h.follow; commit = let a = h.commit in let b = ap length log in omega (arith, a, b, commit); supply = supply; own = own };
-        grows = rw (log, commit) (prefix_same (take s.commit s.log));
+        grows = rw (log, commit) (prefix_refl (take s.commit s.log));
         me = me;
         controllers = controllers;
       }

@@ -28,10 +28,11 @@ use Rattle.vr_core.specs.declared.input.VrInput.TheVariants as vr_input
 use Rattle.vr_core.specs.Step.{on_vr, vr_step}
 use Rattle.vr_normal.proofs.Agreed.{greatest_least, greatest_most}
 use Rattle.std.specs.Prelude.{filter}
-use Rattle.controller_laws.specs.Lists.{IsIn}
+use Rattle.lists.proofs.Elements.{in_append, in_flat_map, in_map}
+use Rattle.lists.proofs.Places.{get_dropped}
+use Rattle.lists.specs.Lists.{IsIn}
 use Rattle.controller_laws.specs.Views.{TellsView, Suspected, Told}
 use Rattle.controller_laws.specs.MemberMoves.{One, Several, Shows, Starting, Standing, MemberMove, Enters, Tallies, Collects, Stocks, Starts, Adopts, Recovers, Appends, Commits, Keeps, IsSaidByMember, AsksVote, SendsLog, TellsStart, Repeats, TellsCommit, Acknowledges, AsksLog, AsksAll, Answers, TellsLog, AsksFront, TellsFront}
-use Rattle.controller_laws.proofs.Lists.{in_append, in_map, in_flat_map, get_dropped}
 
 -- letters to several are one each
 mapped_said : (s : VrState) (m : VrMessage) (to : List ℕ) (says : (j : ℕ) (l : VrLetter) → l ≡ letter m j → IsSaidByMember s l) (l : VrLetter) → IsIn l (map (letter m) to) → IsSaidByMember s l

@@ -20,12 +20,12 @@ use Rattle.group_controller.specs.State.{ControllerState, Work, committed, down,
 use Rattle.group_controller.specs.Settling.{with_proposal}
 use Rattle.group_controller.specs.Rules.{is_down, controller_work}
 use Rattle.vr_log.proofs.Logs.{IsLog_is, IsLog_push}
-use Rattle.controller_laws.specs.Lists.{IsIn, IsPrefix}
+use Rattle.lists.proofs.Elements.{in_append, in_map}
+use Rattle.lists.proofs.Prefixes.{prefix_refl, prefix_trans, take_prefixes}
+use Rattle.lists.specs.Lists.{IsIn, IsPrefix}
 use Rattle.controller_laws.specs.Moves.{member_input, IsSaid, Prepares, Move, Steps, Says, Saves, Begins, Proposes, Results, Notes, IsProposed, Chain, Start, Then}
 use Rattle.controller_laws.specs.Entries.{IsConsistent}
 use Rattle.controller_laws.specs.Turns.{beginning, IsSaidWithin, IsMarked, Stood, Came, IsReached}
-use Rattle.controller_laws.proofs.Lists.{in_append, in_map}
-use Rattle.controller_laws.proofs.Prefixes.{prefix_same, prefix_on, take_prefixes}
 use Rattle.controller_laws.proofs.MemberLogs.{move_lasts, normal_not_changing}
 use Rattle.controller_laws.proofs.ControllerTurns.{turn_keeps}
 use Rattle.controller_laws.proofs.Finished.{proposal_follows}
@@ -38,7 +38,7 @@ commit_choice false n k h = (omega arith, omega arith)
 module _ (kinds : List ℕ) (setup : Setup) (x : ControllerInput) (c : ControllerState) where
   -- the letters, of a state whose committed log goes on
   said_on : (w w' : Work) (l : Letter ControllerSays) → IsPrefix (committed w.state) (committed w'.state) → IsSaidWithin kinds setup x c w.state l → IsSaidWithin kinds setup x c w'.state l
-  said_on w w' l more h = record { mid = h.mid; chain = h.chain; consistent = h.consistent; grows = prefix_on h.grows more; said = h.said }
+  said_on w w' l more h = record { mid = h.mid; chain = h.chain; consistent = h.consistent; grows = prefix_trans h.grows more; said = h.said }
 
   goes_on : (w w' : Work) → IsReached kinds setup x c w → Move kinds setup x w w' → IsConsistent w'.state.vr → IsPrefix (committed w.state) (committed w'.state) → w'.state.vr.me ≡ w.state.vr.me →
       w'.state.vr.controllers ≡ w.state.vr.controllers → ((s l i : ℕ) → IsIn (s, l, i) w'.state.marks.acked → IsMarked x c s l i) → (more : List (Letter ControllerSays)) → w'.letters ≡ w.letters ++ more →
@@ -47,7 +47,7 @@ module _ (kinds : List ℕ) (setup : Setup) (x : ControllerInput) (c : Controlle
       record {
         chain = Then w w' r.chain move;
         consistent = kept;
-        grows = prefix_on r.grows grows;
+        grows = prefix_trans r.grows grows;
         me = me ∙ r.me;
         controllers = controllers ∙ r.controllers;
         marks = marks;
@@ -63,14 +63,14 @@ module _ (kinds : List ℕ) (setup : Setup) (x : ControllerInput) (c : Controlle
       ((l : Letter ControllerSays) → IsIn l more → IsSaid kinds setup x w.state l) → IsReached kinds setup x c (record { state = s; save = save; letters = w.letters ++ more })
   notes_on w s save more same r move marks says =
       goes_on w (record { state = s; save = save; letters = w.letters ++ more }) r move (subst (λ (v : VrState). IsConsistent v) (sym same) r.consistent)
-      (subst (λ (v : VrState). IsPrefix (committed w.state) (take v.commit v.log)) (sym same) (prefix_same (committed w.state)))
+      (subst (λ (v : VrState). IsPrefix (committed w.state) (take v.commit v.log)) (sym same) (prefix_refl (committed w.state)))
       (ap (λ (v : VrState). v.me) same) (ap (λ (v : VrState). v.controllers) same) marks more refl says
 
   quietly : (w : Work) (s : ControllerState) (save : Option (ℕ × ℕ)) → s.vr ≡ w.state.vr → IsReached kinds setup x c w → Move kinds setup x w (record { state = s; save = save; letters = w.letters }) →
       ((s' l i : ℕ) → IsIn (s', l, i) s.marks.acked → IsMarked x c s' l i) → IsReached kinds setup x c (record { state = s; save = save; letters = w.letters })
   quietly w s save same r move marks =
       goes_on w (record { state = s; save = save; letters = w.letters }) r move (subst (λ (v : VrState). IsConsistent v) (sym same) r.consistent)
-      (subst (λ (v : VrState). IsPrefix (committed w.state) (take v.commit v.log)) (sym same) (prefix_same (committed w.state)))
+      (subst (λ (v : VrState). IsPrefix (committed w.state) (take v.commit v.log)) (sym same) (prefix_refl (committed w.state)))
       (ap (λ (v : VrState). v.me) same) (ap (λ (v : VrState). v.controllers) same) marks [] (sym (append-nil w.letters)) (λ l k. absurd k)
 
   -- a result that counts is marked
@@ -134,17 +134,17 @@ module _ (kinds : List ℕ) (setup : Setup) (x : ControllerInput) (c : Controlle
   -- what is committed stays
   pub move_grows : (w w' : Work) → Move kinds setup x w w' → IsConsistent w.state.vr → IsPrefix (committed w.state) (committed w'.state)
   move_grows w w' (Steps s move is) kept = subst (λ (v : Work). IsPrefix (committed w.state) (committed v.state)) (sym is) (move_lasts (member_input x) w.state.vr kept s move).grows
-  move_grows w w' (Says ls all is) kept = subst (λ (v : Work). IsPrefix (committed w.state) (committed v.state)) (sym is) (prefix_same (committed w.state))
-  move_grows w w' (Saves save is) kept = subst (λ (v : Work). IsPrefix (committed w.state) (committed v.state)) (sym is) (prefix_same (committed w.state))
-  move_grows w w' (Begins lead is) kept = subst (λ (v : Work). IsPrefix (committed w.state) (committed v.state)) (sym is) (prefix_same (committed w.state))
+  move_grows w w' (Says ls all is) kept = subst (λ (v : Work). IsPrefix (committed w.state) (committed v.state)) (sym is) (prefix_refl (committed w.state))
+  move_grows w w' (Saves save is) kept = subst (λ (v : Work). IsPrefix (committed w.state) (committed v.state)) (sym is) (prefix_refl (committed w.state))
+  move_grows w w' (Begins lead is) kept = subst (λ (v : Work). IsPrefix (committed w.state) (committed v.state)) (sym is) (prefix_refl (committed w.state))
   move_grows w w' (Proposes entry lead proposed room is) kept =
       subst (λ (v : Work). IsPrefix (committed w.state) (committed v.state)) (sym is)
       (take_prefixes w.state.vr.commit _ w.state.vr.log (entry ∷ []) (commit_choice (nat_eq (most_failures w.state.vr) 0) (length w.state.vr.log) w.state.vr.commit kept.commit).0)
-  move_grows w w' (Results s xid life number outcome asks lead waits is) kept = subst (λ (v : Work). IsPrefix (committed w.state) (committed v.state)) (sym is) (prefix_same (committed w.state))
-  move_grows w w' (Notes confirmed told full is) kept = subst (λ (v : Work). IsPrefix (committed w.state) (committed v.state)) (sym is) (prefix_same (committed w.state))
+  move_grows w w' (Results s xid life number outcome asks lead waits is) kept = subst (λ (v : Work). IsPrefix (committed w.state) (committed v.state)) (sym is) (prefix_refl (committed w.state))
+  move_grows w w' (Notes confirmed told full is) kept = subst (λ (v : Work). IsPrefix (committed w.state) (committed v.state)) (sym is) (prefix_refl (committed w.state))
 
   begins : IsConsistent c.vr → IsReached kinds setup x c (beginning c)
-  begins kept = record { chain = Start; consistent = kept; grows = prefix_same (committed c); me = refl; controllers = refl; marks = λ s l i k. Stood k; said = λ l k. absurd k }
+  begins kept = record { chain = Start; consistent = kept; grows = prefix_refl (committed c); me = refl; controllers = refl; marks = λ s l i k. Stood k; said = λ l k. absurd k }
 
   pub chain_reaches : IsConsistent c.vr → (w : Work) → Chain kinds setup x (beginning c) w → IsReached kinds setup x c w
   chain_reaches kept w Start = begins kept

@@ -14,7 +14,7 @@ use Rattle.group_controller.specs.declared.messages.ControllerInput.TheVariants 
 use Rattle.group_controller.specs.Rules.{on_restart, is_down, controller_work}
 use Rattle.group_controller.specs.State.{ControllerState, resting, to_member}
 use Rattle.controller_laws.specs.Laws.{IsRestarted}
-use Rattle.controller_laws.proofs.Lists.{in_map}
+use Rattle.lists.proofs.Elements.{in_map}
 use Rattle.controller_laws.proofs.ControllerTurns.{down_keeps}
 
 module _ (kinds : List ℕ) (setup : Setup) (x : ControllerInput) (c : ControllerState) where

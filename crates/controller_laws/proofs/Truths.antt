@@ -16,7 +16,9 @@ use Rattle.group_controller.specs.State.{ControllerState, Work, committed}
 use Rattle.controller_laws.specs.Truths as true_letter
 use Rattle.controller_laws.specs.Letters as told
 use Rattle.controller_laws.specs.Entries.{EachFrom, IsGoodBeside, StateHolds, IsConsistent, WorkHolds}
-use Rattle.controller_laws.specs.Lists.{IsIn, IsPrefix}
+use Rattle.lists.proofs.Places.{get_prefix}
+use Rattle.lists.proofs.Prefixes.{prefix_length, prefix_take, prefix_trans, take_prefix, takes_prefix}
+use Rattle.lists.specs.Lists.{IsIn, IsPrefix}
 use Rattle.controller_laws.specs.Moves.{IsProposed, Receives, Processes, Chain}
 use Rattle.controller_laws.specs.Truths.{Facts, IsLater, IsOverBefore, IsDoneAt, IsTrueAt, IsOneAhead, MarksAreDone, IsHonest, HearsTruth, IsCommand, IsOwnView, IsTrueLetter}
 use Rattle.controller_laws.specs.Laws.{StaysTrue, IsDecidedTruly}
@@ -24,9 +26,8 @@ use Rattle.controller_laws.specs.Turns.{beginning, IsReached, IsMarked, Stood, C
 use Rattle.controller_laws.specs.Finished.{IsFinished}
 use Rattle.controller_laws.specs.Events.{IsEndedBy}
 use Rattle.controller_laws.specs.Letters.{IsCommandAt, Leads}
-use Rattle.controller_laws.proofs.Prefixes.{prefix_on, prefix_length, takes_prefix, take_prefix, take_same, get_prefix}
 use Rattle.controller_laws.proofs.Logs.{received_prefix, processed_prefix, processed_count, processed_stands, received_in_order}
-use Rattle.controller_laws.proofs.Issued.{issued_prefix, issued_none, done_through}
+use Rattle.controller_laws.proofs.Issued.{issued_prefix, issued_none, done_unless}
 use Rattle.controller_laws.proofs.Places.{stands_get, holds_more, input_more}
 use Rattle.controller_laws.proofs.Finished.{settled_finished}
 use Rattle.controller_laws.proofs.Reached.{chain_reaches}
@@ -85,7 +86,7 @@ module _ (kinds : List ℕ) (setup : Setup) (f : Facts) (x : ControllerInput) (h
         let size = ap length a.is in
         let long = length-append a.front (Processed j ∷ a.back) in
         let same : take (j + 1) (received f.decided) ≡ take (suc j) (received (committed mid.state)) =
-        take_same (j + 1) (omega arith) events_front ∙ ap (λ (k : ℕ). take k (received (committed mid.state))) (add-one j) in
+        sym (prefix_take (j + 1) events_front (omega arith)) ∙ ap (λ (k : ℕ). take k (received (committed mid.state))) (add-one j) in
         elim (t.0.all s l) [
           | inl few ↦ inl (subst (λ (z : List Event). length (issued kinds setup s l z) ≤ f.executed s l) same few)
           | inr o ↦ let b = o.before in inr (record { place = o.place; before = omega (arith, b, size, long); event = o.event; stands = o.stands; switch_is = o.switch_is; later = o.later })
@@ -106,8 +107,10 @@ module _ (kinds : List ℕ) (setup : Setup) (f : Facts) (x : ControllerInput) (h
             | inr marked ↦ elim (before_done s l j (omega (arith, next)) (omega (arith, lt))) [
               | inr o ↦ inr o
               | inl few ↦
-                  let own = done_through kinds setup s l (f.executed s l) j E lt few (λ n k a b. marks_done mid r s l n.number (marked n k a b)) in
-                  inl (subst (λ (z : List Event). length (issued kinds setup s l z) ≤ f.executed s l) (sym (take_same (j + 1) (omega (arith, lt)) events_front)) own)
+                  elim (done_unless kinds setup ⊥ s l (f.executed s l) j E lt few (λ n k a b. inl (marks_done mid r s l n.number (marked n k a b)))) [
+                    | inl own ↦ inl (subst (λ (z : List Event). length (issued kinds setup s l z) ≤ f.executed s l) (prefix_take (j + 1) events_front (omega (arith, lt))) own)
+                    | inr none ↦ absurd none
+                  ]
             ]
           ];
         }
@@ -125,7 +128,7 @@ module _ (kinds : List ℕ) (setup : Setup) (f : Facts) (x : ControllerInput) (h
         let k = r.consistent.commit in
         let n = length-take mid.state.vr.commit mid.state.vr.log in
         let same : take mid.state.vr.commit f.decided ≡ committed mid.state =
-        take_same mid.state.vr.commit (omega (arith, k, n)) front ∙ take_all mid.state.vr.commit (committed mid.state) (omega (arith, k, n)) in
+        sym (prefix_take mid.state.vr.commit front (omega (arith, k, n))) ∙ take_all mid.state.vr.commit (committed mid.state) (omega (arith, k, n)) in
         let there : processed (committed mid.state) < length (received (take mid.state.vr.commit f.decided)) = subst (λ (z : List Entry). processed (committed mid.state) < length (received z)) (sym same) fin.there in
         let count : processed (committed mid.state) ≡ processed (take mid.state.vr.commit f.decided) = ap (λ (z : List Entry). processed z) (sym same) in
         subst (λ (e : Entry). IsOneAhead f mid.state.vr.commit (length mid.state.vr.log) e) (sym is) (omega (arith, count), there)
@@ -144,7 +147,7 @@ module _ (kinds : List ℕ) (setup : Setup) (f : Facts) (x : ControllerInput) (h
       WorkHolds (λ n e. IsTrueAt kinds setup f n e) (λ k n e. IsOneAhead f k n e) w × MarksAreDone f w.state
   turn_true w kept chain front = (
     chain_holds kinds setup x c (λ n e. IsTrueAt kinds setup f n e) (λ k n e. IsOneAhead f k n e) ahead_grows heard.entries w.state
-        (λ mid entry r before holds proposed. (proposed_true mid r (prefix_on before front) holds entry proposed, λ _. proposed_ahead mid r (prefix_on before front) holds entry proposed)) kept honest.entries w chain
+        (λ mid entry r before holds proposed. (proposed_true mid r (prefix_trans before front) holds entry proposed, λ _. proposed_ahead mid r (prefix_trans before front) holds entry proposed)) kept honest.entries w chain
         (record { rest = []; joined = sym (append-nil (committed w.state)) }),
     marks_done w (chain_reaches kinds setup x c kept w chain),
   )
@@ -167,9 +170,9 @@ module _ (kinds : List ℕ) (setup : Setup) (f : Facts) (x : ControllerInput) (c
         place = processed log;
         there = omega (arith, lt, longer);
         reached = processed_prefix front;
-        settled_is = h.settled_is ∙ ap (λ (z : List Event). length (issued kinds setup s l z)) (sym (take_same (processed log) (omega (arith, lt)) events));
+        settled_is = h.settled_is ∙ ap (λ (z : List Event). length (issued kinds setup s l z)) (prefix_take (processed log) events (omega (arith, lt)));
         least = h.least;
-        most = subst (λ (z : List Event). number < length (issued kinds setup s l z)) (sym (take_same (processed log + 1) (omega (arith, lt)) events)) h.most;
+        most = subst (λ (z : List Event). number < length (issued kinds setup s l z)) (prefix_take (processed log + 1) events (omega (arith, lt))) h.most;
         stands = get_prefix number order (issued_prefix kinds setup s l _ _ events) h.stands;
       }
 
@@ -188,7 +191,7 @@ module _ (kinds : List ℕ) (setup : Setup) (f : Facts) (x : ControllerInput) (c
   letters_true w kept chain front l k =
       let r = chain_reaches kinds setup x c kept w chain in
       let s = r.said l k in
-      letter_true s.mid l (chain_reaches kinds setup x c kept s.mid s.chain) (prefix_on s.grows front) (says_told kinds setup x s.mid.state l s.said)
+      letter_true s.mid l (chain_reaches kinds setup x c kept s.mid s.chain) (prefix_trans s.grows front) (says_told kinds setup x s.mid.state l s.said)
 
 -- what is true stays true
 module _ (kinds : List ℕ) (setup : Setup) (f g : Facts) (later : IsLater f g) where
@@ -207,7 +210,7 @@ module _ (kinds : List ℕ) (setup : Setup) (f g : Facts) (later : IsLater f g) 
           | inl few ↦
               let more = later.executed s l in
               let few' : length (issued kinds setup s l (take (j + 1) (received g.decided))) ≤ f.executed s l =
-              subst (λ (z : List Event). length (issued kinds setup s l z) ≤ f.executed s l) (sym (take_same (j + 1) (omega (arith, lt)) events)) few in
+              subst (λ (z : List Event). length (issued kinds setup s l z) ≤ f.executed s l) (prefix_take (j + 1) events (omega (arith, lt))) few in
               inl (omega (arith, few', more))
           | inr o ↦ inr (over_more n s l o)
         ];
@@ -234,9 +237,9 @@ module _ (kinds : List ℕ) (setup : Setup) (f g : Facts) (later : IsLater f g) 
         place = h.place;
         there = omega (arith, lt, longer);
         reached = omega (arith, low, more);
-        settled_is = h.settled_is ∙ ap (λ (z : List Event). length (issued kinds setup s l z)) (sym (take_same h.place (omega (arith, lt)) events));
+        settled_is = h.settled_is ∙ ap (λ (z : List Event). length (issued kinds setup s l z)) (prefix_take h.place events (omega (arith, lt)));
         least = h.least;
-        most = subst (λ (z : List Event). number < length (issued kinds setup s l z)) (sym (take_same (h.place + 1) (omega (arith, lt)) events)) h.most;
+        most = subst (λ (z : List Event). number < length (issued kinds setup s l z)) (prefix_take (h.place + 1) events (omega (arith, lt))) h.most;
         stands = get_prefix number order (issued_prefix kinds setup s l _ _ events) h.stands;
       }
 

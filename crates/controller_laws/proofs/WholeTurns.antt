@@ -16,7 +16,7 @@ use Rattle.group_controller.specs.State.{ControllerState, Work, committed, down,
 use Rattle.controller_laws.specs.Truths as true_letter
 use Rattle.controller_laws.specs.Entries.{StateHolds, IsConsistent, SaysHold}
 use Rattle.controller_laws.specs.Laws.{IsRestarted, TurnKeeps, TurnsKeep}
-use Rattle.controller_laws.specs.Lists.{IsIn, IsPrefix}
+use Rattle.lists.specs.Lists.{IsIn, IsPrefix}
 use Rattle.controller_laws.specs.Moves.{Chain}
 use Rattle.controller_laws.specs.Truths.{Facts, IsLater, IsTrueAt, IsOneAhead, IsHonest, HearsTruth}
 use Rattle.controller_laws.specs.Turns.{beginning}

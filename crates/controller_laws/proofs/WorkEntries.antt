@@ -16,12 +16,12 @@ use Rattle.group_controller.specs.declared.messages.ControllerSays.{ControllerSa
 use Rattle.group_controller.specs.State.{ControllerState, Work, committed, to_member, to_members}
 use Rattle.group_controller.specs.Settling.{with_proposal}
 use Rattle.controller_laws.specs.Moves as said_of
-use Rattle.controller_laws.specs.Lists.{IsIn, IsPrefix}
+use Rattle.lists.proofs.Elements.{in_append, in_map}
+use Rattle.lists.proofs.Prefixes.{prefix_trans}
+use Rattle.lists.specs.Lists.{IsIn, IsPrefix}
 use Rattle.controller_laws.specs.Moves.{member_input, IsSaid, Prepares, Asks, Commands, Acks, Clears, Echoes, Move, Steps, Says, Saves, Begins, Proposes, Results, Notes, IsProposed, Chain, Start, Then}
 use Rattle.controller_laws.specs.Entries.{EachFrom, IsGoodBeside, StateHolds, MemberInputHolds, BoundRises, IsConsistent, SaysHold, InputHolds, WorkHolds}
 use Rattle.controller_laws.specs.Turns.{beginning, IsReached, ProposalsHold}
-use Rattle.controller_laws.proofs.Lists.{in_append, in_map}
-use Rattle.controller_laws.proofs.Prefixes.{prefix_on}
 use Rattle.controller_laws.proofs.Places.{raised, at_raised, stands_append}
 use Rattle.controller_laws.proofs.MemberEntries.{move_holds, said_holds}
 use Rattle.controller_laws.proofs.Reached.{commit_choice, move_grows, chain_reaches}
@@ -94,5 +94,5 @@ module _ (kinds : List ℕ) (setup : Setup) (x : ControllerInput) (c : Controlle
     chain_holds kept h w Start front = record { state = h; letters = λ l k. absurd k }
     chain_holds kept h w (Then v v' chain move) front =
         let r = chain_reaches kinds setup x c kept v chain in
-        let before = prefix_on (move_grows kinds setup x c v w move r.consistent) front in
+        let before = prefix_trans (move_grows kinds setup x c v w move r.consistent) front in
         step_holds v w move r before (chain_holds kept h v chain before)

@@ -12,7 +12,7 @@ use Rattle.group_controller.specs.declared.messages.ControllerInput.TheVariants 
 use Rattle.group_controller.specs.declared.messages.ControllerSays.{ControllerSays}
 use Rattle.group_controller.specs.declared.messages.ControllerSays.TheVariants as controller_says
 use Rattle.group_controller.specs.State.{ControllerState, Work}
-use Rattle.controller_laws.specs.Lists.{IsIn}
+use Rattle.lists.specs.Lists.{IsIn}
 
 -- the commit numbers beside logs that a member collected or was told
 pub record StateCommits (IsCommit : ℕ → Type 0) (s : VrState) : Type 0 where

@@ -19,7 +19,7 @@ use Rattle.group_controller.specs.declared.messages.ControllerInput.TheVariants 
 use Rattle.group_controller.specs.declared.messages.ControllerSays.{ControllerSays}
 use Rattle.group_controller.specs.declared.messages.ControllerSays.TheVariants as controller_says
 use Rattle.group_controller.specs.State.{Work}
-use Rattle.controller_laws.specs.Lists.{IsIn}
+use Rattle.lists.specs.Lists.{IsIn}
 
 -- each of these entries has a property at its place; the first stands at this one
 abbrev pub EachFrom : (ℕ → Entry → Type 0) → ℕ → List Entry → Type 0

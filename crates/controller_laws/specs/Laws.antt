@@ -21,7 +21,7 @@ use Rattle.group_controller.specs.Rules.{is_down, controller_work}
 use Rattle.group_controller.specs.Settling.{is_settled}
 use Rattle.group_controller.specs.State.{ControllerState, Work, committed, down, fresh, resting, to_member}
 use Rattle.controller_laws.specs.Letters as told
-use Rattle.controller_laws.specs.Lists.{IsIn, IsPrefix}
+use Rattle.lists.specs.Lists.{IsIn, IsPrefix}
 use Rattle.controller_laws.specs.CommitNumbers.{IsKnownCommit, WorkCommits}
 use Rattle.controller_laws.specs.Entries.{EachFrom, IsConsistent, SaysHold, WorkHolds}
 use Rattle.controller_laws.specs.Events.{IsNextOfLife, is_event_of}

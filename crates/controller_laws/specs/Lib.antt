@@ -1,4 +1,3 @@
-pub mod Lists
 pub mod Views
 pub mod Events
 pub mod MemberMoves

@@ -27,7 +27,7 @@ use Rattle.group_controller.specs.declared.messages.ControllerInput.TheVariants 
 use Rattle.group_controller.specs.declared.messages.ControllerSays.{ControllerSays}
 use Rattle.group_controller.specs.State.{ControllerState, Work, committed, posting, leaving, to_switch, to_member}
 use Rattle.group_controller.specs.Settling.{role_letter, command_letter, ack_letter, clear_letter, with_proposal, is_settled}
-use Rattle.controller_laws.specs.Lists.{IsIn}
+use Rattle.lists.specs.Lists.{IsIn}
 use Rattle.controller_laws.specs.MemberMoves.{MemberMove, IsSaidByMember}
 
 -- what the member of a controller takes

@@ -22,7 +22,7 @@ use Rattle.group_controller.specs.declared.messages.ControllerInput.TheVariants 
 use Rattle.group_controller.specs.declared.messages.ControllerSays.{ControllerSays}
 use Rattle.group_controller.specs.State.{ControllerState, to_switch, to_member}
 use Rattle.controller_laws.specs.Entries.{StateHolds, InputHolds}
-use Rattle.controller_laws.specs.Lists.{IsIn, IsPrefix}
+use Rattle.lists.specs.Lists.{IsIn, IsPrefix}
 use Rattle.controller_laws.specs.Views.{IsKnownView}
 
 -- What changes only by growing: the decided log, the events that each life of a switch made, and how many commands it

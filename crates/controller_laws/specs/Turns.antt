@@ -10,7 +10,7 @@ use Rattle.group_controller.specs.declared.messages.ControllerInput.{ControllerI
 use Rattle.group_controller.specs.declared.messages.ControllerInput.TheVariants as controller_input
 use Rattle.group_controller.specs.declared.messages.ControllerSays.{ControllerSays}
 use Rattle.group_controller.specs.State.{ControllerState, Work, committed, with_no_met_limit, resting}
-use Rattle.controller_laws.specs.Lists.{IsIn, IsPrefix}
+use Rattle.lists.specs.Lists.{IsIn, IsPrefix}
 use Rattle.controller_laws.specs.Entries.{IsGoodBeside, StateHolds, IsConsistent}
 use Rattle.controller_laws.specs.Moves.{IsSaid, IsProposed, Chain}
 

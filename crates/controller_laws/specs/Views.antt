@@ -11,7 +11,7 @@ use Rattle.group_controller.specs.declared.messages.ControllerInput.{ControllerI
 use Rattle.group_controller.specs.declared.messages.ControllerInput.TheVariants as controller_input
 use Rattle.group_controller.specs.State.{ControllerState}
 use Rattle.rv_base.specs.declared.journal.Local.TheVariants as local
-use Rattle.controller_laws.specs.Lists.{IsIn}
+use Rattle.lists.specs.Lists.{IsIn}
 
 -- the view that a message tells
 abbrev pub view_of : VrMessage → ℕ

@@ -12,7 +12,9 @@ use Rattle.of_types.specs.declared.message.Spoken.TheVariants as spoken
 use Rattle.of_types.specs.declared.setup.Setup.{Setup}
 use Rattle.of_types.specs.Lives.{life_after, life_in, has_ended}
 use Rattle.rv_base.specs.declared.journal.Letter.{Letter}
-use Rattle.rv_base.proofs.Among.{Among}
+use Rattle.lists.proofs.Places.{get_prefix}
+use Rattle.lists.proofs.Prefixes.{front_prefix, prefix_filter, prefix_length, prefix_trans}
+use Rattle.lists.specs.Lists.{IsIn, IsPrefix}
 use Rattle.vr_log.specs.declared.entry.Entry.{Entry}
 use Rattle.vr_log.specs.declared.entry.Entry.TheVariants.{Received, Processed}
 use Rattle.vr_log.specs.Log.{received, processed}
@@ -26,29 +28,29 @@ use Rattle.group_controller.specs.declared.messages.ControllerInput.TheVariants 
 use Rattle.group_controller.specs.declared.messages.ControllerSays.{ControllerSays}
 use Rattle.group_controller.specs.State.{ControllerState, committed}
 use Rattle.group_controller.specs.Rules.{controller_work}
-use Rattle.rv_runs.specs.Laws.{IsPrefix}
-use Rattle.exactly_once.specs.Facts.{Facts, Later, executed_of}
-use Rattle.exactly_once.specs.Truths.{IsGoodHappening, IsGenuine, IsOver, IsDoneThrough, IsTrueEntry, IsAhead, IsCommand, IsTold}
+use Rattle.exactly_once.specs.Facts.{PastFacts, Later, executed_of}
+use Rattle.exactly_once.specs.Truths.{IsGoodHappening, IsGenuine, IsOver, IsDoneThrough, IsTrueEntry, IsAhead, IsTrueCommand, IsTold}
 use Rattle.exactly_once.specs.Invariant.{HoldsEntry, Logged, IsHonest, IsOrder, ToSwitch, ToMember, IsHeardByController}
-use Rattle.exactly_once.specs.Premises.{IsMarked, IsMoment, ComesFrom, Was, Came, Logs, Finishes, IsSent, Asks, Commands, Acknowledges, Clears, Echoes, IsPosting, Switches, Members, BoundBy, By_held, By_told, By_moment, OneBy, One_held, One_told, One_proposed, IsAheadBy, IsGoodTurn, IsValidLog}
-use Rattle.exactly_once.proofs.Lists.{prefix_on, prefix_length, prefix_filter, get_prefix, front_prefix}
-use Rattle.exactly_once.proofs.Issued.{issued_none, issued_prefix, settled_is, IsBetween, command_between, done_through}
+use Rattle.exactly_once.specs.Premises.{IsMarked, IsMoment, HasSource, Was, Came, Logs, Finishes, IsSent, Asks, Commands, Acknowledges, Clears, Echoes, IsPosting, Switches, Members, BoundBy, By_held, By_told, By_moment, OneBy, One_held, One_told, One_proposed, IsAheadBy, IsGoodTurn, IsValidLog}
+use Rattle.controller_laws.proofs.Issued.{issued_none, issued_prefix, IsBetween, command_between, done_unless}
+use Rattle.controller_laws.proofs.Letters.{settled_is}
 use Rattle.exactly_once.proofs.Marks.{marks_come}
 use Rattle.exactly_once.proofs.Spelling.{commands_of_sendable, command_valid}
 use Rattle.exactly_once.proofs.Packets.{happening_short}
+use Rattle.exactly_once.proofs.Views.{views_kept, heard_view}
 use Rattle.exactly_once.proofs.Growing.{processed-append, received_prefix, processed_prefix, take_prefix, take_same, ahead_more, ahead_higher, processed_count, settled_count, genuine_more, entry_more}
 
 -- where a life is over, an event of a later one stands
-pub life_comes : (s life start : ℕ) (events : List Event) → life < life_after start s events → (life < start) ⊎ ((e : Event) × Among e events × (e.switch ≡ s) × (life < e.life))
+pub life_comes : (s life start : ℕ) (events : List Event) → life < life_after start s events → (life < start) ⊎ ((e : Event) × IsIn e events × (e.switch ≡ s) × (life < e.life))
 life_comes s life start [] h = inl h
 life_comes s life start (e ∷ events) h = by_switch (nat_eq e.switch s) refl (λ k. life_comes s life k events) h
   where
-    by_switch : (b : Bool) → nat_eq e.switch s ≡ b → ((k : ℕ) → life < life_after k s events → (life < k) ⊎ ((y : Event) × Among y events × (y.switch ≡ s) × (life < y.life))) →
-        life < life_after (if b then e.life else start) s events → (life < start) ⊎ ((y : Event) × Among y (e ∷ events) × (y.switch ≡ s) × (life < y.life))
+    by_switch : (b : Bool) → nat_eq e.switch s ≡ b → ((k : ℕ) → life < life_after k s events → (life < k) ⊎ ((y : Event) × IsIn y events × (y.switch ≡ s) × (life < y.life))) →
+        life < life_after (if b then e.life else start) s events → (life < start) ⊎ ((y : Event) × IsIn y (e ∷ events) × (y.switch ≡ s) × (life < y.life))
     by_switch true own deeper k = elim (deeper e.life k) [ inl less ↦ inr (e, inl refl, eqb-true e.switch s own, less) | inr r ↦ inr (r.0, inr r.1, r.2, r.3) ]
     by_switch false other deeper k = elim (deeper start k) [ inl less ↦ inl less | inr r ↦ inr (r.0, inr r.1, r.2, r.3) ]
 
-pub received_at : (log : List Entry) (e : Event) → Among e (received log) → (i : ℕ) × (slice_get log i ≡ Some (Received e))
+pub received_at : (log : List Entry) (e : Event) → IsIn e (received log) → (i : ℕ) × (slice_get log i ≡ Some (Received e))
 received_at [] e h = absurd h
 received_at (Received y ∷ log) e (inl same) = (0, ap (λ (z : Event). Some (Received z)) (sym same))
 received_at (Received y ∷ log) e (inr h) = let r = received_at log e h in (suc r.0, r.1)
@@ -92,7 +94,7 @@ pub valid_prefix : (log whole : List Entry) → IsPrefix log whole → IsValidLo
 valid_prefix log whole p valid front back e is =
     valid front (back ++ p.rest) e (p.joined ∙ ap (λ (l : List Entry). l ++ p.rest) is ∙ append_assoc front (e ∷ back) p.rest)
 
-module _ (kinds : List ℕ) (setup : Setup) (f g : Facts) (later : Later f g) (me : ℕ) (c : ControllerState) (x : ControllerInput)
+module _ (kinds : List ℕ) (setup : Setup) (f g : PastFacts) (later : Later f g) (me : ℕ) (c : ControllerState) (x : ControllerInput)
     (heard : IsHeardByController kinds setup f x) (honest : IsHonest kinds setup f c) (turn : IsGoodTurn kinds setup me c x)
     (front : is_up (controller_work kinds setup c x).state.vr ≡ true → IsPrefix (committed (controller_work kinds setup c x).state) g.decided)
     (valid : is_up (controller_work kinds setup c x).state.vr ≡ true → IsValidLog (committed (controller_work kinds setup c x).state)) where
@@ -106,7 +108,7 @@ module _ (kinds : List ℕ) (setup : Setup) (f g : Facts) (later : Later f g) (m
 
   -- a moment's log is decided
   moment_front : (log : List Entry) → IsMoment (controller_work kinds setup c x) log → IsPrefix log g.decided
-  moment_front log m = prefix_on m.front (front m.up)
+  moment_front log m = prefix_trans m.front (front m.up)
 
   -- an entry of a moment's log is held at the end
   moment_holds : (log : List Entry) (i : ℕ) (e : Entry) → IsMoment (controller_work kinds setup c x) log → slice_get log i ≡ Some e → HoldsEntry (controller_work kinds setup c x).state.vr i e
@@ -125,13 +127,13 @@ module _ (kinds : List ℕ) (setup : Setup) (f g : Facts) (later : Later f g) (m
   Before log i s life = (length (issued kinds setup s life (take (processed log) (received log))) ≤ length (executed_of life (g.executed s))) ⊎ IsOver g s life i
 
   finish_all : (log : List Entry) (i s life : ℕ) → IsMoment (controller_work kinds setup c x) log → length log ≤ i → processed log < length (received log) →
-      ((y : Issued) → Among y (commands_of kinds setup (received log) (processed log)) → IsMarked c x y.switch y.life y.number ⊎ (has_ended y.switch y.life (received log) ≡ true)) →
+      ((y : Issued) → IsIn y (commands_of kinds setup (received log) (processed log)) → IsMarked c x y.switch y.life y.number ⊎ (has_ended y.switch y.life (received log) ≡ true)) →
       Before log i s life → (length (issued kinds setup s life (take (processed log + 1) (received g.decided))) ≤ length (executed_of life (g.executed s))) ⊎ IsOver g s life i
   finish_all log i s life m long more all (inr over) = inr over
   finish_all log i s life m long more all (inl few) =
       let bound = length (executed_of life (g.executed s)) in
       let same = take_same (processed log + 1) (omega (arith, more)) (received_prefix (moment_front log m)) in
-      elim (done_through kinds setup (received log) (processed log) (IsOver g s life i) s life bound more few (λ y k switch_is life_is. each y switch_is life_is (all y k))) [
+      elim (done_unless kinds setup (IsOver g s life i) s life bound (processed log) (received log) more few (λ y k switch_is life_is. each y switch_is life_is (all y k))) [
         | inl done ↦ inl (subst (λ l. length (issued kinds setup s life l) ≤ bound) (sym same) done)
         | inr over ↦ inr over
       ]
@@ -145,10 +147,10 @@ module _ (kinds : List ℕ) (setup : Setup) (f g : Facts) (later : Later f g) (m
           inr (over_ended log i s life m long (subst (λ (n : ℕ). has_ended s n (received log) ≡ true) life_is (subst (λ (n : ℕ). has_ended n y.life (received log) ≡ true) switch_is ended)))
 
   -- one place after another, the lowest first
-  true_below : (n i : ℕ) → i < n → (e : Entry) → ComesFrom kinds setup c x i e → IsTrueEntry kinds setup g i e
+  true_below : (n i : ℕ) → i < n → (e : Entry) → HasSource kinds setup c x i e → IsTrueEntry kinds setup g i e
   true_below zero i lt e h = absurd (omega (arith, lt))
   true_below (suc n) i lt e (Was h) = entry_more kinds setup later i e (honest.entries i e h)
-  true_below (suc n) i lt e (Came from m is h) = entry_more kinds setup later i e ((hears (controller_input.Vr from m) is).entries i e h)
+  true_below (suc n) i lt e (Came from m is h) = entry_more kinds setup later i e ((hears (controller_input.Vr from m) is).0.entries i e h)
   true_below (suc n) i lt e (Logs s xid life number what is it) =
       let told = hears (controller_input.Of s xid (spoken.Ravana (extension.Event life number what))) is in
       subst (λ (y : Entry). IsTrueEntry kinds setup g i y) (sym it)
@@ -184,7 +186,7 @@ module _ (kinds : List ℕ) (setup : Setup) (f g : Facts) (later : Later f g) (m
                 inr (record { place = over.place; below = omega (arith, low, high); event = over.event; stands = over.stands; switch_is = over.switch_is; later = over.later })
           ]
 
-  pub entry_true : (i : ℕ) (e : Entry) → ComesFrom kinds setup c x i e → IsTrueEntry kinds setup g i e
+  pub entry_true : (i : ℕ) (e : Entry) → HasSource kinds setup c x i e → IsTrueEntry kinds setup g i e
   entry_true i e h = true_below (suc i) i (omega arith) e h
 
   entry_valid : (i : ℕ) (e : Entry) → IsTrueEntry kinds setup g i e → IsValidEntry e
@@ -192,7 +194,7 @@ module _ (kinds : List ℕ) (setup : Setup) (f g : Facts) (later : Later f g) (m
   entry_valid i (Processed j) h = tt
 
   -- the events of a moment's log are good
-  moment_good : (log : List Entry) → IsMoment (controller_work kinds setup c x) log → (e : Event) → Among e (received log) → IsGoodHappening e.what
+  moment_good : (log : List Entry) → IsMoment (controller_work kinds setup c x) log → (e : Event) → IsIn e (received log) → IsGoodHappening e.what
   moment_good log m e k =
       let at = received_at log e k in
       let genuine : IsGenuine setup g e = entry_true at.0 (Received e) (turn.entries at.0 (Received e) (moment_holds log at.0 (Received e) m at.1)) in
@@ -211,7 +213,7 @@ module _ (kinds : List ℕ) (setup : Setup) (f g : Facts) (later : Later f g) (m
       let before = take_same j (omega (arith, there)) p in
       let with_it = take_same (j + 1) (omega (arith, there)) p in
       let settled = settled_is kinds setup log y.switch y.life in
-      let command : IsCommand kinds setup g y.switch y.life (settled_commands kinds setup log y.switch y.life) y.number y.order =
+      let command : IsTrueCommand kinds setup g y.switch y.life (settled_commands kinds setup log y.switch y.life) y.number y.order =
       record {
         place = j;
         there = le_trans there (prefix_length p);
@@ -221,7 +223,7 @@ module _ (kinds : List ℕ) (setup : Setup) (f g : Facts) (later : Later f g) (m
         most = subst (λ l. y.number < length (issued kinds setup y.switch y.life l)) (sym with_it) b.most;
         stands = get_prefix y.number y.order (issued_prefix kinds setup y.switch y.life _ _ p) b.stands;
       } in
-      let here = subst (λ (k : ℕ). IsCommand kinds setup g k y.life (settled_commands kinds setup log y.switch y.life) y.number y.order) switch_is command in
+      let here = subst (λ (k : ℕ). IsTrueCommand kinds setup g k y.life (settled_commands kinds setup log y.switch y.life) y.number y.order) switch_is command in
       subst (λ (k : Spoken). IsTold kinds setup g me s k) (sym is) (here, sendable.2, command_valid y.order sendable y.life generation y.number (settled_commands kinds setup log y.switch y.life), own)
   sent_true s said (Acknowledges log life m is) = subst (λ (k : Spoken). IsTold kinds setup g me s k) (sym is) (processed_count s life (moment_front log m))
   sent_true s said (Clears log life m is) =
@@ -233,12 +235,12 @@ module _ (kinds : List ℕ) (setup : Setup) (f g : Facts) (later : Later f g) (m
   -- past a commit number at most one event stands as processed
   bound_true : (k : ℕ) → BoundBy kinds setup c x k → k ≤ length g.decided
   bound_true k (By_held k0 entries h less) = le_trans less (ahead_more kinds setup later k0 entries (honest.ahead k0 entries h)).bound
-  bound_true k (By_told from m k0 entries is h less) = le_trans less (ahead_more kinds setup later k0 entries ((hears (controller_input.Vr from m) is).ahead k0 entries h)).bound
+  bound_true k (By_told from m k0 entries is h less) = le_trans less (ahead_more kinds setup later k0 entries ((hears (controller_input.Vr from m) is).0.ahead k0 entries h)).bound
   bound_true k (By_moment log m less) = le_trans less (prefix_length (moment_front log m))
 
   one_true : (k j : ℕ) → k ≤ length g.decided → OneBy kinds setup c x k j → (j ≤ processed (take k g.decided)) × (j < length (received (take k g.decided)))
   one_true k j few (One_held k0 entries h less among) = ahead_higher g k0 k entries j less (ahead_more kinds setup later k0 entries (honest.ahead k0 entries h)) among
-  one_true k j few (One_told from m k0 entries is h less among) = ahead_higher g k0 k entries j less (ahead_more kinds setup later k0 entries ((hears (controller_input.Vr from m) is).ahead k0 entries h)) among
+  one_true k j few (One_told from m k0 entries is h less among) = ahead_higher g k0 k entries j less (ahead_more kinds setup later k0 entries ((hears (controller_input.Vr from m) is).0.ahead k0 entries h)) among
   one_true k j few (One_proposed log m long more is) =
       let whole : take (length log) log ≡ log = take_whole log in
       let p : IsPrefix log (take k g.decided) = subst (λ (l : List Entry). IsPrefix l (take k g.decided)) whole (take_prefix (length log) k long (moment_front log m)) in
@@ -259,7 +261,7 @@ module _ (kinds : List ℕ) (setup : Setup) (f g : Facts) (later : Later f g) (m
 
   pub record ControllerKeeps : Type 0 where
     pub now : IsHonest kinds setup g (controller_work kinds setup c x).state
-    pub said : (l : Letter ControllerSays) → Among l (controller_work kinds setup c x).letters → IsOrder kinds setup g me l
+    pub said : (l : Letter ControllerSays) → IsIn l (controller_work kinds setup c x).letters → IsOrder kinds setup g me l
 
   pub controller_keeps : ControllerKeeps
   controller_keeps =
@@ -268,6 +270,7 @@ module _ (kinds : List ℕ) (setup : Setup) (f g : Facts) (later : Later f g) (m
           entries = λ i e k. entry_true i e (turn.entries i e k);
           marks = λ s life i k. le_trans (marked_done s life i (marks_come kinds setup c x s life i k)) (prefix_length (prefix_filter _ (later.executed s)));
           ahead = λ k entries has. ahead_true k entries (turn.ahead k entries has);
+          views = views_kept kinds setup x c honest.views (heard_view kinds setup f x heard);
         };
         said = λ l k. posting_true l (turn.letters l k);
       }

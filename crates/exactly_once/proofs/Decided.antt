@@ -5,14 +5,15 @@ use Rattle.std.specs.List.{range_with_len}
 use Rattle.std.proofs.lemmas.Bool.{ltb-true, ltb-false, cond_both}
 use Rattle.rv_base.specs.declared.journal.JournalEntry.{JournalEntry}
 use Rattle.rv_base.specs.declared.journal.SaveResult.{SaveResult}
-use Rattle.rv_base.proofs.Among.{Among, among_map}
+use Rattle.lists.proofs.Elements.{in_map}
+use Rattle.lists.proofs.Prefixes.{prefix_refl, prefix_trans}
+use Rattle.lists.specs.Lists.{IsIn, IsPrefix}
 use Rattle.vr_log.specs.declared.entry.Entry.{Entry}
 use Rattle.rv_runs.specs.States.{Scene}
 use Rattle.rv_runs.specs.Legal.{IsPossible}
 use Rattle.rv_runs.specs.Committed.{kept, longest, decided}
-use Rattle.rv_runs.specs.Laws.{IsPrefix, IsLasting}
+use Rattle.rv_runs.specs.Laws.{IsLasting}
 use Rattle.exactly_once.specs.Premises.{AreOne, AreControllers}
-use Rattle.exactly_once.proofs.Lists.{prefix_same, prefix_on}
 use Rattle.exactly_once.specs.Invariant.{Holds}
 use Rattle.exactly_once.proofs.Journals.{possible_before, possible_drop}
 
@@ -31,17 +32,17 @@ shorter xs ys (inr p) few = no_more ys xs p few
 
 record IsLongest (best : List Entry) (logs : List (List Entry)) (found : List Entry) : Type 0 where
   pub first : IsPrefix best found
-  pub each : (l : List Entry) → Among l logs → IsPrefix l found
+  pub each : (l : List Entry) → IsIn l logs → IsPrefix l found
 
-longest_is : (best : List Entry) (logs : List (List Entry)) → ((l : List Entry) → Among l logs → AreOne best l) → ((l m : List Entry) → Among l logs → Among m logs → AreOne l m) → IsLongest best logs (longest best logs)
-longest_is best [] one all = record { first = prefix_same best; each = λ l k. absurd k }
+longest_is : (best : List Entry) (logs : List (List Entry)) → ((l : List Entry) → IsIn l logs → AreOne best l) → ((l m : List Entry) → IsIn l logs → IsIn m logs → AreOne l m) → IsLongest best logs (longest best logs)
+longest_is best [] one all = record { first = prefix_refl best; each = λ l k. absurd k }
 longest_is best (log ∷ logs) one all =
     cond_both (nat_lt (length best) (length log)) log best (λ (b : List Entry). IsLongest best (log ∷ logs) (longest b logs))
     (λ more.
     let less = ltb-true (length best) (length log) more in
     let r = longest_is log logs (λ l k. all log l (inl refl) (inr k)) (λ l m k n. all l m (inr k) (inr n)) in
     record {
-      first = prefix_on (shorter best log (one log (inl refl)) (omega (arith, less))) r.first;
+      first = prefix_trans (shorter best log (one log (inl refl)) (omega (arith, less))) r.first;
       each = λ l k. elim k [ inl e ↦ subst (λ (y : List Entry). IsPrefix y (longest log logs)) (sym e) r.first | inr n ↦ r.each l n ];
     })
     (λ less.
@@ -50,35 +51,35 @@ longest_is best (log ∷ logs) one all =
     let flip : AreOne log best = elim (one log (inl refl)) [ inl p ↦ inr p | inr p ↦ inl p ] in
     record {
       first = r.first;
-      each = λ l k. elim k [ inl e ↦ subst (λ (y : List Entry). IsPrefix y (longest best logs)) (sym e) (prefix_on (shorter log best flip (omega (arith, few))) r.first) | inr n ↦ r.each l n ];
+      each = λ l k. elim k [ inl e ↦ subst (λ (y : List Entry). IsPrefix y (longest best logs)) (sym e) (prefix_trans (shorter log best flip (omega (arith, few))) r.first) | inr n ↦ r.each l n ];
     })
 
-longest_among : (best : List Entry) (logs : List (List Entry)) → (longest best logs ≡ best) ⊎ Among (longest best logs) logs
+longest_among : (best : List Entry) (logs : List (List Entry)) → (longest best logs ≡ best) ⊎ IsIn (longest best logs) logs
 longest_among best [] = inl refl
 longest_among best (log ∷ logs) =
-    cond_both (nat_lt (length best) (length log)) log best (λ (b : List Entry). (longest b logs ≡ best) ⊎ Among (longest b logs) (log ∷ logs))
+    cond_both (nat_lt (length best) (length log)) log best (λ (b : List Entry). (longest b logs ≡ best) ⊎ IsIn (longest b logs) (log ∷ logs))
     (λ _. elim (longest_among log logs) [ inl e ↦ inr (inl e) | inr k ↦ inr (inr k) ])
     (λ _. elim (longest_among best logs) [ inl e ↦ inl e | inr k ↦ inr (inr k) ])
 
-range_among : (a n c : ℕ) → Among c (range_with_len a n) → c < a + n
+range_among : (a n c : ℕ) → IsIn c (range_with_len a n) → c < a + n
 range_among a zero c h = absurd h
 range_among a (suc n) c (inl e) = omega (arith, e)
 range_among a (suc n) c (inr h) = let r = range_among (a + 1) n c h in omega (arith, r)
 
-among_range : (a n c : ℕ) → c < n → Among (a + c) (range_with_len a n)
+among_range : (a n c : ℕ) → c < n → IsIn (a + c) (range_with_len a n)
 among_range a zero c h = absurd (omega (arith, h))
 among_range a (suc n) zero h = inl (omega arith)
 among_range a (suc n) (suc c) h =
     let e : a + 1 + c ≡ a + suc c = omega arith in
-    inr (subst (λ (k : ℕ). Among k (range_with_len (a + 1) n)) e (among_range (a + 1) n c (omega (arith, h))))
+    inr (subst (λ (k : ℕ). IsIn k (range_with_len (a + 1) n)) e (among_range (a + 1) n c (omega (arith, h))))
 
-range_below : (n c : ℕ) → Among c (range_with_len 0 n) → c < n
+range_below : (n c : ℕ) → IsIn c (range_with_len 0 n) → c < n
 range_below n c h = let r = range_among 0 n c h in omega (arith, r)
 
-below_range : (n c : ℕ) → c < n → Among c (range_with_len 0 n)
-below_range n c h = let e : 0 + c ≡ c = omega arith in subst (λ (k : ℕ). Among k (range_with_len 0 n)) e (among_range 0 n c h)
+below_range : (n c : ℕ) → c < n → IsIn c (range_with_len 0 n)
+below_range n c h = let e : 0 + c ≡ c = omega arith in subst (λ (k : ℕ). IsIn k (range_with_len 0 n)) e (among_range 0 n c h)
 
-among_mapped : {A B : Type 0} (f : A → B) (xs : List A) (x : A) → Among x xs → Among (f x) (map f xs)
+among_mapped : {A B : Type 0} (f : A → B) (xs : List A) (x : A) → IsIn x xs → IsIn (f x) (map f xs)
 among_mapped f [] x h = absurd h
 among_mapped f (y ∷ xs) x (inl e) = inl (ap f e)
 among_mapped f (y ∷ xs) x (inr h) = inr (among_mapped f xs x h)
@@ -107,7 +108,7 @@ module _ {B : Type 0} (scene : Scene B) (results : List (List SaveResult)) (side
       elim (longest_among (decided scene results before) (logs_after e before)) [
         | inl same ↦ inl (decided_after e before ∙ same)
         | inr k ↦
-            let r = among_map (λ c. kept scene results c (e ∷ before)) (range_with_len 0 scene.setup.controllers) _ k in
+            let r = in_map (λ c. kept scene results c (e ∷ before)) (range_with_len 0 scene.setup.controllers) _ k in
             inr (r.0, range_below scene.setup.controllers r.0 r.1, decided_after e before ∙ r.2)
       ]
 
@@ -132,11 +133,11 @@ module _ {B : Type 0} (scene : Scene B) (results : List (List SaveResult)) (side
         subst (λ (l : List Entry). IsLongest (decided scene results before) (logs_after e before) l) (sym (decided_after e before))
         (longest_is (decided scene results before) (logs_after e before)
         (λ l k.
-        let r = among_map (λ c. kept scene results c (e ∷ before)) (range_with_len 0 scene.setup.controllers) l k in
+        let r = in_map (λ c. kept scene results c (e ∷ before)) (range_with_len 0 scene.setup.controllers) l k in
         subst (λ (y : List Entry). AreOne (decided scene results before) y) (sym r.2) (with_decided r.0 (range_below scene.setup.controllers r.0 r.1)))
         (λ l m k n.
-        let r = among_map (λ c. kept scene results c (e ∷ before)) (range_with_len 0 scene.setup.controllers) l k in
-        let q = among_map (λ c. kept scene results c (e ∷ before)) (range_with_len 0 scene.setup.controllers) m n in
+        let r = in_map (λ c. kept scene results c (e ∷ before)) (range_with_len 0 scene.setup.controllers) l k in
+        let q = in_map (λ c. kept scene results c (e ∷ before)) (range_with_len 0 scene.setup.controllers) m n in
         subst (λ (y : List Entry). AreOne y m) (sym r.2) (subst (λ (y : List Entry). AreOne (kept scene results r.0 (e ∷ before)) y) (sym q.2)
         (sides.agree e before legal trust r.0 q.0 0 0 (range_below scene.setup.controllers r.0 r.1) (range_below scene.setup.controllers q.0 q.1)))))
 
@@ -155,9 +156,9 @@ module _ {B : Type 0} (scene : Scene B) (results : List (List SaveResult)) (side
 
     -- and stays so
     decided_drop : (i : ℕ) (entries : List (JournalEntry B)) → IsPossible scene results entries → IsPrefix (decided scene results (drop i entries)) (decided scene results entries)
-    decided_drop zero entries legal = prefix_same _
-    decided_drop (suc i) [] legal = prefix_same _
-    decided_drop (suc i) (e ∷ before) legal = prefix_on (decided_drop i before (possible_before scene results e before legal)) (grows e before legal (trusted e before legal))
+    decided_drop zero entries legal = prefix_refl _
+    decided_drop (suc i) [] legal = prefix_refl _
+    decided_drop (suc i) (e ∷ before) legal = prefix_trans (decided_drop i before (possible_before scene results e before legal)) (grows e before legal (trusted e before legal))
 
     pub lasts : (entries : List (JournalEntry B)) → IsPossible scene results entries → IsLasting scene results entries
     lasts entries legal i j =

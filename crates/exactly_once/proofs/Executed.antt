@@ -8,7 +8,9 @@ use Rattle.rv_base.specs.declared.journal.Actor.TheVariants as actor
 use Rattle.rv_base.specs.declared.journal.JournalEntry.{JournalEntry}
 use Rattle.rv_base.specs.declared.journal.SaveResult.{SaveResult}
 use Rattle.rv_base.specs.Part.{part}
-use Rattle.rv_base.proofs.Among.{Among}
+use Rattle.lists.proofs.Places.{get_prefix, no_split, none_at}
+use Rattle.lists.proofs.Prefixes.{front_prefix, prefix_by_places, prefix_filter, prefix_length, prefix_trans}
+use Rattle.lists.specs.Lists.{IsIn, IsPrefix}
 use Rattle.vr_log.specs.declared.entry.Entry.{Entry}
 use Rattle.vr_log.specs.declared.entry.Entry.TheVariants.{Received, Processed}
 use Rattle.vr_log.specs.Log.{received, processed}
@@ -19,13 +21,12 @@ use Rattle.of_switch.specs.State.{executed_in, events_in}
 use Rattle.rv_runs.specs.States.{Scene, switch_at}
 use Rattle.rv_runs.specs.Legal.{IsPossible}
 use Rattle.rv_runs.specs.Committed.{controller_state, switch_state, kept, decided}
-use Rattle.rv_runs.specs.Laws.{IsPrefix, IsExactlyOnce}
+use Rattle.rv_runs.specs.Laws.{IsExactlyOnce}
 use Rattle.exactly_once.specs.Facts.{Later, firm, facts_of, events_of, executed_of}
 use Rattle.exactly_once.specs.Truths.{IsGenuine, IsDoneThrough, IsTrueEntry}
 use Rattle.rv_runs.specs.States.{IsFaithful}
 use Rattle.exactly_once.specs.Premises.{IsValidLog, AreControllers}
 use Rattle.exactly_once.specs.Invariant.{IsSoundAt, Logged, Holds}
-use Rattle.exactly_once.proofs.Lists.{prefix_on, prefix_length, prefix_filter, prefix_by_places, front_prefix, get_prefix, none_at, no_split}
 use Rattle.exactly_once.proofs.Growing.{entry_more}
 use Rattle.exactly_once.proofs.ControllerTurns.{received_at}
 use Rattle.exactly_once.proofs.LogOrder.{ordered_events, rising, made_in, over_has_ended, get_map, numbers_are, processed_among}
@@ -101,8 +102,8 @@ module _ {B : Type 0} (scene : Scene B) (results : List (List SaveResult)) (fait
       let log : List Entry = decided scene results entries in
       let t = decided_true entries legal in
       let in_order = ordered_events log t.valid in
-      let genuine : (e : Event) → Among e (received log) → IsGenuine scene.setup (facts_of scene results entries) e = λ e k. let at = received_at log e k in t.entries_true at.0 (Received e) at.1 in
-      let made = λ (s life : ℕ) (there : s < length scene.setup.ports). prefix_on (made_in (received log) in_order scene.setup (facts_of scene results entries) genuine s life) (events_now s entries (holds.switches s there) life) in
+      let genuine : (e : Event) → IsIn e (received log) → IsGenuine scene.setup (facts_of scene results entries) e = λ e k. let at = received_at log e k in t.entries_true at.0 (Received e) at.1 in
+      let made = λ (s life : ℕ) (there : s < length scene.setup.ports). prefix_trans (made_in (received log) in_order scene.setup (facts_of scene results entries) genuine s life) (events_now s entries (holds.switches s there) life) in
       record {
         ordered = record {
           rising = λ s there. rising (received log) in_order s;

@@ -22,7 +22,7 @@ use Rattle.rv_runs.specs.States.{Scene, SwitchAt, switch_at, switch_step, switch
 use Rattle.rv_runs.specs.Legal.{IsPossible}
 use Rattle.rv_runs.specs.Committed.{switch_state}
 use Rattle.rv_runs.specs.Laws.{Heard, Asked, asked_step, master_asked, masters_asked, IsFenced, IsFencedEntry}
-use Rattle.exactly_once.specs.Facts.{Facts}
+use Rattle.exactly_once.specs.Facts.{PastFacts}
 use Rattle.exactly_once.proofs.Entries.{IsHeardAt, From_draw, Mine, Another, switch_after}
 use Rattle.exactly_once.specs.Invariant.{IsHeardBySwitch}
 use Rattle.exactly_once.proofs.Generations.{Unasked, IsFenced as Fenced, life_stays, may_pass, passes_greatest, told_turn, frame_turn, local_turn}
@@ -33,7 +33,7 @@ pub record FencesAt (controllers : ℕ) (asked : Asked) (w : SwitchAt) : Type 0 
   pub now : Fenced controllers asked.now w.now
   pub before : Fenced controllers asked.before w.before
 
-module _ (kinds : List ℕ) (setup : Setup) (f : Facts) (s : ℕ) where
+module _ (kinds : List ℕ) (setup : Setup) (f : PastFacts) (s : ℕ) where
   -- after what a switch hears from a packet
   heard_turn : (w : Heard) (start : SwitchState) (from : Actor) (u : Unsealed) → IsHeardBySwitch kinds setup f s (switch_hears from u) → Fenced setup.controllers w start →
       Fenced setup.controllers (record { life = w.life; masters = master_asked u ++ w.masters }) (switch_turn start (switch_hears from u)).state
@@ -61,7 +61,7 @@ module _ (kinds : List ℕ) (setup : Setup) (f : Facts) (s : ℕ) where
     step_fences asked w (Lose a id) found hears h = record { now = h.now; before = h.before }
     step_fences asked w (Idle a) found hears h = record { now = h.now; before = h.before }
 
-module _ {B : Type 0} (scene : Scene B) (results : List (List SaveResult)) (facts : List (JournalEntry B) → Facts)
+module _ {B : Type 0} (scene : Scene B) (results : List (List SaveResult)) (facts : List (JournalEntry B) → PastFacts)
     (truth : (e : JournalEntry B) (before : List (JournalEntry B)) → IsPossible scene results (e ∷ before) →
     (s : ℕ) (x : SwitchInput) → same_actor (actor_of e) (actor.Switch s) ≡ true → IsHeardAt scene e (drawn e before) x → IsHeardBySwitch scene.kinds scene.setup (facts before) s x) where
   pub fences : (entries : List (JournalEntry B)) → IsPossible scene results entries → (s : ℕ) →

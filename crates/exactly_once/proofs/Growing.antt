@@ -14,7 +14,9 @@ use Rattle.of_types.specs.Lives.{count_in}
 use Rattle.rv_base.specs.declared.journal.Actor.{Actor}
 use Rattle.rv_base.specs.declared.journal.Actor.TheVariants as actor
 use Rattle.rv_base.specs.declared.journal.Letter.{Letter}
-use Rattle.rv_base.proofs.Among.{Among}
+use Rattle.lists.proofs.Places.{get_prefix}
+use Rattle.lists.proofs.Prefixes.{prefix_filter, prefix_length, prefix_refl}
+use Rattle.lists.specs.Lists.{IsIn, IsPrefix}
 use Rattle.vr_log.specs.declared.entry.Entry.{Entry}
 use Rattle.vr_log.specs.declared.entry.Entry.TheVariants.{Received, Processed}
 use Rattle.vr_log.specs.declared.message.VrMessage.{VrMessage}
@@ -29,12 +31,10 @@ use Rattle.rv_runs.specs.declared.messages.Message.TheVariants as message
 use Rattle.rv_runs.specs.declared.messages.Unsealed.{Unsealed}
 use Rattle.rv_runs.specs.declared.messages.Unsealed.TheVariants as unsealed
 use Rattle.rv_runs.specs.States.{SwitchAt, ControllerAt}
-use Rattle.rv_runs.specs.Laws.{IsPrefix}
-use Rattle.exactly_once.specs.Facts.{Facts, Later, executed_of}
-use Rattle.exactly_once.specs.Truths.{IsGenuine, IsOver, IsDoneThrough, IsTrueEntry, IsAhead, IsCommand, IsNumbered, IsTold, IsReported}
+use Rattle.exactly_once.specs.Facts.{PastFacts, Later, executed_of}
+use Rattle.exactly_once.specs.Truths.{IsGenuine, IsOver, IsDoneThrough, IsTrueEntry, IsAhead, IsTrueCommand, IsNumbered, IsTold, IsReported}
 use Rattle.exactly_once.specs.Invariant.{IsSound, IsReport, Reported, Forwarded, IsSoundAt, IsHonest, IsTrueVr, IsOrder, ToSwitch, ToMember, IsHonestAt, IsTrueBetween}
-use Rattle.exactly_once.proofs.Lists.{prefix_same, prefix_length, prefix_filter, get_prefix}
-use Rattle.exactly_once.proofs.Issued.{issued_prefix}
+use Rattle.controller_laws.proofs.Issued.{issued_prefix}
 
 pub received-append : (xs ys : List Entry) → received (xs ++ ys) ≡ received xs ++ received ys
 received-append [] ys = refl
@@ -78,9 +78,9 @@ settled_count kinds setup s life {xs = xs} {ys = ys} p =
     prefix_length (issued_prefix kinds setup s life (take (processed xs) (received xs)) (take (processed ys) (received ys)) (take_prefix _ _ (processed_prefix p) (received_prefix p)))
 
 -- beside a greater commit number
-pub ahead_higher : (f : Facts) (k k2 : ℕ) (entries : List Entry) (j : ℕ) → k ≤ k2 → IsAhead f k entries → Among (Processed j) entries → (j ≤ processed (take k2 f.decided)) × (j < length (received (take k2 f.decided)))
+pub ahead_higher : (f : PastFacts) (k k2 : ℕ) (entries : List Entry) (j : ℕ) → k ≤ k2 → IsAhead f k entries → IsIn (Processed j) entries → (j ≤ processed (take k2 f.decided)) × (j < length (received (take k2 f.decided)))
 ahead_higher f k k2 entries j less h among =
-    let p = take_prefix k k2 {xs = f.decided} {ys = f.decided} less (prefix_same f.decided) in
+    let p = take_prefix k k2 {xs = f.decided} {ys = f.decided} less (prefix_refl f.decided) in
     let old = h.one j among in
     (le_trans old.0 (processed_prefix p), le_trans old.1 (prefix_length (received_prefix p)))
 
@@ -100,7 +100,7 @@ pub report_more : (s : ℕ) {events more : List Event} {executed others : List E
 report_more s p q l (Reported c xid said is h) = Reported c xid said is (reported_more s p q said h)
 report_more s p q l (Forwarded peer port frame is h) = Forwarded peer port frame is h
 
-module _ (kinds : List ℕ) (setup : Setup) {f g : Facts} (later : Later f g) where
+module _ (kinds : List ℕ) (setup : Setup) {f g : PastFacts} (later : Later f g) where
   pub genuine_more : (e : Event) → IsGenuine setup f e → IsGenuine setup g e
   genuine_more e h = record { there = h.there; stands = get_prefix e.number e (prefix_filter _ (later.events e.switch)) h.stands; good = h.good }
 
@@ -128,7 +128,7 @@ module _ (kinds : List ℕ) (setup : Setup) {f g : Facts} (later : Later f g) wh
   pub numbered_more : (s life i : ℕ) (what : Order) → IsNumbered kinds setup f s life i what → IsNumbered kinds setup g s life i what
   numbered_more s life i what h = get_prefix i what (issued_prefix kinds setup s life _ _ (received_prefix later.decided)) h
 
-  command_more : (s life settled i : ℕ) (what : Order) → IsCommand kinds setup f s life settled i what → IsCommand kinds setup g s life settled i what
+  command_more : (s life settled i : ℕ) (what : Order) → IsTrueCommand kinds setup f s life settled i what → IsTrueCommand kinds setup g s life settled i what
   command_more s life settled i what h =
       let p = received_prefix later.decided in
       let there = h.there in
@@ -168,7 +168,7 @@ module _ (kinds : List ℕ) (setup : Setup) {f g : Facts} (later : Later f g) wh
 
   pub honest_more : (c : ControllerState) → IsHonest kinds setup f c → IsHonest kinds setup g c
   honest_more c h =
-      record { entries = λ i e k. entry_more i e (h.entries i e k); marks = λ s life i k. le_trans (h.marks s life i k) (prefix_length (prefix_filter _ (later.executed s))); ahead = λ k entries has. ahead_more k entries (h.ahead k entries has) }
+      record { entries = λ i e k. entry_more i e (h.entries i e k); marks = λ s life i k. le_trans (h.marks s life i k) (prefix_length (prefix_filter _ (later.executed s))); ahead = λ k entries has. ahead_more k entries (h.ahead k entries has); views = h.views }
 
   pub sound_more : (s : ℕ) (state : SwitchState) → IsSound kinds setup f s state → IsSound kinds setup g s state
   sound_more s state h =
@@ -187,7 +187,7 @@ module _ (kinds : List ℕ) (setup : Setup) {f g : Facts} (later : Later f g) wh
 
   pub between_more : (from to : Actor) (u : Unsealed) → IsTrueBetween kinds setup f from to u → IsTrueBetween kinds setup g from to u
   between_more (actor.Controller c) (actor.Switch s) (unsealed.Message (message.Of xid m)) h = told_more c s m h
-  between_more (actor.Controller c) (actor.Controller d) (unsealed.Message (message.Vr m)) h = true_vr_more m h
+  between_more (actor.Controller c) (actor.Controller d) (unsealed.Message (message.Vr m)) h = (true_vr_more m h.0, h.1)
   between_more (actor.Switch s) (actor.Controller c) (unsealed.Message (message.Of xid m)) h = (h.0, reported_more s (later.events s) (later.executed s) m h.1)
   between_more (actor.Switch s) (actor.Switch t) (unsealed.Message (message.Frame port frame)) h = h
   between_more from to u h = absurd h

@@ -16,7 +16,9 @@ use Rattle.rv_base.specs.declared.journal.SaveResult.{SaveResult}
 use Rattle.rv_base.specs.Actors.{same_actor, actor_of, IsActor}
 use Rattle.rv_base.specs.Part.{part, drawn}
 use Rattle.rv_base.specs.Pool.{pool}
-use Rattle.rv_base.proofs.Among.{Among}
+use Rattle.lists.proofs.Places.{get_zero, none_at}
+use Rattle.lists.proofs.Prefixes.{prefix_is, prefix_refl}
+use Rattle.lists.specs.Lists.{IsIn, IsPrefix}
 use Rattle.of_switch.specs.declared.says.SwitchInput.{SwitchInput}
 use Rattle.of_switch.specs.State.{SwitchState, starting_switch}
 use Rattle.of_switch.specs.Rules.{switch_turn}
@@ -28,11 +30,9 @@ use Rattle.vr_log.specs.Members.{is_up}
 use Rattle.group_controller.specs.State.{ControllerState, starting_controller, committed, down}
 use Rattle.group_controller.specs.Rules.{controller_work}
 use Rattle.rv_runs.specs.States.{Scene, SwitchAt, ControllerAt, switch_at, switch_step, controller_at, sealed_letters, switch_message, controller_message, content}
-use Rattle.rv_runs.specs.Legal.{Fits, IsTurn, IsSoundSwitch, IsSoundController, EntryFits, IsPossible, results_of}
+use Rattle.rv_runs.specs.Legal.{Fits, AreTyped, IsTurn, IsSoundSwitch, IsSoundController, EntryFits, IsPossible, results_of}
 use Rattle.rv_runs.specs.Committed.{controller_state, kept_of, kept, decided}
-use Rattle.rv_runs.specs.Laws.{IsPrefix}
-use Rattle.exactly_once.specs.Facts.{Facts, Later, firm, facts_of}
-use Rattle.exactly_once.proofs.Lists.{prefix_same, prefix_is, none_at, get_zero}
+use Rattle.exactly_once.specs.Facts.{PastFacts, Later, firm, facts_of}
 use Rattle.exactly_once.proofs.Entries.{ControllerGoes, Turns, Falls, Stays, Own, Other, controller_after, IsHeardAt, From_draw, From_local, SwitchGoes, Takes, Rests, Posts, Refuses, switch_goes, Mine, Another, switch_after}
 use Rattle.rv_runs.specs.States.{IsFaithful}
 use Rattle.exactly_once.specs.Premises.{IsHeard, By_draw, By_local, AreControllers, IsValidLog}
@@ -46,18 +46,18 @@ use Rattle.exactly_once.proofs.Packets.{one_actor, orderly_before, drawn_found, 
 -- what is firm is a beginning of what a switch has now
 pub firm_events : (w : SwitchAt) (b : Bool) → IsPrefix w.before.events w.now.events → IsPrefix (if b then w.before else w.now).events w.now.events
 firm_events w true p = p
-firm_events w false p = prefix_same w.now.events
+firm_events w false p = prefix_refl w.now.events
 
 pub firm_executed : (w : SwitchAt) (b : Bool) → IsPrefix w.before.executed w.now.executed → IsPrefix (if b then w.before else w.now).executed w.now.executed
 firm_executed w true p = p
-firm_executed w false p = prefix_same w.now.executed
+firm_executed w false p = prefix_refl w.now.executed
 
 firm_before : (w : SwitchAt) → w.fresh ≡ true → firm w ≡ w.before
 firm_before w h = rw h refl
 
 -- no entries beside number 0
-nothing_ahead : (f : Facts) (k : ℕ) (entries : List Entry) → k ≡ 0 → entries ≡ [] → IsAhead f k entries
-nothing_ahead f k entries is none = record { bound = omega (arith, is); one = λ j among. absurd (subst (λ (l : List Entry). Among (Processed j) l) none among) }
+nothing_ahead : (f : PastFacts) (k : ℕ) (entries : List Entry) → k ≡ 0 → entries ≡ [] → IsAhead f k entries
+nothing_ahead f k entries is none = record { bound = omega (arith, is); one = λ j among. absurd (subst (λ (l : List Entry). IsIn (Processed j) l) none among) }
 
 -- an input is fresh
 turn_fresh : {B : Type 0} (scene : Scene B) (w : SwitchAt) (e : JournalEntry B) (found : Option (Packet B)) (rest : List (JournalEntry B × Option (Packet B))) →
@@ -140,7 +140,7 @@ module _ {B : Type 0} (scene : Scene B) (results : List (List SaveResult)) (fait
     refused_fresh s a refuses there is =
         let sound = (subst (λ (p : List (JournalEntry B × Option (Packet B))). IsSoundSwitch scene s p) is (legal.switches s there)).0 in
         let turn : IsTurn (part (actor.Switch s) before) =
-        subst (λ (x : JournalEntry B). Fits (sealed_letters switch_message scene.sealing (switch_at scene s (part (actor.Switch s) before)).owed) (part (actor.Switch s) before) x) refuses sound in
+        subst (λ (x : JournalEntry B). Fits switch_message scene.sealing (switch_at scene s (part (actor.Switch s) before)).owed (part (actor.Switch s) before) x) refuses sound in
         holds.turns s there turn
 
     -- what is firm grows
@@ -172,7 +172,7 @@ module _ {B : Type 0} (scene : Scene B) (results : List (List SaveResult)) (fait
               subst (λ (v : SwitchAt). IsPrefix (firm (switch_at scene s (part (actor.Switch s) before))).events (firm v).events × IsPrefix (firm (switch_at scene s (part (actor.Switch s) before))).executed (firm v).executed) (sym (stepped s is)) r
           | Another other is ↦
               subst (λ (v : SwitchAt). IsPrefix (firm (switch_at scene s (part (actor.Switch s) before))).events (firm v).events × IsPrefix (firm (switch_at scene s (part (actor.Switch s) before))).executed (firm v).executed) (sym (stayed s is))
-              (prefix_same _, prefix_same _)
+              (prefix_refl _, prefix_refl _)
         ]
 
     -- the facts grow
@@ -188,7 +188,7 @@ module _ {B : Type 0} (scene : Scene B) (results : List (List SaveResult)) (fait
         let goes : p.to ≡ actor.Switch s = ap (λ (y : Packet B). y.to) (sym it) ∙ r.goes_to ∙ mine in
         subst (λ (y : SwitchInput). IsHeardBySwitch scene.kinds scene.setup (facts_of scene results before) s y) (sym hears)
         (heard_by_switch scene.kinds scene.setup (facts_of scene results before) s p.from p.to (content scene.sealing p) goes
-        (holds.packets p (subst (λ (y : Packet B). Among y (pool before)) it r.among)))
+        (holds.packets p (subst (λ (y : Packet B). IsIn y (pool before)) it r.among)))
     switch_hears_truth s x same (From_local a input is hears) =
         subst (λ (y : SwitchInput). IsHeardBySwitch scene.kinds scene.setup (facts_of scene results before) s y) (sym hears) (subst (λ (y : JournalEntry B). EntryFits y) is legal.views.0)
 
@@ -200,7 +200,7 @@ module _ {B : Type 0} (scene : Scene B) (results : List (List SaveResult)) (fait
         let goes : p.to ≡ actor.Controller c = ap (λ (y : Packet B). y.to) (sym it) ∙ r.goes_to ∙ mine in
         subst (λ (y : ControllerInput). IsHeardByController scene.kinds scene.setup (facts_of scene results before) y) (sym hears)
         (heard_by_controller scene.kinds scene.setup (facts_of scene results before) c p.from p.to (content scene.sealing p) goes
-        (holds.packets p (subst (λ (y : Packet B). Among y (pool before)) it r.among)))
+        (holds.packets p (subst (λ (y : Packet B). IsIn y (pool before)) it r.among)))
     controller_hears_truth c x same (By_local a input is hears) =
         subst (λ (y : ControllerInput). IsHeardByController scene.kinds scene.setup (facts_of scene results before) y) (sym hears) (subst (λ (y : JournalEntry B). EntryFits y) is legal.views.0)
 
@@ -224,7 +224,7 @@ module _ {B : Type 0} (scene : Scene B) (results : List (List SaveResult)) (fait
               (record { now = m.now; before = m.before; events = m.events; executed = m.executed; owed = λ l k. absurd k })
           | Refuses a refuses step ↦
               subst (λ (v : SwitchAt). IsSoundAt scene.kinds scene.setup (facts_of scene results (e ∷ before)) s v) (sym step)
-              (record { now = m.before; before = m.before; events = prefix_same w.before.events; executed = prefix_same w.before.executed; owed = λ l k. absurd k })
+              (record { now = m.before; before = m.before; events = prefix_refl w.before.events; executed = prefix_refl w.before.executed; owed = λ l k. absurd k })
         ]
 
     sound_after : (s : ℕ) → s < length scene.setup.ports → IsSoundAt scene.kinds scene.setup (facts_of scene results (e ∷ before)) s (switch_at scene s (part (actor.Switch s) (e ∷ before)))
@@ -246,7 +246,7 @@ module _ {B : Type 0} (scene : Scene B) (results : List (List SaveResult)) (fait
 
     -- a controller that is down is honest
     nothing_there : (c : ControllerState) (promise life : ℕ) → IsHonest scene.kinds scene.setup (facts_of scene results (e ∷ before)) (down c promise life)
-    nothing_there c promise life = record { entries = λ i y k. none_held i y k; marks = λ s l i k. absurd k; ahead = λ k entries has. none_ahead k entries has }
+    nothing_there c promise life = record { entries = λ i y k. none_held i y k; marks = λ s l i k. absurd k; ahead = λ k entries has. none_ahead k entries has; views = record { view = omega arith; responses = λ r k. absurd k } }
       where
         none_held : (i : ℕ) (y : Entry) → HoldsEntry (down c promise life).vr i y → IsTrueEntry scene.kinds scene.setup (facts_of scene results (e ∷ before)) i y
         none_held i y (Logged at) = absurd (none_at i y at)
@@ -282,20 +282,20 @@ module _ {B : Type 0} (scene : Scene B) (results : List (List SaveResult)) (fait
         (λ up. (work_front c (controller_work scene.kinds scene.setup w.now x).state there now up).0) (λ up. (work_front c (controller_work scene.kinds scene.setup w.now x).state there now up).1) in
         record {
           now = subst (λ (y : ControllerState). IsHonest scene.kinds scene.setup (facts_of scene results (e ∷ before)) y) (sym now) k.now;
-          owed = subst (λ (ls : List (Letter ControllerSays)). (l : Letter ControllerSays) → Among l ls → IsOrder scene.kinds scene.setup (facts_of scene results (e ∷ before)) c l) (sym owed) k.said;
+          owed = subst (λ (ls : List (Letter ControllerSays)). (l : Letter ControllerSays) → IsIn l ls → IsOrder scene.kinds scene.setup (facts_of scene results (e ∷ before)) c l) (sym owed) k.said;
         }
     honest_goes c same (Falls old promise life now owed) =
         record {
           now = subst (λ (y : ControllerState). IsHonest scene.kinds scene.setup (facts_of scene results (e ∷ before)) y) (sym now) (nothing_there old promise life);
-          owed = subst (λ (ls : List (Letter ControllerSays)). (l : Letter ControllerSays) → Among l ls → IsOrder scene.kinds scene.setup (facts_of scene results (e ∷ before)) c l) (sym owed) (λ l k. absurd k);
+          owed = subst (λ (ls : List (Letter ControllerSays)). (l : Letter ControllerSays) → IsIn l ls → IsOrder scene.kinds scene.setup (facts_of scene results (e ∷ before)) c l) (sym owed) (λ l k. absurd k);
         }
     honest_goes c same (Stays now owed) =
         let m = honest_at_more scene.kinds scene.setup later c _ (holds.controllers c (named_controller c same)) in
         record {
           now = subst (λ (y : ControllerState). IsHonest scene.kinds scene.setup (facts_of scene results (e ∷ before)) y) (sym now) m.now;
           owed = elim owed [
-            | inl is ↦ subst (λ (ls : List (Letter ControllerSays)). (l : Letter ControllerSays) → Among l ls → IsOrder scene.kinds scene.setup (facts_of scene results (e ∷ before)) c l) (sym is) m.owed
-            | inr is ↦ subst (λ (ls : List (Letter ControllerSays)). (l : Letter ControllerSays) → Among l ls → IsOrder scene.kinds scene.setup (facts_of scene results (e ∷ before)) c l) (sym is) (λ l k. absurd k)
+            | inl is ↦ subst (λ (ls : List (Letter ControllerSays)). (l : Letter ControllerSays) → IsIn l ls → IsOrder scene.kinds scene.setup (facts_of scene results (e ∷ before)) c l) (sym is) m.owed
+            | inr is ↦ subst (λ (ls : List (Letter ControllerSays)). (l : Letter ControllerSays) → IsIn l ls → IsOrder scene.kinds scene.setup (facts_of scene results (e ∷ before)) c l) (sym is) (λ l k. absurd k)
           ];
         }
 
@@ -319,13 +319,13 @@ module _ {B : Type 0} (scene : Scene B) (results : List (List SaveResult)) (fait
               let there = named_switch s same in
               let w : SwitchAt = switch_at scene s (part (actor.Switch s) before) in
               let sound = (subst (λ (q : List (JournalEntry B × Option (Packet B))). IsSoundSwitch scene s q) part_is (legal.switches s there)).0 in
-              let fits : (letters ≡ sealed_letters switch_message scene.sealing w.owed) × (letters ≢ []) =
-              subst (λ (y : JournalEntry B). Fits (sealed_letters switch_message scene.sealing w.owed) (part (actor.Switch s) before) y) is sound in
+              let fits : (letters ≡ sealed_letters switch_message scene.sealing w.owed) × (letters ≢ []) × AreTyped switch_message w.owed =
+              subst (λ (y : JournalEntry B). Fits switch_message scene.sealing w.owed (part (actor.Switch s) before) y) is sound in
               let stepped_to : switch_at scene s (part (actor.Switch s) (e ∷ before)) ≡ record w { owed = []; fresh = false } =
               stepped s part_is ∙ ap (λ (y : JournalEntry B). switch_step scene w y (drawn e before)) is in
               let events_are : w.now.events ≡ (firm (switch_at scene s (part (actor.Switch s) (e ∷ before)))).events = ap (λ (v : SwitchAt). (firm v).events) (sym stepped_to) in
               let executed_are : w.now.executed ≡ (firm (switch_at scene s (part (actor.Switch s) (e ∷ before)))).executed = ap (λ (v : SwitchAt). (firm v).executed) (sym stepped_to) in
-              switch_packet scene.sealing faithful scene.kinds scene.setup (facts_of scene results (e ∷ before)) p s there w.owed
+              switch_packet scene.sealing faithful scene.kinds scene.setup (facts_of scene results (e ∷ before)) p s there w.owed fits.2
               (λ l k. subst (λ (xs : List Executed). IsReport s (firm (switch_at scene s (part (actor.Switch s) (e ∷ before)))).events xs l) executed_are
               (subst (λ (xs : List Event). IsReport s xs w.now.executed l) events_are ((holds.switches s there).owed l k)))
               (subst (λ (ls : List (Letter B)). IsPosted (actor.Switch s) ls p) fits.0 posted)
@@ -338,15 +338,15 @@ module _ {B : Type 0} (scene : Scene B) (results : List (List SaveResult)) (fait
               let there = named_controller c same in
               let w : ControllerAt = controller_at scene (results_of results c) c (part (actor.Controller c) before) in
               let sound = (subst (λ (q : List (JournalEntry B × Option (Packet B))). IsSoundController scene (results_of results c) c q) part_is (legal.controllers c there)).0 in
-              let fits : (letters ≡ sealed_letters controller_message scene.sealing w.owed) × (letters ≢ []) =
-              subst (λ (y : JournalEntry B). Fits (sealed_letters controller_message scene.sealing w.owed) (part (actor.Controller c) before) y) is sound in
-              controller_packet scene.sealing faithful scene.kinds scene.setup (facts_of scene results (e ∷ before)) p c w.owed
+              let fits : (letters ≡ sealed_letters controller_message scene.sealing w.owed) × (letters ≢ []) × AreTyped controller_message w.owed =
+              subst (λ (y : JournalEntry B). Fits controller_message scene.sealing w.owed (part (actor.Controller c) before) y) is sound in
+              controller_packet scene.sealing faithful scene.kinds scene.setup (facts_of scene results (e ∷ before)) p c w.owed fits.2
               (λ l k. order_more scene.kinds scene.setup later c l ((holds.controllers c there).owed l k))
               (subst (λ (ls : List (Letter B)). IsPosted (actor.Controller c) ls p) fits.0 posted)
           | Other other part_is ↦ let no : true ≡ false = sym mine ∙ other in absurd cc
         ]
 
-    packets_after : (p : Packet B) → Among p (pool (e ∷ before)) → IsTrueBetween scene.kinds scene.setup (facts_of scene results (e ∷ before)) p.from p.to (content scene.sealing p)
+    packets_after : (p : Packet B) → IsIn p (pool (e ∷ before)) → IsTrueBetween scene.kinds scene.setup (facts_of scene results (e ∷ before)) p.from p.to (content scene.sealing p)
     packets_after p k =
         elim (pool_after e before p k) [
           | Was old ↦ between_more scene.kinds scene.setup later p.from p.to (content scene.sealing p) (holds.packets p old)
@@ -361,13 +361,13 @@ module _ {B : Type 0} (scene : Scene B) (results : List (List SaveResult)) (fait
     switches = λ s there. record {
       now = starts s;
       before = starts s;
-      events = prefix_same [];
-      executed = prefix_same [];
+      events = prefix_refl [];
+      executed = prefix_refl [];
       owed = λ l k. absurd k;
     };
     turns = λ s there turn. absurd turn;
     controllers = λ c there. record {
-      now = record { entries = λ i y k. none_held c i y k; marks = λ s l i k. absurd k; ahead = λ k entries has. none_ahead c k entries has };
+      now = record { entries = λ i y k. none_held c i y k; marks = λ s l i k. absurd k; ahead = λ k entries has. none_ahead c k entries has; views = record { view = omega arith; responses = λ r k. absurd k } };
       owed = λ l k. absurd k;
     };
     packets = λ p k. absurd k;

@@ -1,5 +1,3 @@
-pub mod Lists
-pub mod Issued
 pub mod Growing
 pub mod Switches
 pub mod ControllerTurns
@@ -15,4 +13,5 @@ pub mod Laws
 pub mod SwitchTurns
 pub mod Spelling
 pub mod Marks
+pub mod Views
 pub mod SwitchMoves

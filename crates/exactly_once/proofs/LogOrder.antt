@@ -10,15 +10,17 @@ use Rattle.of_types.specs.declared.message.Event.{Event}
 use Rattle.of_types.specs.declared.message.Executed.{Executed}
 use Rattle.of_types.specs.declared.setup.Setup.{Setup}
 use Rattle.of_types.specs.Lives.{life_after, life_in, count_in, has_ended, is_switch_up}
-use Rattle.rv_base.proofs.Among.{Among, among_append, among_filter}
+use Rattle.lists.proofs.Elements.{filter_passes, in_append, in_filter}
+use Rattle.lists.proofs.Places.{get_in, get_prefix, in_get}
+use Rattle.lists.proofs.Prefixes.{prefix_by_places, prefix_filter, prefix_trans}
+use Rattle.lists.specs.Lists.{IsIn, IsPrefix}
 use Rattle.vr_log.specs.declared.entry.Entry.{Entry}
 use Rattle.vr_log.specs.declared.entry.Entry.TheVariants.{Received, Processed}
 use Rattle.vr_log.specs.Log.{received, may_be_received}
-use Rattle.rv_runs.specs.Laws.{IsPrefix, events_from, events_from_life}
-use Rattle.exactly_once.specs.Facts.{Facts, events_of}
+use Rattle.rv_runs.specs.Laws.{events_from, events_from_life}
+use Rattle.exactly_once.specs.Facts.{PastFacts, events_of}
 use Rattle.exactly_once.specs.Truths.{IsGenuine}
 use Rattle.exactly_once.specs.Premises.{IsValidLog}
-use Rattle.exactly_once.proofs.Lists.{prefix_on, prefix_filter, get_prefix, among_get, get_among, prefix_by_places, filter_passes}
 
 -- events that came by lives and numbers
 abbrev pub AreOrdered : List Event → Type 0
@@ -54,7 +56,7 @@ life-push start s (x ∷ xs) e = life-push (if nat_eq x.switch s then x.life els
 count-push : (s life : ℕ) (xs : List Event) (e : Event) → count_in s life (xs ++ e ∷ []) ≡ count_in s life xs + cond (nat_eq e.switch s && nat_eq e.life life) 1 0
 count-push s life xs e = sum_by_push _ xs e
 
-count_none : (s life : ℕ) (xs : List Event) → ((y : Event) → Among y xs → y.switch ≡ s → y.life ≡ life → ⊥) → count_in s life xs ≡ 0
+count_none : (s life : ℕ) (xs : List Event) → ((y : Event) → IsIn y xs → y.switch ≡ s → y.life ≡ life → ⊥) → count_in s life xs ≡ 0
 count_none s life [] none = refl
 count_none s life (x ∷ xs) none = sum_by-cons _ x xs ∙ choice (nat_eq x.switch s && nat_eq x.life life) refl (count_none s life xs (λ y k. none y (inr k)))
   where
@@ -64,7 +66,7 @@ count_none s life (x ∷ xs) none = sum_by-cons _ x xs ∙ choice (nat_eq x.swit
 
 -- no event of a switch is of a later life than the last one
 abbrev pub IsRisen : List Event → Type 0
-IsRisen es = (y : Event) → Among y es → y.life ≤ life_in y.switch es
+IsRisen es = (y : Event) → IsIn y es → y.life ≤ life_in y.switch es
 
 record IsNext (front : List Event) (e : Event) : Type 0 where
   pub number : e.number ≡ count_in e.switch e.life front
@@ -93,7 +95,7 @@ next_is front e risen may = by_life (nat_eq e.life (life_in e.switch front)) ref
 
 risen_push : (front : List Event) (e : Event) → IsRisen front → life_in e.switch front ≤ e.life → IsRisen (front ++ e ∷ [])
 risen_push front e risen up y k =
-    elim (among_append y front (e ∷ []) k) [
+    elim (in_append y front (e ∷ []) k) [
       | inl old ↦ by_switch (nat_eq e.switch y.switch) refl (risen y old)
       | inr new ↦ elim new [
         | inl is ↦
@@ -129,7 +131,7 @@ module _ (es : List Event) (ordered : AreOrdered es) where
   risen_is front rest is = risen_front [] front rest is none_risen
 
   -- later events of a switch are of no earlier life
-  lives_above : (s : ℕ) (front rest : List Event) → es ≡ front ++ rest → (y : Event) → Among y rest → y.switch ≡ s → life_in s front ≤ y.life
+  lives_above : (s : ℕ) (front rest : List Event) → es ≡ front ++ rest → (y : Event) → IsIn y rest → y.switch ≡ s → life_in s front ≤ y.life
   lives_above s front [] is y k own = absurd k
   lives_above s front (e ∷ rest) is y (inl same) own =
       let n = next_is front e (risen_is front (e ∷ rest) is) (ordered front rest e is) in
@@ -149,7 +151,7 @@ module _ (es : List Event) (ordered : AreOrdered es) where
           omega (arith, now, same, up, few)
       by_switch false other up few = let now = life-push 0 s front e ∙ ap (λ (b : Bool). if b then e.life else life_in s front) other in omega (arith, now, few)
 
-  all_places : (P : Event → Type 0) (xs : List Event) → ((y : Event) → Among y xs → P y) → All P xs
+  all_places : (P : Event → Type 0) (xs : List Event) → ((y : Event) → IsIn y xs → P y) → All P xs
   all_places P [] all k d lt = absurd (omega (arith, lt))
   all_places P (x ∷ xs) all zero d lt = all x (inl refl)
   all_places P (x ∷ xs) all (suc k) d lt = all_places P xs (λ y h. all y (inr h)) k d (omega (arith, lt))
@@ -163,7 +165,7 @@ module _ (es : List Event) (ordered : AreOrdered es) where
       by_switch true mine deeper =
           AllPairs-cons (λ (x later : Event). x.life ≤ later.life) e (events_from s rest)
           (all_places (λ (later : Event). e.life ≤ later.life) (events_from s rest) (λ y k.
-          let up = lives_above s (front ++ e ∷ []) rest (is ∙ sym (append_assoc front (e ∷ []) rest)) y (among_filter (λ (z : Event). nat_eq z.switch s) rest y k) (eqb-true y.switch s (filter_passes (λ (z : Event). nat_eq z.switch s) rest y k)) in
+          let up = lives_above s (front ++ e ∷ []) rest (is ∙ sym (append_assoc front (e ∷ []) rest)) y (in_filter (λ (z : Event). nat_eq z.switch s) rest y k) (eqb-true y.switch s (filter_passes (λ (z : Event). nat_eq z.switch s) rest y k)) in
           let now = life-push 0 s front e ∙ ap (λ (b : Bool). if b then e.life else life_in s front) mine in
           omega (arith, up, now)))
           deeper
@@ -177,7 +179,7 @@ module _ (es : List Event) (ordered : AreOrdered es) where
     pub number_is : x.number ≡ count_in s life front + i
     pub switch_is : x.switch ≡ s
     pub life_is : x.life ≡ life
-    pub among : Among x rest
+    pub among : IsIn x rest
 
   placed_at : (s life : ℕ) (front rest : List Event) → es ≡ front ++ rest → (i : ℕ) (x : Event) → slice_get (events_from_life s life rest) i ≡ Some x → IsPlaced s life i front rest x
   placed_at s life front [] is i x at = absurd cc
@@ -210,7 +212,7 @@ module _ (es : List Event) (ordered : AreOrdered es) where
           record { number_is = omega (arith, n, count); switch_is = r.switch_is; life_is = r.life_is; among = inr r.among }
 
   -- events that their switches made, of one life, begin those that it made in it
-  pub made_in : (setup : Setup) (f : Facts) → ((e : Event) → Among e es → IsGenuine setup f e) → (s life : ℕ) → IsPrefix (events_from_life s life es) (events_of life (f.events s))
+  pub made_in : (setup : Setup) (f : PastFacts) → ((e : Event) → IsIn e es → IsGenuine setup f e) → (s life : ℕ) → IsPrefix (events_from_life s life es) (events_of life (f.events s))
   made_in setup f genuine s life =
       prefix_by_places (events_from_life s life es) (events_of life (f.events s)) (λ i x at.
       let r = placed_at s life [] es refl i x at in
@@ -228,7 +230,7 @@ over_has_ended log before rest s life place e valid is at own less =
     let same = ap (λ (k : ℕ). life_in k (received before)) own in
     lt-ltb life (life_in s (received before)) (omega (arith, up, same, less))
   where
-    received_among : (log : List Entry) (i : ℕ) → slice_get log i ≡ Some (Received e) → Among e (received log)
+    received_among : (log : List Entry) (i : ℕ) → slice_get log i ≡ Some (Received e) → IsIn e (received log)
     received_among [] i at = absurd cc
     received_among (Received y ∷ log) zero at = inl (cc)
     received_among (Received y ∷ log) (suc i) at = inr (received_among log i at)
@@ -277,8 +279,8 @@ get_within [] i lt = absurd (omega arith)
 get_within (x ∷ xs) zero lt = (x, refl)
 get_within (x ∷ xs) (suc i) lt = get_within xs i (omega arith)
 
-among_contains : {A : Type 0} (xs : List A) (x : A) → Among x xs → Contains xs x
-among_contains xs x h = let r = among_get xs x h in (r.0, slice_get_within xs r.0 x r.1, get_or_from_slice_get xs r.0 x x r.1)
+among_contains : {A : Type 0} (xs : List A) (x : A) → IsIn x xs → Contains xs x
+among_contains xs x h = let r = in_get xs x h in (r.0, slice_get_within xs r.0 x r.1, get_or_from_slice_get xs r.0 x x r.1)
 
 -- an event below the count of processed ones of its life stands among them
 pub processed_among : (s life : ℕ) (es whole made : List Event) → IsPrefix es whole → IsPrefix (events_from_life s life whole) made → (i : ℕ) (e : Event) → i < count_in s life es → slice_get made i ≡ Some e → Contains es e
@@ -286,9 +288,9 @@ processed_among s life es whole made p q i e lt at =
     let mine : Event → Bool = λ (y : Event). nat_eq y.switch s && nat_eq y.life life in
     let count = length-filter mine es in
     let r = get_within (events_from_life s life es) i (omega (arith, lt, count)) in
-    let there : slice_get made i ≡ Some r.0 = get_prefix i r.0 (prefix_on (prefix_filter mine p) q) r.1 in
+    let there : slice_get made i ≡ Some r.0 = get_prefix i r.0 (prefix_trans (prefix_filter mine p) q) r.1 in
     let it : r.0 ≡ e = same r.0 e (sym there ∙ at) in
-    among_contains es e (among_filter mine es e (subst (λ (y : Event). Among y (events_from_life s life es)) it (get_among (events_from_life s life es) r.0 i r.1)))
+    among_contains es e (in_filter mine es e (subst (λ (y : Event). IsIn y (events_from_life s life es)) it (get_in (events_from_life s life es) r.0 i r.1)))
   where
     same : (x y : Event) → Some x ≡ Some y → x ≡ y
     same x y h = cc

@@ -15,7 +15,8 @@ use Rattle.of_types.specs.declared.setup.Setup.{Setup}
 use Rattle.of_types.specs.Lives.{last_life}
 use Rattle.rv_base.specs.declared.journal.Local.{Local}
 use Rattle.rv_base.specs.declared.journal.Local.TheVariants as local
-use Rattle.rv_base.proofs.Among.{Among, among_append}
+use Rattle.lists.proofs.Elements.{in_append}
+use Rattle.lists.specs.Lists.{IsIn}
 use Rattle.vr_log.specs.declared.entry.Entry.{Entry}
 use Rattle.vr_log.specs.declared.entry.Entry.TheVariants.{Received}
 use Rattle.vr_log.specs.Log.{received, processed, is_past_limits}
@@ -95,11 +96,11 @@ module _ (kinds : List ℕ) (setup : Setup) where
 
   module _ (c : ControllerState) (x : ControllerInput) where
     abbrev Comes : Work → Type 0
-    Comes w = (s life i : ℕ) → Among (s, life, i) w.state.marks.acked → IsMarked c x s life i
+    Comes w = (s life i : ℕ) → IsIn (s, life, i) w.state.marks.acked → IsMarked c x s life i
 
     old : (w : Work) → NoneNew c w → Comes w
-    old w (inl same) s life i h = inl (subst (λ (l : List (ℕ × ℕ × ℕ)). Among (s, life, i) l) same h)
-    old w (inr none) s life i h = absurd (subst (λ (l : List (ℕ × ℕ × ℕ)). Among (s, life, i) l) none h)
+    old w (inl same) s life i h = inl (subst (λ (l : List (ℕ × ℕ × ℕ)). IsIn (s, life, i) l) same h)
+    old w (inr none) s life i h = absurd (subst (λ (l : List (ℕ × ℕ × ℕ)). IsIn (s, life, i) l) none h)
 
     pair_is : (p q : ℕ × ℕ × ℕ) → p ≡ q → (p.0 ≡ q.0) × (p.1 ≡ q.1) × (p.2 ≡ q.2)
     pair_is p q e = (ap (λ (r : ℕ × ℕ × ℕ). r.0) e, ap (λ (r : ℕ × ℕ × ℕ). r.1) e, ap (λ (r : ℕ × ℕ × ℕ). r.2) e)
@@ -108,13 +109,13 @@ module _ (kinds : List ℕ) (setup : Setup) where
     result_marks switch xid life number outcome is =
         cond_both (is_pending kinds setup (committed c) switch life number) (after_finishing kinds setup (resting (record c { marks = with_result kinds setup (committed c) c.marks switch life number }))) (resting c) Comes
         (λ _ s l i h. by_pending (is_pending kinds setup (committed c) switch life number) s l i
-        (subst (λ (m : Marks). Among (s, l, i) m.acked) (finish_marks (length (received c.vr.log)) (resting (record c { marks = with_result kinds setup (committed c) c.marks switch life number }))) h))
+        (subst (λ (m : Marks). IsIn (s, l, i) m.acked) (finish_marks (length (received c.vr.log)) (resting (record c { marks = with_result kinds setup (committed c) c.marks switch life number }))) h))
         (λ _. (λ s l i h. inl h))
       where
-        by_new : (b : Bool) (s l i : ℕ) → Among (s, l, i) (if b then c.marks else record c.marks { acked = c.marks.acked ++ (switch, life, number) ∷ [] }).acked → IsMarked c x s l i
+        by_new : (b : Bool) (s l i : ℕ) → IsIn (s, l, i) (if b then c.marks else record c.marks { acked = c.marks.acked ++ (switch, life, number) ∷ [] }).acked → IsMarked c x s l i
         by_new true s l i h = inl h
         by_new false s l i h =
-            elim (among_append (s, l, i) c.marks.acked ((switch, life, number) ∷ []) h) [
+            elim (in_append (s, l, i) c.marks.acked ((switch, life, number) ∷ []) h) [
               | inl k ↦ inl k
               | inr k ↦ elim k [
                 | inl e ↦
@@ -131,7 +132,7 @@ module _ (kinds : List ℕ) (setup : Setup) where
               ]
             ]
 
-        by_pending : (b : Bool) (s l i : ℕ) → Among (s, l, i) (if b then with_mark c.marks switch life number else c.marks).acked → IsMarked c x s l i
+        by_pending : (b : Bool) (s l i : ℕ) → IsIn (s, l, i) (if b then with_mark c.marks switch life number else c.marks).acked → IsMarked c x s l i
         by_pending false s l i h = inl h
         by_pending true s l i h = by_new (has_result c.marks switch life number) s l i h
 
@@ -175,10 +176,10 @@ module _ (kinds : List ℕ) (setup : Setup) where
     down_marks (controller_input.Vr from m) = (λ s l i h. inl h)
 
   -- each mark after a turn was there before, or is of the result that came
-  pub marks_come : (c : ControllerState) (x : ControllerInput) (s life i : ℕ) → Among (s, life, i) (controller_work kinds setup c x).state.marks.acked → IsMarked c x s life i
+  pub marks_come : (c : ControllerState) (x : ControllerInput) (s life i : ℕ) → IsIn (s, life, i) (controller_work kinds setup c x).state.marks.acked → IsMarked c x s life i
   unfolding controller_work
   marks_come c x s life i h =
-      cond_both (is_down c) (when_down c x) (on_input kinds setup (with_no_met_limit c) x) (λ (w : Work). Among (s, life, i) w.state.marks.acked → IsMarked c x s life i)
+      cond_both (is_down c) (when_down c x) (on_input kinds setup (with_no_met_limit c) x) (λ (w : Work). IsIn (s, life, i) w.state.marks.acked → IsMarked c x s life i)
       (λ _ k. down_marks c x x s life i k)
       (λ _ k. input_marks (with_no_met_limit c) x x refl s life i k)
       h

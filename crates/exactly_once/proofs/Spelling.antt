@@ -19,7 +19,8 @@ use Rattle.of_types.specs.Header.{number_at}
 use Rattle.of_types.specs.Lives.{is_switch_up}
 use Rattle.of_types.specs.Sizes.{order_size}
 use Rattle.of_types.specs.Valid.{IsValidOrder, IsValid}
-use Rattle.rv_base.proofs.Among.{Among, among_append, among_left, among_right, among_map}
+use Rattle.lists.proofs.Elements.{in_append, in_left, in_map, in_right}
+use Rattle.lists.specs.Lists.{IsIn}
 use Rattle.app_core.specs.declared.host.Host.{Host}
 use Rattle.app_core.specs.Chain.{concat, PartStep, ChainStep, hosts_of, passes_on, firewall_step, learning_step, firewall, learning, part_next, chain_next, starting_chain, reactions_from, reactions}
 use Rattle.app_core.specs.declared.issued.Issued.{Issued}
@@ -98,123 +99,123 @@ delete_sendable switch port = (
 out_sendable : (switch port : ℕ) (frame : List ℕ) (output : ℕ) → IsGoodFrame frame → IsSendable (packet_out switch port frame output).order
 out_sendable switch port frame output good = (tt, omega (arith, frame_short frame good.0), good.1)
 
-forwarded_sendable : (switch port : ℕ) (frame : List ℕ) (seen : Option ℕ) → IsGoodFrame frame → (c : Command) → Among c (forwarded switch port frame seen) → IsSendable c.order
+forwarded_sendable : (switch port : ℕ) (frame : List ℕ) (seen : Option ℕ) → IsGoodFrame frame → (c : Command) → IsIn c (forwarded switch port frame seen) → IsSendable c.order
 forwarded_sendable switch port frame None good c (inl e) = subst (λ (x : Command). IsSendable x.order) (sym e) (out_sendable switch port frame FLOOD good)
 forwarded_sendable switch port frame None good c (inr h) = absurd h
 forwarded_sendable switch port frame (Some output) good c h =
     cond_both (nat_eq output port) [] (forwarding_row switch port (unwrap_or (number_at 6 0 frame) 0) output ∷ packet_out switch port frame output ∷ [])
-    (λ (l : List Command). Among c l → IsSendable c.order) (λ _ k. absurd k)
+    (λ (l : List Command). IsIn c l → IsSendable c.order) (λ _ k. absurd k)
     (λ _ k. elim k [
       | inl e ↦ subst (λ (x : Command). IsSendable x.order) (sym e) (row_sendable switch port _ output (address_below frame good.1))
       | inr m ↦ elim m [ inl e ↦ subst (λ (x : Command). IsSendable x.order) (sym e) (out_sendable switch port frame output good) | inr n ↦ absurd n ]
     ])
     h
 
-commands_sendable : (hosts : List Host) (switch : ℕ) (what : Happening) → IsGoodHappening what → (c : Command) → Among c (learning_commands hosts switch what) → IsSendable c.order
+commands_sendable : (hosts : List Host) (switch : ℕ) (what : Happening) → IsGoodHappening what → (c : Command) → IsIn c (learning_commands hosts switch what) → IsSendable c.order
 commands_sendable hosts switch (happening.PacketIn p) good c h = forwarded_sendable switch p.in_port p.payload (seen_destination hosts switch (number_at 6 0 p.payload)) good c h
 commands_sendable hosts switch (happening.PortStatus p) good c h =
-    cond_both p.up [] (forgetting_rows switch p.port ∷ []) (λ (l : List Command). Among c l → IsSendable c.order) (λ _ k. absurd k)
+    cond_both p.up [] (forgetting_rows switch p.port ∷ []) (λ (l : List Command). IsIn c l → IsSendable c.order) (λ _ k. absurd k)
     (λ _ k. elim k [ inl e ↦ subst (λ (x : Command). IsSendable x.order) (sym e) (delete_sendable switch p.port) | inr m ↦ absurd m ]) h
 
-rows_sendable : (switches : ℕ) (rule : Option Rule) (c : Command) → Among c (dropping_rows switches rule) → IsSendable c.order
+rows_sendable : (switches : ℕ) (rule : Option Rule) (c : Command) → IsIn c (dropping_rows switches rule) → IsSendable c.order
 rows_sendable switches None c h = absurd h
 rows_sendable switches (Some rule) c h =
-    let made = among_map (dropping_row rule) (range_with_len 0 switches) c h in
+    let made = in_map (dropping_row rule) (range_with_len 0 switches) c h in
     subst (λ (x : Command). IsSendable x.order) (sym made.2) (denied_valid rule, omega (arith, denied_small rule), tt)
 
-firewall_sendable : (setup : Setup) (installed : List ℕ) (hit : Option ℕ) (c : Command) → Among c (firewall_commands setup installed hit) → IsSendable c.order
+firewall_sendable : (setup : Setup) (installed : List ℕ) (hit : Option ℕ) (c : Command) → IsIn c (firewall_commands setup installed hit) → IsSendable c.order
 firewall_sendable setup installed None c h = absurd h
 firewall_sendable setup installed (Some place) c h =
-    cond_both (is_installed installed place) [] (dropping_rows (length setup.ports) (slice_get setup.deny place)) (λ (l : List Command). Among c l → IsSendable c.order)
+    cond_both (is_installed installed place) [] (dropping_rows (length setup.ports) (slice_get setup.deny place)) (λ (l : List Command). IsIn c l → IsSendable c.order)
     (λ _ k. absurd k) (λ _ k. rows_sendable (length setup.ports) (slice_get setup.deny place) c k) h
 
-row_of_rule : (switch : ℕ) (rule : Option Rule) (c : Command) → Among c (option_to_list (option_map (λ r. dropping_row r switch) rule)) → IsSendable c.order
+row_of_rule : (switch : ℕ) (rule : Option Rule) (c : Command) → IsIn c (option_to_list (option_map (λ r. dropping_row r switch) rule)) → IsSendable c.order
 row_of_rule switch None c h = absurd h
 row_of_rule switch (Some rule) c (inl e) = subst (λ (x : Command). IsSendable x.order) (sym e) (denied_valid rule, omega (arith, denied_small rule), tt)
 row_of_rule switch (Some rule) c (inr h) = absurd h
 
 -- a switch that is up again
-rows_at_sendable : (setup : Setup) (switch : ℕ) (installed : List ℕ) (c : Command) → Among c (rows_at setup switch installed) → IsSendable c.order
+rows_at_sendable : (setup : Setup) (switch : ℕ) (installed : List ℕ) (c : Command) → IsIn c (rows_at setup switch installed) → IsSendable c.order
 rows_at_sendable setup switch [] c h = absurd h
 rows_at_sendable setup switch (place ∷ installed) c h =
-    elim (among_append c (option_to_list (option_map (λ r. dropping_row r switch) (slice_get setup.deny place))) (rows_at setup switch installed) h) [
+    elim (in_append c (option_to_list (option_map (λ r. dropping_row r switch) (slice_get setup.deny place))) (rows_at setup switch installed) h) [
       | inl k ↦ row_of_rule switch (slice_get setup.deny place) c k
       | inr k ↦ rows_at_sendable setup switch installed c k
     ]
 
-wall_sendable : (setup : Setup) (installed : List ℕ) (e : Event) (c : Command) → Among c (firewall_step setup installed e).commands → IsSendable c.order
+wall_sendable : (setup : Setup) (installed : List ℕ) (e : Event) (c : Command) → IsIn c (firewall_step setup installed e).commands → IsSendable c.order
 wall_sendable setup installed e c h =
     cond_both (is_switch_up e.what) (record { state = installed; commands = rows_at setup e.switch installed; stops = false })
     (record { state = installed_after installed (first_hit setup.deny e.what); commands = firewall_commands setup installed (first_hit setup.deny e.what); stops = is_some (first_hit setup.deny e.what) })
-    (λ (s : PartStep). Among c s.commands → IsSendable c.order)
+    (λ (s : PartStep). IsIn c s.commands → IsSendable c.order)
     (λ _ k. rows_at_sendable setup e.switch installed c k) (λ _ k. firewall_sendable setup installed (first_hit setup.deny e.what) c k) h
 
-learns_sendable : (kind : ℕ) (state : List ℕ) (e : Event) → IsGoodHappening e.what → (c : Command) → Among c (if nat_eq kind learning then learning_step (hosts_of state) e else passes_on state).commands → IsSendable c.order
+learns_sendable : (kind : ℕ) (state : List ℕ) (e : Event) → IsGoodHappening e.what → (c : Command) → IsIn c (if nat_eq kind learning then learning_step (hosts_of state) e else passes_on state).commands → IsSendable c.order
 learns_sendable kind state e good c h =
-    cond_both (nat_eq kind learning) (learning_step (hosts_of state) e) (passes_on state) (λ (s : PartStep). Among c s.commands → IsSendable c.order)
+    cond_both (nat_eq kind learning) (learning_step (hosts_of state) e) (passes_on state) (λ (s : PartStep). IsIn c s.commands → IsSendable c.order)
     (λ _ m. commands_sendable (hosts_after (hosts_of state) e.switch e.what) e.switch e.what good c m) (λ _ m. absurd m) h
 
-part_sendable : (kind : ℕ) (setup : Setup) (state : List ℕ) (e : Event) → IsGoodHappening e.what → (c : Command) → Among c (part_next kind setup state e).commands → IsSendable c.order
+part_sendable : (kind : ℕ) (setup : Setup) (state : List ℕ) (e : Event) → IsGoodHappening e.what → (c : Command) → IsIn c (part_next kind setup state e).commands → IsSendable c.order
 unfolding part_next
 part_sendable kind setup state e good c h =
     let others : PartStep = if nat_eq kind learning then learning_step (hosts_of state) e else passes_on state in
     cond_both (not (nat_lt e.switch (length setup.ports))) (passes_on state) (if nat_eq kind firewall then firewall_step setup state e else others)
-    (λ (s : PartStep). Among c s.commands → IsSendable c.order) (λ _ k. absurd k)
-    (λ _ k. cond_both (nat_eq kind firewall) (firewall_step setup state e) others (λ (s : PartStep). Among c s.commands → IsSendable c.order)
+    (λ (s : PartStep). IsIn c s.commands → IsSendable c.order) (λ _ k. absurd k)
+    (λ _ k. cond_both (nat_eq kind firewall) (firewall_step setup state e) others (λ (s : PartStep). IsIn c s.commands → IsSendable c.order)
     (λ _ m. wall_sendable setup state e c m) (λ _ m. learns_sendable kind state e good c m) k)
     h
 
-chain_sendable : (kinds : List ℕ) (setup : Setup) (states : List (List ℕ)) (e : Event) → IsGoodHappening e.what → (c : Command) → Among c (chain_next kinds setup states e).commands → IsSendable c.order
+chain_sendable : (kinds : List ℕ) (setup : Setup) (states : List (List ℕ)) (e : Event) → IsGoodHappening e.what → (c : Command) → IsIn c (chain_next kinds setup states e).commands → IsSendable c.order
 chain_sendable [] setup states e good c h = absurd h
 chain_sendable (kind ∷ kinds) setup [] e good c h = absurd h
 chain_sendable (kind ∷ kinds) setup (state ∷ states) e good c h =
     cond_both (part_next kind setup state e).stops
     (record { states = (part_next kind setup state e).state ∷ states; commands = (part_next kind setup state e).commands })
     (record { states = (part_next kind setup state e).state ∷ (chain_next kinds setup states e).states; commands = (part_next kind setup state e).commands ++ (chain_next kinds setup states e).commands })
-    (λ (s : ChainStep). Among c s.commands → IsSendable c.order)
+    (λ (s : ChainStep). IsIn c s.commands → IsSendable c.order)
     (λ _ k. part_sendable kind setup state e good c k)
-    (λ _ k. elim (among_append c (part_next kind setup state e).commands (chain_next kinds setup states e).commands k) [
+    (λ _ k. elim (in_append c (part_next kind setup state e).commands (chain_next kinds setup states e).commands k) [
       | inl m ↦ part_sendable kind setup state e good c m
       | inr m ↦ chain_sendable kinds setup states e good c m
     ])
     h
 
-reactions_sendable : (kinds : List ℕ) (setup : Setup) (states : List (List ℕ)) (es : List Event) → ((e : Event) → Among e es → IsGoodHappening e.what) →
-    (c : Command) → Among c (concat (reactions_from kinds setup states es)) → IsSendable c.order
+reactions_sendable : (kinds : List ℕ) (setup : Setup) (states : List (List ℕ)) (es : List Event) → ((e : Event) → IsIn e es → IsGoodHappening e.what) →
+    (c : Command) → IsIn c (concat (reactions_from kinds setup states es)) → IsSendable c.order
 reactions_sendable kinds setup states [] good c h = absurd h
 reactions_sendable kinds setup states (e ∷ es) good c h =
-    elim (among_append c (chain_next kinds setup states e).commands (concat (reactions_from kinds setup (chain_next kinds setup states e).states es)) h) [
+    elim (in_append c (chain_next kinds setup states e).commands (concat (reactions_from kinds setup (chain_next kinds setup states e).states es)) h) [
       | inl m ↦ chain_sendable kinds setup states e (good e (inl refl)) c m
       | inr m ↦ reactions_sendable kinds setup (chain_next kinds setup states e).states es (λ x k. good x (inr k)) c m
     ]
 
 -- each order that is issued is one of a command
-each_issued : (past : List Event) (before : List Issued) (cs : List Command) (y : Issued) → Among y (issue_each past before cs) → (c : Command) × Among c cs × (y.order ≡ c.order)
+each_issued : (past : List Event) (before : List Issued) (cs : List Command) (y : Issued) → IsIn y (issue_each past before cs) → (c : Command) × IsIn c cs × (y.order ≡ c.order)
 each_issued past before [] y h = absurd h
 each_issued past before (c ∷ cs) y (inl e) = (c, inl refl, ap (λ (z : Issued). z.order) e)
 each_issued past before (c ∷ cs) y (inr h) = let r = each_issued past (before ++ issue past before c ∷ []) cs y h in (r.0, inr r.1, r.2)
 
-among_joined : {A : Type 0} (x : A) (xs ys : List A) → Among x xs ⊎ Among x ys → Among x (xs ++ ys)
-among_joined x xs ys (inl h) = among_left x xs ys h
-among_joined x xs ys (inr h) = among_right x xs ys h
+among_joined : {A : Type 0} (x : A) (xs ys : List A) → IsIn x xs ⊎ IsIn x ys → IsIn x (xs ++ ys)
+among_joined x xs ys (inl h) = in_left x xs ys h
+among_joined x xs ys (inr h) = in_right x xs ys h
 
-all_issued : (past : List Event) (before : List Issued) (es : List Event) (lists : List (List Command)) (y : Issued) → Among y (concat (issue_all past before es lists)) → (c : Command) × Among c (concat lists) × (y.order ≡ c.order)
+all_issued : (past : List Event) (before : List Issued) (es : List Event) (lists : List (List Command)) (y : Issued) → IsIn y (concat (issue_all past before es lists)) → (c : Command) × IsIn c (concat lists) × (y.order ≡ c.order)
 all_issued past before [] lists y h = absurd h
 all_issued past before (e ∷ es) [] y h = absurd h
 all_issued past before (e ∷ es) (commands ∷ lists) y h =
     let now = issue_each (past ++ e ∷ []) before commands in
-    elim (among_append y now (concat (issue_all (past ++ e ∷ []) (before ++ now) es lists)) h) [
-      | inl k ↦ let r = each_issued (past ++ e ∷ []) before commands y k in (r.0, among_left r.0 commands (concat lists) r.1, r.2)
-      | inr k ↦ let r = all_issued (past ++ e ∷ []) (before ++ now) es lists y k in (r.0, among_right r.0 commands (concat lists) r.1, r.2)
+    elim (in_append y now (concat (issue_all (past ++ e ∷ []) (before ++ now) es lists)) h) [
+      | inl k ↦ let r = each_issued (past ++ e ∷ []) before commands y k in (r.0, in_left r.0 commands (concat lists) r.1, r.2)
+      | inr k ↦ let r = all_issued (past ++ e ∷ []) (before ++ now) es lists y k in (r.0, in_right r.0 commands (concat lists) r.1, r.2)
     ]
 
-one_of_all : {A : Type 0} (lists : List (List A)) (j : ℕ) (x : A) → Among x (get_or lists j []) → Among x (concat lists)
+one_of_all : {A : Type 0} (lists : List (List A)) (j : ℕ) (x : A) → IsIn x (get_or lists j []) → IsIn x (concat lists)
 one_of_all [] j x h = absurd h
-one_of_all (xs ∷ lists) zero x h = among_left x xs (concat lists) h
-one_of_all (xs ∷ lists) (suc j) x h = among_right x xs (concat lists) (one_of_all lists j x h)
+one_of_all (xs ∷ lists) zero x h = in_left x xs (concat lists) h
+one_of_all (xs ∷ lists) (suc j) x h = in_right x xs (concat lists) (one_of_all lists j x h)
 
 -- the commands for events with good frames can be spelled
-pub commands_of_sendable : (kinds : List ℕ) (setup : Setup) (es : List Event) → ((e : Event) → Among e es → IsGoodHappening e.what) → (j : ℕ) (y : Issued) → Among y (commands_of kinds setup es j) → IsSendable y.order
+pub commands_of_sendable : (kinds : List ℕ) (setup : Setup) (es : List Event) → ((e : Event) → IsIn e es → IsGoodHappening e.what) → (j : ℕ) (y : Issued) → IsIn y (commands_of kinds setup es j) → IsSendable y.order
 unfolding issues reactions
 commands_of_sendable kinds setup es good j y h =
     let r = all_issued [] [] es (reactions_from kinds setup (starting_chain kinds) es) y (one_of_all (issue_all [] [] es (reactions_from kinds setup (starting_chain kinds) es)) j y h) in

@@ -29,7 +29,8 @@ use Rattle.rv_base.specs.declared.journal.Actor.TheVariants as actor
 use Rattle.rv_base.specs.declared.journal.Letter.{Letter}
 use Rattle.rv_base.specs.declared.journal.Local.{Local}
 use Rattle.rv_base.specs.declared.journal.Local.TheVariants as local
-use Rattle.rv_base.proofs.Among.{Among, among_append, among_right, among_map, among_take, among_drop}
+use Rattle.lists.proofs.Elements.{in_append, in_drop, in_map, in_right, in_take}
+use Rattle.lists.specs.Lists.{IsIn}
 use Rattle.role_fence.specs.Fence.{Fence, RoleStep, is_stale, may_execute, as_equal, as_master, as_slave, role_of, told_generation, replies}
 use Rattle.event_buffer.specs.Buffer.{is_full, next_event, cleared_to, without_dirty, with_dirty}
 use Rattle.command_buffer.specs.declared.buffer.Offer.{Offer}
@@ -43,7 +44,7 @@ use Rattle.of_switch.specs.Forwarding.{is_frame, targets, frame_letter, over_lin
 use Rattle.of_switch.specs.Commands.{is_output, result_of, does, done_as, counted, result_letter, executes, on_offer, settled, on_command}
 use Rattle.of_switch.specs.Rules.{on_local, on_role, on_role_request, on_plain, on_own_life, life_said, on_extension, on_malformed, switch_turn}
 use Rattle.flow_table.specs.Table.{chosen_row, table_step}
-use Rattle.exactly_once.specs.SwitchTurns.{Brings, Wire, Peer, Output}
+use Rattle.exactly_once.specs.SwitchTurns.{BringsFrame, Wire, Peer, Output}
 
 -- a message that only asks
 abbrev pub is_question : OfMessage → Bool
@@ -55,11 +56,11 @@ is_question _ = false
 -- what may be raised on an input: a change of a port, or a frame that it brings
 pub data IsRaised (x : SwitchInput) (what : Happening) : Type 0 where
   Ports : (p : PortStatus) → what ≡ happening.PortStatus p → IsRaised x what
-  Packets : (p : PacketIn) → what ≡ happening.PacketIn p → Brings x p.payload → is_frame p.payload ≡ true → IsRaised x what
+  Packets : (p : PacketIn) → what ≡ happening.PacketIn p → BringsFrame x p.payload → is_frame p.payload ≡ true → IsRaised x what
 
 -- what a switch in this state may say on an input
 pub data IsSaid (x : SwitchInput) (s : SwitchState) (l : Letter SwitchSays) : Type 0 where
-  Tells : (c : ℕ) (e : Event) → Among e s.buffer.held → s.fence.master ≡ Some c → l ≡ event_letter c e → IsSaid x s l
+  Tells : (c : ℕ) (e : Event) → IsIn e s.buffer.held → s.fence.master ≡ Some c → l ≡ event_letter c e → IsSaid x s l
   Reports : (c xid life generation number through : ℕ) (what : Order) (result : Outcome) → x ≡ switch_input.Of c xid (spoken.Ravana (extension.Command life generation number through what)) →
       number < s.results.executed → l ≡ result_letter s c number result → IsSaid x s l
   Roles : (c xid asked offered role generation : ℕ) → x ≡ switch_input.Of c xid (spoken.Plain (plain.RoleRequest asked offered)) → l ≡ to_controller c xid (spoken.Plain (plain.RoleReply role generation)) → IsSaid x s l
@@ -68,7 +69,7 @@ pub data IsSaid (x : SwitchInput) (s : SwitchState) (l : Letter SwitchSays) : Ty
       l ≡ to_controller c xid (spoken.Plain answer) → IsSaid x s l
   Explains : (c kind code xid : ℕ) (head : List ℕ) → x ≡ switch_input.Malformed (actor.Controller c) kind code xid head → l ≡ error_letter c xid kind code head → IsSaid x s l
   Greets : (c : ℕ) → l ≡ to_controller c 0 (spoken.Plain plain.Hello) → IsSaid x s l
-  Forwards : (peer port : ℕ) (frame : List ℕ) → Brings x frame → is_frame frame ≡ true → l ≡ frame_letter frame peer port → IsSaid x s l
+  Forwards : (peer port : ℕ) (frame : List ℕ) → BringsFrame x frame → is_frame frame ≡ true → l ≡ frame_letter frame peer port → IsSaid x s l
 
 -- a switch with other ports down, count of frames, rows, kept results and ports remembered
 abbrev pub noted : SwitchState → List ℕ → ℕ → List Row → List Outcome → List ℕ → SwitchState
@@ -81,7 +82,7 @@ fenced s fence = record s { fence = fence }
 -- one move within the turn of an input
 pub data Move (x : SwitchInput) (t t' : SwitchTurn) : Type 0 where
   Raises : (what : Happening) → IsRaised x what → t' ≡ record t { state = with_event t.state what } → Move x t t'
-  Says : (ls : List (Letter SwitchSays)) → ((l : Letter SwitchSays) → Among l ls → IsSaid x t.state l) → t' ≡ record t { letters = t.letters ++ ls } → Move x t t'
+  Says : (ls : List (Letter SwitchSays)) → ((l : Letter SwitchSays) → IsIn l ls → IsSaid x t.state l) → t' ≡ record t { letters = t.letters ++ ls } → Move x t t'
   Notes : (down : List ℕ) (sent : ℕ) (rows : List Row) (outcomes : List Outcome) (dirty : List ℕ) → t' ≡ record t { state = noted t.state down sent rows outcomes dirty } → Move x t t'
   Clears : (c xid life through : ℕ) → x ≡ switch_input.Of c xid (spoken.Ravana (extension.EventAck life through)) → nat_eq life (life_of t.state) ≡ true →
       t' ≡ record t { state = cleared t.state through } → Move x t t'
@@ -98,24 +99,24 @@ pub data Move (x : SwitchInput) (t t' : SwitchTurn) : Type 0 where
 either : {A : Type 0} (P : A → Type 0) (b : Bool) (x y : A) → (b ≡ true → P x) → (b ≡ false → P y) → P (if b then x else y)
 either P b x y f g = cond_both b x y P f g
 
-among_flat : {A B : Type 0} (f : A → List B) (xs : List A) (y : B) → Among y (flat_map f xs) → (x : A) × Among y (f x)
+among_flat : {A B : Type 0} (f : A → List B) (xs : List A) (y : B) → IsIn y (flat_map f xs) → (x : A) × IsIn y (f x)
 among_flat f [] y h = absurd h
-among_flat f (x ∷ xs) y h = elim (among_append y (f x) (flat_map f xs) h) [ inl k ↦ (x, k) | inr k ↦ among_flat f xs y k ]
+among_flat f (x ∷ xs) y h = elim (in_append y (f x) (flat_map f xs) h) [ inl k ↦ (x, k) | inr k ↦ among_flat f xs y k ]
 
 -- letters of events tell events
-told : (x : SwitchInput) (s : SwitchState) (master : Option ℕ) → s.fence.master ≡ master → (es : List Event) → ((e : Event) → Among e es → Among e s.buffer.held) →
-    (l : Letter SwitchSays) → Among l (event_letters master es) → IsSaid x s l
+told : (x : SwitchInput) (s : SwitchState) (master : Option ℕ) → s.fence.master ≡ master → (es : List Event) → ((e : Event) → IsIn e es → IsIn e s.buffer.held) →
+    (l : Letter SwitchSays) → IsIn l (event_letters master es) → IsSaid x s l
 told x s None is es all l h = absurd h
-told x s (Some c) is es all l h = let r = among_map (event_letter c) es l h in Tells c r.0 (all r.0 r.1) is r.2
+told x s (Some c) is es all l h = let r = in_map (event_letter c) es l h in Tells c r.0 (all r.0 r.1) is r.2
 
-first_among : (s : SwitchState) (e : Event) → Among e (first_held s) → Among e s.buffer.held
-first_among s e h = among_take 8 s.buffer.held e h
+first_among : (s : SwitchState) (e : Event) → IsIn e (first_held s) → IsIn e s.buffer.held
+first_among s e h = in_take 8 s.buffer.held e h
 
-over_is : (frame : List ℕ) (switch port : ℕ) (w : Link) (l : Letter SwitchSays) → Among l (over_link frame switch port w) → (peer : ℕ) × (peer_port : ℕ) × (l ≡ frame_letter frame peer peer_port)
+over_is : (frame : List ℕ) (switch port : ℕ) (w : Link) (l : Letter SwitchSays) → IsIn l (over_link frame switch port w) → (peer : ℕ) × (peer_port : ℕ) × (l ≡ frame_letter frame peer peer_port)
 over_is frame switch port w l =
-    either (λ (ls : List (Letter SwitchSays)). Among l ls → (peer : ℕ) × (peer_port : ℕ) × (l ≡ frame_letter frame peer peer_port)) (nat_eq w.switch switch && nat_eq w.port port) _ _
+    either (λ (ls : List (Letter SwitchSays)). IsIn l ls → (peer : ℕ) × (peer_port : ℕ) × (l ≡ frame_letter frame peer peer_port)) (nat_eq w.switch switch && nat_eq w.port port) _ _
     (λ _ k. elim k [ inl e ↦ (w.peer, w.peer_port, e) | inr n ↦ absurd n ])
-    (λ _. either (λ (ls : List (Letter SwitchSays)). Among l ls → (peer : ℕ) × (peer_port : ℕ) × (l ≡ frame_letter frame peer peer_port)) (nat_eq w.peer switch && nat_eq w.peer_port port) _ _
+    (λ _. either (λ (ls : List (Letter SwitchSays)). IsIn l ls → (peer : ℕ) × (peer_port : ℕ) × (l ≡ frame_letter frame peer peer_port)) (nat_eq w.peer switch && nat_eq w.peer_port port) _ _
     (λ _ k. elim k [ inl e ↦ (w.switch, w.port, e) | inr n ↦ absurd n ])
     (λ _ k. absurd k))
 
@@ -126,7 +127,7 @@ record Same (s : SwitchState) (t : SwitchTurn) : Type 0 where
   pub count : t.state.results.executed ≡ s.results.executed
 
 module _ (x : SwitchInput) (P : SwitchTurn → Type 0) (step : (t t' : SwitchTurn) → Move x t t' → P t → P t') where
-  said : (t : SwitchTurn) (ls : List (Letter SwitchSays)) → ((l : Letter SwitchSays) → Among l ls → IsSaid x t.state l) → P t → P (record t { letters = t.letters ++ ls })
+  said : (t : SwitchTurn) (ls : List (Letter SwitchSays)) → ((l : Letter SwitchSays) → IsIn l ls → IsSaid x t.state l) → P t → P (record t { letters = t.letters ++ ls })
   said t ls all h = step t _ (Says ls all refl) h
 
   one_said : (t : SwitchTurn) (l : Letter SwitchSays) → IsSaid x t.state l → P t → P (record t { letters = t.letters ++ l ∷ [] })
@@ -142,7 +143,7 @@ module _ (x : SwitchInput) (P : SwitchTurn → Type 0) (step : (t t' : SwitchTur
   raised_keeps : (what : Happening) → IsRaised x what → (t : SwitchTurn) → P t → P (then_turn t (raised what))
   raised_keeps what is t h =
       either (λ (ls : List (Letter SwitchSays)). P (record after { letters = t.letters ++ ls })) (nat_lt (length t.state.buffer.held) window) _ _
-      (λ _. said after _ (told x after.state t.state.fence.master refl (next_event t.state.buffer what ∷ []) (λ e k. among_right e t.state.buffer.held _ k)) there)
+      (λ _. said after _ (told x after.state t.state.fence.master refl (next_event t.state.buffer what ∷ []) (λ e k. in_right e t.state.buffer.held _ k)) there)
       (λ _. said after [] (λ l m. absurd m) there)
     where
       after : SwitchTurn
@@ -155,7 +156,7 @@ module _ (x : SwitchInput) (P : SwitchTurn → Type 0) (step : (t t' : SwitchTur
   packet_keeps what is t h = either (λ (y : SwitchTurn). P (then_turn t (λ _. y))) (is_full t.state.buffer) _ _ (λ _. silent t h) (λ _. raised_keeps what is t h)
 
   -- a frame goes over wires
-  sends_keeps : (frame : List ℕ) → Brings x frame → is_frame frame ≡ true → (ports : List ℕ) (t : SwitchTurn) → P t → P (then_turn t (sends_to frame ports))
+  sends_keeps : (frame : List ℕ) → BringsFrame x frame → is_frame frame ≡ true → (ports : List ℕ) (t : SwitchTurn) → P t → P (then_turn t (sends_to frame ports))
   sends_keeps frame brings fits ports t h =
       let after : SwitchTurn = (then_turn t (sends_to frame ports)) in
       said (record t { state = after.state }) (flat_map (over_links t.state frame) ports)
@@ -174,7 +175,7 @@ module _ (x : SwitchInput) (P : SwitchTurn → Type 0) (step : (t t' : SwitchTur
       outputs_keep Q tells port frame by_telling by_sending outputs _
       (either (λ (y : SwitchTurn). Q (then_turn t (λ _. y))) (nat_eq output TO_CONTROLLER) _ _ (λ _. by_telling t h) (λ _. by_sending (targets t.state port output) t h))
 
-  row_keeps : (port : ℕ) (frame : List ℕ) → Brings x frame → is_frame frame ≡ true → (s : SwitchState) (found : Option Row) → P (quiet s) → P (through_row s port frame found)
+  row_keeps : (port : ℕ) (frame : List ℕ) → BringsFrame x frame → is_frame frame ≡ true → (s : SwitchState) (found : Option Row) → P (quiet s) → P (through_row s port frame found)
   row_keeps port frame brings fits s None h = h
   row_keeps port frame brings fits s (Some row) h =
       outputs_keep P (packet_raised (packet_in row port frame)) port frame (packet_keeps (packet_in row port frame) (Packets _ refl brings fits)) (sends_keeps frame brings fits) row.actions (quiet s) h
@@ -193,7 +194,7 @@ module _ (x : SwitchInput) (P : SwitchTurn → Type 0) (step : (t t' : SwitchTur
       (notes t t.state.down t.state.sent t.state.rows t.state.results.outcomes (without_dirty t.state.buffer port).dirty h)))
 
   module _ (s : SwitchState) (h : P (quiet s)) where
-    frame_keeps : (port : ℕ) (frame : List ℕ) → Brings x frame → P (on_frame s port frame)
+    frame_keeps : (port : ℕ) (frame : List ℕ) → BringsFrame x frame → P (on_frame s port frame)
     frame_keeps port frame brings =
         either P (list_any (λ p. nat_eq p port) (ports_up s) && is_frame frame) _ _
         (λ fits. row_keeps port frame brings (and_parts (list_any (λ p. nat_eq p port) (ports_up s)) (is_frame frame) fits).1 s (chosen_row s.rows (fields_at port frame)) h)
@@ -208,7 +209,7 @@ module _ (x : SwitchInput) (P : SwitchTurn → Type 0) (step : (t t' : SwitchTur
         (λ _. h)
 
     greets : (t : SwitchTurn) → P t → P (record t { letters = t.letters ++ greetings t.state })
-    greets t k = said t (greetings t.state) (λ l m. let r = among_map (λ c. to_controller c 0 (spoken.Plain plain.Hello)) (range_with_len 0 t.state.controllers) l m in Greets r.0 r.2) k
+    greets t k = said t (greetings t.state) (λ l m. let r = in_map (λ c. to_controller c 0 (spoken.Plain plain.Hello)) (range_with_len 0 t.state.controllers) l m in Greets r.0 r.2) k
 
     restart_keeps : x ≡ switch_input.Local local.Restart → P (on_restart s)
     restart_keeps is =
@@ -218,7 +219,7 @@ module _ (x : SwitchInput) (P : SwitchTurn → Type 0) (step : (t t' : SwitchTur
 
     ticks : (m : Option ℕ) → s.fence.master ≡ m → P (posts s (tick_letters s m))
     ticks None is = either (λ (ls : List (Letter SwitchSays)). P (posts s ls)) (nat_lt 0 (life_of s)) _ _ (λ _. greets (quiet s) h) (λ _. h)
-    ticks (Some c) is = said (quiet s) _ (λ l m. let r = among_map (event_letter c) (first_held s) l m in Tells c r.0 (first_among s r.0 r.1) is r.2) h
+    ticks (Some c) is = said (quiet s) _ (λ l m. let r = in_map (event_letter c) (first_held s) l m in Tells c r.0 (first_among s r.0 r.1) is r.2) h
 
     tick_keeps : P (on_tick s)
     tick_keeps = ticks s.fence.master refl
@@ -242,7 +243,7 @@ module _ (x : SwitchInput) (P : SwitchTurn → Type 0) (step : (t t' : SwitchTur
         P (quiet (fenced s fence)) → P (on_role s c xid role (replies fence c) (replies fence c).answer)
     takes_keeps c xid role generation fence is own k =
         either (λ (ls : List (Letter SwitchSays)). P (posts (fenced s fence) (to_controller c xid (spoken.Plain (plain.RoleReply (role_of fence c) (told_generation fence))) ∷ ls))) (nat_eq role MASTER) _ _
-        (λ master. said _ _ (λ l m. let r = among_map (event_letter c) (first_held s) l m in Tells c r.0 (first_among s r.0 r.1) (own master) r.2) replied)
+        (λ master. said _ _ (λ l m. let r = in_map (event_letter c) (first_held s) l m in Tells c r.0 (first_among s r.0 r.1) (own master) r.2) replied)
         (λ _. replied)
       where
         replied : P (posts (fenced s fence) (to_controller c xid (spoken.Plain (plain.RoleReply (role_of fence c) (told_generation fence))) ∷ []))
@@ -292,7 +293,7 @@ module _ (x : SwitchInput) (P : SwitchTurn → Type 0) (step : (t t' : SwitchTur
     acked_keeps c xid life through is own =
         remembered_keep s.buffer.dirty _
         (said _ (event_letters s.fence.master (coming (cleared s through) (cleared_to s.buffer through - s.buffer.cleared)))
-        (told x (cleared s through) s.fence.master refl _ (λ e m. among_take 8 (cleared s through).buffer.held e (among_drop _ _ e m)))
+        (told x (cleared s through) s.fence.master refl _ (λ e m. in_take 8 (cleared s through).buffer.held e (in_drop _ _ e m)))
         (step (quiet s) _ (Clears c xid life through is own refl) h))
 
   -- a command of the present life
@@ -311,7 +312,7 @@ module _ (x : SwitchInput) (P : SwitchTurn → Type 0) (step : (t t' : SwitchTur
         (λ ports t k. (sends_keeps out.payload brings fits ports t k.0, record { life = k.1.life; fence = k.1.fence; count = k.1.count }))
         out.actions (quiet s) (h, record { life = refl; fence = refl; count = refl })
       where
-        brings : Brings x out.payload
+        brings : BringsFrame x out.payload
         brings = Output c xid life generation number through out (is ∙ ap (λ (o : Order). switch_input.Of c xid (spoken.Ravana (extension.Command life generation number through o))) (sym same)) refl
 
         fits : is_frame out.payload ≡ true

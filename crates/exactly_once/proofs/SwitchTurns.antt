@@ -11,7 +11,10 @@ use Rattle.of_types.specs.declared.numbers.TheConstants.{NO_CHANGE, EQUAL, MASTE
 use Rattle.of_types.specs.Lives.{last_life, switch_up}
 use Rattle.rv_base.specs.declared.journal.Letter.{Letter}
 use Rattle.rv_base.specs.declared.journal.Local.TheVariants as local
-use Rattle.rv_base.proofs.Among.{Among, among_append}
+use Rattle.lists.proofs.Elements.{in_append}
+use Rattle.lists.proofs.Places.{get_prefix}
+use Rattle.lists.proofs.Prefixes.{prefix_filter, prefix_length, prefix_push, prefix_refl, prefix_trans}
+use Rattle.lists.specs.Lists.{IsIn, IsPrefix}
 use Rattle.role_fence.specs.Fence.{Fence, RoleStep, is_stale, may_execute, role_step}
 use Rattle.event_buffer.specs.Buffer.{is_full, next_event}
 use Rattle.of_switch.specs.declared.says.SwitchInput.{SwitchInput}
@@ -21,11 +24,9 @@ use Rattle.of_switch.specs.State.{SwitchState, SwitchTurn, quiet, posts, then_tu
 use Rattle.of_switch.specs.Events.{raised, port_status, remembers, cleared, on_event_ack, tells_ports, next_life, on_restart}
 use Rattle.of_switch.specs.Rules.{on_role, on_role_request, on_extension, switch_turn}
 use Rattle.exactly_once.proofs.SwitchMoves.{IsSaid, Tells, Reports, Roles, Refuses, Answers, Explains, Greets, Forwards, Move, Raises, Says, Notes, Clears as Clearing, Executes, Masters, Fences as Fencing, Restarts, turn_keeps}
-use Rattle.rv_runs.specs.Laws.{IsPrefix}
 use Rattle.exactly_once.specs.Facts.{events_of, executed_of}
 use Rattle.exactly_once.specs.Invariant.{IsWell}
 use Rattle.exactly_once.specs.SwitchTurns.{CarriesOut, Clears, Nothing, Through, Life, Fences, Stays, Asked, Anew, Posts, Event_to_master, Result_to_sender, Answer_to_sender, Fault_to_sender, Greeting, Frame_to_peer, AreSwitchTurns}
-use Rattle.exactly_once.proofs.Lists.{prefix_same, prefix_on, prefix_push, prefix_length, prefix_filter, get_prefix}
 use Rattle.exactly_once.proofs.Switches.{event_at, well_move}
 use Rattle.exactly_once.proofs.Generations.{IsCalm, Carries, turn_carries, life_stays, fence_stays}
 
@@ -110,7 +111,7 @@ module _ (number : ℕ) (s : SwitchState) (x : SwitchInput) where
     pub well : IsWell number t.state
     pub events : IsPrefix s.events t.state.events
     pub life : IsCalm x → life_of t.state ≡ life_of s
-    pub said : (l : Letter SwitchSays) → Among l t.letters → Posts s x t l
+    pub said : (l : Letter SwitchSays) → IsIn l t.letters → Posts s x t l
 
   calm_command : (c xid life generation n through : ℕ) (what : Order) → x ≡ switch_input.Of c xid (spoken.Ravana (extension.Command life generation n through what)) → IsCalm x
   calm_command c xid life generation n through what is =
@@ -155,10 +156,10 @@ module _ (number : ℕ) (s : SwitchState) (x : SwitchInput) where
       let of_state : t'.state ≡ state = ap (λ (y : SwitchTurn). y.state) is in
       record {
         well = well;
-        events = subst (λ (y : SwitchState). IsPrefix s.events y.events) (sym of_state) (prefix_on h.events p);
+        events = subst (λ (y : SwitchState). IsPrefix s.events y.events) (sym of_state) (prefix_trans h.events p);
         life = λ calm. ap (λ (y : SwitchState). life_of y) of_state ∙ lives ∙ h.life calm;
         said = λ l k. posts_more t t' (subst (λ (y : SwitchState). IsPrefix t.state.events y.events) (sym of_state) p) (subst (λ (y : SwitchState). IsPrefix t.state.executed y.executed) (sym of_state) q)
-            (ap (λ (y : SwitchState). y.fence) of_state ∙ same) l (h.said l (subst (λ (ls : List (Letter SwitchSays)). Among l ls) (ap (λ (y : SwitchTurn). y.letters) is) k));
+            (ap (λ (y : SwitchState). y.fence) of_state ∙ same) l (h.said l (subst (λ (ls : List (Letter SwitchSays)). IsIn l ls) (ap (λ (y : SwitchTurn). y.letters) is) k));
       }
 
   -- a first move: nothing was said
@@ -167,39 +168,39 @@ module _ (number : ℕ) (s : SwitchState) (x : SwitchInput) where
       let of_state : t'.state ≡ state = ap (λ (y : SwitchTurn). y.state) is in
       record {
         well = well;
-        events = subst (λ (y : SwitchState). IsPrefix s.events y.events) (sym of_state) (prefix_on h.events p);
+        events = subst (λ (y : SwitchState). IsPrefix s.events y.events) (sym of_state) (prefix_trans h.events p);
         life = λ calm. ap (λ (y : SwitchState). life_of y) of_state ∙ lives calm ∙ h.life calm;
-        said = λ l k. absurd (subst (λ (ls : List (Letter SwitchSays)). Among l ls) (ap (λ (y : SwitchTurn). y.letters) is ∙ first) k);
+        said = λ l k. absurd (subst (λ (ls : List (Letter SwitchSays)). IsIn l ls) (ap (λ (y : SwitchTurn). y.letters) is ∙ first) k);
       }
 
   goes_move : (t t' : SwitchTurn) → Move x t t' → Goes t → Goes t'
   goes_move t t' (Raises what raised is) h =
-      to_state t t' _ is (well_move number x t t' (Raises what raised is) h.well) (prefix_push t.state.events (next_event t.state.buffer what)) (prefix_same t.state.executed) refl refl h
+      to_state t t' _ is (well_move number x t t' (Raises what raised is) h.well) (prefix_push t.state.events (next_event t.state.buffer what)) (prefix_refl t.state.executed) refl refl h
   goes_move t t' (Says ls all is) h =
       let of_state : t'.state ≡ t.state = ap (λ (y : SwitchTurn). y.state) is in
       record {
         well = well_move number x t t' (Says ls all is) h.well;
         events = subst (λ (y : SwitchState). IsPrefix s.events y.events) (sym of_state) h.events;
         life = λ calm. ap (λ (y : SwitchState). life_of y) of_state ∙ h.life calm;
-        said = λ l k. elim (among_append l t.letters ls (subst (λ (m : List (Letter SwitchSays)). Among l m) (ap (λ (y : SwitchTurn). y.letters) is) k)) [
-          | inl m ↦ posts_more t t' (subst (λ (y : SwitchState). IsPrefix t.state.events y.events) (sym of_state) (prefix_same t.state.events)) (subst (λ (y : SwitchState). IsPrefix t.state.executed y.executed) (sym of_state) (prefix_same t.state.executed))
+        said = λ l k. elim (in_append l t.letters ls (subst (λ (m : List (Letter SwitchSays)). IsIn l m) (ap (λ (y : SwitchTurn). y.letters) is) k)) [
+          | inl m ↦ posts_more t t' (subst (λ (y : SwitchState). IsPrefix t.state.events y.events) (sym of_state) (prefix_refl t.state.events)) (subst (λ (y : SwitchState). IsPrefix t.state.executed y.executed) (sym of_state) (prefix_refl t.state.executed))
               (ap (λ (y : SwitchState). y.fence) of_state) l (h.said l m)
           | inr m ↦ said_posts t t' l of_state h (all l m)
         ];
       }
   goes_move t t' (Notes down sent rows outcomes dirty is) h =
-      to_state t t' _ is (well_move number x t t' (Notes down sent rows outcomes dirty is) h.well) (prefix_same t.state.events) (prefix_same t.state.executed) refl refl h
+      to_state t t' _ is (well_move number x t t' (Notes down sent rows outcomes dirty is) h.well) (prefix_refl t.state.events) (prefix_refl t.state.executed) refl refl h
   goes_move t t' (Clearing c xid life through asks own is) h =
-      to_state t t' _ is (well_move number x t t' (Clearing c xid life through asks own is) h.well) (prefix_same t.state.events) (prefix_same t.state.executed) refl refl h
+      to_state t t' _ is (well_move number x t t' (Clearing c xid life through asks own is) h.well) (prefix_refl t.state.events) (prefix_refl t.state.executed) refl refl h
   goes_move t t' (Executes c xid life generation n through what result asks own may next is) h =
       let new : Executed = record { life = life_of t.state; number = n; generation = generation; from = c; order = what } in
-      to_state t t' _ is (well_move number x t t' (Executes c xid life generation n through what result asks own may next is) h.well) (prefix_same t.state.events) (prefix_push t.state.executed new) refl refl h
+      to_state t t' _ is (well_move number x t t' (Executes c xid life generation n through what result asks own may next is) h.well) (prefix_refl t.state.events) (prefix_push t.state.executed new) refl refl h
   goes_move t t' (Masters c xid role generation asks master fresh first is) h =
-      from_silence t t' _ is first (well_move number x t t' (Masters c xid role generation asks master fresh first is) h.well) (prefix_same t.state.events) (λ _. refl) h
+      from_silence t t' _ is first (well_move number x t t' (Masters c xid role generation asks master fresh first is) h.well) (prefix_refl t.state.events) (λ _. refl) h
   goes_move t t' (Fencing c xid role generation fence asks otherwise first is) h =
-      from_silence t t' _ is first (well_move number x t t' (Fencing c xid role generation fence asks otherwise first is) h.well) (prefix_same t.state.events) (λ _. refl) h
+      from_silence t t' _ is first (well_move number x t t' (Fencing c xid role generation fence asks otherwise first is) h.well) (prefix_refl t.state.events) (λ _. refl) h
   goes_move t t' (Restarts asks further first is) h =
-      from_silence t t' _ is first (well_move number x t t' (Restarts asks further first is) h.well) (prefix_same t.state.events) (λ calm. absurd (calm.lives asks)) h
+      from_silence t t' _ is first (well_move number x t t' (Restarts asks further first is) h.well) (prefix_refl t.state.events) (λ calm. absurd (calm.lives asks)) h
 
   executed_by : IsWell number s → (t : SwitchTurn) → Carries x s t → (t.state.executed ≡ s.executed) ⊎ CarriesOut s x t
   executed_by well t h =
@@ -262,7 +263,7 @@ kind_of number s (switch_input.Frame from port frame) = Other (record { asks = �
 
 pub turns_are : AreSwitchTurns
 turns_are number s x well =
-    let r = turn_keeps x (Goes number s x) (goes_move number s x) s (record { well = well; events = prefix_same s.events; life = λ _. refl; said = λ l k. absurd k }) in
+    let r = turn_keeps x (Goes number s x) (goes_move number s x) s (record { well = well; events = prefix_refl s.events; life = λ _. refl; said = λ l k. absurd k }) in
     record {
       well = r.well;
       events = r.events;

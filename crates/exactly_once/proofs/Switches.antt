@@ -16,7 +16,10 @@ use Rattle.of_types.specs.declared.message.Spoken.TheVariants as spoken
 use Rattle.of_types.specs.declared.setup.Setup.{Setup}
 use Rattle.rv_base.specs.declared.journal.Letter.{Letter}
 use Rattle.rv_base.specs.declared.journal.Local.TheVariants as local
-use Rattle.rv_base.proofs.Among.{Among, among_append, among_left, among_right, among_drop}
+use Rattle.lists.proofs.Elements.{filter_has, in_append, in_drop, in_left, in_right}
+use Rattle.lists.proofs.Places.{get_last, get_push, get_zero, in_get, none_of}
+use Rattle.lists.proofs.Prefixes.{filter_more, filter_same, prefix_push, prefix_refl, prefix_trans}
+use Rattle.lists.specs.Lists.{IsIn, IsPrefix}
 use Rattle.two_stage_log.specs.Counts.{processed_of}
 use Rattle.event_buffer.specs.Buffer.{next_event, cleared_to}
 use Rattle.of_switch.specs.declared.says.SwitchInput.{SwitchInput}
@@ -26,24 +29,22 @@ use Rattle.of_switch.specs.State.{SwitchState, SwitchTurn, life_of}
 use Rattle.of_switch.specs.Events.{with_event, cleared, next_life}
 use Rattle.of_switch.specs.Commands.{counted}
 use Rattle.of_switch.specs.Rules.{switch_turn}
-use Rattle.exactly_once.specs.SwitchTurns.{Brings, Wire, Peer, Output}
+use Rattle.exactly_once.specs.SwitchTurns.{BringsFrame, Wire, Peer, Output}
 use Rattle.exactly_once.proofs.SwitchMoves.{is_question, IsRaised, Ports, Packets, IsSaid, Tells, Reports, Roles, Refuses, Answers, Explains, Greets, Forwards, Move, Raises, Says, Notes, Clears, Executes, Masters, Fences, Restarts, turn_keeps}
-use Rattle.rv_runs.specs.Laws.{IsPrefix}
-use Rattle.exactly_once.specs.Facts.{Facts, events_of, executed_of}
+use Rattle.exactly_once.specs.Facts.{PastFacts, events_of, executed_of}
 use Rattle.exactly_once.specs.Truths.{AreBytes, IsGoodHappening, IsMade, IsNumbered, IsTold}
 use Rattle.exactly_once.specs.Invariant.{IsWell, IsSound, IsReport, Reported, Forwarded, IsHeardBySwitch}
-use Rattle.exactly_once.proofs.Lists.{prefix_same, prefix_on, prefix_push, get_push, among_get, filter_among, filter_more, filter_same, none_of, get_zero, get_last}
 use Rattle.exactly_once.proofs.Growing.{report_more}
 
 -- a switch in the midst of a turn
-pub record SwitchKeeps (kinds : List ℕ) (setup : Setup) (f : Facts) (s : ℕ) (start : SwitchState) (t : SwitchTurn) : Type 0 where
+pub record SwitchKeeps (kinds : List ℕ) (setup : Setup) (f : PastFacts) (s : ℕ) (start : SwitchState) (t : SwitchTurn) : Type 0 where
   pub sound : IsSound kinds setup f s t.state
   pub events : IsPrefix start.events t.state.events
   pub executed : IsPrefix start.executed t.state.executed
-  pub said : (l : Letter SwitchSays) → Among l t.letters → IsReport s t.state.events t.state.executed l
+  pub said : (l : Letter SwitchSays) → IsIn l t.letters → IsReport s t.state.events t.state.executed l
 
 -- a controller asks no question
-not_asked : (kinds : List ℕ) (setup : Setup) (f : Facts) (c s : ℕ) (m : OfMessage) → is_question m ≡ true → IsTold kinds setup f c s (spoken.Plain m) → ⊥
+not_asked : (kinds : List ℕ) (setup : Setup) (f : PastFacts) (c s : ℕ) (m : OfMessage) → is_question m ≡ true → IsTold kinds setup f c s (spoken.Plain m) → ⊥
 not_asked kinds setup f c s (plain.EchoRequest body) h k = k
 not_asked kinds setup f c s plain.FeaturesRequest h k = k
 not_asked kinds setup f c s plain.BarrierRequest h k = k
@@ -70,8 +71,8 @@ own_executed : (xs : List Executed) (y : Executed) → executed_of y.life (xs ++
 own_executed xs y = filter_more (λ (e : Executed). nat_eq e.life y.life) xs y (eq-eqb y.life y.life refl)
 
 -- where an event stands among those of its life
-pub event_at : (xs : List Event) (e : Event) → Among e xs → (i : ℕ) × (slice_get (events_of e.life xs) i ≡ Some e)
-event_at xs e h = among_get (events_of e.life xs) e (filter_among (λ (y : Event). nat_eq y.life e.life) xs e h (eq-eqb e.life e.life refl))
+pub event_at : (xs : List Event) (e : Event) → IsIn e xs → (i : ℕ) × (slice_get (events_of e.life xs) i ≡ Some e)
+event_at xs e h = in_get (events_of e.life xs) e (filter_has (λ (y : Event). nat_eq y.life e.life) xs e h (eq-eqb e.life e.life refl))
 
 at_seam : (xs : List ℕ) (y i : ℕ) → i ≡ length xs → get_or (xs ++ y ∷ []) i 0 ≡ y
 at_seam xs y i e = ap (λ (n : ℕ). get_or (xs ++ y ∷ []) n 0) e ∙ seam xs y
@@ -101,9 +102,9 @@ module _ (s : ℕ) where
               ]
           | inr other ↦ h.made life i y (ap (λ (l : List Event). slice_get l i) (sym other) ∙ at)
         ];
-        held = λ y k. elim (among_append y state.buffer.held (e ∷ []) k) [
-          | inl old ↦ among_left y state.events (e ∷ []) (h.held y old)
-          | inr new ↦ among_right y state.events (e ∷ []) new
+        held = λ y k. elim (in_append y state.buffer.held (e ∷ []) k) [
+          | inl old ↦ in_left y state.events (e ∷ []) (h.held y old)
+          | inr new ↦ in_right y state.events (e ∷ []) new
         ];
         next = omega (arith, next, ap (λ (l : List Event). length l) seam, length-append (events_of (life_of state) state.events) (e ∷ []), length-append state.buffer.held (e ∷ []));
         done = h.done;
@@ -119,7 +120,7 @@ module _ (s : ℕ) where
         number_is = h.number_is;
         lives = h.lives;
         made = h.made;
-        held = λ y k. h.held y (among_drop gone state.buffer.held y k);
+        held = λ y k. h.held y (in_drop gone state.buffer.held y k);
         next = omega (arith, next, length-drop gone state.buffer.held);
         done = h.done;
         count = h.count;
@@ -182,12 +183,12 @@ module _ (s : ℕ) where
       subst (λ (y : SwitchTurn). IsWell s y.state) (sym is) (record { number_is = h.number_is; lives = h.lives; made = h.made; held = h.held; next = h.next; done = h.done; count = h.count })
   well_move x t t' (Restarts asks further first is) h = subst (λ (y : SwitchTurn). IsWell s y.state) (sym is) (well_restarts t.state h)
 
-module _ (kinds : List ℕ) (setup : Setup) (f : Facts) (s : ℕ) (x : SwitchInput) (heard : IsHeardBySwitch kinds setup f s x) where
+module _ (kinds : List ℕ) (setup : Setup) (f : PastFacts) (s : ℕ) (x : SwitchInput) (heard : IsHeardBySwitch kinds setup f s x) where
   hears : (y : SwitchInput) → x ≡ y → IsHeardBySwitch kinds setup f s y
   hears y is = subst (λ (z : SwitchInput). IsHeardBySwitch kinds setup f s z) is heard
 
   -- a frame that is brought is of bytes
-  brought : (frame : List ℕ) → Brings x frame → AreBytes frame
+  brought : (frame : List ℕ) → BringsFrame x frame → AreBytes frame
   brought frame (Wire port is) = hears (switch_input.Local (local.Frame port frame)) is
   brought frame (Peer from port is) = (hears (switch_input.Frame from port frame) is).1
   brought frame (Output c xid life generation number through out is same) =
@@ -225,14 +226,14 @@ module _ (kinds : List ℕ) (setup : Setup) (f : Facts) (s : ℕ) (x : SwitchInp
         IsPrefix t.state.executed state.executed → SwitchKeeps kinds setup f s start t → SwitchKeeps kinds setup f s start t'
     to_state t t' state is sound p q h =
         subst (λ (y : SwitchTurn). SwitchKeeps kinds setup f s start y) (sym is)
-        (record { sound = sound; events = prefix_on h.events p; executed = prefix_on h.executed q; said = λ l k. report_more s p q l (h.said l k) })
+        (record { sound = sound; events = prefix_trans h.events p; executed = prefix_trans h.executed q; said = λ l k. report_more s p q l (h.said l k) })
 
     -- one more event
     sound_raises : (state : SwitchState) (what : Happening) → IsGoodHappening what → IsSound kinds setup f s state → IsSound kinds setup f s (with_event state what)
     sound_raises state what good h =
         record {
           well = well_raises s state what h.well;
-          good = λ y k. elim (among_append y state.events (next_event state.buffer what ∷ []) k) [
+          good = λ y k. elim (in_append y state.events (next_event state.buffer what ∷ []) k) [
             | inl old ↦ h.good y old
             | inr new ↦ elim new [ inl is ↦ subst (λ (z : Event). IsGoodHappening z.what) (sym is) good | inr none ↦ absurd none ]
           ];
@@ -293,39 +294,39 @@ module _ (kinds : List ℕ) (setup : Setup) (f : Facts) (s : ℕ) (x : SwitchInp
 
     kept_by : (t t' : SwitchTurn) → Move x t t' → SwitchKeeps kinds setup f s start t → SwitchKeeps kinds setup f s start t'
     kept_by t t' (Raises what raised is) h =
-        to_state t t' _ is (sound_raises t.state what (raised_good what raised) h.sound) (prefix_push t.state.events (next_event t.state.buffer what)) (prefix_same t.state.executed) h
+        to_state t t' _ is (sound_raises t.state what (raised_good what raised) h.sound) (prefix_push t.state.events (next_event t.state.buffer what)) (prefix_refl t.state.executed) h
     kept_by t t' (Says ls all is) h =
         subst (λ (y : SwitchTurn). SwitchKeeps kinds setup f s start y) (sym is)
         (record {
           sound = h.sound;
           events = h.events;
           executed = h.executed;
-          said = λ l k. elim (among_append l t.letters ls k) [ inl m ↦ h.said l m | inr m ↦ report t.state l h.sound (all l m) ];
+          said = λ l k. elim (in_append l t.letters ls k) [ inl m ↦ h.said l m | inr m ↦ report t.state l h.sound (all l m) ];
         })
     kept_by t t' (Notes down sent rows outcomes dirty is) h =
         to_state t t' _ is
         (record { well = well_move s x t _ (Notes down sent rows outcomes dirty refl) h.sound.well; good = h.sound.good; issued = h.sound.issued; dropped = h.sound.dropped })
-        (prefix_same t.state.events) (prefix_same t.state.executed) h
+        (prefix_refl t.state.events) (prefix_refl t.state.executed) h
     kept_by t t' (Clears c xid life through asks own is) h =
         let told : IsTold kinds setup f c s (spoken.Ravana (extension.EventAck life through)) = hears (switch_input.Of c xid (spoken.Ravana (extension.EventAck life through))) asks in
-        to_state t t' _ is (sound_clears t.state life through (eqb-true life (life_of t.state) own) told h.sound) (prefix_same t.state.events) (prefix_same t.state.executed) h
+        to_state t t' _ is (sound_clears t.state life through (eqb-true life (life_of t.state) own) told h.sound) (prefix_refl t.state.events) (prefix_refl t.state.executed) h
     kept_by t t' (Executes c xid life generation number through what result asks own may next is) h =
         let told : IsTold kinds setup f c s (spoken.Ravana (extension.Command life generation number through what)) = hears (switch_input.Of c xid (spoken.Ravana (extension.Command life generation number through what))) asks in
         let new : Executed = record { life = life_of t.state; number = number; generation = generation; from = c; order = what } in
         to_state t t' _ is
         (sound_executes t.state c life generation number what result (eqb-true life (life_of t.state) own) (eqb-true number t.state.results.executed next) told.0.stands h.sound)
-        (prefix_same t.state.events) (prefix_push t.state.executed new) h
+        (prefix_refl t.state.events) (prefix_push t.state.executed new) h
     kept_by t t' (Masters c xid role generation asks master fresh first is) h =
         to_state t t' _ is
         (record { well = well_move s x t _ (Masters c xid role generation asks master fresh first refl) h.sound.well; good = h.sound.good; issued = h.sound.issued; dropped = h.sound.dropped })
-        (prefix_same t.state.events) (prefix_same t.state.executed) h
+        (prefix_refl t.state.events) (prefix_refl t.state.executed) h
     kept_by t t' (Fences c xid role generation fence asks other first is) h =
         to_state t t' _ is
         (record { well = well_move s x t _ (Fences c xid role generation fence asks other first refl) h.sound.well; good = h.sound.good; issued = h.sound.issued; dropped = h.sound.dropped })
-        (prefix_same t.state.events) (prefix_same t.state.executed) h
+        (prefix_refl t.state.events) (prefix_refl t.state.executed) h
     kept_by t t' (Restarts asks further first is) h =
-        to_state t t' _ is (sound_restarts t.state h.sound) (prefix_same t.state.events) (prefix_same t.state.executed) h
+        to_state t t' _ is (sound_restarts t.state h.sound) (prefix_refl t.state.events) (prefix_refl t.state.executed) h
 
     pub switch_keeps : IsSound kinds setup f s start → SwitchKeeps kinds setup f s start (switch_turn start x)
     switch_keeps sound = turn_keeps x (SwitchKeeps kinds setup f s start) kept_by start
-        (record { sound = sound; events = prefix_same start.events; executed = prefix_same start.executed; said = λ l k. absurd k })
+        (record { sound = sound; events = prefix_refl start.events; executed = prefix_refl start.executed; said = λ l k. absurd k })

@@ -10,11 +10,11 @@ use Rattle.vr_log.specs.declared.entry.Entry.{Entry}
 use Rattle.of_switch.specs.State.{SwitchState}
 use Rattle.rv_runs.specs.States.{Scene, SwitchAt, switch_at}
 use Rattle.rv_runs.specs.Committed.{decided}
-use Rattle.rv_runs.specs.Laws.{IsPrefix}
+use Rattle.lists.specs.Lists.{IsPrefix}
 
 -- the log that is decided, and of each switch the events that it made and the commands that it carried out, in all
 -- its lives
-pub record Facts : Type 0 where
+pub record PastFacts : Type 0 where
   pub decided : List Entry
   pub events : ℕ → List Event
   pub executed : ℕ → List Executed
@@ -31,7 +31,7 @@ abbrev pub firm : SwitchAt → SwitchState
 firm w = if w.fresh then w.before else w.now
 
 -- the facts of a past
-abbrev pub facts_of : {B : Type 0} → Scene B → List (List SaveResult) → List (JournalEntry B) → Facts
+abbrev pub facts_of : {B : Type 0} → Scene B → List (List SaveResult) → List (JournalEntry B) → PastFacts
 facts_of scene results entries =
     record {
       decided = decided scene results entries;
@@ -40,7 +40,7 @@ facts_of scene results entries =
     }
 
 -- facts of a later moment
-pub record Later (f g : Facts) : Type 0 where
+pub record Later (f g : PastFacts) : Type 0 where
   pub decided : IsPrefix f.decided g.decided
   pub events : (s : ℕ) → IsPrefix (f.events s) (g.events s)
   pub executed : (s : ℕ) → IsPrefix (f.executed s) (g.executed s)

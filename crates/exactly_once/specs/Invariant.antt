@@ -1,6 +1,6 @@
 -- What holds after each past, clause by clause: of each switch, of each controller, and of each packet. Each
 -- clause is about one entry of a log with its place, one letter or one switch, wherever it stands.
-use Rattle.std.specs.Prelude.{◌≡◌, ◌<◌, ◌≤◌, ℕ, ◌+◌, true, List, [], ◌∷◌, length, slice_get, Some}
+use Rattle.std.specs.Prelude.{◌≡◌, ◌<◌, ◌≤◌, ◌^◌, ℕ, ◌+◌, true, List, [], ◌∷◌, length, slice_get, Some}
 use Rattle.of_types.specs.declared.message.Event.{Event}
 use Rattle.of_types.specs.declared.message.Executed.{Executed}
 use Rattle.of_types.specs.declared.message.Spoken.{Spoken}
@@ -13,7 +13,7 @@ use Rattle.rv_base.specs.declared.journal.Packet.{Packet}
 use Rattle.rv_base.specs.declared.journal.SaveResult.{SaveResult}
 use Rattle.rv_base.specs.Part.{part}
 use Rattle.rv_base.specs.Pool.{pool}
-use Rattle.rv_base.proofs.Among.{Among}
+use Rattle.lists.specs.Lists.{IsIn, IsPrefix}
 use Rattle.vr_log.specs.declared.entry.Entry.{Entry}
 use Rattle.vr_log.specs.declared.message.Filled.{Filled}
 use Rattle.vr_log.specs.declared.message.VrMessage.{VrMessage}
@@ -23,6 +23,7 @@ use Rattle.vr_log.specs.declared.state.Response.{Response}
 use Rattle.vr_log.specs.declared.state.Supplied.{Supplied}
 use Rattle.vr_log.specs.declared.state.VrState.{VrState}
 use Rattle.vr_log.specs.Sizes.{IsValidVr}
+use Rattle.vr_codec.specs.Fits.{FitsVr}
 use Rattle.two_stage_log.specs.Counts.{processed_of}
 use Rattle.event_buffer.specs.Buffer.{next_number}
 use Rattle.of_switch.specs.declared.says.SwitchInput.{SwitchInput}
@@ -34,13 +35,13 @@ use Rattle.group_controller.specs.declared.messages.ControllerInput.{ControllerI
 use Rattle.group_controller.specs.declared.messages.ControllerInput.TheVariants as controller_input
 use Rattle.group_controller.specs.declared.messages.ControllerSays.{ControllerSays}
 use Rattle.group_controller.specs.State.{ControllerState, to_switch, to_member}
+use Rattle.controller_laws.specs.Views.{StateViews}
 use Rattle.rv_runs.specs.declared.messages.Message.TheVariants as message
 use Rattle.rv_runs.specs.declared.messages.Unsealed.{Unsealed}
 use Rattle.rv_runs.specs.declared.messages.Unsealed.TheVariants as unsealed
 use Rattle.rv_runs.specs.States.{Scene, SwitchAt, ControllerAt, switch_at, controller_at, content}
 use Rattle.rv_runs.specs.Legal.{IsTurn, FitsTypes, results_of}
-use Rattle.rv_runs.specs.Laws.{IsPrefix}
-use Rattle.exactly_once.specs.Facts.{Facts, facts_of, events_of, executed_of}
+use Rattle.exactly_once.specs.Facts.{PastFacts, facts_of, events_of, executed_of}
 use Rattle.exactly_once.specs.Truths.{IsGoodFrame, IsGoodHappening, IsMade, IsTrueEntry, IsAhead, IsNumbered, IsTold, IsReported}
 
 -- an entry stands at a place of a log, of whose entries these are the ones from there on
@@ -61,8 +62,8 @@ HasEntry _ i e = ⊥
 -- was fetched
 pub data HoldsEntry (s : VrState) (i : ℕ) (e : Entry) : Type 0 where
   Logged : slice_get s.log i ≡ Some e → HoldsEntry s i e
-  Gathered : (c : Collected) → Among c s.collected → StandsFrom c.commit c.log i e → HoldsEntry s i e
-  Answered : (r : Response) (filled : Filled) → Among r s.responses → r.filled ≡ Some filled → StandsFrom 0 filled.log i e → HoldsEntry s i e
+  Gathered : (c : Collected) → IsIn c s.collected → StandsFrom c.commit c.log i e → HoldsEntry s i e
+  Answered : (r : Response) (filled : Filled) → IsIn r s.responses → r.filled ≡ Some filled → StandsFrom 0 filled.log i e → HoldsEntry s i e
   Fetched : (p : Supplied) → s.supply ≡ Some p → StandsFrom p.first p.log i e → HoldsEntry s i e
 
 -- the commit numbers that a message tells, each with the entries beside it. Supplied entries are all committed
@@ -79,8 +80,8 @@ HasAhead _ k entries = ⊥
 -- and those that a member holds
 pub data HoldsAhead (s : VrState) (k : ℕ) (entries : List Entry) : Type 0 where
   Own : k ≡ s.commit → entries ≡ s.log → HoldsAhead s k entries
-  Collects : (c : Collected) → Among c s.collected → k ≡ c.commit → entries ≡ c.log → HoldsAhead s k entries
-  Answers : (r : Response) (filled : Filled) → Among r s.responses → r.filled ≡ Some filled → k ≡ filled.commit → entries ≡ filled.log → HoldsAhead s k entries
+  Collects : (c : Collected) → IsIn c s.collected → k ≡ c.commit → entries ≡ c.log → HoldsAhead s k entries
+  Answers : (r : Response) (filled : Filled) → IsIn r s.responses → r.filled ≡ Some filled → k ≡ filled.commit → entries ≡ filled.log → HoldsAhead s k entries
   Supplies : (p : Supplied) → s.supply ≡ Some p → k ≡ p.first + length p.log → entries ≡ p.log → HoldsAhead s k entries
 
 -- a switch's lists, counts and lives fit one another: each event and each command has its place of its life as number
@@ -88,16 +89,16 @@ pub record IsWell (s : ℕ) (state : SwitchState) : Type 0 where
   pub number_is : number_of state ≡ s
   pub lives : length state.ended ≡ life_of state
   pub made : (life i : ℕ) (e : Event) → slice_get (events_of life state.events) i ≡ Some e → (life ≤ life_of state) × IsMade s life i e
-  pub held : (e : Event) → Among e state.buffer.held → Among e state.events
+  pub held : (e : Event) → IsIn e state.buffer.held → IsIn e state.events
   pub next : next_number state.buffer ≡ length (events_of (life_of state) state.events)
   pub done : (life i : ℕ) (x : Executed) → slice_get (executed_of life state.executed) i ≡ Some x → (life ≤ life_of state) × (x.number ≡ i)
   pub count : state.results.executed ≡ length (executed_of (life_of state) state.executed)
 
 -- a switch holds the events that it made, life after life and in order; it carried out the commands that were issued
 -- to each of its lives, in order; and only processed events have left its buffer
-pub record IsSound (kinds : List ℕ) (setup : Setup) (f : Facts) (s : ℕ) (state : SwitchState) : Type 0 where
+pub record IsSound (kinds : List ℕ) (setup : Setup) (f : PastFacts) (s : ℕ) (state : SwitchState) : Type 0 where
   pub well : IsWell s state
-  pub good : (e : Event) → Among e state.events → IsGoodHappening e.what
+  pub good : (e : Event) → IsIn e state.events → IsGoodHappening e.what
   pub issued : (life i : ℕ) (x : Executed) → slice_get (executed_of life state.executed) i ≡ Some x → IsNumbered kinds setup f s life i x.order
   pub dropped : (life : ℕ) → cleared_in state life ≤ processed_of f.decided s life
 
@@ -109,54 +110,56 @@ pub data IsReport (s : ℕ) (events : List Event) (executed : List Executed) (l 
       IsGoodFrame frame → IsReport s events executed l
 
 -- a switch, before and after what may be its open input
-pub record IsSoundAt (kinds : List ℕ) (setup : Setup) (f : Facts) (s : ℕ) (w : SwitchAt) : Type 0 where
+pub record IsSoundAt (kinds : List ℕ) (setup : Setup) (f : PastFacts) (s : ℕ) (w : SwitchAt) : Type 0 where
   pub now : IsSound kinds setup f s w.now
   pub before : IsSound kinds setup f s w.before
   pub events : IsPrefix w.before.events w.now.events
   pub executed : IsPrefix w.before.executed w.now.executed
-  pub owed : (l : Letter SwitchSays) → Among l w.owed → IsReport s w.now.events w.now.executed l
+  pub owed : (l : Letter SwitchSays) → IsIn l w.owed → IsReport s w.now.events w.now.executed l
 
--- the entries of a controller tell the truth, wherever it holds them, and its marks are of commands that are carried out
-pub record IsHonest (kinds : List ℕ) (setup : Setup) (f : Facts) (state : ControllerState) : Type 0 where
+-- the entries of a controller tell the truth, wherever it holds them, its marks are of commands that are carried out, and
+-- the views that it knows fit their type
+pub record IsHonest (kinds : List ℕ) (setup : Setup) (f : PastFacts) (state : ControllerState) : Type 0 where
   pub entries : (i : ℕ) (e : Entry) → HoldsEntry state.vr i e → IsTrueEntry kinds setup f i e
-  pub marks : (s life i : ℕ) → Among (s, life, i) state.marks.acked → i < length (executed_of life (f.executed s))
+  pub marks : (s life i : ℕ) → IsIn (s, life, i) state.marks.acked → i < length (executed_of life (f.executed s))
   pub ahead : (k : ℕ) (entries : List Entry) → HoldsAhead state.vr k entries → IsAhead f k entries
+  pub views : StateViews (λ view. view < 2 ^ 32) state.vr
 
 -- a message between members tells the truth, and can be spelled
-pub record IsTrueVr (kinds : List ℕ) (setup : Setup) (f : Facts) (m : VrMessage) : Type 0 where
+pub record IsTrueVr (kinds : List ℕ) (setup : Setup) (f : PastFacts) (m : VrMessage) : Type 0 where
   pub entries : (i : ℕ) (e : Entry) → HasEntry m i e → IsTrueEntry kinds setup f i e
   pub ahead : (k : ℕ) (entries : List Entry) → HasAhead m k entries → IsAhead f k entries
   pub spelled : IsValidVr m
 
 -- a letter of a controller tells the truth
-pub data IsOrder (kinds : List ℕ) (setup : Setup) (f : Facts) (c : ℕ) (l : Letter ControllerSays) : Type 0 where
+pub data IsOrder (kinds : List ℕ) (setup : Setup) (f : PastFacts) (c : ℕ) (l : Letter ControllerSays) : Type 0 where
   ToSwitch : (switch xid : ℕ) (said : Spoken) → l ≡ to_switch switch xid said → IsTold kinds setup f c switch said → IsOrder kinds setup f c l
   ToMember : (d : ℕ) (m : VrMessage) → l ≡ to_member (record { to = d; message = m }) → IsTrueVr kinds setup f m → IsOrder kinds setup f c l
 
-pub record IsHonestAt (kinds : List ℕ) (setup : Setup) (f : Facts) (c : ℕ) (w : ControllerAt) : Type 0 where
+pub record IsHonestAt (kinds : List ℕ) (setup : Setup) (f : PastFacts) (c : ℕ) (w : ControllerAt) : Type 0 where
   pub now : IsHonest kinds setup f w.now
-  pub owed : (l : Letter ControllerSays) → Among l w.owed → IsOrder kinds setup f c l
+  pub owed : (l : Letter ControllerSays) → IsIn l w.owed → IsOrder kinds setup f c l
 
--- a packet tells the truth
-abbrev pub IsTrueBetween : List ℕ → Setup → Facts → Actor → Actor → Unsealed → Type 0
+-- a packet tells the truth; of a message between members each number fits its field
+abbrev pub IsTrueBetween : List ℕ → Setup → PastFacts → Actor → Actor → Unsealed → Type 0
 IsTrueBetween kinds setup f (actor.Controller c) (actor.Switch s) (unsealed.Message (message.Of xid said)) = IsTold kinds setup f c s said
-IsTrueBetween kinds setup f (actor.Controller c) (actor.Controller d) (unsealed.Message (message.Vr m)) = IsTrueVr kinds setup f m
+IsTrueBetween kinds setup f (actor.Controller c) (actor.Controller d) (unsealed.Message (message.Vr m)) = IsTrueVr kinds setup f m × FitsVr m
 IsTrueBetween kinds setup f (actor.Switch s) (actor.Controller c) (unsealed.Message (message.Of xid said)) =
     (s < length setup.ports) × IsReported s (f.events s) (f.executed s) said
 IsTrueBetween kinds setup f (actor.Switch s) (actor.Switch t) (unsealed.Message (message.Frame port frame)) = IsGoodFrame frame
 IsTrueBetween kinds setup f from to u = ⊥
 
 -- what a switch hears is true
-abbrev pub IsHeardBySwitch : List ℕ → Setup → Facts → ℕ → SwitchInput → Type 0
+abbrev pub IsHeardBySwitch : List ℕ → Setup → PastFacts → ℕ → SwitchInput → Type 0
 IsHeardBySwitch kinds setup f s (switch_input.Local input) = FitsTypes input
 IsHeardBySwitch kinds setup f s (switch_input.Of c xid said) = IsTold kinds setup f c s said
 IsHeardBySwitch kinds setup f s (switch_input.Frame from port frame) = IsGoodFrame frame
 IsHeardBySwitch kinds setup f s (switch_input.Malformed from kind code xid head) = ⊥
 
-abbrev pub IsHeardByController : List ℕ → Setup → Facts → ControllerInput → Type 0
+abbrev pub IsHeardByController : List ℕ → Setup → PastFacts → ControllerInput → Type 0
 IsHeardByController kinds setup f (controller_input.Local input) = FitsTypes input
 IsHeardByController kinds setup f (controller_input.Of s xid said) = (s < length setup.ports) × IsReported s (f.events s) (f.executed s) said
-IsHeardByController kinds setup f (controller_input.Vr from m) = IsTrueVr kinds setup f m
+IsHeardByController kinds setup f (controller_input.Vr from m) = IsTrueVr kinds setup f m × FitsVr m
 IsHeardByController kinds setup f (controller_input.Malformed from) = ⊥
 
 -- all of it
@@ -164,4 +167,4 @@ pub record Holds {B : Type 0} (scene : Scene B) (results : List (List SaveResult
   pub switches : (s : ℕ) → s < length scene.setup.ports → IsSoundAt scene.kinds scene.setup (facts_of scene results entries) s (switch_at scene s (part (actor.Switch s) entries))
   pub turns : (s : ℕ) → s < length scene.setup.ports → IsTurn (part (actor.Switch s) entries) → (switch_at scene s (part (actor.Switch s) entries)).fresh ≡ true
   pub controllers : (c : ℕ) → c < scene.setup.controllers → IsHonestAt scene.kinds scene.setup (facts_of scene results entries) c (controller_at scene (results_of results c) c (part (actor.Controller c) entries))
-  pub packets : (p : Packet B) → Among p (pool entries) → IsTrueBetween scene.kinds scene.setup (facts_of scene results entries) p.from p.to (content scene.sealing p)
+  pub packets : (p : Packet B) → IsIn p (pool entries) → IsTrueBetween scene.kinds scene.setup (facts_of scene results entries) p.from p.to (content scene.sealing p)

@@ -20,7 +20,7 @@ use Rattle.rv_base.specs.declared.journal.Packet.{Packet}
 use Rattle.rv_base.specs.declared.journal.SaveResult.{SaveResult}
 use Rattle.rv_base.specs.Actors.{same_actor, actor_of}
 use Rattle.rv_base.specs.Part.{drawn}
-use Rattle.rv_base.proofs.Among.{Among}
+use Rattle.lists.specs.Lists.{IsIn, IsPrefix}
 use Rattle.vr_log.specs.declared.entry.Entry.{Entry}
 use Rattle.vr_log.specs.declared.entry.Entry.TheVariants.{Received, Processed}
 use Rattle.vr_log.specs.declared.message.VrMessage.{VrMessage}
@@ -39,7 +39,6 @@ use Rattle.group_controller.specs.Rules.{controller_work}
 use Rattle.rv_runs.specs.States.{Scene, controller_hears, content}
 use Rattle.rv_runs.specs.Legal.{IsPossible}
 use Rattle.rv_runs.specs.Committed.{controller_state, kept}
-use Rattle.rv_runs.specs.Laws.{IsPrefix}
 use Rattle.exactly_once.specs.Facts.{facts_of}
 use Rattle.exactly_once.specs.Invariant.{HasEntry, HoldsEntry, HasAhead, HoldsAhead, IsHonest, IsHeardByController, Holds}
 
@@ -51,7 +50,7 @@ pub data IsHeard {B : Type 0} (scene : Scene B) (e : JournalEntry B) (found : Op
 -- a result that a controller holds, or that its input brings
 abbrev pub IsMarked : ControllerState → ControllerInput → ℕ → ℕ → ℕ → Type 0
 IsMarked c x switch life number =
-    Among (switch, life, number) c.marks.acked
+    IsIn (switch, life, number) c.marks.acked
     ⊎ ((xid : ℕ) × (result : Outcome) × (x ≡ controller_input.Of switch xid (spoken.Ravana (extension.CmdAck life number result))))
 
 -- a committed log that a controller had at some moment of a turn: a beginning of what it has committed at its end
@@ -60,14 +59,14 @@ pub record IsMoment (work : Work) (log : List Entry) : Type 0 where
   pub front : IsPrefix log (committed work.state)
 
 -- where an entry comes from that a controller holds, or tells of, after a turn
-pub data ComesFrom (kinds : List ℕ) (setup : Setup) (c : ControllerState) (x : ControllerInput) (i : ℕ) (e : Entry) : Type 0 where
-  Was : HoldsEntry c.vr i e → ComesFrom kinds setup c x i e
-  Came : (from : ℕ) (m : VrMessage) → x ≡ controller_input.Vr from m → HasEntry m i e → ComesFrom kinds setup c x i e
+pub data HasSource (kinds : List ℕ) (setup : Setup) (c : ControllerState) (x : ControllerInput) (i : ℕ) (e : Entry) : Type 0 where
+  Was : HoldsEntry c.vr i e → HasSource kinds setup c x i e
+  Came : (from : ℕ) (m : VrMessage) → x ≡ controller_input.Vr from m → HasEntry m i e → HasSource kinds setup c x i e
   Logs : (switch xid life number : ℕ) (what : Happening) → x ≡ controller_input.Of switch xid (spoken.Ravana (extension.Event life number what)) →
-      e ≡ Received (record { switch = switch; life = life; number = number; what = what }) → ComesFrom kinds setup c x i e
+      e ≡ Received (record { switch = switch; life = life; number = number; what = what }) → HasSource kinds setup c x i e
   Finishes : (log : List Entry) → IsMoment (controller_work kinds setup c x) log → length log ≤ i → processed log < length (received log) → e ≡ Processed (processed log) →
-      ((y : Issued) → Among y (commands_of kinds setup (received log) (processed log)) →
-      IsMarked c x y.switch y.life y.number ⊎ (has_ended y.switch y.life (received log) ≡ true)) → ComesFrom kinds setup c x i e
+      ((y : Issued) → IsIn y (commands_of kinds setup (received log) (processed log)) →
+      IsMarked c x y.switch y.life y.number ⊎ (has_ended y.switch y.life (received log) ≡ true)) → HasSource kinds setup c x i e
 
 -- what bounds a commit number that a controller holds, or tells, after a turn
 pub data BoundBy (kinds : List ℕ) (setup : Setup) (c : ControllerState) (x : ControllerInput) (k : ℕ) : Type 0 where
@@ -77,18 +76,18 @@ pub data BoundBy (kinds : List ℕ) (setup : Setup) (c : ControllerState) (x : C
 
 -- where an event stood as processed that does so beside a commit number: beside a lower one, or it is proposed
 pub data OneBy (kinds : List ℕ) (setup : Setup) (c : ControllerState) (x : ControllerInput) (k j : ℕ) : Type 0 where
-  One_held : (k0 : ℕ) (entries : List Entry) → HoldsAhead c.vr k0 entries → k0 ≤ k → Among (Processed j) entries → OneBy kinds setup c x k j
-  One_told : (from : ℕ) (m : VrMessage) (k0 : ℕ) (entries : List Entry) → x ≡ controller_input.Vr from m → HasAhead m k0 entries → k0 ≤ k → Among (Processed j) entries → OneBy kinds setup c x k j
+  One_held : (k0 : ℕ) (entries : List Entry) → HoldsAhead c.vr k0 entries → k0 ≤ k → IsIn (Processed j) entries → OneBy kinds setup c x k j
+  One_told : (from : ℕ) (m : VrMessage) (k0 : ℕ) (entries : List Entry) → x ≡ controller_input.Vr from m → HasAhead m k0 entries → k0 ≤ k → IsIn (Processed j) entries → OneBy kinds setup c x k j
   One_proposed : (log : List Entry) → IsMoment (controller_work kinds setup c x) log → length log ≤ k → processed log < length (received log) → j ≡ processed log → OneBy kinds setup c x k j
 
 pub record IsAheadBy (kinds : List ℕ) (setup : Setup) (c : ControllerState) (x : ControllerInput) (k : ℕ) (entries : List Entry) : Type 0 where
   pub bound : BoundBy kinds setup c x k
-  pub one : (j : ℕ) → Among (Processed j) entries → OneBy kinds setup c x k j
+  pub one : (j : ℕ) → IsIn (Processed j) entries → OneBy kinds setup c x k j
 
 -- what a turn says to a switch
 pub data IsSent (kinds : List ℕ) (setup : Setup) (me : ℕ) (c : ControllerState) (x : ControllerInput) (switch : ℕ) (said : Spoken) : Type 0 where
   Asks : (generation : ℕ) → generation < 2 ^ 32 → generation % setup.controllers ≡ me → said ≡ spoken.Plain (plain.RoleRequest MASTER generation) → IsSent kinds setup me c x switch said
-  Commands : (log : List Entry) (y : Issued) (generation : ℕ) → IsMoment (controller_work kinds setup c x) log → Among y (commands_of kinds setup (received log) (processed log)) → y.switch ≡ switch →
+  Commands : (log : List Entry) (y : Issued) (generation : ℕ) → IsMoment (controller_work kinds setup c x) log → IsIn y (commands_of kinds setup (received log) (processed log)) → y.switch ≡ switch →
       generation % setup.controllers ≡ me →
       said ≡ spoken.Ravana (extension.Command y.life generation y.number (settled_commands kinds setup log y.switch y.life) y.order) → IsSent kinds setup me c x switch said
   Acknowledges : (log : List Entry) (life : ℕ) → IsMoment (controller_work kinds setup c x) log → said ≡ spoken.Ravana (extension.EventAck life (processed_of log switch life)) → IsSent kinds setup me c x switch said
@@ -98,14 +97,14 @@ pub data IsSent (kinds : List ℕ) (setup : Setup) (me : ℕ) (c : ControllerSta
 -- a letter of a turn: to a switch, or to a member, which can be spelled if its entries can, and whose entries come from somewhere
 pub data IsPosting (kinds : List ℕ) (setup : Setup) (me : ℕ) (c : ControllerState) (x : ControllerInput) (l : Letter ControllerSays) : Type 0 where
   Switches : (switch xid : ℕ) (said : Spoken) → l ≡ to_switch switch xid said → IsSent kinds setup me c x switch said → IsPosting kinds setup me c x l
-  Members : (d : ℕ) (m : VrMessage) → l ≡ to_member (record { to = d; message = m }) → (((i : ℕ) (e : Entry) → HasEntry m i e → IsValidEntry e) → IsValidVr m) → ((i : ℕ) (e : Entry) → HasEntry m i e → ComesFrom kinds setup c x i e) →
+  Members : (d : ℕ) (m : VrMessage) → l ≡ to_member (record { to = d; message = m }) → (((i : ℕ) (e : Entry) → HasEntry m i e → IsValidEntry e) → IsValidVr m) → ((i : ℕ) (e : Entry) → HasEntry m i e → HasSource kinds setup c x i e) →
       ((k : ℕ) (entries : List Entry) → HasAhead m k entries → IsAheadBy kinds setup c x k entries) → IsPosting kinds setup me c x l
 
 -- one turn of a controller: no entry and no letter comes from nowhere. (That no mark does is proved of every turn.)
 pub record IsGoodTurn (kinds : List ℕ) (setup : Setup) (me : ℕ) (c : ControllerState) (x : ControllerInput) : Type 0 where
-  pub entries : (i : ℕ) (e : Entry) → HoldsEntry (controller_work kinds setup c x).state.vr i e → ComesFrom kinds setup c x i e
+  pub entries : (i : ℕ) (e : Entry) → HoldsEntry (controller_work kinds setup c x).state.vr i e → HasSource kinds setup c x i e
   pub ahead : (k : ℕ) (entries : List Entry) → HoldsAhead (controller_work kinds setup c x).state.vr k entries → IsAheadBy kinds setup c x k entries
-  pub letters : (l : Letter ControllerSays) → Among l (controller_work kinds setup c x).letters → IsPosting kinds setup me c x l
+  pub letters : (l : Letter ControllerSays) → IsIn l (controller_work kinds setup c x).letters → IsPosting kinds setup me c x l
 
 -- one of two lists is the beginning of the other
 abbrev pub AreOne : {A : Type 0} → List A → List A → Type 0

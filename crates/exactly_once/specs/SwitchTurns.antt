@@ -14,7 +14,7 @@ use Rattle.of_types.specs.Lives.{last_life}
 use Rattle.rv_base.specs.declared.journal.Actor.TheVariants as actor
 use Rattle.rv_base.specs.declared.journal.Letter.{Letter}
 use Rattle.rv_base.specs.declared.journal.Local.TheVariants as local
-use Rattle.rv_base.proofs.Among.{Among}
+use Rattle.lists.specs.Lists.{IsIn, IsPrefix}
 use Rattle.role_fence.specs.Fence.{may_execute, role_step, starting_fence}
 use Rattle.event_buffer.specs.Buffer.{cleared_to}
 use Rattle.of_switch.specs.declared.says.SwitchInput.{SwitchInput}
@@ -25,7 +25,6 @@ use Rattle.of_switch.specs.Events.{event_letter}
 use Rattle.of_switch.specs.Forwarding.{is_frame, frame_letter}
 use Rattle.of_switch.specs.Commands.{result_letter}
 use Rattle.of_switch.specs.Rules.{switch_turn}
-use Rattle.rv_runs.specs.Laws.{IsPrefix}
 use Rattle.exactly_once.specs.Invariant.{IsWell}
 
 -- the one command that a turn carries out: of the switch's life, from its master, with the next number
@@ -56,11 +55,11 @@ pub data Fences (s : SwitchState) (x : SwitchInput) (t : SwitchTurn) : Type 0 wh
   Anew : x ≡ switch_input.Local local.Restart → t.state.fence ≡ starting_fence → Fences s x t
 
 -- an input that brings a frame
-pub data Brings (x : SwitchInput) (frame : List ℕ) : Type 0 where
-  Wire : (port : ℕ) → x ≡ switch_input.Local (local.Frame port frame) → Brings x frame
-  Peer : (from port : ℕ) → x ≡ switch_input.Frame from port frame → Brings x frame
+pub data BringsFrame (x : SwitchInput) (frame : List ℕ) : Type 0 where
+  Wire : (port : ℕ) → x ≡ switch_input.Local (local.Frame port frame) → BringsFrame x frame
+  Peer : (from port : ℕ) → x ≡ switch_input.Frame from port frame → BringsFrame x frame
   Output : (c xid life generation number through : ℕ) (out : PacketOut) → x ≡ switch_input.Of c xid (spoken.Ravana (extension.Command life generation number through (order.PacketOut out))) →
-      frame ≡ out.payload → Brings x frame
+      frame ≡ out.payload → BringsFrame x frame
 
 -- what it posts: events that it made, to its master; the result of a command that was carried out, and answers, to the
 -- sender; a greeting; and a frame that the input brings, to a peer
@@ -71,7 +70,7 @@ pub data Posts (s : SwitchState) (x : SwitchInput) (t : SwitchTurn) (l : Letter 
   Answer_to_sender : (c xid : ℕ) (asked : Spoken) (answer : OfMessage) → x ≡ switch_input.Of c xid asked → l ≡ to_controller c xid (spoken.Plain answer) → Posts s x t l
   Fault_to_sender : (c kind code xid : ℕ) (head : List ℕ) → x ≡ switch_input.Malformed (actor.Controller c) kind code xid head → l ≡ to_controller c xid (spoken.Plain (plain.Error kind code head)) → Posts s x t l
   Greeting : (c : ℕ) → l ≡ to_controller c 0 (spoken.Plain plain.Hello) → Posts s x t l
-  Frame_to_peer : (peer port : ℕ) (frame : List ℕ) → Brings x frame → is_frame frame ≡ true → l ≡ frame_letter frame peer port → Posts s x t l
+  Frame_to_peer : (peer port : ℕ) (frame : List ℕ) → BringsFrame x frame → is_frame frame ≡ true → l ≡ frame_letter frame peer port → Posts s x t l
 
 -- a turn of a switch, from a state whose accounts fit
 pub record IsSwitchTurn (number : ℕ) (s : SwitchState) (x : SwitchInput) (t : SwitchTurn) : Type 0 where
@@ -80,7 +79,7 @@ pub record IsSwitchTurn (number : ℕ) (s : SwitchState) (x : SwitchInput) (t : 
   pub executed : (t.state.executed ≡ s.executed) ⊎ CarriesOut s x t
   pub clears : Clears s x t
   pub fence : Fences s x t
-  pub letters : (l : Letter SwitchSays) → Among l t.letters → Posts s x t l
+  pub letters : (l : Letter SwitchSays) → IsIn l t.letters → Posts s x t l
 
 -- each turn is one
 abbrev pub AreSwitchTurns : Type 0

@@ -15,14 +15,14 @@ use Rattle.of_types.specs.declared.message.Spoken.TheVariants as spoken
 use Rattle.of_types.specs.declared.numbers.TheConstants.{MASTER}
 use Rattle.of_types.specs.declared.setup.Setup.{Setup}
 use Rattle.of_types.specs.Valid.{IsValid}
-use Rattle.rv_base.proofs.Among.{Among}
+use Rattle.lists.specs.Lists.{IsIn}
 use Rattle.vr_log.specs.declared.entry.Entry.{Entry}
 use Rattle.vr_log.specs.declared.entry.Entry.TheVariants.{Received, Processed}
 use Rattle.vr_log.specs.Log.{received, processed}
 use Rattle.two_stage_log.specs.Counts.{processed_of}
 use Rattle.app_core.specs.Issued.{issued}
 use Rattle.of_switch.specs.Forwarding.{is_frame}
-use Rattle.exactly_once.specs.Facts.{Facts, events_of, executed_of}
+use Rattle.exactly_once.specs.Facts.{PastFacts, events_of, executed_of}
 
 -- a frame that may be taken, of bytes
 abbrev pub AreBytes : List ℕ → Type 0
@@ -47,13 +47,13 @@ pub record IsMade (s life i : ℕ) (e : Event) : Type 0 where
   pub number_is : e.number ≡ i
 
 -- an event is one that its switch made
-pub record IsGenuine (setup : Setup) (f : Facts) (e : Event) : Type 0 where
+pub record IsGenuine (setup : Setup) (f : PastFacts) (e : Event) : Type 0 where
   pub there : e.switch < length setup.ports
   pub stands : slice_get (events_of e.life (f.events e.switch)) e.number ≡ Some e
   pub good : IsGoodHappening e.what
 
 -- below a place of the decided log stands an event of a later life of a switch
-pub record IsOver (f : Facts) (s life i : ℕ) : Type 0 where
+pub record IsOver (f : PastFacts) (s life i : ℕ) : Type 0 where
   pub place : ℕ
   pub below : place < i
   pub event : Event
@@ -62,24 +62,24 @@ pub record IsOver (f : Facts) (s life i : ℕ) : Type 0 where
   pub later : life < event.life
 
 -- the commands for the events up to this one are carried out, or their life was over below this place
-pub record IsDoneThrough (kinds : List ℕ) (setup : Setup) (f : Facts) (i j : ℕ) : Type 0 where
+pub record IsDoneThrough (kinds : List ℕ) (setup : Setup) (f : PastFacts) (i j : ℕ) : Type 0 where
   pub there : j < length (received f.decided)
   pub all : (s life : ℕ) → (length (issued kinds setup s life (take (j + 1) (received f.decided))) ≤ length (executed_of life (f.executed s))) ⊎ IsOver f s life i
 
 -- an entry at a place of a log: a received event is genuine, and one that stands as processed is done
-abbrev pub IsTrueEntry : List ℕ → Setup → Facts → ℕ → Entry → Type 0
+abbrev pub IsTrueEntry : List ℕ → Setup → PastFacts → ℕ → Entry → Type 0
 IsTrueEntry kinds setup f i (Received e) = IsGenuine setup f e
 IsTrueEntry kinds setup f i (Processed j) = IsDoneThrough kinds setup f i j
 
 -- entries that came with a commit number: the number is no more than what is decided, and past it at most one event
 -- stands as processed, whose event is committed
-pub record IsAhead (f : Facts) (k : ℕ) (log : List Entry) : Type 0 where
+pub record IsAhead (f : PastFacts) (k : ℕ) (log : List Entry) : Type 0 where
   pub bound : k ≤ length f.decided
-  pub one : (j : ℕ) → Among (Processed j) log → (j ≤ processed (take k f.decided)) × (j < length (received (take k f.decided)))
+  pub one : (j : ℕ) → IsIn (Processed j) log → (j ≤ processed (take k f.decided)) × (j < length (received (take k f.decided)))
 
 -- a command is one of the first unprocessed event of some moment: its number is its place among the orders that
 -- one fault-free controller issues to this life of the switch, and those of the events before are settled
-pub record IsCommand (kinds : List ℕ) (setup : Setup) (f : Facts) (s life settled i : ℕ) (what : Order) : Type 0 where
+pub record IsTrueCommand (kinds : List ℕ) (setup : Setup) (f : PastFacts) (s life settled i : ℕ) (what : Order) : Type 0 where
   pub place : ℕ
   pub there : place < length (received f.decided)
   pub reached : place ≤ processed f.decided
@@ -89,19 +89,19 @@ pub record IsCommand (kinds : List ℕ) (setup : Setup) (f : Facts) (s life sett
   pub stands : slice_get (issued kinds setup s life (received f.decided)) i ≡ Some what
 
 -- an order has this number among those that one fault-free controller issues to a life of a switch on the decided log
-abbrev pub IsNumbered : List ℕ → Setup → Facts → ℕ → ℕ → ℕ → Order → Type 0
+abbrev pub IsNumbered : List ℕ → Setup → PastFacts → ℕ → ℕ → ℕ → Order → Type 0
 IsNumbered kinds setup f s life i what = slice_get (issued kinds setup s life (received f.decided)) i ≡ Some what
 
 -- how many commands for the processed events were issued to a life of a switch
-abbrev pub settled_of : List ℕ → Setup → Facts → ℕ → ℕ → ℕ
+abbrev pub settled_of : List ℕ → Setup → PastFacts → ℕ → ℕ → ℕ
 settled_of kinds setup f s life = length (issued kinds setup s life (take (processed f.decided) (received f.decided)))
 
 -- what a controller may say to a switch
-abbrev pub IsTold : List ℕ → Setup → Facts → ℕ → ℕ → Spoken → Type 0
+abbrev pub IsTold : List ℕ → Setup → PastFacts → ℕ → ℕ → Spoken → Type 0
 IsTold kinds setup f c s (spoken.Plain (plain.RoleRequest role generation)) =
     (role ≡ MASTER) × (generation < 2 ^ 32) × (generation % setup.controllers ≡ c)
 IsTold kinds setup f c s (spoken.Ravana (extension.Command life generation number settled what)) =
-    IsCommand kinds setup f s life settled number what × IsGoodOrder what × IsValid (spoken.Ravana (extension.Command life generation number settled what)) × (generation % setup.controllers ≡ c)
+    IsTrueCommand kinds setup f s life settled number what × IsGoodOrder what × IsValid (spoken.Ravana (extension.Command life generation number settled what)) × (generation % setup.controllers ≡ c)
 IsTold kinds setup f c s (spoken.Ravana (extension.EventAck life through)) = through ≤ processed_of f.decided s life
 IsTold kinds setup f c s (spoken.Ravana (extension.Clear life through)) = through ≤ settled_of kinds setup f s life
 IsTold kinds setup f c s _ = ⊥

@@ -4,8 +4,8 @@ use Rattle.std.proofs.lemmas.Bool.{cond_both}
 use Rattle.agreement.specs.History.{Group, size}
 use Rattle.agreement.specs.Invariant.{is_up}
 use Rattle.agreement.specs.Journals.{GoesOn}
-use Rattle.agreement.specs.Lists.{IsPrefix}
-use Rattle.agreement.proofs.Prefixes.{prefix_refl}
+use Rattle.lists.proofs.Prefixes.{prefix_refl}
+use Rattle.lists.specs.Lists.{IsPrefix}
 use Rattle.vr_log.specs.declared.entry.Entry.{Entry}
 use Rattle.vr_log.specs.declared.message.VrMessage.{VrMessage}
 use Rattle.vr_log.specs.declared.message.VrMessage.TheVariants as message

@@ -5,7 +5,7 @@ use Rattle.std.proofs.lemmas.List.{map-append}
 use Rattle.agreement.specs.Effects.{ack_if}
 use Rattle.agreement.specs.History.{Group, size, primary_of, State, Message, Letter, History, Vote, letter}
 use Rattle.agreement.specs.Invariant.{IsGoodMessage, IsGoodResponse, Invariant, IsGroup}
-use Rattle.agreement.specs.Lists.{IsIn}
+use Rattle.lists.specs.Lists.{IsIn}
 use Rattle.agreement.specs.Moves.{Moved, Resembles, entered, adopted, fallen, StandsAt}
 use Rattle.agreement.specs.Quorums.{is_prepare_ok}
 use Rattle.agreement.proofs.Cases.{walk_enter, walk_collect, walk_stock, walk_keep, turn_keep, turn_recover, turn_fall, turn_rise}

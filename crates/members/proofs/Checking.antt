@@ -5,13 +5,14 @@ use Rattle.std.proofs.lemmas.Bool.{cases_lt, and_parts, or_parts, cond_both, con
 use Rattle.std.proofs.lemmas.List.{map-append, length-map}
 use Rattle.agreement.specs.History.{Group, size, primary_of, State, Message, Letter, History, Vote, letter}
 use Rattle.agreement.specs.Invariant.{IsGoodMessage, IsGoodLetter, Invariant, IsGroup}
-use Rattle.agreement.specs.Lists.{IsAtMost, IsIn}
+use Rattle.agreement.specs.Lists.{IsAtMost}
+use Rattle.lists.proofs.Elements.{in_append, in_left, in_right}
+use Rattle.lists.specs.Lists.{IsIn}
 use Rattle.agreement.specs.Moves.{Moved, Resembles, collecting}
 use Rattle.agreement.specs.Quorums.{is_prepare_ok}
 use Rattle.agreement.proofs.Cases.{end_start, end_changing}
 use Rattle.agreement.proofs.Conditions.{own_good_vote}
-use Rattle.agreement.proofs.Elements.{in_split, in_left, in_right}
-use Rattle.agreement.proofs.Prefixes.{below_trans}
+use Rattle.agreement.proofs.Numbers.{below_trans}
 use Rattle.agreement.proofs.Starting.{walk_says, walk_own_vote}
 use Rattle.agreement.proofs.Walks.{Walk, walk_good, walk_same, resembles_self}
 use Rattle.agreement.specs.History as core
@@ -127,7 +128,7 @@ most_of x xs = elim (most_in x.commit xs) [ inl q ↦ (x, inl refl, q) | inr q �
 
 -- letters at the end, and at the front
 pub swapped : {A : Type 0} (xs ys : List A) (x : A) → IsIn x (ys ++ xs) → IsIn x (xs ++ ys)
-swapped xs ys x i = elim (in_split ys xs x i) [ inl z ↦ in_right xs ys x z | inr z ↦ in_left xs ys x z ]
+swapped xs ys x i = elim (in_append x ys xs i) [ inl z ↦ in_right x xs ys z | inr z ↦ in_left x xs ys z ]
 
 -- a walk makes the step, and a view changes after it
 pub record IsWalk (g : Group Entry) (c : ℕ) (h : History Entry) (st : VrStep) : Type 0 where

@@ -4,7 +4,8 @@ use Rattle.std.proofs.lemmas.Bool.{cases_lt, and_parts, cond_both, leb-true, ltb
 use Rattle.agreement.specs.Effects.{prepares, ack_if}
 use Rattle.agreement.specs.History.{Group, size, primary_of, State, Message, Letter, History, letter}
 use Rattle.agreement.specs.Invariant.{IsGoodNews, Invariant, IsGroup}
-use Rattle.agreement.specs.Lists.{IsIn, count_below, without}
+use Rattle.agreement.specs.Lists.{count_below, without}
+use Rattle.lists.specs.Lists.{IsIn}
 use Rattle.agreement.specs.Moves.{Moved, Resembles, adopted, appended, committing, counting, StandsAt}
 use Rattle.agreement.specs.Quorums.{IsCommitted}
 use Rattle.agreement.proofs.Cases.{turn_commit, turn_adopt, turn_new_state, turn_prepare_ok, turn_count, turn_propose}

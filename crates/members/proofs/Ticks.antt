@@ -4,14 +4,14 @@ use Rattle.std.specs.Prelude.{flat_map}
 use Rattle.std.proofs.lemmas.Bool.{cond_both}
 use Rattle.agreement.specs.History.{Group, size, State, Message, Letter, History, letter}
 use Rattle.agreement.specs.Invariant.{IsGoodPrepare, IsGoodMessage, IsGoodLetter, Invariant, IsGroup}
-use Rattle.agreement.specs.Lists.{IsIn}
+use Rattle.lists.proofs.Elements.{in_append}
+use Rattle.lists.proofs.Prefixes.{take_within}
+use Rattle.lists.specs.Lists.{IsIn}
 use Rattle.agreement.specs.Moves.{AcknowledgeNothing, AreFrom, StandsAt}
 use Rattle.agreement.specs.Quorums.{is_prepare_ok}
 use Rattle.agreement.proofs.Cases.{quiet_by, turn_speak}
 use Rattle.agreement.proofs.Conditions.{own_good_vote, own_prepare}
 use Rattle.agreement.proofs.Consequences.{own_log, own_of_view}
-use Rattle.agreement.proofs.Elements.{in_split}
-use Rattle.agreement.proofs.Prefixes.{take_within}
 use Rattle.agreement.proofs.Walks.{good_at, resembles_self}
 use Rattle.agreement.specs.History as core
 use Rattle.vr_log.specs.declared.entry.Entry.{Entry}
@@ -51,7 +51,7 @@ module _ {g : Group Entry} {h : History Entry} {c : ℕ} where
 
   good_both : (xs ys : List VrLetter) → AreGood g h c xs → AreGood g h c ys → AreGood g h c (xs ++ ys)
   good_both xs ys p q =
-      let split = λ (x : Letter Entry) (j : IsIn x (letters_of c (xs ++ ys))). in_split (letters_of c xs) (letters_of c ys) x (subst (λ (ls : List (Letter Entry)). IsIn x ls) (letters_append c xs ys) j) in
+      let split = λ (x : Letter Entry) (j : IsIn x (letters_of c (xs ++ ys))). in_append x (letters_of c xs) (letters_of c ys) (subst (λ (ls : List (Letter Entry)). IsIn x ls) (letters_append c xs ys) j) in
       record {
         from_c = λ x j. elim (split x j) [ inl z ↦ p.from_c x z | inr z ↦ q.from_c x z ];
         unlike = λ x j. elim (split x j) [ inl z ↦ p.unlike x z | inr z ↦ q.unlike x z ];

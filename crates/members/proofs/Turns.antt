@@ -3,7 +3,7 @@ use Rattle.std.proofs.Common.{◌≡◌, ℕ, ◌<◌, ◌≤◌, nat_eq, length
 use Rattle.std.proofs.lemmas.Bool.{and_from, eq-eqb}
 use Rattle.agreement.specs.History.{Group, size, History, letter}
 use Rattle.agreement.specs.Invariant.{Invariant, IsGroup}
-use Rattle.agreement.specs.Lists.{IsIn}
+use Rattle.lists.specs.Lists.{IsIn}
 use Rattle.agreement.specs.Moves.{StandsAt}
 use Rattle.vr_log.specs.declared.entry.Entry.{Entry}
 use Rattle.vr_log.specs.declared.message.VrMessage.{VrMessage}

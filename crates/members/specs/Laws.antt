@@ -1,6 +1,6 @@
 -- Each step of a member is a turn of the moves of agreement, so that the laws of agreement hold of members.
 use Rattle.std.specs.Prelude.{◌≡◌, ℕ, ◌+◌, ◌<◌, ◌≤◌, true, [], ◌∷◌, ◌++◌}
-use Rattle.agreement.specs.Lists.{IsIn}
+use Rattle.lists.specs.Lists.{IsIn}
 use Rattle.agreement.specs.History.{Group, size, letter, History}
 use Rattle.agreement.specs.Invariant.{is_up, Invariant, IsGroup}
 use Rattle.agreement.specs.Moves.{StandsAt, Moved}

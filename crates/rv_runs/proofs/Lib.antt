@@ -1,1 +1,1 @@
-pub mod Sayings
+pub mod Bodies

@@ -1,6 +1,7 @@
 -- What holds of every legal journal, and of one at rest.
 use Rattle.std.specs.Prelude.{◌≡◌, ◌<◌, ◌≤◌, ◌⊎◌, ℕ, ◌+◌, ◌%◌, true, nat_eq, nat_lt, ◌&&◌, List, [], ◌∷◌, ◌++◌, length, map, drop, take, filter, Contains, All, AllPairs, slice_get, Option, Some, if◌then◌else◌}
 use Rattle.std.specs.List.{range_with_len}
+use Rattle.lists.specs.Lists.{IsPrefix}
 use Rattle.of_types.specs.declared.message.Event.{Event}
 use Rattle.of_types.specs.declared.message.Executed.{Executed}
 use Rattle.of_types.specs.declared.message.OfMessage.TheVariants as plain
@@ -26,11 +27,6 @@ use Rattle.rv_runs.specs.declared.messages.Unsealed.{Unsealed}
 use Rattle.rv_runs.specs.declared.messages.Unsealed.TheVariants as unsealed
 use Rattle.rv_runs.specs.States.{Scene, Sealing, content}
 use Rattle.rv_runs.specs.Committed.{decided, switch_state}
-
--- one list is the beginning of another
-pub record IsPrefix {A : Type 0} (front whole : List A) : Type 0 where
-  pub rest : List A
-  pub joined : whole ≡ front ++ rest
 
 -- the events of one switch, and those of one of its lives
 abbrev pub events_from : ℕ → List Event → List Event

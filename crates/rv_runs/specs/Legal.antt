@@ -13,7 +13,9 @@ use Rattle.rv_base.specs.Actors.{actor_of, IsActor}
 use Rattle.rv_base.specs.Pool.{past}
 use Rattle.rv_base.specs.Part.{part}
 use Rattle.rv_base.specs.Orderly.{IsOrderly}
-use Rattle.rv_runs.specs.States.{Scene, switch_at, controller_at, sealed_letters, switch_message, controller_message}
+use Rattle.rv_runs.specs.declared.messages.Message.{Message}
+use Rattle.rv_runs.specs.Messages.{FitsMessage}
+use Rattle.rv_runs.specs.States.{Scene, Sealing, switch_at, controller_at, sealed_letters, switch_message, controller_message}
 
 -- the newest entry took an input that may want memory
 abbrev pub IsTurn : {B : Type 0} → List (JournalEntry B × Option (Packet B)) → Type 0
@@ -24,26 +26,30 @@ IsTurn (step ∷ before) = elim step.0 [
   | _ ↦ ⊥
 ]
 
--- an entry stands where it may, over what its actor owes there, sealed
-abbrev pub Fits : {B : Type 0} → List (Letter B) → List (JournalEntry B × Option (Packet B)) → JournalEntry B → Type 0
-Fits owed before (Post a first letters lost) = (letters ≡ owed) × (letters ≢ [])
-Fits owed before (Draw a id keep) = owed ≡ []
-Fits owed before (Lose a id) = owed ≡ []
-Fits owed before (Local a input) = owed ≡ []
-Fits owed before (Idle a) = owed ≡ []
-Fits owed before (Refused a) = IsTurn before
+-- what is said is of its types: each number fits its field
+abbrev pub AreTyped : {A : Type 0} → (A → Message) → List (Letter A) → Type 0
+AreTyped said letters = AllByRecursion (λ l. FitsMessage (said l.body)) letters
+
+-- an entry stands where it may, over what its actor owes there: a Post has all of that, sealed
+abbrev pub Fits : {A B : Type 0} → (A → Message) → Sealing B → List (Letter A) → List (JournalEntry B × Option (Packet B)) → JournalEntry B → Type 0
+Fits said sealing owed before (Post a first letters lost) = (letters ≡ sealed_letters said sealing owed) × (letters ≢ []) × AreTyped said owed
+Fits said sealing owed before (Draw a id keep) = owed ≡ []
+Fits said sealing owed before (Lose a id) = owed ≡ []
+Fits said sealing owed before (Local a input) = owed ≡ []
+Fits said sealing owed before (Idle a) = owed ≡ []
+Fits said sealing owed before (Refused a) = IsTurn before
 
 -- each entry of a switch's part stands where it may
 abbrev pub IsSoundSwitch : {B : Type 0} → Scene B → ℕ → List (JournalEntry B × Option (Packet B)) → Type 0
 IsSoundSwitch scene s [] = Unit {0}
 IsSoundSwitch scene s (step ∷ before) =
-    Fits (sealed_letters switch_message scene.sealing (switch_at scene s before).owed) before step.0 × IsSoundSwitch scene s before
+    Fits switch_message scene.sealing (switch_at scene s before).owed before step.0 × IsSoundSwitch scene s before
 
 -- each entry of a controller's part stands where it may
 abbrev pub IsSoundController : {B : Type 0} → Scene B → List SaveResult → ℕ → List (JournalEntry B × Option (Packet B)) → Type 0
 IsSoundController scene results c [] = Unit {0}
 IsSoundController scene results c (step ∷ before) =
-    Fits (sealed_letters controller_message scene.sealing (controller_at scene results c before).owed) before step.0 × IsSoundController scene results c before
+    Fits controller_message scene.sealing (controller_at scene results c before).owed before step.0 × IsSoundController scene results c before
 
 -- the numbers of a local input fit their types
 abbrev pub FitsTypes : LocalInput → Type 0

@@ -6,3 +6,4 @@ pub mod Laws
 pub mod Schedule
 pub mod Play
 pub mod Bound
+pub mod Bodies

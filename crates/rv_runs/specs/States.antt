@@ -26,7 +26,7 @@ use Rattle.of_switch.specs.State.{SwitchState, SwitchTurn, starting_switch}
 use Rattle.of_switch.specs.Rules.{switch_turn}
 use Rattle.group_controller.specs.State.{ControllerState, Work, starting_controller, down}
 use Rattle.group_controller.specs.Rules.{controller_work}
-use Rattle.rv_runs.specs.Messages.{IsValidMessage, way_of, way_of_message}
+use Rattle.rv_runs.specs.Messages.{IsValidMessage, FitsMessage, way_of, way_of_message}
 
 -- how bodies stand for messages
 pub record Sealing (B : Type 0) : Type 0 where
@@ -34,9 +34,9 @@ pub record Sealing (B : Type 0) : Type 0 where
   pub spelled : Way → B → Unsealed  -- what a body says on a way
   pub size : B → ℕ
 
--- a body says what was sealed in it: a valid message is read again as it was
+-- a body says what was sealed in it: a valid message whose numbers fit their fields is read again as it was
 abbrev pub IsFaithful : {B : Type 0} → Sealing B → Type 0
-IsFaithful sealing = (m : Message) → IsValidMessage m → sealing.spelled (way_of_message m) (sealing.sealed m) ≡ unsealed.Message m
+IsFaithful sealing = (m : Message) → IsValidMessage m → FitsMessage m → sealing.spelled (way_of_message m) (sealing.sealed m) ≡ unsealed.Message m
 
 -- what a run is about: the setup, the kinds of the chains, and how bodies are read
 pub record Scene (B : Type 0) : Type 0 where

@@ -2,6 +2,19 @@
 //! part of a journal, which journals may come about, what is committed, and the schedule that brings a run to rest.
 #![tactic(auto)]
 
+ghost use Rattle.rv_runs.specs.States.{IsFaithful};
+ghost use Rattle.rv_runs.specs.Bodies.{own_bodies, byte_bodies};
+
 mod messages;
 
 pub use messages::{Message, Unsealed, Way};
+
+/// A message that is its own body is read again as it was.
+pub fn own_bodies_are_faithful()
+    ensures { IsFaithful own_bodies }
+{}
+
+/// The bytes of a valid message, whose numbers fit their fields, are read again as that message.
+pub fn bodies_of_bytes_are_faithful()
+    ensures { IsFaithful byte_bodies }
+{}

@@ -1,0 +1,5 @@
+pub mod Letters
+pub mod Works
+pub mod Turns
+pub mod Following
+pub mod Spelling

@@ -1,0 +1,5 @@
+pub mod Projection
+pub mod Rules
+pub mod Works
+pub mod Laws
+pub mod Spelling

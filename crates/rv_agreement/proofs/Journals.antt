@@ -1,0 +1,178 @@
+-- A possible past is orderly for the fold of agreement, and what waits between members was posted.
+use Rattle.std.proofs.Common.{◌≡◌, ℕ, ◌+◌, ◌*◌, ◌<◌, inl, inr, Bool, Option, Some, None, List, [], ◌∷◌, ◌++◌, map, refl, sym, ap, ◌∙◌, subst}
+use Rattle.rv_base.specs.declared.journal.Actor.{Actor}
+use Rattle.rv_base.specs.declared.journal.Actor.TheVariants as actor
+use Rattle.rv_base.specs.declared.journal.JournalEntry.{JournalEntry}
+use Rattle.rv_base.specs.declared.journal.JournalEntry.TheVariants.{Post, Draw, Lose, Local, Idle, Refused}
+use Rattle.rv_base.specs.declared.journal.Letter.{Letter}
+use Rattle.rv_base.specs.declared.journal.Packet.{Packet}
+use Rattle.rv_base.specs.declared.journal.SaveResult.{SaveResult}
+use Rattle.rv_base.specs.Part.{part, packet_of, drawn}
+use Rattle.rv_base.specs.Pool.{pool}
+use Rattle.rv_base.proofs.Among.{Among}
+use Rattle.agreement.specs.Lists.{IsIn}
+use Rattle.agreement.specs.History as core
+use Rattle.agreement.specs.History.{size, letter}
+use Rattle.agreement.specs.Journals as journal
+use Rattle.agreement.specs.Journals.{Comes, posted, left_by, owed}
+use Rattle.agreement.specs.Standing as fold
+use Rattle.agreement.specs.Standing.{standing}
+use Rattle.agreement.proofs.Elements.{in_left, in_right}
+use Rattle.agreement.proofs.Standing.{folds_law}
+use Rattle.vr_log.specs.declared.entry.Entry.{Entry}
+use Rattle.vr_log.specs.declared.message.VrMessage.{VrMessage}
+use Rattle.members.specs.Projection.{group_of, message_of}
+use Rattle.group_controller.specs.declared.messages.ControllerSays.{ControllerSays}
+use Rattle.group_controller.specs.declared.messages.ControllerSays.TheVariants as controller_says
+use Rattle.controllers.specs.Projection.{OwnInput, letters_to, letters_to_members}
+use Rattle.rv_runs.specs.declared.messages.Message.TheVariants as message
+use Rattle.rv_runs.specs.declared.messages.Unsealed.{Unsealed}
+use Rattle.rv_runs.specs.declared.messages.Unsealed.TheVariants as unsealed
+use Rattle.rv_runs.specs.States.{Scene, content, controller_hears, controller_message, sealed_letters, controller_at}
+use Rattle.rv_runs.specs.Legal.{results_of}
+use Rattle.exactly_once.proofs.Journals.{self_controller}
+use Rattle.exactly_once.proofs.Lists.{all_of}
+use Rattle.exactly_once.proofs.Packets.{drawn_found, IsPosted, Was, New, pool_after}
+use Rattle.rv_agreement.specs.Projection.{taken_by, entries_of, past_of, rules_of}
+use Rattle.rv_agreement.proofs.Invariants.{read_between}
+use Rattle.rv_agreement.proofs.Pasts.{named, fits, was_owed}
+use Rattle.rv_agreement.proofs.Reading.{IsRead, IsReadPast, read_before}
+use Rattle.rv_agreement.proofs.Standing.{stands_alike}
+
+no_letters : {A C : Type 0} (f : A → C) (xs : List A) → map f xs ≡ [] → xs ≡ []
+no_letters f [] e = refl
+no_letters f (x ∷ xs) e = absurd cc
+
+-- what is said in a letter is among what is said in all
+said_among : (c : ℕ) (ls : List (Letter ControllerSays)) (l : Letter ControllerSays) → Among l ls → (x : core.Letter Entry) → IsIn x (letters_to c l.to l.body) → IsIn x (letters_to_members c ls)
+said_among c [] l i x k = absurd i
+said_among c (m ∷ ls) l i x k = elim i [
+  | inl e ↦ in_left (letters_to c m.to m.body) (letters_to_members c ls) x (subst (λ (z : Letter ControllerSays). IsIn x (letters_to c z.to z.body)) e k)
+  | inr j ↦ in_right (letters_to c m.to m.body) (letters_to_members c ls) x (said_among c ls l j x k)
+]
+
+-- what is no message of a member is of the controller's own
+comes : (c : ℕ) (sent : List (core.Letter Entry)) (from : Actor) (u : Unsealed) → ((j : ℕ) (m : VrMessage) → from ≡ actor.Controller j → u ≡ unsealed.Message (message.Vr m) → IsIn (letter j c (message_of m)) sent)
+    → Comes c (taken_by c (controller_hears from u)) sent
+comes c sent (actor.Controller j) (unsealed.Message (message.Vr m)) k = (refl, k j m refl refl)
+comes c sent (actor.Controller j) (unsealed.Message (message.Of xid m)) k = tt
+comes c sent (actor.Controller j) (unsealed.Message (message.Frame port bytes)) k = tt
+comes c sent (actor.Controller j) (unsealed.Malformed kind code xid head) k = tt
+comes c sent (actor.Switch s) (unsealed.Message (message.Vr m)) k = tt
+comes c sent (actor.Switch s) (unsealed.Message (message.Of xid m)) k = tt
+comes c sent (actor.Switch s) (unsealed.Message (message.Frame port bytes)) k = tt
+comes c sent (actor.Switch s) (unsealed.Malformed kind code xid head) k = tt
+
+module _ {B : Type 0} (scene : Scene B) (results : List (List SaveResult)) (most_failures : ℕ) (n : scene.setup.controllers ≡ 2 * most_failures + 1) where
+  abbrev posts : List (journal.Entry OwnInput Entry) → List (core.Letter Entry)
+  posts past = posted (rules_of scene most_failures results) past
+
+  abbrev owes : ℕ → List (JournalEntry B) → List (Letter ControllerSays)
+  owes c past = (controller_at scene (results_of results c) c (part (actor.Controller c) past)).owed
+
+  pub in_group : (c : ℕ) → c < scene.setup.controllers → c < size (group_of most_failures)
+  unfolding size
+  in_group c b = subst (λ (m : ℕ). c < m) n b
+
+  -- a packet from controller j carries what j posted
+  pub record IsPostedBy (past : List (JournalEntry B)) (p : Packet B) (j : ℕ) : Type 0 where
+    pub said : ControllerSays
+    pub body : p.body ≡ scene.sealing.sealed (controller_message said)
+    pub read : IsRead scene p.to said
+    pub sent : (x : core.Letter Entry) → IsIn x (letters_to j p.to said) → IsIn x (posts (past_of scene past))
+
+  pub record IsOrderlyPast (past : List (JournalEntry B)) : Type 0 where
+    pub orderly : fold.IsOrderly (rules_of scene most_failures results) (group_of most_failures) (past_of scene past)
+    pub packets : (p : Packet B) → Among p (pool past) → (j : ℕ) → p.from ≡ actor.Controller j → IsPostedBy past p j
+
+  posts_more : (ys past : List (journal.Entry OwnInput Entry)) (x : core.Letter Entry) → IsIn x (posts past) → IsIn x (posts (ys ++ past))
+  posts_more [] past x i = i
+  posts_more (y ∷ ys) past x i = in_right (left_by (rules_of scene most_failures results) y (ys ++ past)) (posts (ys ++ past)) x (posts_more ys past x i)
+
+  posted_more : (e : JournalEntry B) (before : List (JournalEntry B)) (p : Packet B) (j : ℕ) → IsPostedBy before p j → IsPostedBy (e ∷ before) p j
+  posted_more e before p j k = record { said = k.said; body = k.body; read = k.read; sent = λ x i. posts_more (entries_of scene e (drawn e before)) (past_of scene before) x (k.sent x i) }
+
+  -- a packet that is drawn was posted
+  drawn_comes : (d : ℕ) (before : List (JournalEntry B)) → IsOrderlyPast before → (p : Packet B) → Among p (pool before) → p.to ≡ actor.Controller d
+      → Comes d (taken_by d (controller_hears p.from (content scene.sealing p))) (posts (past_of scene before))
+  drawn_comes d before k p i to =
+      comes d (posts (past_of scene before)) p.from (content scene.sealing p) (λ j m from says.
+      let s = k.packets p i j from in
+      let is : s.said ≡ controller_says.Vr m = s.read d m to (read_between scene p j d s.said m from to s.body says) in
+      s.sent (letter j d (message_of m))
+      (subst (λ (a : Actor). IsIn (letter j d (message_of m)) (letters_to j a s.said)) (sym to)
+      (subst (λ (b : ControllerSays). IsIn (letter j d (message_of m)) (letters_to j (actor.Controller d) b)) (sym is) (inl refl))))
+
+  nothing_owed : (d : ℕ) (before : List (JournalEntry B)) → IsReadPast scene results before → sealed_letters controller_message scene.sealing (owes d before) ≡ [] → (standing (rules_of scene most_failures results) d (past_of scene before)).owes ≡ []
+  nothing_owed d before k e =
+      (stands_alike scene results most_failures d n before k.possible.orderly).owes
+      ∙ ap (λ (ls : List (Letter ControllerSays)). letters_to_members d ls) (no_letters (λ l. record { to = l.to; body = scene.sealing.sealed (controller_message l.body) }) (owes d before) e)
+
+  drawing : (d id : ℕ) (keep : Bool) (before : List (JournalEntry B)) → IsOrderlyPast before → d < size (group_of most_failures) → (standing (rules_of scene most_failures results) d (past_of scene before)).owes ≡ []
+      → (p : Packet B) → Among p (pool before) → p.to ≡ actor.Controller d → (q : Option (Packet B)) → q ≡ Some p
+      → fold.IsOrderly (rules_of scene most_failures results) (group_of most_failures) (entries_of scene (Draw (actor.Controller d) id keep) q ++ past_of scene before)
+  drawing d id keep before k b none p i to None e = absurd cc
+  drawing d id keep before k b none p i to (Some q) e =
+      let same : q ≡ p = cc in (
+        (b, subst (λ (z : Packet B). Comes d (taken_by d (controller_hears z.from (content scene.sealing z))) (posts (past_of scene before))) (sym same) (drawn_comes d before k p i to), none),
+        k.orderly,
+      )
+
+  -- the newest entry may stand
+  entry_stands : (e : JournalEntry B) (before : List (JournalEntry B)) → IsReadPast scene results (e ∷ before) → IsOrderlyPast before → fold.IsOrderly (rules_of scene most_failures results) (group_of most_failures) (past_of scene (e ∷ before))
+  entry_stands (Post (actor.Controller d) first letters lost) before k old = (in_group d k.possible.named.0, old.orderly)
+  entry_stands (Draw (actor.Controller d) id keep) before k old =
+      let found = drawn_found scene.sealing.size (actor.Controller d) id keep before k.possible.orderly in
+      let none = nothing_owed d before (read_before scene results _ before k) (fits scene results _ before k.possible d (self_controller d)) in
+      drawing d id keep before old (in_group d k.possible.named.0) none found.packet found.among found.goes_to (packet_of id (pool before)) found.found
+  entry_stands (Local (actor.Controller d) what) before k old =
+      ((in_group d k.possible.named.0, tt, nothing_owed d before (read_before scene results _ before k) (fits scene results _ before k.possible d (self_controller d))), old.orderly)
+  entry_stands (Refused (actor.Controller d)) before k old =
+      ((in_group d k.possible.named.0, (stands_alike scene results most_failures d n before k.possible.orderly).fresh (fits scene results _ before k.possible d (self_controller d))), old.orderly)
+  entry_stands (Lose a id) before k old = old.orderly
+  entry_stands (Idle a) before k old = old.orderly
+  entry_stands (Post (actor.Switch s) first letters lost) before k old = old.orderly
+  entry_stands (Draw (actor.Switch s) id keep) before k old = old.orderly
+  entry_stands (Local (actor.Switch s) what) before k old = old.orderly
+  entry_stands (Refused (actor.Switch s)) before k old = old.orderly
+
+  -- a packet that is new was posted by its controller
+  new_packet : (d first : ℕ) (letters : List (Letter B)) (lost : ℕ) (before : List (JournalEntry B)) → IsReadPast scene results (Post (actor.Controller d) first letters lost ∷ before) → IsOrderlyPast before
+      → (p : Packet B) → IsPosted (actor.Controller d) letters p → IsPostedBy (Post (actor.Controller d) first letters lost ∷ before) p d
+  new_packet d first letters lost before k old p posted_so =
+      let e : JournalEntry B = Post (actor.Controller d) first letters lost in
+      let w = was_owed scene results e before k.possible d first letters lost p refl posted_so in
+      let there = named scene results e before k.possible d (self_controller d) in
+      let same = stands_alike scene results most_failures d n before k.possible.orderly.2 in
+      let agrees = (folds_law (rules_of scene most_failures results) (group_of most_failures) (past_of scene before) old.orderly).1 d in
+      record {
+        said = w.letter.body;
+        body = w.body_is;
+        read = subst (λ (a : Actor). IsRead scene a w.letter.body) (sym w.to_is) (all_of (λ (l : Letter ControllerSays). IsRead scene l.to l.body) (owes d before) w.letter (k.letters.0 d there) w.among);
+        sent = λ x y.
+            let z : IsIn x (letters_to d w.letter.to w.letter.body) = subst (λ (a : Actor). IsIn x (letters_to d a w.letter.body)) w.to_is y in
+            in_left (owed (rules_of scene most_failures results) d (past_of scene before)) (posts (past_of scene before)) x
+            (subst (λ (ls : List (core.Letter Entry)). IsIn x ls) (sym (agrees.owes ∙ same.owes)) (said_among d (owes d before) w.letter w.among x z));
+      }
+
+  packet_posted : (e : JournalEntry B) (before : List (JournalEntry B)) → IsReadPast scene results (e ∷ before) → IsOrderlyPast before
+      → (a : Actor) (first : ℕ) (letters : List (Letter B)) (lost : ℕ) (p : Packet B) → e ≡ Post a first letters lost → IsPosted a letters p → (j : ℕ) → p.from ≡ actor.Controller j → IsPostedBy (e ∷ before) p j
+  packet_posted e before k old (actor.Switch s) first letters lost p is posted_so j from = absurd (let no : actor.Switch s ≡ actor.Controller j = sym posted_so.from_is ∙ from in cc)
+  packet_posted e before k old (actor.Controller d) first letters lost p is posted_so j from =
+      let who : actor.Controller d ≡ actor.Controller j = sym posted_so.from_is ∙ from in
+      let number : d ≡ j = cc in
+      subst (λ (i : ℕ). IsPostedBy (e ∷ before) p i) number
+      (subst (λ (y : JournalEntry B). IsPostedBy (y ∷ before) p d) (sym is)
+      (new_packet d first letters lost before (subst (λ (y : JournalEntry B). IsReadPast scene results (y ∷ before)) is k) old p posted_so))
+
+  pub past_orderly : (past : List (JournalEntry B)) → IsReadPast scene results past → IsOrderlyPast past
+  past_orderly [] k = record { orderly = tt; packets = λ p i. absurd i }
+  past_orderly (e ∷ before) k =
+      let old = past_orderly before (read_before scene results e before k) in
+      record {
+        orderly = entry_stands e before k old;
+        packets = λ p i j from. elim (pool_after e before p i) [
+          | Was was ↦ posted_more e before p j (old.packets p was j from)
+          | New a first letters lost is posted_so ↦ packet_posted e before k old a first letters lost p is posted_so j from
+        ];
+      }

@@ -1,0 +1,11 @@
+pub mod Groups
+pub mod Inputs
+pub mod Standing
+pub mod Pasts
+pub mod Invariants
+pub mod Spelling
+pub mod Reading
+pub mod Journals
+pub mod Agreeing
+pub mod Lasting
+pub mod Leading

@@ -1,0 +1,3 @@
+pub mod Projection
+pub mod Reading
+pub mod Laws

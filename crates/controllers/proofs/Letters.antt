@@ -1,27 +1,30 @@
 -- Letters to members, and letters to switches, which the moves do not see.
-use Rattle.std.proofs.Common.{◌≡◌, ℕ, List, [], ◌∷◌, ◌++◌, refl, sym, ap, ◌∙◌, append_assoc, append-nil}
+use Rattle.std.proofs.Common.{◌≡◌, ℕ, List, [], ◌∷◌, ◌++◌, refl, ap, ◌∙◌, append-nil}
 use Rattle.std.specs.Prelude.{flat_map}
+use Rattle.std.proofs.lemmas.Grind.{flat_map-append}
+use Rattle.std.proofs.lemmas.List.Concat.{flat_map_single}
+use Rattle.std.proofs.lemmas.List.Folds.{flat_map-map}
 use Rattle.rv_base.specs.declared.journal.Actor.{Actor}
 use Rattle.rv_base.specs.declared.journal.Actor.TheVariants.{Controller, Switch}
 use Rattle.rv_base.specs.declared.journal.Letter.{Letter}
 use Rattle.rv_base.proofs.All.{all_append}
 use Rattle.agreement.specs.History as core
+use Rattle.agreement.specs.History.{letter}
 use Rattle.vr_log.specs.declared.entry.Entry.{Entry}
 use Rattle.vr_log.specs.declared.message.VrLetter.{VrLetter}
-use Rattle.members.specs.Projection.{letters_of}
+use Rattle.members.specs.Projection.{message_of, letters_of}
 use Rattle.group_controller.specs.declared.messages.ControllerSays.{ControllerSays}
 use Rattle.group_controller.specs.State.{Work, to_member, to_members}
 use Rattle.controllers.specs.Projection.{letters_to, letters_to_members}
 use Rattle.controllers.specs.Works.{IsToSwitch, AreToSwitches, TellsSwitches}
 
 pub letters_append : (c : ℕ) (xs ys : List (Letter ControllerSays)) → letters_to_members c (xs ++ ys) ≡ letters_to_members c xs ++ letters_to_members c ys
-letters_append c [] ys = refl
-letters_append c (x ∷ xs) ys = ap (λ (ls : List (core.Letter Entry)). letters_to c x.to x.body ++ ls) (letters_append c xs ys) ∙ sym (append_assoc (letters_to c x.to x.body) (letters_to_members c xs) (letters_to_members c ys))
+letters_append c xs ys = flat_map-append (λ (l : Letter ControllerSays). letters_to c l.to l.body) xs ys
 
 -- the letters of a member, as the moves see them
 pub letters_members : (c : ℕ) (ls : List VrLetter) → letters_to_members c (to_members ls) ≡ letters_of c ls
-letters_members c [] = refl
-letters_members c (x ∷ ls) = let l = to_member x in ap (λ (q : List (core.Letter Entry)). letters_to c l.to l.body ++ q) (letters_members c ls)
+letters_members c ls =
+    flat_map-map (λ (l : Letter ControllerSays). letters_to c l.to l.body) to_member ls ∙ flat_map_single (λ (x : VrLetter). letter c x.to (message_of x.message)) ls
 
 none_to_switch : (c : ℕ) (to : Actor) (said : ControllerSays) → IsToSwitch to → letters_to c to said ≡ []
 none_to_switch c (Controller j) said p = absurd p

@@ -50,6 +50,20 @@ none_left p [] x none h = absurd h
 none_left p (y ∷ xs) x none h = none_choice (p y) y x xs (filter p xs) p refl none (λ k m. none_left p xs x k m) h
 
 module _ (kinds : List ℕ) (setup : Setup) where
+  -- where an event may be told as processed, each of its commands of a life that goes on is marked
+  pub finished_marks : (c : ControllerState) → is_settled kinds setup c ≡ true → (n : Issued) → IsIn n (commands_of kinds setup (received (committed c)) (processed (committed c))) →
+      has_ended n.switch n.life (received (committed c)) ≡ false → IsIn (n.switch, n.life, n.number) c.marks.acked
+  finished_marks c ready n k goes_on =
+      let a = and_parts (is_finished kinds setup (committed c) c.marks) (nat_le (processed c.vr.log) (processed (committed c))) ready in
+      let b = and_parts (has_unprocessed (committed c)) (nat_eq (length (wanted kinds setup (committed c) c.marks)) 0) a.0 in
+      let free = none_left (is_wanted (committed c) c.marks) (commands_of kinds setup (received (committed c)) (processed (committed c))) n (eqb-true (length (wanted kinds setup (committed c) c.marks)) 0 b.1) k in
+      any_among c.marks.acked n.switch n.life n.number (is_marked (has_result c.marks n.switch n.life n.number) (has_ended n.switch n.life (received (committed c))) free goes_on)
+    where
+      is_marked : (r e : Bool) → (not r && not e) ≡ false → e ≡ false → r ≡ true
+      is_marked true e h off = refl
+      is_marked false true h off = absurd cc
+      is_marked false false h off = absurd cc
+
   -- the guard of an event that is told as processed
   pub settled_finished : (c : ControllerState) → IsConsistent c.vr → is_settled kinds setup c ≡ true → IsFinished kinds setup c
   settled_finished c kept ready =
@@ -60,24 +74,16 @@ module _ (kinds : List ℕ) (setup : Setup) where
       record {
         there = ltb-true (processed (committed c)) (length (received (committed c))) b.0;
         next = omega (arith, least, most);
-        all = λ s l. by_life s l (has_ended s l (received (committed c))) refl (eqb-true (length (wanted kinds setup (committed c) c.marks)) 0 b.1);
+        all = λ s l. by_life s l (has_ended s l (received (committed c))) refl;
       }
     where
-      is_marked : (r e : Bool) → (not r && not e) ≡ false → e ≡ false → r ≡ true
-      is_marked true e h off = refl
-      is_marked false true h off = absurd cc
-      is_marked false false h off = absurd cc
-
-      by_life : (s l : ℕ) (b : Bool) → has_ended s l (received (committed c)) ≡ b → length (wanted kinds setup (committed c) c.marks) ≡ 0 →
+      by_life : (s l : ℕ) (b : Bool) → has_ended s l (received (committed c)) ≡ b →
           IsEndedBy s l (received (committed c)) ⊎ ((n : Issued) → IsIn n (commands_of kinds setup (received (committed c)) (processed (committed c))) → n.switch ≡ s → n.life ≡ l → IsIn (s, l, n.number) c.marks.acked)
-      by_life s l true ended none = inl (ended_by s l (received (committed c)) ended)
-      by_life s l false on none =
+      by_life s l true ended = inl (ended_by s l (received (committed c)) ended)
+      by_life s l false on =
           inr (λ n k of_switch of_life.
-          let free = none_left (is_wanted (committed c) c.marks) (commands_of kinds setup (received (committed c)) (processed (committed c))) n none k in
           let goes_on : has_ended n.switch n.life (received (committed c)) ≡ false = ap (λ (a : ℕ). has_ended a n.life (received (committed c))) of_switch ∙ ap (λ (a : ℕ). has_ended s a (received (committed c))) of_life ∙ on in
-          let has = is_marked (has_result c.marks n.switch n.life n.number) (has_ended n.switch n.life (received (committed c))) free goes_on in
-          let there = any_among c.marks.acked n.switch n.life n.number has in
-          subst (λ (a : ℕ). IsIn (s, a, n.number) c.marks.acked) of_life (subst (λ (a : ℕ). IsIn (a, n.life, n.number) c.marks.acked) of_switch there))
+          subst (λ (a : ℕ). IsIn (s, a, n.number) c.marks.acked) of_life (subst (λ (a : ℕ). IsIn (a, n.life, n.number) c.marks.acked) of_switch (finished_marks c ready n k goes_on)))
 
   -- a proposal may follow
   pub proposal_follows : (x : ControllerInput) (c : ControllerState) (entry : Entry) → IsProposed kinds setup x c entry → may_follow c.vr.log entry ≡ true

@@ -6,7 +6,8 @@ use Rattle.std.proofs.lemmas.List.{length-replicate}
 use Rattle.of_types.specs.declared.setup.Setup.{Setup}
 use Rattle.rv_base.specs.declared.journal.SaveResult.{SaveResult}
 use Rattle.rv_base.specs.declared.journal.SaveResult.TheVariants.{Saved, KeptOld, KeptNew}
-use Rattle.agreement.specs.Lists.{IsPrefix, IsIn}
+use Rattle.lists.proofs.Prefixes.{prefix_refl, prefix_trans}
+use Rattle.lists.specs.Lists.{IsIn, IsPrefix}
 use Rattle.agreement.specs.History as core
 use Rattle.agreement.specs.History.{Group, size, Message, Answer, State, History, letter}
 use Rattle.agreement.specs.Invariant.{is_up, Invariant}
@@ -15,7 +16,6 @@ use Rattle.agreement.specs.Turns.{Turn}
 use Rattle.agreement.specs.Journals as journal
 use Rattle.agreement.specs.Journals.{Input, Comes, Tracks, GoesOn}
 use Rattle.agreement.proofs.Consequences.{up_view}
-use Rattle.agreement.proofs.Prefixes.{prefix_refl, prefix_trans}
 use Rattle.agreement.proofs.Walks.{good_at}
 use Rattle.vr_log.specs.declared.entry.Entry.{Entry}
 use Rattle.vr_log.specs.declared.message.VrMessage.{VrMessage}

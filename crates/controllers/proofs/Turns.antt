@@ -3,7 +3,8 @@ use Rattle.std.proofs.Common.{◌≡◌, ◌≢◌, ℕ, ◌+◌, ◌<◌, ◌�
 use Rattle.std.proofs.lemmas.Bool.{cases_eq, and_parts, cond-true, cond-false, eqb-true, eq-eqb, ne_eqb}
 use Rattle.of_types.specs.declared.setup.Setup.{Setup}
 use Rattle.rv_base.specs.declared.journal.Local.TheVariants as local
-use Rattle.agreement.specs.Lists.{IsPrefix, IsIn}
+use Rattle.lists.proofs.Prefixes.{prefix_append, prefix_refl, prefix_trans}
+use Rattle.lists.specs.Lists.{IsIn, IsPrefix}
 use Rattle.agreement.specs.History as core
 use Rattle.agreement.specs.History.{Group, size, primary_of, State, History, letter}
 use Rattle.agreement.specs.Invariant.{is_up, Invariant, IsGroup}
@@ -11,7 +12,6 @@ use Rattle.agreement.specs.Moves.{Moved, Resembles, StandsAt, appended}
 use Rattle.agreement.specs.Turns.{Turn}
 use Rattle.agreement.specs.Journals.{tracked, Tracks}
 use Rattle.agreement.specs.Effects.{prepares}
-use Rattle.agreement.proofs.Prefixes.{prefix_refl, prefix_trans, prefix_append}
 use Rattle.agreement.proofs.Runs.{run_keeps}
 use Rattle.agreement.proofs.Turns.{turn_run}
 use Rattle.agreement.proofs.Conditions.{own_valid}

@@ -1,9 +1,9 @@
--- The laws of every legal past.
+-- The laws of every possible past.
 use Rattle.std.proofs.Common.{List}
 use Rattle.rv_base.specs.declared.journal.JournalEntry.{JournalEntry}
 use Rattle.rv_base.specs.declared.journal.SaveResult.{SaveResult}
 use Rattle.rv_runs.specs.States.{Scene}
-use Rattle.rv_runs.specs.Legal.{IsLegalPast}
+use Rattle.rv_runs.specs.Legal.{IsPossible}
 use Rattle.rv_runs.specs.Laws.{IsLasting, IsFenced, IsExactlyOnce}
 use Rattle.exactly_once.specs.Facts.{facts_of}
 use Rattle.rv_runs.specs.States.{IsFaithful}
@@ -14,15 +14,15 @@ use Rattle.exactly_once.proofs.Executed.{holds_always, once}
 use Rattle.exactly_once.proofs.Fencing.{all_fenced}
 
 module _ {B : Type 0} (scene : Scene B) (results : List (List SaveResult)) (entries : List (JournalEntry B)) where
-  pub is_lasting : IsFaithful scene.sealing → AreControllers scene results → IsLegalPast scene results entries → IsLasting scene results entries
-  is_lasting faithful sides legal = lasts scene results sides (holds_always scene results faithful sides) entries legal.possible
+  pub is_lasting : IsFaithful scene.sealing → AreControllers scene results → IsPossible scene results entries → IsLasting scene results entries
+  is_lasting faithful sides possible = lasts scene results sides (holds_always scene results faithful sides) entries possible
 
-  pub is_once : IsFaithful scene.sealing → AreControllers scene results → IsLegalPast scene results entries → IsExactlyOnce scene results entries
-  is_once faithful sides legal = once scene results faithful sides entries legal.possible
+  pub is_once : IsFaithful scene.sealing → AreControllers scene results → IsPossible scene results entries → IsExactlyOnce scene results entries
+  is_once faithful sides possible = once scene results faithful sides entries possible
 
-  pub is_fenced : IsFaithful scene.sealing → AreControllers scene results → IsLegalPast scene results entries → IsFenced scene entries
-  is_fenced faithful sides legal =
+  pub is_fenced : IsFaithful scene.sealing → AreControllers scene results → IsPossible scene results entries → IsFenced scene entries
+  is_fenced faithful sides possible =
       all_fenced scene results (λ past. facts_of scene results past)
       (λ e before here s x same heard.
       switch_hears_truth scene results faithful (grows scene results sides) (front scene results sides) sides e before here (trusted scene results sides (holds_always scene results faithful sides) e before here) s x same heard)
-      entries legal.possible
+      entries possible

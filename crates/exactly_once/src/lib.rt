@@ -1,11 +1,11 @@
-//! The laws of every journal of a world, where its controllers keep to their side.
+//! The laws of every past of a run that may have come about, where its controllers keep to their side.
 #![tactic(auto)]
 
 ghost use Rattle.std.specs.Prelude.{List};
 ghost use Rattle.rv_base.specs.declared.journal.JournalEntry.{JournalEntry};
 ghost use Rattle.rv_base.specs.declared.journal.SaveResult.{SaveResult};
 ghost use Rattle.rv_runs.specs.States.{Scene};
-ghost use Rattle.rv_runs.specs.Legal.{IsPossible, IsLegalPast};
+ghost use Rattle.rv_runs.specs.Legal.{IsPossible};
 ghost use Rattle.rv_runs.specs.Laws.{IsLasting, IsFenced, IsExactlyOnce};
 ghost use Rattle.exactly_once.specs.Invariant.{Holds};
 ghost use Rattle.rv_runs.specs.States.{IsFaithful};
@@ -21,7 +21,7 @@ pub fn invariant<B>()
 /// What was decided stays decided.
 pub fn lasting<B>()
     ensures { (scene : Scene B) (results : List (List SaveResult)) (entries : List (JournalEntry B)) →
-        IsFaithful scene.sealing → AreControllers scene results → IsLegalPast scene results entries → IsLasting scene results entries }
+        IsFaithful scene.sealing → AreControllers scene results → IsPossible scene results entries → IsLasting scene results entries }
 {}
 
 /// Each life of a switch carried out, each once and in order, a prefix of what one fault-free controller issues to it
@@ -29,13 +29,13 @@ pub fn lasting<B>()
 /// once it was processed.
 pub fn exactly_once<B>()
     ensures { (scene : Scene B) (results : List (List SaveResult)) (entries : List (JournalEntry B)) →
-        IsFaithful scene.sealing → AreControllers scene results → IsLegalPast scene results entries → IsExactlyOnce scene results entries }
+        IsFaithful scene.sealing → AreControllers scene results → IsPossible scene results entries → IsExactlyOnce scene results entries }
 {}
 
 /// No switch carried out a command of a stale generation, in any of its lives.
 pub fn fence<B>()
     ensures { (scene : Scene B) (results : List (List SaveResult)) (entries : List (JournalEntry B)) →
-        IsFaithful scene.sealing → AreControllers scene results → IsLegalPast scene results entries → IsFenced scene entries }
+        IsFaithful scene.sealing → AreControllers scene results → IsPossible scene results entries → IsFenced scene entries }
 {}
 
 /// What one turn of a switch does, whatever it hears.

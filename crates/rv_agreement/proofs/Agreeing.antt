@@ -1,11 +1,11 @@
 -- Of what the controllers of a run have committed, at any two times, one begins the other.
-use Rattle.std.proofs.Common.{◌≡◌, ℕ, ◌+◌, ◌-◌, ◌*◌, ◌<◌, ◌≤◌, ◌⊎◌, inl, inr, Bool, true, false, cond, List, [], ◌∷◌, ◌++◌, length, take, drop, refl, sym, ap, ◌∙◌, subst, subst₂, arith, take-append-drop, append_assoc, drop-drop}
+use Rattle.std.proofs.Common.{◌≡◌, ℕ, ◌+◌, ◌-◌, ◌*◌, ◌<◌, ◌≤◌, ◌⊎◌, inl, inr, Bool, true, false, cond, List, [], ◌∷◌, ◌++◌, take, drop, refl, sym, ap, ◌∙◌, subst, subst₂, arith, take-append-drop, append_assoc, drop-drop}
 use Rattle.std.proofs.lemmas.Bool.{cases_lt}
 use Rattle.rv_base.specs.declared.journal.Actor.TheVariants as actor
 use Rattle.rv_base.specs.declared.journal.JournalEntry.{JournalEntry}
 use Rattle.rv_base.specs.declared.journal.SaveResult.{SaveResult}
 use Rattle.rv_base.specs.Part.{part, drawn}
-use Rattle.agreement.specs.Lists.{IsPrefix}
+use Rattle.lists.specs.Lists.{IsPrefix}
 use Rattle.agreement.specs.Invariant as invariant
 use Rattle.agreement.specs.Journals as journal
 use Rattle.agreement.specs.Journals.{settled}
@@ -23,20 +23,11 @@ use Rattle.controllers.proofs.Following.{follow_law}
 use Rattle.rv_runs.specs.States.{Scene, controller_at}
 use Rattle.rv_runs.specs.Legal.{results_of}
 use Rattle.rv_runs.specs.Committed.{kept}
-use Rattle.rv_runs.specs.Laws as run
-use Rattle.exactly_once.specs.Premises.{AreOne}
 use Rattle.rv_agreement.specs.Projection.{entries_of, past_of, rules_of}
 use Rattle.rv_agreement.specs.Laws.{KeptLogsAgree}
 use Rattle.rv_agreement.proofs.Journals.{in_group, past_orderly}
 use Rattle.rv_agreement.proofs.Reading.{IsReadPast, read_drop, read_past}
 use Rattle.rv_agreement.proofs.Standing.{saving, stands_alike}
-
--- a beginning by its length is one by what follows it
-pub as_prefix : {xs ys : List Entry} → IsPrefix xs ys → run.IsPrefix xs ys
-as_prefix {xs} {ys} p = record { rest = drop (length xs) ys; joined = sym (take-append-drop (length xs) ys) ∙ ap (λ (l : List Entry). l ++ drop (length xs) ys) (sym p.is) }
-
-as_one : {xs ys : List Entry} → IsPrefix xs ys ⊎ IsPrefix ys xs → AreOne xs ys
-as_one z = elim z [ inl p ↦ inl (as_prefix p) | inr p ↦ inr (as_prefix p) ]
 
 turned : {xs ys : List Entry} → IsPrefix xs ys ⊎ IsPrefix ys xs → IsPrefix ys xs ⊎ IsPrefix xs ys
 turned z = elim z [ inl p ↦ inr p | inr p ↦ inl p ]
@@ -101,4 +92,4 @@ module _ {B : Type 0} (scene : Scene B) (results : List (List SaveResult)) (most
   ]
 
 pub kept_law : {B : Type 0} → KeptLogsAgree B
-kept_law scene results most_failures past c d i j n read legal b b' = as_one (kept_agree scene results most_failures n past (read_past scene results past legal read) c d i j b b')
+kept_law scene results most_failures past c d i j n read legal b b' = kept_agree scene results most_failures n past (read_past scene results past legal read) c d i j b b'

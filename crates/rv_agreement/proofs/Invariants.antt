@@ -15,7 +15,8 @@ use Rattle.rv_base.specs.declared.journal.SaveResult.TheVariants.{Saved, KeptOld
 use Rattle.rv_base.specs.Actors.{same_actor, actor_of}
 use Rattle.rv_base.specs.Part.{part, drawn}
 use Rattle.rv_base.specs.Pool.{pool}
-use Rattle.rv_base.proofs.Among.{Among}
+use Rattle.lists.proofs.Elements.{all_of}
+use Rattle.lists.specs.Lists.{IsIn}
 use Rattle.vr_log.specs.declared.message.VrMessage.{VrMessage}
 use Rattle.group_controller.specs.declared.messages.ControllerInput.{ControllerInput}
 use Rattle.group_controller.specs.declared.messages.ControllerInput.TheVariants as controller_input
@@ -28,13 +29,12 @@ use Rattle.rv_runs.specs.declared.messages.Message.TheVariants as message
 use Rattle.rv_runs.specs.declared.messages.Unsealed.{Unsealed}
 use Rattle.rv_runs.specs.declared.messages.Unsealed.TheVariants as unsealed
 use Rattle.rv_runs.specs.declared.messages.Way.TheVariants as way
-use Rattle.rv_runs.specs.Messages.{way_of}
+use Rattle.rv_runs.specs.Messages.{FitsMessage, way_of}
 use Rattle.rv_runs.specs.States.{Scene, ControllerAt, IsFaithful, content, controller_hears, controller_message, controller_saved, controller_took, controller_step, controller_at}
 use Rattle.rv_runs.specs.Legal.{FitsTypes, IsPossible, results_of}
 use Rattle.exactly_once.specs.Premises.{IsHeard, By_draw, By_local}
 use Rattle.exactly_once.proofs.Entries.{Own, Other, controller_after}
 use Rattle.exactly_once.proofs.Journals.{possible_before, self_controller}
-use Rattle.exactly_once.proofs.Lists.{all_of}
 use Rattle.exactly_once.proofs.Packets.{IsPosted, Was, New, pool_after}
 use Rattle.rv_agreement.specs.Reading.{DrawsValidEvent, DrawsValidEvents}
 use Rattle.rv_agreement.proofs.Pasts.{IsInputOf, OfItself, OfPacket, named, input_of_entry, was_owed}
@@ -77,12 +77,12 @@ read_between {B} scene p j d said m from to body says =
     let on : way_of p.from p.to ≡ way.Vr = ap (λ (a : Actor). way_of a p.to) from ∙ ap (λ (a : Actor). way_of (actor.Controller j) a) to in
     ap (λ (b : B). scene.sealing.spelled way.Vr b) (sym body) ∙ ap (λ (w : way.the_data). scene.sealing.spelled w p.body) (sym on) ∙ says
 
--- a valid message is read as it was sealed
-pub valid_read : {B : Type 0} (scene : Scene B) → IsFaithful scene.sealing → (d : ℕ) (said : ControllerSays) (m : VrMessage) → IsValidTo (actor.Controller d) said
+-- a valid message whose numbers fit is read as it was sealed
+pub valid_read : {B : Type 0} (scene : Scene B) → IsFaithful scene.sealing → (d : ℕ) (said : ControllerSays) (m : VrMessage) → IsValidTo (actor.Controller d) said → FitsMessage (controller_message said)
     → scene.sealing.spelled way.Vr (scene.sealing.sealed (controller_message said)) ≡ unsealed.Message (message.Vr m) → said ≡ controller_says.Vr m
-valid_read scene faithful d (controller_says.Of xid x) m valid says = absurd valid
-valid_read scene faithful d (controller_says.Vr x) m valid says =
-    let both : unsealed.Message (message.Vr x) ≡ unsealed.Message (message.Vr m) = sym (faithful (message.Vr x) valid) ∙ says in
+valid_read scene faithful d (controller_says.Of xid x) m valid typed says = absurd valid
+valid_read scene faithful d (controller_says.Vr x) m valid typed says =
+    let both : unsealed.Message (message.Vr x) ≡ unsealed.Message (message.Vr m) = sym (faithful (message.Vr x) valid typed) ∙ says in
     ap (λ (k : VrMessage). controller_says.Vr k) (let same : x ≡ m = cc in same)
 
 module _ {B : Type 0} (scene : Scene B) (results : List (List SaveResult)) (faithful : IsFaithful scene.sealing)
@@ -102,10 +102,11 @@ module _ {B : Type 0} (scene : Scene B) (results : List (List SaveResult)) (fait
     pub said : ControllerSays
     pub body : p.body ≡ scene.sealing.sealed (controller_message said)
     pub may : IsSaid p.to said
+    pub typed : FitsMessage (controller_message said)
 
   pub record HoldsAfter (past : List (JournalEntry B)) : Type 0 where
     pub controllers : (c : ℕ) → c < scene.setup.controllers → HoldsAt (at c past)
-    pub packets : (p : Packet B) → Among p (pool past) → (j : ℕ) → p.from ≡ actor.Controller j → Carries p
+    pub packets : (p : Packet B) → IsIn p (pool past) → (j : ℕ) → p.from ≡ actor.Controller j → Carries p
 
   took_holds : (rs : List SaveResult) (w : ControllerAt) (work : Work) → HoldsAt w → IsGoodWork IsGood IsSaid w.now work → HoldsAt (controller_took rs w work)
   took_holds rs w work s p = by_save work.save refl
@@ -139,7 +140,7 @@ module _ {B : Type 0} (scene : Scene B) (results : List (List SaveResult)) (fait
         let r = from_member p.from (content scene.sealing p) j m (sym is ∙ hears) in
         let k = good.packets p among j r.0 in
         let said : IsSaid (actor.Controller c) k.said = subst (λ (a : Actor). IsSaid a k.said) to k.may in
-        let same = valid_read scene faithful c k.said m (invariant.valid (actor.Controller c) k.said said) (read_between scene p j c k.said m r.0 to k.body r.1) in
+        let same = valid_read scene faithful c k.said m (invariant.valid (actor.Controller c) k.said said) k.typed (read_between scene p j c k.said m r.0 to k.body r.1) in
         subst (λ (y : ControllerSays). IsSaid (actor.Controller c) y) same said)
 
     controllers_after : (c : ℕ) → c < scene.setup.controllers → HoldsAt (at c (e ∷ before))
@@ -160,6 +161,7 @@ module _ {B : Type 0} (scene : Scene B) (results : List (List SaveResult)) (fait
           said = w.letter.body;
           body = w.body_is;
           may = subst (λ (a : Actor). IsSaid a w.letter.body) (sym w.to_is) (all_of (λ (l : Letter ControllerSays). IsSaid l.to l.body) (at c before).owed w.letter (good.controllers c there).owed w.among);
+          typed = w.typed;
         }
 
     good_after : HoldsAfter (e ∷ before)

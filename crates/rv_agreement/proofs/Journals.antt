@@ -1,5 +1,5 @@
 -- A possible past is orderly for the fold of agreement, and what waits between members was posted.
-use Rattle.std.proofs.Common.{◌≡◌, ℕ, ◌+◌, ◌*◌, ◌<◌, inl, inr, Bool, Option, Some, None, List, [], ◌∷◌, ◌++◌, map, refl, sym, ap, ◌∙◌, subst}
+use Rattle.std.proofs.Common.{◌≡◌, ℕ, ◌+◌, ◌*◌, ◌<◌, inl, inr, Bool, Option, Some, None, List, [], ◌∷◌, ◌++◌, refl, sym, ap, ◌∙◌, subst}
 use Rattle.rv_base.specs.declared.journal.Actor.{Actor}
 use Rattle.rv_base.specs.declared.journal.Actor.TheVariants as actor
 use Rattle.rv_base.specs.declared.journal.JournalEntry.{JournalEntry}
@@ -9,15 +9,14 @@ use Rattle.rv_base.specs.declared.journal.Packet.{Packet}
 use Rattle.rv_base.specs.declared.journal.SaveResult.{SaveResult}
 use Rattle.rv_base.specs.Part.{part, packet_of, drawn}
 use Rattle.rv_base.specs.Pool.{pool}
-use Rattle.rv_base.proofs.Among.{Among}
-use Rattle.agreement.specs.Lists.{IsIn}
+use Rattle.lists.proofs.Elements.{all_of, in_left, in_right}
+use Rattle.lists.specs.Lists.{IsIn}
 use Rattle.agreement.specs.History as core
 use Rattle.agreement.specs.History.{size, letter}
 use Rattle.agreement.specs.Journals as journal
 use Rattle.agreement.specs.Journals.{Comes, posted, left_by, owed}
 use Rattle.agreement.specs.Standing as fold
 use Rattle.agreement.specs.Standing.{standing}
-use Rattle.agreement.proofs.Elements.{in_left, in_right}
 use Rattle.agreement.proofs.Standing.{folds_law}
 use Rattle.vr_log.specs.declared.entry.Entry.{Entry}
 use Rattle.vr_log.specs.declared.message.VrMessage.{VrMessage}
@@ -28,10 +27,10 @@ use Rattle.controllers.specs.Projection.{OwnInput, letters_to, letters_to_member
 use Rattle.rv_runs.specs.declared.messages.Message.TheVariants as message
 use Rattle.rv_runs.specs.declared.messages.Unsealed.{Unsealed}
 use Rattle.rv_runs.specs.declared.messages.Unsealed.TheVariants as unsealed
-use Rattle.rv_runs.specs.States.{Scene, content, controller_hears, controller_message, sealed_letters, controller_at}
+use Rattle.rv_runs.specs.Messages.{FitsMessage}
+use Rattle.rv_runs.specs.States.{Scene, content, controller_hears, controller_message, controller_at}
 use Rattle.rv_runs.specs.Legal.{results_of}
 use Rattle.exactly_once.proofs.Journals.{self_controller}
-use Rattle.exactly_once.proofs.Lists.{all_of}
 use Rattle.exactly_once.proofs.Packets.{drawn_found, IsPosted, Was, New, pool_after}
 use Rattle.rv_agreement.specs.Projection.{taken_by, entries_of, past_of, rules_of}
 use Rattle.rv_agreement.proofs.Invariants.{read_between}
@@ -39,16 +38,12 @@ use Rattle.rv_agreement.proofs.Pasts.{named, fits, was_owed}
 use Rattle.rv_agreement.proofs.Reading.{IsRead, IsReadPast, read_before}
 use Rattle.rv_agreement.proofs.Standing.{stands_alike}
 
-no_letters : {A C : Type 0} (f : A → C) (xs : List A) → map f xs ≡ [] → xs ≡ []
-no_letters f [] e = refl
-no_letters f (x ∷ xs) e = absurd cc
-
 -- what is said in a letter is among what is said in all
-said_among : (c : ℕ) (ls : List (Letter ControllerSays)) (l : Letter ControllerSays) → Among l ls → (x : core.Letter Entry) → IsIn x (letters_to c l.to l.body) → IsIn x (letters_to_members c ls)
+said_among : (c : ℕ) (ls : List (Letter ControllerSays)) (l : Letter ControllerSays) → IsIn l ls → (x : core.Letter Entry) → IsIn x (letters_to c l.to l.body) → IsIn x (letters_to_members c ls)
 said_among c [] l i x k = absurd i
 said_among c (m ∷ ls) l i x k = elim i [
-  | inl e ↦ in_left (letters_to c m.to m.body) (letters_to_members c ls) x (subst (λ (z : Letter ControllerSays). IsIn x (letters_to c z.to z.body)) e k)
-  | inr j ↦ in_right (letters_to c m.to m.body) (letters_to_members c ls) x (said_among c ls l j x k)
+  | inl e ↦ in_left x (letters_to c m.to m.body) (letters_to_members c ls) (subst (λ (z : Letter ControllerSays). IsIn x (letters_to c z.to z.body)) e k)
+  | inr j ↦ in_right x (letters_to c m.to m.body) (letters_to_members c ls) (said_among c ls l j x k)
 ]
 
 -- what is no message of a member is of the controller's own
@@ -83,17 +78,17 @@ module _ {B : Type 0} (scene : Scene B) (results : List (List SaveResult)) (most
 
   pub record IsOrderlyPast (past : List (JournalEntry B)) : Type 0 where
     pub orderly : fold.IsOrderly (rules_of scene most_failures results) (group_of most_failures) (past_of scene past)
-    pub packets : (p : Packet B) → Among p (pool past) → (j : ℕ) → p.from ≡ actor.Controller j → IsPostedBy past p j
+    pub packets : (p : Packet B) → IsIn p (pool past) → (j : ℕ) → p.from ≡ actor.Controller j → IsPostedBy past p j
 
   posts_more : (ys past : List (journal.Entry OwnInput Entry)) (x : core.Letter Entry) → IsIn x (posts past) → IsIn x (posts (ys ++ past))
   posts_more [] past x i = i
-  posts_more (y ∷ ys) past x i = in_right (left_by (rules_of scene most_failures results) y (ys ++ past)) (posts (ys ++ past)) x (posts_more ys past x i)
+  posts_more (y ∷ ys) past x i = in_right x (left_by (rules_of scene most_failures results) y (ys ++ past)) (posts (ys ++ past)) (posts_more ys past x i)
 
   posted_more : (e : JournalEntry B) (before : List (JournalEntry B)) (p : Packet B) (j : ℕ) → IsPostedBy before p j → IsPostedBy (e ∷ before) p j
   posted_more e before p j k = record { said = k.said; body = k.body; read = k.read; sent = λ x i. posts_more (entries_of scene e (drawn e before)) (past_of scene before) x (k.sent x i) }
 
   -- a packet that is drawn was posted
-  drawn_comes : (d : ℕ) (before : List (JournalEntry B)) → IsOrderlyPast before → (p : Packet B) → Among p (pool before) → p.to ≡ actor.Controller d
+  drawn_comes : (d : ℕ) (before : List (JournalEntry B)) → IsOrderlyPast before → (p : Packet B) → IsIn p (pool before) → p.to ≡ actor.Controller d
       → Comes d (taken_by d (controller_hears p.from (content scene.sealing p))) (posts (past_of scene before))
   drawn_comes d before k p i to =
       comes d (posts (past_of scene before)) p.from (content scene.sealing p) (λ j m from says.
@@ -103,13 +98,13 @@ module _ {B : Type 0} (scene : Scene B) (results : List (List SaveResult)) (most
       (subst (λ (a : Actor). IsIn (letter j d (message_of m)) (letters_to j a s.said)) (sym to)
       (subst (λ (b : ControllerSays). IsIn (letter j d (message_of m)) (letters_to j (actor.Controller d) b)) (sym is) (inl refl))))
 
-  nothing_owed : (d : ℕ) (before : List (JournalEntry B)) → IsReadPast scene results before → sealed_letters controller_message scene.sealing (owes d before) ≡ [] → (standing (rules_of scene most_failures results) d (past_of scene before)).owes ≡ []
+  nothing_owed : (d : ℕ) (before : List (JournalEntry B)) → IsReadPast scene results before → owes d before ≡ [] → (standing (rules_of scene most_failures results) d (past_of scene before)).owes ≡ []
   nothing_owed d before k e =
       (stands_alike scene results most_failures d n before k.possible.orderly).owes
-      ∙ ap (λ (ls : List (Letter ControllerSays)). letters_to_members d ls) (no_letters (λ l. record { to = l.to; body = scene.sealing.sealed (controller_message l.body) }) (owes d before) e)
+      ∙ ap (λ (ls : List (Letter ControllerSays)). letters_to_members d ls) e
 
   drawing : (d id : ℕ) (keep : Bool) (before : List (JournalEntry B)) → IsOrderlyPast before → d < size (group_of most_failures) → (standing (rules_of scene most_failures results) d (past_of scene before)).owes ≡ []
-      → (p : Packet B) → Among p (pool before) → p.to ≡ actor.Controller d → (q : Option (Packet B)) → q ≡ Some p
+      → (p : Packet B) → IsIn p (pool before) → p.to ≡ actor.Controller d → (q : Option (Packet B)) → q ≡ Some p
       → fold.IsOrderly (rules_of scene most_failures results) (group_of most_failures) (entries_of scene (Draw (actor.Controller d) id keep) q ++ past_of scene before)
   drawing d id keep before k b none p i to None e = absurd cc
   drawing d id keep before k b none p i to (Some q) e =
@@ -148,10 +143,10 @@ module _ {B : Type 0} (scene : Scene B) (results : List (List SaveResult)) (most
       record {
         said = w.letter.body;
         body = w.body_is;
-        read = subst (λ (a : Actor). IsRead scene a w.letter.body) (sym w.to_is) (all_of (λ (l : Letter ControllerSays). IsRead scene l.to l.body) (owes d before) w.letter (k.letters.0 d there) w.among);
+        read = subst (λ (a : Actor). IsRead scene a w.letter.body) (sym w.to_is) (all_of (λ (l : Letter ControllerSays). FitsMessage (controller_message l.body) → IsRead scene l.to l.body) (owes d before) w.letter (k.letters.0 d there) w.among w.typed);
         sent = λ x y.
             let z : IsIn x (letters_to d w.letter.to w.letter.body) = subst (λ (a : Actor). IsIn x (letters_to d a w.letter.body)) w.to_is y in
-            in_left (owed (rules_of scene most_failures results) d (past_of scene before)) (posts (past_of scene before)) x
+            in_left x (owed (rules_of scene most_failures results) d (past_of scene before)) (posts (past_of scene before))
             (subst (λ (ls : List (core.Letter Entry)). IsIn x ls) (sym (agrees.owes ∙ same.owes)) (said_among d (owes d before) w.letter w.among x z));
       }
 

@@ -4,13 +4,13 @@ use Rattle.std.specs.List.{range_with_len}
 use Rattle.std.proofs.lemmas.Bool.{cond_both, ltb-true}
 use Rattle.rv_base.specs.declared.journal.JournalEntry.{JournalEntry}
 use Rattle.rv_base.specs.declared.journal.SaveResult.{SaveResult}
-use Rattle.agreement.specs.Lists.{IsPrefix, IsIn}
-use Rattle.agreement.proofs.Prefixes.{prefix_refl, prefix_nil, prefix_trans, prefix_same}
+use Rattle.lists.proofs.Prefixes.{prefix_equal, prefix_nil, prefix_refl, prefix_trans}
+use Rattle.lists.specs.Lists.{IsIn, IsPrefix}
 use Rattle.vr_log.specs.declared.entry.Entry.{Entry}
 use Rattle.rv_runs.specs.States.{Scene}
 use Rattle.rv_runs.specs.Committed.{kept, longest, decided}
 use Rattle.rv_agreement.specs.Laws.{DecidedLasts}
-use Rattle.rv_agreement.proofs.Agreeing.{as_prefix, drops, kept_agree}
+use Rattle.rv_agreement.proofs.Agreeing.{drops, kept_agree}
 use Rattle.rv_agreement.proofs.Reading.{IsReadPast, read_drop, read_past}
 
 -- the longest is the first, or among the others, and none is longer than it
@@ -36,7 +36,7 @@ in_range f a (suc n) x i = elim i [
 -- of two lists that begin one another the longer one is begun
 longer_begun : (xs ys : List Entry) → length xs ≤ length ys → IsPrefix xs ys ⊎ IsPrefix ys xs → IsPrefix xs ys
 longer_begun xs ys l (inl p) = p
-longer_begun xs ys l (inr p) = subst (λ (z : List Entry). IsPrefix xs z) (sym (prefix_same p l)) (prefix_refl xs)
+longer_begun xs ys l (inr p) = subst (λ (z : List Entry). IsPrefix xs z) (sym (prefix_equal p l)) (prefix_refl xs)
 
 module _ {B : Type 0} (scene : Scene B) (results : List (List SaveResult)) where
   -- nothing, or what a controller had committed at some time of a past
@@ -78,4 +78,4 @@ module _ {B : Type 0} (scene : Scene B) (results : List (List SaveResult)) where
         prefix_trans (subst (λ (es : List (JournalEntry B)). IsPrefix (decided scene results es) (decided scene results there)) back (decided_step there (read_drop scene results (i + j) past k))) (lasts past k i j)
 
 pub lasting_law : {B : Type 0} → DecidedLasts B
-lasting_law scene results most_failures past n read legal i j = as_prefix (lasts scene results most_failures n past (read_past scene results past legal read) i j)
+lasting_law scene results most_failures past n read legal i j = lasts scene results most_failures n past (read_past scene results past legal read) i j

@@ -5,7 +5,9 @@ use Rattle.rv_base.specs.declared.journal.Actor.TheVariants as actor
 use Rattle.rv_base.specs.declared.journal.JournalEntry.{JournalEntry}
 use Rattle.rv_base.specs.declared.journal.SaveResult.{SaveResult}
 use Rattle.rv_base.specs.Part.{part}
-use Rattle.agreement.specs.Lists.{IsPrefix, count_below}
+use Rattle.agreement.specs.Lists.{count_below}
+use Rattle.lists.proofs.Prefixes.{prefix_nil, prefix_trans}
+use Rattle.lists.specs.Lists.{IsPrefix}
 use Rattle.agreement.specs.History as core
 use Rattle.agreement.specs.History.{Group, size, primary_of}
 use Rattle.agreement.specs.Decided as decision
@@ -13,7 +15,6 @@ use Rattle.agreement.specs.Journals as journal
 use Rattle.agreement.specs.Journals.{Rules, Held, settled, settled_by, held}
 use Rattle.agreement.specs.Leading as leading
 use Rattle.agreement.proofs.Counts.{count_more}
-use Rattle.agreement.proofs.Prefixes.{prefix_nil, prefix_trans}
 use Rattle.agreement.proofs.Standing.{folds_law}
 use Rattle.agreement.proofs.Journals.{then_ok}
 use Rattle.agreement.proofs.Lasting as lasting
@@ -31,7 +32,7 @@ use Rattle.rv_runs.specs.Legal.{results_of}
 use Rattle.rv_runs.specs.Committed.{kept, decided, controller_state}
 use Rattle.rv_agreement.specs.Projection.{past_of, rules_of}
 use Rattle.rv_agreement.specs.Laws.{MostPromiseUpTo, DecidedIsLed}
-use Rattle.rv_agreement.proofs.Agreeing.{as_prefix, past_on, kept_is}
+use Rattle.rv_agreement.proofs.Agreeing.{past_on, kept_is}
 use Rattle.rv_agreement.proofs.Journals.{in_group, past_orderly}
 use Rattle.rv_agreement.proofs.Lasting.{WasKept, decided_kept}
 use Rattle.rv_agreement.proofs.Reading.{IsReadPast, read_drop, read_past}
@@ -142,4 +143,4 @@ module _ {B : Type 0} (scene : Scene B) (results : List (List SaveResult)) (most
       prefix_trans (decided_begins past k) (law normal own (omega arith))
 
 pub decided_law : {B : Type 0} → DecidedIsLed B
-decided_law scene results most_failures past c n read legal b leading_now many = as_prefix (led scene results most_failures n past c (read_past scene results past legal read) b leading_now many)
+decided_law scene results most_failures past c n read legal b leading_now many = led scene results most_failures n past c (read_past scene results past legal read) b leading_now many

@@ -16,10 +16,11 @@ use Rattle.controllers.specs.Spelling.{IsValidTo}
 use Rattle.rv_runs.specs.declared.messages.Message.TheVariants as message
 use Rattle.rv_runs.specs.declared.messages.Unsealed.TheVariants as unsealed
 use Rattle.rv_runs.specs.declared.messages.Way.TheVariants as way
+use Rattle.rv_runs.specs.Messages.{FitsMessage}
 use Rattle.rv_runs.specs.States.{Scene, controller_message, controller_at}
 use Rattle.rv_runs.specs.Legal.{IsPossible, results_of}
 use Rattle.exactly_once.proofs.Journals.{possible_before}
-use Rattle.exactly_once.proofs.Lists.{all_among}
+use Rattle.lists.proofs.Elements.{all_in}
 use Rattle.rv_agreement.specs.Reading.{IsTrueToMembers, DrawsValidEvents, AreReadAsSealed, Always, WhereValid, OwnBodiesAreTrue}
 use Rattle.rv_agreement.proofs.Invariants.{valid_read}
 use Rattle.rv_agreement.proofs.Spelling.{all_spelled}
@@ -29,10 +30,10 @@ abbrev pub IsRead : {B : Type 0} → Scene B → Actor → ControllerSays → Ty
 IsRead scene to said =
     (c : ℕ) (m : VrMessage) → to ≡ actor.Controller c → scene.sealing.spelled way.Vr (scene.sealing.sealed (controller_message said)) ≡ unsealed.Message (message.Vr m) → said ≡ controller_says.Vr m
 
--- so is each letter that a controller owed at some time before the end of a past
+-- so is each letter that a controller owed at some time before the end of a past, if its numbers fit their fields
 abbrev pub OwedAreRead : {B : Type 0} → Scene B → List (List SaveResult) → List (JournalEntry B) → Type 0
 OwedAreRead scene results past =
-    (c : ℕ) → c < scene.setup.controllers → AllByRecursion (λ l. IsRead scene l.to l.body) (controller_at scene (results_of results c) c (part (actor.Controller c) past)).owed
+    (c : ℕ) → c < scene.setup.controllers → AllByRecursion (λ l. FitsMessage (controller_message l.body) → IsRead scene l.to l.body) (controller_at scene (results_of results c) c (part (actor.Controller c) past)).owed
 
 abbrev pub LettersAreRead : {B : Type 0} → Scene B → List (List SaveResult) → List (JournalEntry B) → Type 0
 LettersAreRead scene results [] = ⊤
@@ -60,7 +61,7 @@ module _ {B : Type 0} (scene : Scene B) (results : List (List SaveResult)) where
   read_always : IsTrueToMembers scene.sealing → (past : List (JournalEntry B)) → LettersAreRead scene results past
   read_always true_to [] = tt
   read_always true_to (e ∷ before) =
-      ((λ c there. all_among (λ (l : Letter ControllerSays). IsRead scene l.to l.body) _ (λ l among d m to says. vr_said l.body m (true_to (controller_message l.body) m says))), read_always true_to before)
+      ((λ c there. all_in (λ (l : Letter ControllerSays). FitsMessage (controller_message l.body) → IsRead scene l.to l.body) _ (λ l among typed d m to says. vr_said l.body m (true_to (controller_message l.body) m says))), read_always true_to before)
 
   -- where bodies are read as they were sealed, so are letters
   pub read_past : (past : List (JournalEntry B)) → IsPossible scene results past → AreReadAsSealed scene past → IsReadPast scene results past
@@ -71,8 +72,8 @@ module _ {B : Type 0} (scene : Scene B) (results : List (List SaveResult)) where
       by_past [] k v = tt
       by_past (e ∷ before) k v =
           let k' = possible_before scene results e before k in (
-            (λ c there. all_weaker (λ (l : Letter ControllerSays). IsValidTo l.to l.body) (λ (l : Letter ControllerSays). IsRead scene l.to l.body)
-                (λ l good d m to says. valid_read scene faithful d l.body m (subst (λ (a : Actor). IsValidTo a l.body) to good) says)
+            (λ c there. all_weaker (λ (l : Letter ControllerSays). IsValidTo l.to l.body) (λ (l : Letter ControllerSays). FitsMessage (controller_message l.body) → IsRead scene l.to l.body)
+                (λ l good typed d m to says. valid_read scene faithful d l.body m (subst (λ (a : Actor). IsValidTo a l.body) to good) typed says)
                 _ ((all_spelled scene results faithful before k' v.1).controllers c there).owed),
             by_past before k' v.1,
           )

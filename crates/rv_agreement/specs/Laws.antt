@@ -5,11 +5,12 @@ use Rattle.of_types.specs.Setups.{IsSetup}
 use Rattle.rv_base.specs.declared.journal.JournalEntry.{JournalEntry}
 use Rattle.rv_base.specs.declared.journal.SaveResult.{SaveResult}
 use Rattle.agreement.specs.Lists.{count_below}
+use Rattle.lists.specs.Lists.{IsPrefix}
 use Rattle.vr_log.specs.Members.{leads}
 use Rattle.rv_runs.specs.States.{Scene}
 use Rattle.rv_runs.specs.Legal.{IsPossible}
 use Rattle.rv_runs.specs.Committed.{kept, decided, controller_state}
-use Rattle.rv_runs.specs.Laws.{IsPrefix, IsLasting}
+use Rattle.rv_runs.specs.Laws.{IsLasting}
 use Rattle.exactly_once.specs.Premises.{AreOne}
 use Rattle.rv_agreement.specs.Reading.{AreReadAsSealed}
 

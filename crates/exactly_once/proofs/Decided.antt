@@ -13,9 +13,10 @@ use Rattle.rv_runs.specs.States.{Scene}
 use Rattle.rv_runs.specs.Legal.{IsPossible}
 use Rattle.rv_runs.specs.Committed.{kept, longest, decided}
 use Rattle.rv_runs.specs.Laws.{IsLasting}
-use Rattle.exactly_once.specs.Premises.{AreOne, AreControllers}
+use Rattle.lists.specs.Lists.{AreOne}
+use Rattle.exactly_once.specs.Premises.{AreControllers}
 use Rattle.exactly_once.specs.Invariant.{Holds}
-use Rattle.exactly_once.proofs.Journals.{possible_before, possible_drop}
+use Rattle.rv_runs.proofs.Pasts.{possible_before, possible_drop}
 
 -- a prefix that is no shorter is the whole
 no_more : {A : Type 0} (xs ys : List A) → IsPrefix xs ys → length ys ≤ length xs → IsPrefix ys xs

@@ -31,7 +31,8 @@ use Rattle.exactly_once.proofs.Growing.{entry_more}
 use Rattle.exactly_once.proofs.ControllerTurns.{received_at}
 use Rattle.exactly_once.proofs.LogOrder.{ordered_events, rising, made_in, over_has_ended, get_map, numbers_are, processed_among}
 use Rattle.exactly_once.proofs.Decided.{decided_none, chosen, grows, front, trusted}
-use Rattle.exactly_once.proofs.Journals.{possible_before, firm_events, firm_executed, later, all_holds}
+use Rattle.rv_runs.proofs.Pasts.{possible_before}
+use Rattle.exactly_once.proofs.Journals.{firm_events, firm_executed, later, all_holds}
 
 -- what stands where two lists meet, and before
 seam_at : {A : Type 0} (xs ys : List A) (y : A) → slice_get (xs ++ y ∷ ys) (length xs) ≡ Some y

@@ -23,10 +23,11 @@ use Rattle.rv_runs.specs.Legal.{IsPossible}
 use Rattle.rv_runs.specs.Committed.{switch_state}
 use Rattle.rv_runs.specs.Laws.{Heard, Asked, asked_step, master_asked, masters_asked, IsFenced, IsFencedEntry}
 use Rattle.exactly_once.specs.Facts.{PastFacts}
-use Rattle.exactly_once.proofs.Entries.{IsHeardAt, From_draw, Mine, Another, switch_after}
+use Rattle.rv_runs.specs.Inputs.{IsHeardAt, From_draw}
+use Rattle.rv_runs.proofs.Entries.{Mine, Another, switch_after}
 use Rattle.exactly_once.specs.Invariant.{IsHeardBySwitch}
 use Rattle.exactly_once.proofs.Generations.{Unasked, IsFenced as Fenced, life_stays, may_pass, passes_greatest, told_turn, frame_turn, local_turn}
-use Rattle.exactly_once.proofs.Journals.{possible_before, legal_finds}
+use Rattle.rv_runs.proofs.Pasts.{possible_before, legal_finds}
 
 -- the fence of a switch and its life now, and before what may be its open input
 pub record FencesAt (controllers : ℕ) (asked : Asked) (w : SwitchAt) : Type 0 where

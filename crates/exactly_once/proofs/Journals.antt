@@ -2,14 +2,13 @@
 -- logs it is asked that they agree with what is decided, and that this lasts.
 use Rattle.std.proofs.Common.{◌≡◌, ◌≢◌, ◌<◌, ℕ, Bool, true, false, List, [], ◌∷◌, length, drop, zero, suc, refl, sym, ◌∙◌, ap, subst, inl, inr, arith}
 use Rattle.std.specs.Prelude.{Option, Some, if◌then◌else◌}
-use Rattle.std.proofs.lemmas.Bool.{eq-eqb}
 use Rattle.rv_base.specs.Orderly.{IsOrderly}
 use Rattle.of_types.specs.declared.message.Event.{Event}
 use Rattle.of_types.specs.declared.message.Executed.{Executed}
 use Rattle.rv_base.specs.declared.journal.Actor.{Actor}
 use Rattle.rv_base.specs.declared.journal.Actor.TheVariants as actor
 use Rattle.rv_base.specs.declared.journal.JournalEntry.{JournalEntry}
-use Rattle.rv_base.specs.declared.journal.JournalEntry.TheVariants.{Post, Draw, Lose, Local, Idle, Refused}
+use Rattle.rv_base.specs.declared.journal.JournalEntry.TheVariants.{Post, Draw, Refused}
 use Rattle.rv_base.specs.declared.journal.Letter.{Letter}
 use Rattle.rv_base.specs.declared.journal.Packet.{Packet}
 use Rattle.rv_base.specs.declared.journal.SaveResult.{SaveResult}
@@ -31,17 +30,21 @@ use Rattle.group_controller.specs.State.{ControllerState, starting_controller, c
 use Rattle.group_controller.specs.Rules.{controller_work}
 use Rattle.rv_runs.specs.States.{Scene, SwitchAt, ControllerAt, switch_at, switch_step, controller_at, sealed_letters, switch_message, controller_message, content}
 use Rattle.rv_runs.specs.Legal.{Fits, AreTyped, IsTurn, IsSoundSwitch, IsSoundController, EntryFits, IsPossible, results_of}
+use Rattle.rv_runs.proofs.Pasts.{possible_before, from_some, self_switch, self_controller, legal_finds, turn_fresh}
 use Rattle.rv_runs.specs.Committed.{controller_state, kept_of, kept, decided}
 use Rattle.exactly_once.specs.Facts.{PastFacts, Later, firm, facts_of}
-use Rattle.exactly_once.proofs.Entries.{ControllerGoes, Turns, Falls, Stays, Own, Other, controller_after, IsHeardAt, From_draw, From_local, SwitchGoes, Takes, Rests, Posts, Refuses, switch_goes, Mine, Another, switch_after}
+use Rattle.rv_runs.specs.Inputs.{IsHeardAt, From_draw, From_local}
+use Rattle.rv_runs.proofs.Entries.{ControllerGoes, Turns, Falls, Stays, Own, Other, controller_after, SwitchGoes, Takes, Rests, Posts, Refuses, switch_goes, Mine, Another, switch_after}
 use Rattle.rv_runs.specs.States.{IsFaithful}
-use Rattle.exactly_once.specs.Premises.{IsHeard, By_draw, By_local, AreControllers, IsValidLog}
+use Rattle.rv_runs.specs.Inputs.{IsHeard, By_draw, By_local}
+use Rattle.exactly_once.specs.Premises.{AreControllers, IsValidLog}
 use Rattle.exactly_once.specs.Invariant.{IsSound, IsSoundAt, IsReport, IsHonest, IsHonestAt, IsOrder, IsTrueBetween, IsHeardBySwitch, IsHeardByController, HoldsEntry, Logged, Gathered, Answered, Fetched, HoldsAhead, Own as Owns, Collects, Answers, Supplies, Holds}
 use Rattle.exactly_once.specs.Truths.{IsTrueEntry, IsAhead}
 use Rattle.exactly_once.proofs.Growing.{sound_more, order_more, sound_at_more, honest_at_more, between_more}
 use Rattle.exactly_once.proofs.Switches.{switch_keeps}
 use Rattle.exactly_once.proofs.ControllerTurns.{controller_keeps}
-use Rattle.exactly_once.proofs.Packets.{one_actor, orderly_before, drawn_found, IsPosted, Was, New, pool_after, heard_by_switch, heard_by_controller, switch_packet, controller_packet}
+use Rattle.rv_runs.proofs.Pools.{one_actor, drawn_found, IsPosted, Was, New, pool_after}
+use Rattle.exactly_once.proofs.Packets.{heard_by_switch, heard_by_controller, switch_packet, controller_packet}
 
 -- what is firm is a beginning of what a switch has now
 pub firm_events : (w : SwitchAt) (b : Bool) → IsPrefix w.before.events w.now.events → IsPrefix (if b then w.before else w.now).events w.now.events
@@ -58,54 +61,6 @@ firm_before w h = rw h refl
 -- no entries beside number 0
 nothing_ahead : (f : PastFacts) (k : ℕ) (entries : List Entry) → k ≡ 0 → entries ≡ [] → IsAhead f k entries
 nothing_ahead f k entries is none = record { bound = omega (arith, is); one = λ j among. absurd (subst (λ (l : List Entry). IsIn (Processed j) l) none among) }
-
--- an input is fresh
-turn_fresh : {B : Type 0} (scene : Scene B) (w : SwitchAt) (e : JournalEntry B) (found : Option (Packet B)) (rest : List (JournalEntry B × Option (Packet B))) →
-    ((a : Actor) (id : ℕ) (keep : Bool) → e ≡ Draw a id keep → (p : Packet B) × (found ≡ Some p)) → IsTurn ((e, found) ∷ rest) → (switch_step scene w e found).fresh ≡ true
-turn_fresh scene w (Draw a id keep) found rest finds turn = let r = finds a id keep refl in subst (λ (o : Option (Packet _)). (switch_step scene w (Draw a id keep) o).fresh ≡ true) (sym r.1) refl
-turn_fresh scene w (Local a input) found rest finds turn = refl
-turn_fresh scene w (Post a first letters lost) found rest finds turn = absurd turn
-turn_fresh scene w (Lose a id) found rest finds turn = absurd turn
-turn_fresh scene w (Idle a) found rest finds turn = absurd turn
-turn_fresh scene w (Refused a) found rest finds turn = absurd turn
-
--- a past is possible without its newest entry
-pub possible_before : {B : Type 0} (scene : Scene B) (results : List (List SaveResult)) (e : JournalEntry B) (before : List (JournalEntry B)) → IsPossible scene results (e ∷ before) → IsPossible scene results before
-possible_before {B = B} scene results e before legal =
-    record {
-      named = legal.named.1;
-      views = legal.views.1;
-      orderly = orderly_before scene.sealing.size e before legal.orderly;
-      switches = λ s lt. elim (switch_after scene s e before) [
-        | Mine same is ↦ (subst (λ (p : List (JournalEntry B × Option (Packet B))). IsSoundSwitch scene s p) is (legal.switches s lt)).1
-        | Another other is ↦ subst (λ (p : List (JournalEntry B × Option (Packet B))). IsSoundSwitch scene s p) is (legal.switches s lt)
-      ];
-      controllers = λ c lt. elim (controller_after scene (results_of results c) c e before) [
-        | Own same is goes ↦ (subst (λ (p : List (JournalEntry B × Option (Packet B))). IsSoundController scene (results_of results c) c p) is (legal.controllers c lt)).1
-        | Other other is ↦ subst (λ (p : List (JournalEntry B × Option (Packet B))). IsSoundController scene (results_of results c) c p) is (legal.controllers c lt)
-      ];
-    }
-
-pub possible_drop : {B : Type 0} (scene : Scene B) (results : List (List SaveResult)) (i : ℕ) (entries : List (JournalEntry B)) → IsPossible scene results entries → IsPossible scene results (drop i entries)
-possible_drop scene results zero entries legal = legal
-possible_drop scene results (suc i) [] legal = legal
-possible_drop scene results (suc i) (e ∷ before) legal = possible_drop scene results i before (possible_before scene results e before legal)
-
-pub from_some : {A : Type 0} (x y : A) → Some x ≡ Some y → x ≡ y
-from_some x y h = cc
-
-pub self_switch : (s : ℕ) → same_actor (actor.Switch s) (actor.Switch s) ≡ true
-self_switch s = eq-eqb s s refl
-
-pub self_controller : (c : ℕ) → same_actor (actor.Controller c) (actor.Controller c) ≡ true
-self_controller c = eq-eqb c c refl
-
--- a draw of a legal journal finds its packet
-pub legal_finds : {B : Type 0} (scene : Scene B) (results : List (List SaveResult)) (e : JournalEntry B) (before : List (JournalEntry B)) → IsPossible scene results (e ∷ before) →
-    (a : Actor) (id : ℕ) (keep : Bool) → e ≡ Draw a id keep → (p : Packet B) × (drawn e before ≡ Some p)
-legal_finds {B = B} scene results e before legal a id keep is =
-    let r = drawn_found scene.sealing.size a id keep before (subst (λ (x : JournalEntry B). IsOrderly scene.sealing.size (x ∷ before)) is legal.orderly) in
-    (r.packet, ap (λ (x : JournalEntry B). drawn x before) is ∙ r.found)
 
 module _ {B : Type 0} (scene : Scene B) (results : List (List SaveResult)) (faithful : IsFaithful scene.sealing)
     (grows : (e : JournalEntry B) (before : List (JournalEntry B)) → IsPossible scene results (e ∷ before) → ((i : ℕ) → Holds scene results (drop i before)) → IsPrefix (decided scene results before) (decided scene results (e ∷ before)))

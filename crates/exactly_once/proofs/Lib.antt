@@ -1,7 +1,6 @@
 pub mod Growing
 pub mod Switches
 pub mod ControllerTurns
-pub mod Entries
 pub mod Packets
 pub mod Journals
 pub mod Decided

@@ -1,6 +1,6 @@
 -- What the laws ask of the controllers, and of nothing else but bodies: three facts on committed logs, and sentences
 -- about one turn of a controller.
-use Rattle.std.specs.Prelude.{◌≡◌, ◌<◌, ◌≤◌, ◌⊎◌, ℕ, ◌%◌, ◌^◌, Bool, true, List, ◌∷◌, ◌++◌, length, drop, Option, Some}
+use Rattle.std.specs.Prelude.{◌≡◌, ◌<◌, ◌≤◌, ◌⊎◌, ℕ, ◌%◌, ◌^◌, true, List, ◌∷◌, ◌++◌, length, drop}
 use Rattle.of_types.specs.declared.message.Extension.TheVariants as extension
 use Rattle.of_types.specs.declared.message.Happening.{Happening}
 use Rattle.of_types.specs.declared.message.OfMessage.TheVariants as plain
@@ -10,17 +10,13 @@ use Rattle.of_types.specs.declared.message.Spoken.TheVariants as spoken
 use Rattle.of_types.specs.declared.numbers.TheConstants.{MASTER}
 use Rattle.of_types.specs.declared.setup.Setup.{Setup}
 use Rattle.of_types.specs.Lives.{has_ended}
-use Rattle.rv_base.specs.declared.journal.Actor.{Actor}
 use Rattle.rv_base.specs.declared.journal.Actor.TheVariants as actor
 use Rattle.rv_base.specs.declared.journal.JournalEntry.{JournalEntry}
-use Rattle.rv_base.specs.declared.journal.JournalEntry.TheVariants.{Draw, Local}
 use Rattle.rv_base.specs.declared.journal.Letter.{Letter}
-use Rattle.rv_base.specs.declared.journal.Local.{Local as LocalInput}
-use Rattle.rv_base.specs.declared.journal.Packet.{Packet}
 use Rattle.rv_base.specs.declared.journal.SaveResult.{SaveResult}
 use Rattle.rv_base.specs.Actors.{same_actor, actor_of}
 use Rattle.rv_base.specs.Part.{drawn}
-use Rattle.lists.specs.Lists.{IsIn, IsPrefix}
+use Rattle.lists.specs.Lists.{AreOne, IsIn, IsPrefix}
 use Rattle.vr_log.specs.declared.entry.Entry.{Entry}
 use Rattle.vr_log.specs.declared.entry.Entry.TheVariants.{Received, Processed}
 use Rattle.vr_log.specs.declared.message.VrMessage.{VrMessage}
@@ -36,16 +32,12 @@ use Rattle.group_controller.specs.declared.messages.ControllerInput.TheVariants 
 use Rattle.group_controller.specs.declared.messages.ControllerSays.{ControllerSays}
 use Rattle.group_controller.specs.State.{ControllerState, Work, committed, to_switch, to_member}
 use Rattle.group_controller.specs.Rules.{controller_work}
-use Rattle.rv_runs.specs.States.{Scene, controller_hears, content}
+use Rattle.rv_runs.specs.States.{Scene}
+use Rattle.rv_runs.specs.Inputs.{IsHeard}
 use Rattle.rv_runs.specs.Legal.{IsPossible}
 use Rattle.rv_runs.specs.Committed.{controller_state, kept}
 use Rattle.exactly_once.specs.Facts.{facts_of}
 use Rattle.exactly_once.specs.Invariant.{HasEntry, HoldsEntry, HasAhead, HoldsAhead, IsHonest, IsHeardByController, Holds}
-
--- the input that a controller takes with an entry
-pub data IsHeard {B : Type 0} (scene : Scene B) (e : JournalEntry B) (found : Option (Packet B)) (x : ControllerInput) : Type 0 where
-  By_draw : (a : Actor) (id : ℕ) (keep : Bool) (p : Packet B) → e ≡ Draw a id keep → found ≡ Some p → x ≡ controller_hears p.from (content scene.sealing p) → IsHeard scene e found x
-  By_local : (a : Actor) (input : LocalInput) → e ≡ Local a input → x ≡ controller_input.Local input → IsHeard scene e found x
 
 -- a result that a controller holds, or that its input brings
 abbrev pub IsMarked : ControllerState → ControllerInput → ℕ → ℕ → ℕ → Type 0
@@ -105,10 +97,6 @@ pub record IsGoodTurn (kinds : List ℕ) (setup : Setup) (me : ℕ) (c : Control
   pub entries : (i : ℕ) (e : Entry) → HoldsEntry (controller_work kinds setup c x).state.vr i e → HasSource kinds setup c x i e
   pub ahead : (k : ℕ) (entries : List Entry) → HoldsAhead (controller_work kinds setup c x).state.vr k entries → IsAheadBy kinds setup c x k entries
   pub letters : (l : Letter ControllerSays) → IsIn l (controller_work kinds setup c x).letters → IsPosting kinds setup me c x l
-
--- one of two lists is the beginning of the other
-abbrev pub AreOne : {A : Type 0} → List A → List A → Type 0
-AreOne xs ys = IsPrefix xs ys ⊎ IsPrefix ys xs
 
 -- the entry may follow each of those before it
 abbrev pub IsValidLog : List Entry → Type 0

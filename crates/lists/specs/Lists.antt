@@ -10,3 +10,7 @@ IsIn x (y ∷ ys) = (x ≡ y) ⊎ IsIn x ys
 pub record IsPrefix {A : Type 0} (front whole : List A) : Type 0 where
   pub rest : List A
   pub joined : whole ≡ front ++ rest
+
+-- one of two lists begins the other
+abbrev pub AreOne : {A : Type 0} → List A → List A → Type 0
+AreOne xs ys = IsPrefix xs ys ⊎ IsPrefix ys xs

@@ -32,10 +32,10 @@ use Rattle.rv_runs.specs.declared.messages.Way.TheVariants as way
 use Rattle.rv_runs.specs.Messages.{FitsMessage, way_of}
 use Rattle.rv_runs.specs.States.{Scene, ControllerAt, IsFaithful, content, controller_hears, controller_message, controller_saved, controller_took, controller_step, controller_at}
 use Rattle.rv_runs.specs.Legal.{FitsTypes, IsPossible, results_of}
-use Rattle.exactly_once.specs.Premises.{IsHeard, By_draw, By_local}
-use Rattle.exactly_once.proofs.Entries.{Own, Other, controller_after}
-use Rattle.exactly_once.proofs.Journals.{possible_before, self_controller}
-use Rattle.exactly_once.proofs.Packets.{IsPosted, Was, New, pool_after}
+use Rattle.rv_runs.specs.Inputs.{IsHeard, By_draw, By_local}
+use Rattle.rv_runs.proofs.Entries.{Own, Other, controller_after}
+use Rattle.rv_runs.proofs.Pasts.{possible_before, self_controller}
+use Rattle.rv_runs.proofs.Pools.{IsPosted, Was, New, pool_after}
 use Rattle.rv_agreement.specs.Reading.{DrawsValidEvent, DrawsValidEvents}
 use Rattle.rv_agreement.proofs.Pasts.{IsInputOf, OfItself, OfPacket, named, input_of_entry, was_owed}
 

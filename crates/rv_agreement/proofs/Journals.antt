@@ -30,8 +30,8 @@ use Rattle.rv_runs.specs.declared.messages.Unsealed.TheVariants as unsealed
 use Rattle.rv_runs.specs.Messages.{FitsMessage}
 use Rattle.rv_runs.specs.States.{Scene, content, controller_hears, controller_message, controller_at}
 use Rattle.rv_runs.specs.Legal.{results_of}
-use Rattle.exactly_once.proofs.Journals.{self_controller}
-use Rattle.exactly_once.proofs.Packets.{drawn_found, IsPosted, Was, New, pool_after}
+use Rattle.rv_runs.proofs.Pasts.{self_controller}
+use Rattle.rv_runs.proofs.Pools.{drawn_found, IsPosted, Was, New, pool_after}
 use Rattle.rv_agreement.specs.Projection.{taken_by, entries_of, past_of, rules_of}
 use Rattle.rv_agreement.proofs.Invariants.{read_between}
 use Rattle.rv_agreement.proofs.Pasts.{named, fits, was_owed}

@@ -21,10 +21,10 @@ use Rattle.group_controller.specs.declared.messages.ControllerSays.{ControllerSa
 use Rattle.rv_runs.specs.Messages.{FitsMessage}
 use Rattle.rv_runs.specs.States.{Scene, content, controller_hears, controller_message, controller_at}
 use Rattle.rv_runs.specs.Legal.{Fits, FitsTypes, EntryFits, IsSoundController, IsPossible, results_of}
-use Rattle.exactly_once.specs.Premises.{IsHeard, By_draw, By_local}
-use Rattle.exactly_once.proofs.Entries.{Own, Other, controller_after}
-use Rattle.exactly_once.proofs.Journals.{from_some, self_controller}
-use Rattle.exactly_once.proofs.Packets.{one_actor, drawn_found, IsPosted}
+use Rattle.rv_runs.specs.Inputs.{IsHeard, By_draw, By_local}
+use Rattle.rv_runs.proofs.Entries.{Own, Other, controller_after}
+use Rattle.rv_runs.proofs.Pasts.{from_some, self_controller}
+use Rattle.rv_runs.proofs.Pools.{one_actor, drawn_found, IsPosted}
 use Rattle.controllers.specs.Spelling.{HasValidEvent}
 use Rattle.rv_agreement.specs.Reading.{DrawsValidEvent}
 

@@ -19,7 +19,7 @@ use Rattle.rv_runs.specs.declared.messages.Way.TheVariants as way
 use Rattle.rv_runs.specs.Messages.{FitsMessage}
 use Rattle.rv_runs.specs.States.{Scene, controller_message, controller_at}
 use Rattle.rv_runs.specs.Legal.{IsPossible, results_of}
-use Rattle.exactly_once.proofs.Journals.{possible_before}
+use Rattle.rv_runs.proofs.Pasts.{possible_before}
 use Rattle.lists.proofs.Elements.{all_in}
 use Rattle.rv_agreement.specs.Reading.{IsTrueToMembers, DrawsValidEvents, AreReadAsSealed, Always, WhereValid, OwnBodiesAreTrue}
 use Rattle.rv_agreement.proofs.Invariants.{valid_read}

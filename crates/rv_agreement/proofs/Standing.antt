@@ -26,7 +26,7 @@ use Rattle.controllers.specs.Projection.{OwnInput, Happens, input_of, letters_to
 use Rattle.controllers.specs.Rules.{SavingController, saved, done}
 use Rattle.rv_runs.specs.States.{Scene, ControllerAt, content, controller_hears, controller_saved, controller_took, controller_at}
 use Rattle.rv_runs.specs.Legal.{IsTurn, results_of}
-use Rattle.exactly_once.proofs.Packets.{drawn_found}
+use Rattle.rv_runs.proofs.Pools.{drawn_found}
 use Rattle.rv_agreement.specs.Projection.{taken_by, entries_of, past_of, rules_of}
 use Rattle.rv_agreement.proofs.Inputs.{same_input}
 

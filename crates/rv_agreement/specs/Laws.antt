@@ -11,7 +11,7 @@ use Rattle.rv_runs.specs.States.{Scene}
 use Rattle.rv_runs.specs.Legal.{IsPossible}
 use Rattle.rv_runs.specs.Committed.{kept, decided, controller_state}
 use Rattle.rv_runs.specs.Laws.{IsLasting}
-use Rattle.exactly_once.specs.Premises.{AreOne}
+use Rattle.lists.specs.Lists.{AreOne}
 use Rattle.rv_agreement.specs.Reading.{AreReadAsSealed}
 
 -- of what two controllers have committed, at any two times, one begins the other

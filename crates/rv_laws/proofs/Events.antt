@@ -18,8 +18,9 @@ use Rattle.rv_runs.specs.Legal.{IsPossible}
 use Rattle.rv_agreement.specs.Reading.{DrawsValidEvent, DrawsValidEvents}
 use Rattle.exactly_once.specs.Facts.{PastFacts, facts_of}
 use Rattle.exactly_once.specs.Invariant.{Holds, IsHeardByController}
-use Rattle.exactly_once.proofs.Journals.{possible_before}
-use Rattle.exactly_once.proofs.Packets.{heard_by_controller, happening_short, drawn_found}
+use Rattle.rv_runs.proofs.Pasts.{possible_before}
+use Rattle.rv_runs.proofs.Pools.{drawn_found}
+use Rattle.exactly_once.proofs.Packets.{heard_by_controller, happening_short}
 
 heard_valid : (kinds : List ℕ) (setup : Setup) (f : PastFacts) (x : ControllerInput) → IsHeardByController kinds setup f x → HasValidEvent x
 heard_valid kinds setup f (controller_input.Local input) h = tt

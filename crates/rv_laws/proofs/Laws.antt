@@ -20,7 +20,7 @@ use Rattle.exactly_once.specs.Facts.{facts_of}
 use Rattle.exactly_once.specs.Invariant.{Holds}
 use Rattle.exactly_once.specs.Premises.{IsValidLog, AreControllers}
 use Rattle.exactly_once.proofs.Executed.{holds_always}
-use Rattle.exactly_once.proofs.Journals.{possible_drop}
+use Rattle.rv_runs.proofs.Pasts.{possible_drop}
 use Rattle.exactly_once.proofs.Laws.{is_lasting, is_once, is_fenced}
 use Rattle.exactly_once.proofs.Views.{heard_view, known_view}
 use Rattle.rv_agreement.specs.Reading.{AreReadAsSealed, WhereValid}

@@ -9,7 +9,8 @@ use Rattle.vr_log.specs.Members.{leads}
 use Rattle.rv_runs.specs.States.{Scene, IsFaithful}
 use Rattle.rv_runs.specs.Legal.{IsPossible}
 use Rattle.rv_runs.specs.Committed.{controller_state, kept, decided}
-use Rattle.exactly_once.specs.Premises.{AreOne, IsValidLog, AreControllers}
+use Rattle.lists.specs.Lists.{AreOne}
+use Rattle.exactly_once.specs.Premises.{IsValidLog, AreControllers}
 use Rattle.rv_agreement.specs.Laws.{MostPromiseUpTo}
 
 -- this holds of every past of every run, where bodies say what was sealed in them

@@ -1,1 +1,4 @@
 pub mod Bodies
+pub mod Entries
+pub mod Pools
+pub mod Pasts

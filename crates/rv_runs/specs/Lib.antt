@@ -1,5 +1,6 @@
 pub mod Messages
 pub mod States
+pub mod Inputs
 pub mod Legal
 pub mod Committed
 pub mod Laws

@@ -5,7 +5,6 @@ use Rattle.rv_base.specs.declared.journal.Actor.{Actor}
 use Rattle.rv_base.specs.declared.journal.Actor.TheVariants as actor
 use Rattle.rv_base.specs.declared.journal.JournalEntry.{JournalEntry}
 use Rattle.rv_base.specs.declared.journal.JournalEntry.TheVariants.{Post, Draw, Lose, Local, Idle, Refused}
-use Rattle.rv_base.specs.declared.journal.Local.{Local as LocalInput}
 use Rattle.rv_base.specs.declared.journal.Packet.{Packet}
 use Rattle.rv_base.specs.declared.journal.SaveResult.{SaveResult}
 use Rattle.rv_base.specs.declared.journal.SaveResult.TheVariants.{Saved, KeptOld, KeptNew}
@@ -15,10 +14,9 @@ use Rattle.group_controller.specs.declared.messages.ControllerInput.{ControllerI
 use Rattle.group_controller.specs.State.{ControllerState, down}
 use Rattle.group_controller.specs.Rules.{controller_work}
 use Rattle.of_switch.specs.declared.says.SwitchInput.{SwitchInput}
-use Rattle.of_switch.specs.declared.says.SwitchInput.TheVariants as switch_input
 use Rattle.of_switch.specs.Rules.{switch_turn}
-use Rattle.exactly_once.specs.Premises.{IsHeard, By_draw, By_local}
-use Rattle.rv_runs.specs.States.{SwitchAt, switch_step, switch_took, switch_hears, Scene, ControllerAt, controller_at, controller_step, controller_took, controller_saved, content}
+use Rattle.rv_runs.specs.Inputs.{IsHeard, By_draw, By_local, IsHeardAt, From_draw, From_local}
+use Rattle.rv_runs.specs.States.{SwitchAt, switch_step, switch_took, Scene, ControllerAt, controller_at, controller_step, controller_took, controller_saved}
 
 -- what an entry of a controller does to it
 pub data ControllerGoes {B : Type 0} (scene : Scene B) (e : JournalEntry B) (found : Option (Packet B)) (w w' : ControllerAt) : Type 0 where
@@ -67,11 +65,6 @@ controller_after {B = B} scene results c e before = by_actor (same_actor (actor_
         Own h own (subst (λ (p : List (JournalEntry B × Option (Packet B))). ControllerGoes scene e (drawn e before) (controller_at scene results c (part (actor.Controller c) before)) (controller_at scene results c p)) (sym own)
         (step_goes scene results (controller_at scene results c (part (actor.Controller c) before)) e (drawn e before)))
     by_actor false h = Other h (rw h refl)
-
--- the input that a switch takes with an entry
-pub data IsHeardAt {B : Type 0} (scene : Scene B) (e : JournalEntry B) (found : Option (Packet B)) (x : SwitchInput) : Type 0 where
-  From_draw : (a : Actor) (id : ℕ) (keep : Bool) (p : Packet B) → e ≡ Draw a id keep → found ≡ Some p → x ≡ switch_hears p.from (content scene.sealing p) → IsHeardAt scene e found x
-  From_local : (a : Actor) (input : LocalInput) → e ≡ Local a input → x ≡ switch_input.Local input → IsHeardAt scene e found x
 
 -- what an entry of a switch does to it
 pub data SwitchGoes {B : Type 0} (scene : Scene B) (e : JournalEntry B) (found : Option (Packet B)) (w w' : SwitchAt) : Type 0 where

@@ -10,7 +10,7 @@ mod reading;
 mod writing;
 
 pub use fault::{BodyFault, OfFault};
-pub use fitting::{flow_mod_fits, packet_in_fits, packet_out_fits, port_status_fits};
+pub use fitting::{flow_mod_fits, message_fits, packet_in_fits, packet_out_fits, port_status_fits};
 pub use reading::{decode, message_law, read_message, xid_of};
 pub use writing::{
     actions_of, encode, encode_flow_mod, encode_packet_in, encode_packet_out, encode_port_status,

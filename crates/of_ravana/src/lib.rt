@@ -6,6 +6,6 @@ mod fitting;
 mod reading;
 mod writing;
 
-pub use fitting::happening_fits;
+pub use fitting::{extension_fits, happening_fits};
 pub use reading::{decode_extension, extension_law};
 pub use writing::{canonical, canonical_happening, canonical_order, encode_extension};

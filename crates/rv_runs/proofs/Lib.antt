@@ -2,3 +2,4 @@ pub mod Bodies
 pub mod Entries
 pub mod Pools
 pub mod Pasts
+pub mod Saves

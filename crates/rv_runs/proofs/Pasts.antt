@@ -1,5 +1,5 @@
 -- A past that is possible without its newest entries, and what a draw of it finds.
-use Rattle.std.proofs.Common.{◌≡◌, ℕ, Bool, true, List, [], ◌∷◌, drop, zero, suc, refl, sym, ◌∙◌, ap, subst}
+use Rattle.std.proofs.Common.{◌≡◌, length, ◌<◌, ℕ, Bool, true, List, [], ◌∷◌, drop, zero, suc, refl, sym, ◌∙◌, ap, subst}
 use Rattle.std.specs.Prelude.{Option, Some}
 use Rattle.std.proofs.lemmas.Bool.{eq-eqb}
 use Rattle.rv_base.specs.Orderly.{IsOrderly}
@@ -9,10 +9,10 @@ use Rattle.rv_base.specs.declared.journal.JournalEntry.{JournalEntry}
 use Rattle.rv_base.specs.declared.journal.JournalEntry.TheVariants.{Post, Draw, Lose, Local, Idle, Refused}
 use Rattle.rv_base.specs.declared.journal.Packet.{Packet}
 use Rattle.rv_base.specs.declared.journal.SaveResult.{SaveResult}
-use Rattle.rv_base.specs.Actors.{same_actor}
-use Rattle.rv_base.specs.Part.{drawn}
-use Rattle.rv_runs.specs.States.{Scene, SwitchAt, switch_step}
-use Rattle.rv_runs.specs.Legal.{IsTurn, IsSoundSwitch, IsSoundController, IsPossible, results_of}
+use Rattle.rv_base.specs.Actors.{same_actor, actor_of, IsActor}
+use Rattle.rv_base.specs.Part.{drawn, part}
+use Rattle.rv_runs.specs.States.{Scene, SwitchAt, switch_step, switch_at, controller_at, switch_message, controller_message}
+use Rattle.rv_runs.specs.Legal.{Fits, EntryFits, IsTurn, IsSoundSwitch, IsSoundController, IsPossible, results_of}
 use Rattle.rv_runs.proofs.Entries.{Own, Other, controller_after, Mine, Another, switch_after}
 use Rattle.rv_runs.proofs.Pools.{orderly_before, drawn_found}
 
@@ -63,3 +63,25 @@ pub legal_finds : {B : Type 0} (scene : Scene B) (results : List (List SaveResul
 legal_finds {B = B} scene results e before legal a id keep is =
     let r = drawn_found scene.sealing.size a id keep before (subst (λ (x : JournalEntry B). IsOrderly scene.sealing.size (x ∷ before)) is legal.orderly) in
     (r.packet, ap (λ (x : JournalEntry B). drawn x before) is ∙ r.found)
+
+-- a past goes on with an entry that stands where it may
+pub possible_after : {B : Type 0} (scene : Scene B) (results : List (List SaveResult)) (e : JournalEntry B) (before : List (JournalEntry B)) → IsPossible scene results before →
+    IsActor scene.setup (actor_of e) → EntryFits e → IsOrderly scene.sealing.size (e ∷ before) →
+    ((s : ℕ) → s < length scene.setup.ports → same_actor (actor_of e) (actor.Switch s) ≡ true → Fits switch_message scene.sealing (switch_at scene s (part (actor.Switch s) before)).owed (part (actor.Switch s) before) e) →
+    ((c : ℕ) → c < scene.setup.controllers → same_actor (actor_of e) (actor.Controller c) ≡ true →
+    Fits controller_message scene.sealing (controller_at scene (results_of results c) c (part (actor.Controller c) before)).owed (part (actor.Controller c) before) e) →
+    IsPossible scene results (e ∷ before)
+possible_after {B = B} scene results e before old named typed orderly switches controllers =
+    record {
+      named = (named, old.named);
+      views = (typed, old.views);
+      orderly = orderly;
+      switches = λ s there. elim (switch_after scene s e before) [
+        | Mine same is ↦ subst (λ (p : List (JournalEntry B × Option (Packet B))). IsSoundSwitch scene s p) (sym is) (switches s there same, old.switches s there)
+        | Another other is ↦ subst (λ (p : List (JournalEntry B × Option (Packet B))). IsSoundSwitch scene s p) (sym is) (old.switches s there)
+      ];
+      controllers = λ c there. elim (controller_after scene (results_of results c) c e before) [
+        | Own same is goes ↦ subst (λ (p : List (JournalEntry B × Option (Packet B))). IsSoundController scene (results_of results c) c p) (sym is) (controllers c there same, old.controllers c there)
+        | Other other is ↦ subst (λ (p : List (JournalEntry B × Option (Packet B))). IsSoundController scene (results_of results c) c p) (sym is) (old.controllers c there)
+      ];
+    }

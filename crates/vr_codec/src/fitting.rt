@@ -42,7 +42,7 @@ fn filled_fits(filled: &Option<Filled>)
 }
 
 /// Each number fits its field.
-fn vr_fits(message: &VrMessage)
+pub fn vr_fits(message: &VrMessage)
     ensures { FitsVr message.now }
 {
     match message {

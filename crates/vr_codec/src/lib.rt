@@ -9,6 +9,6 @@ mod reading;
 mod writing;
 
 pub use fault::{VrFault, VrRefusal};
-pub use fitting::reads_back;
+pub use fitting::{reads_back, vr_fits};
 pub use reading::{decode_vr, vr_law};
 pub use writing::encode_vr;

@@ -127,6 +127,14 @@ module _ {A : Type 0} (kinds_of : A → List ℕ) (most_of : A → ℕ) (states_
       last_of (λ x. (kinds_of x ≡ kinds) × (most_of x ≤ most_commands)) rest app
       (subst (λ (l : List A). AreAlike kinds_of most_of kinds l) (items ∙ ap (λ (o : Option A). rest ++ option_to_list o) is) h)
 
+  front_of : {X : Type 0} (P : X → Type 0) (xs ys : List X) → AllByRecursion P (xs ++ ys) → AllByRecursion P xs
+  front_of P [] ys h = tt
+  front_of P (x ∷ xs) ys h = (h.0, front_of P xs ys h.1)
+
+  pub rest_alike : (all rest : List A) (last : Option A) → AreAlike kinds_of most_of kinds all → all ≡ rest ++ option_to_list last → AreAlike kinds_of most_of kinds rest
+  rest_alike all rest last h items =
+      front_of (λ x. (kinds_of x ≡ kinds) × (most_of x ≤ most_commands)) rest (option_to_list last) (subst (λ (l : List A). AreAlike kinds_of most_of kinds l) items h)
+
   -- the member of a life that begins
   pub born_is : (c : Controlling A) (life : ℕ) (a b : Acting A) (r : VrState) (out : VrOut) → Begins kinds_of most_of states_of suits a kinds c.setup → a.work.state ≡ fresh r →
       Stepped (restarted c.me c.setup.controllers c.promise life) r out → b ≡ with_out a out → Born kinds_of most_of states_of suits c kinds life b

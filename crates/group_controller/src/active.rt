@@ -31,7 +31,6 @@ use vr_normal::ProposeFault;
 /// A member of the group, the dispatcher that stands for its committed log, the event whose commands were last sent in
 /// this view, and of its turn: the proposal that met the log's limit, the promise that is to be saved before anything is
 /// posted, and what is then posted. At want of memory it is to be dropped.
-#[derive(Drop)]
 pub(crate) struct Active<A> {
     pub(crate) replica: Replica,
     dispatcher: Dispatcher<A>,
@@ -55,6 +54,20 @@ impl<A> Model for Active<A> {
       promise = a.promise;
       dispatcher = a.dispatcher;
     } };
+}
+
+/// (Not derived: what is derived stands at each place where one is let go.)
+impl<A: Drop> Drop for Active<A> {
+    fn drop(self) {
+        let Active {
+            replica: _replica,
+            dispatcher: _dispatcher,
+            last_told: _,
+            full: _,
+            promise: _,
+            letters: _letters,
+        } = self;
+    }
 }
 
 /// Whether a member started a view, by whether it led before, and in which view.
@@ -461,7 +474,15 @@ impl<A: App> Active<A> {
     pub(crate) fn into_app(self) -> A
         ensures { result ≡ self.dispatcher.app }
     {
-        self.dispatcher.into_app()
+        let Active {
+            replica: _replica,
+            dispatcher,
+            last_told: _,
+            full: _,
+            promise: _,
+            letters: _letters,
+        } = self;
+        dispatcher.into_app()
     }
 
     /// What it does with an input. A crash is told by the caller.

@@ -53,8 +53,9 @@ fn is_crash(input: &ControllerInput) -> bool
     matches!(input, ControllerInput::Local(Local::Crash))
 }
 
-fn is_restart(input: &ControllerInput) -> bool
-    ensures { result ≡ is_restart input.now }
+/// Whether this is what one that is down takes. All else is let go.
+fn is_restart(input: ControllerInput) -> bool
+    ensures { result ≡ is_restart input }
 {
     matches!(input, ControllerInput::Local(Local::Restart))
 }
@@ -76,11 +77,12 @@ impl<A: App> Controller<A> {
         ensures starts { IfOk result (λ c. (c.setup ≡ setup.now) × (state_of c ≡ starting_controller me setup.now.controllers) × (c.results ≡ [])) }
     {
         let replica = Replica::new(alloc, me, setup.controllers)?;
+        let active = Active::new(alloc, setup, replica, app)?;
         Ok(Controller {
             alloc,
             me,
             setup: setup.copy()?,
-            active: Some(Active::new(alloc, setup, replica, app)?),
+            active: Some(active),
             promise: 0,
             life: 0,
             shelf,
@@ -222,12 +224,13 @@ impl<A: App> Controller<A> {
         ensures controls { ForEachKinds (λ kinds. Controls A.kinds A.most A.states A.suits self.old kinds × Stands A.kinds A.most A.states A.suits self.old kinds active) (λ kinds. Controls A.kinds A.most A.states A.suits self.new kinds) }
         ensures pair { KnowsPair self.old self.new (W.pair stable.old) (W.pair stable.new) }
     {
-        if is_crash(&input) {
-            return Ok(Letters::new(self.alloc));
-        }
+        let crashes = is_crash(&input);
         let mut active = active;
         active.forget_limit();
         active.on_input(input)?;
+        if crashes {
+            return Ok(Letters::new(self.alloc));
+        }
         match active.promise {
             Some(promise) => self.keep_saved(active, promise, stable),
             None => Ok(self.keep(active)),
@@ -301,7 +304,7 @@ impl<A: App> Controller<A> {
         match self.active.take() {
             Some(active) => self.act(active, input, stable),
             None => {
-                if is_restart(&input) {
+                if is_restart(input) {
                     self.restart(stable)
                 } else {
                     Ok(Letters::new(self.alloc))

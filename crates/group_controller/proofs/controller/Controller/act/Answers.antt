@@ -6,17 +6,17 @@ use Rattle.group_controller.specs.Turns.{Controlling, Controls, KnowsPair}
 use Rattle.group_controller.proofs.Controlling.{act_crashed, act_saved, act_unsaved, began_begins, controls_kept, controls_saved, knows_kept, whichever}
 use Rattle.group_controller.proofs.controller.Controller.act.Goals as goal
 
-pub returns-then-is_crash-clause-turn : goal.returns-then-is_crash-clause-turn
-returns-then-is_crash-clause-turn g c = λ kinds stands.
-    act_crashed g.A.App.kinds g.A.App.most g.A.App.states g.A.App.suits kinds c.args.self.now c.args.active c.args.input c.new.result (g.W.Stable.pair c.args.stable.now) (g.W.Stable.faults c.args.stable.now) stands c.requires.down (sym c.is_crash.ensures ∙ c.if-is_crash.true) c.new.ensures
+pub returns-then-crashes-clause-turn : goal.returns-then-crashes-clause-turn
+returns-then-crashes-clause-turn g c = λ kinds stands.
+    act_crashed g.A.App.kinds g.A.App.most g.A.App.states g.A.App.suits kinds c.args.self.now c.args.active c.args.input c.new.result (g.W.Stable.pair c.args.stable.now) (g.W.Stable.faults c.args.stable.now) stands c.requires.down (sym c.is_crash-crashes.ensures ∙ c.if-crashes.true) c.new.ensures
 
 pub returns-in-Some-clause-turn : goal.returns-in-Some-clause-turn
 returns-in-Some-clause-turn g c = λ kinds stands.
     let now = c.args.self.now in
     let began = began_begins g.A.App.kinds g.A.App.most g.A.App.states g.A.App.suits kinds now c.args.active c.forget_limit.new.self stands c.forget_limit.ensures in
-    let off = sym c.is_crash.ensures ∙ c.if-is_crash.false in
+    let off = sym c.is_crash-crashes.ensures ∙ c.if-crashes.false in
     let works = subst (λ (b : Acting _). Works g.A.App.kinds g.A.App.most g.A.App.states g.A.App.suits kinds now.setup b (on_input kinds now.setup b.work.state c.args.input) c.on_input.new.self) c.forget_limit.ensures (c.in_ok-on_input.ensures kinds now.setup began off) in
-    let promise = ap (λ (a : Acting _). a.promise) (sym c.active-2.view_is) ∙ c.in-Some.is in
+    let promise = ap (λ (a : Acting _). a.promise) (sym c.active.view_is) ∙ c.in-Some.is in
     IfOk-weaker c.keep_saved.result _ _ (λ letters k. act_saved g.A.App.kinds g.A.App.most g.A.App.states g.A.App.suits kinds now c.args.active c.on_input.new.self c.args.input c.in-Some.promise letters c.keep_saved.new.self _ _ _ _ stands works promise k) c.keep_saved.ensures.saves
 
 pub returns-in-Some-clause-controls : goal.returns-in-Some-clause-controls
@@ -24,9 +24,9 @@ returns-in-Some-clause-controls g c = λ kinds both.
     let stands = both.1 in
     let now = c.args.self.now in
     let began = began_begins g.A.App.kinds g.A.App.most g.A.App.states g.A.App.suits kinds now c.args.active c.forget_limit.new.self stands c.forget_limit.ensures in
-    let off = sym c.is_crash.ensures ∙ c.if-is_crash.false in
+    let off = sym c.is_crash-crashes.ensures ∙ c.if-crashes.false in
     let works = subst (λ (b : Acting _). Works g.A.App.kinds g.A.App.most g.A.App.states g.A.App.suits kinds now.setup b (on_input kinds now.setup b.work.state c.args.input) c.on_input.new.self) c.forget_limit.ensures (c.in_ok-on_input.ensures kinds now.setup began off) in
-    let promise = ap (λ (a : Acting _). a.promise) (sym c.active-2.view_is) ∙ c.in-Some.is in
+    let promise = ap (λ (a : Acting _). a.promise) (sym c.active.view_is) ∙ c.in-Some.is in
     whichever c.keep_saved.result _ _ (Controls g.A.App.kinds g.A.App.most g.A.App.states g.A.App.suits c.keep_saved.new.self kinds) c.keep_saved.ensures.saves c.keep_saved.ensures.wants
     (λ letters k. controls_saved g.A.App.kinds g.A.App.most g.A.App.states g.A.App.suits kinds now c.keep_saved.new.self c.args.active c.on_input.new.self _ c.in-Some.promise letters _ _ _ _ both.0 stands works promise k)
     (λ w. subst (λ (x : Controlling _). Controls g.A.App.kinds g.A.App.most g.A.App.states g.A.App.suits x kinds) (sym w.0) both.0)
@@ -35,9 +35,9 @@ pub returns-in-None-clause-turn : goal.returns-in-None-clause-turn
 returns-in-None-clause-turn g c = λ kinds stands.
     let now = c.args.self.now in
     let began = began_begins g.A.App.kinds g.A.App.most g.A.App.states g.A.App.suits kinds now c.args.active c.forget_limit.new.self stands c.forget_limit.ensures in
-    let off = sym c.is_crash.ensures ∙ c.if-is_crash.false in
+    let off = sym c.is_crash-crashes.ensures ∙ c.if-crashes.false in
     let works = subst (λ (b : Acting _). Works g.A.App.kinds g.A.App.most g.A.App.states g.A.App.suits kinds now.setup b (on_input kinds now.setup b.work.state c.args.input) c.on_input.new.self) c.forget_limit.ensures (c.in_ok-on_input.ensures kinds now.setup began off) in
-    let none = ap (λ (a : Acting _). a.promise) (sym c.active-2.view_is) ∙ c.in-None.is in
+    let none = ap (λ (a : Acting _). a.promise) (sym c.active.view_is) ∙ c.in-None.is in
     act_unsaved g.A.App.kinds g.A.App.most g.A.App.states g.A.App.suits kinds now c.args.active c.on_input.new.self c.args.input c.keep.result c.keep.new.self (g.W.Stable.pair c.args.stable.now) (g.W.Stable.faults c.args.stable.now) stands works none c.keep.ensures.letters c.keep.ensures.kept
 
 pub returns-in-None-clause-controls : goal.returns-in-None-clause-controls
@@ -45,9 +45,9 @@ returns-in-None-clause-controls g c = λ kinds both.
     let stands = both.1 in
     let now = c.args.self.now in
     let began = began_begins g.A.App.kinds g.A.App.most g.A.App.states g.A.App.suits kinds now c.args.active c.forget_limit.new.self stands c.forget_limit.ensures in
-    let off = sym c.is_crash.ensures ∙ c.if-is_crash.false in
+    let off = sym c.is_crash-crashes.ensures ∙ c.if-crashes.false in
     let works = subst (λ (b : Acting _). Works g.A.App.kinds g.A.App.most g.A.App.states g.A.App.suits kinds now.setup b (on_input kinds now.setup b.work.state c.args.input) c.on_input.new.self) c.forget_limit.ensures (c.in_ok-on_input.ensures kinds now.setup began off) in
-    let none = ap (λ (a : Acting _). a.promise) (sym c.active-2.view_is) ∙ c.in-None.is in
+    let none = ap (λ (a : Acting _). a.promise) (sym c.active.view_is) ∙ c.in-None.is in
     controls_kept g.A.App.kinds g.A.App.most g.A.App.states g.A.App.suits kinds now c.keep.new.self c.args.active c.on_input.new.self _ both.0 stands works none c.keep.ensures.kept
 
 pub returns-in-Some-clause-pair : goal.returns-in-Some-clause-pair

@@ -1,7 +1,9 @@
-use Rattle.std.proofs.Common.{List, ℕ, subst, sym}
+use Rattle.std.proofs.Common.{List, ℕ, ap, subst, sym}
+use Rattle.vr_log.specs.declared.state.VrState.{VrState}
+use Rattle.vr_core.specs.Lasting.{CollectsItsOwn}
 use Rattle.group_controller.specs.Acting.{Begins}
 use Rattle.group_controller.specs.Turns.{Born, Controlling, Controls}
-use Rattle.group_controller.proofs.Controlling.{born_is, last_alike}
+use Rattle.group_controller.proofs.Controlling.{born_is, last_alike, rest_alike}
 use Rattle.group_controller.proofs.controller.Controller.born.Goals as goal
 
 pub returns-clause-born : goal.returns-clause-born
@@ -11,3 +13,50 @@ returns-clause-born g c = λ kinds controls.
     let begins = subst (λ (k : List ℕ). Begins g.A.App.kinds g.A.App.most g.A.App.states g.A.App.suits c.in_ok-active.active k c.self.inside.setup) alike.0 c.in_ok-active.ensures.begins in
     subst (λ (x : Controlling _). Born g.A.App.kinds g.A.App.most g.A.App.states g.A.App.suits x kinds c.args.life c.take.new.self) c.self.view_is
     (born_is g.A.App.kinds g.A.App.most g.A.App.states g.A.App.suits kinds _ c.args.life c.in_ok-active.active c.take.new.self c.in_ok-replica.replica c.in_ok-replica.out begins c.in_ok-active.ensures.state c.in_ok-replica.ensures.step c.in_ok-take.ensures)
+
+pub new-requires-clause-few : goal.new-requires-clause-few
+new-requires-clause-few g c =
+    let kinds = c.requires.controls.0 in
+    let inside = subst (λ (x : Controlling _). Controls g.A.App.kinds g.A.App.most g.A.App.states g.A.App.suits x kinds) (sym c.self.view_is) c.requires.controls.1 in
+    (last_alike g.A.App.kinds g.A.App.most g.A.App.states g.A.App.suits kinds c.self.inside.shelf.items c.pop.new.self.items c.pop.result c.in-Some.app inside.shelf c.pop.ensures.items c.in-Some.is).1
+
+pub new-requires-clause-valid : goal.new-requires-clause-valid
+new-requires-clause-valid g c = c.in_ok-replica.ensures.valid
+
+pub new-requires-clause-own : goal.new-requires-clause-own
+new-requires-clause-own g c = subst (λ (v : VrState). CollectsItsOwn v) (sym c.in_ok-replica.ensures.step.state_is) (λ changing. absurd cc changing)
+
+pub new-requires-clause-none : goal.new-requires-clause-none
+new-requires-clause-none g c = ap (λ (v : VrState). v.commit) c.in_ok-replica.ensures.step.state_is
+
+pub returns-in_default-clause-shelf : goal.returns-in_default-clause-shelf
+returns-in_default-clause-shelf g c = ap (λ (x : Controlling _). record x { shelf = c.pop.new.self.items }) c.self.view_is
+
+pub returns-in_err-active-clause-shelf : goal.returns-in_err-active-clause-shelf
+returns-in_err-active-clause-shelf g c = ap (λ (x : Controlling _). record x { shelf = c.pop.new.self.items }) c.self.view_is
+
+pub returns-in_err-take-clause-shelf : goal.returns-in_err-take-clause-shelf
+returns-in_err-take-clause-shelf g c = ap (λ (x : Controlling _). record x { shelf = c.pop.new.self.items }) c.self.view_is
+
+pub returns-clause-shelf : goal.returns-clause-shelf
+returns-clause-shelf g c = ap (λ (x : Controlling _). record x { shelf = c.pop.new.self.items }) c.self.view_is
+
+pub returns-in_default-clause-alike : goal.returns-in_default-clause-alike
+returns-in_default-clause-alike g c = λ kinds controls.
+    let inside = subst (λ (x : Controlling _). Controls g.A.App.kinds g.A.App.most g.A.App.states g.A.App.suits x kinds) (sym c.self.view_is) controls in
+    rest_alike g.A.App.kinds g.A.App.most g.A.App.states g.A.App.suits kinds c.self.inside.shelf.items c.pop.new.self.items c.pop.result inside.shelf c.pop.ensures.items
+
+pub returns-in_err-active-clause-alike : goal.returns-in_err-active-clause-alike
+returns-in_err-active-clause-alike g c = λ kinds controls.
+    let inside = subst (λ (x : Controlling _). Controls g.A.App.kinds g.A.App.most g.A.App.states g.A.App.suits x kinds) (sym c.self.view_is) controls in
+    rest_alike g.A.App.kinds g.A.App.most g.A.App.states g.A.App.suits kinds c.self.inside.shelf.items c.pop.new.self.items c.pop.result inside.shelf c.pop.ensures.items
+
+pub returns-in_err-take-clause-alike : goal.returns-in_err-take-clause-alike
+returns-in_err-take-clause-alike g c = λ kinds controls.
+    let inside = subst (λ (x : Controlling _). Controls g.A.App.kinds g.A.App.most g.A.App.states g.A.App.suits x kinds) (sym c.self.view_is) controls in
+    rest_alike g.A.App.kinds g.A.App.most g.A.App.states g.A.App.suits kinds c.self.inside.shelf.items c.pop.new.self.items c.pop.result inside.shelf c.pop.ensures.items
+
+pub returns-clause-alike : goal.returns-clause-alike
+returns-clause-alike g c = λ kinds controls.
+    let inside = subst (λ (x : Controlling _). Controls g.A.App.kinds g.A.App.most g.A.App.states g.A.App.suits x kinds) (sym c.self.view_is) controls in
+    rest_alike g.A.App.kinds g.A.App.most g.A.App.states g.A.App.suits kinds c.self.inside.shelf.items c.pop.new.self.items c.pop.result inside.shelf c.pop.ensures.items

@@ -30,8 +30,8 @@ returns-then-is_restart-clause-turn g c = λ kinds stood.
     (subst (λ (o : Option (Acting _)). Restarts (record now { acting = o }) letters c.restart.new.self (g.W.Stable.pair c.args.stable.now) (g.W.Stable.pair c.restart.new.stable) (g.W.Stable.faults c.args.stable.now) (g.W.Stable.faults c.restart.new.stable)) c.take.ensures.after h)))
     (c.restart.ensures.turn kinds cut)
 
-pub returns-clause-turn : goal.returns-clause-turn
-returns-clause-turn g c = λ kinds stood.
+pub returns-else-is_restart-clause-turn : goal.returns-else-is_restart-clause-turn
+returns-else-is_restart-clause-turn g c = λ kinds stood.
     let i = c.self.inside in
     let now : Controlling _ = record { setup = i.setup; me = i.me; promise = i.promise; life = i.life; acting = i.active; shelf = i.shelf.items; results = i.results.items } in
     let off = sym c.take.ensures.value ∙ c.in-None.is in

@@ -56,7 +56,7 @@ impl<A> Model for Active<A> {
     } };
 }
 
-/// (Not derived: what is derived stands at each place where one is let go.)
+/// By hand, so that it stands here alone: what is derived is spelled out wherever one is let go.
 impl<A: Drop> Drop for Active<A> {
     fn drop(self) {
         let Active {

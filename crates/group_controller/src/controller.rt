@@ -20,7 +20,6 @@ use vr_log::{Log, LogFull, Status};
 
 /// A controller of a group, with the applications of its later lives, the next one last. One that is down knows its
 /// stable pair alone.
-#[derive(Drop)]
 pub struct Controller<A> {
     alloc: Global,
     me: u8,
@@ -38,6 +37,22 @@ impl<A> Model for Controller<A> {
     ghost Value = { Controlling A };
 
     ghost view = { λ c. record { setup = c.setup; me = c.me; promise = c.promise; life = c.life; acting = c.active; shelf = c.shelf.items; results = c.results.items } };
+}
+
+/// (By hand, as that of what it holds.)
+impl<A: Drop> Drop for Controller<A> {
+    fn drop(self) {
+        let Controller {
+            alloc: _,
+            me: _,
+            setup: _setup,
+            active: _active,
+            promise: _,
+            life: _,
+            shelf: _shelf,
+            results: _results,
+        } = self;
+    }
 }
 
 /// Whether this pair is the one that stands.

@@ -1,5 +1,5 @@
 //! A group of three, whose letters are carried by hand.
-ghost use Rattle.std.specs.Prelude.{◌<◌};
+ghost use Rattle.std.specs.Prelude.{◌≡◌, ◌<◌};
 ghost use Rattle.of_types.specs.Setups.{IsSetup};
 
 use crate::inputs::{Short, input_of};
@@ -154,12 +154,7 @@ fn in_map(alloc: Global, me: u8, setup: &Setup) -> Result<Member, AllocError>
     requires setup { IsSetup setup.now }
     requires member { me < setup.now.controllers }
 {
-    let parts = [
-        Learning::new(alloc),
-        Learning::new(alloc),
-        Learning::new(alloc),
-    ];
-    Ok(Member::Map(seat_of(alloc, me, setup, parts, Vec::new(alloc))?))
+    Ok(Member::Map(seat_of(alloc, me, setup, Vec::new(alloc))?))
 }
 
 /// A member that learns in a list.
@@ -167,22 +162,25 @@ fn in_list(alloc: Global, me: u8, setup: &Setup) -> Result<Member, AllocError>
     requires setup { IsSetup setup.now }
     requires member { me < setup.now.controllers }
 {
-    let parts = [
-        PlainLearning::new(alloc),
-        PlainLearning::new(alloc),
-        PlainLearning::new(alloc),
-    ];
-    Ok(Member::List(seat_of(alloc, me, setup, parts, Vec::new(alloc))?))
+    Ok(Member::List(seat_of(alloc, me, setup, Vec::new(alloc))?))
+}
+
+/// Three members, of which one learns in a list.
+fn three_members(alloc: Global, setup: &Setup) -> Result<Vec<Member>, AllocError>
+    requires setup { IsSetup setup.now }
+    requires three { setup.now.controllers ≡ 3 }
+{
+    let mut members = Vec::new(alloc);
+    members.push(in_map(alloc, 0, setup)?)?;
+    members.push(in_list(alloc, 1, setup)?)?;
+    members.push(in_map(alloc, 2, setup)?)?;
+    Ok(members)
 }
 
 fn group_of_three(alloc: Global) -> Result<Group, AllocError> {
     let setup = setup_of(alloc, 3)?;
-    let mut members = Vec::new(alloc);
-    members.push(in_map(alloc, 0, &setup)?)?;
-    members.push(in_list(alloc, 1, &setup)?)?;
-    members.push(in_map(alloc, 2, &setup)?)?;
     Ok(Group {
-        members,
+        members: three_members(alloc, &setup)?,
         waiting: Vec::new(alloc),
         commands: Vec::new(alloc),
     })

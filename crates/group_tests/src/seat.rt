@@ -8,6 +8,7 @@ ghost use Rattle.group_controller.specs.Turns.{AreAlike};
 use app_chain::{ChainOf, has_kinds, is_within};
 use app_core::{App, Part};
 use group_controller::{Controller, ControllerInput, ControllerSays};
+use learning_app::{Hosts, LearningOver};
 use of_types::{Items, Setup};
 use rv_base::{FailingSave, Letters, MemoryStable, SaveResult};
 use std::alloc::{AllocError, Global};
@@ -106,20 +107,20 @@ fn app_of<P: Part>(alloc: Global, part: P) -> Result<ChainOf<P>, AllocError>
     Ok(ChainOf::new(parts))
 }
 
-/// A controller as its group starts, with the parts of its lives, which learn. These saves of its fail.
-pub fn seat_of<P: Part>(
+/// A controller as its group starts, whose applications learn in such hosts, one in each of three lives. These saves of
+/// its fail.
+pub fn seat_of<H: Hosts>(
     alloc: Global,
     me: u8,
     setup: &Setup,
-    parts: [P; 3],
     failing: Vec<FailingSave>,
-) -> Result<Seat<ChainOf<P>>, AllocError>
+) -> Result<Seat<ChainOf<LearningOver<H>>>, AllocError>
     requires setup { IsSetup setup.now }
     requires member { me < setup.now.controllers }
 {
-    let [first, second, third] = parts;
+    let first = app_of(alloc, LearningOver::<H>::new(alloc))?;
     let mut shelf = Vec::new(alloc);
-    shelf.push(app_of(alloc, third)?)?;
-    shelf.push(app_of(alloc, second)?)?;
-    Seat::new(alloc, me, setup, app_of(alloc, first)?, shelf, failing)
+    shelf.push(app_of(alloc, LearningOver::<H>::new(alloc))?)?;
+    shelf.push(app_of(alloc, LearningOver::<H>::new(alloc))?)?;
+    Seat::new(alloc, me, setup, first, shelf, failing)
 }

@@ -78,12 +78,7 @@ fn play<A: App>(
 
 /// One controller, and its switch.
 fn alone(alloc: Global, failing: Vec<FailingSave>) -> Result<Seat<ChainOf<Learning>>, AllocError> {
-    let parts = [
-        Learning::new(alloc),
-        Learning::new(alloc),
-        Learning::new(alloc),
-    ];
-    seat_of(alloc, 0, &setup_of(alloc, 1)?, parts, failing)
+    seat_of(alloc, 0, &setup_of(alloc, 1)?, failing)
 }
 
 /// Plays turns of a controller as it starts.
@@ -137,17 +132,12 @@ const SUSPECTS_UNSAVED: &[Row] = &[(Short::Suspect(1), &[]), (Short::Echo, &[])]
 
 /// One of three, whose first save fails, or does not.
 fn one_of_three(alloc: Global, saves: bool) -> Result<Seat<ChainOf<PlainLearning>>, AllocError> {
-    let parts = [
-        PlainLearning::new(alloc),
-        PlainLearning::new(alloc),
-        PlainLearning::new(alloc),
-    ];
     let failing = if saves {
         Vec::new(alloc)
     } else {
         failing(alloc)?
     };
-    seat_of(alloc, 0, &setup_of(alloc, 3)?, parts, failing)
+    seat_of(alloc, 0, &setup_of(alloc, 3)?, failing)
 }
 
 /// Plays turns of one of three as it starts.

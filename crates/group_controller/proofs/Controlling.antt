@@ -22,7 +22,7 @@ use Rattle.vr_log.specs.declared.state.Status.{Status}
 use Rattle.vr_log.specs.declared.state.Status.TheVariants.{Normal, ViewChange, Recovering, Down}
 use Rattle.vr_log.specs.declared.state.VrState.{VrState}
 use Rattle.vr_log.specs.Steps.{later_of}
-use Rattle.vr_log.specs.Valid.{down_state}
+use Rattle.vr_log.specs.Valid.{down_state, starting_state}
 use Rattle.vr_core.specs.Lasting.{Lasts, promised}
 use Rattle.vr_core.proofs.Lasting.{later_than_none}
 use Rattle.group_controller.specs.declared.messages.ControllerInput.{ControllerInput}
@@ -270,6 +270,49 @@ module _ {A : Type 0} (kinds_of : A → List ℕ) (most_of : A → ℕ) (states_
             (subst (λ (n : ℕ). Saves r (c.promise, n) pb pa fb fa) life_is (subst (λ (n : ℕ). Saves r (n, life) pb pa fb fa) promise saves));
         state_is = state;
         letters_are = none;
+      })
+
+  -- a restart whose pair was saved: the member of the life that begins is kept
+  pub restart_saved : (c mid after new : Controlling A) (a : Acting A) (letters : List (Letter ControllerSays)) (life : ℕ) (r : SaveResult) (pb pa : ℕ × ℕ) (fb fa : ℕ) → c.acting ≡ None → c.life < last_life → life ≡ c.life + 1 → mid ≡ record c { shelf = mid.shelf } →
+      r ≡ Saved → Saves r (mid.promise, life) pb pa fb fa → Born kinds_of most_of states_of suits c kinds life a → after.results ≡ mid.results ++ r ∷ [] → letters ≡ a.work.letters →
+      new ≡ record after { acting = Some (record a { work = resting a.work.state; promise = None }) } → Restarts c letters new pb pa fb fa
+  restart_saved c mid after new a letters life r pb pa fb fa off low life_is mid_is result_is saves born results letters_is new_is =
+      let below = fresh (down_state c.me c.setup.controllers c.promise c.life) in
+      let work : Work = record (stepped below (restarted c.me c.setup.controllers c.promise (c.life + 1))) { save = Some (c.promise, c.life + 1) } in
+      let old : state_of c ≡ below = ap (λ (o : Option (Acting A)). state_of (record c { acting = o })) off in
+      let rule : work ≡ on_restart (state_of c) = sym (ap (λ (s : ControllerState). on_restart s) old ∙ ap (λ (b : Bool). if b then work else resting below) (lt-ltb c.life last_life low)) in
+      let promise : mid.promise ≡ c.promise = ap (λ (x : Controlling A). x.promise) mid_is in
+      let kept : mid.results ≡ c.results = ap (λ (x : Controlling A). x.results) mid_is in
+      let begun : a.work ≡ stepped below (restarted c.me c.setup.controllers c.promise (c.life + 1)) = born.work_is ∙ ap (λ (n : ℕ). stepped below (restarted c.me c.setup.controllers c.promise n)) life_is in
+      subst (λ (w : Work). Done (state_of c) w w.save (state_of new) letters c.results new.results pb pa fb fa) rule
+      (record {
+        result = Saved;
+        kept = ap (λ (x : Controlling A). x.results) new_is ∙ results ∙ ap (λ (l : List SaveResult). l ++ r ∷ []) kept ∙ ap (λ (x : SaveResult). c.results ++ x ∷ []) result_is;
+        saves = subst (λ (x : SaveResult). Saves x (c.promise, c.life + 1) pb pa fb fa) result_is
+            (subst (λ (n : ℕ). Saves r (c.promise, n) pb pa fb fa) life_is (subst (λ (n : ℕ). Saves r (n, life) pb pa fb fa) promise saves));
+        state_is = ap (λ (x : Controlling A). state_of x) new_is ∙ ap (λ (w : Work). w.state) begun;
+        letters_are = letters_is ∙ ap (λ (w : Work). w.letters) begun;
+      })
+
+  -- a controller as its group starts
+  pub starts_controlled : (me : ℕ) (setup copied : Setup) (a : Acting A) (r : VrState) (shelf : List A) (results : List SaveResult) → copied ≡ setup → IsSetup setup → me < setup.controllers →
+      Begins kinds_of most_of states_of suits a kinds setup → a.work.state ≡ fresh r → r ≡ starting_state me setup.controllers → AreAlike kinds_of most_of kinds shelf →
+      Controls kinds_of most_of states_of suits (record { setup = copied; me = me; promise = 0; life = 0; acting = Some a; shelf = shelf; results = results }) kinds
+  starts_controlled me setup copied a r shelf results copied_is right member begins state is alike =
+      let starts : a.work.state ≡ fresh (starting_state me setup.controllers) = state ∙ ap (λ (v : VrState). fresh v) is in
+      subst (λ (s : Setup). Controls kinds_of most_of states_of suits (record { setup = s; me = me; promise = 0; life = 0; acting = Some a; shelf = shelf; results = results }) kinds) (sym copied_is)
+      (record {
+        setup = right;
+        member = member;
+        acting = record {
+          begins = begins;
+          me = ap (λ (s : ControllerState). s.vr.me) starts;
+          controllers = ap (λ (s : ControllerState). s.vr.controllers) starts;
+          promise = ap (λ (s : ControllerState). s.vr.promise) starts;
+          life = ap (λ (s : ControllerState). s.vr.life) starts;
+          awake = λ off. let both : Normal ≡ Down = sym (ap (λ (s : ControllerState). s.vr.status) starts) ∙ off in absurd cc both;
+        };
+        shelf = alike;
       })
 
   all_push : {X : Type 0} (P : X → Type 0) (xs : List X) (x : X) → AllByRecursion P xs → P x → AllByRecursion P (xs ++ x ∷ [])

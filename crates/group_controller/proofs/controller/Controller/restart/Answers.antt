@@ -2,7 +2,7 @@ use Rattle.std.proofs.Common.{rules, ◌≤◌, ◌+◌, ◌∷◌, [], ◌++◌
 use Rattle.rv_base.specs.Stables.{standing}
 use Rattle.dispatcher.specs.Ledger.{most_commands}
 use Rattle.group_controller.specs.Turns.{AreAlike, Controlling, Saves}
-use Rattle.group_controller.proofs.Controlling.{controls_back, pushed_alike, restart_kept_new}
+use Rattle.group_controller.proofs.Controlling.{controls_back, pushed_alike, restart_kept_new, restart_saved}
 use Rattle.group_controller.proofs.controller.Controller.restart.Goals as goal
 
 pub returns-in-KeptNew-clause-turn : goal.returns-in-KeptNew-clause-turn
@@ -32,3 +32,12 @@ returns-in-KeptOld-clause-controls g c = λ kinds controls.
     (ap (λ (x : Controlling _). x.me) after_is ∙ ap (λ (x : Controlling _). x.me) mid_is)
     (ap (λ (x : Controlling _). x.acting) after_is ∙ ap (λ (x : Controlling _). x.acting) mid_is ∙ c.requires.down)
     (pushed_alike g.A.App.kinds g.A.App.most g.A.App.states g.A.App.suits kinds _ _ c.push.new.self.items c.into_app.result before kind few c.push.ensures.items)
+
+pub returns-in-Saved-clause-turn : goal.returns-in-Saved-clause-turn
+returns-in-Saved-clause-turn g c = λ kinds controls.
+    let life = c.self.inside.life + 1 in
+    let r = c.in_ok-save.field-0 in
+    let saves = subst (λ (x : Controlling _). Saves r (x.promise, life) (g.W.Stable.pair c.args.stable.now) (g.W.Stable.pair c.save-2.new.stable) (g.W.Stable.faults c.args.stable.now) (g.W.Stable.faults c.save-2.new.stable)) c.save.view_is c.in_ok-save.ensures.saves in
+    restart_saved g.A.App.kinds g.A.App.most g.A.App.states g.A.App.suits kinds c.args.self.now c.born.new.self c.save-2.new.self c.keep.new.self c.in_ok-active.active c.keep.result life r (g.W.Stable.pair c.args.stable.now) (g.W.Stable.pair c.save-2.new.stable) (g.W.Stable.faults c.args.stable.now) (g.W.Stable.faults c.save-2.new.stable)
+    c.requires.down (search rules) (ap (λ (x : Controlling _). x.life + 1) c.self.view_is) c.in_ok-active.ensures.shelf c.in-Saved.is saves (c.in_ok-active.ensures.born kinds controls)
+    (ap (λ (x : Controlling _). x.results) c.in_ok-save.ensures.left) c.keep.ensures.letters c.keep.ensures.kept

@@ -1,13 +1,12 @@
 //! A group of three, whose letters are carried by hand.
-ghost use Rattle.std.specs.Prelude.{◌≡◌, ◌<◌};
-ghost use Rattle.of_types.specs.Setups.{IsSetup};
+ghost use Rattle.std.specs.Prelude.{◌<◌};
 
 use crate::inputs::{Short, input_of};
 use crate::seat::{Seat, seat_of, setup_of};
 use app_chain::ChainOf;
 use group_controller::{ControllerInput, ControllerSays};
 use learning_app::{Learning, PlainLearning};
-use of_types::{Extension, Order, Setup, Spoken};
+use of_types::{Extension, Order, Spoken};
 use rv_base::{Actor, Letter, Letters};
 use std::alloc::{AllocError, Global};
 use std::process::Abort;
@@ -122,6 +121,7 @@ impl Group {
 
     fn turn(&mut self, member: u8, input: ControllerInput) -> Result<(), AllocError> {
         let Some(actor) = self.members.get_mut(usize::from(member)) else {
+            drop(input);
             return Ok(());
         };
         let letters = actor.turn(input)?;
@@ -150,37 +150,28 @@ impl Group {
 }
 
 /// A member that learns in a map.
-fn in_map(alloc: Global, me: u8, setup: &Setup) -> Result<Member, AllocError>
-    requires setup { IsSetup setup.now }
-    requires member { me < setup.now.controllers }
+fn in_map(alloc: Global, me: u8) -> Result<Member, AllocError>
+    requires { me < 3 }
 {
-    Ok(Member::Map(seat_of(alloc, me, setup, Vec::new(alloc))?))
+    let setup = setup_of(alloc, 3)?;
+    Ok(Member::Map(seat_of(alloc, me, &setup, Vec::new(alloc))?))
 }
 
 /// A member that learns in a list.
-fn in_list(alloc: Global, me: u8, setup: &Setup) -> Result<Member, AllocError>
-    requires setup { IsSetup setup.now }
-    requires member { me < setup.now.controllers }
+fn in_list(alloc: Global, me: u8) -> Result<Member, AllocError>
+    requires { me < 3 }
 {
-    Ok(Member::List(seat_of(alloc, me, setup, Vec::new(alloc))?))
-}
-
-/// Three members, of which one learns in a list.
-fn three_members(alloc: Global, setup: &Setup) -> Result<Vec<Member>, AllocError>
-    requires setup { IsSetup setup.now }
-    requires three { setup.now.controllers ≡ 3 }
-{
-    let mut members = Vec::new(alloc);
-    members.push(in_map(alloc, 0, setup)?)?;
-    members.push(in_list(alloc, 1, setup)?)?;
-    members.push(in_map(alloc, 2, setup)?)?;
-    Ok(members)
+    let setup = setup_of(alloc, 3)?;
+    Ok(Member::List(seat_of(alloc, me, &setup, Vec::new(alloc))?))
 }
 
 fn group_of_three(alloc: Global) -> Result<Group, AllocError> {
-    let setup = setup_of(alloc, 3)?;
+    let mut members = Vec::new(alloc);
+    members.push(in_map(alloc, 0)?)?;
+    members.push(in_list(alloc, 1)?)?;
+    members.push(in_map(alloc, 2)?)?;
     Ok(Group {
-        members: three_members(alloc, &setup)?,
+        members,
         waiting: Vec::new(alloc),
         commands: Vec::new(alloc),
     })

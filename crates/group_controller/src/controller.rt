@@ -239,6 +239,7 @@ impl<A: App> Controller<A> {
         ensures controls { ForEachKinds (λ kinds. Controls A.kinds A.most A.states A.suits self.old kinds × Stands A.kinds A.most A.states A.suits self.old kinds active) (λ kinds. Controls A.kinds A.most A.states A.suits self.new kinds) }
         ensures pair { KnowsPair self.old self.new (W.pair stable.old) (W.pair stable.new) }
     {
+        // (`on_input` takes a crash too, and does nothing with it.)
         let crashes = is_crash(&input);
         let mut active = active;
         active.forget_limit();

@@ -1,0 +1,30 @@
+//! What a packet is for the actor that it goes to.
+ghost use Rattle.std.specs.Prelude.{◌≡◌, IfOk};
+ghost use Rattle.rv_runs.specs.Messages.{way_of};
+
+use crate::player::Player;
+use rv_base::{Actor, Packet};
+use rv_bodies::Body;
+use rv_runs::Way;
+use std::alloc::{AllocError, Global};
+
+/// Between whom a packet goes.
+fn way_between(from: Actor, to: Actor) -> Way
+    ensures { result ≡ way_of from to }
+{
+    match (from, to) {
+        (Actor::Controller(_), Actor::Controller(_)) => Way::Vr,
+        (Actor::Switch(_), Actor::Switch(_)) => Way::Link,
+        (Actor::Controller(_), Actor::Switch(_)) => Way::Of,
+        (Actor::Switch(_), Actor::Controller(_)) => Way::Of,
+    }
+}
+
+/// What a packet is for the actor that it goes to.
+pub fn heard<P: Player, B: Body>(alloc: Global, packet: &Packet<B>) -> Result<P::Input, AllocError>
+    ensures { IfOk result (λ input. input ≡ P.hears packet.now.from (B.spelled (way_of packet.now.from packet.now.to) packet.now.body)) }
+{
+    let way = way_between(packet.from, packet.to);
+    let unsealed = packet.body.unseal(alloc, way)?;
+    Ok(P::hear(alloc, packet.from, unsealed))
+}

@@ -1,0 +1,152 @@
+//! What an actor is to those who carry its letters.
+ghost use Rattle.std.specs.Prelude.{◌≡◌, []};
+ghost use Rattle.rv_base.specs.declared.journal.Actor.{Actor};
+ghost use Rattle.rv_base.specs.declared.journal.Local.{Local};
+ghost use Rattle.group_controller.specs.declared.messages.ControllerInput.TheVariants as controller_input;
+ghost use Rattle.of_switch.specs.declared.says.SwitchInput.TheVariants as switch_input;
+ghost use Rattle.rv_runs.specs.declared.messages.Message.{Message};
+ghost use Rattle.rv_runs.specs.declared.messages.Unsealed.{Unsealed};
+ghost use Rattle.rv_runs.specs.States.{switch_hears, controller_hears, switch_message, controller_message};
+
+use app_core::App;
+use group_controller::{Controller, ControllerInput, ControllerSays};
+use of_switch::{Switch, SwitchInput, SwitchSays};
+use of_types::Items;
+use rv_base::{Actor, Local};
+use rv_runs::{Message, Unsealed};
+use std::alloc::Global;
+
+/// A switch, or a controller.
+pub trait Player {
+    /// What it takes in one turn.
+    type Input: Drop;
+    /// What it says in a letter.
+    type Says: Drop;
+
+    /// A local input, as it takes it.
+    ghost locally: { Local → Self.Input };
+    /// What an unsealed body of a sender is for it.
+    ghost hears: { Actor → Unsealed → Self.Input };
+    /// The message of what it says.
+    ghost said: { Self.Says → Message };
+
+    /// A local input, as it takes it.
+    fn take_local(input: Local) -> Self::Input
+        ensures { result ≡ locally input };
+
+    /// What an unsealed body of a sender is for it.
+    fn hear(alloc: Global, from: Actor, unsealed: Unsealed) -> Self::Input
+        ensures { result ≡ hears from unsealed };
+
+    /// The message of what it says.
+    fn message(says: Self::Says) -> Message
+        ensures { result ≡ said says };
+}
+
+/// A message that no such sender sends to a switch.
+fn says_nothing(alloc: Global, from: Actor) -> SwitchInput
+    ensures { result ≡ switch_input.Malformed from 0 0 0 [] }
+{
+    SwitchInput::Malformed {
+        from,
+        kind: 0,
+        code: 0,
+        xid: 0,
+        head: Items::new(alloc),
+    }
+}
+
+impl Player for Switch {
+    type Input = SwitchInput;
+
+    type Says = SwitchSays;
+
+    ghost locally = { λ input. switch_input.Local input };
+
+    ghost hears = { switch_hears };
+
+    ghost said = { switch_message };
+
+    fn take_local(input: Local) -> SwitchInput {
+        SwitchInput::Local(input)
+    }
+
+    fn hear(alloc: Global, from: Actor, unsealed: Unsealed) -> SwitchInput {
+        match (from, unsealed) {
+            (Actor::Controller(from), Unsealed::Message(Message::Of { xid, message })) => {
+                SwitchInput::Of { from, xid, message }
+            }
+            (Actor::Switch(from), Unsealed::Message(Message::Frame { port, bytes })) => {
+                SwitchInput::Frame { from, port, bytes }
+            }
+            (
+                from,
+                Unsealed::Malformed {
+                    kind,
+                    code,
+                    xid,
+                    head,
+                },
+            ) => SwitchInput::Malformed {
+                from,
+                kind,
+                code,
+                xid,
+                head,
+            },
+            (from, Unsealed::Message(message)) => {
+                drop(message);
+                says_nothing(alloc, from)
+            }
+        }
+    }
+
+    fn message(says: SwitchSays) -> Message {
+        match says {
+            SwitchSays::Of { xid, message } => Message::Of { xid, message },
+            SwitchSays::Frame { port, bytes } => Message::Frame { port, bytes },
+        }
+    }
+}
+
+impl<A: App> Player for Controller<A> {
+    type Input = ControllerInput;
+
+    type Says = ControllerSays;
+
+    ghost locally = { λ input. controller_input.Local input };
+
+    ghost hears = { controller_hears };
+
+    ghost said = { controller_message };
+
+    fn take_local(input: Local) -> ControllerInput {
+        ControllerInput::Local(input)
+    }
+
+    fn hear(_alloc: Global, from: Actor, unsealed: Unsealed) -> ControllerInput {
+        match (from, unsealed) {
+            (Actor::Switch(switch), Unsealed::Message(Message::Of { xid, message })) => {
+                ControllerInput::Of {
+                    switch,
+                    xid,
+                    message,
+                }
+            }
+            (Actor::Controller(from), Unsealed::Message(Message::Vr(message))) => {
+                ControllerInput::Vr { from, message }
+            }
+            (from, unsealed) => {
+                drop(unsealed);
+                ControllerInput::Malformed { from }
+            }
+        }
+    }
+
+    fn message(says: ControllerSays) -> Message {
+        match says {
+            ControllerSays::Of { xid, message } => Message::Of { xid, message },
+            ControllerSays::Vr(message) => Message::Vr(message),
+        }
+    }
+}

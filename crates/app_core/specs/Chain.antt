@@ -117,7 +117,3 @@ orders_for switch (c ∷ commands) = if nat_eq c.switch switch then c.order ∷ 
 -- the orders that it issues to a switch
 abbrev pub issued : List ℕ → Setup → ℕ → List Event → List Order
 issued kinds setup switch events = orders_for switch (single kinds setup events)
-
--- the kinds of a chain of learning alone
-abbrev pub learning_alone : List ℕ
-learning_alone = learning ∷ []

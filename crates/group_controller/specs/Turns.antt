@@ -72,9 +72,10 @@ pub record Controls {A : Type 0} (kinds_of : A → List ℕ) (most_of : A → �
 abbrev pub ForEachKinds : (List ℕ → Type 0) → (List ℕ → Type 0) → Type 0
 ForEachKinds controls says = (kinds : List ℕ) → controls kinds → says kinds
 
--- A pair was saved, with this result: the count of faults rose where it failed, and only there.
+-- A pair was saved, with this result: the count of faults rose where it failed, and only there, and never falls.
 pub record Saves (result : SaveResult) (saved old new : ℕ × ℕ) (before after : ℕ) : Type 0 where
   pub pair : new ≡ standing result saved old
+  pub later : before ≤ after
   pub served : result ≡ Saved → after ≡ before
   pub failed : (result ≡ Saved → ⊥) → Rose before after
 

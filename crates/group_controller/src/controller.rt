@@ -114,6 +114,13 @@ impl<A: App> Controller<A> {
         }
     }
 
+    /// The greatest view that it has promised.
+    pub fn promise(&self) -> u32
+        ensures { result ≡ self.now.promise }
+    {
+        self.promise
+    }
+
     /// Its view. None where it is down.
     pub fn view(&self) -> Option<u32>
         ensures { result ≡ option_map (λ a. a.work.state.vr.view) self.now.acting }
@@ -238,6 +245,7 @@ impl<A: App> Controller<A> {
         ensures wants { OnErr result (Wants (record self.old { acting = Some active }) self.new (W.pair stable.old) (W.pair stable.new) (W.faults stable.old) (W.faults stable.new)) }
         ensures controls { ForEachKinds (λ kinds. Controls A.kinds A.most A.states A.suits self.old kinds × Stands A.kinds A.most A.states A.suits self.old kinds active) (λ kinds. Controls A.kinds A.most A.states A.suits self.new kinds) }
         ensures pair { KnowsPair self.old self.new (W.pair stable.old) (W.pair stable.new) }
+        ensures who { (self.new.setup ≡ self.old.setup) × (self.new.me ≡ self.old.me) }
     {
         // (`on_input` takes a crash too, and does nothing with it.)
         let crashes = is_crash(&input);
@@ -285,6 +293,7 @@ impl<A: App> Controller<A> {
         ensures wants { OnErr result (Wants self.old self.new (W.pair stable.old) (W.pair stable.new) (W.faults stable.old) (W.faults stable.new)) }
         ensures controls { ForEachKinds (Controls A.kinds A.most A.states A.suits self.old) (λ kinds. Controls A.kinds A.most A.states A.suits self.new kinds) }
         ensures pair { KnowsPair self.old self.new (W.pair stable.old) (W.pair stable.new) }
+        ensures who { (self.new.setup ≡ self.old.setup) × (self.new.me ≡ self.old.me) }
     {
         if self.life >= u64::from(LAST_LIFE) {
             return Ok(Letters::new(self.alloc));
@@ -316,6 +325,7 @@ impl<A: App> Controller<A> {
         ensures wants { OnErr result (Wants self.old self.new (W.pair stable.old) (W.pair stable.new) (W.faults stable.old) (W.faults stable.new)) }
         ensures controls { ForEachKinds (Controls A.kinds A.most A.states A.suits self.old) (λ kinds. Controls A.kinds A.most A.states A.suits self.new kinds) }
         ensures pair { W.pair stable.new ≡ pair_in (state_of self.new) }
+        ensures who { (self.new.setup ≡ self.old.setup) × (self.new.me ≡ self.old.me) }
     {
         match self.active.take() {
             Some(active) => self.act(active, input, stable),

@@ -3,7 +3,11 @@ use Rattle.std.proofs.Common.{◌≡◌, ◌≢◌, ◌≤◌, ◌<◌, ◌⊎�
 use Rattle.std.specs.Prelude.{Option, is_some, option_map, Result, IfOk, IfErr, Bool, Contains}
 use Rattle.std.specs.Io.KnownBytes.{Consumes, IsAtEnd}
 use Rattle.std.proofs.lemmas.Bool.{lt-leb}
+use Rattle.report.specs.declared.record.Record.{Record}
+use Rattle.report.specs.Report.{end_line, text}
 use Rattle.scenario.specs.declared.scenario.Fault.{Fault}
+use Rattle.scenario.specs.declared.scenario.Scenario.{Scenario}
+use Rattle.scenario.specs.Generated.{generated}
 use Rattle.scenario.specs.Scenario.{scenario_of, scenario_limit}
 use Rattle.words.specs.declared.Job.{Job}
 use Rattle.words.specs.declared.Job.TheVariants.{Sim, Run, Audit, Gen}
@@ -11,14 +15,17 @@ use Rattle.words.specs.Words.{job_of}
 use Rattle.ravana_run.specs.declared.ending.Ending.{Ending}
 use Rattle.ravana_run.specs.declared.ending.Ending.TheVariants as ending
 use Rattle.ravana_run.specs.Cause.{HasEndingCause, Tells}
+use Rattle.ravana_run.specs.declared.service.Reader.{Reader}
+use Rattle.ravana_run.specs.declared.service.Reader.TheVariants as reader
 use Rattle.ravana_run.specs.declared.service.Service.{Service}
 use Rattle.ravana_run.specs.declared.service.Service.TheVariants as service
 use Rattle.ravana_run.specs.Audited.{report_limit, too_large}
-use Rattle.ravana_run.specs.Ending.{ending_status, ending_text, EndsRead, EndsScenario, EndsReport}
-use Rattle.ravana_run.specs.Played.{limit_of}
-use Rattle.ravana_run.specs.Outcome.{Outcome, statuses, statuses_of_audit, HasRead, To_the_end, Past_the_limit, IsUnserved, IsAudit, is_served_job, service_for}
+use Rattle.ravana_run.specs.Ending.{ending_status, ending_text, EndsRead, EndsReport, EndsRun, EndsScenario}
+use Rattle.ravana_run.specs.Service.{limit_of}
+use Rattle.ravana_run.specs.Outcome.{Outcome, statuses, statuses_of_audit, HasRead, To_the_end, Past_the_limit, IsUnserved, IsAudit, IsAsked, Of_bytes, Of_numbers, is_served_job, service_for}
 use Rattle.ravana_run.specs.Outcome as outcome
-use Rattle.ravana_run.proofs.Complete.{no_audit, never_served}
+use Rattle.ravana_run.specs.Runs.{Telling}
+use Rattle.ravana_run.proofs.Complete.{no_audit, no_audit_made, never_served}
 
 -- more bytes than a scenario has are refused
 pub too_long : (bytes : List ℕ) → scenario_limit < length bytes → scenario_of bytes ≡ Err too_large
@@ -29,15 +36,19 @@ abbrev only_false : Bool → Type 0
 only_false false = Unit {0}
 only_false true = ⊥
 
-pub no_truth : false ≡ true → ⊥
+no_truth : false ≡ true → ⊥
 no_truth e = subst only_false e tt
 
 abbrev IsServed : List (List ℕ) → Service → Type 0
 IsServed words s = service_for (job_of words) ≡ Some s
 
+abbrev reads_for : Reader → Job
+reads_for reader.Sim = Sim
+reads_for reader.Audit = Audit
+
 abbrev job_for : Service → Job
-job_for service.Sim = Sim
-job_for service.Audit = Audit
+job_for (service.Reads r) = reads_for r
+job_for (service.Gen number controllers switches frames) = Gen number controllers switches frames
 
 -- the job that is served
 served_is : (job : Option Job) (s : Service) → service_for job ≡ Some s → job ≡ Some (job_for s)
@@ -45,13 +56,44 @@ served_is None s e = absurd cc
 served_is (Some Sim) s e = ap (λ x. option_map (λ y. job_for y) x) e
 served_is (Some Run) s e = absurd cc
 served_is (Some Audit) s e = ap (λ x. option_map (λ y. job_for y) x) e
-served_is (Some (Gen number controllers switches frames)) s e = absurd cc
+served_is (Some (Gen number controllers switches frames)) s e = ap (λ x. option_map (λ y. job_for y) x) e
 
-job_served : (words : List (List ℕ)) (s : Service) → IsServed words s → job_of words ≡ Some (job_for s)
+pub job_served : (words : List (List ℕ)) (s : Service) → IsServed words s → job_of words ≡ Some (job_for s)
 job_served words s said = served_is (job_of words) s said
 
 never_both : (words : List (List ℕ)) (s : Service) → IsServed words s → IsUnserved words → ⊥
 never_both words s said other = no_truth (sym other ∙ ap (λ x. is_some x) said)
+
+-- a scenario's bytes are refused, or its run ends so
+refused_or_ran : (kinds : List ℕ) (saves : Telling) (bytes : List ℕ) (e : Ending) → EndsScenario kinds saves bytes e →
+    ((fault : Fault) × (e ≡ ending.Refused fault) × (scenario_of bytes ≡ Err fault))
+    ⊎ ((scenario : Scenario) × (scenario_of bytes ≡ Ok scenario) × EndsRun kinds saves text scenario e)
+refused_or_ran kinds saves bytes (ending.Refused fault) is = inl (fault, refl, is)
+refused_or_ran kinds saves bytes (ending.Report written) ends = inr ends
+refused_or_ran kinds saves bytes ending.Usage ends = inr ends
+refused_or_ran kinds saves bytes ending.Unread ends = inr ends
+refused_or_ran kinds saves bytes (ending.NoQuorum up needed) ends = inr ends
+refused_or_ran kinds saves bytes (ending.Overfull limit) ends = inr ends
+refused_or_ran kinds saves bytes (ending.Unposted count letters) ends = inr ends
+refused_or_ran kinds saves bytes ending.Same ends = inr ends
+refused_or_ran kinds saves bytes (ending.Differs n) ends = inr ends
+
+-- the bytes of a scenario whose run ends so
+ran_ends : (kinds : List ℕ) (saves : Telling) (bytes : List ℕ) (scenario : Scenario) (e : Ending) → scenario_of bytes ≡ Ok scenario → EndsRun kinds saves text scenario e → EndsScenario kinds saves bytes e
+ran_ends kinds saves bytes scenario (ending.Refused fault) is never = absurd never
+ran_ends kinds saves bytes scenario (ending.Report written) is ran = (scenario, is, ran)
+ran_ends kinds saves bytes scenario ending.Usage is ran = (scenario, is, ran)
+ran_ends kinds saves bytes scenario ending.Unread is ran = (scenario, is, ran)
+ran_ends kinds saves bytes scenario (ending.NoQuorum up needed) is ran = (scenario, is, ran)
+ran_ends kinds saves bytes scenario (ending.Overfull limit) is ran = (scenario, is, ran)
+ran_ends kinds saves bytes scenario (ending.Unposted count letters) is ran = (scenario, is, ran)
+ran_ends kinds saves bytes scenario ending.Same is ran = (scenario, is, ran)
+ran_ends kinds saves bytes scenario (ending.Differs n) is ran = (scenario, is, ran)
+
+pub scenario_ends : {X : Type 0} (kinds : List ℕ) (saves : Telling) (bytes : List ℕ) (scenario : Scenario) (result : Result Ending X) → scenario_of bytes ≡ Ok scenario →
+    IfOk result (λ e. EndsRun kinds saves text scenario e) → IfOk result (λ e. EndsScenario kinds saves bytes e)
+scenario_ends kinds saves bytes scenario (Ok e) is ran = ran_ends kinds saves bytes scenario e is ran
+scenario_ends kinds saves bytes scenario (Err x) is ran = tt
 
 module _ (words : List (List ℕ)) (unread unfailed : Type 0) where
   pub usage_tells : service_for (job_of words) ≡ None → unfailed → Tells words unread unfailed ending.Usage
@@ -69,72 +111,113 @@ module _ (words : List (List ℕ)) (unread unfailed : Type 0) where
   unread_tells s said rose = ends_tells s ending.Unread said (λ is. omega (arith, is)) (λ _. rose) (λ other. absurd (other refl)) (λ _. (2, omega arith, refl))
 
   -- an ending that is neither of these, of a run and of an audit
-  run_tells : (e : Ending) → IsServed words service.Sim → unfailed → ending_status e ≢ 2 → ending_status e ≢ 4 → Tells words unread unfailed e
-  run_tells e said kept no_usage no_failure =
-      ends_tells service.Sim e said no_usage (λ is. absurd (no_failure is)) (λ _. kept) (λ audit. no_audit words (job_served words service.Sim said) audit)
+  run_tells : (s : Service) (e : Ending) → IsServed words s → (IsAudit words → ⊥) → unfailed → ending_status e ≢ 2 → ending_status e ≢ 4 → Tells words unread unfailed e
+  run_tells s e said other kept no_usage no_failure = ends_tells s e said no_usage (λ is. absurd (no_failure is)) (λ _. kept) (λ audit. absurd (other audit))
 
-  audit_tells : (e : Ending) → IsServed words service.Audit → unfailed → ending_status e ≢ 2 → ending_status e ≢ 4 → Contains statuses_of_audit (ending_status e) → Tells words unread unfailed e
-  audit_tells e said kept no_usage no_failure range = ends_tells service.Audit e said no_usage (λ is. absurd (no_failure is)) (λ _. kept) (λ _. range)
+  audit_tells : (e : Ending) → IsServed words (service.Reads reader.Audit) → unfailed → ending_status e ≢ 2 → ending_status e ≢ 4 → Contains statuses_of_audit (ending_status e) → Tells words unread unfailed e
+  audit_tells e said kept no_usage no_failure range = ends_tells (service.Reads reader.Audit) e said no_usage (λ is. absurd (no_failure is)) (λ _. kept) (λ _. range)
 
-  tells_scenario : (e : Ending) (bytes : List ℕ) → IsServed words service.Sim → unfailed → EndsScenario bytes e → Tells words unread unfailed e
-  tells_scenario (ending.Report written) bytes said kept ends = run_tells (ending.Report written) said kept (λ is. omega (arith, is)) (λ is. omega (arith, is))
-  tells_scenario ending.Usage bytes said kept (scenario, is, never) = absurd never
-  tells_scenario (ending.Refused fault) bytes said kept ends = run_tells (ending.Refused fault) said kept (λ is. omega (arith, is)) (λ is. omega (arith, is))
-  tells_scenario ending.Later bytes said kept ends = run_tells ending.Later said kept (λ is. omega (arith, is)) (λ is. omega (arith, is))
-  tells_scenario ending.Unread bytes said kept (scenario, is, never) = absurd never
-  tells_scenario (ending.Overfull limit) bytes said kept ends = run_tells (ending.Overfull limit) said kept (λ is. omega (arith, is)) (λ is. omega (arith, is))
-  tells_scenario (ending.Unposted count letters) bytes said kept ends = run_tells (ending.Unposted count letters) said kept (λ is. omega (arith, is)) (λ is. omega (arith, is))
-  tells_scenario ending.Same bytes said kept (scenario, is, never) = absurd never
-  tells_scenario (ending.Differs n) bytes said kept (scenario, is, never) = absurd never
+  module _ (kinds : List ℕ) (saves : Telling) where
+    tells_run : (s : Service) (e : Ending) (tells : Record → List ℕ) (scenario : Scenario) → IsServed words s → (IsAudit words → ⊥) → unfailed → EndsRun kinds saves tells scenario e → Tells words unread unfailed e
+    tells_run s (ending.Report written) tells scenario said other kept ends = run_tells s (ending.Report written) said other kept (λ is. omega (arith, is)) (λ is. omega (arith, is))
+    tells_run s ending.Usage tells scenario said other kept never = absurd never
+    tells_run s (ending.Refused fault) tells scenario said other kept never = absurd never
+    tells_run s ending.Unread tells scenario said other kept never = absurd never
+    tells_run s (ending.NoQuorum up needed) tells scenario said other kept ends = run_tells s (ending.NoQuorum up needed) said other kept (λ is. omega (arith, is)) (λ is. omega (arith, is))
+    tells_run s (ending.Overfull limit) tells scenario said other kept ends = run_tells s (ending.Overfull limit) said other kept (λ is. omega (arith, is)) (λ is. omega (arith, is))
+    tells_run s (ending.Unposted count letters) tells scenario said other kept ends = run_tells s (ending.Unposted count letters) said other kept (λ is. omega (arith, is)) (λ is. omega (arith, is))
+    tells_run s ending.Same tells scenario said other kept never = absurd never
+    tells_run s (ending.Differs n) tells scenario said other kept never = absurd never
 
-  tells_report : (e : Ending) (bytes : List ℕ) → IsServed words service.Audit → unfailed → EndsReport bytes e → Tells words unread unfailed e
-  tells_report (ending.Report written) bytes said kept never = absurd never
-  tells_report ending.Usage bytes said kept never = absurd never
-  tells_report (ending.Refused fault) bytes said kept ends =
-      audit_tells (ending.Refused fault) said kept (λ is. omega (arith, is)) (λ is. omega (arith, is)) (1, omega arith, refl)
-  tells_report ending.Later bytes said kept never = absurd never
-  tells_report ending.Unread bytes said kept never = absurd never
-  tells_report (ending.Overfull limit) bytes said kept never = absurd never
-  tells_report (ending.Unposted count letters) bytes said kept never = absurd never
-  tells_report ending.Same bytes said kept ends = audit_tells ending.Same said kept (λ is. omega (arith, is)) (λ is. omega (arith, is)) (0, omega arith, refl)
-  tells_report (ending.Differs n) bytes said kept ends =
-      audit_tells (ending.Differs n) said kept (λ is. omega (arith, is)) (λ is. omega (arith, is)) (5, omega arith, refl)
+    tells_scenario : (e : Ending) (bytes : List ℕ) → IsServed words (service.Reads reader.Sim) → unfailed → EndsScenario kinds saves bytes e → Tells words unread unfailed e
+    tells_scenario e bytes said kept ends =
+        let other : IsAudit words → ⊥ = λ audit. no_audit words (job_served words (service.Reads reader.Sim) said) audit in
+        elim (refused_or_ran kinds saves bytes e ends) [
+          | inl refused ↦ subst (λ x. Tells words unread unfailed x) (sym refused.1)
+              (run_tells (service.Reads reader.Sim) (ending.Refused refused.0) said other kept (λ is. omega (arith, is)) (λ is. omega (arith, is)))
+          | inr ran ↦ tells_run (service.Reads reader.Sim) e text ran.0 said other kept ran.2
+        ]
 
-  tells_read : (s : Service) (e : Ending) (bytes : List ℕ) → IsServed words s → unfailed → EndsRead s bytes e → Tells words unread unfailed e
-  tells_read service.Sim e bytes said kept ends = tells_scenario e bytes said kept ends
-  tells_read service.Audit e bytes said kept ends = tells_report e bytes said kept ends
+    tells_report : (e : Ending) (bytes : List ℕ) → IsServed words (service.Reads reader.Audit) → unfailed → EndsReport bytes e → Tells words unread unfailed e
+    tells_report (ending.Report written) bytes said kept never = absurd never
+    tells_report ending.Usage bytes said kept never = absurd never
+    tells_report (ending.Refused fault) bytes said kept ends =
+        audit_tells (ending.Refused fault) said kept (λ is. omega (arith, is)) (λ is. omega (arith, is)) (1, omega arith, refl)
+    tells_report ending.Unread bytes said kept never = absurd never
+    tells_report (ending.NoQuorum up needed) bytes said kept never = absurd never
+    tells_report (ending.Overfull limit) bytes said kept never = absurd never
+    tells_report (ending.Unposted count letters) bytes said kept never = absurd never
+    tells_report ending.Same bytes said kept ends = audit_tells ending.Same said kept (λ is. omega (arith, is)) (λ is. omega (arith, is)) (0, omega arith, refl)
+    tells_report (ending.Differs n) bytes said kept ends =
+        audit_tells (ending.Differs n) said kept (λ is. omega (arith, is)) (λ is. omega (arith, is)) (5, omega arith, refl)
 
-  pub read_tells : {X : Type 0} (s : Service) (bytes : List ℕ) (result : Result Ending X) → IsServed words s → unfailed → IfOk result (λ e. EndsRead s bytes e) →
-      IfOk result (λ e. Tells words unread unfailed e)
-  read_tells s bytes (Ok e) said kept ends = tells_read s e bytes said kept ends
-  read_tells s bytes (Err x) said kept ends = tt
+    tells_read : (r : Reader) (e : Ending) (bytes : List ℕ) → IsServed words (service.Reads r) → unfailed → EndsRead kinds saves r bytes e → Tells words unread unfailed e
+    tells_read reader.Sim e bytes said kept ends = tells_scenario e bytes said kept ends
+    tells_read reader.Audit e bytes said kept ends = tells_report e bytes said kept ends
 
-module _ (words : List (List ℕ)) (unread : Type 0) where
-  pub usage_caused : (before after : Option (List ℕ)) → service_for (job_of words) ≡ None → HasEndingCause words unread before after ending.Usage
+    pub read_tells : {X : Type 0} (r : Reader) (bytes : List ℕ) (result : Result Ending X) → IsServed words (service.Reads r) → unfailed → IfOk result (λ e. EndsRead kinds saves r bytes e) →
+        IfOk result (λ e. Tells words unread unfailed e)
+    read_tells r bytes (Ok e) said kept ends = tells_read r e bytes said kept ends
+    read_tells r bytes (Err x) said kept ends = tt
+
+    pub made_tells : {X : Type 0} (number controllers switches frames : ℕ) (scenario : Scenario) (tells : Record → List ℕ) (result : Result Ending X) → IsServed words (service.Gen number controllers switches frames) → unfailed →
+        IfOk result (λ e. EndsRun kinds saves tells scenario e) → IfOk result (λ e. Tells words unread unfailed e)
+    made_tells number controllers switches frames scenario tells (Ok e) said kept ends =
+        tells_run (service.Gen number controllers switches frames) e tells scenario said
+        (λ audit. no_audit_made words number controllers switches frames (job_served words (service.Gen number controllers switches frames) said) audit) kept ends
+    made_tells number controllers switches frames scenario tells (Err x) said kept ends = tt
+
+module _ (kinds : List ℕ) (saves : Telling) (words : List (List ℕ)) (unread : Type 0) where
+  pub usage_caused : (before after : Option (List ℕ)) → service_for (job_of words) ≡ None → HasEndingCause kinds saves words unread before after ending.Usage
   usage_caused None after none = tt
   usage_caused (Some input) None none = tt
   usage_caused (Some input) (Some rest) none = outcome.Usage (ap (λ x. is_some x) none)
 
-  pub unread_caused : (s : Service) (before after : Option (List ℕ)) → IsServed words s → unread → HasEndingCause words unread before after ending.Unread
+  pub unread_caused : (s : Service) (before after : Option (List ℕ)) → IsServed words s → unread → HasEndingCause kinds saves words unread before after ending.Unread
   unread_caused s None after said rose = tt
   unread_caused s (Some input) None said rose = tt
   unread_caused s (Some input) (Some rest) said rose = outcome.Unread (ap (λ x. is_some x) said) rose
 
   abbrev IsCaused : List ℕ → List ℕ → Ending → Type 0
-  IsCaused input rest e = Outcome words input rest unread (ending_status e) (ending_text e)
+  IsCaused input rest e = Outcome kinds saves words input rest unread (ending_status e) (ending_text e)
+
+  -- the run of the scenario that was asked
+  ran_caused : (input rest : List ℕ) (e : Ending) (scenario : Scenario) (tells : Record → List ℕ) → IsAsked words input rest scenario tells → EndsRun kinds saves tells scenario e → IsCaused input rest e
+  ran_caused input rest (ending.Report written) scenario tells asked done = outcome.Closed scenario tells asked done
+  ran_caused input rest ending.Usage scenario tells asked never = absurd never
+  ran_caused input rest (ending.Refused fault) scenario tells asked never = absurd never
+  ran_caused input rest ending.Unread scenario tells asked never = absurd never
+  ran_caused input rest (ending.NoQuorum up needed) scenario tells asked left = outcome.Left scenario tells up needed asked left
+  ran_caused input rest (ending.Overfull limit) scenario tells asked full = outcome.Overfull scenario tells limit asked full
+  ran_caused input rest (ending.Unposted bytes letters) scenario tells asked full = outcome.Unposted scenario tells bytes letters asked full
+  ran_caused input rest ending.Same scenario tells asked never = absurd never
+  ran_caused input rest (ending.Differs n) scenario tells asked never = absurd never
+
+  -- the scenario that four numbers make
+  made_ended : (before after : Option (List ℕ)) (e : Ending) (number controllers switches frames : ℕ) → IsServed words (service.Gen number controllers switches frames) → after ≡ before →
+      EndsRun kinds saves end_line (generated number controllers switches frames) e → HasEndingCause kinds saves words unread before after e
+  made_ended None after e number controllers switches frames said same ends = tt
+  made_ended (Some input) None e number controllers switches frames said same ends = tt
+  made_ended (Some input) (Some rest) e number controllers switches frames said same ends =
+      ran_caused input rest e (generated number controllers switches frames) end_line
+      (Of_numbers number controllers switches frames (job_served words (service.Gen number controllers switches frames) said) (one same)) ends
+    where
+      one : Some rest ≡ Some input → rest ≡ input
+      one h = cc
+
+  pub made_caused : {X : Type 0} (before after : Option (List ℕ)) (number controllers switches frames : ℕ) (scenario : Scenario) (result : Result Ending X) → IsServed words (service.Gen number controllers switches frames) → after ≡ before →
+      scenario ≡ generated number controllers switches frames → IfOk result (λ e. EndsRun kinds saves end_line scenario e) → IfOk result (λ e. HasEndingCause kinds saves words unread before after e)
+  made_caused before after number controllers switches frames scenario (Ok e) said same is ends =
+      made_ended before after e number controllers switches frames said same (subst (λ s. EndsRun kinds saves end_line s e) is ends)
+  made_caused before after number controllers switches frames scenario (Err x) said same is ends = tt
 
   -- all that there was, was read
-  run_of_all : (input rest : List ℕ) (e : Ending) → job_of words ≡ Some Sim → rest ≡ [] → EndsScenario input e → IsCaused input rest e
-  run_of_all input rest (ending.Report written) said none (scenario, is, done) = outcome.Closed scenario said none is done
-  run_of_all input rest ending.Usage said none (scenario, is, never) = absurd never
-  run_of_all input rest (ending.Refused fault) said none is =
-      outcome.Refused fault said (subst (λ r. HasRead scenario_limit input r) (sym none) To_the_end) is
-  run_of_all input rest ending.Later said none (scenario, is, later) = outcome.Later scenario said none is later
-  run_of_all input rest ending.Unread said none (scenario, is, never) = absurd never
-  run_of_all input rest (ending.Overfull limit) said none (scenario, is, run) = outcome.Overfull scenario limit said none is run
-  run_of_all input rest (ending.Unposted bytes letters) said none (scenario, is, run) = outcome.Unposted scenario bytes letters said none is run
-  run_of_all input rest ending.Same said none (scenario, is, never) = absurd never
-  run_of_all input rest (ending.Differs n) said none (scenario, is, never) = absurd never
+  run_of_all : (input rest : List ℕ) (e : Ending) → job_of words ≡ Some Sim → rest ≡ [] → EndsScenario kinds saves input e → IsCaused input rest e
+  run_of_all input rest e said none ends =
+      elim (refused_or_ran kinds saves input e ends) [
+        | inl refused ↦ subst (λ x. IsCaused input rest x) (sym refused.1) (outcome.Refused refused.0 said (subst (λ r. HasRead scenario_limit input r) (sym none) To_the_end) refused.2)
+        | inr ran ↦ ran_caused input rest e ran.0 text (Of_bytes said none ran.1) ran.2
+      ]
 
   -- too much was read
   oversized : (input rest : List ℕ) (fault : Fault) → IsAudit words → length rest + (report_limit + 1) ≡ length input → fault ≡ too_large → IsCaused input rest (ending.Refused fault)
@@ -144,8 +227,8 @@ module _ (words : List (List ℕ)) (unread : Type 0) where
   audit_of_all input rest (ending.Report written) said none most never = absurd never
   audit_of_all input rest ending.Usage said none most never = absurd never
   audit_of_all input rest (ending.Refused fault) said none most (is, many) = oversized input rest fault said (omega (arith, ap (λ r. length r) none, most, many)) is
-  audit_of_all input rest ending.Later said none most never = absurd never
   audit_of_all input rest ending.Unread said none most never = absurd never
+  audit_of_all input rest (ending.NoQuorum up needed) said none most never = absurd never
   audit_of_all input rest (ending.Overfull limit) said none most never = absurd never
   audit_of_all input rest (ending.Unposted bytes letters) said none most never = absurd never
   audit_of_all input rest ending.Same said none most (few, same) = outcome.Same said none few same
@@ -155,19 +238,14 @@ module _ (words : List (List ℕ)) (unread : Type 0) where
   never_found : {A : Type 0} (bytes : List ℕ) {scenario : _} → scenario_of bytes ≡ Err too_large → scenario_of bytes ≡ Ok scenario → A
   never_found bytes none is = absurd (subst (λ r. IfErr r (λ _. ⊥)) (sym is ∙ none) tt)
 
-  run_past : (input rest bytes : List ℕ) (e : Ending) → job_of words ≡ Some Sim → input ≡ bytes ++ rest → length bytes ≡ scenario_limit + 1 → EndsScenario bytes e → IsCaused input rest e
-  run_past input rest bytes (ending.Report written) said is long (scenario, found, ends) = never_found bytes (too_long bytes (omega (arith, long))) found
-  run_past input rest bytes ending.Usage said is long (scenario, found, ends) = absurd ends
-  run_past input rest bytes (ending.Refused fault) said is long refused =
+  run_past : (input rest bytes : List ℕ) (e : Ending) → job_of words ≡ Some Sim → input ≡ bytes ++ rest → length bytes ≡ scenario_limit + 1 → EndsScenario kinds saves bytes e → IsCaused input rest e
+  run_past input rest bytes e said is long ends =
       let lengths = ap length is ∙ length-append bytes rest in
-      outcome.Refused fault said (Past_the_limit (omega (arith, lengths, long)))
-      (too_long input (omega (arith, lengths, long)) ∙ sym (too_long bytes (omega (arith, long))) ∙ refused)
-  run_past input rest bytes ending.Later said is long (scenario, found, ends) = never_found bytes (too_long bytes (omega (arith, long))) found
-  run_past input rest bytes ending.Unread said is long (scenario, found, ends) = absurd ends
-  run_past input rest bytes (ending.Overfull limit) said is long (scenario, found, ends) = never_found bytes (too_long bytes (omega (arith, long))) found
-  run_past input rest bytes (ending.Unposted count letters) said is long (scenario, found, ends) = never_found bytes (too_long bytes (omega (arith, long))) found
-  run_past input rest bytes ending.Same said is long (scenario, found, ends) = absurd ends
-  run_past input rest bytes (ending.Differs n) said is long (scenario, found, ends) = absurd ends
+      elim (refused_or_ran kinds saves bytes e ends) [
+        | inl refused ↦ subst (λ x. IsCaused input rest x) (sym refused.1) (outcome.Refused refused.0 said (Past_the_limit (omega (arith, lengths, long)))
+            (too_long input (omega (arith, lengths, long)) ∙ sym (too_long bytes (omega (arith, long))) ∙ refused.2))
+        | inr ran ↦ never_found bytes (too_long bytes (omega (arith, long))) ran.1
+      ]
 
   audit_past : (input rest bytes : List ℕ) (e : Ending) → IsAudit words → input ≡ bytes ++ rest → length bytes ≡ report_limit + 1 → EndsReport bytes e → IsCaused input rest e
   audit_past input rest bytes (ending.Report written) said is long never = absurd never
@@ -175,44 +253,44 @@ module _ (words : List (List ℕ)) (unread : Type 0) where
   audit_past input rest bytes (ending.Refused fault) said is long (large, many) =
       let lengths = ap length is ∙ length-append bytes rest in
       oversized input rest fault said (omega (arith, lengths, long)) large
-  audit_past input rest bytes ending.Later said is long never = absurd never
   audit_past input rest bytes ending.Unread said is long never = absurd never
+  audit_past input rest bytes (ending.NoQuorum up needed) said is long never = absurd never
   audit_past input rest bytes (ending.Overfull limit) said is long never = absurd never
   audit_past input rest bytes (ending.Unposted count letters) said is long never = absurd never
   audit_past input rest bytes ending.Same said is long (few, same) = absurd (omega (arith, long, few))
   audit_past input rest bytes (ending.Differs n) said is long (few, differs) = absurd (omega (arith, long, few))
 
-  read_all : (s : Service) (input rest : List ℕ) (e : Ending) → IsServed words s → rest ≡ [] → length input ≤ limit_of s + 1 → EndsRead s input e → IsCaused input rest e
-  read_all service.Sim input rest e said none most ends = run_of_all input rest e (job_served words service.Sim said) none ends
-  read_all service.Audit input rest e said none most ends = audit_of_all input rest e (job_served words service.Audit said) none most ends
+  read_all : (r : Reader) (input rest : List ℕ) (e : Ending) → IsServed words (service.Reads r) → rest ≡ [] → length input ≤ limit_of r + 1 → EndsRead kinds saves r input e → IsCaused input rest e
+  read_all reader.Sim input rest e said none most ends = run_of_all input rest e (job_served words (service.Reads reader.Sim) said) none ends
+  read_all reader.Audit input rest e said none most ends = audit_of_all input rest e (job_served words (service.Reads reader.Audit) said) none most ends
 
-  read_past : (s : Service) (input rest bytes : List ℕ) (e : Ending) → IsServed words s → input ≡ bytes ++ rest → length bytes ≡ limit_of s + 1 → EndsRead s bytes e → IsCaused input rest e
-  read_past service.Sim input rest bytes e said is long ends = run_past input rest bytes e (job_served words service.Sim said) is long ends
-  read_past service.Audit input rest bytes e said is long ends = audit_past input rest bytes e (job_served words service.Audit said) is long ends
+  read_past : (r : Reader) (input rest bytes : List ℕ) (e : Ending) → IsServed words (service.Reads r) → input ≡ bytes ++ rest → length bytes ≡ limit_of r + 1 → EndsRead kinds saves r bytes e → IsCaused input rest e
+  read_past reader.Sim input rest bytes e said is long ends = run_past input rest bytes e (job_served words (service.Reads reader.Sim) said) is long ends
+  read_past reader.Audit input rest bytes e said is long ends = audit_past input rest bytes e (job_served words (service.Reads reader.Audit) said) is long ends
 
-  ended : (s : Service) (before after : Option (List ℕ)) (bytes : List ℕ) (e : Ending) → IsServed words s → Consumes before after bytes →
-      IsAtEnd after ⊎ (length bytes ≡ limit_of s + 1) → length bytes ≤ limit_of s + 1 → EndsRead s bytes e → HasEndingCause words unread before after e
-  ended s None after bytes e said read whole most ends = tt
-  ended s (Some input) None bytes e said read whole most ends = tt
-  ended s (Some input) (Some rest) bytes e said read (inl end) most ends =
-      let same : bytes ≡ input = sym (read ∙ ap (λ r. bytes ++ r) end ∙ append-nil bytes) in
-      read_all s input rest e said end (subst (λ b. length b ≤ limit_of s + 1) same most) (subst (λ b. EndsRead s b e) same ends)
-  ended s (Some input) (Some rest) bytes e said read (inr long) most ends = read_past s input rest bytes e said read long ends
+  ended : (r : Reader) (before after : Option (List ℕ)) (bytes : List ℕ) (e : Ending) → IsServed words (service.Reads r) → Consumes before after bytes →
+      IsAtEnd after ⊎ (length bytes ≡ limit_of r + 1) → length bytes ≤ limit_of r + 1 → EndsRead kinds saves r bytes e → HasEndingCause kinds saves words unread before after e
+  ended r None after bytes e said read whole most ends = tt
+  ended r (Some input) None bytes e said read whole most ends = tt
+  ended r (Some input) (Some rest) bytes e said read (inl end) most ends =
+      let same : bytes ≡ input = sym (read ∙ ap (λ l. bytes ++ l) end ∙ append-nil bytes) in
+      read_all r input rest e said end (subst (λ b. length b ≤ limit_of r + 1) same most) (subst (λ b. EndsRead kinds saves r b e) same ends)
+  ended r (Some input) (Some rest) bytes e said read (inr long) most ends = read_past r input rest bytes e said read long ends
 
-  pub read_caused : {X : Type 0} (s : Service) (limit : ℕ) (before after : Option (List ℕ)) (bytes : List ℕ) (result : Result Ending X) → IsServed words s → limit ≡ limit_of s →
-      Consumes before after bytes → IsAtEnd after ⊎ (length bytes ≡ limit + 1) → length bytes ≤ limit + 1 → IfOk result (λ e. EndsRead s bytes e) →
-      IfOk result (λ e. HasEndingCause words unread before after e)
-  read_caused s limit before after bytes (Ok e) said is read whole most ends =
-      ended s before after bytes e said read (subst (λ n. IsAtEnd after ⊎ (length bytes ≡ n + 1)) is whole) (subst (λ n. length bytes ≤ n + 1) is most) ends
-  read_caused s limit before after bytes (Err x) said is read whole most ends = tt
+  pub read_caused : {X : Type 0} (r : Reader) (limit : ℕ) (before after : Option (List ℕ)) (bytes : List ℕ) (result : Result Ending X) → IsServed words (service.Reads r) → limit ≡ limit_of r →
+      Consumes before after bytes → IsAtEnd after ⊎ (length bytes ≡ limit + 1) → length bytes ≤ limit + 1 → IfOk result (λ e. EndsRead kinds saves r bytes e) →
+      IfOk result (λ e. HasEndingCause kinds saves words unread before after e)
+  read_caused r limit before after bytes (Ok e) said is read whole most ends =
+      ended r before after bytes e said read (subst (λ n. IsAtEnd after ⊎ (length bytes ≡ n + 1)) is whole) (subst (λ n. length bytes ≤ n + 1) is most) ends
+  read_caused r limit before after bytes (Err x) said is read whole most ends = tt
 
 pub in_range : (e : Ending) → Contains statuses (ending_status e)
 in_range (ending.Report written) = (0, omega arith, refl)
 in_range ending.Usage = (1, omega arith, refl)
 in_range (ending.Refused fault) = (2, omega arith, refl)
-in_range ending.Later = (2, omega arith, refl)
 in_range ending.Unread = (3, omega arith, refl)
-in_range (ending.Overfull limit) = (7, omega arith, refl)
-in_range (ending.Unposted count letters) = (8, omega arith, refl)
+in_range (ending.NoQuorum up needed) = (6, omega arith, refl)
+in_range (ending.Overfull limit) = (8, omega arith, refl)
+in_range (ending.Unposted count letters) = (9, omega arith, refl)
 in_range ending.Same = (0, omega arith, refl)
-in_range (ending.Differs n) = (6, omega arith, refl)
+in_range (ending.Differs n) = (7, omega arith, refl)

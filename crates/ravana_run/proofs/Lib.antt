@@ -1,7 +1,7 @@
-pub mod Tellings
 pub mod Complete
 pub mod Endings
-pub mod Steps
-pub mod Played
+pub mod Made
 pub mod Playing
-pub mod Small
+pub mod Ran
+pub mod Shelving
+pub mod Tellings

@@ -2,6 +2,7 @@
 use Rattle.std.specs.Prelude.{◌≡◌, ◌≢◌, ℕ, List, Option, Some, Contains}
 use Rattle.ravana_run.specs.declared.ending.Ending.{Ending}
 use Rattle.ravana_run.specs.Ending.{ending_status, ending_text}
+use Rattle.ravana_run.specs.Runs.{Telling}
 use Rattle.ravana_run.specs.Outcome.{Outcome, IsUnserved, IsAudit, statuses_of_audit}
 
 -- a claim on what a source had left at first and has left at the end, where it tells both
@@ -10,9 +11,9 @@ IsReadOf (Some input) (Some rest) P = P input rest
 IsReadOf _ _ P = Unit {0}
 
 -- an ending has a cause
-abbrev pub HasEndingCause : List (List ℕ) → Type 0 → Option (List ℕ) → Option (List ℕ) → Ending → Type 0
-HasEndingCause words unread before after ending =
-    IsReadOf before after (λ input rest. Outcome words input rest unread (ending_status ending) (ending_text ending))
+abbrev pub HasEndingCause : List ℕ → Telling → List (List ℕ) → Type 0 → Option (List ℕ) → Option (List ℕ) → Ending → Type 0
+HasEndingCause kinds saves words unread before after ending =
+    IsReadOf before after (λ input rest. Outcome kinds saves words input rest unread (ending_status ending) (ending_text ending))
 
 -- what the status of an ending tells, whatever is known of the bytes: which words were not served, that a read
 -- failed, and else that none did; and how an audit may end

@@ -1,25 +1,26 @@
 -- The status and the text of an ending, and the runs that end so.
-use Rattle.std.specs.Prelude.{◌≡◌, ◌<◌, ◌≤◌, ℕ, false, List, length, Some, None, Ok, Err}
+use Rattle.std.specs.Prelude.{◌≡◌, ◌<◌, ◌≤◌, ℕ, List, length, Some, None, Ok, Err}
 use Rattle.scenario.specs.declared.scenario.Scenario.{Scenario}
 use Rattle.scenario.specs.Scenario.{scenario_of}
+use Rattle.report.specs.declared.record.Record.{Record}
+use Rattle.report.specs.Report.{text}
 use Rattle.ravana_run.specs.declared.ending.Ending.{Ending}
-use Rattle.ravana_run.specs.declared.ending.Ending.TheVariants.{Report, Usage, Refused, Later, Unread, Overfull, Unposted, Same, Differs}
+use Rattle.ravana_run.specs.declared.ending.Ending.TheVariants.{Report, Usage, Refused, Unread, NoQuorum, Overfull, Unposted, Same, Differs}
 use Rattle.ravana_run.specs.declared.ending.Text.{Text}
 use Rattle.ravana_run.specs.declared.ending.Text.TheVariants.{Fixed, Own}
-use Rattle.ravana_run.specs.Lines.{usage_line, fault_line, later_line, unread_line, overfull_line, unposted_line, same_line, differs_line}
+use Rattle.ravana_run.specs.Lines.{usage_line, fault_line, unread_line, no_quorum_line, overfull_line, unposted_line, same_line, differs_line}
 use Rattle.audit.specs.Audit.{differs}
 use Rattle.ravana_run.specs.Audited.{audited_kinds, report_limit, too_large}
-use Rattle.ravana_run.specs.declared.service.Service.{Service}
-use Rattle.ravana_run.specs.declared.service.Service.TheVariants.{Sim, Audit}
-use Rattle.ravana_run.specs.Played.{is_played}
-use Rattle.ravana_run.specs.Runs.{IsDone, IsOverfull, IsUnposted}
+use Rattle.ravana_run.specs.declared.service.Reader.{Reader}
+use Rattle.ravana_run.specs.declared.service.Reader.TheVariants.{Sim, Audit}
+use Rattle.ravana_run.specs.Runs.{IsDone, IsLeft, IsOverfull, IsUnposted, Telling}
 
 abbrev pub ending_status : Ending → ℕ
 ending_status (Report words) = 0
 ending_status Usage = 2
 ending_status (Refused fault) = 3
-ending_status Later = 3
 ending_status Unread = 4
+ending_status (NoQuorum up needed) = 7
 ending_status (Overfull limit) = 9
 ending_status (Unposted bytes letters) = 10
 ending_status Same = 0
@@ -29,8 +30,8 @@ abbrev pub ending_text : Ending → List ℕ
 ending_text (Report words) = words
 ending_text Usage = usage_line
 ending_text (Refused fault) = fault_line fault
-ending_text Later = later_line
 ending_text Unread = unread_line
+ending_text (NoQuorum up needed) = no_quorum_line up needed
 ending_text (Overfull limit) = overfull_line limit
 ending_text (Unposted bytes letters) = unposted_line bytes letters
 ending_text Same = same_line
@@ -41,22 +42,22 @@ abbrev pub text_bytes : Text → List ℕ
 text_bytes (Fixed line) = line.now
 text_bytes (Own bytes) = bytes
 
--- how a run of a scenario ends
-abbrev pub EndsRun : Scenario → Ending → Type 0
-EndsRun scenario (Report words) = IsDone scenario words
-EndsRun scenario Usage = ⊥
-EndsRun scenario (Refused fault) = ⊥
-EndsRun scenario Later = is_played scenario ≡ false
-EndsRun scenario Unread = ⊥
-EndsRun scenario (Overfull limit) = IsOverfull scenario limit
-EndsRun scenario (Unposted bytes letters) = IsUnposted scenario bytes letters
-EndsRun scenario Same = ⊥
-EndsRun scenario (Differs n) = ⊥
+-- how a run of a scenario ends, of which this is told at rest
+abbrev pub EndsRun : List ℕ → Telling → (Record → List ℕ) → Scenario → Ending → Type 0
+EndsRun kinds saves tells scenario (Report words) = IsDone kinds saves scenario tells words
+EndsRun kinds saves tells scenario (NoQuorum up needed) = IsLeft kinds saves scenario up needed
+EndsRun kinds saves tells scenario (Overfull limit) = IsOverfull kinds saves scenario limit
+EndsRun kinds saves tells scenario (Unposted bytes letters) = IsUnposted kinds saves scenario bytes letters
+EndsRun kinds saves tells scenario Usage = ⊥
+EndsRun kinds saves tells scenario (Refused fault) = ⊥
+EndsRun kinds saves tells scenario Unread = ⊥
+EndsRun kinds saves tells scenario Same = ⊥
+EndsRun kinds saves tells scenario (Differs n) = ⊥
 
 -- how the bytes of a scenario end: they are refused by their first fault, or the run of their scenario ends so
-abbrev pub EndsScenario : List ℕ → Ending → Type 0
-EndsScenario bytes (Refused fault) = scenario_of bytes ≡ Err fault
-EndsScenario bytes ending = (scenario : Scenario) × (scenario_of bytes ≡ Ok scenario) × EndsRun scenario ending
+abbrev pub EndsScenario : List ℕ → Telling → List ℕ → Ending → Type 0
+EndsScenario kinds saves bytes (Refused fault) = scenario_of bytes ≡ Err fault
+EndsScenario kinds saves bytes ending = (scenario : Scenario) × (scenario_of bytes ≡ Ok scenario) × EndsRun kinds saves text scenario ending
 
 -- how the bytes of a report end: they are too many, or no line differs, or the first one that does
 abbrev pub EndsReport : List ℕ → Ending → Type 0
@@ -65,7 +66,7 @@ EndsReport bytes Same = (length bytes ≤ report_limit) × (differs audited_kind
 EndsReport bytes (Differs n) = (length bytes ≤ report_limit) × (differs audited_kinds bytes ≡ Some n)
 EndsReport bytes _ = ⊥
 
--- how the bytes that a service reads end
-abbrev pub EndsRead : Service → List ℕ → Ending → Type 0
-EndsRead Sim bytes ending = EndsScenario bytes ending
-EndsRead Audit bytes ending = EndsReport bytes ending
+-- how the bytes that are read end
+abbrev pub EndsRead : List ℕ → Telling → Reader → List ℕ → Ending → Type 0
+EndsRead kinds saves Sim bytes ending = EndsScenario kinds saves bytes ending
+EndsRead kinds saves Audit bytes ending = EndsReport bytes ending

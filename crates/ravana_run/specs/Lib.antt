@@ -1,6 +1,6 @@
 pub mod Runs
 pub mod Lines
-pub mod Played
+pub mod Service
 pub mod Audited
 pub mod Play
 pub mod Outcome

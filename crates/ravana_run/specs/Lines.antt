@@ -1,6 +1,6 @@
 -- The lines of the answers that are no report.
 use Rattle.std.specs.Prelude.{ℕ, List, [], ◌∷◌, ◌++◌, codes}
-use Rattle.controller_core.specs.declared.says.LogFull.{LogFull}
+use Rattle.vr_log.specs.declared.entry.LogFull.{LogFull}
 use Rattle.scenario.specs.declared.scenario.Fault.{Fault}
 use Rattle.scenario.specs.declared.scenario.FaultKind.{FaultKind}
 use Rattle.scenario.specs.declared.scenario.FaultKind.TheVariants.{Size, Json, Shape, Limit}
@@ -13,10 +13,6 @@ usage_line = codes "fault 2 usage: sim, run, audit or gen NUMBER CONTROLLERS SWI
 
 unfoldable pub unread_line : List ℕ
 unread_line = codes "fault 4 read" ++ newline
-
--- of a scenario that is accepted and not played yet
-unfoldable pub later_line : List ℕ
-later_line = codes "fault 3 later top" ++ newline
 
 abbrev pub kind_word : FaultKind → List ℕ
 kind_word Size = codes "size"
@@ -33,6 +29,10 @@ place_words (Step i) = codes "step" ∷ number i ∷ []
 
 unfoldable pub fault_line : Fault → List ℕ
 fault_line fault = line (codes "fault") (codes "3" ∷ kind_word fault.kind ∷ place_words fault.place)
+
+unfoldable pub no_quorum_line : ℕ → ℕ → List ℕ
+no_quorum_line up needed =
+    line (codes "fault") (codes "7" ∷ codes "up" ∷ number up ∷ codes "needed" ∷ number needed ∷ [])
 
 unfoldable pub overfull_line : LogFull → List ℕ
 overfull_line limit =

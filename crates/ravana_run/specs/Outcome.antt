@@ -1,18 +1,21 @@
 -- Which status comes when, and what is written with it.
 use Rattle.std.specs.Prelude.{◌≡◌, ◌≤◌, ◌+◌, ℕ, nat_lt, Bool, true, false, if◌then◌else◌, List, [], ◌∷◌, ◌++◌, length, Option, Some, None, is_some, Ok, Err, Contains}
-use Rattle.controller_core.specs.declared.says.LogFull.{LogFull}
+use Rattle.vr_log.specs.declared.entry.LogFull.{LogFull}
 use Rattle.scenario.specs.declared.scenario.Fault.{Fault}
 use Rattle.scenario.specs.declared.scenario.Scenario.{Scenario}
 use Rattle.scenario.specs.Scenario.{scenario_of, scenario_limit}
+use Rattle.scenario.specs.Generated.{generated}
+use Rattle.report.specs.declared.record.Record.{Record}
+use Rattle.report.specs.Report.{end_line, text}
 use Rattle.words.specs.declared.Job.{Job}
-use Rattle.words.specs.declared.Job.TheVariants.{Sim, Audit}
+use Rattle.words.specs.declared.Job.TheVariants.{Sim, Audit, Gen}
 use Rattle.words.specs.Words.{job_of}
-use Rattle.ravana_run.specs.Lines.{usage_line, fault_line, later_line, unread_line, overfull_line, unposted_line, same_line, differs_line}
+use Rattle.ravana_run.specs.Lines.{usage_line, fault_line, unread_line, no_quorum_line, overfull_line, unposted_line, same_line, differs_line}
 use Rattle.audit.specs.Audit.{differs}
 use Rattle.ravana_run.specs.declared.service.Service.{Service}
 use Rattle.ravana_run.specs.Audited.{audited_kinds, report_limit, too_large}
-use Rattle.ravana_run.specs.Played.{is_played, service_of}
-use Rattle.ravana_run.specs.Runs.{IsDone, IsOverfull, IsUnposted}
+use Rattle.ravana_run.specs.Service.{service_of}
+use Rattle.ravana_run.specs.Runs.{IsDone, IsLeft, IsOverfull, IsUnposted, Telling}
 
 -- a claim on what is read and written, where both ends tell it: what the source had left at first, what
 -- it has left at the end, and what the sink took
@@ -42,36 +45,47 @@ IsUnserved words = is_served_job (job_of words) ≡ false
 abbrev pub IsAudit : List (List ℕ) → Type 0
 IsAudit words = job_of words ≡ Some Audit
 
+-- the scenario that words ask to play, and what is told of its run at rest: of bytes that were all read, its report; of
+-- four numbers, the report's last line
+pub data IsAsked (words : List (List ℕ)) (input rest : List ℕ) : Scenario → (Record → List ℕ) → Type 0 where
+  Of_bytes : {scenario : Scenario} → job_of words ≡ Some Sim → rest ≡ [] → scenario_of input ≡ Ok scenario → IsAsked words input rest scenario text
+  Of_numbers : (number controllers switches frames : ℕ) → job_of words ≡ Some (Gen number controllers switches frames) → rest ≡ input →
+      IsAsked words input rest (generated number controllers switches frames) end_line
+
 -- what a call has to write, with its status, by the cause of it: one case for each
-pub data Outcome (words : List (List ℕ)) (input rest : List ℕ) (unread : Type 0) : ℕ → List ℕ → Type 0 where
-  Usage : IsUnserved words → Outcome words input rest unread 2 usage_line
-  Refused : (fault : Fault) → job_of words ≡ Some Sim → HasRead scenario_limit input rest → scenario_of input ≡ Err fault → Outcome words input rest unread 3 (fault_line fault)
-  Later : (scenario : Scenario) → job_of words ≡ Some Sim → rest ≡ [] → scenario_of input ≡ Ok scenario → is_played scenario ≡ false → Outcome words input rest unread 3 later_line
-  Unread : is_served_job (job_of words) ≡ true → unread → Outcome words input rest unread 4 unread_line
-  Closed : (scenario : Scenario) {written : List ℕ} → job_of words ≡ Some Sim → rest ≡ [] → scenario_of input ≡ Ok scenario → IsDone scenario written → Outcome words input rest unread 0 written
-  Overfull : (scenario : Scenario) (limit : LogFull) → job_of words ≡ Some Sim → rest ≡ [] → scenario_of input ≡ Ok scenario → IsOverfull scenario limit → Outcome words input rest unread 9 (overfull_line limit)
-  Unposted : (scenario : Scenario) (bytes letters : ℕ) → job_of words ≡ Some Sim → rest ≡ [] → scenario_of input ≡ Ok scenario → IsUnposted scenario bytes letters → Outcome words input rest unread 10 (unposted_line bytes letters)
-  Oversized : IsAudit words → length rest + (report_limit + 1) ≡ length input → Outcome words input rest unread 3 (fault_line too_large)
-  Same : IsAudit words → rest ≡ [] → length input ≤ report_limit → differs audited_kinds input ≡ None → Outcome words input rest unread 0 same_line
-  Differs : (n : ℕ) → IsAudit words → rest ≡ [] → length input ≤ report_limit → differs audited_kinds input ≡ Some n → Outcome words input rest unread 8 (differs_line n)
+pub data Outcome (kinds : List ℕ) (saves : Telling) (words : List (List ℕ)) (input rest : List ℕ) (unread : Type 0) : ℕ → List ℕ → Type 0 where
+  Usage : IsUnserved words → Outcome kinds saves words input rest unread 2 usage_line
+  Refused : (fault : Fault) → job_of words ≡ Some Sim → HasRead scenario_limit input rest → scenario_of input ≡ Err fault → Outcome kinds saves words input rest unread 3 (fault_line fault)
+  Unread : is_served_job (job_of words) ≡ true → unread → Outcome kinds saves words input rest unread 4 unread_line
+  Closed : (scenario : Scenario) (tells : Record → List ℕ) {written : List ℕ} → IsAsked words input rest scenario tells → IsDone kinds saves scenario tells written →
+      Outcome kinds saves words input rest unread 0 written
+  Left : (scenario : Scenario) (tells : Record → List ℕ) (up needed : ℕ) → IsAsked words input rest scenario tells → IsLeft kinds saves scenario up needed →
+      Outcome kinds saves words input rest unread 7 (no_quorum_line up needed)
+  Overfull : (scenario : Scenario) (tells : Record → List ℕ) (limit : LogFull) → IsAsked words input rest scenario tells → IsOverfull kinds saves scenario limit →
+      Outcome kinds saves words input rest unread 9 (overfull_line limit)
+  Unposted : (scenario : Scenario) (tells : Record → List ℕ) (bytes letters : ℕ) → IsAsked words input rest scenario tells → IsUnposted kinds saves scenario bytes letters →
+      Outcome kinds saves words input rest unread 10 (unposted_line bytes letters)
+  Oversized : IsAudit words → length rest + (report_limit + 1) ≡ length input → Outcome kinds saves words input rest unread 3 (fault_line too_large)
+  Same : IsAudit words → rest ≡ [] → length input ≤ report_limit → differs audited_kinds input ≡ None → Outcome kinds saves words input rest unread 0 same_line
+  Differs : (n : ℕ) → IsAudit words → rest ≡ [] → length input ≤ report_limit → differs audited_kinds input ≡ Some n → Outcome kinds saves words input rest unread 8 (differs_line n)
 
 -- what was taken is the front of what an outcome writes
-pub record IsCut (words : List (List ℕ)) (input rest : List ℕ) (unread : Type 0) (written : List ℕ) : Type 0 where
+pub record IsCut (kinds : List ℕ) (saves : Telling) (words : List (List ℕ)) (input rest : List ℕ) (unread : Type 0) (written : List ℕ) : Type 0 where
   pub status : ℕ
   pub whole : List ℕ
   pub behind : List ℕ
-  pub outcome : Outcome words input rest unread status whole
+  pub outcome : Outcome kinds saves words input rest unread status whole
   pub front : whole ≡ written ++ behind
 
 -- a status and what was written with it: that of an outcome, or a write failed, or there was no memory
-pub data Answers (words : List (List ℕ)) (input rest : List ℕ) (unread unwritten : Type 0) (written : List ℕ) : ℕ → Type 0 where
-  Served : {status : ℕ} → Outcome words input rest unread status written → Answers words input rest unread unwritten written status
-  Write_failed : unwritten → IsCut words input rest unread written → Answers words input rest unread unwritten written 5
-  No_memory : written ≡ [] → Answers words input rest unread unwritten written 6
+pub data Answers (kinds : List ℕ) (saves : Telling) (words : List (List ℕ)) (input rest : List ℕ) (unread unwritten : Type 0) (written : List ℕ) : ℕ → Type 0 where
+  Served : {status : ℕ} → Outcome kinds saves words input rest unread status written → Answers kinds saves words input rest unread unwritten written status
+  Write_failed : unwritten → IsCut kinds saves words input rest unread written → Answers kinds saves words input rest unread unwritten written 5
+  No_memory : written ≡ [] → Answers kinds saves words input rest unread unwritten written 6
 
 -- the answers that there are, those to words that are not served, and those to an audit
 abbrev pub statuses : List ℕ
-statuses = 0 ∷ 2 ∷ 3 ∷ 4 ∷ 5 ∷ 6 ∷ 8 ∷ 9 ∷ 10 ∷ []
+statuses = 0 ∷ 2 ∷ 3 ∷ 4 ∷ 5 ∷ 6 ∷ 7 ∷ 8 ∷ 9 ∷ 10 ∷ []
 
 abbrev pub statuses_of_usage : List ℕ
 statuses_of_usage = 2 ∷ 5 ∷ 6 ∷ []

@@ -1,24 +1,41 @@
--- What playing makes of a world.
-use Rattle.std.specs.Prelude.{◌≡◌, ℕ, true, List, [], ◌++◌, length}
-use Rattle.rv_base.specs.declared.journal.JournalEntry.{JournalEntry}
-use Rattle.rv_base.specs.declared.journal.Turn.{Turn}
+-- What a run starts from, and how a call ends by it.
+use Rattle.std.specs.Prelude.{◌≡◌, ℕ, ◌*◌, ◌+◌, List, length}
+use Rattle.std.specs.List.{AllByRecursion}
 use Rattle.rv_base.specs.declared.wire.Stop.{Stop}
 use Rattle.rv_base.specs.declared.wire.Stop.TheVariants.{OutOfMemory, JournalFull}
-use Rattle.rv_base.specs.Pool.{past}
-use Rattle.rv_world.specs.Schedule.{Answer, Closes, FollowsInOrder, IsBegun}
-use Rattle.rv_world.specs.States.{Scene}
-use Rattle.rv_world.specs.World.{WorldState}
+use Rattle.of_types.specs.Lives.{last_life}
+use Rattle.group_controller.specs.Turns.{AreAlike}
+use Rattle.report.specs.declared.record.Record.{Record}
+use Rattle.report.specs.Report.{end_line, text}
+use Rattle.closing.specs.declared.closed.Closed.{Closed}
+use Rattle.closing.specs.declared.closed.Closed.TheVariants as closed
+use Rattle.ravana_run.specs.declared.ending.Ending.{Ending}
+use Rattle.ravana_run.specs.declared.ending.Ending.TheVariants as ending
+use Rattle.ravana_run.specs.declared.sim.Output.{Output}
+use Rattle.ravana_run.specs.declared.sim.Output.TheVariants.{Report, LastLine}
 
--- a script was followed in order, and a closing led to its answer
-pub record HasPlayed {B : Type 0} (scene : Scene B) (steps : List Turn) (script : ℕ) (answer : Answer) (journal : List (JournalEntry B)) : Type 0 where
-  pub front : List (JournalEntry B)
-  pub rest : List (JournalEntry B)
-  pub joined : journal ≡ front ++ rest
-  pub counted : script ≡ length front
-  pub follows : FollowsInOrder scene [] steps (past front)
-  pub closes : Closes scene [] (past front) rest answer
+-- the stable pairs of a group as it starts: one for each of the most controllers, with no view promised, in the first life
+pub record AreFresh {W : Type 0} (pair : W → ℕ × ℕ) (stables : List W) : Type 0 where
+  pub count : length stables ≡ 7
+  pub each : AllByRecursion (λ stable. pair stable ≡ (0, 0)) stables
 
--- why playing stopped: at a full journal the run is cut short where an outbox met the limit
-abbrev pub RunStops : {B : Type 0} → Scene B → List Turn → WorldState B → Stop → Type 0
-RunStops scene steps new OutOfMemory = Unit {0}
-RunStops scene steps new (JournalFull bytes letters) = IsBegun scene [] steps bytes letters (past new.journal) × (new.whole ≡ true)
+-- the applications of the lives of the most controllers, in order, all of these kinds
+pub record AreChains {A : Type 0} (kinds_of : A → List ℕ) (most_of : A → ℕ) (kinds : List ℕ) (chains : List A) : Type 0 where
+  pub count : length chains ≡ 7 * (last_life + 1)
+  pub alike : AreAlike kinds_of most_of kinds chains
+
+-- what is told of a run at rest: its report, or the report's last line
+abbrev pub told_text : Output → Record → List ℕ
+told_text Report told = text told
+told_text LastLine told = end_line told
+
+-- how a call ends by the end of a closing, with what is told of a run at rest
+abbrev pub ending_by : Closed → List ℕ → Ending
+ending_by (closed.Done primary) words = ending.Report words
+ending_by (closed.NoQuorum up needed) words = ending.NoQuorum up needed
+ending_by (closed.Overfull limit) words = ending.Overfull limit
+
+-- and where playing stopped at a full journal
+abbrev pub StopsAs : Stop → Ending → Type 0
+StopsAs OutOfMemory e = ⊥
+StopsAs (JournalFull bytes letters) e = e ≡ ending.Unposted bytes letters

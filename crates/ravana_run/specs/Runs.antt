@@ -1,68 +1,113 @@
 -- What the runs of a scenario are.
-use Rattle.std.specs.Prelude.{◌≡◌, ℕ, List, [], ◌++◌, length}
+use Rattle.std.specs.Prelude.{◌≡◌, ◌≤◌, ◌<◌, ◌⊎◌, ℕ, ◌+◌, ◌-◌, ◌^◌, List, [], ◌++◌, length, count_by, slice_get, Some}
+use Rattle.std.specs.List.{AllByRecursion}
 use Rattle.rv_base.specs.declared.journal.JournalEntry.{JournalEntry}
+use Rattle.rv_base.specs.declared.journal.SaveResult.{SaveResult}
+use Rattle.rv_base.specs.declared.journal.SaveResult.TheVariants.{Saved}
+use Rattle.rv_base.specs.declared.journal.Turn.{Turn}
 use Rattle.rv_base.specs.Pool.{past}
 use Rattle.rv_base.specs.Turns.{IsWithinLimits}
-use Rattle.controller_core.specs.declared.says.LogFull.{LogFull}
-use Rattle.rv_world.specs.declared.typed.Typed.{Typed}
-use Rattle.rv_world.specs.Legal.{IsLegal}
-use Rattle.rv_world.specs.Laws.{IsExactlyOnce, IsFenced, IsLasting, IsClosed}
-use Rattle.rv_world.specs.Schedule.{Answer, FollowsInOrder, Closes, IsBegun}
-use Rattle.rv_world.specs.Schedule as schedule
-use Rattle.rv_world.specs.States.{Scene}
+use Rattle.vr_log.specs.declared.entry.LogFull.{LogFull}
+use Rattle.group_controller.specs.Turns.{pair_in}
+use Rattle.rv_runs.specs.Committed.{controller_state, count_up}
+use Rattle.rv_laws.specs.Laws.{AreAgreed}
+use Rattle.rv_runs.specs.Laws.{IsExactlyOnce, IsFenced, IsLasting}
+use Rattle.rv_runs.specs.Legal.{IsLegal, results_of}
+use Rattle.rv_runs.specs.Play.{plays}
+use Rattle.rv_runs.specs.Schedule.{Answer, Closes, FollowsInOrder, IsBegun, majority}
+use Rattle.rv_runs.specs.Schedule as schedule
+use Rattle.rv_runs.specs.States.{Scene}
+use Rattle.rv_bodies.specs.declared.typed.Typed.{Typed}
+use Rattle.rv_world.specs.World.{is_failed}
 use Rattle.scenario.specs.declared.scenario.Scenario.{Scenario}
-use Rattle.report.specs.Report.{text}
 use Rattle.report.specs.declared.record.Record.{Record}
-use Rattle.rv_record.specs.Shows.{Shows, scene_typed, typed_bytes}
+use Rattle.rv_record.specs.Shows.{Shows, scene_typed}
 
--- what the run of a scenario is about
-abbrev pub scene_for : Scenario → Scene Typed
-scene_for scenario = scene_typed scenario.setup
+-- what the run of a scenario is about, where the applications are of these kinds
+abbrev pub scene_for : List ℕ → Scenario → Scene Typed
+scene_for kinds scenario = scene_typed kinds scenario.setup
 
--- the headline: each event and each command exactly once, no command of a stale generation, and what was
--- decided lasts
-pub record IsLawful {B : Type 0} (scene : Scene B) (entries : List (JournalEntry B)) : Type 0 where
-  pub exactly_once : IsExactlyOnce scene [] entries
+-- the headline: controllers agree, each event and each command exactly once, no command of a stale generation, and what was decided lasts
+pub record IsLawful {B : Type 0} (scene : Scene B) (results : List (List SaveResult)) (entries : List (JournalEntry B)) : Type 0 where
+  pub agreed : AreAgreed scene results entries
+  pub exactly_once : IsExactlyOnce scene results entries
   pub fenced : IsFenced scene entries
-  pub lasting : IsLasting scene [] entries
+  pub lasting : IsLasting scene results entries
 
--- a run of a scenario up to the answer of its closing: a legal journal within the limits, in which the
--- script follows the steps in order, and the entries behind it are those of the closing schedule
-pub record IsRun (scenario : Scenario) (script closing journal : List (JournalEntry Typed)) (answer : Answer) : Type 0 where
+-- the stable pair of a controller is the one that the journal gives, and its count of faults rose with each of the
+-- controller's saves that failed, up to its end
+pub record StableTells {W : Type 0} (pair : W → ℕ × ℕ) (faults : W → ℕ) (stables stables_after : List W) (scene : Scene Typed) (results : List (List SaveResult)) (journal : List (JournalEntry Typed)) (c : ℕ) : Type 0 where
+  pub old : W
+  pub new : W
+  pub stood : slice_get stables c ≡ Some old
+  pub stands : slice_get stables_after c ≡ Some new
+  pub rose : (faults old + count_by is_failed (results_of results c) ≤ faults new) ⊎ (2 ^ 64 - 1 ≤ faults new)
+  pub pair_is : pair new ≡ pair_in (controller_state scene results c (past journal))
+
+abbrev pub StablesTell : {W : Type 0} → (W → ℕ × ℕ) → (W → ℕ) → List W → List W → Scene Typed → List (List SaveResult) → List (JournalEntry Typed) → Type 0
+StablesTell pair faults stables stables_after scene results journal =
+    (c : ℕ) → c < scene.setup.controllers → StableTells pair faults stables stables_after scene results journal c
+
+-- a run of a scenario up to the answer of its closing: a legal journal within the limits, in which the script follows the
+-- steps in order, and the entries behind it are those of the closing schedule
+pub record IsRun (kinds : List ℕ) (scenario : Scenario) (results : List (List SaveResult)) (script closing journal : List (JournalEntry Typed)) (answer : Answer) : Type 0 where
   pub joined : journal ≡ script ++ closing
-  pub legal : IsLegal (scene_for scenario) [] journal
-  pub within : IsWithinLimits (scene_for scenario).sealing.size (past journal)
-  pub follows : FollowsInOrder (scene_for scenario) [] scenario.steps (past script)
-  pub closes : Closes (scene_for scenario) [] (past script) closing answer
-  pub lawful : IsLawful (scene_for scenario) (past journal)
+  pub legal : IsLegal (scene_for kinds scenario) results journal
+  pub within : IsWithinLimits (scene_for kinds scenario).sealing.size (past journal)
+  pub follows : FollowsInOrder (scene_for kinds scenario) results scenario.steps (past script)
+  pub closes : Closes (scene_for kinds scenario) results (past script) closing answer
+  pub lawful : IsLawful (scene_for kinds scenario) results (past journal)
 
 -- a run that is cut short where an outbox passes the limits of the journal, in the script or in the closing
-pub record IsCutShort (scenario : Scenario) (bytes letters : ℕ) (journal : List (JournalEntry Typed)) : Type 0 where
-  pub legal : IsLegal (scene_for scenario) [] journal
-  pub within : IsWithinLimits (scene_for scenario).sealing.size (past journal)
-  pub begun : IsBegun (scene_for scenario) [] scenario.steps bytes letters (past journal)
-  pub lawful : IsLawful (scene_for scenario) (past journal)
+pub record IsCutShort (kinds : List ℕ) (scenario : Scenario) (results : List (List SaveResult)) (bytes letters : ℕ) (journal : List (JournalEntry Typed)) : Type 0 where
+  pub legal : IsLegal (scene_for kinds scenario) results journal
+  pub within : IsWithinLimits (scene_for kinds scenario).sealing.size (past journal)
+  pub begun : IsBegun (scene_for kinds scenario) results scenario.steps bytes letters (past journal)
+  pub lawful : IsLawful (scene_for kinds scenario) results (past journal)
 
--- a run to its end and its report. Nothing was left undone
-pub record IsDone (scenario : Scenario) (written : List ℕ) : Type 0 where
+-- each save was made
+abbrev pub AreSaved : ℕ → List (List SaveResult) → Type 0
+AreSaved group results = (c : ℕ) → c < group → AllByRecursion (λ r. r ≡ Saved) (results_of results c)
+
+-- the one journal that a scenario has where each save is made
+pub record IsTheOne (scene : Scene Typed) (steps : List Turn) (journal : List (JournalEntry Typed)) (answer : Answer) : Type 0 where
+  pub most : ℕ
+  pub plays_it : plays most scene [] steps ≡ record { entries = past journal; answer = Some answer }
+
+-- what a call tells of the stable pairs, over a run's results and journal
+abbrev pub Telling : Type 1
+Telling = Scene Typed → List (List SaveResult) → List (JournalEntry Typed) → Type 0
+
+-- a run up to this answer, and what its stable pairs tell
+pub record HasRun (kinds : List ℕ) (saves : Telling) (scenario : Scenario) (answer : Answer) : Type 0 where
+  pub results : List (List SaveResult)
   pub script : List (JournalEntry Typed)
   pub closing : List (JournalEntry Typed)
   pub journal : List (JournalEntry Typed)
+  pub run : IsRun kinds scenario results script closing journal answer
+  pub saved : saves (scene_for kinds scenario) results journal
+  pub one : AreSaved scenario.setup.controllers results → IsTheOne (scene_for kinds scenario) scenario.steps journal answer
+
+-- a run to its end and what is told of it. At least f + 1 of the 2 f + 1 controllers take part in the end
+pub record IsDone (kinds : List ℕ) (saves : Telling) (scenario : Scenario) (tells : Record → List ℕ) (written : List ℕ) : Type 0 where
   pub primary : ℕ
+  pub ran : HasRun kinds saves scenario (schedule.Done primary)
+  pub up : majority scenario.setup.controllers ≤ count_up (scene_for kinds scenario) ran.results (past ran.journal)
   pub told : Record
-  pub run : IsRun scenario script closing journal (schedule.Done primary)
-  pub closed : IsClosed (scene_for scenario) [] (past journal)
-  pub shows : Shows (scene_for scenario) typed_bytes (length scenario.steps) closing journal told
-  pub wrote : written ≡ text told
+  pub shows : Shows (scene_for kinds scenario) ran.results (length scenario.steps) ran.closing ran.journal told
+  pub wrote : written ≡ tells told
+
+-- a run that ended since too few controllers took part where its closing began
+abbrev pub IsLeft : List ℕ → Telling → Scenario → ℕ → ℕ → Type 0
+IsLeft kinds saves scenario up needed = HasRun kinds saves scenario (schedule.NoQuorum up needed)
 
 -- a run that ended since a proposal in the closing found no room in the log
-pub record IsOverfull (scenario : Scenario) (limit : LogFull) : Type 0 where
-  pub script : List (JournalEntry Typed)
-  pub closing : List (JournalEntry Typed)
-  pub journal : List (JournalEntry Typed)
-  pub run : IsRun scenario script closing journal (schedule.Overfull limit)
+abbrev pub IsOverfull : List ℕ → Telling → Scenario → LogFull → Type 0
+IsOverfull kinds saves scenario limit = HasRun kinds saves scenario (schedule.Overfull limit)
 
 -- a run that was cut short since an outbox found no room in the journal
-pub record IsUnposted (scenario : Scenario) (bytes letters : ℕ) : Type 0 where
+pub record IsUnposted (kinds : List ℕ) (saves : Telling) (scenario : Scenario) (bytes letters : ℕ) : Type 0 where
+  pub results : List (List SaveResult)
   pub journal : List (JournalEntry Typed)
-  pub run : IsCutShort scenario bytes letters journal
+  pub run : IsCutShort kinds scenario results bytes letters journal
+  pub saved : saves (scene_for kinds scenario) results journal

@@ -4,25 +4,25 @@ ghost use Rattle.report.specs.Report.{word, further, number};
 ghost use Rattle.ravana_run.specs.Lines as lines;
 ghost use Rattle.ravana_run.specs.Ending.{ending_text, ending_status};
 
-use controller_core::LogFull;
 use of_types::Octets;
 use report::{write_newline, write_number, write_word};
 use scenario::{Fault, FaultKind, FaultPlace};
 use std::alloc::{AllocError, Global};
+use vr_log::LogFull;
 
 /// How a call ended, before anything is written.
 #[derive(Drop)]
 pub enum Ending {
-    /// The run came to rest. Its report.
+    /// The run came to rest. What is told of it.
     Report(Octets),
     /// The words are not accepted, or ask for what is not served yet.
     Usage,
     /// The bytes are no scenario, or more than a report has.
     Refused(Fault),
-    /// The scenario is not played yet.
-    Later,
     /// The source failed.
     Unread,
+    /// Too few controllers took part where the closing began.
+    NoQuorum { up: u64, needed: u64 },
     /// A proposal found no room in the log.
     Overfull(LogFull),
     /// An outbox found no room in the journal.
@@ -66,13 +66,6 @@ fn unread_line() -> &'static [u8]
     ensures { result.now ≡ lines.unread_line }
 {
     b"fault 4 read\n"
-}
-
-#[tactic(auto, unfolding(crate::specs::Lines::later_line))]
-fn later_line() -> &'static [u8]
-    ensures { result.now ≡ lines.later_line }
-{
-    b"fault 3 later top\n"
 }
 
 #[tactic(auto, unfolding(crate::specs::Lines::same_line))]
@@ -147,6 +140,17 @@ fn fault_line(alloc: Global, refused: Fault) -> Result<Octets, AllocError>
     Ok(line)
 }
 
+#[tactic(auto, unfolding(crate::specs::Lines::no_quorum_line, report::specs::Report::line))]
+fn no_quorum_line(alloc: Global, up: u64, needed: u64) -> Result<Octets, AllocError>
+    ensures { IfOk result (λ line. line ≡ lines.no_quorum_line up needed) }
+{
+    let mut line = fault(alloc, b"7")?;
+    write_named(&mut line, b"up", up)?;
+    write_named(&mut line, b"needed", needed)?;
+    write_newline(&mut line)?;
+    Ok(line)
+}
+
 #[tactic(auto, unfolding(crate::specs::Lines::overfull_line, report::specs::Report::line))]
 fn overfull_line(alloc: Global, limit: LogFull) -> Result<Octets, AllocError>
     ensures { IfOk result (λ line. line ≡ lines.overfull_line limit) }
@@ -189,8 +193,9 @@ impl Ending {
         match self {
             Ending::Report(_) | Ending::Same => 0,
             Ending::Usage => 2,
-            Ending::Refused(_) | Ending::Later => 3,
+            Ending::Refused(_) => 3,
             Ending::Unread => 4,
+            Ending::NoQuorum { .. } => 7,
             Ending::Differs { .. } => 8,
             Ending::Overfull(_) => 9,
             Ending::Unposted { .. } => 10,
@@ -205,11 +210,11 @@ impl Ending {
         match self {
             Ending::Report(text) => Ok(Text::Own(text)),
             Ending::Usage => Ok(Text::Fixed(usage_line())),
-            Ending::Later => Ok(Text::Fixed(later_line())),
             Ending::Unread => Ok(Text::Fixed(unread_line())),
             Ending::Same => Ok(Text::Fixed(same_line())),
             Ending::Refused(fault) => Ok(Text::Own(fault_line(alloc, fault)?)),
             Ending::Differs { line } => Ok(Text::Own(differs_line(alloc, line)?)),
+            Ending::NoQuorum { up, needed } => Ok(Text::Own(no_quorum_line(alloc, up, needed)?)),
             Ending::Overfull(limit) => Ok(Text::Own(overfull_line(alloc, limit)?)),
             Ending::Unposted { bytes, letters } => {
                 Ok(Text::Own(unposted_line(alloc, bytes, letters)?))

@@ -1,20 +1,23 @@
 //! The top call.
-ghost use Rattle.std.specs.Prelude.{◌≡◌, ◌≢◌, ◌≤◌, map, string_bytes, Contains, Some, Ok, Err, IfOk, IfErr, OnErr, IsTrue, ◌↔◌};
+ghost use Rattle.std.specs.Prelude.{◌≡◌, ◌≢◌, ◌≤◌, ℕ, List, map, string_bytes, Contains, IfOk, OnErr};
 ghost use Rattle.rv_base.specs.Causes.{Rose};
 ghost use Rattle.words.specs.Words.{job_of};
-ghost use Rattle.ravana_run.specs.Played as played;
+ghost use Rattle.scenario.specs.Scenario.{IsScenario};
 ghost use Rattle.ravana_run.specs.Outcome.{Answers, IsTold, IsUnserved, IsAudit, IsComplete, service_for, statuses, statuses_of_usage, statuses_of_audit};
-ghost use Rattle.ravana_run.specs.Ending.{ending_status, EndsRead, EndsScenario, EndsRun};
+ghost use Rattle.ravana_run.specs.Ending.{EndsRead, EndsScenario, EndsRun};
 ghost use Rattle.ravana_run.specs.Cause.{HasEndingCause, Tells};
-ghost use Rattle.scenario.specs.Scenario.{IsScenario, scenario_of};
+ghost use Rattle.ravana_run.specs.Play.{AreChains, AreFresh, told_text};
+ghost use Rattle.ravana_run.specs.Runs.{StablesTell};
 
 use crate::auditing::audited;
 use crate::ending::Ending;
-use crate::service::Service;
-use crate::sim::simulate;
+use crate::service::{Reader, Service};
+use crate::shelves::shelves_of;
+use crate::sim::{Output, simulate};
+use app_core::App;
 use report::write_all;
-use rv_base::{Actor, Local, Sink, Source, Turn};
-use scenario::{InputFault, Scenario, ScenarioFault, read_input, read_scenario};
+use rv_base::{Sink, Source, Stable};
+use scenario::{InputFault, Scenario, ScenarioFault, generate, read_input, read_scenario};
 use std::alloc::{AllocError, Global};
 use words::read_words;
 
@@ -34,105 +37,116 @@ fn service_for(words: &[String]) -> Option<Service>
     }
 }
 
-/// Whether a step is a frame.
-fn is_frame(step: &Turn) -> bool
-    ensures { result ≡ played.is_frame step.now }
+/// How the run of a scenario ends.
+fn end_of_scenario<A: App, W: Stable>(
+    alloc: Global,
+    scenario: &Scenario,
+    output: Output,
+    stables: &mut [W],
+    chains: Vec<A>,
+) -> Result<Ending, AllocError>
+    requires is { IsScenario scenario.now }
+    requires chains { (kinds : List ℕ) × AreChains A.kinds A.most kinds chains.items }
+    requires fresh { AreFresh W.pair stables.old }
+    ensures { (kinds : List ℕ) → AreChains A.kinds A.most kinds chains.items → IfOk result (EndsRun kinds (StablesTell W.pair W.faults stables.old stables.new) (told_text output) scenario.now) }
 {
-    matches!(
-        step,
-        Turn::Local {
-            actor: Actor::Switch(_),
-            input: Local::Frame { .. },
-        },
-    )
-}
-
-/// Whether there is at most one step, a frame.
-fn is_one_frame(steps: &[Turn]) -> bool
-    ensures { result ≡ played.is_one_frame steps.now }
-{
-    match steps {
-        [] => true,
-        [step] => is_frame(step),
-        _ => false,
-    }
-}
-
-/// Whether a scenario is played yet: one controller, one switch, no wires and no rules, at most one frame.
-fn is_played(scenario: &Scenario) -> bool
-    ensures { result ≡ played.is_played scenario.now }
-{
-    scenario.setup.controllers == 1
-        && scenario.setup.ports.len() == 1
-        && scenario.setup.links.is_empty()
-        && scenario.setup.deny.is_empty()
-        && is_one_frame(scenario.steps.as_slice())
-}
-
-/// How a scenario ends.
-fn end_of_scenario(alloc: Global, scenario: &Scenario) -> Result<Ending, AllocError>
-    requires { IsScenario scenario.now }
-    ensures { IfOk result (λ ending. EndsRun scenario.now ending) }
-{
-    if is_played(scenario) {
-        simulate(alloc, scenario)
-    } else {
-        Ok(Ending::Later)
-    }
+    let shelves = shelves_of(alloc, chains, scenario.setup.controllers)?;
+    simulate(alloc, scenario, output, stables, shelves)
 }
 
 /// How the bytes of a scenario end.
-fn simulated(alloc: Global, bytes: &[u8]) -> Result<Ending, AllocError>
-    ensures { IfOk result (λ ending. EndsScenario bytes.now ending) }
+fn simulated<A: App, W: Stable>(
+    alloc: Global,
+    bytes: &[u8],
+    stables: &mut [W],
+    chains: Vec<A>,
+) -> Result<Ending, AllocError>
+    requires chains { (kinds : List ℕ) × AreChains A.kinds A.most kinds chains.items }
+    requires fresh { AreFresh W.pair stables.old }
+    ensures { (kinds : List ℕ) → AreChains A.kinds A.most kinds chains.items → IfOk result (EndsScenario kinds (StablesTell W.pair W.faults stables.old stables.new) bytes.now) }
 {
     match read_scenario(alloc, bytes) {
-        Ok(scenario) => end_of_scenario(alloc, &scenario),
+        Ok(scenario) => end_of_scenario(alloc, &scenario, Output::Report, stables, chains),
         Err(ScenarioFault::Refused(fault)) => Ok(Ending::Refused(fault)),
         Err(ScenarioFault::OutOfMemory) => Err(AllocError),
     }
 }
 
-/// How the bytes that were read for a service end.
-fn end_of(alloc: Global, service: Service, bytes: &[u8]) -> Result<Ending, AllocError>
-    ensures { IfOk result (λ ending. EndsRead service bytes.now ending) }
+/// How what was read ends.
+fn end_of_reading<A: App, W: Stable>(
+    alloc: Global,
+    reader: Reader,
+    bytes: &[u8],
+    stables: &mut [W],
+    chains: Vec<A>,
+) -> Result<Ending, AllocError>
+    requires chains { (kinds : List ℕ) × AreChains A.kinds A.most kinds chains.items }
+    requires fresh { AreFresh W.pair stables.old }
+    ensures { (kinds : List ℕ) → AreChains A.kinds A.most kinds chains.items → IfOk result (EndsRead kinds (StablesTell W.pair W.faults stables.old stables.new) reader bytes.now) }
 {
-    match service {
-        Service::Sim => simulated(alloc, bytes),
-        Service::Audit => audited(alloc, bytes),
+    match reader {
+        Reader::Sim => simulated(alloc, bytes, stables, chains),
+        Reader::Audit => audited(alloc, bytes),
     }
 }
 
 /// How a call with these words ends, before anything is written.
-fn outcome<S: Source>(alloc: Global, words: &[String], source: &mut S) -> Result<Ending, AllocError>
-    ensures cause { IfOk result (λ ending. HasEndingCause (map string_bytes words.now) (Rose (S.faults source.old) (S.faults source.new)) (S.left source.old) (S.left source.new) ending) }
+fn outcome<A: App, S: Source, W: Stable>(
+    alloc: Global,
+    words: &[String],
+    source: &mut S,
+    stables: &mut [W],
+    chains: Vec<A>,
+) -> Result<Ending, AllocError>
+    requires chains { (kinds : List ℕ) × AreChains A.kinds A.most kinds chains.items }
+    requires fresh { AreFresh W.pair stables.old }
+    ensures cause { (kinds : List ℕ) → AreChains A.kinds A.most kinds chains.items →
+        IfOk result (HasEndingCause kinds (StablesTell W.pair W.faults stables.old stables.new) (map string_bytes words.now) (Rose (S.faults source.old) (S.faults source.new)) (S.left source.old) (S.left source.new)) }
     ensures told { IfOk result (λ ending. Tells (map string_bytes words.now) (Rose (S.faults source.old) (S.faults source.new)) (S.faults source.new ≡ S.faults source.old) ending) }
     ensures memory { OnErr result (S.faults source.new ≡ S.faults source.old) }
     ensures later { S.faults source.old ≤ S.faults source.new }
 {
-    let Some(service) = service_for(words) else {
-        return Ok(Ending::Usage);
-    };
-    match read_input(alloc, source, service.limit()) {
-        Ok(bytes) => end_of(alloc, service, bytes.as_slice()),
-        Err(InputFault::Failed) => Ok(Ending::Unread),
-        Err(InputFault::OutOfMemory) => Err(AllocError),
+    match service_for(words) {
+        None => Ok(Ending::Usage),
+        Some(
+            Service::Gen {
+                number,
+                controllers,
+                switches,
+                frames,
+            },
+        ) => {
+            let scenario = generate(alloc, number, controllers, switches, frames)?;
+            end_of_scenario(alloc, &scenario, Output::LastLine, stables, chains)
+        }
+        Some(Service::Reads(reader)) => match read_input(alloc, source, reader.limit()) {
+            Ok(bytes) => end_of_reading(alloc, reader, bytes.as_slice(), stables, chains),
+            Err(InputFault::Failed) => Ok(Ending::Unread),
+            Err(InputFault::OutOfMemory) => Err(AllocError),
+        },
     }
 }
 
-/// Serves one call. `sim` reads a scenario from the source, plays it, brings it to rest and writes its report;
-/// `audit` reads a report and tells whether a line differs, and which. Else one line tells why not. It answers the
-/// status.
+/// Serves one call. `sim` reads a scenario from the source, plays it turn by turn, brings it to rest and writes its report;
+/// `gen` does the same with the scenario that its numbers make, and writes the report's last line; `audit` reads a report
+/// and tells whether a line differs, and which. Else one line tells why not. It answers the status.
 ///
-/// The words are those behind the program's name. Of the jobs that `read_words` accepts these two are served
-/// yet, and of the scenarios that `read_scenario` accepts those of one controller, one switch and at most one
-/// frame are played yet: the others get the usage line, and `fault 3 later top`.
-pub fn ravana<S: Source, K: Sink>(
+/// The words are those behind the program's name. There are seven stable pairs, and the applications of the sixteen lives
+/// of seven controllers, in order and all of the same kinds: a group of fewer leaves the rest alone. (The words of `run`
+/// are accepted and not served yet: they get the usage line.)
+pub fn ravana<A: App, S: Source, K: Sink, W: Stable>(
     alloc: Global,
     words: &[String],
     source: &mut S,
     sink: &mut K,
+    stables: &mut [W],
+    chains: Vec<A>,
 ) -> u8
-    ensures answer { IsTold (S.left source.old) (S.left source.new) (K.taken sink.old) (K.taken sink.new) (λ input rest written. Answers (map string_bytes words.now) input rest (Rose (S.faults source.old) (S.faults source.new)) (Rose (K.faults sink.old) (K.faults sink.new)) written result) }
+    requires chains { (kinds : List ℕ) × AreChains A.kinds A.most kinds chains.items }
+    requires fresh { AreFresh W.pair stables.old }
+    ensures answer { (kinds : List ℕ) → AreChains A.kinds A.most kinds chains.items →
+        IsTold (S.left source.old) (S.left source.new) (K.taken sink.old) (K.taken sink.new) (λ input rest written.
+        Answers kinds (StablesTell W.pair W.faults stables.old stables.new) (map string_bytes words.now) input rest (Rose (S.faults source.old) (S.faults source.new)) (Rose (K.faults sink.old) (K.faults sink.new)) written result) }
     ensures usage { result ≡ 2 → IsUnserved (map string_bytes words.now) }
     ensures words { IsUnserved (map string_bytes words.now) → Contains statuses_of_usage result }
     ensures audit { IsAudit (map string_bytes words.now) → Contains statuses_of_audit result }
@@ -147,7 +161,7 @@ pub fn ravana<S: Source, K: Sink>(
     ensures every_write { result ≢ 5 → K.faults sink.new ≡ K.faults sink.old }
     ensures every_read { result ≢ 4 → result ≢ 5 → S.faults source.new ≡ S.faults source.old }
 {
-    let Ok(ending) = outcome(alloc, words, source) else {
+    let Ok(ending) = outcome(alloc, words, source, stables, chains) else {
         return NO_MEMORY;
     };
     let status = ending.status();

@@ -22,6 +22,6 @@ pub use fault::ReportFault;
 pub use laws::report_law;
 pub use reading::read_report;
 pub use record::{Record, Shown, Told};
-pub use report_text::text;
+pub use report_text::{last_line, text};
 pub use words::{write_newline, write_number, write_word};
 pub use writing::{WriteFault, write_all, write_report};

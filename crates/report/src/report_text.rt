@@ -135,6 +135,15 @@ fn write_end(out: &mut Octets, told: &Record) -> Result<(), AllocError>
     Ok(())
 }
 
+/// The last line of a report alone.
+pub fn last_line(alloc: Global, told: &Record) -> Result<Octets, AllocError>
+    ensures { IfOk result (λ line. line ≡ end_line told.now) }
+{
+    let mut out = Octets::new(alloc);
+    write_end(&mut out, told)?;
+    Ok(out)
+}
+
 /// The text of a report. It is made in a fixed number of passes over the record.
 #[tactic(auto, unfolding(crate::specs::Report::text))]
 pub fn text(alloc: Global, told: &Record) -> Result<Octets, AllocError>

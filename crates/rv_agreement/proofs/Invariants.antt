@@ -1,5 +1,6 @@
 -- What holds of controllers where they start, what each turn keeps, and what letters between members pass on, holds after
--- every possible past, where valid messages are read as they were sealed and each event that is drawn is valid.
+-- every possible past of good entries, where valid messages are read as they were sealed and each event that is drawn is
+-- valid.
 use Rattle.std.proofs.Common.{◌≡◌, ℕ, ◌<◌, true, Option, Some, None, List, [], ◌∷◌, refl, sym, ap, ◌∙◌, subst}
 use Rattle.std.specs.Prelude.{slice_index_or}
 use Rattle.std.specs.List.{AllByRecursion}
@@ -31,7 +32,7 @@ use Rattle.rv_runs.specs.declared.messages.Unsealed.TheVariants as unsealed
 use Rattle.rv_runs.specs.declared.messages.Way.TheVariants as way
 use Rattle.rv_runs.specs.Messages.{FitsMessage, way_of}
 use Rattle.rv_runs.specs.States.{Scene, ControllerAt, IsFaithful, content, controller_hears, controller_message, controller_saved, controller_took, controller_step, controller_at}
-use Rattle.rv_runs.specs.Legal.{FitsTypes, IsPossible, results_of}
+use Rattle.rv_runs.specs.Legal.{IsPossible, results_of}
 use Rattle.rv_runs.specs.Inputs.{IsHeard, By_draw, By_local}
 use Rattle.rv_runs.proofs.Entries.{Own, Other, controller_after}
 use Rattle.rv_runs.proofs.Pasts.{possible_before, self_controller}
@@ -45,15 +46,16 @@ pub record IsGoodWork (IsGood : ControllerState → Type 0) (IsSaid : Actor → 
   pub letters : AllByRecursion (λ l. IsSaid l.to l.body) w.letters
   pub saves : (pair : ℕ × ℕ) → w.save ≡ Some pair → IsGood (down c pair.0 pair.1)
 
--- good controllers stay so: they start so, turns and crashes leave them so, where what is heard is good; and what is said
--- is valid, and good to hear
-pub record IsInvariant (controllers : ℕ) (turn : ControllerState → ControllerInput → Work) (IsGood : ControllerState → Type 0) (IsSaid : Actor → ControllerSays → Type 0) (IsGoodInput : ControllerInput → Type 0) : Type 0 where
+-- good controllers stay so: they start so, turns and crashes leave them so, where what is heard is good; what a good entry
+-- tells is; and what is said is valid, and good to hear
+pub record IsInvariant {B : Type 0} (IsGoodEntry : JournalEntry B → Type 0) (controllers : ℕ) (turn : ControllerState → ControllerInput → Work) (IsGood : ControllerState → Type 0) (IsSaid : Actor → ControllerSays → Type 0) (IsGoodInput : ControllerInput → Type 0) : Type 0 where
   pub starts : (c : ℕ) → IsGood (starting_controller c controllers)
   pub falls : (c : ControllerState) → IsGood c → IsGood (down c c.vr.promise c.vr.life)
   pub turns : (c : ControllerState) (x : ControllerInput) → IsGood c → IsGoodInput x → IsGoodWork IsGood IsSaid c (turn c x)
   pub valid : (to : Actor) (said : ControllerSays) → IsSaid to said → IsValidTo to said
-  pub local : (what : LocalInput) → FitsTypes what → IsGoodInput (controller_input.Local what)
-  pub heard : (c : ℕ) (x : ControllerInput) → HasValidEvent x → ((from : ℕ) (m : VrMessage) → x ≡ controller_input.Vr from m → IsSaid (actor.Controller c) (controller_says.Vr m)) → IsGoodInput x
+  pub local : (a : Actor) (what : LocalInput) → IsGoodEntry (Local a what) → IsGoodInput (controller_input.Local what)
+  pub heard : (c : ℕ) (from : Actor) (u : Unsealed) → HasValidEvent (controller_hears from u)
+      → ((j : ℕ) (m : VrMessage) → controller_hears from u ≡ controller_input.Vr j m → IsSaid (actor.Controller c) (controller_says.Vr m)) → IsGoodInput (controller_hears from u)
 
 -- what reads as a message of a member is from a member
 from_member : (from : Actor) (u : Unsealed) (j : ℕ) (m : VrMessage) → controller_hears from u ≡ controller_input.Vr j m → (from ≡ actor.Controller j) × (u ≡ unsealed.Message (message.Vr m))
@@ -86,8 +88,8 @@ valid_read scene faithful d (controller_says.Vr x) m valid typed says =
     ap (λ (k : VrMessage). controller_says.Vr k) (let same : x ≡ m = cc in same)
 
 module _ {B : Type 0} (scene : Scene B) (results : List (List SaveResult)) (faithful : IsFaithful scene.sealing)
-    (IsGood : ControllerState → Type 0) (IsSaid : Actor → ControllerSays → Type 0) (IsGoodInput : ControllerInput → Type 0)
-    (invariant : IsInvariant scene.setup.controllers (λ c x. controller_work scene.kinds scene.setup c x) IsGood IsSaid IsGoodInput) where
+    (IsGoodEntry : JournalEntry B → Type 0) (IsGood : ControllerState → Type 0) (IsSaid : Actor → ControllerSays → Type 0) (IsGoodInput : ControllerInput → Type 0)
+    (invariant : IsInvariant IsGoodEntry scene.setup.controllers (λ c x. controller_work scene.kinds scene.setup c x) IsGood IsSaid IsGoodInput) where
   abbrev at : ℕ → List (JournalEntry B) → ControllerAt
   at c past = controller_at scene (results_of results c) c (part (actor.Controller c) past)
 
@@ -132,16 +134,17 @@ module _ {B : Type 0} (scene : Scene B) (results : List (List SaveResult)) (fait
   step_holds rs w (Lose a id) found s h = record { now = s.now; before = s.before; owed = s.owed }
   step_holds rs w (Idle a) found s h = record { now = s.now; before = s.before; owed = s.owed }
 
-  module _ (e : JournalEntry B) (before : List (JournalEntry B)) (legal : IsPossible scene results (e ∷ before)) (valid : DrawsValidEvent scene e (drawn e before)) (good : HoldsAfter before) where
+  module _ (e : JournalEntry B) (before : List (JournalEntry B)) (legal : IsPossible scene results (e ∷ before)) (valid : DrawsValidEvent scene e (drawn e before)) (fine : IsGoodEntry e) (good : HoldsAfter before) where
     input_good : (c : ℕ) (x : ControllerInput) → IsInputOf scene c e before x → IsGoodInput x
-    input_good c x (OfItself what fits is) = subst (λ (y : ControllerInput). IsGoodInput y) (sym is) (invariant.local what fits)
+    input_good c x (OfItself a what here is) = subst (λ (y : ControllerInput). IsGoodInput y) (sym is) (invariant.local a what (subst IsGoodEntry here fine))
     input_good c x (OfPacket p among to event is) =
-        invariant.heard c x (event valid) (λ j m hears.
-        let r = from_member p.from (content scene.sealing p) j m (sym is ∙ hears) in
+        subst (λ (y : ControllerInput). IsGoodInput y) (sym is)
+        (invariant.heard c p.from (content scene.sealing p) (subst (λ (y : ControllerInput). HasValidEvent y) is (event valid)) (λ j m hears.
+        let r = from_member p.from (content scene.sealing p) j m hears in
         let k = good.packets p among j r.0 in
         let said : IsSaid (actor.Controller c) k.said = subst (λ (a : Actor). IsSaid a k.said) to k.may in
         let same = valid_read scene faithful c k.said m (invariant.valid (actor.Controller c) k.said said) k.typed (read_between scene p j c k.said m r.0 to k.body r.1) in
-        subst (λ (y : ControllerSays). IsSaid (actor.Controller c) y) same said)
+        subst (λ (y : ControllerSays). IsSaid (actor.Controller c) y) same said))
 
     controllers_after : (c : ℕ) → c < scene.setup.controllers → HoldsAt (at c (e ∷ before))
     controllers_after c there =
@@ -173,6 +176,6 @@ module _ {B : Type 0} (scene : Scene B) (results : List (List SaveResult)) (fait
       ];
     }
 
-  pub invariant_holds : (past : List (JournalEntry B)) → IsPossible scene results past → DrawsValidEvents scene past → HoldsAfter past
-  invariant_holds [] legal valid = record { controllers = λ c there. record { now = invariant.starts c; before = invariant.starts c; owed = tt }; packets = λ p among. absurd among }
-  invariant_holds (e ∷ before) legal valid = good_after e before legal valid.0 (invariant_holds before (possible_before scene results e before legal) valid.1)
+  pub invariant_holds : (past : List (JournalEntry B)) → IsPossible scene results past → DrawsValidEvents scene past → AllByRecursion (λ e. IsGoodEntry e) past → HoldsAfter past
+  invariant_holds [] legal valid fine = record { controllers = λ c there. record { now = invariant.starts c; before = invariant.starts c; owed = tt }; packets = λ p among. absurd among }
+  invariant_holds (e ∷ before) legal valid fine = good_after e before legal valid.0 fine.0 (invariant_holds before (possible_before scene results e before legal) valid.1 fine.1)

@@ -4,7 +4,7 @@ use Rattle.std.proofs.Common.{◌≡◌, ℕ, ◌<◌, true, false, Option, Some
 use Rattle.rv_base.specs.declared.journal.Actor.{Actor}
 use Rattle.rv_base.specs.declared.journal.Actor.TheVariants as actor
 use Rattle.rv_base.specs.declared.journal.JournalEntry.{JournalEntry}
-use Rattle.rv_base.specs.declared.journal.JournalEntry.TheVariants.{Post, Draw}
+use Rattle.rv_base.specs.declared.journal.JournalEntry.TheVariants.{Post, Draw, Local}
 use Rattle.rv_base.specs.declared.journal.Letter.{Letter}
 use Rattle.rv_base.specs.declared.journal.Local.{Local as LocalInput}
 use Rattle.rv_base.specs.declared.journal.Packet.{Packet}
@@ -20,7 +20,7 @@ use Rattle.group_controller.specs.declared.messages.ControllerInput.TheVariants 
 use Rattle.group_controller.specs.declared.messages.ControllerSays.{ControllerSays}
 use Rattle.rv_runs.specs.Messages.{FitsMessage}
 use Rattle.rv_runs.specs.States.{Scene, content, controller_hears, controller_message, controller_at}
-use Rattle.rv_runs.specs.Legal.{Fits, FitsTypes, EntryFits, IsSoundController, IsPossible, results_of}
+use Rattle.rv_runs.specs.Legal.{Fits, IsSoundController, IsPossible, results_of}
 use Rattle.rv_runs.specs.Inputs.{IsHeard, By_draw, By_local}
 use Rattle.rv_runs.proofs.Entries.{Own, Other, controller_after}
 use Rattle.rv_runs.proofs.Pasts.{from_some, self_controller}
@@ -30,7 +30,7 @@ use Rattle.rv_agreement.specs.Reading.{DrawsValidEvent}
 
 -- where an input of controller c comes from
 pub data IsInputOf {B : Type 0} (scene : Scene B) (c : ℕ) (e : JournalEntry B) (before : List (JournalEntry B)) (x : ControllerInput) : Type 0 where
-  OfItself : (what : LocalInput) → FitsTypes what → x ≡ controller_input.Local what → IsInputOf scene c e before x
+  OfItself : (a : Actor) (what : LocalInput) → e ≡ Local a what → x ≡ controller_input.Local what → IsInputOf scene c e before x
   OfPacket : (p : Packet B) → IsIn p (pool before) → p.to ≡ actor.Controller c → (DrawsValidEvent scene e (drawn e before) → HasValidEvent x)
       → x ≡ controller_hears p.from (content scene.sealing p) → IsInputOf scene c e before x
 
@@ -77,4 +77,4 @@ module _ {B : Type 0} (scene : Scene B) (results : List (List SaveResult)) (e : 
       (subst (λ (q : Option (Packet B)). DrawsValidEvent scene (Draw a id keep) q) found (subst (λ (y : JournalEntry B). DrawsValidEvent scene y (drawn e before)) is valid)) in
       subst (λ (y : ControllerInput). HasValidEvent y) (sym hears) drawn_valid)
       hears
-  input_of_entry c x same (By_local a what is hears) = OfItself what (subst (λ (y : JournalEntry B). EntryFits y) is legal.views.0) hears
+  input_of_entry c x same (By_local a what is hears) = OfItself a what is hears

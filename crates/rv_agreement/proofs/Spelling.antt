@@ -16,8 +16,8 @@ use Rattle.group_controller.specs.Rules.{controller_work}
 use Rattle.controller_laws.specs.Moves.{member_input}
 use Rattle.controllers.specs.Spelling.{IsValidTo, CanBeHeard, IsValidWork}
 use Rattle.controllers.proofs.Spelling as turn
-use Rattle.rv_runs.specs.States.{Scene, IsFaithful}
-use Rattle.rv_runs.specs.Legal.{IsPossible}
+use Rattle.rv_runs.specs.States.{Scene, IsFaithful, controller_hears}
+use Rattle.rv_runs.specs.Legal.{EntryFits, IsPossible}
 use Rattle.rv_agreement.specs.Reading.{DrawsValidEvents}
 use Rattle.rv_agreement.proofs.Invariants.{IsInvariant, HoldsAfter, invariant_holds}
 
@@ -34,7 +34,7 @@ heard_valid c (controller_input.Malformed from) said = tt
 local_valid : (what : Local) → CanBeHeard (controller_input.Local what)
 local_valid what = record { event = tt; message = heard_valid 0 (controller_input.Local what) (λ from m e. absurd cc) }
 
-pub spelled_invariant : {B : Type 0} (scene : Scene B) → IsInvariant scene.setup.controllers (λ c x. controller_work scene.kinds scene.setup c x) IsSpelled IsValidTo CanBeHeard
+pub spelled_invariant : {B : Type 0} (scene : Scene B) → IsInvariant (λ (e : JournalEntry B). EntryFits e) scene.setup.controllers (λ c x. controller_work scene.kinds scene.setup c x) IsSpelled IsValidTo CanBeHeard
 spelled_invariant scene = record {
   starts = λ c. starting_spelled c scene.setup.controllers;
   falls = λ c good. down_spelled c.vr.me c.vr.controllers c.vr.promise c.vr.life;
@@ -42,10 +42,10 @@ spelled_invariant scene = record {
       let w : IsValidWork (controller_work scene.kinds scene.setup c x) = turn.spelling_law scene.kinds scene.setup c x good heard in
       record { state = w.state; letters = w.letters; saves = λ pair e. down_spelled c.vr.me c.vr.controllers pair.0 pair.1 };
   valid = λ to said p. p;
-  local = λ what fits. local_valid what;
-  heard = λ c x event said. record { event = event; message = heard_valid c x said };
+  local = λ a what fits. local_valid what;
+  heard = λ c from u event said. record { event = event; message = heard_valid c (controller_hears from u) said };
 }
 
 pub all_spelled : {B : Type 0} (scene : Scene B) (results : List (List SaveResult)) → (faithful : IsFaithful scene.sealing) → (past : List (JournalEntry B)) → IsPossible scene results past → DrawsValidEvents scene past
-    → HoldsAfter scene results faithful IsSpelled IsValidTo CanBeHeard (spelled_invariant scene) past
-all_spelled scene results faithful past legal valid = invariant_holds scene results faithful IsSpelled IsValidTo CanBeHeard (spelled_invariant scene) past legal valid
+    → HoldsAfter scene results faithful (λ e. EntryFits e) IsSpelled IsValidTo CanBeHeard (spelled_invariant scene) past
+all_spelled scene results faithful past legal valid = invariant_holds scene results faithful (λ e. EntryFits e) IsSpelled IsValidTo CanBeHeard (spelled_invariant scene) past legal valid legal.views

@@ -2,7 +2,12 @@ pub mod Lists
 pub mod Pools
 pub mod Sizes
 pub mod Fitting
+pub mod Rows
+pub mod Placing
+pub mod Leaving
+pub mod Firsts
 pub mod Kept
 pub mod Turning
+pub mod Picking
 pub mod Among
 pub mod All

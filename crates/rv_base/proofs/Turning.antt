@@ -1,130 +1,128 @@
 -- What the steps of a turn make of a ledger.
-use Rattle.std.proofs.Common.{◌≡◌, ℕ, Option, List, [], ◌∷◌, ◌++◌, length, take, sym, ap, ◌∙◌, append_assoc}
-use Rattle.std.proofs.Math.Seq.{take-append_seam}
-use Rattle.std.proofs.lemmas.List.{reverse-append}
+use Rattle.std.proofs.Common.{◌≡◌, ◌≤◌, ℕ, ◌+◌, ◌-◌, false, Option, List, [], ◌∷◌, ◌++◌, length, take, refl, sym, ap, ◌∙◌, arith}
+use Rattle.std.specs.Prelude.{nat_eq}
+use Rattle.std.proofs.lemmas.List.{length-append, length-take-le}
+use Rattle.std.proofs.lemmas.List.Elements.{filter-append}
+use Rattle.std.proofs.lemmas.List.Sums.{sum_by-append}
 use Rattle.rv_base.specs.declared.journal.Actor.{Actor}
 use Rattle.rv_base.specs.declared.journal.JournalEntry.{JournalEntry}
+use Rattle.rv_base.specs.declared.journal.JournalEntry.TheVariants.{Post}
 use Rattle.rv_base.specs.declared.journal.Letter.{Letter}
 use Rattle.rv_base.specs.declared.journal.Packet.{Packet}
 use Rattle.rv_base.specs.declared.journal.Turn.{Turn}
 use Rattle.rv_base.specs.declared.ledger.Ledger.{Ledger}
 use Rattle.rv_base.specs.declared.ledger.Ready.{Ready}
-use Rattle.rv_base.specs.declared.ledger.Sums.{Sums}
-use Rattle.rv_base.specs.declared.wire.Stop.{Stop}
-use Rattle.rv_base.specs.declared.wire.Stop.TheVariants.{OutOfMemory, JournalFull}
-use Rattle.rv_base.specs.Answers.{RefusedBy}
-use Rattle.rv_base.specs.Pool.{past, pool}
-use Rattle.rv_base.specs.Turns.{posting, posted, turn_actor, turn_entries, entry_of, IsKept}
-use Rattle.rv_base.specs.Ledger.{post_of, found_in, entry_by, left_by, IsRefusal, IsUnchanged, IsReady}
-use Rattle.rv_base.proofs.Lists.{past-push}
-use Rattle.rv_base.proofs.Kept.{post_of-posting, IsKept-posted, entry_by-entry_of, IsKept-input}
+use Rattle.rv_base.specs.declared.place.PacketPlace.{PacketPlace}
+use Rattle.rv_base.specs.declared.pool.Sums.{Sums}
+use Rattle.rv_base.specs.declared.queues.Queues.{Queues}
+use Rattle.rv_base.specs.Actors.{same_actor}
+use Rattle.rv_base.specs.Ledger.{found_in, entry_by, IsReady, Waits, IsLedger}
+use Rattle.rv_base.specs.Orderly.{lost_of, pool_bytes, fitting_count}
+use Rattle.rv_base.specs.Places.{IsFound, packet_as, placed, queue_of, sent_to}
+use Rattle.rv_base.specs.Pool.{past, pool, numbered, fitting, waiting, letters_posted, letter_bytes}
+use Rattle.rv_base.specs.Turns.{posting, entry_of}
+use Rattle.rv_base.proofs.Kept.{IsKept-post, IsKept-input, entry_by-entry_of}
+use Rattle.rv_base.proofs.Lists.{past-push, numbered-take}
+use Rattle.rv_base.proofs.Placing.{found_later, places_later, places_append, places_for, post_stands}
 
 module _ {B : Type 0} where
-  past-posting : (size : B → ℕ) (journal before : List (JournalEntry B)) (a : Actor) (letters : List (Letter B)) → past (journal ++ posting size a letters before) ≡ posting size a letters before ++ past journal
-  past-posting size journal before a [] = reverse-append journal []
-  past-posting size journal before a (l ∷ letters) = reverse-append journal (posting size a (l ∷ letters) before)
+  length-numbered : (first : ℕ) (a : Actor) (letters : List (Letter B)) → length (numbered first a letters) ≡ length letters
+  length-numbered first a [] = refl
+  length-numbered first a (l ∷ letters) = let rest = length-numbered (first + 1) a letters in omega (arith, rest)
 
-  -- what a ledger keeps
-  abbrev pub KeptBy : (B → ℕ) → Ledger B → Type 0
-  KeptBy size ledger = IsKept size (past ledger.entries.items) ledger.pool.items ledger.sums.letters ledger.sums.bytes
+  bytes-numbered : (size : B → ℕ) (first : ℕ) (a : Actor) (letters : List (Letter B)) → pool_bytes size (numbered first a letters) ≡ letter_bytes size letters
+  bytes-numbered size first a [] = refl
+  bytes-numbered size first a (l ∷ letters) =
+      let rest = bytes-numbered size (first + 1) a letters in
+      let packets = sum_by-append (λ p. size p.body) (packet_as first a l ∷ []) (numbered (first + 1) a letters) in
+      let posted = sum_by-append (λ x. size x.body) (l ∷ []) letters in
+      omega (arith, rest, packets, posted)
 
-  -- a ledger after the post of an outbox
-  pub record IsPosted (size : B → ℕ) (a : Actor) (letters : List (Letter B)) (start after : Ledger B) : Type 0 where
-    pub entries_are : after.entries.items ≡ start.entries.items ++ posting size a letters (past start.entries.items)
-    pub past_is : past after.entries.items ≡ posted size a letters (past start.entries.items)
-    pub kept : KeptBy size after
-
-  pub posts : (size : B → ℕ) (a : Actor) (letters : List (Letter B)) (start prepared after : Ledger B) (ready : Ready) →
-      KeptBy size start → IsReady size a letters start prepared ready → after.entries.items ≡ prepared.entries.items ++ post_of a prepared.sums.letters letters ready.lost →
-      after.pool.items ≡ prepared.pool.items → after.sums ≡ ready.sums → IsPosted size a letters start after
-  posts size a letters start prepared after ready kept is entries_are pool_is sums_are =
-      let entry = post_of-posting size (past start.entries.items) start.pool.items start.sums.letters start.sums.bytes ready.lost a letters kept is.lost_is in
-      let entries_now : after.entries.items ≡ start.entries.items ++ posting size a letters (past start.entries.items) =
-      entries_are
-      ∙ ap (λ es. es ++ post_of a prepared.sums.letters letters ready.lost) is.entries_same
-      ∙ ap (λ (s : Sums). start.entries.items ++ post_of a s.letters letters ready.lost) is.sums_same
-      ∙ ap (λ es. start.entries.items ++ es) entry in
-      let past_now : past after.entries.items ≡ posted size a letters (past start.entries.items) =
-      ap past entries_now ∙ past-posting size start.entries.items (past start.entries.items) a letters in
+  -- letters came to the end of a pool
+  Waits-more : (size : B → ℕ) (journal : List (JournalEntry B)) (packets : List (Packet B)) (queues after : Queues) (waits now : Sums) (first count lost : ℕ) (a : Actor) (letters : List (Letter B)) →
+      Waits size journal packets queues waits → count ≤ length letters →
+      ((receiver : Actor) → queue_of after receiver ≡ queue_of queues receiver ++ sent_to receiver (placed (length journal) 0 first a (take count letters))) →
+      now.letters ≡ waits.letters + count → now.bytes ≡ waits.bytes + letter_bytes size (take count letters) →
+      Waits size (journal ++ Post a first letters lost ∷ []) (packets ++ numbered first a (take count letters)) after now
+  Waits-more size journal packets queues after waits now first count lost a letters is within queues_are letters_are bytes_are =
+      let more = numbered first a (take count letters) in
+      let long = length-numbered first a (take count letters) in
+      let taken = length-take-le count letters within in
+      let bytes = bytes-numbered size first a (take count letters) in
       record {
-        entries_are = entries_now;
-        past_is = past_now;
-        kept = rw (past_now, sums_are) (IsKept-posted size (past start.entries.items) start.pool.items after.pool.items start.sums.letters start.sums.bytes ready.lost a letters ready.sums kept is.lost_is (pool_is ∙ is.pool_is) is.summed);
+        letters_are = omega (arith, letters_are, is.letters_are, long, taken) ∙ sym (length-append packets more);
+        bytes_are = omega (arith, bytes_are, is.bytes_are, bytes) ∙ sym (sum_by-append (λ p. size p.body) packets more);
+        queues_are = λ r. rw (queues_are r, filter-append (λ p. same_actor p.to r) packets more)
+            (places_append (journal ++ Post a first letters lost ∷ []) (queue_of queues r) (sent_to r (placed (length journal) 0 first a (take count letters))) (waiting r packets) (waiting r more)
+            (places_later journal (Post a first letters lost ∷ []) (queue_of queues r) (waiting r packets) (is.queues_are r))
+            (places_for (journal ++ Post a first letters lost ∷ []) r (placed (length journal) 0 first a (take count letters)) more (post_stands journal first count lost a letters)));
       }
 
-  -- a ledger after a refusal
-  pub record IsRefused (size : B → ℕ) (letters : List (Letter B)) (cause : Stop) (start after : Ledger B) : Type 0 where
-    pub entries_are : after.entries.items ≡ start.entries.items
-    pub told : RefusedBy size cause letters (past start.entries.items)
-    pub kept : KeptBy size after
-
-  told_by : (size : B → ℕ) (letters : List (Letter B)) (cause : Stop) (start : Ledger B) → KeptBy size start → IsRefusal size start.sums.letters start.sums.bytes letters cause →
-      RefusedBy size cause letters (past start.entries.items)
-  told_by size letters OutOfMemory start kept is = tt
-  told_by size letters (JournalFull bytes count) start kept is = record {
-    bytes_are = rw (← kept.total_is) is.bytes_are;
-    letters_are = rw (← kept.next_is) is.letters_are;
-    passes = is.passes;
+  -- a journal grew by an entry
+  Waits-later : (size : B → ℕ) (journal more : List (JournalEntry B)) (packets : List (Packet B)) (queues : Queues) (waits : Sums) → Waits size journal packets queues waits → Waits size (journal ++ more) packets queues waits
+  Waits-later size journal more packets queues waits is = record {
+    letters_are = is.letters_are;
+    bytes_are = is.bytes_are;
+    queues_are = λ a. places_later journal more (queue_of queues a) (waiting a packets) (is.queues_are a);
   }
 
-  pub refuses : (size : B → ℕ) (letters : List (Letter B)) (cause : Stop) (start after : Ledger B) →
-      KeptBy size start → IsUnchanged start after → IsRefusal size start.sums.letters start.sums.bytes letters cause → IsRefused size letters cause start after
-  refuses size letters cause start after kept same is = record {
-    entries_are = same.entries_same;
-    told = told_by size letters cause start kept is;
-    kept = rw (same.entries_same, same.pool_same, same.sums_same) kept;
-  }
+  pub record IsPosted (size : B → ℕ) (a : Actor) (letters : List (Letter B)) (start after : Ledger B) : Type 0 where
+    pub kept : IsLedger size after
+    pub entries_are : after.entries.items ≡ start.entries.items ++ posting size a letters (past start.entries.items)
 
-  -- a prepared ledger, once its pool has only the packets from before
-  pub undone : (size : B → ℕ) (a : Actor) (letters : List (Letter B)) (start prepared after : Ledger B) (ready : Ready) → IsReady size a letters start prepared ready →
-      after.entries.items ≡ prepared.entries.items → after.pool.items ≡ take (length start.pool.items) prepared.pool.items → after.sums ≡ prepared.sums → IsUnchanged start after
-  undone size a letters start prepared after ready is entries_are pool_is sums_are = record {
-    entries_same = entries_are ∙ is.entries_same;
-    pool_same = pool_is ∙ ap (take (length start.pool.items)) is.pool_is ∙ take-append_seam start.pool.items _;
-    sums_same = sums_are ∙ is.sums_same;
-  }
+  posting_some : (size : B → ℕ) (a : Actor) (letters : List (Letter B)) (before : List (JournalEntry B)) (next lost : ℕ) → false ≡ nat_eq (length letters) 0 → next ≡ letters_posted before → lost ≡ lost_of size (pool before) letters →
+      Post a next letters lost ∷ [] ≡ posting size a letters before
+  posting_some size a [] before next lost some next_is lost_is = cc
+  posting_some size a (l ∷ letters) before next lost some next_is lost_is =
+      ap (λ n. Post a n (l ∷ letters) lost ∷ []) next_is ∙ ap (λ n. Post a (letters_posted before) (l ∷ letters) n ∷ []) lost_is
+
+  -- a ledger after a post
+  pub posts : (size : B → ℕ) (a : Actor) (letters : List (Letter B)) (start prepared after : Ledger B) (ready : Ready) → false ≡ nat_eq (length letters) 0 → IsLedger size start → IsReady size a letters start prepared ready →
+      after.entries.items ≡ prepared.entries.items ++ Post a prepared.posted.letters letters ready.lost ∷ [] → after.queues ≡ prepared.queues → after.posted ≡ ready.posted → after.waiting ≡ ready.waiting →
+      IsPosted size a letters start after
+  posts size a letters start prepared after ready some kept is entries_are queues_are posted_are waiting_are =
+      let before = past start.entries.items in
+      let entry : JournalEntry B = Post a start.posted.letters letters ready.lost in
+      let now : after.entries.items ≡ start.entries.items ++ entry ∷ [] =
+      entries_are
+      ∙ ap (λ es. es ++ Post a prepared.posted.letters letters ready.lost ∷ []) is.entries_same
+      ∙ ap (λ (s : Sums). start.entries.items ++ Post a s.letters letters ready.lost ∷ []) is.posted_same in
+      let past_now : past after.entries.items ≡ entry ∷ before = ap past now ∙ past-push start.entries.items entry in
+      let lost_is : ready.lost ≡ lost_of size (pool before) letters =
+      is.lost_is
+      ∙ ap (λ n. length letters - n) is.count_is
+      ∙ ap (λ n. length letters - fitting_count size n start.waiting.bytes letters) kept.waits.letters_are
+      ∙ ap (λ n. length letters - fitting_count size (length (pool before)) n letters) kept.waits.bytes_are in
+      let fits : length letters - ready.lost ≡ is.count = omega (arith, is.lost_is, is.count_within) in
+      let come : fitting start.posted.letters a letters ready.lost ≡ numbered start.posted.letters a (take is.count letters) =
+      ap (λ n. take n (numbered start.posted.letters a letters)) fits ∙ sym (numbered-take is.count start.posted.letters a letters) in
+      let waits = Waits-more size start.entries.items (pool before) start.queues prepared.queues start.waiting ready.waiting start.posted.letters is.count ready.lost a letters kept.waits is.count_within is.queues_are is.waiting_letters is.waiting_bytes in
+      record {
+        kept = record {
+          kept = rw (past_now, posted_are) (IsKept-post size before start.posted.letters start.posted.bytes ready.lost a letters ready.posted kept.kept lost_is is.summed);
+          waits = rw (past_now, now, queues_are, waiting_are, come) waits;
+        };
+        entries_are = now ∙ ap (λ es. start.entries.items ++ es) (posting_some size a letters before start.posted.letters ready.lost some kept.kept.next_is lost_is);
+      }
 
   -- a ledger after an input
-  takes : (size : B → ℕ) (start after : Ledger B) (step : Turn) (found : Option (Packet B)) →
-      KeptBy size start → found ≡ found_in step start.pool.items → after.entries.items ≡ start.entries.items ++ entry_by step found ∷ [] →
-      after.pool.items ≡ left_by (entry_by step found) start.pool.items → after.sums ≡ start.sums → KeptBy size after
-  takes size start after step found kept is entries_are pool_is sums_are =
-      let past_now : past after.entries.items ≡ entry_by step found ∷ past start.entries.items = ap past entries_are ∙ past-push start.entries.items (entry_by step found) in
-      rw (past_now, pool_is, sums_are) (IsKept-input size (past start.entries.items) start.pool.items start.sums.letters start.sums.bytes step found kept is)
+  pub record IsTaken (start after : Ledger B) (size : B → ℕ) (found : Option PacketPlace) (step : Turn) : Type 0 where
+    pub kept : IsLedger size after
+    pub found_is : IsFound after.entries.items found (found_in step (pool (past start.entries.items)))
 
-  -- the entries of a whole turn
-  turn_adds : (size : B → ℕ) (letters : List (Letter B)) (step : Turn) (start middle after : Ledger B) (found : Option (Packet B)) →
-      IsPosted size (turn_actor step) letters start middle → found ≡ found_in step middle.pool.items → after.entries.items ≡ middle.entries.items ++ entry_by step found ∷ [] →
-      after.entries.items ≡ start.entries.items ++ turn_entries size letters step (past start.entries.items)
-  turn_adds size letters step start middle after found is found_is entries_are =
-      let before : List (JournalEntry B) = past start.entries.items in
-      let first : List (JournalEntry B) = posting size (turn_actor step) letters before in
-      let entry : entry_by step found ≡ entry_of step (posted size (turn_actor step) letters before) =
-      ap (λ f. entry_by step f) found_is
-      ∙ entry_by-entry_of step (past middle.entries.items) middle.pool.items is.kept.pool_is
-      ∙ ap (λ es. entry_of step es) is.past_is in
-      entries_are
-      ∙ ap (λ es. es ++ entry_by step found ∷ []) is.entries_are
-      ∙ append_assoc start.entries.items first (entry_by step found ∷ [])
-      ∙ ap (λ e. start.entries.items ++ (first ++ e ∷ [])) entry
-
-  -- a ledger after a whole turn, and what its step found
-  pub record IsTurned (size : B → ℕ) (letters : List (Letter B)) (step : Turn) (start after : Ledger B) (found : Option (Packet B)) : Type 0 where
-    pub entries_are : after.entries.items ≡ start.entries.items ++ turn_entries size letters step (past start.entries.items)
-    pub found_is : found ≡ found_in step (pool (posted size (turn_actor step) letters (past start.entries.items)))
-    pub kept : KeptBy size after
-
-  pub turns : (size : B → ℕ) (letters ready_letters : List (Letter B)) (step : Turn) (start prepared middle after : Ledger B) (ready : Ready) (found : Option (Packet B)) (a : Actor) (entry : JournalEntry B) →
-      KeptBy size start → IsReady size (turn_actor step) ready_letters start prepared ready → ready_letters ≡ letters → a ≡ turn_actor step →
-      middle.entries.items ≡ prepared.entries.items ++ post_of a prepared.sums.letters letters ready.lost → middle.pool.items ≡ prepared.pool.items → middle.sums ≡ ready.sums →
-      found ≡ found_in step prepared.pool.items → entry ≡ entry_by step found →
-      after.entries.items ≡ middle.entries.items ++ entry ∷ [] → after.pool.items ≡ left_by entry middle.pool.items → after.sums ≡ middle.sums → IsTurned size letters step start after found
-  turns size letters ready_letters step start prepared middle after ready found a entry kept is letters_are actor_is middle_is middle_pool middle_sums found_is entry_is after_is after_pool after_sums =
-      let is_posted = posts size (turn_actor step) letters start prepared middle ready kept (rw letters_are at is) (rw actor_is at middle_is) middle_pool middle_sums in
-      let found_now : found ≡ found_in step middle.pool.items = found_is ∙ ap (λ ps. found_in step ps) (sym middle_pool) in
-      let entries_now : after.entries.items ≡ middle.entries.items ++ entry_by step found ∷ [] = after_is ∙ ap (λ e. middle.entries.items ++ e ∷ []) entry_is in
+  pub takes : (size : B → ℕ) (start after : Ledger B) (step : Turn) (found : Option PacketPlace) (middle : List (JournalEntry B)) (entry : JournalEntry B) → IsLedger size start →
+      IsFound start.entries.items found (found_in step (pool (past start.entries.items))) →
+      Waits size start.entries.items (pool (entry_of step (past start.entries.items) ∷ past start.entries.items)) after.queues after.waiting → after.posted ≡ start.posted →
+      entry ≡ entry_by step found → middle ≡ start.entries.items → after.entries.items ≡ middle ++ entry ∷ [] → IsTaken start after size found step
+  takes size start after step found middle entry kept found_is waits posted_are entry_is middle_is entries_are =
+      let before = past start.entries.items in
+      let same : entry ≡ entry_of step before = entry_is ∙ entry_by-entry_of start.entries.items before step found found_is in
+      let now : after.entries.items ≡ start.entries.items ++ entry_of step before ∷ [] = entries_are ∙ ap (λ es. es ++ entry ∷ []) middle_is ∙ ap (λ e. start.entries.items ++ e ∷ []) same in
+      let past_now : past after.entries.items ≡ entry_of step before ∷ before = ap past now ∙ past-push start.entries.items (entry_of step before) in
       record {
-        entries_are = turn_adds size letters step start middle after found is_posted found_now entries_now;
-        found_is = found_now ∙ ap (λ ps. found_in step ps) (is_posted.kept.pool_is ∙ ap pool is_posted.past_is);
-        kept = takes size middle after step found is_posted.kept found_now entries_now (after_pool ∙ ap (λ e. left_by e middle.pool.items) entry_is) after_sums;
+        kept = record {
+          kept = rw (past_now, posted_are) (IsKept-input size before start.posted.letters start.posted.bytes step kept.kept);
+          waits = rw (past_now, now) (Waits-later size start.entries.items (entry_of step before ∷ []) (pool (entry_of step before ∷ before)) after.queues after.waiting waits);
+        };
+        found_is = rw now (found_later start.entries.items (entry_of step before ∷ []) found (found_in step (pool before)) found_is);
       }

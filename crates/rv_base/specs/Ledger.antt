@@ -1,26 +1,24 @@
--- What a turn adds to a journal and its pool, by the pool that it finds.
-use Rattle.std.specs.Prelude.{◌≡◌, ◌<◌, ◌≤◌, ◌⊎◌, ℕ, ◌+◌, ◌-◌, ◌^◌, min, List, [], ◌∷◌, ◌++◌, length, vec_len, vec_capacity, Option, None, if◌then◌else◌}
+-- What a ledger keeps, and what a turn adds to it.
+use Rattle.std.specs.Prelude.{◌≡◌, ◌<◌, ◌≤◌, ◌⊎◌, ℕ, ◌+◌, ◌-◌, ◌^◌, min, List, ◌++◌, length, take, Option, Some, None}
 use Rattle.rv_base.specs.declared.journal.Actor.{Actor}
 use Rattle.rv_base.specs.declared.journal.JournalEntry.{JournalEntry}
-use Rattle.rv_base.specs.declared.journal.JournalEntry.TheVariants.{Post, Draw, Lose, Local, Idle, Refused}
+use Rattle.rv_base.specs.declared.journal.JournalEntry.TheVariants.{Draw, Lose, Local, Idle}
 use Rattle.rv_base.specs.declared.journal.Letter.{Letter}
 use Rattle.rv_base.specs.declared.journal.Packet.{Packet}
 use Rattle.rv_base.specs.declared.journal.Turn.{Turn}
 use Rattle.rv_base.specs.declared.journal.Turn.TheVariants as turn
 use Rattle.rv_base.specs.declared.ledger.Ledger.{Ledger}
 use Rattle.rv_base.specs.declared.ledger.Ready.{Ready}
-use Rattle.rv_base.specs.declared.ledger.Sums.{Sums}
+use Rattle.rv_base.specs.declared.place.PacketPlace.{PacketPlace}
+use Rattle.rv_base.specs.declared.pool.Sums.{Sums}
+use Rattle.rv_base.specs.declared.queues.Queues.{Queues}
 use Rattle.rv_base.specs.declared.wire.Stop.{Stop}
 use Rattle.rv_base.specs.declared.wire.Stop.TheVariants.{OutOfMemory, JournalFull}
 use Rattle.rv_base.specs.Limits.{letters_limit, bytes_limit}
-use Rattle.rv_base.specs.Pool.{waiting, chosen, without, fitting, letter_bytes}
-use Rattle.rv_base.specs.Orderly.{lost_of}
-use Rattle.rv_base.specs.Turns.{drawn_entry, lost_entry}
-
--- the post of an outbox, which was numbered from there on and lost so many. An empty one makes no entry
-abbrev pub post_of : {B : Type 0} → Actor → ℕ → List (Letter B) → ℕ → List (JournalEntry B)
-post_of a first [] lost = []
-post_of a first (letter ∷ letters) lost = Post a first (letter ∷ letters) lost ∷ []
+use Rattle.rv_base.specs.Places.{placed, queue_of, sent_to, ArePlacesOf}
+use Rattle.rv_base.specs.Pool.{past, pool, waiting, chosen, letter_bytes}
+use Rattle.rv_base.specs.Orderly.{pool_bytes, fitting_count}
+use Rattle.rv_base.specs.Turns.{IsKept}
 
 -- the packet that a step finds in a pool
 abbrev pub found_in : {B : Type 0} → Turn → List (Packet B) → Option (Packet B)
@@ -29,19 +27,12 @@ found_in (turn.Lose a choice) packets = chosen choice (waiting a packets)
 found_in (turn.Local a input) packets = None
 
 -- the entry of a step, by what was found
-abbrev pub entry_by : {B : Type 0} → Turn → Option (Packet B) → JournalEntry B
-entry_by (turn.Draw a choice keep) found = drawn_entry a keep found
-entry_by (turn.Lose a choice) found = lost_entry a found
+abbrev pub entry_by : {B : Type 0} → Turn → Option PacketPlace → JournalEntry B
+entry_by (turn.Draw a choice keep) None = Idle a
+entry_by (turn.Draw a choice keep) (Some place) = Draw a place.id keep
+entry_by (turn.Lose a choice) None = Idle a
+entry_by (turn.Lose a choice) (Some place) = Lose a place.id
 entry_by (turn.Local a input) found = Local a input
-
--- the packets that still wait after an input
-abbrev pub left_by : {B : Type 0} → JournalEntry B → List (Packet B) → List (Packet B)
-left_by (Post a first letters lost) packets = packets
-left_by (Draw a id keep) packets = if keep then packets else without id packets
-left_by (Lose a id) packets = without id packets
-left_by (Local a input) packets = packets
-left_by (Idle a) packets = packets
-left_by (Refused a) packets = packets
 
 -- the letters and bytes with those of an outbox, which pass no limit
 pub record IsSummed {B : Type 0} (size : B → ℕ) (next total : ℕ) (letters : List (Letter B)) (sums : Sums) : Type 0 where
@@ -64,14 +55,31 @@ IsRefusal size next total post (JournalFull bytes count) = IsPast size next tota
 -- nothing changed but what memory there is
 pub record IsUnchanged {B : Type 0} (before after : Ledger B) : Type 0 where
   pub entries_same : after.entries.items ≡ before.entries.items
-  pub pool_same : after.pool.items ≡ before.pool.items
-  pub sums_same : after.sums ≡ before.sums
+  pub queues_same : (a : Actor) → queue_of after.queues a ≡ queue_of before.queues a
+  pub posted_same : after.posted ≡ before.posted
+  pub waiting_same : after.waiting ≡ before.waiting
 
--- the letters of an outbox that find room have come into the pool, and there is memory for two entries
+-- the letters of an outbox that find room have come into the queues
 pub record IsReady {B : Type 0} (size : B → ℕ) (a : Actor) (letters : List (Letter B)) (before after : Ledger B) (ready : Ready) : Type 0 where
   pub entries_same : after.entries.items ≡ before.entries.items
-  pub sums_same : after.sums ≡ before.sums
-  pub room : vec_len after.entries + 2 ≤ vec_capacity after.entries
-  pub lost_is : ready.lost ≡ lost_of size before.pool.items letters
-  pub pool_is : after.pool.items ≡ before.pool.items ++ fitting before.sums.letters a letters ready.lost
-  pub summed : IsSummed size before.sums.letters before.sums.bytes letters ready.sums
+  pub posted_same : after.posted ≡ before.posted
+  pub count : ℕ
+  pub count_is : count ≡ fitting_count size before.waiting.letters before.waiting.bytes letters
+  pub count_within : count ≤ length letters
+  pub lost_is : ready.lost ≡ length letters - count
+  pub queues_are : (receiver : Actor) → queue_of after.queues receiver ≡ queue_of before.queues receiver ++ sent_to receiver (placed (length before.entries.items) 0 before.posted.letters a (take count letters))
+  pub waiting_letters : ready.waiting.letters ≡ before.waiting.letters + count
+  pub waiting_bytes : ready.waiting.bytes ≡ before.waiting.bytes + letter_bytes size (take count letters)
+  pub summed : IsSummed size before.posted.letters before.posted.bytes letters ready.posted
+
+-- what is kept of packets that wait, in the order of their numbers: for each actor the places of those for it, how many
+-- there are, and the bytes of their bodies
+pub record Waits {B : Type 0} (size : B → ℕ) (journal : List (JournalEntry B)) (packets : List (Packet B)) (queues : Queues) (waits : Sums) : Type 0 where
+  pub letters_are : waits.letters ≡ length packets
+  pub bytes_are : waits.bytes ≡ pool_bytes size packets
+  pub queues_are : (a : Actor) → ArePlacesOf journal (queue_of queues a) (waiting a packets)
+
+-- what a ledger keeps beside its entries
+pub record IsLedger {B : Type 0} (size : B → ℕ) (ledger : Ledger B) : Type 0 where
+  pub kept : IsKept size (past ledger.entries.items) ledger.posted.letters ledger.posted.bytes
+  pub waits : Waits size ledger.entries.items (pool (past ledger.entries.items)) ledger.queues ledger.waiting

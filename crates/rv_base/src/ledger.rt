@@ -1,34 +1,36 @@
-//! The parts of a wire, and the steps of a turn on them.
-ghost use Rattle.std.specs.Prelude.{◌≡◌, ◌<◌, ◌≤◌, ◌⊎◌, ◌+◌, ◌-◌, ◌++◌, [], ◌∷◌, length, vec_len, vec_capacity, true, false, IfOk, IfErr};
+//! A journal beside the queues of what waits, and the two steps of a turn on it.
+ghost use Rattle.std.specs.Prelude.{◌≡◌, ◌<◌, ◌≤◌, ◌⊎◌, ◌+◌, ◌-◌, ◌++◌, [], ◌∷◌, length, vec_len, vec_capacity, true, false, IfOk, IfErr, OnOk};
+ghost use Rattle.rv_base.specs.Answers.{RefusedBy};
+ghost use Rattle.rv_base.specs.declared.journal.JournalEntry.TheVariants as entries;
 ghost use Rattle.rv_base.specs.Limits.{letters_limit, bytes_limit};
-ghost use Rattle.rv_base.specs.Turns.{turn_actor};
-ghost use Rattle.rv_base.specs.Ledger.{post_of, found_in, entry_by, left_by, IsSummed, IsRefusal, IsUnchanged, IsReady};
+ghost use Rattle.rv_base.specs.Ledger.{entry_by, found_in, IsSummed, IsRefusal, IsUnchanged, IsReady, Waits, IsLedger};
+ghost use Rattle.rv_base.specs.Places.{IsFound};
+ghost use Rattle.rv_base.specs.Pool.{past, pool, pick};
+ghost use Rattle.rv_base.specs.Turns.{posting, drawn_entry, entry_of};
 
-use crate::journal::{Actor, JournalEntry, Letter, Letters, Packet, Turn, Weight};
-use crate::pool;
-use crate::wire::{BYTES_LIMIT, LETTERS_LIMIT, Stop};
-use std::alloc::{AllocError, Global};
-
-/// The letters and the bytes that a journal posts.
-#[derive(Clone, Copy)]
-pub struct Sums {
-    pub letters: u64,
-    pub bytes: u64,
-}
+use crate::journal::{Actor, JournalEntry, Letter, Letters, Turn, Weight};
+use crate::place::{PacketPlace, body_at};
+use crate::pool::{self, Sums};
+use crate::queues::Queues;
+use crate::wire::{BYTES_LIMIT, LETTERS_LIMIT, Refused, Stop};
+use std::alloc::Global;
 
 /// What is to be written of a post: how many letters are lost, and the sums with it.
 #[derive(Clone, Copy)]
 pub struct Ready {
     pub lost: u64,
-    pub sums: Sums,
+    pub posted: Sums,
+    pub waiting: Sums,
 }
 
-/// A journal beside its pool, and the sums of what it posts.
+/// A journal beside the queues of the packets that wait, and the sums of what it posts and of what
+/// waits. Bodies stand in the journal alone.
 #[derive(Drop)]
 pub struct Ledger<B> {
     pub entries: Vec<JournalEntry<B>>,
-    pub pool: Vec<Packet<B>>,
-    pub sums: Sums,
+    pub queues: Queues,
+    pub posted: Sums,
+    pub waiting: Sums,
 }
 
 /// Whether one of the two sums passes its limit.
@@ -52,35 +54,23 @@ fn sums_with<B: Weight>(sums: Sums, letters: &[Letter<B>]) -> Result<Sums, Stop>
     Ok(Sums { letters, bytes })
 }
 
-/// A copy of the packet that a step finds.
-fn find<B: Weight>(pool: &[Packet<B>], step: &Turn) -> Result<Option<Packet<B>>, AllocError>
-    ensures { IfOk result (λ found. found ≡ found_in step.now pool.now) }
-{
-    match step {
-        Turn::Draw { actor, choice, .. } | Turn::Lose { actor, choice } => {
-            pool::copy(pool::pick(pool, *actor, *choice))
-        }
-        Turn::Local { .. } => Ok(None),
-    }
-}
-
 /// The entry of a step, by what it found.
-pub fn entry_by<B>(step: Turn, found: &Option<Packet<B>>) -> JournalEntry<B>
-    ensures { result ≡ entry_by step found.now }
+fn entry_by<B>(step: Turn, found: Option<PacketPlace>) -> JournalEntry<B>
+    ensures { result ≡ entry_by step found }
 {
     match step {
         Turn::Draw { actor, keep, .. } => match found {
-            Some(packet) => JournalEntry::Draw {
+            Some(place) => JournalEntry::Draw {
                 actor,
-                id: packet.id,
+                id: place.id,
                 keep,
             },
             None => JournalEntry::Idle { actor },
         },
         Turn::Lose { actor, .. } => match found {
-            Some(packet) => JournalEntry::Lose {
+            Some(place) => JournalEntry::Lose {
                 actor,
-                id: packet.id,
+                id: place.id,
             },
             None => JournalEntry::Idle { actor },
         },
@@ -88,87 +78,88 @@ pub fn entry_by<B>(step: Turn, found: &Option<Packet<B>>) -> JournalEntry<B>
     }
 }
 
-/// The packet of an input leaves the pool, unless it is kept.
-fn leave<B: Drop>(pool: &mut Vec<Packet<B>>, entry: &JournalEntry<B>)
-    ensures { pool.new.items ≡ left_by entry.now pool.old.items }
-{
-    match entry {
-        JournalEntry::Draw {
-            id,
-            keep: false,
-            ..
-        }
-        | JournalEntry::Lose { id, .. } => {
-            pool::remove(pool, *id);
-        }
-        _ => {}
-    }
-}
-
 impl<B: Weight> Ledger<B> {
     /// The ledger of the empty journal.
     pub fn new(alloc: Global) -> Ledger<B>
         ensures entries { result.entries.items ≡ [] }
-        ensures pool { result.pool.items ≡ [] }
-        ensures sums { result.sums ≡ record { letters = 0; bytes = 0 } }
+        ensures kept { IsLedger B.size result }
     {
+        let none = Sums {
+            letters: 0,
+            bytes: 0,
+        };
         Ledger {
             entries: Vec::new(alloc),
-            pool: Vec::new(alloc),
-            sums: Sums {
-                letters: 0,
-                bytes: 0,
-            },
+            queues: Queues::new(alloc),
+            posted: none,
+            waiting: none,
         }
     }
 
-    /// All of a post that may fail. An `Err` changes nothing.
-    pub fn prepare(&mut self, actor: Actor, letters: &[Letter<B>]) -> Result<Ready, Stop>
+    /// All of a post that may fail, with memory for its entry and `more` further ones. An `Err` changes
+    /// nothing.
+    fn prepare(&mut self, actor: Actor, letters: &[Letter<B>], more: usize) -> Result<Ready, Stop>
+        requires { more ≤ 1 }
         ensures ok { IfOk result (IsReady B.size actor letters.now self.old self.new) }
-        ensures err { IfErr result (λ r. IsUnchanged self.old self.new × IsRefusal B.size self.old.sums.letters self.old.sums.bytes letters.now r) }
+        ensures room { OnOk result (vec_len self.new.entries + (1 + more) ≤ vec_capacity self.new.entries) }
+        ensures err { IfErr result (λ r. IsUnchanged self.old self.new × IsRefusal B.size self.old.posted.letters self.old.posted.bytes letters.now r) }
     {
-        let sums = sums_with(self.sums, letters)?;
-        self.entries.reserve(2)?;
-        let count = pool::count_fitting(&self.pool, letters);
-        pool::append_copies(&mut self.pool, self.sums.letters, actor, &letters[..count])?;
+        let posted = sums_with(self.posted, letters)?;
+        self.entries.reserve(1 + more)?;
+        let (count, waiting) = pool::count_fitting(self.waiting, letters);
+        let (entry, first) = (self.entries.len(), self.posted.letters);
+        self.queues.append(entry, first, actor, &letters[..count])?;
         let lost = (letters.len() - count) as u64;
-        Ok(Ready { lost, sums })
+        Ok(Ready {
+            lost,
+            posted,
+            waiting,
+        })
     }
 
-    /// All of a turn that may fail, with the packet that its step finds. An `Err` changes nothing.
-    pub fn prepare_turn(
-        &mut self,
-        step: &Turn,
-        letters: &[Letter<B>],
-    ) -> Result<(Ready, Option<Packet<B>>), Stop>
-        ensures ok { IfOk result (λ r. IsReady B.size (turn_actor step.now) letters.now self.old self.new r.0) }
-        ensures found { IfOk result (λ r. r.1 ≡ found_in step.now self.new.pool.items) }
-        ensures err { IfErr result (λ r. IsUnchanged self.old self.new × IsRefusal B.size self.old.sums.letters self.old.sums.bytes letters.now r) }
+    /// Posts an outbox, with memory for `more` further entries. An `Err` changes nothing, and gives the
+    /// letters back. For an empty outbox nothing is done.
+    pub fn post(&mut self, actor: Actor, letters: Letters<B>, more: usize) -> Result<(), Refused<B>>
+        requires small { more ≤ 1 }
+        requires kept { IsLedger B.size self.old }
+        ensures kept { IsLedger B.size self.new }
+        ensures ok { OnOk result (self.new.entries.items ≡ self.old.entries.items ++ posting B.size actor letters (past self.old.entries.items)) }
+        ensures room { OnOk result (vec_len self.new.entries + more ≤ vec_capacity self.new.entries) }
+        ensures err { IfErr result (λ r. (self.new.entries.items ≡ self.old.entries.items) × (r.post ≡ letters) × RefusedBy B.size r.cause letters (past self.old.entries.items)) }
     {
-        let waiting = self.pool.len();
-        let ready = self.prepare(step.actor(), letters)?;
-        match find(&self.pool, step) {
-            Ok(found) => Ok((ready, found)),
-            Err(_) => {
-                self.pool.truncate(waiting);
-                Err(Stop::OutOfMemory)
-            }
-        }
-    }
-
-    /// Adds the entry of a post, if it has a letter.
-    pub fn post(&mut self, actor: Actor, letters: Letters<B>, ready: Ready)
-        requires { vec_len self.old.entries < vec_capacity self.old.entries }
-        ensures entries { self.new.entries.items ≡ self.old.entries.items ++ post_of actor self.old.sums.letters letters ready.lost }
-        ensures room { vec_capacity self.old.entries + vec_len self.new.entries ≤ vec_capacity self.new.entries + vec_len self.old.entries + 1 }
-        ensures pool { self.new.pool.items ≡ self.old.pool.items }
-        ensures sums { self.new.sums ≡ ready.sums }
-    {
-        let first = self.sums.letters;
-        self.sums = ready.sums;
         if letters.is_empty() {
-            return;
+            return match self.entries.reserve(more) {
+                Ok(()) => Ok(()),
+                Err(_) => Err(Refused {
+                    post: letters,
+                    cause: Stop::OutOfMemory,
+                }),
+            };
         }
+        match self.prepare(actor, letters.as_slice(), more) {
+            Ok(ready) => {
+                self.write(actor, letters, ready);
+                Ok(())
+            }
+            Err(cause) => Err(Refused {
+                post: letters,
+                cause,
+            }),
+        }
+    }
+
+    /// Writes the entry of a post.
+    fn write(&mut self, actor: Actor, letters: Letters<B>, ready: Ready)
+        requires { vec_len self.old.entries < vec_capacity self.old.entries }
+        ensures entries { self.new.entries.items ≡ self.old.entries.items ++ entries.Post actor self.old.posted.letters letters ready.lost ∷ [] }
+        ensures room { vec_capacity self.new.entries + vec_len self.old.entries + 1 ≡ vec_capacity self.old.entries + vec_len self.new.entries }
+        ensures queues { self.new.queues ≡ self.old.queues }
+        ensures posted { self.new.posted ≡ ready.posted }
+        ensures waiting { self.new.waiting ≡ ready.waiting }
+    {
+        let first = self.posted.letters;
+        self.posted = ready.posted;
+        self.waiting = ready.waiting;
         self.entries.push_reserved(JournalEntry::Post {
             actor,
             first,
@@ -177,14 +168,51 @@ impl<B: Weight> Ledger<B> {
         });
     }
 
-    /// Adds the entry of an input.
-    pub fn take(&mut self, entry: JournalEntry<B>)
-        requires { vec_len self.old.entries < vec_capacity self.old.entries }
-        ensures entries { self.new.entries.items ≡ self.old.entries.items ++ entry ∷ [] }
-        ensures pool { self.new.pool.items ≡ left_by entry self.old.pool.items }
-        ensures sums { self.new.sums ≡ self.old.sums }
+    /// The packet of a choice, which waits no more, unless it is kept.
+    fn pick(&mut self, actor: Actor, choice: u64, keep: bool) -> Option<PacketPlace>
+        requires { IsLedger B.size self.old }
+        ensures entries { self.new.entries ≡ self.old.entries }
+        ensures posted { self.new.posted ≡ self.old.posted }
+        ensures found { IsFound self.old.entries.items result (pick actor choice (past self.old.entries.items)) }
+        ensures left { Waits B.size self.old.entries.items (pool (drawn_entry actor keep (pick actor choice (past self.old.entries.items)) ∷ past self.old.entries.items)) self.new.queues self.new.waiting }
     {
-        leave(&mut self.pool, &entry);
-        self.entries.push_reserved(entry);
+        let found = self.queues.pick(actor, choice, keep)?;
+        if !keep {
+            self.waiting.letters -= 1;
+            self.waiting.bytes -= body_at(self.entries.as_slice(), found).size();
+        }
+        Some(found)
+    }
+
+    /// What a step finds, which waits no more, unless it is kept.
+    fn find(&mut self, step: &Turn) -> Option<PacketPlace>
+        requires { IsLedger B.size self.old }
+        ensures entries { self.new.entries ≡ self.old.entries }
+        ensures posted { self.new.posted ≡ self.old.posted }
+        ensures found { IsFound self.old.entries.items result (found_in step.now (pool (past self.old.entries.items))) }
+        ensures left { Waits B.size self.old.entries.items (pool (entry_of step.now (past self.old.entries.items) ∷ past self.old.entries.items)) self.new.queues self.new.waiting }
+    {
+        match step {
+            Turn::Draw {
+                actor,
+                choice,
+                keep,
+            } => self.pick(*actor, *choice, *keep),
+            Turn::Lose { actor, choice } => self.pick(*actor, *choice, false),
+            Turn::Local { .. } => None,
+        }
+    }
+
+    /// Takes a step, and gives what it finds.
+    pub fn take(&mut self, step: Turn) -> Option<PacketPlace>
+        requires room { vec_len self.old.entries < vec_capacity self.old.entries }
+        requires kept { IsLedger B.size self.old }
+        ensures kept { IsLedger B.size self.new }
+        ensures entries { self.new.entries.items ≡ self.old.entries.items ++ entry_of step (past self.old.entries.items) ∷ [] }
+        ensures found { IsFound self.new.entries.items result (found_in step (pool (past self.old.entries.items))) }
+    {
+        let found = self.find(&step);
+        self.entries.push_reserved(entry_by(step, found));
+        found
     }
 }

@@ -1,5 +1,5 @@
 //! What every crate above stands on: actors, letters, packets and the journal; the journal beside
-//! its pool, on which actors take their turns; the source and the sink of a run, and what is left of a
+//! the queues of what waits, on which actors take their turns; the source and the sink of a run, and what is left of a
 //! controller that crashes.
 #![tactic(auto)]
 
@@ -7,7 +7,9 @@ mod journal;
 mod ledger;
 mod memory;
 mod outside;
+mod place;
 mod pool;
+mod queues;
 mod stable;
 mod standard;
 mod wire;
@@ -17,6 +19,7 @@ pub use journal::{
 };
 pub use memory::{MemorySink, MemorySource};
 pub use outside::{Failed, Sink, Source, Stable};
+pub use place::PacketPlace;
 pub use stable::{FailingSave, MemoryStable};
 pub use standard::{StdSink, StdSource};
-pub use wire::{BYTES_LIMIT, Drawn, LETTERS_LIMIT, POOL_BYTES, POOL_PACKETS, Refused, Stop, Wire};
+pub use wire::{BYTES_LIMIT, LETTERS_LIMIT, POOL_BYTES, POOL_PACKETS, Refused, Stop, Wire};

@@ -1,21 +1,23 @@
-//! The journal beside its pool: what one turn of an actor adds to it.
-ghost use Rattle.std.specs.Prelude.{◌≡◌, [], ◌++◌, OnOk, IfOk, IfErr};
+//! The journal beside the queues of what waits: what one turn of an actor adds to it.
+ghost use Rattle.std.specs.Prelude.{◌≡◌, [], ◌++◌, slice_get, OnOk, IfOk, IfErr, IfSome, IsSome};
 ghost use Rattle.rv_base.specs.Pool.{past, pool, pick};
 ghost use Rattle.rv_base.specs.Orderly.{IsOrderly};
 ghost use Rattle.rv_base.specs.Turns.{posting, posted, turn_actor, turn_entries, IsWithinLimits};
-ghost use Rattle.rv_base.specs.Answers.{drawn_as, RefusedBy};
+ghost use Rattle.rv_base.specs.Answers.{RefusedBy};
+ghost use Rattle.rv_base.specs.Places.{packet_at, IsFound};
 ghost use Rattle.rv_base.specs.Ledger.{found_in};
 ghost use Rattle.rv_base.specs.declared.journal.Turn.TheVariants as turn;
 ghost use Rattle.rv_base.specs.declared.wire.Stop.TheVariants as refusals;
 
-use crate::journal::{Actor, Journal, JournalEntry, Letters, Local, Packet, Turn, Weight};
-use crate::ledger::{self, Ledger};
+use crate::journal::{Actor, Journal, JournalEntry, Letters, Local, Turn, Weight};
+use crate::ledger::Ledger;
+use crate::place::{PacketPlace, body_at};
 use of_types::Items;
 use std::alloc::{AllocError, Global};
 use std::marker::Model;
 
 /// The most packets that the pool holds.
-pub const POOL_PACKETS: usize = 8192;
+pub const POOL_PACKETS: usize = 32_768;
 
 /// The most bytes of bodies that the pool holds.
 pub const POOL_BYTES: u64 = 67_108_864;
@@ -25,13 +27,6 @@ pub const LETTERS_LIMIT: u64 = 1_000_000;
 
 /// The most bytes of bodies that a journal posts.
 pub const BYTES_LIMIT: u64 = 67_108_864;
-
-/// What a draw or a loss found.
-#[derive(Drop)]
-pub enum Drawn<B> {
-    Got(Packet<B>),
-    Nothing,
-}
 
 /// Why a turn was refused: want of memory, or the sums of bytes and letters with those of the outbox,
 /// one of them past its limit.
@@ -56,7 +51,7 @@ pub struct Refused<B> {
     pub cause: Stop,
 }
 
-/// A journal beside its pool, which contracts see as the list of its entries, the oldest first.
+/// A journal beside what waits, which contracts see as the list of its entries, the oldest first.
 #[derive(Drop)]
 pub struct Wire<B: Weight> {
     ledger: Ledger<B>,
@@ -65,14 +60,13 @@ pub struct Wire<B: Weight> {
 impl<B: Weight> Model for Wire<B> {
     ghost use Rattle.std.specs.Prelude.{List};
     ghost use Rattle.rv_base.specs.declared.journal.JournalEntry.{JournalEntry};
-    ghost use Rattle.rv_base.specs.Pool.{past};
-    ghost use Rattle.rv_base.specs.Turns.{IsKept};
+    ghost use Rattle.rv_base.specs.Ledger.{IsLedger};
 
     ghost Value = { List (JournalEntry B) };
 
     ghost view = { λ w. w.ledger.entries.items };
 
-    ghost invariant = { λ w. IsKept B.size (past w.ledger.entries.items) w.ledger.pool.items w.ledger.sums.letters w.ledger.sums.bytes };
+    ghost invariant = { λ w. IsLedger B.size w.ledger };
 }
 
 impl<B: Weight> Wire<B> {
@@ -100,11 +94,19 @@ impl<B: Weight> Wire<B> {
         self.ledger.entries.as_slice()
     }
 
-    /// The packets that wait, by number.
-    pub fn pool(&self) -> &[Packet<B>]
-        ensures { result.now ≡ pool (past self.now) }
+    /// The packet of the lowest number that waits, by the first of each queue.
+    pub fn first(&self) -> Option<PacketPlace>
+        ensures { IsFound self.now result (slice_get (pool (past self.now)) 0) }
     {
-        self.ledger.pool.as_slice()
+        self.ledger.queues.first()
+    }
+
+    /// The body of the letter at a place that `draw`, `lose` or `first` gave. It stands from then on.
+    pub fn body(&self, place: PacketPlace) -> &B
+        requires { IsSome (packet_at place self.now) }
+        ensures { IfSome (packet_at place self.now) (λ packet. result.now ≡ packet.body) }
+    {
+        body_at(self.ledger.entries.as_slice(), place)
     }
 
     /// Gives the journal. It takes no memory.
@@ -119,25 +121,20 @@ impl<B: Weight> Wire<B> {
         ensures ok { OnOk result (self.new ≡ self.old ++ posting B.size actor post (past self.old)) }
         ensures err { IfErr result (λ r. (self.new ≡ self.old) × (r.post ≡ post) × RefusedBy B.size r.cause post (past self.old)) }
     {
-        match self.ledger.prepare(actor, post.as_slice()) {
-            Ok(ready) => {
-                self.ledger.post(actor, post, ready);
-                Ok(())
-            }
-            Err(cause) => Err(Refused { post, cause }),
-        }
+        self.ledger.post(actor, post, 0)
     }
 
-    /// Posts, and then draws the packet of a choice. Where `keep`, it stays in the pool.
+    /// Posts, and then draws the packet of a choice, if one waits for the actor. Where `keep`, it goes on
+    /// waiting.
     pub fn draw(
         &mut self,
         actor: Actor,
         post: Letters<B>,
         choice: u64,
         keep: bool,
-    ) -> Result<Drawn<B>, Refused<B>>
+    ) -> Result<Option<PacketPlace>, Refused<B>>
         ensures ok { OnOk result (self.new ≡ self.old ++ turn_entries B.size post (turn.Draw actor choice keep) (past self.old)) }
-        ensures answer { IfOk result (λ d. d ≡ drawn_as (pick actor choice (posted B.size actor post (past self.old)))) }
+        ensures found { IfOk result (λ found. IsFound self.new found (pick actor choice (posted B.size actor post (past self.old)))) }
         ensures err { IfErr result (λ r. (self.new ≡ self.old) × (r.post ≡ post) × RefusedBy B.size r.cause post (past self.old)) }
     {
         self.turn(
@@ -150,15 +147,15 @@ impl<B: Weight> Wire<B> {
         )
     }
 
-    /// Posts, and then loses the packet of a choice.
+    /// Posts, and then loses the packet of a choice, if one waits for the actor.
     pub fn lose(
         &mut self,
         actor: Actor,
         post: Letters<B>,
         choice: u64,
-    ) -> Result<Drawn<B>, Refused<B>>
+    ) -> Result<Option<PacketPlace>, Refused<B>>
         ensures ok { OnOk result (self.new ≡ self.old ++ turn_entries B.size post (turn.Lose actor choice) (past self.old)) }
-        ensures answer { IfOk result (λ d. d ≡ drawn_as (pick actor choice (posted B.size actor post (past self.old)))) }
+        ensures found { IfOk result (λ found. IsFound self.new found (pick actor choice (posted B.size actor post (past self.old)))) }
         ensures err { IfErr result (λ r. (self.new ≡ self.old) × (r.post ≡ post) × RefusedBy B.size r.cause post (past self.old)) }
     {
         self.turn(Turn::Lose { actor, choice }, post)
@@ -174,29 +171,12 @@ impl<B: Weight> Wire<B> {
     }
 
     /// Posts, and then takes a step.
-    fn turn(&mut self, step: Turn, post: Letters<B>) -> Result<Drawn<B>, Refused<B>>
+    fn turn(&mut self, step: Turn, post: Letters<B>) -> Result<Option<PacketPlace>, Refused<B>>
         ensures ok { OnOk result (self.new ≡ self.old ++ turn_entries B.size post step (past self.old)) }
-        ensures answer { IfOk result (λ d. d ≡ drawn_as (found_in step (pool (posted B.size (turn_actor step) post (past self.old))))) }
+        ensures found { IfOk result (λ found. IsFound self.new found (found_in step (pool (posted B.size (turn_actor step) post (past self.old))))) }
         ensures err { IfErr result (λ r. (self.new ≡ self.old) × (r.post ≡ post) × RefusedBy B.size r.cause post (past self.old)) }
     {
-        let actor = step.actor();
-        match self.ledger.prepare_turn(&step, post.as_slice()) {
-            Ok((ready, found)) => {
-                self.ledger.post(actor, post, ready);
-                self.ledger.take(ledger::entry_by(step, &found));
-                Ok(answer(found))
-            }
-            Err(cause) => Err(Refused { post, cause }),
-        }
-    }
-}
-
-/// The answer of a draw or a loss, by what it found.
-fn answer<B>(found: Option<Packet<B>>) -> Drawn<B>
-    ensures { result ≡ drawn_as found }
-{
-    match found {
-        Some(packet) => Drawn::Got(packet),
-        None => Drawn::Nothing,
+        self.ledger.post(step.actor(), post, 1)?;
+        Ok(self.ledger.take(step))
     }
 }

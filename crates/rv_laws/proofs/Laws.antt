@@ -27,7 +27,10 @@ use Rattle.rv_agreement.specs.Reading.{AreReadAsSealed, WhereValid}
 use Rattle.rv_agreement.proofs.Agreeing.{kept_law}
 use Rattle.rv_agreement.proofs.Groups.{odd_law}
 use Rattle.rv_agreement.proofs.Leading.{decided_law}
+use Rattle.addresses.specs.Laws.{WaitsForActors}
+use Rattle.addresses.proofs.Journals.{journals_addressed}
 use Rattle.rv_laws.specs.Laws.{InEveryRun, AreAgreed, AreValidLogs, IsLed, ControllersKeepTheirSide}
+use Rattle.rv_laws.proofs.Addresses.{logs_named}
 use Rattle.rv_laws.proofs.Events.{events_valid}
 use Rattle.rv_laws.proofs.Members.{owned_at}
 use Rattle.rv_laws.proofs.Turns.{good_turn}
@@ -65,7 +68,7 @@ module _ {B : Type 0} (scene : Scene B) (results : List (List SaveResult)) where
           (λ view known. known_view scene.kinds scene.setup x state honest.views (heard_view scene.kinds scene.setup (facts_of scene results before) x hears) view known);
     }
 
-    always : (entries : List (JournalEntry B)) → IsPossible scene results entries → (i : ℕ) → Holds scene results (drop i entries)
+    pub always : (entries : List (JournalEntry B)) → IsPossible scene results entries → (i : ℕ) → Holds scene results (drop i entries)
     always entries possible i = holds_always scene results faithful sides (drop i entries) (possible_drop scene results i entries possible)
 
     led : (entries : List (JournalEntry B)) → IsPossible scene results entries → IsLed scene results entries
@@ -92,3 +95,7 @@ once_law scene results entries setup faithful possible = is_once scene results e
 
 pub fence_law : {B : Type 0} → InEveryRun B (λ scene results entries. IsFenced scene entries)
 fence_law scene results entries setup faithful possible = is_fenced scene results entries faithful (sides scene results setup faithful) possible
+
+pub waits_law : {B : Type 0} → InEveryRun B (λ scene results entries. WaitsForActors scene entries)
+waits_law scene results entries setup faithful possible =
+    journals_addressed scene results entries setup possible (λ i c there. logs_named scene results (drop i entries) (always scene results setup faithful entries possible i) c there)

@@ -4,4 +4,8 @@ pub mod Ahead
 pub mod Posting
 pub mod Turns
 pub mod Events
+pub mod Addresses
 pub mod Laws
+pub mod StepViews
+pub mod WorkViews
+pub mod Views

@@ -1,8 +1,12 @@
 -- What holds of every run of a group and its switches: of every past that may have come about, whatever is lost, repeated,
 -- reordered, crashed, restarted, refused for want of memory or not saved.
-use Rattle.std.specs.Prelude.{◌≡◌, ◌<◌, ℕ, ◌+◌, ◌*◌, true, List, drop}
+use Rattle.std.specs.Prelude.{◌≡◌, ◌<◌, ◌≤◌, ℕ, ◌+◌, ◌*◌, true, List, drop}
+use Rattle.std.specs.List.{AllByRecursion}
 use Rattle.of_types.specs.Setups.{IsSetup}
 use Rattle.rv_base.specs.declared.journal.JournalEntry.{JournalEntry}
+use Rattle.rv_base.specs.declared.journal.JournalEntry.TheVariants.{Local}
+use Rattle.rv_base.specs.declared.journal.Local.{Local as LocalInput}
+use Rattle.rv_base.specs.declared.journal.Local.TheVariants as local
 use Rattle.rv_base.specs.declared.journal.SaveResult.{SaveResult}
 use Rattle.lists.specs.Lists.{IsPrefix}
 use Rattle.vr_log.specs.Members.{leads}
@@ -33,6 +37,27 @@ abbrev pub IsLed : {B : Type 0} → Scene B → List (List SaveResult) → List 
 IsLed scene results entries = (most_failures c : ℕ) → scene.setup.controllers ≡ 2 * most_failures + 1 → c < scene.setup.controllers →
     leads (controller_state scene results c entries).vr ≡ true → MostPromiseUpTo scene results entries most_failures c →
     IsPrefix (decided scene results entries) (controller_state scene results c entries).vr.log
+
+-- an input, an entry and a past suspect no view above a limit
+abbrev pub SuspectsUpTo : ℕ → LocalInput → Type 0
+SuspectsUpTo limit (local.Suspect view) = view ≤ limit
+SuspectsUpTo limit _ = Unit {0}
+
+abbrev pub EntrySuspectsUpTo : {B : Type 0} → ℕ → JournalEntry B → Type 0
+EntrySuspectsUpTo limit (Local a input) = SuspectsUpTo limit input
+EntrySuspectsUpTo limit _ = Unit {0}
+
+abbrev pub IsSuspectedUpTo : {B : Type 0} → ℕ → List (JournalEntry B) → Type 0
+IsSuspectedUpTo limit entries = AllByRecursion (λ e. EntrySuspectsUpTo limit e) entries
+
+-- no controller has a view, or has promised one, above a limit
+abbrev pub AreViewsUpTo : {B : Type 0} → Scene B → List (List SaveResult) → ℕ → List (JournalEntry B) → Type 0
+AreViewsUpTo scene results limit entries = (c : ℕ) → c < scene.setup.controllers →
+    ((controller_state scene results c entries).vr.view ≤ limit) × ((controller_state scene results c entries).vr.promise ≤ limit)
+
+-- no controller has a view, or has promised one, above each that was suspected
+abbrev pub AreViewsSuspected : {B : Type 0} → Scene B → List (List SaveResult) → List (JournalEntry B) → Type 0
+AreViewsSuspected scene results entries = (limit : ℕ) → IsSuspectedUpTo limit entries → AreViewsUpTo scene results limit entries
 
 -- the controllers of every run keep to their side
 abbrev pub ControllersKeepTheirSide : Type 0 → Type 0

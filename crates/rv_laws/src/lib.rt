@@ -6,7 +6,8 @@
 //! (`exactly_once`), whose premises on controllers are proved here of every run.
 #![tactic(auto)]
 
-ghost use Rattle.rv_laws.specs.Laws.{InEveryRun, AreAgreed, AreValidLogs, IsLed, ControllersKeepTheirSide};
+ghost use Rattle.addresses.specs.Laws.{WaitsForActors};
+ghost use Rattle.rv_laws.specs.Laws.{InEveryRun, AreAgreed, AreValidLogs, IsLed, AreViewsSuspected, ControllersKeepTheirSide};
 ghost use Rattle.rv_runs.specs.Laws.{IsLasting, IsExactlyOnce, IsFenced};
 
 /// The controllers of every run keep to their side: their committed logs agree and are valid, and each of their turns makes
@@ -45,4 +46,14 @@ pub fn exactly_once<B>()
 /// No switch carried out a command of a stale generation, in any of its lives.
 pub fn fence<B>()
     ensures { InEveryRun B (λ scene results entries. IsFenced scene entries) }
+{}
+
+/// Whatever waits goes to an actor of the setup.
+pub fn waits_for_actors<B>()
+    ensures { InEveryRun B (λ scene results entries. WaitsForActors scene entries) }
+{}
+
+/// No controller ever has, or has promised, a view above the greatest that was suspected.
+pub fn views_are_suspected<B>()
+    ensures { InEveryRun B (λ scene results entries. AreViewsSuspected scene results entries) }
 {}

@@ -3,7 +3,7 @@ ghost use Rattle.std.specs.Prelude.{◌≡◌, IfOk};
 ghost use Rattle.rv_runs.specs.Messages.{way_of};
 
 use crate::player::Player;
-use rv_base::{Actor, Packet};
+use rv_base::Actor;
 use rv_bodies::Body;
 use rv_runs::Way;
 use std::alloc::{AllocError, Global};
@@ -20,11 +20,15 @@ fn way_between(from: Actor, to: Actor) -> Way
     }
 }
 
-/// What a packet is for the actor that it goes to.
-pub fn heard<P: Player, B: Body>(alloc: Global, packet: &Packet<B>) -> Result<P::Input, AllocError>
-    ensures { IfOk result (λ input. input ≡ P.hears packet.now.from (B.spelled (way_of packet.now.from packet.now.to) packet.now.body)) }
+/// What the body of a packet is for the actor that it goes to.
+pub fn heard<P: Player, B: Body>(
+    alloc: Global,
+    from: Actor,
+    to: Actor,
+    body: &B,
+) -> Result<P::Input, AllocError>
+    ensures { IfOk result (λ input. input ≡ P.hears from (B.spelled (way_of from to) body.now)) }
 {
-    let way = way_between(packet.from, packet.to);
-    let unsealed = packet.body.unseal(alloc, way)?;
-    Ok(P::hear(alloc, packet.from, unsealed))
+    let unsealed = body.unseal(alloc, way_between(from, to))?;
+    Ok(P::hear(alloc, from, unsealed))
 }

@@ -27,8 +27,9 @@ pub fn sealed<P: Player, B: Body>(
 ) -> Result<Letters<B>, AllocError>
     ensures { IfOk result (λ sealed. (sealed ≡ sealed_letters P.said (record { sealed = B.sealed; spelled = B.spelled; size = B.size }) letters) × AreTyped P.said letters) }
 {
-    let mut sealed = Items::new(alloc);
-    for letter in letters.into_vec() {
+    let letters = letters.into_vec();
+    let mut sealed = Items::from_vec(Vec::with_capacity(alloc, letters.len())?);
+    for letter in letters {
         let body = sealed_body::<P, B>(alloc, letter.body)?;
         sealed.push(Letter {
             to: letter.to,

@@ -1,24 +1,33 @@
 //! Journals with each body as its bytes.
 ghost use Rattle.std.specs.Prelude.{◌≡◌, IfOk};
-ghost use Rattle.rv_record.specs.Shows.{bare_letters, bare_entry, bare, typed_bytes};
+ghost use Rattle.rv_record.specs.Shows as shows;
 
+use of_bytes::four;
 use of_ravana::canonical;
 use of_types::{Items, Octets};
 use rv_base::{Journal, JournalEntry, Letter, Letters};
-use rv_world::{Message, Typed};
+use rv_bodies::Typed;
+use rv_runs::Message;
 use std::alloc::{AllocError, Global};
+use vr_codec::encode_vr;
 
 /// The bytes of a body.
 fn typed_bytes(alloc: Global, body: &Typed) -> Result<Octets, AllocError>
-    ensures { IfOk result (λ bytes. bytes ≡ typed_bytes body.now) }
+    ensures { IfOk result (λ bytes. bytes ≡ shows.message_bytes body.now.message) }
 {
     match &body.message {
         Message::Of { xid, message } => canonical(alloc, *xid, message),
+        Message::Vr(message) => encode_vr(alloc, message),
+        Message::Frame { port, bytes } => {
+            let mut body = Octets::from_slice(alloc, &four(*port))?;
+            body.append(bytes.as_slice())?;
+            Ok(body)
+        }
     }
 }
 
 fn bare_letters(alloc: Global, letters: &[Letter<Typed>]) -> Result<Letters<Octets>, AllocError>
-    ensures { IfOk result (λ bare. bare ≡ bare_letters typed_bytes letters.now) }
+    ensures { IfOk result (λ bare. bare ≡ shows.bare_letters letters.now) }
 {
     let mut bare = Items::new(alloc);
     for letter in letters {
@@ -36,7 +45,7 @@ fn bare_entry(
     alloc: Global,
     entry: &JournalEntry<Typed>,
 ) -> Result<JournalEntry<Octets>, AllocError>
-    ensures { IfOk result (λ bare. bare ≡ bare_entry typed_bytes entry.now) }
+    ensures { IfOk result (λ bare. bare ≡ shows.bare_entry entry.now) }
 {
     match entry {
         JournalEntry::Post {
@@ -76,7 +85,7 @@ fn bare_entry(
 
 /// A journal with each body as its bytes.
 pub fn bare(alloc: Global, journal: &[JournalEntry<Typed>]) -> Result<Journal<Octets>, AllocError>
-    ensures { IfOk result (λ entries. entries ≡ bare typed_bytes journal.now) }
+    ensures { IfOk result (λ bare. bare ≡ shows.bare journal.now) }
 {
     let mut entries = Items::new(alloc);
     for entry in journal {

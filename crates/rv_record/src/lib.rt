@@ -1,23 +1,22 @@
 //! The record of a run: what a report tells of a world.
 #![tactic(auto)]
 
-ghost use Rattle.std.specs.Prelude.{◌≡◌, ◌≤◌, true, [], length, drop, IfOk};
-ghost use Rattle.rv_base.specs.Pool.{past};
-ghost use Rattle.controller_core.specs.State.{is_up};
-ghost use Rattle.rv_world.specs.Committed.{controller_state};
-ghost use Rattle.rv_world.specs.Schedule.{count_turns, is_turn};
-ghost use Rattle.rv_record.specs.Shows.{Shows, scene_typed, typed_bytes};
+ghost use Rattle.std.specs.Prelude.{◌≡◌, ◌≤◌, length, IfOk};
+ghost use Rattle.rv_runs.specs.Schedule.{count_turns};
+ghost use Rattle.rv_record.specs.Shows.{told_by};
 
 mod bare;
 mod told;
 
 use crate::bare::bare;
-use crate::told::{told_all, told_log};
+use crate::told::told_all;
+use app_core::App;
 use report::Record;
 use rv_base::JournalEntry;
-use rv_safety::committed_log;
-use rv_world::{Typed, World};
+use rv_bodies::Typed;
+use rv_world::World;
 use std::alloc::{AllocError, Global};
+use vr_log::copy_entries;
 
 /// How many turns entries are: suspicions and draws.
 fn count_turns(entries: &[JournalEntry<Typed>]) -> u64
@@ -25,51 +24,32 @@ fn count_turns(entries: &[JournalEntry<Typed>]) -> u64
 {
     let mut turns = 0;
     for entry in entries {
-        if is_turn(entry) {
+        if matches!(
+            entry,
+            JournalEntry::Draw { .. } | JournalEntry::Local { .. }
+        ) {
             turns += 1;
         }
     }
     turns
 }
 
-fn is_turn(entry: &JournalEntry<Typed>) -> bool
-    ensures { result ≡ is_turn entry.now }
-{
-    match entry {
-        JournalEntry::Draw { .. } => true,
-        JournalEntry::Local { .. } => true,
-        JournalEntry::Post { .. } => false,
-        JournalEntry::Lose { .. } => false,
-        JournalEntry::Idle { .. } => false,
-        JournalEntry::Refused { .. } => false,
-    }
-}
-
-/// The record of a world of one controller that takes part. Its script had so many steps and made the
-/// first `script` entries of the journal. An `Err` is want of memory.
-pub fn record_of(
+/// The record of a world, with so many steps of a script, which made so many of its entries.
+pub fn record_of<A: App>(
     alloc: Global,
-    world: &World<Typed>,
+    world: &World<Typed, A>,
     steps: usize,
     script: usize,
 ) -> Result<Record, AllocError>
-    requires whole { world.now.whole ≡ true }
-    requires one { world.now.setup.controllers ≡ 1 }
-    requires up { is_up (controller_state (scene_typed world.now.setup) [] 0 (past world.now.journal)).status ≡ true }
-    requires script { script ≤ length world.now.journal }
-    ensures { IfOk result (λ told. Shows (scene_typed world.now.setup) typed_bytes steps (drop script world.now.journal) world.now.journal told) }
+    requires { script ≤ length world.now.journal }
+    ensures { IfOk result (λ told. told ≡ told_by world.now steps script) }
 {
-    committed_log(world);
     let entries = world.journal();
-    let setup = world.setup().copy()?;
-    let journal = bare(alloc, entries)?;
-    let log = told_log(alloc, world.controller(0).committed())?;
-    let switches = told_all(alloc, world)?;
     Ok(Record {
-        setup,
-        journal,
-        log,
-        switches,
+        setup: world.setup().copy()?,
+        journal: bare(alloc, entries)?,
+        log: copy_entries(alloc, world.decided())?,
+        switches: told_all(alloc, world)?,
         script: steps as u64,
         closing: count_turns(&entries[script..]),
     })

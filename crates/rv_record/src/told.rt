@@ -1,73 +1,48 @@
-//! What is told of the log and of the switches.
-ghost use Rattle.std.specs.Prelude.{◌≡◌, true, length, map, IfOk};
-ghost use Rattle.rv_base.specs.Pool.{past};
-ghost use Rattle.controller_core.specs.Rules.{numbers_below};
-ghost use Rattle.rv_world.specs.Committed.{switch_state};
-ghost use Rattle.rv_record.specs.Shows.{told_entry, shown_row, told_of, scene_typed};
+//! What is told of the switches.
+ghost use Rattle.std.specs.Prelude.{◌≡◌, map, IfOk};
+ghost use Rattle.rv_record.specs.Shows as shows;
 
-use controller_core::Entry;
+use app_core::App;
+use of_switch::Switch;
 use of_types::{Items, Row};
 use report::{Shown, Told};
-use rv_world::{Typed, World};
+use rv_bodies::Typed;
+use rv_world::World;
 use std::alloc::{AllocError, Global};
-use switch_core::Switch;
-use vr_log::Entries;
-
-/// An entry as it is told.
-fn told_entry(entry: &Entry) -> Result<vr_log::Entry, AllocError>
-    ensures { IfOk result (λ told. told ≡ told_entry entry.now) }
-{
-    match entry {
-        Entry::Received(event) => Ok(vr_log::Entry::Received(event.copy()?)),
-        Entry::Processed(place) => Ok(vr_log::Entry::Processed(*place)),
-    }
-}
-
-/// A log as it is told.
-pub fn told_log(alloc: Global, log: &[Entry]) -> Result<Entries, AllocError>
-    ensures { IfOk result (λ told. told ≡ map told_entry log.now) }
-{
-    let mut told = Items::new(alloc);
-    for entry in log {
-        told.push(told_entry(entry)?)?;
-    }
-    Ok(told)
-}
 
 /// A row without its cookie.
-fn shown_row(row: &Row) -> Result<Shown, AllocError>
-    ensures { IfOk result (λ shown. shown ≡ shown_row row.now) }
+fn shown_row(row: Row) -> Shown
+    ensures { result ≡ shows.shown_row row }
 {
-    let copied = row.copy()?;
-    Ok(Shown {
-        priority: copied.priority,
-        matching: copied.matching,
-        actions: copied.actions,
-    })
+    Shown {
+        priority: row.priority,
+        matching: row.matching,
+        actions: row.actions,
+    }
 }
 
-fn shown_rows(alloc: Global, rows: &[Row]) -> Result<Items<Shown>, AllocError>
-    ensures { IfOk result (λ shown. shown ≡ map shown_row rows.now) }
+fn shown_rows(alloc: Global, rows: Vec<Row>) -> Result<Items<Shown>, AllocError>
+    ensures { IfOk result (λ shown. shown ≡ map shows.shown_row rows.items) }
 {
     let mut shown = Items::new(alloc);
     for row in rows {
-        shown.push(shown_row(row)?)?;
+        shown.push(shown_row(row))?;
     }
     Ok(shown)
 }
 
 /// What is told of a switch.
 fn told_of(alloc: Global, switch: &Switch) -> Result<Told, AllocError>
-    ensures { IfOk result (λ told. told ≡ told_of switch.now) }
+    ensures { IfOk result (λ told. told ≡ shows.told_of switch.now) }
 {
     let events = Items::from_vec(switch.events().to_vec(alloc)?);
     let executed = Items::from_vec(switch.executed().to_vec(alloc)?);
-    let rows = shown_rows(alloc, switch.rows())?;
+    let rows = shown_rows(alloc, switch.rows()?)?;
     Ok(Told {
-        generation: switch.generation(),
-        master: switch.master(),
+        generation: switch.fence().generation(),
+        master: switch.fence().master(),
         life: switch.life(),
-        held: switch.held() as u64,
+        held: switch.held(),
         sent: switch.sent(),
         events,
         executed,
@@ -76,14 +51,12 @@ fn told_of(alloc: Global, switch: &Switch) -> Result<Told, AllocError>
 }
 
 /// What is told of each switch, by number.
-pub fn told_all(alloc: Global, world: &World<Typed>) -> Result<Items<Told>, AllocError>
-    requires { world.now.whole ≡ true }
-    ensures { IfOk result (λ told. told ≡ map (λ s. told_of (switch_state (scene_typed world.now.setup) s (past world.now.journal))) (numbers_below (length world.now.setup.ports))) }
+pub fn told_all<A: App>(alloc: Global, world: &World<Typed, A>) -> Result<Items<Told>, AllocError>
+    ensures { IfOk result (λ told. told ≡ map shows.told_of world.now.switches) }
 {
-    world.lawful();
     let mut told = Items::new(alloc);
-    for number in 0..world.setup().ports.len() {
-        told.push(told_of(alloc, world.switch(number as u8))?)?;
+    for switch in world.switches() {
+        told.push(told_of(alloc, switch)?)?;
     }
     Ok(told)
 }

@@ -3,3 +3,4 @@ pub mod Entries
 pub mod Pools
 pub mod Pasts
 pub mod Saves
+pub mod Playing

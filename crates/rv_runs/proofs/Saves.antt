@@ -26,6 +26,12 @@ data Alike (count : ℕ) (w v : ControllerAt) : Type 0 where
   Unsaved : w.before ≡ v.before → w.saves_before ≡ v.saves_before → count ≤ w.saves_before → w.saves_before < w.saves → Alike count w v
   Beyond : count < w.saves_before → count < w.saves → Alike count w v
 
+-- each draw of a part finds its packet
+abbrev pub EachFinds : {B : Type 0} → List (JournalEntry B × Option (Packet B)) → Type 0
+EachFinds [] = Unit {0}
+EachFinds ((Draw a id keep, None) ∷ ps) = ⊥
+EachFinds (p ∷ ps) = EachFinds ps
+
 module _ {B : Type 0} (scene : Scene B) (results more : List SaveResult) where
   saved_counts : (w : ControllerAt) (work : Work) (pair : ℕ × ℕ) (r : SaveResult) →
       ((controller_saved w work pair.0 pair.1 r).before ≡ w.now) × ((controller_saved w work pair.0 pair.1 r).saves_before ≡ w.saves) × ((controller_saved w work pair.0 pair.1 r).saves ≡ w.saves + 1)
@@ -142,12 +148,6 @@ module _ {B : Type 0} (scene : Scene B) (results more : List SaveResult) where
 
   few_now : (c : ℕ) (p : JournalEntry B × Option (Packet B)) (ps : List (JournalEntry B × Option (Packet B))) → (IsTurn (p ∷ ps) → ⊥) → IsSettled c (p ∷ ps) → (controller_at scene results c (p ∷ ps)).saves ≤ length results
   few_now c p ps rests s = elim s.now [ inl few ↦ few | inr turn ↦ absurd (rests turn) ]
-
-  -- each draw of a part finds its packet
-  abbrev pub EachFinds : List (JournalEntry B × Option (Packet B)) → Type 0
-  EachFinds [] = Unit {0}
-  EachFinds ((Draw a id keep, None) ∷ ps) = ⊥
-  EachFinds (p ∷ ps) = EachFinds ps
 
   goes_on_sound : (c : ℕ) (ps : List (JournalEntry B × Option (Packet B))) → EachFinds ps → IsSettled c ps → Sound results c ps → Sound (results ++ more) c ps
   goes_on_sound c [] finds s sound = tt

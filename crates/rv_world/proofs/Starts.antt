@@ -1,73 +1,76 @@
--- A world with nothing in its journal.
-use Rattle.std.proofs.Common.{◌≡◌, ◌<◌, ℕ, ◌+◌, List, [], ◌∷◌, ◌++◌, length, inl, inr, ◌⊎◌, zero, suc, refl, sym, ◌∙◌, ap, subst, arith, length-append, zero-add, add-zero, add-one}
-use Rattle.std.specs.Prelude.{map, slice_get, slice_index_or, Option, Some, None, nat_eq, if◌then◌else◌}
-use Rattle.std.proofs.lemmas.List.{map-append}
-use Rattle.std.proofs.lemmas.Option.{slice_get-map}
+-- The invariant holds of a world as it starts.
+use Rattle.std.proofs.Common.{◌≡◌, ◌<◌, ℕ, List, [], length, refl, sym, ◌∙◌, ap, subst, arith, zero, suc, ◌+◌}
+use Rattle.std.specs.Prelude.{slice_get, map, Some, None}
+use Rattle.std.specs.List.{range_with_len}
+use Rattle.std.proofs.lemmas.Option.{slice_get_within}
 use Rattle.of_types.specs.declared.setup.Setup.{Setup}
-use Rattle.switch_core.specs.State.{SwitchState, starting_switch}
-use Rattle.controller_core.specs.State.{ControllerState, starting_controller}
-use Rattle.controller_core.specs.Rules.{numbers_below}
-use Rattle.rv_world.specs.declared.debt.Debt.TheVariants as debt
 use Rattle.of_types.specs.Setups.{IsSetup}
-use Rattle.rv_world.specs.States.{Scene}
-use Rattle.rv_world.specs.World.{IsWorld, starting_switches}
+use Rattle.rv_base.specs.declared.journal.JournalEntry.{JournalEntry}
+use Rattle.rv_base.specs.declared.journal.SaveResult.{SaveResult}
+use Rattle.rv_base.specs.Pool.{past}
+use Rattle.of_switch.specs.State.{starting_switch}
+use Rattle.group_controller.specs.Turns.{Controlling, pair_in, state_of}
+use Rattle.rv_runs.specs.Committed.{decided}
+use Rattle.rv_runs.specs.States.{Scene, Sealing}
+use Rattle.rv_runs.proofs.Pasts.{from_some}
+use Rattle.rv_world.specs.World.{AreNew, Holds, HoldsAt, Worlding, results_in, scene_in}
+use Rattle.rv_world.proofs.Places.{results_at}
 
--- a number below the next one is below this one, or this one
-below_or_last : (c n : ℕ) → c < suc n → (c < n) ⊎ (c ≡ n)
-below_or_last zero zero lt = inr refl
-below_or_last zero (suc n) lt = inl (omega arith)
-below_or_last (suc c) zero lt = absurd (omega arith)
-below_or_last (suc c) (suc n) lt = elim (below_or_last c n (omega arith)) [ inl h ↦ inl (omega arith) | inr h ↦ inr (ap suc h) ]
+-- a list by numbers, at a number
+mapped_at : {X : Type 0} (f : ℕ → X) (first count i : ℕ) → i < count → slice_get (map f (range_with_len first count)) i ≡ Some (f (first + i))
+mapped_at f first zero i less = absurd (omega (arith, less))
+mapped_at f first (suc count) zero less = ap (λ n. Some (f n)) (omega arith)
+mapped_at f first (suc count) (suc i) less = let next : first + 1 + i ≡ first + suc i = omega arith in mapped_at f (first + 1) count i (omega (arith, less)) ∙ ap (λ n. Some (f n)) next
 
--- a list with one more
-slice_get-front : {A : Type 0} (xs ys : List A) (i : ℕ) → i < length xs → slice_get (xs ++ ys) i ≡ slice_get xs i
-slice_get-front [] ys i lt = absurd (omega arith)
-slice_get-front (x ∷ xs) ys zero lt = refl
-slice_get-front (x ∷ xs) ys (suc i) lt = slice_get-front xs ys i (omega arith)
+mapped_length : {X : Type 0} (f : ℕ → X) (first count : ℕ) → length (map f (range_with_len first count)) ≡ count
+mapped_length f first zero = refl
+mapped_length f first (suc count) = ap suc (mapped_length f (first + 1) count)
 
-slice_get-seam : {A : Type 0} (xs : List A) (x : A) → slice_get (xs ++ x ∷ []) (length xs) ≡ Some x
-slice_get-seam [] x = refl
-slice_get-seam (y ∷ xs) x = slice_get-seam xs x
+plus_none : (s : ℕ) → 0 + s ≡ s
+plus_none s = omega arith
 
-pub length-numbers_below : (n : ℕ) → length (numbers_below n) ≡ n
-length-numbers_below zero = refl
-length-numbers_below (suc n) = length-append (numbers_below n) (n ∷ []) ∙ rw (length-numbers_below n, add-one) refl
+pub world_starts : {B A : Type 0} (controls : Controlling A → List ℕ → Type 0) (scene : Scene B) (w : Worlding B A) → IsSetup scene.setup → w.owed ≡ None →
+    AreNew controls scene.setup scene.kinds scene.setup.controllers w.controllers →
+    w.switches ≡ map (λ s. starting_switch s scene.setup) (range_with_len 0 (length scene.setup.ports)) →
+    HoldsAt controls scene (results_in w.controllers) [] w
+world_starts controls scene w setup rests members switches = record {
+  setup = setup;
+  legal = record {
+    possible = record { named = tt; views = tt; orderly = tt; switches = λ s within. tt; controllers = λ c within. tt };
+    saves = λ c within. let m = members.each c within in ap length (results_at w.controllers c m.0 m.1 ∙ m.2.unsaved);
+  };
+  group = members.group;
+  count = ap length switches ∙ mapped_length (λ s. starting_switch s scene.setup) 0 (length scene.setup.ports);
+  controllers = λ c within.
+      let m = members.each c within in
+      record { member = m.0; stands = m.1; keeps = m.2.keeps; setup = m.2.setup_is; me = m.2.me; state = m.2.state };
+  switches = λ s within. ap (λ l. slice_get l s) switches ∙ mapped_at (λ s. starting_switch s scene.setup) 0 (length scene.setup.ports) s within ∙ ap (λ n. Some (starting_switch n scene.setup)) (plus_none s);
+  controller_debts = λ c within. rw rests (record { sealed = refl; typed = tt });
+  switch_debts = λ s within. rw rests (record { sealed = refl; typed = tt });
+  debtor = rw rests tt;
+}
 
-pub slice_get-numbers_below : (n c : ℕ) → c < n → slice_get (numbers_below n) c ≡ Some c
-slice_get-numbers_below zero c lt = absurd (omega arith)
-slice_get-numbers_below (suc n) c lt =
-    elim (below_or_last c n lt) [
-      | inl h ↦ slice_get-front (numbers_below n) (n ∷ []) c (omega (arith, length-numbers_below n)) ∙ slice_get-numbers_below n c h
-      | inr h ↦ subst (λ k. slice_get (numbers_below n ++ n ∷ []) k ≡ Some c) (length-numbers_below n ∙ sym h)
-          (slice_get-seam (numbers_below n) n ∙ ap Some (sym h))
-    ]
+-- no view is promised, and each is in its first life
+pub starts_pairs : {A : Type 0} (controls : Controlling A → List ℕ → Type 0) (setup : Setup) (kinds : List ℕ) (count : ℕ) (controllers : List (Controlling A)) → AreNew controls setup kinds count controllers →
+    (c : ℕ) (x : Controlling A) → slice_get controllers c ≡ Some x → pair_in (state_of x) ≡ (0, 0)
+starts_pairs controls setup kinds count controllers news c x found =
+    let within = slice_get_within controllers c x found in
+    let group = news.group in
+    let n = news.each c (omega (arith, within, group)) in
+    ap (λ s. pair_in s) (ap state_of (from_some x n.0 (sym found ∙ n.1)) ∙ n.2.state)
 
-pub slice_get-map_numbers : {A : Type 0} (f : ℕ → A) (n c : ℕ) → c < n → slice_get (map f (numbers_below n)) c ≡ Some (f c)
-slice_get-map_numbers f n c lt = slice_get-map f (numbers_below n) c ∙ rw (slice_get-numbers_below n c lt) refl
+nothing_decided : {B : Type 0} (scene : Scene B) (later : List (List SaveResult)) → decided scene later [] ≡ []
+unfolding decided
+nothing_decided scene later = refl
 
-pub map_next : {A : Type 0} (f : ℕ → A) (n : ℕ) → map f (numbers_below (n + 1)) ≡ map f (numbers_below n) ++ f n ∷ []
-map_next f n = rw (add-one, map-append) refl
-
-suc_plus : (a b : ℕ) → a + 1 + b ≡ a + suc b
-suc_plus a b = omega arith
-
-pub slice_get-starting_switches : (first : ℕ) (ports : List ℕ) (s : ℕ) → s < length ports →
-    slice_get (starting_switches first ports) s ≡ Some (starting_switch (first + s) (slice_index_or ports s 0))
-slice_get-starting_switches first [] s lt = absurd (omega arith)
-slice_get-starting_switches first (count ∷ ports) zero lt = rw add-zero refl
-slice_get-starting_switches first (count ∷ ports) (suc s) lt =
-    slice_get-starting_switches (first + 1) ports s (omega arith) ∙ rw suc_plus refl
-
-pub IsWorld-starts : {B : Type 0} (scene : Scene B) (cs : List ControllerState) (ss : List SwitchState) →
-    IsSetup scene.setup → cs ≡ map (λ c. starting_controller c scene.setup.controllers) (numbers_below scene.setup.controllers) →
-    ss ≡ starting_switches 0 scene.setup.ports → IsWorld scene [] cs ss debt.Nothing
-IsWorld-starts scene cs ss setup controllers switches =
+-- the world holds, where it is of this setup
+pub world_holds : {B A : Type 0} (controls : Controlling A → List ℕ → Type 0) (sealing : Sealing B) (kinds : List ℕ) (w : Worlding B A) (setup : Setup) → w.setup ≡ setup → w.journal ≡ [] → w.owed ≡ None → w.decided ≡ [] →
+    IsSetup setup → AreNew controls setup kinds setup.controllers w.controllers → w.switches ≡ map (λ s. starting_switch s setup) (range_with_len 0 (length setup.ports)) → Holds controls sealing w kinds
+world_holds controls sealing kinds w setup setup_is journal rests undecided is news switches =
+    let scene = scene_in sealing w kinds in
     record {
-      setup = setup;
-      legal = record { named = tt; views = tt; orderly = tt; switches = λ s lt. tt; controllers = λ c lt. tt };
-      controller_states = λ c lt. ap (λ l. slice_get l c) controllers ∙ slice_get-map_numbers _ scene.setup.controllers c lt;
-      switch_states = λ s lt. ap (λ l. slice_get l s) switches ∙ slice_get-starting_switches 0 scene.setup.ports s lt ∙ rw zero-add refl;
-      controller_debts = λ c lt. refl;
-      switch_debts = λ s lt. refl;
-      debtor = tt;
+      run = subst (λ (l : List (JournalEntry _)). HoldsAt controls scene (results_in w.controllers) l w) (sym (ap (λ l. past l) journal))
+          (world_starts controls scene w (subst (λ s. IsSetup s) (sym setup_is) is) rests (subst (λ s. AreNew controls s kinds s.controllers w.controllers) (sym setup_is) news)
+          (subst (λ s. w.switches ≡ map (λ n. starting_switch n s) (range_with_len 0 (length s.ports))) (sym setup_is) switches));
+      decided = λ later more. ap (λ l. decided scene later (past l)) journal ∙ nothing_decided scene later ∙ sym undecided;
     }

@@ -1,7 +1,2 @@
-pub mod Messages
-pub mod States
-pub mod Legal
-pub mod Committed
-pub mod Laws
-pub mod Schedule
 pub mod World
+pub mod Actors

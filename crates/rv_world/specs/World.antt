@@ -1,141 +1,229 @@
--- What a world is, what it keeps true of its parts, and what its calls do.
-use Rattle.std.specs.Prelude.{◌≡◌, ◌≢◌, ◌<◌, ◌⊎◌, ℕ, ◌+◌, Bool, true, false, nat_eq, List, [], ◌∷◌, ◌++◌, length, slice_get, slice_set, Option, Some, None, if◌then◌else◌}
+-- What a world is, what it keeps true of its parts, and what its turns do.
+use Rattle.std.specs.Prelude.{◌≡◌, ◌<◌, ◌≤◌, ◌⊎◌, ℕ, ◌+◌, ◌-◌, ◌^◌, Bool, true, false, List, [], ◌∷◌, ◌++◌, length, map, count_by, drop, slice_get, Option, Some, None, IfSome, Result, Err, if◌then◌else◌}
 use Rattle.of_types.specs.declared.setup.Setup.{Setup}
+use Rattle.of_types.specs.Setups.{IsSetup}
 use Rattle.rv_base.specs.declared.journal.Actor.{Actor}
 use Rattle.rv_base.specs.declared.journal.Actor.TheVariants as actor
 use Rattle.rv_base.specs.declared.journal.JournalEntry.{JournalEntry}
-use Rattle.rv_base.specs.declared.journal.JournalEntry.TheVariants.{Post}
 use Rattle.rv_base.specs.declared.journal.Letter.{Letter}
-use Rattle.rv_base.specs.declared.journal.Packet.{Packet}
+use Rattle.rv_base.specs.declared.journal.SaveResult.{SaveResult}
+use Rattle.rv_base.specs.declared.journal.SaveResult.TheVariants.{Saved, KeptOld, KeptNew}
 use Rattle.rv_base.specs.declared.journal.Turn.{Turn}
 use Rattle.rv_base.specs.declared.wire.Stop.{Stop}
 use Rattle.rv_base.specs.declared.wire.Stop.TheVariants.{OutOfMemory, JournalFull}
+use Rattle.rv_base.specs.Actors.{same_actor}
 use Rattle.rv_base.specs.Part.{part}
-use Rattle.rv_base.specs.Pool.{past, pool}
-use Rattle.rv_base.specs.Turns.{entry_of}
-use Rattle.switch_core.specs.declared.says.SwitchSays.{SwitchSays}
-use Rattle.switch_core.specs.State.{SwitchState, SwitchTurn, starting_switch}
-use Rattle.controller_core.specs.declared.says.ControllerSays.{ControllerSays}
-use Rattle.app_core.specs.Chain.{learning_alone}
-use Rattle.controller_core.specs.State.{ControllerState, Work}
+use Rattle.rv_base.specs.Pool.{past}
+use Rattle.rv_base.specs.Turns.{entry_of, posting, turn_actor, IsFull}
+use Rattle.vr_log.specs.declared.entry.Entry.{Entry}
+use Rattle.of_switch.specs.State.{SwitchState}
+use Rattle.group_controller.specs.State.{starting_controller}
+use Rattle.group_controller.specs.Turns.{AreAlike, Controlling, state_of, pair_in}
+use Rattle.rv_runs.specs.declared.messages.Message.{Message}
+use Rattle.rv_runs.specs.declared.messages.Unsealed.{Unsealed}
+use Rattle.rv_runs.specs.declared.messages.Way.{Way}
+use Rattle.rv_runs.specs.States.{Scene, Sealing, switch_at, controller_at, sealed_letters, switch_message, controller_message}
+use Rattle.rv_runs.specs.Legal.{AreTyped, IsLegalPast, results_of}
+use Rattle.rv_runs.specs.Committed.{controller_state, decided, kept_of, switch_state}
+use Rattle.rv_runs.specs.Schedule.{IsInputOf}
 use Rattle.rv_world.specs.declared.debt.Debt.{Debt}
-use Rattle.rv_world.specs.declared.debt.Debt.TheVariants as debt
-use Rattle.rv_world.specs.declared.says.Message.{Message}
-use Rattle.rv_world.specs.declared.says.Unsealed.{Unsealed}
-use Rattle.rv_world.specs.declared.says.Way.{Way}
-use Rattle.of_types.specs.Setups.{IsSetup}
-use Rattle.rv_world.specs.States.{Scene, Sealing, switch_at, controller_at, sealed_letters, switch_message, controller_message}
-use Rattle.rv_world.specs.Legal.{IsLegalPast}
-use Rattle.rv_world.specs.Committed.{controller_state, switch_state}
-use Rattle.rv_world.specs.Schedule.{IsInputOf, IsJournalFull}
 
--- a world, as its callers see it. The states of its actors are those that the journal gives
-pub record WorldState (B : Type 0) : Type 0 where
+-- a world, as contracts see it: its setup, its journal, its controllers and its switches by number, what is owed, and
+-- what is decided
+pub record Worlding (B A : Type 0) : Type 0 where
   pub setup : Setup
   pub journal : List (JournalEntry B)
-  pub whole : Bool  -- no call has found no memory in the midst of a turn
-  pub owes : Bool  -- the outbox of the newest input is still to be posted
+  pub controllers : List (Controlling A)
+  pub switches : List SwitchState
+  pub owed : Option (Debt B)
+  pub decided : List Entry
 
--- a setup with bodies of a kind, under a chain of learning alone
-abbrev pub scene_of : {B : Type 0} → Setup → (Message → B) → (Way → B → Unsealed) → (B → ℕ) → Scene B
-scene_of setup sealed spelled size =
-    record { setup = setup; kinds = learning_alone; sealing = record { sealed = sealed; spelled = spelled; size = size } }
+-- how the bodies of a kind stand for messages
+abbrev pub sealing_by : {B : Type 0} → (Message → B) → (Way → B → Unsealed) → (B → ℕ) → Sealing B
+sealing_by sealed spelled size = record { sealed = sealed; spelled = spelled; size = size }
 
-abbrev pub is_owing : Debt → Bool
-is_owing debt.Nothing = false
-is_owing (debt.Controller number letters) = true
-is_owing (debt.Switch number letters) = true
+-- what its run is about, where its applications are of these kinds
+abbrev pub scene_in : {B A : Type 0} → Sealing B → Worlding B A → List ℕ → Scene B
+scene_in sealing w kinds = record { setup = w.setup; kinds = kinds; sealing = sealing }
 
--- what is owed of a debt, by a controller and by a switch
-abbrev pub controller_debt : Debt → ℕ → List (Letter ControllerSays)
-controller_debt debt.Nothing c = []
-controller_debt (debt.Controller number letters) c = if nat_eq number c then letters else []
-controller_debt (debt.Switch number letters) c = []
+-- what became of the saves of its controllers
+abbrev pub results_in : {A : Type 0} → List (Controlling A) → List (List SaveResult)
+results_in controllers = map (λ c. c.results) controllers
 
-abbrev pub switch_debt : Debt → ℕ → List (Letter SwitchSays)
-switch_debt debt.Nothing s = []
-switch_debt (debt.Controller number letters) s = []
-switch_debt (debt.Switch number letters) s = if nat_eq number s then letters else []
+-- what an actor owes
+abbrev pub debt_of : {B : Type 0} → Option (Debt B) → Actor → List (Letter B)
+debt_of None a = []
+debt_of (Some d) a = if same_actor d.actor a then d.letters else []
 
--- the newest entry is the input of the one that owes
-abbrev pub IsDebtor : {B : Type 0} → Debt → List (JournalEntry B) → Type 0
-IsDebtor debt.Nothing entries = Unit {0}
-IsDebtor (debt.Controller number letters) entries = IsInputOf (actor.Controller number) entries
-IsDebtor (debt.Switch number letters) entries = IsInputOf (actor.Switch number) entries
+-- only the one of the newest input owes
+abbrev pub IsDebtor : {B : Type 0} → Option (Debt B) → List (JournalEntry B) → Type 0
+IsDebtor None entries = Unit {0}
+IsDebtor (Some d) entries = IsInputOf d.actor entries
 
--- a debtor and its letters, sealed
-abbrev pub sealed_debt : {B : Type 0} → Sealing B → Debt → Option (Actor × List (Letter B))
-sealed_debt sealing debt.Nothing = None
-sealed_debt sealing (debt.Controller number letters) = Some (actor.Controller number, sealed_letters controller_message sealing letters)
-sealed_debt sealing (debt.Switch number letters) = Some (actor.Switch number, sealed_letters switch_message sealing letters)
+-- what is owed is what was said, sealed, and each number of it fits its field
+pub record IsOwed {A B : Type 0} (said : A → Message) (sealing : Sealing B) (says : List (Letter A)) (letters : List (Letter B)) : Type 0 where
+  pub sealed : letters ≡ sealed_letters said sealing says
+  pub typed : AreTyped said says
 
--- the parts of a world over a past: the journal is that of a run, and states and debts are those of the journal
-pub record IsWorld {B : Type 0} (scene : Scene B) (entries : List (JournalEntry B)) (controllers : List ControllerState) (switches : List SwitchState) (owed : Debt) : Type 0 where
+-- the controller of a number is the one that the past gives
+pub record IsMember {B A : Type 0} (controls : Controlling A → List ℕ → Type 0) (scene : Scene B) (results : List (List SaveResult))
+    (entries : List (JournalEntry B)) (controllers : List (Controlling A)) (number : ℕ) : Type 0 where
+  pub member : Controlling A
+  pub stands : slice_get controllers number ≡ Some member
+  pub keeps : controls member scene.kinds
+  pub setup : member.setup ≡ scene.setup
+  pub me : member.me ≡ number
+  pub state : state_of member ≡ controller_state scene results number entries
+
+-- the journal of a world is that of a run, and its actors and what they owe are those that the journal gives
+pub record HoldsAt {B A : Type 0} (controls : Controlling A → List ℕ → Type 0) (scene : Scene B) (results : List (List SaveResult))
+    (entries : List (JournalEntry B)) (w : Worlding B A) : Type 0 where
   pub setup : IsSetup scene.setup
-  pub legal : IsLegalPast scene [] entries
-  pub controller_states : (c : ℕ) → c < scene.setup.controllers → slice_get controllers c ≡ Some (controller_state scene [] c entries)
-  pub switch_states : (s : ℕ) → s < length scene.setup.ports → slice_get switches s ≡ Some (switch_state scene s entries)
-  pub controller_debts : (c : ℕ) → c < scene.setup.controllers → (controller_at scene [] c (part (actor.Controller c) entries)).owed ≡ controller_debt owed c
-  pub switch_debts : (s : ℕ) → s < length scene.setup.ports → (switch_at scene s (part (actor.Switch s) entries)).owed ≡ switch_debt owed s
-  pub debtor : IsDebtor owed entries
+  pub legal : IsLegalPast scene results entries
+  pub group : length w.controllers ≡ scene.setup.controllers
+  pub count : length w.switches ≡ length scene.setup.ports
+  pub controllers : (c : ℕ) → c < scene.setup.controllers → IsMember controls scene results entries w.controllers c
+  pub switches : (s : ℕ) → s < length scene.setup.ports → slice_get w.switches s ≡ Some (switch_state scene s entries)
+  pub controller_debts : (c : ℕ) → c < scene.setup.controllers →
+      IsOwed controller_message scene.sealing (controller_at scene (results_of results c) c (part (actor.Controller c) entries)).owed (debt_of w.owed (actor.Controller c))
+  pub switch_debts : (s : ℕ) → s < length scene.setup.ports →
+      IsOwed switch_message scene.sealing (switch_at scene s (part (actor.Switch s) entries)).owed (debt_of w.owed (actor.Switch s))
+  pub debtor : IsDebtor w.owed entries
 
--- the switch at a place of a list takes a turn
-pub record TakesTurn (turn : SwitchState → SwitchTurn) (before : List SwitchState) (number : ℕ) (after : List SwitchState) (letters : List (Letter SwitchSays)) : Type 0 where
-  pub state : (s : SwitchState) → slice_get before number ≡ Some s → after ≡ slice_set before number (turn s).state
-  pub says : (s : SwitchState) → slice_get before number ≡ Some s → letters ≡ (turn s).letters
+-- each controller has the results that it had, and maybe more
+abbrev pub AreMore : ℕ → List (List SaveResult) → List (List SaveResult) → Type 0
+AreMore group old new = (c : ℕ) → c < group → (more : List SaveResult) × (results_of new c ≡ results_of old c ++ more)
 
--- the controller at a place of a list does a rule
-pub record Works (rule : ControllerState → Work) (before : List ControllerState) (number : ℕ) (after : List ControllerState) (letters : List (Letter ControllerSays)) : Type 0 where
-  pub state : (c : ControllerState) → slice_get before number ≡ Some c → after ≡ slice_set before number (rule c).state
-  pub says : (c : ControllerState) → slice_get before number ≡ Some c → letters ≡ (rule c).letters
+-- what a world keeps true of its parts, where its applications are of these kinds: its run, and that it knows what is
+-- decided, whatever becomes of later saves
+pub record Holds {B A : Type 0} (controls : Controlling A → List ℕ → Type 0) (sealing : Sealing B) (w : Worlding B A) (kinds : List ℕ) : Type 0 where
+  pub run : HoldsAt controls (scene_in sealing w kinds) (results_in w.controllers) (past w.journal) w
+  pub decided : (later : List (List SaveResult)) → AreMore w.setup.controllers (results_in w.controllers) later →
+      decided (scene_in sealing w kinds) later (past w.journal) ≡ w.decided
 
--- what was owed is posted directly after its input, if anything was
-pub data PostedFrom {B : Type 0} (owes : Bool) (old : List (JournalEntry B)) : List (JournalEntry B) → Type 0 where
-  Nothing_owed : PostedFrom owes old old
-  One_post : (a : Actor) (first lost : ℕ) (letters : List (Letter B)) → owes ≡ true → IsInputOf a (past old) →
-      PostedFrom owes old (old ++ Post a first letters lost ∷ [])
+-- A run that was played elsewhere, with applications of these kinds, as a world of its own may take it over. Its journal
+-- is legal: it is orderly, names actors of the setup alone, and gives each of them a sound part, with the results of the
+-- saves that the controllers kept. These are all actors of the setup, by number, in the states that their parts give them,
+-- and none of them owes a letter.
+pub record IsPlayed {B A : Type 0} (controls : Controlling A → List ℕ → Type 0) (sealing : Sealing B) (w : Worlding B A) (kinds : List ℕ) : Type 0 where
+  pub setup : IsSetup w.setup
+  pub legal : IsLegalPast (scene_in sealing w kinds) (results_in w.controllers) (past w.journal)
+  pub group : length w.controllers ≡ w.setup.controllers
+  pub count : length w.switches ≡ length w.setup.ports
+  pub controllers : (c : ℕ) → c < w.setup.controllers → IsMember controls (scene_in sealing w kinds) (results_in w.controllers) (past w.journal) w.controllers c
+  pub switches : (s : ℕ) → s < length w.setup.ports → slice_get w.switches s ≡ Some (switch_state (scene_in sealing w kinds) s (past w.journal))
+  pub controllers_rest : (c : ℕ) → c < w.setup.controllers →
+      (controller_at (scene_in sealing w kinds) (results_of (results_in w.controllers) c) c (part (actor.Controller c) (past w.journal))).owed ≡ []
+  pub switches_rest : (s : ℕ) → s < length w.setup.ports → (switch_at (scene_in sealing w kinds) s (part (actor.Switch s) (past w.journal))).owed ≡ []
+  pub decided : (later : List (List SaveResult)) → AreMore w.setup.controllers (results_in w.controllers) later →
+      decided (scene_in sealing w kinds) later (past w.journal) ≡ w.decided
 
--- a turn was taken, once what was owed was posted
-pub record TakesTurnOf {B : Type 0} (turn : Turn) (owes : Bool) (old new : List (JournalEntry B)) : Type 0 where
-  pub between : List (JournalEntry B)
-  pub posted : PostedFrom owes old between
-  pub taken : new ≡ between ++ entry_of turn (past between) ∷ []
+-- the stable pair of each controller is the one that it knows
+abbrev pub PairsStand : {A W : Type 0} → (W → ℕ × ℕ) → List W → List (Controlling A) → Type 0
+PairsStand {A = A} {W = W} pair stables controllers = (c : ℕ) (x : Controlling A) → slice_get controllers c ≡ Some x →
+    (stable : W) × (slice_get stables c ≡ Some stable) × (pair stable ≡ pair_in (state_of x))
 
--- and its own outbox was posted, if it had one
-pub record Applies {B : Type 0} (turn : Turn) (owes : Bool) (old new : List (JournalEntry B)) : Type 0 where
-  pub middle : List (JournalEntry B)
-  pub takes : TakesTurnOf turn owes old middle
-  pub owing : Bool
-  pub posted : PostedFrom owing middle new
+-- whether a save failed
+abbrev pub is_failed : SaveResult → Bool
+is_failed Saved = false
+is_failed KeptOld = true
+is_failed KeptNew = true
 
--- the journal is full: the outbox of its newest entry stays unposted, and the two numbers tell why
-pub record IsStuck {B : Type 0} (scene : Scene B) (bytes letters : ℕ) (new : WorldState B) : Type 0 where
-  pub full : IsJournalFull scene [] (past new.journal) bytes letters
-  pub whole : new.whole ≡ true
-  pub owes : new.owes ≡ true
+-- saves were made, with these results: the count of faults never fell, and rose with each that failed, up to its end
+pub record SavesTold (before after : ℕ) (old new : List SaveResult) : Type 0 where
+  pub more : List SaveResult
+  pub joined : new ≡ old ++ more
+  pub later : before ≤ after
+  pub rose : (before + count_by is_failed more ≤ after) ⊎ (2 ^ 64 - 1 ≤ after)
 
--- why playing stopped: a full journal is told by its numbers
-abbrev pub StopsAt : {B : Type 0} → Scene B → WorldState B → Stop → Type 0
-StopsAt scene new OutOfMemory = Unit {0}
-StopsAt scene new (JournalFull bytes letters) = IsStuck scene bytes letters new
+-- and so of each controller
+abbrev pub AreTold : {A W : Type 0} → (W → ℕ) → List W → List W → List (Controlling A) → List (Controlling A) → Type 0
+AreTold {A = A} {W = W} faults stables stables_after controllers controllers_after = (c : ℕ) (x : Controlling A) (stable : W) →
+    slice_get controllers c ≡ Some x → slice_get stables c ≡ Some stable →
+    (y : Controlling A) × (stable_after : W) × (slice_get controllers_after c ≡ Some y) × (slice_get stables_after c ≡ Some stable_after)
+    × SavesTold (faults stable) (faults stable_after) x.results y.results
 
--- why a posting stopped. At a full journal, and at want of memory, nothing was added
-abbrev pub PostStops : {B : Type 0} → Scene B → WorldState B → WorldState B → Stop → Type 0
-PostStops scene old new OutOfMemory = new ≡ old
-PostStops scene old new (JournalFull bytes letters) = IsStuck scene bytes letters new × (new ≡ old)
+-- what a call keeps of a world and the stable pairs of its controllers, whatever the kinds of their applications
+pub record Keeps {B A W : Type 0} (controls : Controlling A → List ℕ → Type 0) (pair : W → ℕ × ℕ) (faults : W → ℕ) (sealing : Sealing B)
+    (old : Worlding B A) (stables : List W) (new : Worlding B A) (stables_after : List W) : Type 0 where
+  pub setup : new.setup ≡ old.setup
+  pub holds : (kinds : List ℕ) → Holds controls sealing old kinds → Holds controls sealing new kinds
+  pub pairs : PairsStand pair stables_after new.controllers
+  pub told : AreTold faults stables stables_after old.controllers new.controllers
 
--- why a turn stopped. At a full journal nothing was added, or what was owed was posted and the turn was taken
-abbrev pub TurnStops : {B : Type 0} → Scene B → Turn → WorldState B → WorldState B → Stop → Type 0
-TurnStops scene turn old new OutOfMemory = Unit {0}
-TurnStops scene turn old new (JournalFull bytes letters) =
-    IsStuck scene bytes letters new × ((new ≡ old) ⊎ TakesTurnOf turn old.owes old.journal new.journal)
+-- what is decided once a controller has committed what it has now
+abbrev pub decided_with : {A : Type 0} → List Entry → Controlling A → List Entry
+decided_with log x = log ++ drop (length log) (kept_of (state_of x))
 
--- switches of these counts of ports as they start, numbered from there on
-abbrev pub starting_switches : ℕ → List ℕ → List SwitchState
-starting_switches first [] = []
-starting_switches first (count ∷ counts) = starting_switch first count ∷ starting_switches (first + 1) counts
+-- the post of what is owed, if anything is
+abbrev pub posts_of : {B : Type 0} → (B → ℕ) → Option (Debt B) → List (JournalEntry B) → List (JournalEntry B)
+posts_of size None journal = []
+posts_of size (Some d) journal = posting size d.actor d.letters (past journal)
 
--- a packet waits first of all
-pub record IsFirst {B : Type 0} (p : Packet B) (entries : List (JournalEntry B)) : Type 0 where
-  pub others : List (Packet B)
-  pub first : pool entries ≡ p ∷ others
+-- a turn was taken behind the post of what was owed
+abbrev pub taken : {B : Type 0} → Turn → List (JournalEntry B) → List (JournalEntry B)
+taken turn journal = journal ++ entry_of turn (past journal) ∷ []
+
+-- a world takes a step: its entry stands, and what its actor says then is owed
+pub record Steps {B A W : Type 0} (controls : Controlling A → List ℕ → Type 0) (pair : W → ℕ × ℕ) (faults : W → ℕ) (sealing : Sealing B) (turn : Turn)
+    (old : Worlding B A) (stables : List W) (new : Worlding B A) (stables_after : List W) : Type 0 where
+  pub keeps : Keeps controls pair faults sealing old stables new stables_after
+  pub journal : new.journal ≡ taken turn old.journal
+  pub owed : IfSome new.owed (λ d. d.actor ≡ turn_actor turn)
+
+-- a turn was taken, and its outbox was posted
+pub record Applies {B A : Type 0} (size : B → ℕ) (turn : Turn) (old new : Worlding B A) : Type 0 where
+  pub owing : Option (Debt B)
+  pub journal : new.journal ≡ taken turn (old.journal ++ posts_of size old.owed old.journal)
+      ++ posts_of size owing (taken turn (old.journal ++ posts_of size old.owed old.journal))
+  pub owed : IfSome owing (λ d. d.actor ≡ turn_actor turn)
+  pub rests : new.owed ≡ None
+
+-- what is owed has no room in the journal, by these sums
+abbrev pub IsStuck : {B A : Type 0} → (B → ℕ) → Worlding B A → ℕ → ℕ → Type 0
+IsStuck size w bytes letters = elim w.owed [
+  | None ↦ ⊥
+  | Some d ↦ IsFull size (past w.journal) d.letters bytes letters
+]
+
+-- why a post was refused
+abbrev pub PostStops : {B A : Type 0} → (B → ℕ) → Worlding B A → Stop → Type 0
+PostStops size w OutOfMemory = Unit {0}
+PostStops size w (JournalFull bytes letters) = IsStuck size w bytes letters
+
+-- why a turn stopped: at a full journal what was owed had no room, or what the turn owes has none
+abbrev pub TurnStops : {B A : Type 0} → (B → ℕ) → Turn → Worlding B A → Worlding B A → Stop → Type 0
+TurnStops size turn old new OutOfMemory = Unit {0}
+TurnStops size turn old new (JournalFull bytes letters) =
+    IsStuck size new bytes letters × ((new ≡ old) ⊎ (new.journal ≡ taken turn (old.journal ++ posts_of size old.owed old.journal)))
+
+-- a claim that want of memory takes back
+abbrev pub IfMemory : {T : Type 0} → Result T Stop → Type 0 → Type 0
+IfMemory (Err OutOfMemory) claim = Unit {0}
+IfMemory _ claim = claim
+
+-- the applications of each controller, all of these kinds. One is there for its first life
+pub record IsStocked {A : Type 0} (kinds_of : A → List ℕ) (most_of : A → ℕ) (kinds : List ℕ) (shelf : List A) : Type 0 where
+  pub some : 0 < length shelf
+  pub alike : AreAlike kinds_of most_of kinds shelf
+
+-- a world of a setup as its group starts: no controller has promised a view, and each is in its first life
+pub record StartsAs {B A : Type 0} (setup : Setup) (w : Worlding B A) : Type 0 where
+  pub setup_is : w.setup ≡ setup
+  pub journal : w.journal ≡ []
+  pub rests : w.owed ≡ None
+  pub undecided : w.decided ≡ []
+  pub pairs : (c : ℕ) (x : Controlling A) → slice_get w.controllers c ≡ Some x → pair_in (state_of x) ≡ (0, 0)
+
+-- a controller of a number as its group starts
+pub record IsNew {A : Type 0} (controls : Controlling A → List ℕ → Type 0) (setup : Setup) (kinds : List ℕ) (number : ℕ) (x : Controlling A) : Type 0 where
+  pub keeps : controls x kinds
+  pub setup_is : x.setup ≡ setup
+  pub me : x.me ≡ number
+  pub state : state_of x ≡ starting_controller number setup.controllers
+  pub unsaved : x.results ≡ []
+
+-- and so many of them, by number
+pub record AreNew {A : Type 0} (controls : Controlling A → List ℕ → Type 0) (setup : Setup) (kinds : List ℕ) (count : ℕ) (controllers : List (Controlling A)) : Type 0 where
+  pub group : length controllers ≡ count
+  pub each : (c : ℕ) → c < count → (x : Controlling A) × (slice_get controllers c ≡ Some x) × IsNew controls setup kinds c x

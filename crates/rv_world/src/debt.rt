@@ -1,19 +1,9 @@
 //! What an actor has still to post.
+use rv_base::{Actor, Letters};
 
-use controller_core::ControllerSays;
-use rv_base::Letters;
-use switch_core::SwitchSays;
-
-/// The outbox of the newest input, as long as it is not posted.
+/// The outbox of the newest input, sealed, as long as it is not posted.
 #[derive(Drop)]
-pub enum Debt {
-    Nothing,
-    Controller {
-        number: u8,
-        letters: Letters<ControllerSays>,
-    },
-    Switch {
-        number: u8,
-        letters: Letters<SwitchSays>,
-    },
+pub struct Debt<B> {
+    pub actor: Actor,
+    pub letters: Letters<B>,
 }

@@ -1,16 +1,11 @@
-//! A world: its journal, the states that the journal gives to its actors, and turns.
+//! A world: its journal, its actors, and turns.
 #![tactic(auto)]
 
-mod body;
+mod actors;
 mod debt;
-mod says;
-mod sealing;
-mod takes;
-mod typed;
+mod decided;
 mod world;
 
-pub use body::Body;
 pub use debt::Debt;
-pub use says::{Message, Unsealed, Way};
-pub use typed::Typed;
+pub use decided::takes_part;
 pub use world::World;

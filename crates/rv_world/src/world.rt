@@ -1,91 +1,101 @@
 //! A world: its journal, its actors, and turns.
-ghost use Rattle.std.specs.Prelude.{◌≡◌, ◌↔◌, true, false, [], ◌∷◌, ◌++◌, ◌<◌, length, IsTrue, IfOk, OnOk, IfErr};
+ghost use Rattle.std.specs.Prelude.{◌≡◌, ◌<◌, ◌∷◌, ◌++◌, [], ℕ, List, Some, None, length, map, slice_get, OnOk, IfOk, IfErr};
 ghost use Rattle.std.specs.List.{AllByRecursion};
-ghost use Rattle.rv_base.specs.Pool.{past, pool, pick};
-ghost use Rattle.rv_base.specs.Turns.{drawn_entry, lost_entry, entry_of, turn_actor, IsWithinLimits};
-ghost use Rattle.rv_base.specs.declared.journal.Actor.TheVariants as actor;
-ghost use Rattle.rv_base.specs.declared.journal.JournalEntry.TheVariants as entry;
 ghost use Rattle.of_types.specs.Setups.{IsSetup};
-ghost use Rattle.rv_world.specs.Committed.{switch_state, controller_state};
-ghost use Rattle.rv_world.specs.Legal.{IsLegal};
-ghost use Rattle.rv_world.specs.Schedule.{IsPosted};
 ghost use Rattle.rv_base.specs.Actors.{IsActor};
-ghost use Rattle.rv_world.specs.World.{WorldState, scene_of, PostedFrom, Applies, PostStops, TurnStops};
+ghost use Rattle.rv_base.specs.Orderly.{IsOrderly};
+ghost use Rattle.rv_base.specs.Places.{IsFound};
+ghost use Rattle.rv_base.specs.Pool.{past, pool};
+ghost use Rattle.rv_base.specs.Turns.{turn_actor, IsWithinLimits};
+ghost use Rattle.rv_base.specs.declared.journal.Turn.TheVariants as turn;
+ghost use Rattle.group_controller.specs.Turns.{Controls, ForEachKinds, state_of};
+ghost use Rattle.rv_runs.specs.Committed.{members_up};
+ghost use Rattle.rv_world.specs.World.{Applies, Holds, IfMemory, IsPlayed, IsStocked, Keeps, PairsStand, PostStops, posts_of, sealing_by, StartsAs, Steps, TurnStops};
+ghost use Rattle.rv_world.specs.Actors.{ControllerOwes, IsServed, SwitchOwes};
 
-use crate::body::Body;
+use crate::actors::{controller_takes, controllers_of, fits_types, switch_takes, switches_of};
 use crate::debt::Debt;
-use crate::sealing::sealed_debt;
-use crate::takes::{
-    controller_takes_local, controller_takes_packet, controllers_of, draw, lose, owe,
-    switch_takes_local, switch_takes_packet, switches_of, take_local,
-};
-use controller_core::Controller;
-use of_types::Setup;
-use rv_base::{Actor, Drawn, JournalEntry, Local, Packet, Stop, Turn, Wire};
+use crate::decided::{append_committed, takes_part};
+use app_core::App;
+use group_controller::{Controller, ControllerInput};
+use of_switch::{Switch, SwitchInput};
+use of_types::{Items, Setup};
+use rv_base::{Actor, JournalEntry, Local, PacketPlace, Stable, Stop, Turn, Wire};
+use rv_bodies::Body;
+use rv_players::{Player, heard, sealed};
 use std::alloc::{AllocError, Global};
 use std::marker::Model;
-use switch_core::Switch;
+use vr_log::Entry;
 
-/// A run so far, which contracts see as its setup, its journal and two flags: whether no call has found
-/// no memory in the midst of a turn, and whether the newest input has letters still to be posted. A
-/// world that is not whole is to be dropped.
+/// A run so far: what its actors are, what is in flight, what the one of the newest input has still to post, and the
+/// longest log that a controller ever committed. One that has found no memory in the midst of a turn is to be dropped.
 #[derive(Drop)]
-pub struct World<B: Body> {
+pub struct World<B: Body, A> {
     alloc: Global,
     setup: Setup,
     wire: Wire<B>,
-    controllers: Vec<Controller>,
+    controllers: Vec<Controller<A>>,
     switches: Vec<Switch>,
-    debt: Debt,
-    whole: bool,
+    debt: Option<Debt<B>>,
+    decided: Vec<Entry>,
 }
 
-impl<B: Body> Model for World<B> {
-    ghost use Rattle.rv_world.specs.World.{WorldState};
+impl<B: Body, A> Model for World<B, A> {
+    ghost use Rattle.rv_world.specs.World.{Worlding};
 
-    ghost Value = { WorldState B };
+    ghost Value = { Worlding B A };
 
-    ghost use Rattle.std.specs.Prelude.{◌≡◌, true};
-    ghost use Rattle.rv_base.specs.Pool.{past};
-    ghost use Rattle.rv_world.specs.World.{IsWorld, is_owing, scene_of};
-
-    ghost view = { λ w. record { setup = w.setup; journal = w.wire; whole = w.whole; owes = is_owing w.debt } };
-
-    ghost invariant = { λ w. w.whole ≡ true →
-        IsWorld (scene_of w.setup B.sealed B.spelled B.size) (past w.wire) w.controllers.items w.switches.items w.debt };
+    ghost view = { λ w. record { setup = w.setup; journal = w.wire; controllers = w.controllers.items; switches = w.switches.items; owed = w.debt; decided = w.decided.items } };
 }
 
-impl<B: Body> World<B> {
-    /// A world with an empty journal.
-    pub fn new(alloc: Global, setup: &Setup) -> Result<World<B>, AllocError>
-        requires { IsSetup setup.now }
-        ensures { IfOk result (λ world. world ≡ record { setup = setup.now; journal = []; whole = true; owes = false }) }
+impl<B: Body, A: App> World<B, A> {
+    /// A world with an empty journal. Of each controller the applications of its lives, in order: all of the same kinds.
+    pub fn new(
+        alloc: Global,
+        setup: &Setup,
+        shelves: Vec<Vec<A>>,
+    ) -> Result<World<B, A>, AllocError>
+        requires setup { IsSetup setup.now }
+        requires each { length shelves.items ≡ setup.now.controllers }
+        requires stocked { (kinds : List ℕ) × AllByRecursion (λ shelf. IsStocked A.kinds A.most kinds shelf.items) shelves.items }
+        ensures starts { IfOk result (λ world. StartsAs setup.now world) }
+        ensures holds { (kinds : List ℕ) → AllByRecursion (λ shelf. IsStocked A.kinds A.most kinds shelf.items) shelves.items →
+            IfOk result (λ world. Holds (Controls A.kinds A.most A.states A.suits) (sealing_by B.sealed B.spelled B.size) world kinds) }
     {
-        let controllers = controllers_of(alloc, setup.controllers)?;
-        let switches = switches_of(alloc, setup.ports.as_slice())?;
-        let setup = setup.copy()?;
         Ok(World {
             alloc,
-            setup,
+            setup: setup.copy()?,
             wire: Wire::new(alloc),
-            controllers,
-            switches,
-            debt: Debt::Nothing,
-            whole: true,
+            controllers: controllers_of(alloc, setup, shelves)?,
+            switches: switches_of(alloc, setup)?,
+            debt: None,
+            decided: Vec::new(alloc),
         })
     }
 
-    /// The journal is that of a run, and within its limits. What waits goes to actors of the setup, and
-    /// where nothing is owed, the newest input is posted.
-    pub fn lawful(&self)
-        requires { self.now.whole ≡ true }
-        ensures setup { IsSetup self.now.setup }
-        ensures legal { IsLegal (scene_of self.now.setup B.sealed B.spelled B.size) [] self.now.journal }
-        ensures within { IsWithinLimits B.size (past self.now.journal) }
-        ensures addressed { AllByRecursion (λ p. IsActor self.now.setup p.to) (pool (past self.now.journal)) }
-        ensures posted { self.now.owes ≡ false → IsPosted (scene_of self.now.setup B.sealed B.spelled B.size) [] (past self.now.journal) }
+    /// The world of a run that was played elsewhere. Its actors owe nothing: all of their letters are posted. It takes no
+    /// memory.
+    pub fn adopt(
+        alloc: Global,
+        setup: Setup,
+        wire: Wire<B>,
+        controllers: Vec<Controller<A>>,
+        switches: Vec<Switch>,
+        decided: Vec<Entry>,
+    ) -> World<B, A>
+        ensures is { result ≡ record { setup = setup; journal = wire; controllers = controllers.items; switches = switches.items; owed = None; decided = decided.items } }
+        ensures holds { ForEachKinds (IsPlayed (Controls A.kinds A.most A.states A.suits) (sealing_by B.sealed B.spelled B.size) result)
+            (Holds (Controls A.kinds A.most A.states A.suits) (sealing_by B.sealed B.spelled B.size) result) }
     {
-        self.wire.lawful();
+        World {
+            alloc,
+            setup,
+            wire,
+            controllers,
+            switches,
+            debt: None,
+            decided,
+        }
     }
 
     pub fn setup(&self) -> &Setup
@@ -101,232 +111,245 @@ impl<B: Body> World<B> {
         self.wire.entries()
     }
 
-    /// The packets that wait, by number.
-    pub fn pool(&self) -> &[Packet<B>]
-        ensures { result.now ≡ pool (past self.now.journal) }
+    /// Its journal is orderly, and within its limits.
+    pub fn lawful(&self)
+        ensures orderly { IsOrderly B.size (past self.now.journal) }
+        ensures within { IsWithinLimits B.size (past self.now.journal) }
     {
-        self.wire.pool()
+        self.wire.lawful();
+    }
+
+    /// The packet of the lowest number that waits.
+    pub fn first(&self) -> Option<PacketPlace>
+        ensures { IsFound self.now.journal result (slice_get (pool (past self.now.journal)) 0) }
+    {
+        self.wire.first()
+    }
+
+    /// What is decided: the longest log that a controller ever committed.
+    pub fn decided(&self) -> &[Entry]
+        ensures { result.now ≡ self.now.decided }
+    {
+        self.decided.as_slice()
     }
 
     /// The switch of a number.
     pub fn switch(&self, number: u8) -> &Switch
-        requires whole { self.now.whole ≡ true }
-        requires there { number < length self.now.setup.ports }
-        ensures { result.now ≡ switch_state (scene_of self.now.setup B.sealed B.spelled B.size) number (past self.now.journal) }
+        requires { number < length self.now.switches }
+        ensures { slice_get self.now.switches number ≡ Some result.now }
     {
         &self.switches[number as usize]
     }
 
+    /// The switches, by number.
+    pub fn switches(&self) -> &[Switch]
+        ensures { result.now ≡ self.now.switches }
+    {
+        &self.switches
+    }
+
     /// The controller of a number.
-    pub fn controller(&self, number: u8) -> &Controller
-        requires whole { self.now.whole ≡ true }
-        requires there { number < self.now.setup.controllers }
-        ensures { result.now ≡ controller_state (scene_of self.now.setup B.sealed B.spelled B.size) [] number (past self.now.journal) }
+    pub fn controller(&self, number: u8) -> &Controller<A>
+        requires { number < length self.now.controllers }
+        ensures { slice_get self.now.controllers number ≡ Some result.now }
     {
         &self.controllers[number as usize]
     }
 
-    /// Whether the setup has this actor.
-    pub fn has(&self, actor: Actor) -> bool
-        ensures { IsTrue result ↔ IsActor self.now.setup actor }
+    /// How many controllers take part.
+    pub fn up(&self) -> u64
+        ensures { result ≡ length (members_up (map (λ c. state_of c) self.now.controllers)) }
     {
-        match actor {
-            Actor::Controller(number) => number < self.setup.controllers,
-            Actor::Switch(number) => usize::from(number) < self.setup.ports.len(),
+        let mut up = 0;
+        for controller in &self.controllers {
+            if takes_part(controller) {
+                up += 1;
+            }
         }
+        up
     }
 
-    /// Seals and posts what is owed. At a full journal, and at want of memory, it changed nothing.
+    /// Posts what is owed. At a full journal, and at want of memory, it changed nothing.
     pub fn post_owed(&mut self) -> Result<(), Stop>
-        requires { self.old.whole ≡ true }
-        ensures setup { self.new.setup ≡ self.old.setup }
-        ensures posted { OnOk result (PostedFrom self.old.owes self.old.journal self.new.journal) }
-        ensures rests { OnOk result (self.new.owes ≡ false) }
-        ensures whole { OnOk result (self.new.whole ≡ true) }
-        ensures stops { IfErr result (PostStops (scene_of self.old.setup B.sealed B.spelled B.size) self.old self.new) }
+        ensures posts { OnOk result (self.new ≡ record self.old { journal = self.old.journal ++ posts_of B.size self.old.owed self.old.journal; owed = None }) }
+        ensures holds { ForEachKinds (Holds (Controls A.kinds A.most A.states A.suits) (sealing_by B.sealed B.spelled B.size) self.old)
+            (λ kinds. Holds (Controls A.kinds A.most A.states A.suits) (sealing_by B.sealed B.spelled B.size) self.new kinds) }
+        ensures stops { IfErr result (λ stop. (self.new ≡ self.old) × PostStops B.size self.old stop) }
     {
-        match sealed_debt::<B>(self.alloc, &self.debt)? {
+        match self.debt.take() {
             None => Ok(()),
-            Some((actor, letters)) => match self.wire.post(actor, letters) {
+            Some(Debt { actor, letters }) => match self.wire.post(actor, letters) {
                 Ok(()) => {
                     self.wire.lawful();
-                    owe(&mut self.debt, Debt::Nothing);
                     Ok(())
                 }
-                Err(refused) => Err(refused.cause),
+                Err(refused) => {
+                    self.debt = Some(Debt {
+                        actor,
+                        letters: refused.post,
+                    });
+                    Err(refused.cause)
+                }
             },
         }
     }
 
-    /// A switch takes a local input.
-    fn local_at_switch(&mut self, number: u8, input: &Local) -> Result<(), AllocError>
-        requires whole { self.old.whole ≡ true }
-        requires rests { self.old.owes ≡ false }
-        requires there { number < length self.old.setup.ports }
-        ensures setup { self.new.setup ≡ self.old.setup }
-        ensures whole { OnOk result (self.new.whole ≡ true) }
-        ensures journal { OnOk result (self.new.journal ≡ self.old.journal ++ entry.Local (actor.Switch number) input.now ∷ []) }
+    /// A controller takes an input. What it says is owed from then on.
+    fn at_controller<W: Stable>(
+        &mut self,
+        stables: &mut [W],
+        number: u8,
+        input: ControllerInput,
+    ) -> Result<(), AllocError>
+        requires there { number < length self.old.controllers }
+        requires stable { number < length stables.old }
+        requires ready { IsServed (Controls A.kinds A.most A.states A.suits) W.pair self.old.controllers stables.old number }
+        ensures { OnOk result (ControllerOwes (Controls A.kinds A.most A.states A.suits) W.pair W.faults (sealing_by B.sealed B.spelled B.size) input self.old stables.old number self.new stables.new) }
     {
-        self.whole = false;
-        take_local(&mut self.wire, self.alloc, Actor::Switch(number), input)?;
-        let letters = switch_takes_local(&mut self.switches, number, input)?;
-        self.wire.lawful();
-        owe(&mut self.debt, Debt::Switch { number, letters });
-        self.whole = true;
+        let letters = controller_takes(&mut self.controllers, stables, number, input)?;
+        append_committed(&mut self.decided, &self.controllers[number as usize])?;
+        let letters = sealed::<Controller<A>, B>(self.alloc, letters)?;
+        self.debt = Some(Debt {
+            actor: Actor::Controller(number),
+            letters,
+        });
         Ok(())
     }
 
-    /// A controller takes a local input.
-    fn local_at_controller(&mut self, number: u8, input: &Local) -> Result<(), AllocError>
-        requires whole { self.old.whole ≡ true }
-        requires rests { self.old.owes ≡ false }
-        requires there { number < self.old.setup.controllers }
-        ensures setup { self.new.setup ≡ self.old.setup }
-        ensures whole { OnOk result (self.new.whole ≡ true) }
-        ensures journal { OnOk result (self.new.journal ≡ self.old.journal ++ entry.Local (actor.Controller number) input.now ∷ []) }
+    /// A switch takes an input. What it says is owed from then on.
+    fn at_switch(&mut self, number: u8, input: SwitchInput) -> Result<(), AllocError>
+        requires { number < length self.old.switches }
+        ensures { OnOk result (SwitchOwes (sealing_by B.sealed B.spelled B.size) input self.old number self.new) }
     {
-        self.whole = false;
-        take_local(&mut self.wire, self.alloc, Actor::Controller(number), input)?;
-        let letters = controller_takes_local(&mut self.controllers, &self.setup, number, input)?;
-        self.wire.lawful();
-        owe(&mut self.debt, Debt::Controller { number, letters });
-        self.whole = true;
+        let letters = switch_takes(&mut self.switches, number, input)?;
+        let letters = sealed::<Switch, B>(self.alloc, letters)?;
+        self.debt = Some(Debt {
+            actor: Actor::Switch(number),
+            letters,
+        });
         Ok(())
     }
 
-    /// A switch draws the packet of a choice.
-    fn draw_at_switch(&mut self, number: u8, choice: u64, keep: bool) -> Result<(), AllocError>
-        requires whole { self.old.whole ≡ true }
-        requires rests { self.old.owes ≡ false }
-        requires there { number < length self.old.setup.ports }
-        ensures setup { self.new.setup ≡ self.old.setup }
-        ensures whole { OnOk result (self.new.whole ≡ true) }
-        ensures journal { OnOk result (self.new.journal ≡ self.old.journal ++ drawn_entry (actor.Switch number) keep (pick (actor.Switch number) choice (past self.old.journal)) ∷ []) }
-    {
-        self.whole = false;
-        match draw(
-            &mut self.wire,
-            self.alloc,
-            Actor::Switch(number),
-            choice,
-            keep,
-        )? {
-            Drawn::Nothing => {
-                self.wire.lawful();
-                self.whole = true;
-                Ok(())
-            }
-            Drawn::Got(packet) => {
-                let letters = switch_takes_packet(self.alloc, packet, &mut self.switches, number)?;
-                self.wire.lawful();
-                owe(&mut self.debt, Debt::Switch { number, letters });
-                self.whole = true;
-                Ok(())
-            }
-        }
-    }
-
-    /// A controller draws the packet of a choice.
-    fn draw_at_controller(&mut self, number: u8, choice: u64, keep: bool) -> Result<(), AllocError>
-        requires whole { self.old.whole ≡ true }
-        requires rests { self.old.owes ≡ false }
-        requires there { number < self.old.setup.controllers }
-        ensures setup { self.new.setup ≡ self.old.setup }
-        ensures whole { OnOk result (self.new.whole ≡ true) }
-        ensures journal { OnOk result (self.new.journal ≡ self.old.journal ++ drawn_entry (actor.Controller number) keep (pick (actor.Controller number) choice (past self.old.journal)) ∷ []) }
-    {
-        self.whole = false;
-        match draw(
-            &mut self.wire,
-            self.alloc,
-            Actor::Controller(number),
-            choice,
-            keep,
-        )? {
-            Drawn::Nothing => {
-                self.wire.lawful();
-                self.whole = true;
-                Ok(())
-            }
-            Drawn::Got(packet) => {
-                let letters = controller_takes_packet(
-                    self.alloc,
-                    packet,
-                    &mut self.controllers,
-                    &self.setup,
-                    number,
-                )?;
-                self.wire.lawful();
-                owe(&mut self.debt, Debt::Controller { number, letters });
-                self.whole = true;
-                Ok(())
-            }
-        }
-    }
-
-    /// An actor loses the packet of a choice.
-    fn lose(&mut self, actor: Actor, choice: u64) -> Result<(), AllocError>
-        requires whole { self.old.whole ≡ true }
-        requires rests { self.old.owes ≡ false }
+    /// An actor draws the packet of a choice, if one waits for it. (An empty outbox fits every journal: a refusal is for
+    /// want of memory.)
+    fn draw<W: Stable>(
+        &mut self,
+        stables: &mut [W],
+        actor: Actor,
+        choice: u64,
+        keep: bool,
+    ) -> Result<(), AllocError>
+        requires rests { self.old.owed ≡ None }
+        requires holds { (kinds : List ℕ) × Holds (Controls A.kinds A.most A.states A.suits) (sealing_by B.sealed B.spelled B.size) self.old kinds }
+        requires pairs { PairsStand W.pair stables.old self.old.controllers }
         requires named { IsActor self.old.setup actor }
-        ensures setup { self.new.setup ≡ self.old.setup }
-        ensures whole { OnOk result (self.new.whole ≡ true) }
-        ensures rests { OnOk result (self.new.owes ≡ false) }
-        ensures journal { OnOk result (self.new.journal ≡ self.old.journal ++ lost_entry actor (pick actor choice (past self.old.journal)) ∷ []) }
+        ensures { OnOk result (Steps (Controls A.kinds A.most A.states A.suits) W.pair W.faults (sealing_by B.sealed B.spelled B.size) (turn.Draw actor choice keep) self.old stables.old self.new stables.new) }
     {
-        self.whole = false;
-        let _ = lose(&mut self.wire, self.alloc, actor, choice)?;
+        let found = match self.wire.draw(actor, Items::new(self.alloc), choice, keep) {
+            Ok(found) => found,
+            Err(_) => return Err(AllocError),
+        };
         self.wire.lawful();
-        self.whole = true;
-        Ok(())
+        let Some(place) = found else {
+            return Ok(());
+        };
+        let body = self.wire.body(place);
+        match actor {
+            Actor::Controller(number) => {
+                let input = heard::<Controller<A>, B>(self.alloc, place.from, place.to, body)?;
+                self.at_controller(stables, number, input)
+            }
+            Actor::Switch(number) => {
+                let input = heard::<Switch, B>(self.alloc, place.from, place.to, body)?;
+                self.at_switch(number, input)
+            }
+        }
+    }
+
+    /// An actor loses the packet of a choice, if one waits for it.
+    fn lose<W: Stable>(
+        &mut self,
+        stables: &mut [W],
+        actor: Actor,
+        choice: u64,
+    ) -> Result<(), AllocError>
+        requires rests { self.old.owed ≡ None }
+        requires holds { (kinds : List ℕ) × Holds (Controls A.kinds A.most A.states A.suits) (sealing_by B.sealed B.spelled B.size) self.old kinds }
+        requires pairs { PairsStand W.pair stables.old self.old.controllers }
+        requires named { IsActor self.old.setup actor }
+        ensures { OnOk result (Steps (Controls A.kinds A.most A.states A.suits) W.pair W.faults (sealing_by B.sealed B.spelled B.size) (turn.Lose actor choice) self.old stables.old self.new stables.new) }
+    {
+        match self.wire.lose(actor, Items::new(self.alloc), choice) {
+            Ok(_) => {
+                self.wire.lawful();
+                Ok(())
+            }
+            Err(_) => Err(AllocError),
+        }
+    }
+
+    /// An actor takes a local input.
+    fn local<W: Stable>(
+        &mut self,
+        stables: &mut [W],
+        actor: Actor,
+        input: &Local,
+    ) -> Result<(), AllocError>
+        requires rests { self.old.owed ≡ None }
+        requires holds { (kinds : List ℕ) × Holds (Controls A.kinds A.most A.states A.suits) (sealing_by B.sealed B.spelled B.size) self.old kinds }
+        requires pairs { PairsStand W.pair stables.old self.old.controllers }
+        requires named { IsActor self.old.setup actor }
+        ensures { OnOk result (Steps (Controls A.kinds A.most A.states A.suits) W.pair W.faults (sealing_by B.sealed B.spelled B.size) (turn.Local actor input.now) self.old stables.old self.new stables.new) }
+    {
+        fits_types(input);
+        match self
+            .wire
+            .local(actor, Items::new(self.alloc), input.copy()?)
+        {
+            Ok(()) => {}
+            Err(_) => return Err(AllocError),
+        }
+        self.wire.lawful();
+        let input = input.copy()?;
+        match actor {
+            Actor::Controller(number) => {
+                self.at_controller(stables, number, Controller::<A>::take_local(input))
+            }
+            Actor::Switch(number) => self.at_switch(number, Switch::take_local(input)),
+        }
     }
 
     /// An actor takes a step.
-    fn step(&mut self, turn: &Turn) -> Result<(), AllocError>
-        requires whole { self.old.whole ≡ true }
-        requires rests { self.old.owes ≡ false }
+    fn step<W: Stable>(&mut self, stables: &mut [W], turn: &Turn) -> Result<(), AllocError>
+        requires rests { self.old.owed ≡ None }
+        requires holds { (kinds : List ℕ) × Holds (Controls A.kinds A.most A.states A.suits) (sealing_by B.sealed B.spelled B.size) self.old kinds }
+        requires pairs { PairsStand W.pair stables.old self.old.controllers }
         requires named { IsActor self.old.setup (turn_actor turn.now) }
-        ensures setup { self.new.setup ≡ self.old.setup }
-        ensures whole { OnOk result (self.new.whole ≡ true) }
-        ensures journal { OnOk result (self.new.journal ≡ self.old.journal ++ entry_of turn.now (past self.old.journal) ∷ []) }
+        ensures { OnOk result (Steps (Controls A.kinds A.most A.states A.suits) W.pair W.faults (sealing_by B.sealed B.spelled B.size) turn.now self.old stables.old self.new stables.new) }
     {
         match turn {
             Turn::Draw {
-                actor: Actor::Controller(number),
+                actor,
                 choice,
                 keep,
-            } => self.draw_at_controller(*number, *choice, *keep),
-            Turn::Draw {
-                actor: Actor::Switch(number),
-                choice,
-                keep,
-            } => self.draw_at_switch(*number, *choice, *keep),
-            Turn::Lose { actor, choice } => self.lose(*actor, *choice),
-            Turn::Local {
-                actor: Actor::Controller(number),
-                input,
-            } => self.local_at_controller(*number, input),
-            Turn::Local {
-                actor: Actor::Switch(number),
-                input,
-            } => self.local_at_switch(*number, input),
+            } => self.draw(stables, *actor, *choice, *keep),
+            Turn::Lose { actor, choice } => self.lose(stables, *actor, *choice),
+            Turn::Local { actor, input } => self.local(stables, *actor, input),
         }
     }
 
-    /// Does one turn: posts what is owed, takes the step, and posts its outbox. At a full journal the
-    /// outbox stays unposted, and every later call answers the same. At want of memory the world may be
-    /// whole no longer.
-    pub fn apply(&mut self, turn: &Turn) -> Result<(), Stop>
-        requires whole { self.old.whole ≡ true }
+    /// Does one turn: posts what is owed, takes the step, and posts its outbox. At a full journal the outbox stays
+    /// unposted, and every later call answers the same. At want of memory the world is to be dropped.
+    pub fn apply<W: Stable>(&mut self, stables: &mut [W], turn: &Turn) -> Result<(), Stop>
+        requires holds { (kinds : List ℕ) × Holds (Controls A.kinds A.most A.states A.suits) (sealing_by B.sealed B.spelled B.size) self.old kinds }
+        requires pairs { PairsStand W.pair stables.old self.old.controllers }
         requires named { IsActor self.old.setup (turn_actor turn.now) }
-        ensures setup { self.new.setup ≡ self.old.setup }
-        ensures applies { OnOk result (Applies turn.now self.old.owes self.old.journal self.new.journal) }
-        ensures rests { OnOk result (self.new.owes ≡ false) }
-        ensures whole { OnOk result (self.new.whole ≡ true) }
-        ensures stops { IfErr result (TurnStops (scene_of self.old.setup B.sealed B.spelled B.size) turn.now self.old self.new) }
+        ensures applies { OnOk result (Applies B.size turn.now self.old self.new) }
+        ensures keeps { IfMemory result (Keeps (Controls A.kinds A.most A.states A.suits) W.pair W.faults (sealing_by B.sealed B.spelled B.size) self.old stables.old self.new stables.new) }
+        ensures stops { IfErr result (λ stop. TurnStops B.size turn.now self.old self.new stop) }
     {
         self.post_owed()?;
-        self.step(turn)?;
+        self.step(stables, turn)?;
         self.post_owed()
     }
 }

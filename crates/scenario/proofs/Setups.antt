@@ -11,6 +11,7 @@ use Rattle.of_types.specs.declared.setup.Link.{Link}
 use Rattle.of_types.specs.declared.setup.Rule.{Rule}
 use Rattle.of_types.specs.declared.setup.Setup.{Setup}
 use Rattle.of_types.specs.Setups.{IsPort, IsAddressPrefix, IsRule, IsSetup, AreApart, ends_of}
+use Rattle.rv_base.specs.declared.journal.Actor.{Actor}
 use Rattle.rv_base.specs.declared.journal.Actor.TheVariants as actor
 use Rattle.rv_base.specs.declared.journal.Local.TheVariants as local
 use Rattle.rv_base.specs.declared.journal.Turn.{Turn}
@@ -27,19 +28,20 @@ use Rattle.scenario.specs.declared.scenario.Scenario.{Scenario}
 use Rattle.scenario.specs.declared.scenario.ScenarioFault.{ScenarioFault}
 use Rattle.scenario.specs.declared.written.Written.{Written}
 use Rattle.scenario.specs.Faults.{◌>>=◌, found_at, each, each_alone}
-use Rattle.scenario.specs.declared.limits.TheConstants.{MOST_PORTS}
+use Rattle.scenario.specs.declared.limits.TheConstants.{MOST_CHOICE, MOST_PORTS, MOST_VIEW}
 use Rattle.scenario.specs.declared.written.WrittenSwitch.{WrittenSwitch}
 use Rattle.scenario.specs.declared.written.WrittenLink.{WrittenLink}
 use Rattle.scenario.specs.declared.written.WrittenPrefix.{WrittenPrefix}
 use Rattle.scenario.specs.declared.written.WrittenRule.{WrittenRule}
 use Rattle.scenario.specs.declared.written.WrittenStep.{WrittenStep}
+use Rattle.scenario.specs.declared.written.WrittenStep.TheVariants.{Frame, Port, Tick, Draw, Lose, Suspect, Crash, RestartController, RestartSwitch}
 use Rattle.scenario.specs.declared.limits.Timed.{Timed}
 use Rattle.scenario.specs.Generated.{frame_turn, last_crash, generated}
-use Rattle.scenario.specs.Limits.{is_within, only_if, is_port, is_taken, is_port_of, is_group, is_within_limits, prefix_within, turn_within, restarts_of, repeated, ports_within, link_within, rule_within}
+use Rattle.scenario.specs.Limits.{given, is_within, once, only_if, is_port, is_taken, is_port_of, is_group, is_within_limits, prefix_within, turn_within, restarts_of, repeated, ports_within, link_within, rule_within}
 use Rattle.scenario.proofs.Turns.{only_if_keeps, turn_is}
 use Rattle.scenario.proofs.Apart.{same_end, same_end_sym, apart_link}
 use Rattle.scenario.proofs.Ends.{ends_any}
-use Rattle.scenario.specs.Scenario.{Gives, steps_within, scenario_within, IsScenario}
+use Rattle.scenario.specs.Scenario.{Gives, HasView, steps_within, scenario_within, IsScenario}
 
 bind_ok : {A B : Type 0} (r : Result A Fault) (next : A → Result B Fault) (y : B) → (r >>= next) ≡ Ok y → (x : A) × (r ≡ Ok x) × (next x ≡ Ok y)
 bind_ok (Ok x) next y e = (x, refl, e)
@@ -211,34 +213,73 @@ ok_is : {A : Type 0} (x y : A) → done_ok x ≡ done_ok y → x ≡ y
 ok_is x y e = cc
 
 -- steps
-module _ (setup : Setup) where
-  abbrev IsOf : Turn → Type 0
-  IsOf t = IsActor setup (turn_actor t)
+abbrev IsOf : Setup → Turn → Type 0
+IsOf setup t = IsActor setup (turn_actor t)
 
-  all_repeated : (t : Turn) (times : ℕ) → IsOf t → AllByRecursion IsOf (replicate times t)
+-- of each step that is within its limits something is so: it is so of each turn
+module _ (setup : Setup) (P : Turn → Type 0) (turn_has : (before : List Actor) (step : WrittenStep) → IfSome (turn_within setup.controllers setup.ports before step) (λ timed. P timed.turn)) where
+  all_repeated : (t : Turn) (times : ℕ) → P t → AllByRecursion P (replicate times t)
   all_repeated t zero is = tt
   all_repeated t (suc times) is = (is, all_repeated t times is)
 
-  all_steps : (done : List Timed) → AllByRecursion (λ timed. IsOf timed.turn) done → AllByRecursion IsOf (flat_map repeated done)
+  all_steps : (done : List Timed) → AllByRecursion (λ timed. P timed.turn) done → AllByRecursion P (flat_map repeated done)
   all_steps [] h = tt
-  all_steps (timed ∷ done) h = all_append IsOf (repeated timed) (flat_map repeated done) (all_repeated timed.turn timed.times h.0) (all_steps done h.1)
+  all_steps (timed ∷ done) h = all_append P (repeated timed) (flat_map repeated done) (all_repeated timed.turn timed.times h.0) (all_steps done h.1)
 
-  turns_are : (before : List Timed) (step : WrittenStep) → AllByRecursion (λ timed. IsOf timed.turn) before →
-      IfSome (turn_within setup.controllers setup.ports (restarts_of before) step) (λ timed. AllByRecursion (λ timed. IsOf timed.turn) (before ++ timed ∷ []))
+  turns_are : (before : List Timed) (step : WrittenStep) → AllByRecursion (λ timed. P timed.turn) before →
+      IfSome (turn_within setup.controllers setup.ports (restarts_of before) step) (λ timed. AllByRecursion (λ timed. P timed.turn) (before ++ timed ∷ []))
   turns_are before step h =
-      one_turn (turn_within setup.controllers setup.ports (restarts_of before) step) (turn_is setup (restarts_of before) step)
+      one_turn (turn_within setup.controllers setup.ports (restarts_of before) step) (turn_has (restarts_of before) step)
     where
-      one_turn : (found : Option Timed) → IfSome found (λ timed. IsOf timed.turn × (1 ≤ timed.times)) → IfSome found (λ timed. AllByRecursion (λ timed. IsOf timed.turn) (before ++ timed ∷ []))
+      one_turn : (found : Option Timed) → IfSome found (λ timed. P timed.turn) → IfSome found (λ timed. AllByRecursion (λ timed. P timed.turn) (before ++ timed ∷ []))
       one_turn None is = tt
-      one_turn (Some timed) is = all_append (λ timed. IsOf timed.turn) before (timed ∷ []) h (is.0, tt)
+      one_turn (Some timed) is = all_append (λ timed. P timed.turn) before (timed ∷ []) h (is, tt)
 
-  steps_are : (steps : List WrittenStep) (turns : List Turn) → steps_within setup.controllers setup.ports steps ≡ Ok turns → AllByRecursion IsOf turns
+  steps_are : (steps : List WrittenStep) (turns : List Turn) → steps_within setup.controllers setup.ports steps ≡ Ok turns → AllByRecursion P turns
   unfolding steps_within
   steps_are steps turns e =
       let all = each Limit place.Step (λ before. turn_within setup.controllers setup.ports (restarts_of before)) [] steps in
       let b = bind_ok all (λ timed. Ok (flat_map repeated timed)) turns e in
-      let kept = each_keeps (λ done. AllByRecursion (λ timed. IsOf timed.turn) done) Limit place.Step (λ before. turn_within setup.controllers setup.ports (restarts_of before)) turns_are [] steps tt in
-      subst (λ l. AllByRecursion IsOf l) (ok_is _ _ b.2) (all_steps b.0 (at_ok (λ done. AllByRecursion (λ timed. IsOf timed.turn) done) all b.0 b.1 kept))
+      let kept = each_keeps (λ done. AllByRecursion (λ timed. P timed.turn) done) Limit place.Step (λ before. turn_within setup.controllers setup.ports (restarts_of before)) turns_are [] steps tt in
+      subst (λ l. AllByRecursion P l) (ok_is _ _ b.2) (all_steps b.0 (at_ok (λ done. AllByRecursion (λ timed. P timed.turn) done) all b.0 b.1 kept))
+
+turn_of : (setup : Setup) (before : List Actor) (step : WrittenStep) → IfSome (turn_within setup.controllers setup.ports before step) (λ timed. IsOf setup timed.turn)
+turn_of setup before step = first (turn_within setup.controllers setup.ports before step) (turn_is setup before step)
+  where
+    first : (found : Option Timed) → IfSome found (λ timed. IsOf setup timed.turn × (1 ≤ timed.times)) → IfSome found (λ timed. IsOf setup timed.turn)
+    first None is = tt
+    first (Some timed) is = is.0
+
+-- a suspicion names a view within the limit, and nothing else names one
+no_view : (t : Turn) (times : ℕ) (test : Bool) → HasView t → IfSome {T = Timed} (only_if test (record { turn = t; times = times })) (λ timed. HasView timed.turn)
+no_view t times true has = has
+no_view t times false has = tt
+
+no_view_given : (t : Turn) (times : ℕ) (outer test : Bool) → HasView t → IfSome {T = Timed} (given outer (only_if test (record { turn = t; times = times }))) (λ timed. HasView timed.turn)
+no_view_given t times true test has = no_view t times test has
+no_view_given t times false test has = tt
+
+turn_view : (setup : Setup) (before : List Actor) (step : WrittenStep) → IfSome (turn_within setup.controllers setup.ports before step) (λ timed. HasView timed.turn)
+turn_view setup before (Frame switch port bytes) = no_view _ 1 _ tt
+turn_view setup before (Port switch port up) = no_view _ 1 _ tt
+turn_view setup before (Tick a times) = no_view_given _ times _ _ tt
+turn_view setup before (Draw a choice keep times) = no_view_given _ times _ _ tt
+turn_view setup before (Lose a choice times) = no_view_given _ times _ _ tt
+turn_view setup before (Suspect c view) = by_view (nat_lt c setup.controllers) (is_within 1 view MOST_VIEW) refl
+  where
+    by_view : (here within : Bool) → is_within 1 view MOST_VIEW ≡ within → IfSome (only_if (here && within) (once (actor.Controller c) (local.Suspect view))) (λ timed. HasView timed.turn)
+    by_view true true is = search (rules, is)
+    by_view true false is = tt
+    by_view false within is = tt
+turn_view setup before (Crash c) = no_view _ 1 _ tt
+turn_view setup before (RestartController c) = no_view_given _ 1 _ _ tt
+turn_view setup before (RestartSwitch s) = no_view_given _ 1 _ _ tt
+
+turns_of : (setup : Setup) (steps : List WrittenStep) (turns : List Turn) → steps_within setup.controllers setup.ports steps ≡ Ok turns → AllByRecursion (IsOf setup) turns
+turns_of setup steps turns e = steps_are setup (IsOf setup) (turn_of setup) steps turns e
+
+views_of : (setup : Setup) (steps : List WrittenStep) (turns : List Turn) → steps_within setup.controllers setup.ports steps ≡ Ok turns → AllByRecursion HasView turns
+views_of setup steps turns e = steps_are setup HasView (turn_view setup) steps turns e
 
 -- the limits of a scenario as a whole
 record IsSmall (w : Written) : Type 0 where
@@ -310,7 +351,8 @@ module _ (w : Written) where
       keeps_then IsScenario (steps_within controllers ports w.steps) (λ steps. Ok (record { setup = record { controllers = controllers; ports = ports; links = links; deny = deny }; steps = steps })) (λ steps steps_e.
       record {
         setup = setup_is controllers ports links deny (small_is w passed.0) passed.1 ports_e links_e deny_e;
-        actors = steps_are (record { controllers = controllers; ports = ports; links = links; deny = deny }) w.steps steps steps_e;
+        actors = turns_of (record { controllers = controllers; ports = ports; links = links; deny = deny }) w.steps steps steps_e;
+        views = views_of (record { controllers = controllers; ports = ports; links = links; deny = deny }) w.steps steps steps_e;
       })))))
 
   pub given_is : (read : Result Scenario ScenarioFault) → Gives read (scenario_within w) → IfOk read IsScenario
@@ -333,6 +375,21 @@ crash_is setup number controllers some same =
       | false ↦ (let below = mod-lt number some in omega (arith, below, same), tt)
     ]
 
+frame_view : (number switches t : ℕ) → HasView (frame_turn number switches t)
+unfolding frame_turn
+frame_view number switches t = tt
+
+frame_views : (number switches first count : ℕ) → AllByRecursion HasView (map (frame_turn number switches) (range_with_len first count))
+frame_views number switches first zero = tt
+frame_views number switches first (suc count) = (frame_view number switches first, frame_views number switches (first + 1) count)
+
+crash_view : (number controllers : ℕ) → AllByRecursion HasView (last_crash number controllers)
+crash_view number controllers =
+    elim (nat_lt controllers 3) as (λ few. AllByRecursion HasView (if few then [] else turn.Local (actor.Controller (number % controllers)) local.Crash ∷ [])) [
+      | true ↦ tt
+      | false ↦ (tt, tt)
+    ]
+
 counts_are : (count : ℕ) → All IsCount (replicate count 4)
 counts_are zero k d lt = absurd (omega (arith, lt))
 counts_are (suc count) zero d lt = (omega arith, omega arith)
@@ -353,4 +410,5 @@ generated_is number controllers switches frames group some few =
       setup = record { group = group; some = omega (arith, many, some); few = omega (arith, many, few); ports = counts_are switches; few_links = omega arith; links = tt; apart = tt; few_rules = omega arith; rules = tt };
       actors = all_append (IsOf setup) (map (frame_turn number switches) (range_with_len 0 frames)) (last_crash number controllers)
           (frames_are setup number switches 0 frames (omega (arith, some)) (sym many)) (crash_is setup number controllers (some_member controllers group) refl);
+      views = all_append HasView (map (frame_turn number switches) (range_with_len 0 frames)) (last_crash number controllers) (frame_views number switches 0 frames) (crash_view number controllers);
     }

@@ -1,14 +1,17 @@
 -- Which scenario bytes say, or their first fault.
-use Rattle.std.specs.Prelude.{◌≡◌, ℕ, nat_le, List, [], length, Option, Result, Ok, Err, option_and_then}
+use Rattle.std.specs.Prelude.{◌≡◌, ◌≤◌, ℕ, nat_le, List, [], length, Option, Result, Ok, Err, option_and_then}
 use Rattle.std.specs.List.{AllByRecursion, flat_map}
 use Rattle.std.specs.Str.{is_utf8}
 use Rattle.serde_json.specs.Data.{Data}
 use Rattle.serde_json.specs.Read.{read}
 use Rattle.of_types.specs.Setups.{IsSetup}
+use Rattle.rv_base.specs.declared.journal.Local.TheVariants as local
 use Rattle.rv_base.specs.declared.journal.Turn.{Turn}
+use Rattle.rv_base.specs.declared.journal.Turn.TheVariants as turn
 use Rattle.rv_base.specs.Actors.{IsActor}
 use Rattle.rv_base.specs.Turns.{turn_actor}
 use Rattle.scenario.specs.declared.input.TheConstants.{SCENARIO_LIMIT}
+use Rattle.scenario.specs.declared.limits.TheConstants.{MOST_VIEW}
 use Rattle.scenario.specs.declared.scenario.Fault.{Fault}
 use Rattle.scenario.specs.declared.scenario.FaultKind.TheVariants.{Size, Json, Limit}
 use Rattle.scenario.specs.declared.scenario.FaultPlace.TheVariants.{Top, Switch, Link, Deny, Step}
@@ -66,7 +69,13 @@ abbrev pub Gives : {A : Type 0} → Result A ScenarioFault → Result A Fault �
 Gives (Ok read) said = said ≡ Ok read
 Gives (Err fault) said = IsRefusal fault said
 
+-- a view that a step suspects is within its limit
+abbrev pub HasView : Turn → Type 0
+HasView (turn.Local a (local.Suspect view)) = view ≤ MOST_VIEW
+HasView _ = Unit {0}
+
 -- a setup, and steps of its actors
 pub record IsScenario (scenario : Scenario) : Type 0 where
   pub setup : IsSetup scenario.setup
   pub actors : AllByRecursion (λ t. IsActor scenario.setup (turn_actor t)) scenario.steps
+  pub views : AllByRecursion HasView scenario.steps

@@ -9,12 +9,13 @@ use Rattle.rv_base.specs.declared.journal.Letter.{Letter}
 use Rattle.rv_base.specs.declared.journal.Packet.{Packet}
 use Rattle.rv_base.specs.declared.journal.Turn.{Turn}
 use Rattle.rv_base.specs.declared.journal.Turn.TheVariants as turn
-use Rattle.rv_base.specs.declared.wire.Drawn.{Drawn}
+use Rattle.rv_base.specs.declared.place.PacketPlace.{PacketPlace}
 use Rattle.rv_base.specs.declared.wire.Refused.{Refused}
 use Rattle.rv_base.specs.declared.wire.Wire.{Wire}
 use Rattle.rv_base.specs.Actors.{actor_of}
-use Rattle.rv_base.specs.Answers.{drawn_as, RefusedBy}
+use Rattle.rv_base.specs.Answers.{RefusedBy}
 use Rattle.rv_base.specs.Part.{part}
+use Rattle.rv_base.specs.Places.{IsFound}
 use Rattle.rv_base.specs.Pool.{past, pick}
 use Rattle.rv_base.specs.Turns.{posting, posted, drawn_entry, lost_entry, entry_of, turn_actor, turn_entries}
 use Rattle.rv_base.proofs.All.{all_append}
@@ -22,7 +23,7 @@ use Rattle.switch_board.specs.declared.rule.Known.{Known}
 use Rattle.switch_board.specs.declared.rule.View.{View}
 use Rattle.switch_board.specs.Rule.{IsTrueOf, knowing, holding, has_given}
 use Rattle.switch_board.specs.Places.{place_of, own_of, seen_of, IsFree}
-use Rattle.switch_board.specs.Calls.{beside, Adds, Refuses}
+use Rattle.switch_board.specs.Calls.{beside, Adds, AddsNothing, Refuses}
 use Rattle.switch_board.proofs.Lists.{all_reverse}
 use Rattle.switch_board.proofs.Parts.{AllBy, part-own}
 
@@ -111,22 +112,27 @@ module _ {B : Type 0} where
           ∙ ap (λ l. beside (past (turn (past j))) (past j) ++ l) (sym own_then);
     }
 
+    -- the journal is as it was met
+    pub adds_nothing : (z z' : TableId) → j' ≡ j → AddsNothing (place_of a z v) (place_of a z' w)
+    adds_nothing z z' same = record {
+      own = own_now ∙ ap (λ l. part a (past l)) same ∙ sym own_then;
+      later = (g.true_of.1.0, seen_now ∙ same ∙ g.true_of.1.1 ∙ ap (λ l. l ++ g.true_of.1.0) (sym seen_then));
+    }
+
     -- what a call did not add
     pub refuses : {T : Type 0} (size : B → ℕ) (z z' : TableId) (post : List (Letter B)) (r : Result T (Refused B))
         → IfErr r (λ x. (j' ≡ j) × (x.post ≡ post) × RefusedBy size x.cause post (past j)) → IfErr r (Refuses size (place_of a z v) (place_of a z' w) post)
     refuses size z z' post (Ok x) err = tt
     refuses size z z' post (Err x) err = record {
-      own = own_now ∙ ap (λ l. part a (past l)) err.0 ∙ sym own_then;
-      later = (g.true_of.1.0, seen_now ∙ err.0 ∙ g.true_of.1.1 ∙ ap (λ l. l ++ g.true_of.1.0) (sym seen_then));
+      nothing = adds_nothing z z' err.0;
       back = err.1;
       cause = subst (λ l. RefusedBy size x.cause post (past l)) (sym (seen_now ∙ err.0)) err.2;
     }
 
     -- what a draw or a loss found stands before its input
-    pub answers : {E : Type 0} (size : B → ℕ) (post : List (Letter B)) (step : Turn) (choice : ℕ) (r : Result (Drawn B) E) → turn_actor step ≡ a → OnOk r (j' ≡ j ++ turn_entries size post step (past j))
-        → IfOk r (λ d. d ≡ drawn_as (pick a choice (posted size a post (past j)))) → IfOk r (λ d. d ≡ drawn_as (pick a choice (drop 1 (past (seen_of w.known)))))
-    answers size post step choice (Err x) is ok answer = tt
-    answers size post step choice (Ok d) is ok answer =
-        answer
-        ∙ ap (λ b. drawn_as (pick a choice (posted size b post (past j)))) (sym is)
-        ∙ ap (λ l. drawn_as (pick a choice l)) (sym (before_input size post step j) ∙ ap (λ l. drop 1 (past l)) (sym ok ∙ sym seen_now))
+    pub finds : {E : Type 0} (size : B → ℕ) (post : List (Letter B)) (step : Turn) (choice : ℕ) (r : Result (Option PacketPlace) E) → turn_actor step ≡ a → OnOk r (j' ≡ j ++ turn_entries size post step (past j))
+        → IfOk r (λ found. IsFound j' found (pick a choice (posted size a post (past j)))) → IfOk r (λ found. IsFound (seen_of w.known) found (pick a choice (drop 1 (past (seen_of w.known)))))
+    finds size post step choice (Err x) is ok found = tt
+    finds size post step choice (Ok place) is ok found =
+        let before = ap (λ b. posted size b post (past j)) (sym is) ∙ sym (before_input size post step j) ∙ ap (λ l. drop 1 (past l)) (sym ok ∙ sym seen_now) in
+        subst (λ l. IsFound l place (pick a choice (drop 1 (past (seen_of w.known))))) (sym seen_now) (subst (λ l. IsFound j' place (pick a choice l)) before found)

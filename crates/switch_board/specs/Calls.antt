@@ -24,9 +24,13 @@ pub record Adds {B : Type 0} (p q : PlaceState B) (turn : List (JournalEntry B) 
   pub seen : q.seen ≡ met ++ turn (past met)
   pub own : q.own ≡ beside (past (turn (past met))) (past met) ++ p.own
 
--- Nothing was added, and the letters came back. What the place has seen now is the journal that the call met, which tells the cause and begins with all that the place had seen
-pub record Refuses {B : Type 0} (size : B → ℕ) (p q : PlaceState B) (post : List (Letter B)) (r : Refused B) : Type 0 where
+-- Nothing was added. What the place has seen now is the journal that the call met, which begins with all that the place had seen
+pub record AddsNothing {B : Type 0} (p q : PlaceState B) : Type 0 where
   pub own : q.own ≡ p.own
   pub later : StartsWith q.seen p.seen
+
+-- Nothing was added, and the letters came back. The journal that the call met tells the cause
+pub record Refuses {B : Type 0} (size : B → ℕ) (p q : PlaceState B) (post : List (Letter B)) (r : Refused B) : Type 0 where
+  pub nothing : AddsNothing p q
   pub back : r.post ≡ post
   pub cause : RefusedBy size r.cause post (past q.seen)

@@ -1,12 +1,12 @@
 //! The board.
-ghost use Rattle.std.specs.Prelude.{◌≡◌, ◌<◌, ◌≤◌, ◌++◌, ◌∷◌, [], Some, None, List, IfOk, OnOk, IfErr, All, Contains, map, drop, length, vec_len, vec_capacity};
+ghost use Rattle.std.specs.Prelude.{◌≡◌, ◌<◌, ◌≤◌, ◌++◌, ◌∷◌, [], Some, None, List, IfOk, OnOk, IfErr, IfSome, IsSome, All, Contains, map, drop, length, vec_len, vec_capacity};
 ghost use Rattle.std.specs.List.{IsDistinct};
 ghost use Rattle.std.specs.Mem.Slots.{slots_items, slots_len, IsFull};
 ghost use mathlib.Core.Option.{some};
 ghost use lib.ListN.{get_elem?};
 ghost use Rattle.rv_base.specs.Actors.{same_actor};
-ghost use Rattle.rv_base.specs.Answers.{drawn_as};
 ghost use Rattle.rv_base.specs.Orderly.{IsOrderly};
+ghost use Rattle.rv_base.specs.Places.{packet_at, IsFound};
 ghost use Rattle.rv_base.specs.Pool.{past, pick};
 ghost use Rattle.rv_base.specs.Turns.{posting, turn_entries, IsWithinLimits};
 ghost use Rattle.rv_base.specs.declared.journal.Actor.{Actor as AnActor};
@@ -15,13 +15,13 @@ ghost use Rattle.rv_base.specs.declared.journal.Turn.TheVariants as turn;
 ghost use Rattle.switch_board.specs.declared.rule.Known.{Known};
 ghost use Rattle.switch_board.specs.Rule.{view_of, after_seating, AreNamed};
 ghost use Rattle.switch_board.specs.Places.{fresh, known_of, KnowsEach, IsSamePlace, IsPartOf};
-ghost use Rattle.switch_board.specs.Calls.{Adds, Refuses};
+ghost use Rattle.switch_board.specs.Calls.{Adds, AddsNothing, Refuses};
 
 use crate::hold::{give_wire, take_wire};
 use crate::place::Place;
 use crate::rule::{EndSeat, SeatNext, Slot, View, WireRule, WireSeat, WireTable};
 use atomic_table::{Closed, Table};
-use rv_base::{Actor, Drawn, Letters, Local, Refused, Weight, Wire};
+use rv_base::{Actor, Letters, Local, PacketPlace, Refused, Weight, Wire};
 use std::alloc::{AllocError, Global};
 use std::marker::Model;
 use std::sync::Wait;
@@ -177,7 +177,8 @@ impl<B: Weight> Board<B> {
         answer
     }
 
-    /// Posts, and then draws the packet of a choice, in one exchange. Where `keep`, it stays in the pool.
+    /// Posts, and then draws the packet of a choice, in one exchange, and tells its place. Where `keep`, it
+    /// stays in the pool.
     pub fn draw<R: Wait>(
         &self,
         rt: &R,
@@ -185,11 +186,11 @@ impl<B: Weight> Board<B> {
         post: Letters<B>,
         choice: u64,
         keep: bool,
-    ) -> Result<Drawn<B>, Refused<B>>
+    ) -> Result<Option<PacketPlace>, Refused<B>>
         requires { place.old.board ≡ self.now.id }
         ensures place { IsSamePlace place.old place.new }
         ensures ok { OnOk result (Adds place.old place.new (turn_entries B.size post (turn.Draw place.old.actor choice keep))) }
-        ensures answer { IfOk result (λ d. d ≡ drawn_as (pick place.old.actor choice (drop 1 (past place.new.seen)))) }
+        ensures found { IfOk result (λ found. IsFound place.new.seen found (pick place.old.actor choice (drop 1 (past place.new.seen)))) }
         ensures err { IfErr result (Refuses B.size place.old place.new post) }
     {
         let mut wire = take_wire(rt, &self.table.shared, &mut place.seat);
@@ -199,18 +200,18 @@ impl<B: Weight> Board<B> {
         answer
     }
 
-    /// Posts, and then loses the packet of a choice, in one exchange.
+    /// Posts, and then loses the packet of a choice, in one exchange, and tells its place.
     pub fn lose<R: Wait>(
         &self,
         rt: &R,
         place: &mut Place<B>,
         post: Letters<B>,
         choice: u64,
-    ) -> Result<Drawn<B>, Refused<B>>
+    ) -> Result<Option<PacketPlace>, Refused<B>>
         requires { place.old.board ≡ self.now.id }
         ensures place { IsSamePlace place.old place.new }
         ensures ok { OnOk result (Adds place.old place.new (turn_entries B.size post (turn.Lose place.old.actor choice))) }
-        ensures answer { IfOk result (λ d. d ≡ drawn_as (pick place.old.actor choice (drop 1 (past place.new.seen)))) }
+        ensures found { IfOk result (λ found. IsFound place.new.seen found (pick place.old.actor choice (drop 1 (past place.new.seen)))) }
         ensures err { IfErr result (Refuses B.size place.old place.new post) }
     {
         let mut wire = take_wire(rt, &self.table.shared, &mut place.seat);
@@ -238,6 +239,28 @@ impl<B: Weight> Board<B> {
         wire.lawful();
         give_wire(&self.table.shared, &mut place.seat, wire);
         answer
+    }
+
+    /// A copy of the body of a packet that this place has seen, by an exchange of its own, which adds
+    /// nothing. The body stays there, so after an `Err` the call may be made again.
+    pub fn copy_body<R: Wait>(
+        &self,
+        rt: &R,
+        place: &mut Place<B>,
+        packet: PacketPlace,
+    ) -> Result<B, AllocError>
+        requires board { place.old.board ≡ self.now.id }
+        requires seen { IsSome (packet_at packet place.old.seen) }
+        ensures place { IsSamePlace place.old place.new }
+        ensures nothing { AddsNothing place.old place.new }
+        ensures stays { packet_at packet place.new.seen ≡ packet_at packet place.old.seen }
+        ensures copied { IfOk result (λ body. IfSome (packet_at packet place.old.seen) (λ p. body ≡ p.body)) }
+    {
+        let wire = take_wire(rt, &self.table.shared, &mut place.seat);
+        let copied = wire.body(packet).copy();
+        wire.lawful();
+        give_wire(&self.table.shared, &mut place.seat, wire);
+        copied
     }
 
     /// Ends the board, with all its places, and gives the wire. It takes no memory.

@@ -1,10 +1,11 @@
-ghost use Rattle.std.specs.Prelude.{◌≡◌, ◌∷◌, [], IfOk};
+ghost use Rattle.std.specs.Prelude.{◌≡◌, ◌∷◌, [], IfOk, IfSome, IsSome};
+ghost use Rattle.rv_base.specs.Places.{packet_at};
 ghost use Rattle.rv_base.specs.declared.journal.Actor.TheVariants as actor;
 ghost use Rattle.switch_board.specs.Places.{fresh, IsSamePlace};
 
 use crate::{Board, Place};
 use of_types::{Items, Octets};
-use rv_base::{Actor, Drawn, JournalEntry, Letter, Letters, Local, Stop, Weight, Wire};
+use rv_base::{Actor, JournalEntry, Letter, Letters, Local, PacketPlace, Stop, Weight, Wire};
 use std::alloc::{AllocError, Global};
 use std::sync::Wait;
 use std::sync::atomic::{AtomicU64, Ordering};
@@ -48,30 +49,69 @@ fn one_letter<B: Drop>(alloc: Global, to: Actor, body: B) -> Result<Letters<B>, 
     Ok(letters)
 }
 
+/// A copy of the body of a packet. Where there was no memory, the call is made once more.
+fn copy_again<B: Weight, R: Wait>(
+    rt: &R,
+    board: &Board<B>,
+    place: &mut Place<B>,
+    packet: PacketPlace,
+) -> Result<B, AllocError>
+    requires board { place.old.board ≡ board.now.id }
+    requires seen { IsSome (packet_at packet place.old.seen) }
+    ensures place { IsSamePlace place.old place.new }
+    ensures copied { IfOk result (λ body. IfSome (packet_at packet place.old.seen) (λ p. body ≡ p.body)) }
+{
+    match board.copy_body(rt, place, packet) {
+        Ok(body) => Ok(body),
+        Err(_) => board.copy_body(rt, place, packet),
+    }
+}
+
+/// Posts an outbox and draws, and tells the packet that was found, with its body.
+fn reads<R: Wait>(
+    rt: &R,
+    board: &Board<Octets>,
+    place: &mut Place<Octets>,
+    post: Letters<Octets>,
+    keep: bool,
+) -> Result<Option<(PacketPlace, Octets)>, AllocError>
+    requires { place.old.board ≡ board.now.id }
+    ensures { IsSamePlace place.old place.new }
+{
+    match board.draw(rt, place, post, 7, keep) {
+        Ok(Some(packet)) => {
+            let body = copy_again(rt, board, place, packet)?;
+            Ok(Some((packet, body)))
+        }
+        Ok(None) => Ok(None),
+        Err(_) => Err(AllocError),
+    }
+}
+
 #[test]
 fn a_letter_is_read_back(rt: HostRuntime) -> Result<(), Fail> {
     let alloc = rt.alloc();
     let (board, mut controller, mut switch) = board_of_two(alloc)?;
     let body = Octets::from_slice(alloc, b"hello")?;
     let post = one_letter(alloc, Actor::Switch(0), body)?;
-    let nothing = board.draw(&rt, &mut switch, Items::new(alloc), 0, false);
+    let nothing = reads(&rt, &board, &mut switch, Items::new(alloc), false);
     let posted = board.post(&rt, &mut controller, post);
-    let read = board.draw(&rt, &mut switch, Items::new(alloc), 7, true);
+    let read = reads(&rt, &board, &mut switch, Items::new(alloc), true);
     let lost = board.lose(&rt, &mut switch, Items::new(alloc), 3);
     let ticked = board.local(&rt, &mut controller, Items::new(alloc), Local::Tick);
-    assert!(rt; matches!(&nothing, Ok(Drawn::Nothing)));
+    assert!(rt; matches!(&nothing, Ok(None)));
     assert!(rt; posted.is_ok() && ticked.is_ok());
     assert!(rt;
-        matches!(&read, Ok(Drawn::Got(packet)) if packet.from.is(Actor::Controller(0)) && packet.body.as_slice() == b"hello".as_slice())
+        matches!(&read, Ok(Some((packet, body))) if packet.from.is(Actor::Controller(0)) && body.as_slice() == b"hello".as_slice())
     );
-    assert!(rt; matches!(&lost, Ok(Drawn::Got(packet)) if packet.id == 0));
+    assert!(rt; matches!(&lost, Ok(Some(packet)) if packet.id == 0));
     assert_eq!(rt;
         (controller.actor(), switch.actor()),
         (Actor::Controller(0), Actor::Switch(0))
     );
     let wire = close_two(board, controller, switch, alloc)?;
     assert!(rt; are_of_kinds(wire.entries(), b"IPDLT"));
-    assert!(rt; wire.pool().is_empty());
+    assert!(rt; wire.first().is_none());
     Ok(())
 }
 
@@ -164,17 +204,28 @@ fn sees(flag: &AtomicU64) -> bool {
     false
 }
 
-/// Draws again and again, and tells whether no draw was refused.
-fn draws<R: Wait>(rt: &R, alloc: Global, board: &Board<Octets>, place: &mut Place<Octets>) -> bool
+/// Posts a letter and draws, again and again, and tells whether each body that was found is that of
+/// these letters.
+fn draws<R: Wait>(
+    rt: &R,
+    alloc: Global,
+    board: &Board<Octets>,
+    place: &mut Place<Octets>,
+    to: Actor,
+) -> Result<bool, AllocError>
     requires { place.old.board ≡ board.now.id }
     ensures { IsSamePlace place.old place.new }
 {
     for _ in 0..TURNS {
-        if board.draw(rt, place, Items::new(alloc), 0, false).is_err() {
-            return false;
+        let body = Octets::from_slice(alloc, b"hello")?;
+        let post = one_letter(alloc, to, body)?;
+        if let Some((_, body)) = reads(rt, board, place, post, false)?
+            && body.as_slice() != b"hello".as_slice()
+        {
+            return Ok(false);
         }
     }
-    true
+    Ok(true)
 }
 
 /// Draws, raises a flag, looks for the other's, and draws.
@@ -183,17 +234,21 @@ fn meets<R: Wait>(
     alloc: Global,
     board: &Board<Octets>,
     mut place: Place<Octets>,
+    to: Actor,
     mine: &AtomicU64,
     theirs: &AtomicU64,
 ) -> (bool, Place<Octets>)
     requires { place.board ≡ board.now.id }
     ensures { IsSamePlace place result.1 }
 {
-    let before = draws(rt, alloc, board, &mut place);
+    let before = draws(rt, alloc, board, &mut place, to);
     mine.store(1, Ordering::SeqCst);
     let seen = sees(theirs);
-    let after = draws(rt, alloc, board, &mut place);
-    (before && seen && after, place)
+    let after = draws(rt, alloc, board, &mut place, to);
+    (
+        matches!((before, after), (Ok(true), Ok(true))) && seen,
+        place,
+    )
 }
 
 #[test]
@@ -203,11 +258,11 @@ fn two_threads_meet(rt: HostRuntime) -> Result<(), Fail> {
     let (a, b) = (AtomicU64::new(0), AtomicU64::new(0));
     let (first, second) = thread::join(
         &rt,
-        || meets(&rt, alloc, &board, controller, &a, &b),
-        || meets(&rt, alloc, &board, switch, &b, &a),
+        || meets(&rt, alloc, &board, controller, Actor::Switch(0), &a, &b),
+        || meets(&rt, alloc, &board, switch, Actor::Controller(0), &b, &a),
     );
     assert!(rt; first.0 && second.0);
     let wire = close_two(board, first.1, second.1, alloc)?;
-    assert_eq!(rt; wire.entries().len(), 4 * TURNS);
+    assert_eq!(rt; wire.entries().len(), 8 * TURNS);
     Ok(())
 }

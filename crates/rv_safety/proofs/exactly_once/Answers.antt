@@ -1,6 +1,5 @@
-use Rattle.std.proofs.Common.{[]}
-use Rattle.rv_safety.proofs.OneController.{one_once}
+use Rattle.rv_laws.proofs.Laws.{once_law}
 use Rattle.rv_safety.proofs.exactly_once.Goals as goal
 
 pub returns : goal.returns
-returns g c = one_once _ [] c.requires.one g.met.B.Body.unsealed _ c.grounds.ensures.legal c.grounds.ensures.bytes
+returns g c = λ kinds h. once_law _ _ _ h.run.setup g.met.B.Body.faithful h.run.legal.possible

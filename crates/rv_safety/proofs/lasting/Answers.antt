@@ -1,6 +1,5 @@
-use Rattle.std.proofs.Common.{[]}
-use Rattle.rv_safety.proofs.Decided.{lasts}
+use Rattle.rv_laws.proofs.Laws.{lasting_law}
 use Rattle.rv_safety.proofs.lasting.Goals as goal
 
 pub returns : goal.returns
-returns g c = lasts _ [] c.requires.one _
+returns g c = λ kinds h. lasting_law _ _ _ h.run.setup g.met.B.Body.faithful h.run.legal.possible

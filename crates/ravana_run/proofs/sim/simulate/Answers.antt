@@ -1,5 +1,62 @@
-use Rattle.ravana_run.proofs.Played.{playable}
+use Rattle.std.proofs.Common.{◌≡◌, List, ℕ, refl, sym, ◌∙◌, ap, subst}
+use Rattle.std.specs.List.{AllByRecursion}
+use Rattle.of_types.specs.declared.setup.Setup.{Setup}
+use Rattle.rv_base.specs.declared.journal.Turn.{Turn}
+use Rattle.rv_base.specs.Actors.{IsActor}
+use Rattle.rv_base.specs.Turns.{turn_actor}
+use Rattle.group_controller.specs.Turns.{Controls}
+use Rattle.rv_world.specs.World.{scene_in}
+use Rattle.ravana_run.specs.Play.{told_text}
+use Rattle.ravana_run.proofs.Ran.{ends_closed, ends_stopped, fresh_pairs, script_within, typed}
+use Rattle.playing.specs.Played.{StepSuspectsUpTo}
+use Rattle.ravana_run.proofs.Playing.{views_up_to}
 use Rattle.ravana_run.proofs.sim.simulate.Goals as goal
 
-pub play_in-requires-clause-playable : goal.play_in-requires-clause-playable
-play_in-requires-clause-playable c = playable c.args.scenario.now c.requires.is c.requires.played
+pub play-ended-requires-clause-holds : goal.play-ended-requires-clause-holds
+play-ended-requires-clause-holds g c = (c.requires.stocked.0, c.in_ok-world.ensures.holds c.requires.stocked.0 c.requires.stocked.1)
+
+pub play-ended-requires-clause-pairs : goal.play-ended-requires-clause-pairs
+play-ended-requires-clause-pairs g c =
+    let controls = Controls g.A.App.kinds g.A.App.most g.A.App.states g.A.App.suits in
+    fresh_pairs controls g.W.Stable.pair c.args.stables.now c.args.scenario.now.setup c.in_ok-world.world c.requires.stocked.0 c.requires.fresh c.in_ok-world.ensures.starts
+    (c.in_ok-world.ensures.holds c.requires.stocked.0 c.requires.stocked.1)
+
+pub play-ended-requires-clause-named : goal.play-ended-requires-clause-named
+play-ended-requires-clause-named g c =
+    subst (λ (l : List Turn). AllByRecursion (λ t. IsActor c.in_ok-world.world.setup (turn_actor t)) l) (sym c.as_slice.ensures)
+    (subst (λ (s : Setup). AllByRecursion (λ t. IsActor s (turn_actor t)) c.args.scenario.now.steps) (sym c.in_ok-world.ensures.starts.setup_is) c.requires.is.actors)
+
+pub rested-requires : goal.rested-requires
+rested-requires g c =
+    let kinds = c.requires.stocked.0 in
+    let holds = c.in_ok-world.ensures.holds kinds c.requires.stocked.1 in
+    script_within (scene_in typed c.in_ok-world.world kinds) c.as_slice.result.now c.play-ended.new.world c.play-ended.result c.in-Ok.closed c.in-Ok.script c.in-Ok.is (c.play-ended.ensures.played kinds holds)
+
+pub returns-in-Ok : goal.returns-in-Ok
+returns-in-Ok g c =
+    let controls = Controls g.A.App.kinds g.A.App.most g.A.App.states g.A.App.suits in
+    let scenario = c.args.scenario.now in
+    let start = c.in_ok-world.world in
+    let starts = c.in_ok-world.ensures.starts in
+    λ kinds stocked.
+    let holds = c.in_ok-world.ensures.holds kinds stocked in
+    ends_closed controls g.W.Stable.pair g.W.Stable.faults scenario kinds start c.args.stables.now c.play-ended.new.world c.play-ended.new.stables starts holds
+    (fresh_pairs controls g.W.Stable.pair c.args.stables.now scenario.setup start kinds c.requires.fresh starts holds) c.lawful.ensures.within c.as_slice.result.now c.as_slice.ensures
+    c.play-ended.result c.in-Ok.closed c.in-Ok.script (told_text c.args.output) c.len.result c.rested.result c.in-Ok.is c.len.ensures
+    c.play-ended.ensures.keeps (c.play-ended.ensures.played kinds holds) c.play-ended.ensures.up c.rested.ensures
+
+pub returns : goal.returns
+returns g c =
+    let controls = Controls g.A.App.kinds g.A.App.most g.A.App.states g.A.App.suits in
+    let scenario = c.args.scenario.now in
+    let start = c.in_ok-world.world in
+    let starts = c.in_ok-world.ensures.starts in
+    λ kinds stocked.
+    let holds = c.in_ok-world.ensures.holds kinds stocked in
+    ends_stopped controls g.W.Stable.pair g.W.Stable.faults scenario kinds start c.args.stables.now c.play-ended.new.world c.play-ended.new.stables starts holds
+    (fresh_pairs controls g.W.Stable.pair c.args.stables.now scenario.setup start kinds c.requires.fresh starts holds) c.lawful.ensures.within c.as_slice.result.now c.as_slice.ensures
+    c.play-ended.result c.in-Err.stop (told_text c.args.output) c.stopped.result c.in-Err.is c.play-ended.ensures.keeps (c.play-ended.ensures.stops kinds holds) c.stopped.ensures
+
+pub play-ended-requires-clause-views : goal.play-ended-requires-clause-views
+play-ended-requires-clause-views g c =
+    subst (λ (l : List Turn). AllByRecursion (λ t. StepSuspectsUpTo 4000000000 t) l) (sym c.as_slice.ensures) (views_up_to c.args.scenario.now.steps c.requires.is.views)

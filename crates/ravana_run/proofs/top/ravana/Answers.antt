@@ -2,39 +2,49 @@ use Rattle.std.proofs.Common.{sym, ◌∙◌, refl, arith}
 use Rattle.ravana_run.proofs.Complete.{complete}
 use Rattle.ravana_run.proofs.Endings.{in_range}
 use Rattle.ravana_run.proofs.Tellings.{served, cut, nothing}
+use Rattle.ravana_run.specs.Runs.{StablesTell}
 use Rattle.ravana_run.proofs.top.ravana.Goals as goal
 
 pub returns-in_default-clause-answer : goal.returns-in_default-clause-answer
-returns-in_default-clause-answer g c = nothing _ _ _ _ _ _
+returns-in_default-clause-answer g c = λ kinds chains. nothing kinds (StablesTell g.W.Stable.pair g.W.Stable.faults c.args.stables.now c.outcome.new.stables) _ _ _ _ _ _
 
 pub returns-in_default-clause-audit : goal.returns-in_default-clause-audit
 returns-in_default-clause-audit g c = λ _. (4, omega arith, refl)
 
 pub returns-in_default-clause-complete : goal.returns-in_default-clause-complete
-returns-in_default-clause-complete g c = complete _ _ _ _ _ _ _ _ (nothing _ _ _ _ _ _)
+returns-in_default-clause-complete g c =
+    let kinds = c.requires.chains.0 in
+    let saves = StablesTell g.W.Stable.pair g.W.Stable.faults c.args.stables.now c.outcome.new.stables in
+    complete kinds saves _ _ _ _ _ _ _ _ (nothing kinds saves _ _ _ _ _ _)
 
 pub returns-in_default-clause-range : goal.returns-in_default-clause-range
 returns-in_default-clause-range g c = (5, omega arith, refl)
 
 pub returns-in_default-into_text-clause-answer : goal.returns-in_default-into_text-clause-answer
-returns-in_default-into_text-clause-answer g c = nothing _ _ _ _ _ _
+returns-in_default-into_text-clause-answer g c = λ kinds chains. nothing kinds (StablesTell g.W.Stable.pair g.W.Stable.faults c.args.stables.now c.outcome.new.stables) _ _ _ _ _ _
 
 pub returns-in_default-into_text-clause-audit : goal.returns-in_default-into_text-clause-audit
 returns-in_default-into_text-clause-audit g c = λ _. (4, omega arith, refl)
 
 pub returns-in_default-into_text-clause-complete : goal.returns-in_default-into_text-clause-complete
-returns-in_default-into_text-clause-complete g c = complete _ _ _ _ _ _ _ _ (nothing _ _ _ _ _ _)
+returns-in_default-into_text-clause-complete g c =
+    let kinds = c.requires.chains.0 in
+    let saves = StablesTell g.W.Stable.pair g.W.Stable.faults c.args.stables.now c.outcome.new.stables in
+    complete kinds saves _ _ _ _ _ _ _ _ (nothing kinds saves _ _ _ _ _ _)
 
 pub returns-in_default-into_text-clause-range : goal.returns-in_default-into_text-clause-range
 returns-in_default-into_text-clause-range g c = (5, omega arith, refl)
 
 pub returns-in-Ok-write_all-clause-answer : goal.returns-in-Ok-write_all-clause-answer
 returns-in-Ok-write_all-clause-answer g c =
-    rw c.status-status.ensures (served _ _ _ _ _ _ _ c.in-Ok.ending _ c.in-Ok.ensures.cause (c.as_slice.ensures ∙ c.in-Ok-into_text.ensures.ok) c.in-Ok-write_all.ensures.ok)
+    let saves = StablesTell g.W.Stable.pair g.W.Stable.faults c.args.stables.now c.outcome.new.stables in
+    λ kinds chains. rw c.status-status.ensures (served kinds saves _ _ _ _ _ _ _ c.in-Ok.ending _ (c.in-Ok.ensures.cause kinds chains) (c.as_slice.ensures ∙ c.in-Ok-into_text.ensures.ok) c.in-Ok-write_all.ensures.ok)
 
 pub returns-in-Ok-write_all-clause-complete : goal.returns-in-Ok-write_all-clause-complete
 returns-in-Ok-write_all-clause-complete g c =
-    rw c.status-status.ensures (complete _ _ _ _ _ _ _ _ (served _ _ _ _ _ _ _ c.in-Ok.ending _ c.in-Ok.ensures.cause (c.as_slice.ensures ∙ c.in-Ok-into_text.ensures.ok) c.in-Ok-write_all.ensures.ok))
+    let kinds = c.requires.chains.0 in
+    let saves = StablesTell g.W.Stable.pair g.W.Stable.faults c.args.stables.now c.outcome.new.stables in
+    rw c.status-status.ensures (complete kinds saves _ _ _ _ _ _ _ _ (served kinds saves _ _ _ _ _ _ _ c.in-Ok.ending _ (c.in-Ok.ensures.cause kinds c.requires.chains.1) (c.as_slice.ensures ∙ c.in-Ok-into_text.ensures.ok) c.in-Ok-write_all.ensures.ok))
 
 pub returns-in-Ok-write_all-clause-audit : goal.returns-in-Ok-write_all-clause-audit
 returns-in-Ok-write_all-clause-audit g c = λ is. rw c.status-status.ensures (c.in-Ok.ensures.told.audit is)
@@ -53,11 +63,14 @@ returns-in-Ok-write_all-clause-range g c = rw c.status-status.ensures (in_range 
 
 pub returns-clause-answer : goal.returns-clause-answer
 returns-clause-answer g c =
-    cut _ _ _ _ _ _ _ c.in-Ok.ending _ c.in-Ok.ensures.cause (c.as_slice.ensures ∙ c.in-Ok-into_text.ensures.ok) c.in-Err.ensures.cause.failed c.in-Err.ensures.err
+    let saves = StablesTell g.W.Stable.pair g.W.Stable.faults c.args.stables.now c.outcome.new.stables in
+    λ kinds chains. cut kinds saves _ _ _ _ _ _ _ c.in-Ok.ending _ (c.in-Ok.ensures.cause kinds chains) (c.as_slice.ensures ∙ c.in-Ok-into_text.ensures.ok) c.in-Err.ensures.cause.failed c.in-Err.ensures.err
 
 pub returns-clause-complete : goal.returns-clause-complete
 returns-clause-complete g c =
-    complete _ _ _ _ _ _ _ _ (cut _ _ _ _ _ _ _ c.in-Ok.ending _ c.in-Ok.ensures.cause (c.as_slice.ensures ∙ c.in-Ok-into_text.ensures.ok) c.in-Err.ensures.cause.failed c.in-Err.ensures.err)
+    let kinds = c.requires.chains.0 in
+    let saves = StablesTell g.W.Stable.pair g.W.Stable.faults c.args.stables.now c.outcome.new.stables in
+    complete kinds saves _ _ _ _ _ _ _ _ (cut kinds saves _ _ _ _ _ _ _ c.in-Ok.ending _ (c.in-Ok.ensures.cause kinds c.requires.chains.1) (c.as_slice.ensures ∙ c.in-Ok-into_text.ensures.ok) c.in-Err.ensures.cause.failed c.in-Err.ensures.err)
 
 pub returns-clause-audit : goal.returns-clause-audit
 returns-clause-audit g c = λ _. (3, omega arith, refl)

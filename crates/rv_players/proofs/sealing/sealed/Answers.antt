@@ -3,7 +3,7 @@ use Rattle.rv_players.proofs.Letters.{seals_more, seals_all, some_step, none_ste
 use Rattle.rv_players.proofs.sealing.sealed.Goals as goal
 
 pub loop-letter-init : goal.loop-letter-init
-loop-letter-init g c = (c.new-sealed.ensures, tt, c.into_iter-letter-iterator.ensures.into_iter_gives.0 ∙ c.into_vec-letter-items.ensures)
+loop-letter-init g c = (c.from_vec-sealed.ensures ∙ c.in_ok-with_capacity.ensures.items, tt, c.into_iter-letter-iterator.ensures.into_iter_gives.0 ∙ c.into_vec-letters.ensures)
 
 pub loop-letter-preserved : goal.loop-letter-preserved
 loop-letter-preserved g c =

@@ -1,14 +1,20 @@
-use Rattle.std.proofs.Common.{◌≡◌, sym, ◌∙◌, ap, subst, true}
-use Rattle.std.proofs.lemmas.Option.{slice_get_within}
-use Rattle.rv_base.proofs.Lists.{past-push}
+use Rattle.std.proofs.Common.{sym, subst}
 use Rattle.rv_base.specs.Actors.{IsActor}
-use Rattle.rv_world.proofs.Worlds.{IsWorld-lost}
+use Rattle.group_controller.specs.Turns.{Controls}
+use Rattle.rv_world.specs.World.{sealing_by}
+use Rattle.rv_world.proofs.Drawing.{loss_steps}
+use Rattle.rv_world.proofs.Viewing.{seen}
 use Rattle.rv_world.proofs.world.World.lose.Goals as goal
+use Rattle.rv_world.proofs.world.World.lose.Goals.{in-Ok, in-Err}
 
-pub invariant_of-self-2 : goal.invariant_of-self-2
-invariant_of-self-2 g c =
-    let w = c.self.invariant (ap (λ v. v.whole) c.self.view_is ∙ c.requires.whole) in
-    let there = subst (λ v. IsActor v.setup c.args.actor) (sym c.self.view_is) c.requires.named in
-    let rests = ap (λ v. v.owes) c.self.view_is ∙ c.requires.rests in
-    let orderly = rw (c.in_ok-lose.ensures.entry, past-push) at c.lawful.ensures.orderly in
-    λ _. rw (c.in_ok-lose.ensures.entry, past-push) (IsWorld-lost _ _ _ _ _ _ _ w rests there orderly)
+pub returns : goal.returns
+returns g c =
+    let controls = Controls g.A.App.kinds g.A.App.most g.A.App.states g.A.App.suits in
+    let sealing = sealing_by g.B.Body.sealed g.B.Body.spelled g.B.Weight.size in
+    let s = seen controls g.W.Stable.pair sealing _ c.args.self.now c.args.stables.now c.self.view_is c.requires.rests c.requires.holds c.requires.pairs in
+    let named = subst (λ z. IsActor z.setup c.args.actor) (sym c.self.view_is) c.requires.named in
+    elim c.match-lose.branch [
+      | in-Ok w ↦ rw (w.result-is, ← c.self.view_is) (loss_steps controls g.W.Stable.pair g.W.Stable.faults sealing g.met.B.Body.faithful _ c.args.stables.now s.rests s.some s.stand c.lose.new.self c.new.result c.new.ensures c.args.actor c.args.choice
+          w.in-Ok.ensures.ok w.lawful.ensures.orderly named)
+      | in-Err w ↦ rw w.result-is tt
+    ]

@@ -1,9 +1,19 @@
-use Rattle.std.proofs.Common.{◌≡◌, ◌∙◌, ap}
-use Rattle.rv_world.specs.World.{starting_switches}
-use Rattle.rv_world.proofs.Starts.{IsWorld-starts}
+use Rattle.std.proofs.Common.{refl}
+use Rattle.group_controller.specs.Turns.{Controls}
+use Rattle.rv_world.specs.World.{sealing_by}
+use Rattle.rv_world.proofs.Starts.{starts_pairs, world_holds}
 use Rattle.rv_world.proofs.world.World.new.Goals as goal
 
-pub invariant_of-result : goal.invariant_of-result
-invariant_of-result g c =
-    λ _. rw (c.in_ok-setup.ensures, c.new.ensures)
-    (IsWorld-starts _ _ _ c.requires c.in_ok-controllers.ensures (c.in_ok-switches.ensures ∙ ap (λ ports. starting_switches 0 ports) c.as_slice.ensures))
+pub returns-clause-starts : goal.returns-clause-starts
+returns-clause-starts g c = record {
+  setup_is = c.in_ok-copy.ensures;
+  journal = c.new.ensures;
+  rests = refl;
+  undecided = c.new-2.ensures.items;
+  pairs = starts_pairs (Controls g.A.App.kinds g.A.App.most g.A.App.states g.A.App.suits) c.args.setup.now c.requires.stocked.0 c.args.setup.now.controllers c.in_ok-controllers_of.field-0.items (c.in_ok-controllers_of.ensures c.requires.stocked.0 c.requires.stocked.1);
+}
+
+pub returns-clause-holds : goal.returns-clause-holds
+returns-clause-holds g c = λ kinds stocked.
+    world_holds (Controls g.A.App.kinds g.A.App.most g.A.App.states g.A.App.suits) (sealing_by g.B.Body.sealed g.B.Body.spelled g.B.Weight.size) kinds _ c.args.setup.now c.in_ok-copy.ensures c.new.ensures refl c.new-2.ensures.items
+    c.requires.setup (c.in_ok-controllers_of.ensures kinds stocked) c.in_ok-switches_of.ensures

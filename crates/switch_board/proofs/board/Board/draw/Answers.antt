@@ -1,7 +1,7 @@
 use Rattle.std.proofs.Common.{ap, ◌∙◌, refl}
 use Rattle.rv_base.specs.declared.journal.Turn.TheVariants as turn
 use Rattle.rv_base.specs.Turns.{turn_entries}
-use Rattle.switch_board.proofs.Turns.{by_turn, grows, gave_back, adds, refuses, answers}
+use Rattle.switch_board.proofs.Turns.{by_turn, grows, gave_back, adds, refuses, finds}
 use Rattle.switch_board.proofs.board.Board.draw.Goals as goal
 
 pub give_wire-requires-clause-grown : goal.give_wire-requires-clause-grown
@@ -28,13 +28,13 @@ returns-clause-ok g c =
     let given = gave_back c.place.inside.actor _ c.draw-answer.new.self _ c.place.inside.seat.me _ c.give_wire.new.seat.me _ free refl (c.take_wire-wire.ensures.known _ free) c.take_wire-wire.ensures.me c.give_wire.ensures.me in
     rw (← c.place.view_is) (adds _ _ _ _ _ given c.place.inside.seat.table_id c.give_wire.new.seat.table_id (turn_entries size c.args.post step) c.draw-answer.result (by_turn size c.args.post step _) c.draw-answer.ensures.ok)
 
-pub returns-clause-answer : goal.returns-clause-answer
-returns-clause-answer g c =
+pub returns-clause-found : goal.returns-clause-found
+returns-clause-found g c =
     let size = g.B.Weight.size in
     let step = turn.Draw c.place.inside.actor c.args.choice c.args.keep in
     let free = c.place.invariant.0 in
     let given = gave_back c.place.inside.actor _ c.draw-answer.new.self _ c.place.inside.seat.me _ c.give_wire.new.seat.me _ free refl (c.take_wire-wire.ensures.known _ free) c.take_wire-wire.ensures.me c.give_wire.ensures.me in
-    rw (← c.place.view_is) (answers _ _ _ _ _ given size c.args.post step c.args.choice c.draw-answer.result refl c.draw-answer.ensures.ok c.draw-answer.ensures.answer)
+    rw (← c.place.view_is) (finds _ _ _ _ _ given size c.args.post step c.args.choice c.draw-answer.result refl c.draw-answer.ensures.ok c.draw-answer.ensures.found)
 
 pub returns-clause-err : goal.returns-clause-err
 returns-clause-err g c =

@@ -1,0 +1,162 @@
+-- What a turn of a world leads a closing to, however it ended, and parts of a closing one after another.
+use Rattle.std.proofs.Common.{◌≡◌, ◌≤◌, ◌<◌, inl, inr, ℕ, ◌+◌, ◌-◌, Bool, true, false, not, List, [], ◌∷◌, ◌++◌, length, take, zero, suc, refl, sym, ◌∙◌, ap, subst, arith, length-append}
+use Rattle.std.specs.Prelude.{nat_eq, filter, reverse, Option, Some, None, OnOk, IfErr, Result, Ok, Err, if◌then◌else◌}
+use Rattle.std.proofs.lemmas.Bool.{eq-eqb}
+use Rattle.of_types.specs.declared.setup.Setup.{Setup}
+use Rattle.rv_base.specs.declared.journal.Actor.{Actor}
+use Rattle.rv_base.specs.declared.journal.JournalEntry.{JournalEntry}
+use Rattle.rv_base.specs.declared.journal.Letter.{Letter}
+use Rattle.rv_base.specs.declared.journal.Packet.{Packet}
+use Rattle.rv_base.specs.declared.journal.Turn.{Turn}
+use Rattle.rv_base.specs.declared.place.PacketPlace.{PacketPlace}
+use Rattle.rv_base.specs.declared.wire.Stop.{Stop}
+use Rattle.rv_base.specs.declared.wire.Stop.TheVariants.{OutOfMemory, JournalFull}
+use Rattle.rv_base.specs.Actors.{actor_of, is_input, IsActor}
+use Rattle.rv_base.specs.Limits.{letters_limit}
+use Rattle.rv_base.specs.Pool.{past, pool, without, numbered, fitting, letters_posted}
+use Rattle.rv_base.specs.Turns.{entry_of, turn_actor}
+use Rattle.group_controller.specs.Turns.{Controlling}
+use Rattle.rv_runs.specs.States.{Sealing}
+use Rattle.rv_runs.specs.Schedule.{Phase}
+use Rattle.rv_world.specs.declared.debt.Debt.{Debt}
+use Rattle.rv_world.specs.World.{Applies, Holds, IfMemory, IsStuck, Keeps, PairsStand, TurnStops, Worlding, scene_in}
+use Rattle.rv_laws.specs.Laws.{EntrySuspectsUpTo, IsSuspectedUpTo}
+use Rattle.closing.specs.Closing.{ClosesIn, Leads, Rests, Stage, StandsAt, work_left}
+use Rattle.closing.proofs.Worlds.{Runs}
+use Rattle.closing.proofs.Turned.{PostsOf, No_post, One_post, Added, added, added_alone, Turned, more_told, past_added}
+use Rattle.closing.proofs.Moves.{First}
+
+-- something is owed
+abbrev IsOwing : {X : Type 0} → Option X → Type 0
+IsOwing None = ⊥
+IsOwing (Some x) = Unit {0}
+
+-- the scene of a world whose setup is another's
+pub runs_again : {B A : Type 0} (controls : Controlling A → List ℕ → Type 0) (sealing : Sealing B) (old new : Worlding B A) (kinds : List ℕ) → new.setup ≡ old.setup → Holds controls sealing new kinds →
+    Runs controls (scene_in sealing old kinds) new
+runs_again controls sealing old new kinds same holds = subst (λ (s : Setup). Runs controls (record { setup = s; kinds = kinds; sealing = sealing }) new) same holds.run
+
+module _ {B A W : Type 0} (controls : Controlling A → List ℕ → Type 0) (pair : W → ℕ × ℕ) (faults : W → ℕ) (sealing : Sealing B)
+    (old : Worlding B A) (stables : List W) (new : Worlding B A) (stables_after : List W) (step : Turn) (e : JournalEntry B)
+    (rested : old.owed ≡ None) (pairs : PairsStand pair stables old.controllers)
+    (is : entry_of step (past old.journal) ≡ e) (mine : turn_actor step ≡ actor_of e) (named : IsActor old.setup (actor_of e)) (input : is_input e ≡ true) where
+  pub turned_by : (kinds : List ℕ) → Holds controls sealing old kinds → Keeps controls pair faults sealing old stables new stables_after → Added step old new → Turned controls (scene_in sealing old kinds) e old new
+  turned_by kinds holds k a = record {
+    was = holds.run;
+    is = runs_again controls sealing old new kinds k.setup (k.holds kinds holds);
+    more = more_told controls (scene_in sealing old kinds) pair faults old new stables stables_after holds.run pairs k.told;
+    rested = rested;
+    named = named;
+    input = input;
+    posts = a.posts;
+    grown = a.grown ∙ ap (λ x. old.journal ++ x ∷ a.posts) is;
+    of = subst (λ x. PostsOf x a.posts) mine a.of;
+  }
+
+  -- a turn that was taken
+  pub turned : (kinds : List ℕ) → Holds controls sealing old kinds → Keeps controls pair faults sealing old stables new stables_after → Applies sealing.size step old new →
+      Turned controls (scene_in sealing old kinds) e old new
+  turned kinds holds k t = turned_by kinds holds k (added sealing.size step old new rested t)
+
+  -- and one that was cut short
+  abbrev pub Cuts : Stage B A → Type 0
+  Cuts first = (kinds : List ℕ) → Turned controls (scene_in sealing old kinds) e old new → (start : Worlding B A) → first (scene_in sealing old kinds) start old →
+      (phase : Phase) × ClosesIn phase (scene_in sealing old kinds) start new
+
+  never_stuck : (bytes letters : ℕ) → IsStuck sealing.size new bytes letters → new ≡ old → ⊥
+  never_stuck bytes letters stuck same = subst (λ o. IsOwing o) (ap (λ w. w.owed) same ∙ rested) (by_owed new.owed refl)
+    where
+      by_owed : (o : Option (Debt B)) → new.owed ≡ o → IsOwing o
+      by_owed None is = absurd (rw is at stuck)
+      by_owed (Some d) is = tt
+
+  pub stop_leads : {T : Type 0} (first : Stage B A) (next : T → Stage B A) → Cuts first → (stop : Stop) → IfMemory {T = T} (Err stop) (Keeps controls pair faults sealing old stables new stables_after) →
+      TurnStops sealing.size step old new stop → Leads controls sealing first (StandsAt next (Err stop)) old new
+  stop_leads first next cuts OutOfMemory k stops kinds holds start c = tt
+  stop_leads first next cuts (JournalFull bytes letters) k (stuck, inl same) kinds holds start c = absurd (never_stuck bytes letters stuck same)
+  stop_leads first next cuts (JournalFull bytes letters) k (stuck, inr grown) kinds holds start c =
+      let cut = cuts kinds (turned_by kinds holds k (added_alone sealing.size step old new rested grown)) start c in
+      record { phase = cut.0; closes = cut.1; stuck = stuck }
+
+  -- both
+  pub turn_leads : {T : Type 0} (first : Stage B A) (next : T → Stage B A) → Cuts first →
+      ((x : T) (kinds : List ℕ) → Turned controls (scene_in sealing old kinds) e old new → (start : Worlding B A) → first (scene_in sealing old kinds) start old → next x (scene_in sealing old kinds) start new) →
+      (result : Result T Stop) → OnOk result (Applies sealing.size step old new) → IfMemory result (Keeps controls pair faults sealing old stables new stables_after) →
+      IfErr result (λ stop. TurnStops sealing.size step old new stop) → Leads controls sealing first (StandsAt next result) old new
+  turn_leads first next cuts goes (Ok x) t k stops kinds holds start c = goes x kinds (turned kinds holds k t) start c
+  turn_leads first next cuts goes (Err OutOfMemory) t k stops kinds holds start c = tt
+  turn_leads first next cuts goes (Err (JournalFull bytes letters)) t k stops kinds holds start c = stop_leads first next cuts (JournalFull bytes letters) k stops kinds holds start c
+
+  -- no view above those of before, and above that of the turn, was suspected
+  pub rests_after : (limit : ℕ) → ((most : ℕ) → limit ≤ most → EntrySuspectsUpTo most e) → Applies sealing.size step old new → Rests limit old new
+  rests_after limit suspects t =
+      let a = added sealing.size step old new rested t in
+      record {
+        owed = t.rests;
+        views = λ most low before.
+            subst (λ l. IsSuspectedUpTo most l) (sym (past_added old.journal new.journal e a.posts (a.grown ∙ ap (λ x. old.journal ++ x ∷ a.posts) is)))
+            (behind most (turn_actor step) a.posts (past old.journal) a.of (suspects most low) before);
+      }
+    where
+      behind : (most : ℕ) (a : Actor) (posts before : List (JournalEntry B)) → PostsOf a posts → EntrySuspectsUpTo most e → IsSuspectedUpTo most before → IsSuspectedUpTo most (reverse posts ++ e ∷ before)
+      behind most a _ before No_post here rest = (here, rest)
+      behind most a _ before (One_post first letters lost) here rest = (tt, (here, rest))
+
+  pub on_rests : {T : Type 0} (limit : ℕ) → ((most : ℕ) → limit ≤ most → EntrySuspectsUpTo most e) → (result : Result T Stop) → OnOk result (Applies sealing.size step old new) → OnOk result (Rests limit old new)
+  on_rests limit suspects (Ok x) t = rests_after limit suspects t
+  on_rests limit suspects (Err stop) t = tt
+
+-- letters that are posted wait, or not
+length-numbered : {B : Type 0} (n : ℕ) (a : Actor) (letters : List (Letter B)) → length (numbered n a letters) ≡ length letters
+length-numbered n a [] = refl
+length-numbered n a (l ∷ letters) = ap (λ k. suc k) (length-numbered (n + 1) a letters)
+
+take_short : {X : Type 0} (n : ℕ) (xs : List X) → length (take n xs) ≤ length xs
+take_short zero xs = omega arith
+take_short (suc n) [] = omega arith
+take_short (suc n) (x ∷ xs) = omega (arith, take_short n xs)
+
+kept_short : {X : Type 0} (b : Bool) (x : X) (xs ys : List X) → length xs ≤ length ys → length (if b then x ∷ xs else xs) ≤ suc (length ys)
+kept_short true x xs ys h = omega arith
+kept_short false x xs ys h = omega arith
+
+filter_short : {X : Type 0} (p : X → Bool) (xs : List X) → length (filter p xs) ≤ length xs
+filter_short p [] = omega arith
+filter_short p (x ∷ xs) = kept_short (p x) x (filter p xs) xs (filter_short p xs)
+
+fitting_few : {B : Type 0} (n : ℕ) (a : Actor) (letters : List (Letter B)) (lost : ℕ) → length (fitting n a letters lost) ≤ length letters
+fitting_few n a letters lost = omega (arith, take_short (length letters - lost) (numbered n a letters), length-numbered n a letters)
+
+without_first : {B : Type 0} (p : Packet B) (others : List (Packet B)) → length (without p.id (p ∷ others)) ≤ length others
+without_first p others = rw (eq-eqb p.id p.id refl) (filter_short (λ q. not (nat_eq q.id p.id)) others)
+
+post_counts : (limit p k waits fit : ℕ) → fit ≤ k → p + k ≤ limit → (limit - (p + k)) + (waits + fit) ≤ (limit - p) + waits
+post_counts limit p k waits fit few within = omega arith
+
+-- a post leaves no more to do
+posts_less : {B : Type 0} (a : Actor) (posts before : List (JournalEntry B)) → PostsOf a posts → letters_posted (reverse posts ++ before) ≤ letters_limit → work_left (reverse posts ++ before) ≤ work_left before
+posts_less a _ before No_post within = omega arith
+posts_less a _ before (One_post first letters lost) within =
+    let counts = post_counts letters_limit (letters_posted before) (length letters) (length (pool before)) (length (fitting first a letters lost)) (fitting_few first a letters lost) within in
+    let waits = length-append (pool before) (fitting first a letters lost) in
+    omega (arith, counts, waits)
+
+-- a turn that takes the first packet out of the pool leaves less
+pub takes_less : {B : Type 0} (place : PacketPlace) (e : JournalEntry B) (old new posts : List (JournalEntry B)) (a : Actor) → First place (past old) → PostsOf a posts → new ≡ old ++ e ∷ posts →
+    letters_posted (e ∷ past old) ≡ letters_posted (past old) → pool (e ∷ past old) ≡ without place.id (pool (past old)) → letters_posted (past new) ≤ letters_limit →
+    work_left (past new) < work_left (past old)
+takes_less place e old new posts a f of grown counts pools within =
+    let is = past_added old new e posts grown in
+    let fewer = without_first f.packet f.others in
+    let waits : length (pool (e ∷ past old)) ≡ length (without f.packet.id (f.packet ∷ f.others)) = ap length pools ∙ ap (λ l. length (without place.id l)) f.pool_is ∙ ap (λ i. length (without i (f.packet ∷ f.others))) f.id_is in
+    let first = ap length f.pool_is in
+    let less = posts_less a posts (e ∷ past old) of (subst (λ l. letters_posted l ≤ letters_limit) is within) in
+    let same = ap work_left is in
+    omega (arith, fewer, waits, first, less, same, counts)
+
+-- one part of a closing after another
+pub leads_then : {B A : Type 0} (controls : Controlling A → List ℕ → Type 0) (sealing : Sealing B) (first next last : Stage B A) (old mid new : Worlding B A) → mid.setup ≡ old.setup →
+    ((kinds : List ℕ) → Holds controls sealing old kinds → Holds controls sealing mid kinds) → Leads controls sealing first next old mid → Leads controls sealing next last mid new → Leads controls sealing first last old new
+leads_then controls sealing first next last old mid new same keeps a b kinds holds start c =
+    subst (λ (s : Setup). last (record { setup = s; kinds = kinds; sealing = sealing }) start new) same
+    (b kinds (keeps kinds holds) start (subst (λ (s : Setup). next (record { setup = s; kinds = kinds; sealing = sealing }) start mid) (sym same) (a kinds holds start c)))

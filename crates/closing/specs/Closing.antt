@@ -1,0 +1,178 @@
+-- How a closing goes on in a world, whatever becomes of later saves.
+use Rattle.std.specs.Prelude.{◌≡◌, ◌<◌, ◌≤◌, ℕ, ◌+◌, ◌-◌, ◌%◌, suc, max, Bool, true, false, not, nat_eq, List, [], ◌∷◌, ◌++◌, length, map, slice_get, Option, Some, None, Result, Ok, Err, if◌then◌else◌}
+use Rattle.std.specs.List.{AllByRecursion, list_any}
+use Rattle.rv_base.specs.declared.journal.Actor.{Actor}
+use Rattle.rv_base.specs.declared.journal.Actor.TheVariants as actor
+use Rattle.rv_base.specs.declared.journal.JournalEntry.{JournalEntry}
+use Rattle.rv_base.specs.declared.journal.JournalEntry.TheVariants.{Local}
+use Rattle.rv_base.specs.declared.journal.Local.{Local as LocalInput}
+use Rattle.rv_base.specs.declared.journal.Local.TheVariants as local
+use Rattle.rv_base.specs.declared.journal.Packet.{Packet}
+use Rattle.rv_base.specs.declared.journal.SaveResult.{SaveResult}
+use Rattle.rv_base.specs.declared.place.PacketPlace.{PacketPlace}
+use Rattle.rv_base.specs.declared.wire.Stop.{Stop}
+use Rattle.rv_base.specs.declared.wire.Stop.TheVariants.{OutOfMemory, JournalFull}
+use Rattle.rv_base.specs.Limits.{letters_limit}
+use Rattle.rv_base.specs.Places.{IsFound}
+use Rattle.rv_base.specs.Pool.{past, pool, letters_posted}
+use Rattle.vr_log.specs.declared.entry.LogFull.{LogFull}
+use Rattle.vr_log.specs.Members.{is_up}
+use Rattle.group_controller.specs.State.{ControllerState}
+use Rattle.group_controller.specs.Turns.{Controlling, state_of}
+use Rattle.rv_runs.specs.States.{Scene, Sealing}
+use Rattle.rv_runs.specs.Committed.{members_up}
+use Rattle.rv_runs.specs.Schedule.{Phase, Losing, Met, Move, Answer, IsPosted, IsEnd, majority, next_move, next_suspicion, next_drained, ClosesTo, Closes}
+use Rattle.rv_runs.specs.Schedule as schedule
+use Rattle.rv_laws.specs.Laws.{IsSuspectedUpTo}
+use Rattle.rv_world.specs.World.{AreMore, Holds, IsStuck, Worlding, results_in, scene_in}
+use Rattle.closing.specs.declared.closed.Came.{Came}
+use Rattle.closing.specs.declared.closed.Came.TheVariants as came
+use Rattle.closing.specs.declared.closed.Closed.{Closed}
+use Rattle.closing.specs.declared.closed.Closed.TheVariants as closed
+
+-- what the schedule calls the end of a closing
+abbrev pub answer_of : Closed → Answer
+answer_of (closed.Done primary) = schedule.Done primary
+answer_of (closed.NoQuorum up needed) = schedule.NoQuorum up needed
+answer_of (closed.Overfull limit) = schedule.Overfull limit
+
+-- a closing that is done has a majority that takes part
+abbrev pub HasMajority : Closed → ℕ → List ℕ → Type 0
+HasMajority (closed.Done primary) group up = majority group ≤ length up
+HasMajority (closed.NoQuorum up needed) group numbers = Unit {0}
+HasMajority (closed.Overfull limit) group up = Unit {0}
+
+-- whether a number is one of these
+abbrev pub has : List ℕ → ℕ → Bool
+has numbers n = list_any (λ m. nat_eq m n) numbers
+
+-- the states of controllers, and the numbers of those that take part
+abbrev pub states_in : {A : Type 0} → List (Controlling A) → List ControllerState
+states_in controllers = map (λ c. state_of c) controllers
+
+abbrev pub up_in : {A : Type 0} → List (Controlling A) → List ℕ
+up_in controllers = members_up (states_in controllers)
+
+-- a bound above a controller too, if it takes part, and its number
+abbrev pub bound_with : ℕ → ControllerState → ℕ
+bound_with bound c = if is_up c.vr then max bound (suc (max c.vr.view c.vr.promise)) else bound
+
+abbrev pub member_in : ControllerState → List ℕ
+member_in c = if is_up c.vr then c.vr.me ∷ [] else []
+
+-- what is left to do: the letters that a journal may still post, and the packets that wait
+abbrev pub work_left : {B : Type 0} → List (JournalEntry B) → ℕ
+work_left entries = (letters_limit - letters_posted entries) + length (pool entries)
+
+-- no controller has a view, or has promised one, above a limit
+abbrev pub AreViewsUpTo : {A : Type 0} → ℕ → List (Controlling A) → Type 0
+AreViewsUpTo {A = A} limit controllers = (c : ℕ) (x : Controlling A) → slice_get controllers c ≡ Some x → ((state_of x).vr.view ≤ limit) × ((state_of x).vr.promise ≤ limit)
+
+-- this place is that of the packet of the lowest number
+abbrev pub IsFirst : {B : Type 0} → PacketPlace → List (JournalEntry B) → Type 0
+IsFirst place journal = IsFound journal (Some place) (slice_get (pool (past journal)) 0)
+
+-- where a closing that began in one world stands in another
+abbrev pub Stage : Type 0 → Type 0 → Type 1
+Stage B A = Scene B → Worlding B A → Worlding B A → Type 0
+
+-- at a phase, whatever becomes of later saves
+pub record ClosesIn {B A : Type 0} (phase : Phase) (scene : Scene B) (start now : Worlding B A) : Type 0 where
+  pub entries : List (JournalEntry B)
+  pub joined : now.journal ≡ start.journal ++ entries
+  pub steps : (later : List (List SaveResult)) → AreMore scene.setup.controllers (results_in now.controllers) later →
+      ClosesTo scene later Losing (past start.journal) entries phase
+
+-- and its next move is this one, by what waits
+pub record IsNext {B A : Type 0} (move : List (Packet B) → Move B) (scene : Scene B) (start now : Worlding B A) : Type 0 where
+  pub phase : Phase
+  pub closes : ClosesIn phase scene start now
+  pub next : (later : List (List SaveResult)) → AreMore scene.setup.controllers (results_in now.controllers) later →
+      next_move scene later phase (past now.journal) ≡ move (pool (past now.journal))
+
+-- these members of a quorum are still to suspect, and then what waits is drained
+abbrev pub Suspects : {B A : Type 0} → ℕ → List ℕ → List ℕ → Stage B A
+Suspects view quorum members scene start now = IsNext (next_suspicion scene.setup.controllers view quorum members) scene start now
+
+-- what waits is drained, and is gone
+abbrev pub Drains : {B A : Type 0} → ℕ → List ℕ → Stage B A
+Drains view quorum scene start now = IsNext (next_drained scene.setup.controllers view quorum) scene start now
+
+abbrev pub Drained : {B A : Type 0} → ℕ → List ℕ → Stage B A
+Drained view quorum scene start now = Drains view quorum scene start now × (pool (past now.journal) ≡ [])
+
+-- what the turn of a member of a quorum came to
+abbrev pub came_met : Option LogFull → Came
+came_met None = came.ToRest
+came_met (Some limit) = came.ToTheLimit limit
+
+abbrev pub came_of : ℕ → ℕ → ℕ → ControllerState → Came
+came_of view group number state =
+    if not (is_up state.vr) then came.ToAFailedSave else if nat_eq (view % group) number then came_met state.full else came.ToRest
+
+-- what the turn of an actor came to
+abbrev pub CameAt : {B A : Type 0} → ℕ → Worlding B A → Actor → Came → Type 0
+CameAt {A = A} view w (actor.Controller c) cause = (x : Controlling A) → slice_get w.controllers c ≡ Some x → cause ≡ came_of view w.setup.controllers c (state_of x)
+CameAt view w (actor.Switch s) cause = cause ≡ came.ToRest
+
+-- where a closing stands by that
+abbrev pub CameTo : {B A : Type 0} → Stage B A → Came → Stage B A
+CameTo next came.ToRest scene start now = next scene start now
+CameTo next came.ToAFailedSave scene start now = ClosesIn Losing scene start now
+CameTo next (came.ToTheLimit limit) scene start now = ClosesIn (Met limit) scene start now
+
+-- who takes part then: the same, or one less
+abbrev pub UpBy : Came → List ℕ → List ℕ → Type 0
+UpBy came.ToRest before after = after ≡ before
+UpBy came.ToAFailedSave before after = length after < length before
+UpBy (came.ToTheLimit limit) before after = after ≡ before
+
+-- whether a part of a closing is over before its end
+abbrev pub is_over : Came → Bool
+is_over came.ToRest = false
+is_over came.ToAFailedSave = true
+is_over (came.ToTheLimit limit) = true
+
+-- it was cut short: at a full journal it stands at some phase, and the outbox of the newest input stays unposted
+pub record IsCutAt {B A : Type 0} (bytes letters : ℕ) (scene : Scene B) (start now : Worlding B A) : Type 0 where
+  pub phase : Phase
+  pub closes : ClosesIn phase scene start now
+  pub stuck : IsStuck scene.sealing.size now bytes letters
+
+-- where a closing stands after a call that may stop
+abbrev pub StandsAt : {T B A : Type 0} → (T → Stage B A) → Result T Stop → Stage B A
+StandsAt stage (Ok x) scene start now = stage x scene start now
+StandsAt stage (Err OutOfMemory) scene start now = Unit {0}
+StandsAt stage (Err (JournalFull bytes letters)) scene start now = IsCutAt bytes letters scene start now
+
+-- wherever it began, a closing at one stage in a world is at another stage in a later world
+abbrev pub Leads : {B A : Type 0} → (Controlling A → List ℕ → Type 0) → Sealing B → Stage B A → Stage B A → Worlding B A → Worlding B A → Type 0
+Leads {B = B} {A = A} controls sealing first next old new = (kinds : List ℕ) → Holds controls sealing old kinds → (start : Worlding B A) →
+    first (scene_in sealing old kinds) start old → next (scene_in sealing old kinds) start new
+
+-- what a part of a closing keeps of a world: nothing is owed, and no view above a limit was suspected
+pub record Rests {B A : Type 0} (limit : ℕ) (old new : Worlding B A) : Type 0 where
+  pub owed : new.owed ≡ None
+  pub views : (most : ℕ) → limit ≤ most → IsSuspectedUpTo most (past old.journal) → IsSuspectedUpTo most (past new.journal)
+
+-- a closing that began in one world has ended in another with this answer, whatever becomes of later saves
+pub record HasClosed {B A : Type 0} (scene : Scene B) (answer : Answer) (start now : Worlding B A) : Type 0 where
+  pub entries : List (JournalEntry B)
+  pub joined : now.journal ≡ start.journal ++ entries
+  pub closes : (later : List (List SaveResult)) → AreMore scene.setup.controllers (results_in now.controllers) later →
+      Closes scene later (past start.journal) entries answer
+
+-- it has ended, or begins again
+abbrev pub EndsBy : {B A : Type 0} → Option Closed → Stage B A
+EndsBy None scene start now = ClosesIn Losing scene start now
+EndsBy (Some ended) scene start now = HasClosed scene (answer_of ended) start now
+
+-- who takes part then: at its end a majority, and one less where it begins again
+abbrev pub UpTo : Option Closed → ℕ → List ℕ → List ℕ → Type 0
+UpTo None group before after = length after < length before
+UpTo (Some ended) group before after = HasMajority ended group after
+
+-- why a closing stopped
+abbrev pub ClosingStops : {B A : Type 0} → Scene B → Stop → Worlding B A → Worlding B A → Type 0
+ClosingStops scene OutOfMemory start now = Unit {0}
+ClosingStops scene (JournalFull bytes letters) start now = IsCutAt bytes letters scene start now

@@ -1,0 +1,21 @@
+//! How a closing ends, and what a turn of it comes to.
+use vr_log::LogFull;
+
+/// How a closing ended.
+#[derive(Clone, Copy, PartialEq, Eq, Debug)]
+pub enum Closed {
+    /// Nothing waits any more.
+    Done { primary: u8 },
+    /// Too few controllers take part.
+    NoQuorum { up: u64, needed: u64 },
+    /// A proposal found no room in the log.
+    Overfull(LogFull),
+}
+
+/// What the turn of a member of the quorum came to.
+#[derive(Clone, Copy, PartialEq, Eq, Debug)]
+pub enum Came {
+    ToRest,
+    ToAFailedSave,
+    ToTheLimit(LogFull),
+}

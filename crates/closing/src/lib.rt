@@ -1,0 +1,10 @@
+//! Bringing a world of a group to rest: the closing schedule.
+#![tactic(auto)]
+
+mod closed;
+mod quorum;
+mod rest;
+mod steps;
+
+pub use closed::Closed;
+pub use rest::run;

@@ -1,0 +1,130 @@
+//! Who closes.
+ghost use Rattle.std.specs.Prelude.{◌≡◌, ◌≤◌, ◌+◌, ◌<◌, ℕ, suc, max, true, List, IfOk, OnOk, ◌++◌, length};
+ghost use Rattle.vr_log.specs.Members.{is_up};
+ghost use Rattle.group_controller.specs.Turns.{Controls, state_of};
+ghost use Rattle.rv_runs.specs.Schedule.{bound_of, closing_view, first_view, quorum_of};
+ghost use Rattle.rv_world.specs.World.{Holds, sealing_by};
+ghost use Rattle.closing.specs.Closing.{AreViewsUpTo, bound_with, has, member_in, states_in, up_in};
+
+use app_core::App;
+use group_controller::Controller;
+use rv_bodies::Body;
+use rv_world::{World, takes_part};
+use std::alloc::{AllocError, Global};
+
+/// Whether a number is one of these.
+pub fn has(numbers: &[u8], number: u8) -> bool
+    ensures { result ≡ has numbers.now number }
+{
+    numbers.contains(&number)
+}
+
+/// The number of a controller goes behind those that are there, if it takes part.
+fn push_member<A: App>(
+    up: &mut Vec<u8>,
+    number: u8,
+    controller: &Controller<A>,
+) -> Result<(), AllocError>
+    requires { (state_of controller.now).vr.me ≡ number }
+    ensures { OnOk result (up.new.items ≡ up.old.items ++ member_in (state_of controller.now)) }
+{
+    if takes_part(controller) {
+        up.push(number)?;
+    }
+    Ok(())
+}
+
+/// The controllers that take part, by number.
+pub fn members_up<B: Body, A: App>(
+    alloc: Global,
+    world: &World<B, A>,
+) -> Result<Vec<u8>, AllocError>
+    requires { (kinds : List ℕ) × Holds (Controls A.kinds A.most A.states A.suits) (sealing_by B.sealed B.spelled B.size) world.now kinds }
+    ensures { IfOk result (λ up. up.items ≡ up_in world.now.controllers) }
+{
+    let mut up = Vec::new(alloc);
+    'counting: for number in 0..world.setup().controllers {
+        push_member(&mut up, number, world.controller(number))?;
+    }
+    Ok(up)
+}
+
+/// The least view above the view and the promise of a controller.
+fn above<A: App>(controller: &Controller<A>) -> u32
+    requires controls { (kinds : List ℕ) × Controls A.kinds A.most A.states A.suits controller.now kinds }
+    requires up { is_up (state_of controller.now).vr ≡ true }
+    requires view { (state_of controller.now).vr.view ≤ 4100000000 }
+    requires promise { (state_of controller.now).vr.promise ≤ 4100000000 }
+    ensures { result ≡ suc (max (state_of controller.now).vr.view (state_of controller.now).vr.promise) }
+{
+    let view = controller.view().unwrap_or(0);
+    view.max(controller.promise()) + 1
+}
+
+/// The bound with one controller more.
+fn bound_with<A: App>(bound: u32, controller: &Controller<A>) -> u32
+    requires controls { (kinds : List ℕ) × Controls A.kinds A.most A.states A.suits controller.now kinds }
+    requires view { (state_of controller.now).vr.view ≤ 4100000000 }
+    requires promise { (state_of controller.now).vr.promise ≤ 4100000000 }
+    ensures { result ≡ bound_with bound (state_of controller.now) }
+{
+    if takes_part(controller) {
+        bound.max(above(controller))
+    } else {
+        bound
+    }
+}
+
+/// The least view above all views and promises of the controllers that take part.
+pub fn bound_of<B: Body, A: App>(world: &World<B, A>) -> u32
+    requires holds { (kinds : List ℕ) × Holds (Controls A.kinds A.most A.states A.suits) (sealing_by B.sealed B.spelled B.size) world.now kinds }
+    requires views { AreViewsUpTo 4100000000 world.now.controllers }
+    ensures { result ≡ bound_of (states_in world.now.controllers) }
+{
+    let mut bound = 0;
+    'bounding: for number in 0..world.setup().controllers {
+        let controller = world.controller(number);
+        bound = bound_with(bound, controller);
+    }
+    bound
+}
+
+/// The least view from here on whose primary takes part.
+pub fn first_view(group: u8, up: &[u8], from: u32) -> u32
+    requires group { 0 < group }
+    requires room { from ≤ 4200000000 }
+    ensures first { result ≡ first_view group group up.now from }
+    ensures near { result ≤ from + group }
+{
+    let mut view = from;
+    'looking: for _ in 0..group {
+        if has(up, (view % u32::from(group)) as u8) {
+            return view;
+        }
+        view += 1;
+    }
+    view
+}
+
+/// The view of a closing: the least above all views and promises, whose primary takes part.
+pub fn closing_view<B: Body, A: App>(world: &World<B, A>, up: &[u8]) -> u32
+    requires holds { (kinds : List ℕ) × Holds (Controls A.kinds A.most A.states A.suits) (sealing_by B.sealed B.spelled B.size) world.now kinds }
+    requires views { AreViewsUpTo 4100000000 world.now.controllers }
+    requires up { up.now ≡ up_in world.now.controllers }
+    ensures view { result ≡ closing_view (states_in world.now.controllers) world.now.setup.controllers }
+    ensures near { (limit : ℕ) → AreViewsUpTo limit world.now.controllers → result ≤ limit + 8 }
+{
+    first_view(world.setup().controllers, up, bound_of(world))
+}
+
+/// The primary, and so many others of the lowest numbers.
+pub fn quorum_of(alloc: Global, primary: u8, others: u8, up: &[u8]) -> Result<Vec<u8>, AllocError>
+    ensures { IfOk result (λ members. members.items ≡ quorum_of primary others up.now) }
+{
+    let mut chosen = Vec::from_slice(alloc, up)?;
+    chosen.retain(|other| *other != primary);
+    chosen.truncate(others as usize);
+    let mut members = Vec::from_slice(alloc, up)?;
+    members.retain(|member| *member == primary || has(chosen.as_slice(), *member));
+    Ok(members)
+}

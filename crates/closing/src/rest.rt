@@ -1,0 +1,210 @@
+//! A whole closing.
+ghost use Rattle.std.specs.Prelude.{◌≡◌, ◌≤◌, ◌+◌, ◌%◌, ◌/◌, [], true, false, ℕ, List, None, length, OnOk, IfOk, IfErr};
+ghost use Rattle.rv_base.specs.Pool.{past, pool};
+ghost use Rattle.group_controller.specs.Turns.{Controls, ForEachKinds};
+ghost use Rattle.rv_runs.specs.Schedule.{Losing, closing_view, majority, quorum_of};
+ghost use Rattle.rv_world.specs.World.{Holds, IfMemory, Keeps, PairsStand, scene_in, sealing_by};
+ghost use Rattle.rv_laws.specs.Laws.{IsSuspectedUpTo};
+ghost use Rattle.closing.specs.Closing.{answer_of, CameTo, ClosesIn, ClosingStops, Drained, Drains, EndsBy, has, HasClosed, HasMajority, Leads, Rests, StandsAt, states_in, Suspects, UpBy, UpTo, up_in};
+
+use crate::closed::{Came, Closed};
+use crate::quorum::{closing_view, members_up, quorum_of};
+use crate::steps::{drain_first, is_over, lawful, lose_first, suspect_next};
+use app_core::App;
+use rv_base::{Stable, Stop};
+use rv_bodies::Body;
+use rv_world::World;
+use std::alloc::{AllocError, Global};
+
+/// Every packet that waits is lost, by number.
+fn lose_all<B: Body, A: App, W: Stable>(
+    world: &mut World<B, A>,
+    stables: &mut [W],
+) -> Result<(), Stop>
+    requires rests { world.old.owed ≡ None }
+    requires holds { (kinds : List ℕ) × Holds (Controls A.kinds A.most A.states A.suits) (sealing_by B.sealed B.spelled B.size) world.old kinds }
+    requires pairs { PairsStand W.pair stables.old world.old.controllers }
+    ensures keeps { IfMemory result (Keeps (Controls A.kinds A.most A.states A.suits) W.pair W.faults (sealing_by B.sealed B.spelled B.size) world.old stables.old world.new stables.new) }
+    ensures rests { OnOk result (Rests 0 world.old world.new) }
+    ensures closes { Leads (Controls A.kinds A.most A.states A.suits) (sealing_by B.sealed B.spelled B.size) (ClosesIn Losing) (StandsAt (λ _. ClosesIn Losing) result) world.old world.new }
+    ensures up { OnOk result (up_in world.new.controllers ≡ up_in world.old.controllers) }
+    ensures empty { OnOk result (pool (past world.new.journal) ≡ []) }
+{
+    'losing: while let Some(place) = world.first() {
+        lose_first(world, stables, place)?;
+    }
+    Ok(())
+}
+
+/// What is owed is posted, and then every packet that waits is lost.
+fn clear<B: Body, A: App, W: Stable>(world: &mut World<B, A>, stables: &mut [W]) -> Result<(), Stop>
+    requires holds { (kinds : List ℕ) × Holds (Controls A.kinds A.most A.states A.suits) (sealing_by B.sealed B.spelled B.size) world.old kinds }
+    requires pairs { PairsStand W.pair stables.old world.old.controllers }
+    ensures keeps { IfMemory result (Keeps (Controls A.kinds A.most A.states A.suits) W.pair W.faults (sealing_by B.sealed B.spelled B.size) world.old stables.old world.new stables.new) }
+    ensures rests { OnOk result (Rests 0 world.old world.new) }
+    ensures closes { Leads (Controls A.kinds A.most A.states A.suits) (sealing_by B.sealed B.spelled B.size) (ClosesIn Losing) (StandsAt (λ _. ClosesIn Losing) result) world.old world.new }
+    ensures up { OnOk result (up_in world.new.controllers ≡ up_in world.old.controllers) }
+    ensures empty { OnOk result (pool (past world.new.journal) ≡ []) }
+{
+    world.post_owed()?;
+    lose_all(world, stables)
+}
+
+/// Each member of the quorum suspects the view.
+fn suspect<B: Body, A: App, W: Stable>(
+    world: &mut World<B, A>,
+    stables: &mut [W],
+    view: u32,
+    quorum: &[u8],
+) -> Result<Came, Stop>
+    requires rests { world.old.owed ≡ None }
+    requires holds { (kinds : List ℕ) × Holds (Controls A.kinds A.most A.states A.suits) (sealing_by B.sealed B.spelled B.size) world.old kinds }
+    requires pairs { PairsStand W.pair stables.old world.old.controllers }
+    requires up { (n : ℕ) → has quorum.now n ≡ true → has (up_in world.old.controllers) n ≡ true }
+    ensures keeps { IfMemory result (Keeps (Controls A.kinds A.most A.states A.suits) W.pair W.faults (sealing_by B.sealed B.spelled B.size) world.old stables.old world.new stables.new) }
+    ensures rests { OnOk result (Rests view world.old world.new) }
+    ensures suspects { Leads (Controls A.kinds A.most A.states A.suits) (sealing_by B.sealed B.spelled B.size) (Suspects view quorum.now quorum.now) (StandsAt (CameTo (Drains view quorum.now)) result) world.old world.new }
+    ensures up { IfOk result (λ came. UpBy came (up_in world.old.controllers) (up_in world.new.controllers)) }
+{
+    'suspecting: for number in quorum {
+        let came = suspect_next(world, stables, view, *number)?;
+        if is_over(came) {
+            return Ok(came);
+        }
+    }
+    Ok(Came::ToRest)
+}
+
+/// What waits is drawn or lost, by number, until nothing waits.
+fn drain<B: Body, A: App, W: Stable>(
+    world: &mut World<B, A>,
+    stables: &mut [W],
+    view: u32,
+    quorum: &[u8],
+) -> Result<Came, Stop>
+    requires rests { world.old.owed ≡ None }
+    requires holds { (kinds : List ℕ) × Holds (Controls A.kinds A.most A.states A.suits) (sealing_by B.sealed B.spelled B.size) world.old kinds }
+    requires pairs { PairsStand W.pair stables.old world.old.controllers }
+    requires up { (n : ℕ) → has quorum.now n ≡ true → has (up_in world.old.controllers) n ≡ true }
+    ensures keeps { IfMemory result (Keeps (Controls A.kinds A.most A.states A.suits) W.pair W.faults (sealing_by B.sealed B.spelled B.size) world.old stables.old world.new stables.new) }
+    ensures rests { OnOk result (Rests 0 world.old world.new) }
+    ensures drains { Leads (Controls A.kinds A.most A.states A.suits) (sealing_by B.sealed B.spelled B.size) (Drains view quorum.now) (StandsAt (CameTo (Drained view quorum.now)) result) world.old world.new }
+    ensures up { IfOk result (λ came. UpBy came (up_in world.old.controllers) (up_in world.new.controllers)) }
+{
+    'draining: while let Some(place) = world.first() {
+        let came = drain_first(world, stables, view, quorum, place)?;
+        if is_over(came) {
+            return Ok(came);
+        }
+    }
+    Ok(Came::ToRest)
+}
+
+/// The quorum suspects the view, and then what waits is drained.
+fn close_by<B: Body, A: App, W: Stable>(
+    world: &mut World<B, A>,
+    stables: &mut [W],
+    view: u32,
+    quorum: &[u8],
+) -> Result<Came, Stop>
+    requires rests { world.old.owed ≡ None }
+    requires holds { (kinds : List ℕ) × Holds (Controls A.kinds A.most A.states A.suits) (sealing_by B.sealed B.spelled B.size) world.old kinds }
+    requires pairs { PairsStand W.pair stables.old world.old.controllers }
+    requires up { (n : ℕ) → has quorum.now n ≡ true → has (up_in world.old.controllers) n ≡ true }
+    ensures keeps { IfMemory result (Keeps (Controls A.kinds A.most A.states A.suits) W.pair W.faults (sealing_by B.sealed B.spelled B.size) world.old stables.old world.new stables.new) }
+    ensures rests { OnOk result (Rests view world.old world.new) }
+    ensures closes { Leads (Controls A.kinds A.most A.states A.suits) (sealing_by B.sealed B.spelled B.size) (Suspects view quorum.now quorum.now) (StandsAt (CameTo (Drained view quorum.now)) result) world.old world.new }
+    ensures up { IfOk result (λ came. UpBy came (up_in world.old.controllers) (up_in world.new.controllers)) }
+{
+    let came = suspect(world, stables, view, quorum)?;
+    if is_over(came) {
+        return Ok(came);
+    }
+    drain(world, stables, view, quorum)
+}
+
+/// The quorum of the least view above all closes a world in which nothing waits.
+fn close_cleared<B: Body, A: App, W: Stable>(
+    alloc: Global,
+    world: &mut World<B, A>,
+    stables: &mut [W],
+    up: &[u8],
+) -> Result<Option<Closed>, Stop>
+    requires rests { world.old.owed ≡ None }
+    requires holds { (kinds : List ℕ) × Holds (Controls A.kinds A.most A.states A.suits) (sealing_by B.sealed B.spelled B.size) world.old kinds }
+    requires pairs { PairsStand W.pair stables.old world.old.controllers }
+    requires empty { pool (past world.old.journal) ≡ [] }
+    requires up { up.now ≡ up_in world.old.controllers }
+    requires most { majority world.old.setup.controllers ≤ length up.now }
+    requires views { IsSuspectedUpTo 4100000000 (past world.old.journal) }
+    ensures keeps { IfMemory result (Keeps (Controls A.kinds A.most A.states A.suits) W.pair W.faults (sealing_by B.sealed B.spelled B.size) world.old stables.old world.new stables.new) }
+    ensures owed { OnOk result (world.new.owed ≡ None) }
+    ensures views { OnOk result ((limit : ℕ) → IsSuspectedUpTo limit (past world.old.journal) → IsSuspectedUpTo (limit + 8) (past world.new.journal)) }
+    ensures closes { Leads (Controls A.kinds A.most A.states A.suits) (sealing_by B.sealed B.spelled B.size) (ClosesIn Losing) (StandsAt EndsBy result) world.old world.new }
+    ensures up { IfOk result (λ closed. UpTo closed world.old.setup.controllers (up_in world.old.controllers) (up_in world.new.controllers)) }
+{
+    lawful(world);
+    let group = world.setup().controllers;
+    let view = closing_view(world, up);
+    let primary = (view % u32::from(group)) as u8;
+    let quorum = quorum_of(alloc, primary, group / 2, up)?;
+    match close_by(world, stables, view, quorum.as_slice())? {
+        Came::ToRest => Ok(Some(Closed::Done { primary })),
+        Came::ToAFailedSave => Ok(None),
+        Came::ToTheLimit(limit) => Ok(Some(Closed::Overfull(limit))),
+    }
+}
+
+/// A closing up to its end, or to a save that failed.
+fn close_once<B: Body, A: App, W: Stable>(
+    alloc: Global,
+    world: &mut World<B, A>,
+    stables: &mut [W],
+) -> Result<Option<Closed>, Stop>
+    requires holds { (kinds : List ℕ) × Holds (Controls A.kinds A.most A.states A.suits) (sealing_by B.sealed B.spelled B.size) world.old kinds }
+    requires pairs { PairsStand W.pair stables.old world.old.controllers }
+    requires views { IsSuspectedUpTo 4100000000 (past world.old.journal) }
+    ensures keeps { IfMemory result (Keeps (Controls A.kinds A.most A.states A.suits) W.pair W.faults (sealing_by B.sealed B.spelled B.size) world.old stables.old world.new stables.new) }
+    ensures owed { OnOk result (world.new.owed ≡ None) }
+    ensures views { OnOk result ((limit : ℕ) → IsSuspectedUpTo limit (past world.old.journal) → IsSuspectedUpTo (limit + 8) (past world.new.journal)) }
+    ensures closes { Leads (Controls A.kinds A.most A.states A.suits) (sealing_by B.sealed B.spelled B.size) (ClosesIn Losing) (StandsAt EndsBy result) world.old world.new }
+    ensures up { IfOk result (λ closed. UpTo closed world.old.setup.controllers (up_in world.old.controllers) (up_in world.new.controllers)) }
+{
+    clear(world, stables)?;
+    let members = members_up(alloc, world)?;
+    let up = members.as_slice();
+    let needed = u64::from(world.setup().controllers / 2) + 1;
+    if (up.len() as u64) < needed {
+        return Ok(Some(Closed::NoQuorum {
+            up: up.len() as u64,
+            needed,
+        }));
+    }
+    close_cleared(alloc, world, stables, up)
+}
+
+/// Brings a world to rest: what waits is lost, the members of a quorum start the least view above all, and what they and
+/// the switches then say is drawn until nothing waits, or until a proposal finds no room in the log. Where a member's
+/// save fails, it begins again. Where memory is wanting, nothing is told of the world.
+pub fn run<B: Body, A: App, W: Stable>(
+    alloc: Global,
+    world: &mut World<B, A>,
+    stables: &mut [W],
+) -> Result<Closed, Stop>
+    requires holds { (kinds : List ℕ) × Holds (Controls A.kinds A.most A.states A.suits) (sealing_by B.sealed B.spelled B.size) world.old kinds }
+    requires pairs { PairsStand W.pair stables.old world.old.controllers }
+    requires views { IsSuspectedUpTo 4000000000 (past world.old.journal) }
+    ensures keeps { IfMemory result (Keeps (Controls A.kinds A.most A.states A.suits) W.pair W.faults (sealing_by B.sealed B.spelled B.size) world.old stables.old world.new stables.new) }
+    ensures rests { OnOk result (world.new.owed ≡ None) }
+    ensures closes { ForEachKinds (Holds (Controls A.kinds A.most A.states A.suits) (sealing_by B.sealed B.spelled B.size) world.old)
+        (λ kinds. IfOk result (λ closed. HasClosed (scene_in (sealing_by B.sealed B.spelled B.size) world.old kinds) (answer_of closed) world.old world.new)) }
+    ensures up { IfOk result (λ closed. HasMajority closed world.old.setup.controllers (up_in world.new.controllers)) }
+    ensures stops { ForEachKinds (Holds (Controls A.kinds A.most A.states A.suits) (sealing_by B.sealed B.spelled B.size) world.old)
+        (λ kinds. IfErr result (λ stop. ClosingStops (scene_in (sealing_by B.sealed B.spelled B.size) world.old kinds) stop world.old world.new)) }
+{
+    'closing: loop {
+        if let Some(closed) = close_once(alloc, world, stables)? {
+            return Ok(closed);
+        }
+    }
+}

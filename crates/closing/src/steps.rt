@@ -1,0 +1,188 @@
+//! One turn of a closing.
+ghost use Rattle.std.specs.Prelude.{◌≡◌, ◌<◌, ◌∷◌, true, false, ℕ, List, None, OnOk, IfOk};
+ghost use Rattle.std.specs.List.{AllByRecursion};
+ghost use Rattle.rv_base.specs.Actors.{IsActor};
+ghost use Rattle.rv_base.specs.Pool.{past, pool};
+ghost use Rattle.group_controller.specs.Turns.{Controls, state_of};
+ghost use Rattle.rv_runs.specs.Schedule.{Losing, is_drawn};
+ghost use Rattle.rv_world.specs.World.{Holds, IfMemory, Keeps, PairsStand, sealing_by};
+ghost use Rattle.rv_laws.specs.Laws.{IsSuspectedUpTo};
+ghost use Rattle.closing.specs.Closing.{AreViewsUpTo, CameAt, CameTo, came_of, ClosesIn, Drains, has, IsFirst, is_over, Leads, Rests, StandsAt, Suspects, UpBy, up_in, work_left};
+
+use crate::closed::Came;
+use crate::quorum::has;
+use app_core::App;
+use group_controller::Controller;
+use rv_base::{Actor, Local, PacketPlace, Stable, Stop, Turn};
+use rv_bodies::Body;
+use rv_world::{World, takes_part};
+
+/// What the laws of every run say of a world: no view is above the greatest that was suspected, and what waits goes to
+/// actors of the setup.
+pub fn lawful<B: Body, A: App>(world: &World<B, A>)
+    requires { (kinds : List ℕ) × Holds (Controls A.kinds A.most A.states A.suits) (sealing_by B.sealed B.spelled B.size) world.now kinds }
+    ensures views { (limit : ℕ) → IsSuspectedUpTo limit (past world.now.journal) → AreViewsUpTo limit world.now.controllers }
+    ensures addressed { AllByRecursion (λ p. IsActor world.now.setup p.to) (pool (past world.now.journal)) }
+{
+    let _ = world;
+}
+
+/// Whether a part of a closing is over before its end.
+pub fn is_over(came: Came) -> bool
+    ensures { result ≡ is_over came }
+{
+    came != Came::ToRest
+}
+
+/// What the turn of a controller came to.
+fn came<A: App>(view: u32, group: u8, number: u8, controller: &Controller<A>) -> Came
+    requires { 0 < group }
+    ensures { result ≡ came_of view group number (state_of controller.now) }
+{
+    if !takes_part(controller) {
+        return Came::ToAFailedSave;
+    }
+    if view % u32::from(group) != u32::from(number) {
+        return Came::ToRest;
+    }
+    match controller.full() {
+        Some(limit) => Came::ToTheLimit(limit),
+        None => Came::ToRest,
+    }
+}
+
+/// What the turn of an actor came to.
+fn came_at<B: Body, A: App>(world: &World<B, A>, view: u32, actor: Actor) -> Came
+    requires holds { (kinds : List ℕ) × Holds (Controls A.kinds A.most A.states A.suits) (sealing_by B.sealed B.spelled B.size) world.now kinds }
+    requires named { IsActor world.now.setup actor }
+    ensures { CameAt view world.now actor result }
+{
+    match actor {
+        Actor::Controller(number) => came(
+            view,
+            world.setup().controllers,
+            number,
+            world.controller(number),
+        ),
+        Actor::Switch(_) => Came::ToRest,
+    }
+}
+
+/// The packet of the lowest number is lost.
+pub fn lose_first<B: Body, A: App, W: Stable>(
+    world: &mut World<B, A>,
+    stables: &mut [W],
+    place: PacketPlace,
+) -> Result<(), Stop>
+    requires rests { world.old.owed ≡ None }
+    requires holds { (kinds : List ℕ) × Holds (Controls A.kinds A.most A.states A.suits) (sealing_by B.sealed B.spelled B.size) world.old kinds }
+    requires pairs { PairsStand W.pair stables.old world.old.controllers }
+    requires first { IsFirst place world.old.journal }
+    ensures keeps { IfMemory result (Keeps (Controls A.kinds A.most A.states A.suits) W.pair W.faults (sealing_by B.sealed B.spelled B.size) world.old stables.old world.new stables.new) }
+    ensures rests { OnOk result (Rests 0 world.old world.new) }
+    ensures closes { Leads (Controls A.kinds A.most A.states A.suits) (sealing_by B.sealed B.spelled B.size) (ClosesIn Losing) (StandsAt (λ _. ClosesIn Losing) result) world.old world.new }
+    ensures drains { (view : ℕ) (quorum : List ℕ) → is_drawn quorum place.from place.to ≡ false →
+        Leads (Controls A.kinds A.most A.states A.suits) (sealing_by B.sealed B.spelled B.size) (Drains view quorum) (StandsAt (λ _. Drains view quorum) result) world.old world.new }
+    ensures up { OnOk result (up_in world.new.controllers ≡ up_in world.old.controllers) }
+    ensures less { OnOk result (work_left (past world.new.journal) < work_left (past world.old.journal)) }
+{
+    lawful(world);
+    let turn = Turn::Lose {
+        actor: place.to,
+        choice: 0,
+    };
+    let result = world.apply(stables, &turn);
+    world.lawful();
+    result
+}
+
+/// A member of the quorum suspects the view.
+pub fn suspect_next<B: Body, A: App, W: Stable>(
+    world: &mut World<B, A>,
+    stables: &mut [W],
+    view: u32,
+    number: u8,
+) -> Result<Came, Stop>
+    requires rests { world.old.owed ≡ None }
+    requires holds { (kinds : List ℕ) × Holds (Controls A.kinds A.most A.states A.suits) (sealing_by B.sealed B.spelled B.size) world.old kinds }
+    requires pairs { PairsStand W.pair stables.old world.old.controllers }
+    requires up { has (up_in world.old.controllers) number ≡ true }
+    ensures keeps { IfMemory result (Keeps (Controls A.kinds A.most A.states A.suits) W.pair W.faults (sealing_by B.sealed B.spelled B.size) world.old stables.old world.new stables.new) }
+    ensures rests { OnOk result (Rests view world.old world.new) }
+    ensures suspects { (quorum members : List ℕ) →
+        Leads (Controls A.kinds A.most A.states A.suits) (sealing_by B.sealed B.spelled B.size) (Suspects view quorum (number ∷ members)) (StandsAt (CameTo (Suspects view quorum members)) result) world.old world.new }
+    ensures up { IfOk result (λ came. UpBy came (up_in world.old.controllers) (up_in world.new.controllers)) }
+{
+    let actor = Actor::Controller(number);
+    let input = Local::Suspect { view };
+    world.apply(stables, &Turn::Local { actor, input })?;
+    Ok(came_at(world, view, actor))
+}
+
+/// The packet of the lowest number is drawn.
+pub fn draw_first<B: Body, A: App, W: Stable>(
+    world: &mut World<B, A>,
+    stables: &mut [W],
+    view: u32,
+    quorum: &[u8],
+    place: PacketPlace,
+) -> Result<Came, Stop>
+    requires rests { world.old.owed ≡ None }
+    requires holds { (kinds : List ℕ) × Holds (Controls A.kinds A.most A.states A.suits) (sealing_by B.sealed B.spelled B.size) world.old kinds }
+    requires pairs { PairsStand W.pair stables.old world.old.controllers }
+    requires first { IsFirst place world.old.journal }
+    requires drawn { is_drawn quorum.now place.from place.to ≡ true }
+    requires up { (n : ℕ) → has quorum.now n ≡ true → has (up_in world.old.controllers) n ≡ true }
+    ensures keeps { IfMemory result (Keeps (Controls A.kinds A.most A.states A.suits) W.pair W.faults (sealing_by B.sealed B.spelled B.size) world.old stables.old world.new stables.new) }
+    ensures rests { OnOk result (Rests 0 world.old world.new) }
+    ensures drains { Leads (Controls A.kinds A.most A.states A.suits) (sealing_by B.sealed B.spelled B.size) (Drains view quorum.now) (StandsAt (CameTo (Drains view quorum.now)) result) world.old world.new }
+    ensures up { IfOk result (λ came. UpBy came (up_in world.old.controllers) (up_in world.new.controllers)) }
+    ensures less { OnOk result (work_left (past world.new.journal) < work_left (past world.old.journal)) }
+{
+    lawful(world);
+    let actor = place.to;
+    let turn = Turn::Draw {
+        actor,
+        choice: 0,
+        keep: false,
+    };
+    world.apply(stables, &turn)?;
+    world.lawful();
+    Ok(came_at(world, view, actor))
+}
+
+/// Whether a packet of this route is drawn.
+fn is_drawn(quorum: &[u8], from: Actor, to: Actor) -> bool
+    ensures { result ≡ is_drawn quorum.now from to }
+{
+    match to {
+        Actor::Controller(number) => has(quorum, number),
+        Actor::Switch(_) => matches!(from, Actor::Controller(_)),
+    }
+}
+
+/// The packet of the lowest number is drawn or lost.
+pub fn drain_first<B: Body, A: App, W: Stable>(
+    world: &mut World<B, A>,
+    stables: &mut [W],
+    view: u32,
+    quorum: &[u8],
+    place: PacketPlace,
+) -> Result<Came, Stop>
+    requires rests { world.old.owed ≡ None }
+    requires holds { (kinds : List ℕ) × Holds (Controls A.kinds A.most A.states A.suits) (sealing_by B.sealed B.spelled B.size) world.old kinds }
+    requires pairs { PairsStand W.pair stables.old world.old.controllers }
+    requires first { IsFirst place world.old.journal }
+    requires up { (n : ℕ) → has quorum.now n ≡ true → has (up_in world.old.controllers) n ≡ true }
+    ensures keeps { IfMemory result (Keeps (Controls A.kinds A.most A.states A.suits) W.pair W.faults (sealing_by B.sealed B.spelled B.size) world.old stables.old world.new stables.new) }
+    ensures rests { OnOk result (Rests 0 world.old world.new) }
+    ensures drains { Leads (Controls A.kinds A.most A.states A.suits) (sealing_by B.sealed B.spelled B.size) (Drains view quorum.now) (StandsAt (CameTo (Drains view quorum.now)) result) world.old world.new }
+    ensures up { IfOk result (λ came. UpBy came (up_in world.old.controllers) (up_in world.new.controllers)) }
+    ensures less { OnOk result (work_left (past world.new.journal) < work_left (past world.old.journal)) }
+{
+    if is_drawn(quorum, place.from, place.to) {
+        return draw_first(world, stables, view, quorum, place);
+    }
+    lose_first(world, stables, place)?;
+    Ok(Came::ToRest)
+}

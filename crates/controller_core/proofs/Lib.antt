@@ -1,6 +1,0 @@
-pub mod Chains
-pub mod Finishing
-pub mod Moves
-pub mod Growth
-pub mod Standing
-pub mod Addresses

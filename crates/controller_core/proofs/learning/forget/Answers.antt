@@ -1,6 +1,0 @@
-use Rattle.std.proofs.Common.{rules, not, nat_eq, ◌&&◌}
-use Rattle.std.proofs.lemmas.Fn.{filter_same}
-use Rattle.controller_core.proofs.learning.forget.Goals as goal
-
-pub returns : goal.returns
-returns c = filter_same _ (λ h. not (nat_eq h.switch c.args.switch && nat_eq h.port c.args.port)) _ (search rules) _ _ c.retain.ensures.filtered

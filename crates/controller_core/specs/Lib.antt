@@ -1,4 +1,0 @@
-pub mod Log
-pub mod State
-pub mod Marks
-pub mod Rules

@@ -1,0 +1,222 @@
+-- A script is followed step by step.
+use Rattle.std.proofs.Common.{◌≡◌, ◌⊎◌, inl, inr, ℕ, ◌+◌, Bool, true, false, List, [], ◌∷◌, ◌++◌, length, refl, sym, ◌∙◌, ap, subst, arith}
+use Rattle.std.specs.Prelude.{count_by, reverse, slice_get, Option, Some, None, Err, if◌then◌else◌}
+use Rattle.std.proofs.lemmas.List.Sums.{sum_by-append}
+use Rattle.rv_base.specs.declared.journal.Actor.{Actor}
+use Rattle.rv_base.specs.declared.journal.JournalEntry.{JournalEntry}
+use Rattle.rv_base.specs.declared.journal.JournalEntry.TheVariants.{Post}
+use Rattle.rv_base.specs.declared.journal.Packet.{Packet}
+use Rattle.rv_base.specs.declared.journal.SaveResult.{SaveResult}
+use Rattle.rv_base.specs.declared.journal.Turn.{Turn}
+use Rattle.rv_base.specs.declared.journal.Turn.TheVariants as turn
+use Rattle.rv_base.specs.declared.wire.Stop.{Stop}
+use Rattle.rv_base.specs.declared.wire.Stop.TheVariants.{OutOfMemory, JournalFull}
+use Rattle.rv_base.specs.Actors.{actor_of, is_input, same_actor, IsActor}
+use Rattle.rv_base.specs.Pool.{past, pick}
+use Rattle.rv_base.specs.Turns.{drawn_entry, entry_of, lost_entry, turn_actor}
+use Rattle.group_controller.specs.Turns.{Controlling}
+use Rattle.rv_laws.specs.Laws.{EntrySuspectsUpTo, IsSuspectedUpTo}
+use Rattle.rv_runs.specs.Schedule.{FollowsInOrder, IsBegun, In_the_script, IsStepOf, TakesInOrder, inputs}
+use Rattle.rv_runs.specs.States.{Scene, Sealing}
+use Rattle.rv_world.specs.World.{AreMore, Applies, Holds, IfMemory, IsStuck, Keeps, PairsStand, TurnStops, Worlding, posts_of, results_in, scene_in, taken}
+use Rattle.rv_world.specs.declared.debt.Debt.{Debt}
+use Rattle.rv_world.proofs.Growing.{no_more}
+use Rattle.rv_world.proofs.Turning.{keeps_then, rests_keeps}
+use Rattle.closing.proofs.Leading.{runs_again, turned, turned_by}
+use Rattle.closing.proofs.Turned.{Added, No_post, One_post, PostsOf, Turned, added_alone, more_before, past_new}
+use Rattle.closing.proofs.Worlds.{posted_is}
+use Rattle.playing.proofs.Stopping.{same_self, stuck_full}
+use Rattle.playing.specs.Played.{Lastingly, RunStops, StepSuspectsUpTo}
+
+-- the entry of the next step is that of a step
+step_of : {B : Type 0} (steps : List Turn) (step : Turn) (before : List (JournalEntry B)) → slice_get steps (inputs before) ≡ Some step → IsStepOf steps (entry_of step before) before
+step_of steps (turn.Draw a choice keep) before next = by_found (pick a choice before) refl
+  where
+    by_found : (o : Option (Packet _)) → pick a choice before ≡ o → IsStepOf steps (drawn_entry a keep o) before
+    by_found None is = (turn.Draw a choice keep, next, rw is refl)
+    by_found (Some p) is = (turn.Draw a choice keep, next, rw is refl)
+step_of steps (turn.Lose a choice) before next = by_found (pick a choice before) refl
+  where
+    by_found : (o : Option (Packet _)) → pick a choice before ≡ o → IsStepOf steps (lost_entry a o) before
+    by_found None is = (turn.Lose a choice, next, rw is refl)
+    by_found (Some p) is = (turn.Lose a choice, next, rw is refl)
+step_of steps (turn.Local a input) before next = (turn.Local a input, next, refl)
+
+-- one more entry takes an input, or none
+count_next : {X : Type 0} (p : X → Bool) (x : X) (xs : List X) (b : Bool) → p x ≡ b → count_by p (x ∷ xs) ≡ (if b then 1 else 0) + count_by p xs
+count_next p x xs true is = sum_by-append (λ y. if p y then 1 else 0) (x ∷ []) xs ∙ rw is refl
+count_next p x xs false is = sum_by-append (λ y. if p y then 1 else 0) (x ∷ []) xs ∙ rw is refl
+
+module _ {B A : Type 0} (controls : Controlling A → List ℕ → Type 0) (scene : Scene B) (e : JournalEntry B) (old new : Worlding B A) (t : Turned controls scene e old new) where
+  -- a step was taken
+  pub inputs_next : inputs (past new.journal) ≡ inputs (past old.journal) + 1
+  inputs_next = ap inputs (past_new controls scene e old new t) ∙ by_posts t.posts (actor_of e) t.of
+    where
+      one : inputs (e ∷ past old.journal) ≡ inputs (past old.journal) + 1
+      one = let n = count_next is_input e (past old.journal) true t.input in omega (arith, n)
+
+      by_posts : (posts : List (JournalEntry B)) (a : Actor) → PostsOf a posts → inputs (reverse posts ++ e ∷ past old.journal) ≡ inputs (past old.journal) + 1
+      by_posts posts a No_post = one
+      by_posts posts a (One_post first letters lost) = let n = count_next is_input (Post a first letters lost) (e ∷ past old.journal) false refl in let m = one in omega (arith, n, m)
+
+  module _ (steps : List Turn) (step : Turn) (is : e ≡ entry_of step (past old.journal)) (next : slice_get steps (inputs (past old.journal)) ≡ Some step)
+      (later : List (List SaveResult)) (more : AreMore scene.setup.controllers (results_in new.controllers) later) (takes : TakesInOrder scene later steps (past old.journal)) where
+    pub takes_entry : TakesInOrder scene later steps (e ∷ past old.journal)
+    takes_entry = (
+      subst (λ x. IsStepOf steps x (past old.journal)) (sym is) (step_of steps step (past old.journal) next),
+      (λ _. posted_is controls scene old t.was later (more_before controls scene e old new t later more) t.rested),
+      takes,
+    )
+
+    -- and its outbox was posted
+    pub takes_turn : TakesInOrder scene later steps (past new.journal)
+    takes_turn = subst (λ l. TakesInOrder scene later steps l) (sym (past_new controls scene e old new t)) (by_posts t.posts (actor_of e) refl t.of)
+      where
+        never : false ≡ true → ⊥
+        never h = cc
+
+        by_posts : (posts : List (JournalEntry B)) (a : Actor) → actor_of e ≡ a → PostsOf a posts → TakesInOrder scene later steps (reverse posts ++ e ∷ past old.journal)
+        by_posts posts a mine No_post = takes_entry
+        by_posts posts a mine (One_post first letters lost) = ((t.input, ap (λ x. same_actor x a) mine ∙ same_self a), (λ h. absurd (never h)), takes_entry)
+
+-- the views that were suspected
+suspects_entry : {B : Type 0} (limit : ℕ) (step : Turn) (before : List (JournalEntry B)) → StepSuspectsUpTo limit step → EntrySuspectsUpTo limit (entry_of step before)
+suspects_entry {B = B} limit (turn.Draw a choice keep) before within = by_found (pick a choice before)
+  where
+    by_found : (o : Option (Packet B)) → EntrySuspectsUpTo limit (drawn_entry a keep o)
+    by_found None = tt
+    by_found (Some p) = tt
+suspects_entry {B = B} limit (turn.Lose a choice) before within = by_found (pick a choice before)
+  where
+    by_found : (o : Option (Packet B)) → EntrySuspectsUpTo limit (lost_entry a o)
+    by_found None = tt
+    by_found (Some p) = tt
+suspects_entry {B = B} limit (turn.Local a input) before within = within
+
+pub suspects_turn : {B A : Type 0} (controls : Controlling A → List ℕ → Type 0) (scene : Scene B) (e : JournalEntry B) (old new : Worlding B A) (t : Turned controls scene e old new) (limit : ℕ) (step : Turn) → e ≡ entry_of step (past old.journal) →
+    StepSuspectsUpTo limit step → IsSuspectedUpTo limit (past old.journal) → IsSuspectedUpTo limit (past new.journal)
+suspects_turn controls scene e old new t limit step is within before =
+    subst (λ l. IsSuspectedUpTo limit l) (sym (past_new controls scene e old new t)) (by_posts t.posts (actor_of e) t.of)
+  where
+    entry : EntrySuspectsUpTo limit e
+    entry = subst (λ x. EntrySuspectsUpTo limit x) (sym is) (suspects_entry limit step (past old.journal) within)
+
+    by_posts : (posts : List (JournalEntry _)) (a : Actor) → PostsOf a posts → IsSuspectedUpTo limit (reverse posts ++ e ∷ past old.journal)
+    by_posts posts a No_post = (entry, before)
+    by_posts posts a (One_post first letters lost) = (tt, (entry, before))
+
+-- where a script stands in a world
+pub record Stands {B A W : Type 0} (controls : Controlling A → List ℕ → Type 0) (pair : W → ℕ × ℕ) (faults : W → ℕ) (sealing : Sealing B) (steps : List Turn) (limit count : ℕ)
+    (first : Worlding B A) (stables : List W) (now : Worlding B A) (stables_now : List W) : Type 0 where
+  pub keeps : Keeps controls pair faults sealing first stables now stables_now
+  pub rests : now.owed ≡ None
+  pub views : IsSuspectedUpTo limit (past now.journal)
+  pub counted : inputs (past now.journal) ≡ count
+  pub takes : (kinds : List ℕ) → Holds controls sealing first kinds → Lastingly now (λ later. TakesInOrder (scene_in sealing first kinds) later steps (past now.journal))
+
+module _ {B A W : Type 0} (controls : Controlling A → List ℕ → Type 0) (pair : W → ℕ × ℕ) (faults : W → ℕ) (sealing : Sealing B) (steps : List Turn) (limit : ℕ) (first : Worlding B A) (stables : List W) where
+  pub stands_first : first.owed ≡ None → first.journal ≡ [] → PairsStand pair stables first.controllers → Stands controls pair faults sealing steps limit 0 first stables first stables
+  stands_first rests fresh pairs = record {
+    keeps = rests_keeps controls pair faults sealing first first stables refl refl (λ kinds h. h) pairs;
+    rests = rests;
+    views = subst (λ l. IsSuspectedUpTo limit (past l)) (sym fresh) tt;
+    counted = ap (λ l. inputs (past l)) fresh;
+    takes = λ kinds h later more. subst (λ l. TakesInOrder (scene_in sealing first kinds) later steps (past l)) (sym fresh) tt;
+  }
+
+  -- what is to be shown of one step of a world that holds
+  module _ (some : (kinds : List ℕ) × Holds controls sealing first kinds) (count : ℕ) (old new : Worlding B A) (stables_old stables_new : List W) (at : Stands controls pair faults sealing steps limit count first stables old stables_old)
+      (step : Turn) (next : slice_get steps count ≡ Some step) (named : IsActor first.setup (turn_actor step)) (within : StepSuspectsUpTo limit step) where
+    abbrev e : JournalEntry B
+    e = entry_of step (past old.journal)
+
+    named_now : IsActor old.setup (turn_actor step)
+    named_now = subst (λ s. IsActor s (turn_actor step)) (sym at.keeps.setup) named
+
+    next_now : slice_get steps (inputs (past old.journal)) ≡ Some step
+    next_now = ap (λ n. slice_get steps n) at.counted ∙ next
+
+    of_step : (s : Turn) (before : List (JournalEntry B)) → (actor_of (entry_of s before) ≡ turn_actor s) × (is_input (entry_of s before) ≡ true)
+    of_step (turn.Draw a choice keep) before = by_found (pick a choice before)
+      where
+        by_found : (o : Option (Packet B)) → (actor_of (drawn_entry a keep o) ≡ a) × (is_input (drawn_entry a keep o) ≡ true)
+        by_found None = (refl, refl)
+        by_found (Some p) = (refl, refl)
+    of_step (turn.Lose a choice) before = by_found (pick a choice before)
+      where
+        by_found : (o : Option (Packet B)) → (actor_of (lost_entry a o) ≡ a) × (is_input (lost_entry a o) ≡ true)
+        by_found None = (refl, refl)
+        by_found (Some p) = (refl, refl)
+    of_step (turn.Local a input) before = (refl, refl)
+
+    later_scene : (kinds : List ℕ) → scene_in sealing old kinds ≡ scene_in sealing first kinds
+    later_scene kinds = ap (λ s. record { setup = s; kinds = kinds; sealing = sealing }) at.keeps.setup
+
+    turn_of : (kinds : List ℕ) → Holds controls sealing first kinds → Keeps controls pair faults sealing old stables_old new stables_new → Applies sealing.size step old new → Turned controls (scene_in sealing old kinds) e old new
+    turn_of kinds h k applied =
+        turned controls pair faults sealing old stables_old new stables_new step e at.rests at.keeps.pairs refl (sym (of_step step (past old.journal)).0) (subst (λ a. IsActor old.setup a) (sym (of_step step (past old.journal)).0) named_now) (of_step step (past old.journal)).1 kinds (at.keeps.holds kinds h) k applied
+
+    pub stands_next : Keeps controls pair faults sealing old stables_old new stables_new → Applies sealing.size step old new → Stands controls pair faults sealing steps limit (count + 1) first stables new stables_new
+    stands_next k applied =
+        let t = turn_of some.0 some.1 k applied in
+        record {
+          keeps = keeps_then controls pair faults sealing first old new stables stables_old stables_new at.keeps k;
+          rests = applied.rests;
+          views = suspects_turn controls (scene_in sealing old some.0) e old new t limit step refl within at.views;
+          counted = inputs_next controls (scene_in sealing old some.0) e old new t ∙ ap (λ n. n + 1) at.counted;
+          takes = λ kinds h later more.
+              let u = turn_of kinds h k applied in
+              let more_now = subst (λ s. AreMore s.controllers (results_in new.controllers) later) k.setup more in
+              subst (λ scene. TakesInOrder scene later steps (past new.journal)) (later_scene kinds)
+              (takes_turn controls (scene_in sealing old kinds) e old new u steps step refl next_now later more_now
+              (subst (λ scene. TakesInOrder scene later steps (past old.journal)) (sym (later_scene kinds)) (at.takes kinds h later (more_before controls (scene_in sealing old kinds) e old new u later more_now))));
+        }
+
+    -- the turn met the limit of the journal
+    pub stops_next : (stop : Stop) → Keeps controls pair faults sealing old stables_old new stables_new ⊎ (stop ≡ OutOfMemory) → TurnStops sealing.size step old new stop → (kinds : List ℕ) → Holds controls sealing first kinds →
+        RunStops (scene_in sealing first kinds) steps new stop
+    stops_next OutOfMemory k stops kinds h = tt
+    stops_next (JournalFull bytes letters) (inr never) stops kinds h = cc
+    stops_next (JournalFull bytes letters) (inl k) (stuck, how) kinds h = by_how how
+      where
+        begun : Added step old new → RunStops (scene_in sealing first kinds) steps new (JournalFull bytes letters)
+        begun a =
+            let u = turned_by controls pair faults sealing old stables_old new stables_new step e at.rests at.keeps.pairs refl (sym (of_step step (past old.journal)).0)
+            (subst (λ x. IsActor old.setup x) (sym (of_step step (past old.journal)).0) named_now) (of_step step (past old.journal)).1 kinds (at.keeps.holds kinds h) k a in
+            let later = results_in new.controllers in
+            let more = no_more old.setup.controllers later in
+            let takes = takes_turn controls (scene_in sealing old kinds) e old new u steps step refl next_now later more
+            (subst (λ scene. TakesInOrder scene later steps (past old.journal)) (sym (later_scene kinds)) (at.takes kinds h later (more_before controls (scene_in sealing old kinds) e old new u later more))) in
+            subst (λ scene. IsBegun scene later steps bytes letters (past new.journal)) (later_scene kinds)
+            (In_the_script takes (stuck_full controls (scene_in sealing old kinds) new u.is bytes letters stuck))
+
+        by_how : (new ≡ old) ⊎ (new.journal ≡ taken step (old.journal ++ posts_of sealing.size old.owed old.journal)) → RunStops (scene_in sealing first kinds) steps new (JournalFull bytes letters)
+        by_how (inl same) = absurd (never_stuck same stuck)
+          where
+            by_owed : (o : Option (Debt B)) → new.owed ≡ o → o ≡ None → IsStuck sealing.size new bytes letters → ⊥
+            by_owed None is none s = rw is at s
+            by_owed (Some d) is none s = cc
+
+            never_stuck : new ≡ old → IsStuck sealing.size new bytes letters → ⊥
+            never_stuck eq s = by_owed new.owed refl (ap (λ w. w.owed) eq ∙ at.rests) s
+        by_how (inr grown) = begun (added_alone sealing.size step old new at.rests grown)
+
+    -- what a turn that stopped keeps
+    pub keeps_stop : (stop : Stop) → IfMemory {T = Unit {0}} (Err stop) (Keeps controls pair faults sealing old stables_old new stables_new) → IfMemory {T = Unit {0}} (Err stop) (Keeps controls pair faults sealing first stables new stables_new)
+    keeps_stop OutOfMemory k = tt
+    keeps_stop (JournalFull bytes letters) k = keeps_then controls pair faults sealing first old new stables stables_old stables_new at.keeps k
+
+    pub kept_or : (stop : Stop) → IfMemory {T = Unit {0}} (Err stop) (Keeps controls pair faults sealing old stables_old new stables_new) → Keeps controls pair faults sealing old stables_old new stables_new ⊎ (stop ≡ OutOfMemory)
+    kept_or OutOfMemory k = inr refl
+    kept_or (JournalFull bytes letters) k = inl k
+
+  -- all steps were taken
+  pub stands_last : (now : Worlding B A) (stables_now : List W) (count : ℕ) → Stands controls pair faults sealing steps limit count first stables now stables_now → count ≡ length steps → (kinds : List ℕ) → Holds controls sealing first kinds →
+      Lastingly now (λ later. FollowsInOrder (scene_in sealing first kinds) later steps (past now.journal))
+  stands_last now stables_now count at all kinds h later more =
+      let runs = runs_again controls sealing first now kinds at.keeps.setup (at.keeps.holds kinds h) in
+      record {
+        takes = at.takes kinds h later more;
+        all = at.counted ∙ all;
+        posted = posted_is controls (scene_in sealing first kinds) now runs later (subst (λ s. AreMore s.controllers (results_in now.controllers) later) at.keeps.setup more) at.rests;
+      }

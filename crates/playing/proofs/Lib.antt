@@ -1,0 +1,3 @@
+mod Ending
+pub mod Following
+pub mod Stopping

@@ -1,0 +1,10 @@
+use Rattle.std.proofs.Common.{sym, subst, IfOk}
+use Rattle.ravana_run.specs.declared.service.Reader.{Reader}
+use Rattle.ravana_run.specs.Ending.{EndsRead}
+use Rattle.ravana_run.specs.Runs.{StablesTell}
+use Rattle.ravana_run.proofs.top.end_of_reading.Goals as goal
+
+pub returns-in-Sim : goal.returns-in-Sim
+returns-in-Sim g c = λ kinds chains.
+    subst (λ (r : Reader). IfOk c.simulated.result (λ e. EndsRead kinds (StablesTell g.W.Stable.pair g.W.Stable.faults c.args.stables.now c.simulated.new.stables) r c.args.bytes.now e)) (sym c.in-Sim.is)
+    (c.simulated.ensures kinds chains)

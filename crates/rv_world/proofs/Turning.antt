@@ -1,0 +1,411 @@
+-- What a world keeps through the step of an actor, and through the post of what it owes.
+use Rattle.std.proofs.Common.{◌≡◌, ◌<◌, ℕ, true, false, Bool, List, [], ◌∷◌, ◌++◌, length, drop, refl, sym, ◌∙◌, ap, subst, append-nil}
+use Rattle.std.specs.Prelude.{slice_get, Option, Some, None, IfSome, Result, Ok, Err, OnOk, IfErr, if◌then◌else◌}
+use Rattle.std.specs.List.{AllByRecursion}
+use Rattle.std.proofs.lemmas.Bool.{eqb-true}
+use Rattle.rv_base.specs.declared.journal.Actor.{Actor}
+use Rattle.rv_base.specs.declared.journal.Actor.TheVariants as actor
+use Rattle.rv_base.specs.declared.journal.JournalEntry.{JournalEntry}
+use Rattle.rv_base.specs.declared.journal.JournalEntry.TheVariants.{Post, Draw, Lose, Local, Idle, Refused}
+use Rattle.rv_base.specs.declared.journal.Letter.{Letter}
+use Rattle.rv_base.specs.declared.journal.Packet.{Packet}
+use Rattle.rv_base.specs.declared.journal.SaveResult.{SaveResult}
+use Rattle.rv_base.specs.Actors.{actor_of, same_actor, IsActor}
+use Rattle.rv_base.specs.Orderly.{IsOrderly, lost_of}
+use Rattle.rv_base.specs.Part.{part, drawn}
+use Rattle.rv_base.specs.declared.journal.Turn.{Turn}
+use Rattle.rv_base.specs.Pool.{past, pool, letters_posted}
+use Rattle.rv_base.specs.declared.wire.Stop.{Stop}
+use Rattle.rv_base.specs.declared.wire.Stop.TheVariants.{OutOfMemory, JournalFull}
+use Rattle.rv_base.specs.Turns.{entry_of, posting, turn_actor}
+use Rattle.rv_base.proofs.Lists.{past-push}
+use Rattle.vr_log.specs.declared.entry.Entry.{Entry}
+use Rattle.of_switch.specs.State.{SwitchState}
+use Rattle.of_switch.specs.declared.says.SwitchInput.{SwitchInput}
+use Rattle.group_controller.specs.declared.messages.ControllerInput.{ControllerInput}
+use Rattle.group_controller.specs.declared.messages.ControllerSays.{ControllerSays}
+use Rattle.group_controller.specs.Turns.{Controlling, state_of}
+use Rattle.rv_runs.specs.declared.messages.Message.{Message}
+use Rattle.rv_runs.specs.Inputs.{IsHeard, IsHeardAt}
+use Rattle.rv_runs.specs.Legal.{EntryFits, Fits, results_of}
+use Rattle.rv_runs.specs.Committed.{controller_state, decided, kept, kept_of}
+use Rattle.rv_runs.specs.Schedule.{IsInputOf}
+use Rattle.rv_runs.specs.States.{IsFaithful, Scene, Sealing, controller_at, switch_at, controller_message, switch_message}
+use Rattle.rv_runs.proofs.Pasts.{from_some}
+use Rattle.rv_world.specs.declared.debt.Debt.{Debt}
+use Rattle.rv_world.specs.Actors.{ControllerOwes, ControllerTakes, SwitchOwes}
+use Rattle.rv_world.specs.World.{AreMore, AreTold, Holds, HoldsAt, IfMemory, IsOwed, Keeps, PairsStand, Steps, Worlding, debt_of, decided_with, posts_of, results_in, scene_in}
+use Rattle.rv_world.proofs.Deciding.{decided_by_one, decided_same}
+use Rattle.rv_world.proofs.Growing.{more_then, possible_with_more, same_at}
+use Rattle.rv_world.proofs.Holding.{controller_holds}
+use Rattle.rv_world.proofs.Keeping.{none_said, switch_holds}
+use Rattle.rv_world.proofs.Places.{got_set, results_at}
+use Rattle.rv_world.proofs.Quiet.{quiet_holds}
+use Rattle.rv_world.proofs.Resting.{IsQuiet, other_controller, own_controller, owed_behind}
+use Rattle.rv_world.proofs.Stables.{each_told, each_told_then, pairs_stand, unsaved_told}
+
+-- nothing is saved
+pub none_told : {A W : Type 0} (faults : W → ℕ) (stables : List W) (controllers : List (Controlling A)) → AreTold faults stables stables controllers controllers
+none_told faults stables controllers c x stable found stands = (x, stable, found, stands, unsaved_told (faults stable) x.results)
+
+-- an entry in which no actor takes or posts anything
+abbrev pub IsIdle : {B : Type 0} → JournalEntry B → Type 0
+IsIdle (Lose a id) = Unit {0}
+IsIdle (Idle a) = Unit {0}
+IsIdle (Post a first letters lost) = ⊥
+IsIdle (Draw a id keep) = ⊥
+IsIdle (Local a input) = ⊥
+IsIdle (Refused a) = ⊥
+
+idle_quiet : {B : Type 0} (e : JournalEntry B) → IsIdle e → IsQuiet e
+idle_quiet (Lose a id) h = tt
+idle_quiet (Idle a) h = tt
+idle_quiet (Post a first letters lost) h = absurd h
+idle_quiet (Draw a id keep) h = absurd h
+idle_quiet (Local a input) h = absurd h
+idle_quiet (Refused a) h = absurd h
+
+idle_fits : {B : Type 0} (e : JournalEntry B) → IsIdle e → EntryFits e
+idle_fits (Lose a id) h = tt
+idle_fits (Idle a) h = tt
+idle_fits (Post a first letters lost) h = absurd h
+idle_fits (Draw a id keep) h = absurd h
+idle_fits (Local a input) h = absurd h
+idle_fits (Refused a) h = absurd h
+
+idle_stands : {A B : Type 0} (said : A → Message) (sealing : Sealing B) (owed : List (Letter A)) (before : List (JournalEntry B × Option (Packet B))) (e : JournalEntry B) → IsIdle e → owed ≡ [] → Fits said sealing owed before e
+idle_stands said sealing owed before (Lose a id) h none = none
+idle_stands said sealing owed before (Idle a) h none = none
+idle_stands said sealing owed before (Post a first letters lost) h none = absurd h
+idle_stands said sealing owed before (Draw a id keep) h none = absurd h
+idle_stands said sealing owed before (Local a input) h none = absurd h
+idle_stands said sealing owed before (Refused a) h none = absurd h
+
+idle_behind : {A B : Type 0} (e : JournalEntry B) (owed : List (Letter A)) → IsIdle e → owed ≡ [] → owed_behind e owed ≡ []
+idle_behind (Lose a id) owed h none = none
+idle_behind (Idle a) owed h none = none
+idle_behind (Post a first letters lost) owed h none = refl
+idle_behind (Draw a id keep) owed h none = none
+idle_behind (Local a input) owed h none = none
+idle_behind (Refused a) owed h none = none
+
+-- one that owes is an actor of the setup
+named_debtor : {B : Type 0} (scene : Scene B) (entries : List (JournalEntry B)) (a : Actor) → AllByRecursion (λ e. IsActor scene.setup (actor_of e)) entries → IsInputOf a entries → IsActor scene.setup a
+named_debtor scene [] a named h = absurd h
+named_debtor scene (e ∷ before) a named h = same_named (actor_of e) a h.1 named.0
+  where
+    same_named : (x y : Actor) → same_actor x y ≡ true → IsActor scene.setup x → IsActor scene.setup y
+    same_named (actor.Controller i) (actor.Controller j) same is = subst (λ (n : ℕ). n < scene.setup.controllers) (eqb-true i j same) is
+    same_named (actor.Switch i) (actor.Switch j) same is = subst (λ (n : ℕ). n < length scene.setup.ports) (eqb-true i j same) is
+    same_named (actor.Controller i) (actor.Switch j) same is = cc
+    same_named (actor.Switch i) (actor.Controller j) same is = cc
+
+-- a controller that an entry does not name, or in whose entry none takes a turn, is what it was
+other_part : {B : Type 0} (a : Actor) (e : JournalEntry B) (entries : List (JournalEntry B)) → same_actor (actor_of e) a ≡ false → part a (e ∷ entries) ≡ part a entries
+other_part a e entries other = rw other refl
+
+other_state : {B : Type 0} (scene : Scene B) (later : List (List SaveResult)) (e : JournalEntry B) (entries : List (JournalEntry B)) (d : ℕ) → same_actor (actor_of e) (actor.Controller d) ≡ false →
+    controller_state scene later d (e ∷ entries) ≡ controller_state scene later d entries
+other_state {B = B} scene later e entries d other =
+    ap (λ (ps : List (JournalEntry B × Option (Packet B))). (controller_at scene (results_of later d) d ps).now) (other_part (actor.Controller d) e entries other)
+
+quiet_state : {B : Type 0} (scene : Scene B) (later : List (List SaveResult)) (entries : List (JournalEntry B)) (e : JournalEntry B) → IsQuiet e → (d : ℕ) →
+    controller_state scene later d (e ∷ entries) ≡ controller_state scene later d entries
+quiet_state scene later entries e quiet d = by_actor (same_actor (actor_of e) (actor.Controller d)) refl
+  where
+    by_actor : (b : Bool) → same_actor (actor_of e) (actor.Controller d) ≡ b → controller_state scene later d (e ∷ entries) ≡ controller_state scene later d entries
+    by_actor true is = (own_controller scene later entries e quiet d is).now
+    by_actor false is = ap (λ y. y.now) (other_controller scene later entries e quiet d is)
+
+-- the controller of a number behind its turn
+pub new_found : {A W : Type 0} {controls : Controlling A → List ℕ → Type 0} {pair : W → ℕ × ℕ} {faults : W → ℕ} {x : ControllerInput} {before after : List (Controlling A)} {stables stables_after : List W} {c : ℕ}
+    {letters : List (Letter ControllerSays)} (t : ControllerTakes controls pair faults x before stables c after stables_after letters) → slice_get after c ≡ Some t.new
+new_found {before = before} {c = c} t = ap (λ l. slice_get l c) t.state ∙ got_set before c t.old t.new t.stood
+
+-- a controller that an entry does not name has committed what it had
+others_kept : {B : Type 0} (scene : Scene B) (later : List (List SaveResult)) (e : JournalEntry B) (entries : List (JournalEntry B)) (d : ℕ) → same_actor (actor_of e) (actor.Controller d) ≡ false →
+    kept scene later d (e ∷ entries) ≡ kept scene later d entries
+others_kept scene later e entries d other = ap kept_of (other_state scene later e entries d other)
+
+-- each controller has the results that it had, and maybe more
+pub more_told : {A W : Type 0} (pair : W → ℕ × ℕ) (faults : W → ℕ) (group : ℕ) (stables stables_after : List W) (controllers controllers_after : List (Controlling A)) →
+    PairsStand pair stables controllers → ((c : ℕ) → c < group → (x : Controlling A) × (slice_get controllers c ≡ Some x)) →
+    AreTold faults stables stables_after controllers controllers_after → AreMore group (results_in controllers) (results_in controllers_after)
+more_told pair faults group stables stables_after controllers controllers_after stand each told c there =
+    let x = each c there in
+    let s = stand c x.0 x.1 in
+    let t = told c x.0 s.0 x.1 s.1 in
+    (t.4.more, results_at controllers_after c t.0 t.2 ∙ t.4.joined ∙ ap (λ (l : List SaveResult). l ++ t.4.more) (sym (results_at controllers c x.0 x.1)))
+
+module _ {B A W : Type 0} (controls : Controlling A → List ℕ → Type 0) (pair : W → ℕ × ℕ) (faults : W → ℕ) (sealing : Sealing B) (faithful : IsFaithful sealing) (w : Worlding B A) (stables : List W)
+    (rests : w.owed ≡ None) (some : (kinds : List ℕ) × Holds controls sealing w kinds) (stand : PairsStand pair stables w.controllers) (e : JournalEntry B) where
+  -- the world with one more entry
+  abbrev pub entered : Worlding B A
+  entered = record w { journal = w.journal ++ e ∷ [] }
+
+  -- what is decided, where this controller alone has changed
+  controller_decides : (c : ℕ) → c < w.setup.controllers → actor_of e ≡ actor.Controller c → (kinds : List ℕ) → Holds controls sealing w kinds → (u : Worlding B A) →
+      HoldsAt controls (scene_in sealing w kinds) (results_in u.controllers) (e ∷ past w.journal) u → (new : Controlling A) → slice_get u.controllers c ≡ Some new →
+      AreMore w.setup.controllers (results_in w.controllers) (results_in u.controllers) →
+      (later : List (List SaveResult)) → AreMore w.setup.controllers (results_in u.controllers) later → decided (scene_in sealing w kinds) later (e ∷ past w.journal) ≡ decided_with w.decided new
+  controller_decides c there mine kinds h u held new stands are later more =
+      let scene = scene_in sealing w kinds in
+      let entries = past w.journal in
+      let m = held.controllers c there in
+      let before : decided scene later entries ≡ w.decided = h.decided later (more_then w.setup.controllers (results_in w.controllers) (results_in u.controllers) later are more) in
+      let state : controller_state scene later c (e ∷ entries) ≡ state_of new =
+      ap (λ y. y.now) (sym (same_at scene (results_in u.controllers) later (e ∷ entries) held.legal more c there)) ∙ sym m.state ∙ ap state_of (from_some m.member new (sym m.stands ∙ stands)) in
+      decided_by_one scene later h.run.setup faithful e entries (possible_with_more scene (results_in u.controllers) later (e ∷ entries) held.legal more) c there
+      (λ d within other. others_kept scene later e entries d (ap (λ a. same_actor a (actor.Controller d)) mine ∙ other))
+      ∙ ap (λ (l : List Entry). l ++ drop (length l) (kept scene later c (e ∷ entries))) before
+      ∙ ap (λ y. w.decided ++ drop (length w.decided) (kept_of y)) state
+
+  -- what is decided, where no controller has changed
+  pub none_decides : (kinds : List ℕ) → Holds controls sealing w kinds → (u : Worlding B A) →
+      HoldsAt controls (scene_in sealing w kinds) (results_in w.controllers) (e ∷ past w.journal) u →
+      ((later : List (List SaveResult)) (d : ℕ) → controller_state (scene_in sealing w kinds) later d (e ∷ past w.journal) ≡ controller_state (scene_in sealing w kinds) later d (past w.journal)) →
+      (later : List (List SaveResult)) → AreMore w.setup.controllers (results_in w.controllers) later → decided (scene_in sealing w kinds) later (e ∷ past w.journal) ≡ w.decided
+  none_decides kinds h u held same later more =
+      let scene = scene_in sealing w kinds in
+      decided_same scene later h.run.setup faithful e (past w.journal) (possible_with_more scene (results_in w.controllers) later (e ∷ past w.journal) held.legal more)
+      (λ d within. ap kept_of (same later d)) ∙ h.decided later more
+
+  -- all of what is kept, where no controller has changed
+  known_after : (kinds : List ℕ) → Holds controls sealing w kinds → (switches : List SwitchState) (owed : Option (Debt B)) →
+      HoldsAt controls (scene_in sealing w kinds) (results_in w.controllers) (e ∷ past w.journal) (record entered { switches = switches; owed = owed }) →
+      ((later : List (List SaveResult)) (d : ℕ) → controller_state (scene_in sealing w kinds) later d (e ∷ past w.journal) ≡ controller_state (scene_in sealing w kinds) later d (past w.journal)) →
+      Holds controls sealing (record entered { switches = switches; owed = owed }) kinds
+  known_after kinds h switches owed held same =
+      let u : Worlding B A = record entered { switches = switches; owed = owed } in
+      record {
+        run = subst (λ (l : List (JournalEntry B)). HoldsAt controls (scene_in sealing w kinds) (results_in w.controllers) l u) (sym (past-push w.journal e)) held;
+        decided = λ later more. subst (λ (l : List (JournalEntry B)). decided (scene_in sealing w kinds) later l ≡ w.decided) (sym (past-push w.journal e)) (none_decides kinds h u held same later more);
+      }
+
+  -- a controller takes its input
+  pub controller_keeps : (c : ℕ) → c < w.setup.controllers → actor_of e ≡ actor.Controller c → (x : ControllerInput) (stables_after : List W) (v : Worlding B A) →
+      ((kinds : List ℕ) → IsHeard (scene_in sealing w kinds) e (drawn e (past w.journal)) x) → EntryFits e → IsOrderly sealing.size (e ∷ past w.journal) →
+      ControllerOwes controls pair faults sealing x entered stables c v stables_after → Keeps controls pair faults sealing w stables v stables_after
+  controller_keeps c there mine x stables_after v heard typed orderly t =
+      let u : Worlding B A = record entered {
+        controllers = v.controllers;
+        owed = Some (record { actor = actor.Controller c; letters = t.sealed });
+        decided = decided_with w.decided t.takes.new;
+      } in
+      let m = some.1.run.controllers c there in
+      let keeps : controls t.takes.old some.0 = subst (λ y. controls y some.0) (from_some m.member t.takes.old (sym m.stands ∙ t.takes.stood)) m.keeps in
+      let told : AreTold faults stables stables_after w.controllers v.controllers = each_told controls pair faults x w.controllers v.controllers stables stables_after c t.letters t.takes some.0 keeps in
+      record {
+        setup = ap (λ (z : Worlding B A). z.setup) t.left;
+        holds = λ kinds h.
+            let held : HoldsAt controls (scene_in sealing w kinds) (results_in v.controllers) (e ∷ past w.journal) u =
+            controller_holds controls pair faults (scene_in sealing w kinds) (past w.journal) w u h.run rests e c there mine x (heard kinds) typed orderly stables stables_after t.letters t.sealed
+            t.takes refl refl t.owes in
+            subst (λ (z : Worlding B A). Holds controls sealing z kinds) (sym t.left)
+            (record {
+              run = subst (λ (l : List (JournalEntry B)). HoldsAt controls (scene_in sealing w kinds) (results_in v.controllers) l u) (sym (past-push w.journal e)) held;
+              decided = subst (λ (l : List (JournalEntry B)). (later : List (List SaveResult)) → AreMore w.setup.controllers (results_in v.controllers) later → decided (scene_in sealing w kinds) later l ≡ u.decided)
+                  (sym (past-push w.journal e)) (controller_decides c there mine kinds h u held t.takes.new (new_found t.takes) (more_told pair faults w.setup.controllers stables stables_after w.controllers v.controllers stand (λ d within. let n = h.run.controllers d within in (n.member, n.stands)) told));
+            });
+        pairs = pairs_stand controls pair faults x w.controllers v.controllers stables stables_after c t.letters t.takes stand;
+        told = told;
+      }
+
+  -- a switch takes its input
+  pub switch_keeps : (s : ℕ) → s < length w.setup.ports → actor_of e ≡ actor.Switch s → (x : SwitchInput) (v : Worlding B A) →
+      ((kinds : List ℕ) → IsHeardAt (scene_in sealing w kinds) e (drawn e (past w.journal)) x) → EntryFits e → IsOrderly sealing.size (e ∷ past w.journal) →
+      SwitchOwes sealing x entered s v → Keeps controls pair faults sealing w stables v stables
+  switch_keeps s there mine x v heard typed orderly t =
+      let u : Worlding B A = record entered { switches = v.switches; owed = Some (record { actor = actor.Switch s; letters = t.sealed }) } in
+      let same : v.controllers ≡ w.controllers = ap (λ (z : Worlding B A). z.controllers) t.left in
+      record {
+        setup = ap (λ (z : Worlding B A). z.setup) t.left;
+        holds = λ kinds h.
+            let held : HoldsAt controls (scene_in sealing w kinds) (results_in w.controllers) (e ∷ past w.journal) u =
+            switch_holds controls (scene_in sealing w kinds) (past w.journal) w u h.run rests e s there mine x (heard kinds) typed orderly t.letters t.sealed t.takes refl refl t.owes in
+            subst (λ (z : Worlding B A). Holds controls sealing z kinds) (sym t.left)
+            (known_after kinds h v.switches (Some (record { actor = actor.Switch s; letters = t.sealed })) held (λ later d. other_state (scene_in sealing w kinds) later e (past w.journal) d (ap (λ a. same_actor a (actor.Controller d)) mine)));
+        pairs = λ c x found. stand c x (ap (λ (l : List (Controlling A)). slice_get l c) (sym same) ∙ found);
+        told = subst (λ (l : List (Controlling A)). AreTold faults stables stables w.controllers l) (sym same) (none_told faults stables w.controllers);
+      }
+
+  -- no actor takes anything
+  pub idle_keeps : IsIdle e → IsActor w.setup (actor_of e) → IsOrderly sealing.size (e ∷ past w.journal) → (v : Worlding B A) → v ≡ entered → Keeps controls pair faults sealing w stables v stables
+  idle_keeps idle named orderly v is = subst (λ (z : Worlding B A). Keeps controls pair faults sealing w stables z stables) (sym is) (record {
+    setup = refl;
+    holds = λ kinds h.
+        let scene = scene_in sealing w kinds in
+        let none_of_controller = λ (c : ℕ) (within : c < w.setup.controllers). none_said sealing controller_message
+        (controller_at scene (results_of (results_in w.controllers) c) c (part (actor.Controller c) (past w.journal))).owed _ ((h.run.controller_debts c within).sealed) (ap (λ o. debt_of o (actor.Controller c)) rests) in
+        let none_of_switch = λ (s : ℕ) (within : s < length w.setup.ports). none_said sealing switch_message
+        (switch_at scene s (part (actor.Switch s) (past w.journal))).owed _ ((h.run.switch_debts s within).sealed) (ap (λ o. debt_of o (actor.Switch s)) rests) in
+        let held : HoldsAt controls scene (results_in w.controllers) (e ∷ past w.journal) entered =
+        quiet_holds controls scene (past w.journal) w entered h.run e (idle_quiet e idle) named (idle_fits e idle) orderly refl refl rests
+        (λ c within own. idle_stands controller_message sealing _ _ e idle (none_of_controller c within))
+        (λ s within own. idle_stands switch_message sealing _ _ e idle (none_of_switch s within))
+        (λ c within own. idle_behind e _ idle (none_of_controller c within))
+        (λ s within own. idle_behind e _ idle (none_of_switch s within))
+        (λ a other. ap (λ o. debt_of o a) rests) in
+        known_after kinds h w.switches w.owed held (λ later d. quiet_state scene later (past w.journal) e (idle_quiet e idle) d);
+    pairs = stand;
+    told = none_told faults stables w.controllers;
+  })
+
+  -- the entry of a loss, and of a draw that finds nothing
+  pub idle_steps : (turn : Turn) → e ≡ entry_of turn (past w.journal) → IsIdle e → IsActor w.setup (actor_of e) → IsOrderly sealing.size (past (w.journal ++ e ∷ [])) → (v : Worlding B A) → v ≡ entered →
+      Steps controls pair faults sealing turn w stables v stables
+  idle_steps turn entry idle named orderly v is = record {
+    keeps = idle_keeps idle named (rw past-push at orderly) v is;
+    journal = ap (λ (z : Worlding B A). z.journal) is ∙ ap (λ (x : JournalEntry B). w.journal ++ x ∷ []) entry;
+    owed = subst (λ (o : Option (Debt B)). IfSome o (λ d. d.actor ≡ turn_actor turn)) (sym (ap (λ (z : Worlding B A). z.owed) is ∙ rests)) tt;
+  }
+
+  -- the entry of an input of a controller
+  pub controller_steps : (turn : Turn) → e ≡ entry_of turn (past w.journal) → (c : ℕ) → c < w.setup.controllers → actor_of e ≡ actor.Controller c → turn_actor turn ≡ actor.Controller c → (x : ControllerInput) →
+      (stables_after : List W) (v : Worlding B A) → ((kinds : List ℕ) → IsHeard (scene_in sealing w kinds) e (drawn e (past w.journal)) x) → EntryFits e → IsOrderly sealing.size (past (w.journal ++ e ∷ [])) →
+      ControllerOwes controls pair faults sealing x entered stables c v stables_after → Steps controls pair faults sealing turn w stables v stables_after
+  controller_steps turn entry c there mine takes x stables_after v heard typed orderly t = record {
+    keeps = controller_keeps c there mine x stables_after v heard typed (rw past-push at orderly) t;
+    journal = ap (λ (z : Worlding B A). z.journal) t.left ∙ ap (λ (y : JournalEntry B). w.journal ++ y ∷ []) entry;
+    owed = subst (λ (o : Option (Debt B)). IfSome o (λ d. d.actor ≡ turn_actor turn)) (sym (ap (λ (z : Worlding B A). z.owed) t.left)) (sym takes);
+  }
+
+  -- and of a switch
+  pub switch_steps : (turn : Turn) → e ≡ entry_of turn (past w.journal) → (s : ℕ) → s < length w.setup.ports → actor_of e ≡ actor.Switch s → turn_actor turn ≡ actor.Switch s → (x : SwitchInput) →
+      (v : Worlding B A) → ((kinds : List ℕ) → IsHeardAt (scene_in sealing w kinds) e (drawn e (past w.journal)) x) → EntryFits e → IsOrderly sealing.size (past (w.journal ++ e ∷ [])) →
+      SwitchOwes sealing x entered s v → Steps controls pair faults sealing turn w stables v stables
+  switch_steps turn entry s there mine takes x v heard typed orderly t = record {
+    keeps = switch_keeps s there mine x v heard typed (rw past-push at orderly) t;
+    journal = ap (λ (z : Worlding B A). z.journal) t.left ∙ ap (λ (y : JournalEntry B). w.journal ++ y ∷ []) entry;
+    owed = subst (λ (o : Option (Debt B)). IfSome o (λ d. d.actor ≡ turn_actor turn)) (sym (ap (λ (z : Worlding B A). z.owed) t.left)) (sym takes);
+  }
+
+-- the post of what is owed
+module _ {B A : Type 0} (controls : Controlling A → List ℕ → Type 0) (sealing : Sealing B) (faithful : IsFaithful sealing) (w : Worlding B A) where
+  -- the world once it was posted
+  abbrev pub rested : Worlding B A
+  rested = record w { journal = w.journal ++ posts_of sealing.size w.owed w.journal; owed = None }
+
+  no_post : (d : Option (Debt B)) → w.owed ≡ d → posts_of sealing.size d w.journal ≡ [] → ((a : Actor) → debt_of d a ≡ []) → (kinds : List ℕ) → Holds controls sealing w kinds →
+      Holds controls sealing (record w { journal = w.journal ++ posts_of sealing.size d w.journal; owed = None }) kinds
+  no_post d is none nothing kinds h = rw (none, append-nil) (record {
+    run = record {
+      setup = h.run.setup;
+      legal = h.run.legal;
+      group = h.run.group;
+      count = h.run.count;
+      controllers = h.run.controllers;
+      switches = h.run.switches;
+      controller_debts = λ c within. subst (λ (l : List (Letter B)). IsOwed controller_message sealing (controller_at (scene_in sealing w kinds) (results_of (results_in w.controllers) c) c (part (actor.Controller c) (past w.journal))).owed l) (nothing (actor.Controller c)) (rw is at (h.run.controller_debts c within));
+      switch_debts = λ s within. subst (λ (l : List (Letter B)). IsOwed switch_message sealing (switch_at (scene_in sealing w kinds) s (part (actor.Switch s) (past w.journal))).owed l) (nothing (actor.Switch s)) (rw is at (h.run.switch_debts s within));
+      debtor = tt;
+    };
+    decided = h.decided;
+  })
+
+  one_post : (a : Actor) (l : Letter B) (ls : List (Letter B)) → w.owed ≡ Some (record { actor = a; letters = l ∷ ls }) →
+      let e : JournalEntry B = Post a (letters_posted (past w.journal)) (l ∷ ls) (lost_of sealing.size (pool (past w.journal)) (l ∷ ls)) in
+      IsOrderly sealing.size (e ∷ past w.journal) → (kinds : List ℕ) → Holds controls sealing w kinds →
+      Holds controls sealing (record w { journal = w.journal ++ e ∷ []; owed = None }) kinds
+  one_post a l ls is orderly kinds h =
+      let e : JournalEntry B = Post a (letters_posted (past w.journal)) (l ∷ ls) (lost_of sealing.size (pool (past w.journal)) (l ∷ ls)) in
+      let v : Worlding B A = record w { journal = w.journal ++ e ∷ []; owed = None } in
+      let scene = scene_in sealing w kinds in
+      let held : HoldsAt controls scene (results_in w.controllers) (e ∷ past w.journal) v =
+      quiet_holds controls scene (past w.journal) w v h.run e tt (named_debtor scene (past w.journal) a h.run.legal.possible.named (rw is at h.run.debtor)) tt orderly refl refl refl
+      (λ c within own. let o = rw (is, own) at (h.run.controller_debts c within) in (o.sealed, (λ none. cc), o.typed))
+      (λ s within own. let o = rw (is, own) at (h.run.switch_debts s within) in (o.sealed, (λ none. cc), o.typed))
+      (λ c within own. refl)
+      (λ s within own. refl)
+      (λ b other. rw (is, other) refl) in
+      record {
+        run = subst (λ (p : List (JournalEntry B)). HoldsAt controls scene (results_in w.controllers) p v) (sym (past-push w.journal e)) held;
+        decided = λ later more. subst (λ (p : List (JournalEntry B)). decided scene later p ≡ w.decided) (sym (past-push w.journal e))
+            (decided_same scene later h.run.setup faithful e (past w.journal) (possible_with_more scene (results_in w.controllers) later (e ∷ past w.journal) held.legal more)
+            (λ d within. ap kept_of (quiet_state scene later (past w.journal) e tt d)) ∙ h.decided later more);
+      }
+
+  -- the world keeps its invariant
+  pub posts_hold : IsOrderly sealing.size (past (w.journal ++ posts_of sealing.size w.owed w.journal)) → (kinds : List ℕ) → Holds controls sealing w kinds → Holds controls sealing rested kinds
+  posts_hold orderly kinds h = by_debt w.owed refl orderly
+    where
+      by_letters : (a : Actor) (ls : List (Letter B)) → w.owed ≡ Some (record { actor = a; letters = ls }) →
+          IsOrderly sealing.size (past (w.journal ++ posts_of sealing.size (Some (record { actor = a; letters = ls })) w.journal)) →
+          Holds controls sealing (record w { journal = w.journal ++ posts_of sealing.size (Some (record { actor = a; letters = ls })) w.journal; owed = None }) kinds
+      by_letters a [] is o = no_post (Some (record { actor = a; letters = [] })) is refl (λ b. if_same (same_actor a b)) kinds h
+        where
+          if_same : (b : Bool) → ◌≡◌ {A = List (Letter B)} (if b then [] else []) []
+          if_same true = refl
+          if_same false = refl
+      by_letters a (l ∷ ls) is o = one_post a l ls is (rw past-push at o) kinds h
+
+      by_debt : (d : Option (Debt B)) → w.owed ≡ d → IsOrderly sealing.size (past (w.journal ++ posts_of sealing.size d w.journal)) →
+          Holds controls sealing (record w { journal = w.journal ++ posts_of sealing.size d w.journal; owed = None }) kinds
+      by_debt None is o = no_post None is refl (λ b. refl) kinds h
+      by_debt (Some d) is o = by_letters d.actor d.letters is o
+
+-- what two calls keep, one after the other
+pub keeps_then : {B A W : Type 0} (controls : Controlling A → List ℕ → Type 0) (pair : W → ℕ × ℕ) (faults : W → ℕ) (sealing : Sealing B) (a b c : Worlding B A) (s0 s1 s2 : List W) →
+    Keeps controls pair faults sealing a s0 b s1 → Keeps controls pair faults sealing b s1 c s2 → Keeps controls pair faults sealing a s0 c s2
+keeps_then controls pair faults sealing a b c s0 s1 s2 first next = record {
+  setup = next.setup ∙ first.setup;
+  holds = λ kinds h. next.holds kinds (first.holds kinds h);
+  pairs = next.pairs;
+  told = each_told_then faults s0 s1 s2 a.controllers b.controllers c.controllers first.told next.told;
+}
+
+-- of a world once what it owes was posted
+pub post_holds : {B A : Type 0} (controls : Controlling A → List ℕ → Type 0) (sealing : Sealing B) → IsFaithful sealing → (w : Worlding B A) (d : Debt B) → w.owed ≡ Some d → (journal : List (JournalEntry B)) →
+    journal ≡ w.journal ++ posting sealing.size d.actor d.letters (past w.journal) → IsOrderly sealing.size (past journal) → (owed : Option (Debt B)) → owed ≡ None →
+    (kinds : List ℕ) → Holds controls sealing w kinds → Holds controls sealing (record w { journal = journal; owed = owed }) kinds
+post_holds controls sealing faithful w d is journal journal_is orderly owed none kinds h =
+    let posted : journal ≡ w.journal ++ posts_of sealing.size w.owed w.journal = journal_is ∙ ap (λ o. w.journal ++ posts_of sealing.size o w.journal) (sym is) in
+    subst (λ o. Holds controls sealing (record w { journal = journal; owed = o }) kinds) (sym none)
+    (subst (λ l. Holds controls sealing (record w { journal = l; owed = None }) kinds) (sym posted)
+    (posts_hold controls sealing faithful w (subst (λ l. IsOrderly sealing.size (past l)) posted orderly) kinds h))
+
+-- of a world whose parts are put back
+pub same_holds : {B A : Type 0} (controls : Controlling A → List ℕ → Type 0) (sealing : Sealing B) (w : Worlding B A) (journal : List (JournalEntry B)) (owed : Option (Debt B)) → journal ≡ w.journal → owed ≡ w.owed →
+    (kinds : List ℕ) → Holds controls sealing w kinds → Holds controls sealing (record w { journal = journal; owed = owed }) kinds
+same_holds controls sealing w journal owed journal_is owed_is kinds h =
+    subst (λ l. Holds controls sealing (record w { journal = l; owed = owed }) kinds) (sym journal_is) (subst (λ o. Holds controls sealing (record w { owed = o }) kinds) (sym owed_is) h)
+
+-- a call in which no actor takes a turn keeps a world that it keeps holding
+pub rests_keeps : {B A W : Type 0} (controls : Controlling A → List ℕ → Type 0) (pair : W → ℕ × ℕ) (faults : W → ℕ) (sealing : Sealing B) (w v : Worlding B A) (stables : List W) → v.setup ≡ w.setup → v.controllers ≡ w.controllers →
+    ((kinds : List ℕ) → Holds controls sealing w kinds → Holds controls sealing v kinds) → PairsStand pair stables w.controllers → Keeps controls pair faults sealing w stables v stables
+rests_keeps controls pair faults sealing w v stables setup same holds stand = record {
+  setup = setup;
+  holds = holds;
+  pairs = λ c x found. stand c x (ap (λ (l : List (Controlling _)). slice_get l c) (sym same) ∙ found);
+  told = subst (λ (l : List (Controlling _)). AreTold faults stables stables w.controllers l) (sym same) (none_told faults stables w.controllers);
+}
+
+-- the setup and the controllers behind a post, however it ended
+pub post_same : {B A E : Type 0} (size : B → ℕ) (w v : Worlding B A) (result : Result (Unit {0}) E) (P : E → Type 0) →
+    OnOk result (v ≡ record w { journal = w.journal ++ posts_of size w.owed w.journal; owed = None }) → IfErr result (λ stop. (v ≡ w) × P stop) → (v.setup ≡ w.setup) × (v.controllers ≡ w.controllers)
+post_same size w v (Ok x) P ok err = (ap (λ z. z.setup) ok, ap (λ z. z.controllers) ok)
+post_same size w v (Err e) P ok err = (ap (λ z. z.setup) err.0, ap (λ z. z.controllers) err.0)
+
+-- what holds in any case holds unless memory was wanting
+pub in_any_case : {T : Type 0} (result : Result T Stop) (claim : Type 0) → claim → IfMemory result claim
+in_any_case (Ok x) claim h = h
+in_any_case (Err OutOfMemory) claim h = tt
+in_any_case (Err (JournalFull bytes letters)) claim h = h
+
+pub on_ok : {T E : Type 0} (result : Result T E) (P Q : Type 0) → (P → Q) → OnOk result P → OnOk result Q
+on_ok (Ok x) P Q next h = next h
+on_ok (Err e) P Q next h = tt
+
+-- a controller took its turn, and what is decided goes on with what it has committed
+pub controller_owes : {B A W : Type 0} (controls : Controlling A → List ℕ → Type 0) (pair : W → ℕ × ℕ) (faults : W → ℕ) (sealing : Sealing B) (input : ControllerInput) (old : Worlding B A) (stables : List W) (number : ℕ)
+    (controllers : List (Controlling A)) (stables_after : List W) (letters : List (Letter ControllerSays)) (sealed : List (Letter B)) (log : List Entry) (x : Controlling A) →
+    ControllerTakes controls pair faults input old.controllers stables number controllers stables_after letters → IsOwed controller_message sealing letters sealed → slice_get controllers number ≡ Some x → log ≡ decided_with old.decided x →
+    ControllerOwes controls pair faults sealing input old stables number (record old { controllers = controllers; owed = Some (record { actor = actor.Controller number; letters = sealed }); decided = log }) stables_after
+controller_owes controls pair faults sealing input old stables number controllers stables_after letters sealed log x t owes found is = record {
+  letters = letters;
+  sealed = sealed;
+  takes = t;
+  owes = owes;
+  left = ap (λ (l : List Entry). record old { controllers = controllers; owed = Some (record { actor = actor.Controller number; letters = sealed }); decided = l })
+      (is ∙ ap (λ y. decided_with old.decided y) (from_some x t.new (sym found ∙ new_found t)));
+}

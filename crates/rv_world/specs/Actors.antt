@@ -1,0 +1,63 @@
+-- One actor of a list takes an input.
+use Rattle.std.specs.Prelude.{◌≡◌, ℕ, List, slice_get, slice_set, Some}
+use Rattle.rv_base.specs.declared.journal.Actor.TheVariants as actor
+use Rattle.rv_base.specs.declared.journal.Letter.{Letter}
+use Rattle.of_switch.specs.declared.says.SwitchInput.{SwitchInput}
+use Rattle.of_switch.specs.declared.says.SwitchSays.{SwitchSays}
+use Rattle.of_switch.specs.State.{SwitchState}
+use Rattle.of_switch.specs.Rules.{switch_turn}
+use Rattle.group_controller.specs.declared.messages.ControllerInput.{ControllerInput}
+use Rattle.group_controller.specs.declared.messages.ControllerSays.{ControllerSays}
+use Rattle.group_controller.specs.Turns.{Controlling, Turns, state_of, pair_in}
+use Rattle.rv_runs.specs.States.{Sealing, switch_message, controller_message}
+use Rattle.rv_world.specs.World.{IsOwed, Worlding, decided_with}
+
+-- the switch of a number takes a turn
+pub record SwitchTakes (input : SwitchInput) (before : List SwitchState) (number : ℕ) (after : List SwitchState) (letters : List (Letter SwitchSays)) : Type 0 where
+  pub old : SwitchState
+  pub stood : slice_get before number ≡ Some old
+  pub state : after ≡ slice_set before number (switch_turn old input).state
+  pub says : letters ≡ (switch_turn old input).letters
+
+-- the controller of a number keeps to its invariant, and its stable pair stands at the number
+pub record IsServed {A W : Type 0} (controls : Controlling A → List ℕ → Type 0) (pair : W → ℕ × ℕ) (controllers : List (Controlling A)) (stables : List W) (number : ℕ) : Type 0 where
+  pub kept : (x : Controlling A) → slice_get controllers number ≡ Some x → (kinds : List ℕ) × controls x kinds
+  pub stands : (x : Controlling A) (stable : W) → slice_get controllers number ≡ Some x → slice_get stables number ≡ Some stable → pair stable ≡ pair_in (state_of x)
+
+-- the controller of a number takes a turn, whatever the kinds of its applications are, beside its stable pair
+pub record ControllerTakes {A W : Type 0} (controls : Controlling A → List ℕ → Type 0) (pair : W → ℕ × ℕ) (faults : W → ℕ) (input : ControllerInput)
+    (before : List (Controlling A)) (stables : List W) (number : ℕ) (after : List (Controlling A)) (stables_after : List W) (letters : List (Letter ControllerSays)) : Type 0 where
+  pub old : Controlling A
+  pub new : Controlling A
+  pub stable : W
+  pub stable_after : W
+  pub stood : slice_get before number ≡ Some old
+  pub stable_stood : slice_get stables number ≡ Some stable
+  pub state : after ≡ slice_set before number new
+  pub stables_are : stables_after ≡ slice_set stables number stable_after
+  pub setup : new.setup ≡ old.setup
+  pub me : new.me ≡ old.me
+  pub turn : (kinds : List ℕ) → controls old kinds → Turns kinds old input letters new (pair stable) (pair stable_after) (faults stable) (faults stable_after)
+  pub kept : (kinds : List ℕ) → controls old kinds → controls new kinds
+  pub stands : pair stable_after ≡ pair_in (state_of new)
+
+-- a switch of a world takes a turn, and owes what it says
+pub record SwitchOwes {B A : Type 0} (sealing : Sealing B) (input : SwitchInput) (old : Worlding B A) (number : ℕ) (new : Worlding B A) : Type 0 where
+  pub letters : List (Letter SwitchSays)
+  pub sealed : List (Letter B)
+  pub takes : SwitchTakes input old.switches number new.switches letters
+  pub owes : IsOwed switch_message sealing letters sealed
+  pub left : new ≡ record old { switches = new.switches; owed = Some (record { actor = actor.Switch number; letters = sealed }) }
+
+-- a controller of a world takes a turn, beside its stable pair, and owes what it says
+pub record ControllerOwes {B A W : Type 0} (controls : Controlling A → List ℕ → Type 0) (pair : W → ℕ × ℕ) (faults : W → ℕ) (sealing : Sealing B) (input : ControllerInput)
+    (old : Worlding B A) (stables : List W) (number : ℕ) (new : Worlding B A) (stables_after : List W) : Type 0 where
+  pub letters : List (Letter ControllerSays)
+  pub sealed : List (Letter B)
+  pub takes : ControllerTakes controls pair faults input old.controllers stables number new.controllers stables_after letters
+  pub owes : IsOwed controller_message sealing letters sealed
+  pub left : new ≡ record old {
+    controllers = new.controllers;
+    owed = Some (record { actor = actor.Controller number; letters = sealed });
+    decided = decided_with old.decided takes.new;
+  }

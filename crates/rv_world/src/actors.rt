@@ -1,0 +1,129 @@
+//! The actors of a world: as they start, and one of them takes an input.
+ghost use Rattle.std.specs.Prelude.{◌≡◌, ◌<◌, ◌^◌, ℕ, List, length, map, slice_index_or, IfOk};
+ghost use Rattle.std.specs.List.{AllByRecursion, range_with_len};
+ghost use Rattle.of_types.specs.Setups.{IsSetup};
+ghost use Rattle.of_switch.specs.State.{starting_switch};
+ghost use Rattle.group_controller.specs.Turns.{AreAlike, Controls};
+ghost use Rattle.rv_runs.specs.Legal.{FitsTypes};
+ghost use Rattle.rv_world.specs.World.{AreNew, IsNew, IsStocked};
+ghost use Rattle.rv_world.specs.Actors.{SwitchTakes, ControllerTakes, IsServed};
+
+use app_core::App;
+use group_controller::{Controller, ControllerInput, ControllerSays};
+use of_switch::{Switch, SwitchInput, SwitchSays};
+use of_types::Setup;
+use rv_base::{Letters, Local, Stable};
+use std::alloc::{AllocError, Global};
+
+/// Applications in order, turned round: the next one is the last.
+fn shelf_of<A: App>(alloc: Global, lives: Vec<A>) -> Result<Vec<A>, AllocError>
+    ensures long { IfOk result (λ shelf. length shelf.items ≡ length lives.items) }
+    ensures alike { (kinds : List ℕ) → AreAlike A.kinds A.most kinds lives.items → IfOk result (λ shelf. AreAlike A.kinds A.most kinds shelf.items) }
+{
+    let mut lives = lives;
+    let mut shelf = Vec::new(alloc);
+    'lives: while let Some(life) = lives.pop() {
+        shelf.push(life)?;
+    }
+    Ok(shelf)
+}
+
+/// The controller of a number as its group starts, with the applications of its lives in order.
+fn controller_of<A: App>(
+    alloc: Global,
+    number: u8,
+    setup: &Setup,
+    lives: Vec<A>,
+) -> Result<Controller<A>, AllocError>
+    requires setup { IsSetup setup.now }
+    requires member { number < setup.now.controllers }
+    requires stocked { (kinds : List ℕ) × IsStocked A.kinds A.most kinds lives.items }
+    ensures { (kinds : List ℕ) → IsStocked A.kinds A.most kinds lives.items →
+        IfOk result (λ controller. IsNew (Controls A.kinds A.most A.states A.suits) setup.now kinds number controller) }
+{
+    let mut shelf = shelf_of(alloc, lives)?;
+    match shelf.pop() {
+        Some(first) => Controller::new(alloc, number, setup, first, shelf),
+        None => unreachable!(),
+    }
+}
+
+/// The controllers of a group as it starts, each with the applications of its lives.
+pub fn controllers_of<A: App>(
+    alloc: Global,
+    setup: &Setup,
+    shelves: Vec<Vec<A>>,
+) -> Result<Vec<Controller<A>>, AllocError>
+    requires setup { IsSetup setup.now }
+    requires each { length shelves.items ≡ setup.now.controllers }
+    requires stocked { (kinds : List ℕ) × AllByRecursion (λ shelf. IsStocked A.kinds A.most kinds shelf.items) shelves.items }
+    ensures { (kinds : List ℕ) → AllByRecursion (λ shelf. IsStocked A.kinds A.most kinds shelf.items) shelves.items →
+        IfOk result (λ controllers. AreNew (Controls A.kinds A.most A.states A.suits) setup.now kinds setup.now.controllers controllers.items) }
+{
+    let mut controllers = Vec::new(alloc);
+    let mut number = 0u8;
+    for lives in shelves {
+        controllers.push(controller_of(alloc, number, setup, lives)?)?;
+        number += 1;
+    }
+    Ok(controllers)
+}
+
+/// The switches of a setup as they start.
+pub fn switches_of(alloc: Global, setup: &Setup) -> Result<Vec<Switch>, AllocError>
+    requires { IsSetup setup.now }
+    ensures { IfOk result (λ switches. switches.items ≡ map (λ s. starting_switch s setup.now) (range_with_len 0 (length setup.now.ports))) }
+{
+    let mut switches = Vec::new(alloc);
+    for number in 0..setup.ports.len() {
+        switches.push(Switch::new(alloc, number as u8, setup)?)?;
+    }
+    Ok(switches)
+}
+
+/// Bytes have eight bits.
+fn are_bytes(bytes: &[u8])
+    ensures { AllByRecursion (λ b. b < 2 ^ 8) bytes.now }
+{}
+
+/// The numbers of a local input fit their types.
+pub fn fits_types(input: &Local)
+    ensures { FitsTypes input.now }
+{
+    match input {
+        Local::Suspect { view } => {
+            let _view = *view;
+        }
+        Local::Frame { bytes, .. } => {
+            are_bytes(bytes.as_slice());
+        }
+        _ => {}
+    }
+}
+
+/// The switch of a number takes an input.
+pub fn switch_takes(
+    switches: &mut [Switch],
+    number: u8,
+    input: SwitchInput,
+) -> Result<Letters<SwitchSays>, AllocError>
+    requires { number < length switches.old }
+    ensures { IfOk result (λ letters. SwitchTakes input switches.old number switches.new letters) }
+{
+    switches[number as usize].turn(input)
+}
+
+/// The controller of a number takes an input, beside its stable pair.
+pub fn controller_takes<A: App, W: Stable>(
+    controllers: &mut [Controller<A>],
+    stables: &mut [W],
+    number: u8,
+    input: ControllerInput,
+) -> Result<Letters<ControllerSays>, AllocError>
+    requires there { number < length controllers.old }
+    requires stable { number < length stables.old }
+    requires ready { IsServed (Controls A.kinds A.most A.states A.suits) W.pair controllers.old stables.old number }
+    ensures { IfOk result (λ letters. ControllerTakes (Controls A.kinds A.most A.states A.suits) W.pair W.faults input controllers.old stables.old number controllers.new stables.new letters) }
+{
+    controllers[number as usize].turn(input, &mut stables[number as usize])
+}

@@ -5,3 +5,4 @@ pub mod Playing
 pub mod Ran
 pub mod Shelving
 pub mod Tellings
+pub mod LastLine

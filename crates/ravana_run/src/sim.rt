@@ -13,10 +13,10 @@ use app_core::App;
 use closing::Closed;
 use of_types::Octets;
 use playing::play;
-use report::{Record, last_line, text};
+use report::{last_line, text};
 use rv_base::{Stable, Stop};
 use rv_bodies::Typed;
-use rv_record::record_of;
+use rv_record::{record_of, sums_of};
 use rv_world::World;
 use scenario::Scenario;
 use std::alloc::{AllocError, Global};
@@ -29,13 +29,26 @@ pub enum Output {
 }
 
 impl Output {
-    /// What is told, in bytes.
-    fn text_of(self, alloc: Global, told: &Record) -> Result<Octets, AllocError>
-        ensures { IfOk result (λ bytes. bytes ≡ told_text self told.now) }
+    /// What is told of a world, in bytes, with so many steps of a script, which made so many of its entries.
+    fn text_of<A: App>(
+        self,
+        alloc: Global,
+        world: &World<Typed, A>,
+        steps: usize,
+        script: usize,
+    ) -> Result<Octets, AllocError>
+        requires { script ≤ length world.now.journal }
+        ensures { IfOk result (λ bytes. bytes ≡ told_text self (told_by world.now steps script)) }
     {
         match self {
-            Output::Report => text(alloc, told),
-            Output::LastLine => last_line(alloc, told),
+            Output::Report => {
+                let told = record_of(alloc, world, steps, script)?;
+                text(alloc, &told)
+            }
+            Output::LastLine => {
+                let told = sums_of(alloc, world, steps, script)?;
+                last_line(alloc, &told)
+            }
         }
     }
 }
@@ -54,8 +67,8 @@ fn rested<A: App>(
 {
     match ended {
         Closed::Done { .. } => {
-            let told = record_of(alloc, world, steps, script)?;
-            Ok(Ending::Report(output.text_of(alloc, &told)?))
+            let words = output.text_of(alloc, world, steps, script)?;
+            Ok(Ending::Report(words))
         }
         Closed::NoQuorum { up, needed } => Ok(Ending::NoQuorum { up, needed }),
         Closed::Overfull(limit) => Ok(Ending::Overfull(limit)),

@@ -1,5 +1,5 @@
 -- What a report tells of a run.
-use Rattle.std.specs.Prelude.{◌≡◌, ℕ, List, ◌++◌, length, map, drop}
+use Rattle.std.specs.Prelude.{◌≡◌, ℕ, List, [], ◌++◌, length, map, drop}
 use Rattle.std.specs.List.{range_with_len}
 use Rattle.of_types.specs.declared.message.Row.{Row}
 use Rattle.of_types.specs.declared.setup.Setup.{Setup}
@@ -81,6 +81,10 @@ told_by w steps script = record {
   script = steps;
   closing = count_turns (drop script w.journal);
 }
+
+-- the same without the journal
+abbrev pub sums_by : {A : Type 0} → Worlding Typed A → ℕ → ℕ → Record
+sums_by w steps script = record (told_by w steps script) { journal = [] }
 
 -- a record tells of this journal, with so many steps of a script and this closing: its setup, each entry, what was
 -- decided, each switch as the journal leaves it, and how many turns there were

@@ -3,7 +3,7 @@
 
 ghost use Rattle.std.specs.Prelude.{◌≡◌, ◌≤◌, length, IfOk};
 ghost use Rattle.rv_runs.specs.Schedule.{count_turns};
-ghost use Rattle.rv_record.specs.Shows.{told_by};
+ghost use Rattle.rv_record.specs.Shows.{sums_by, told_by};
 
 mod bare;
 mod told;
@@ -11,6 +11,7 @@ mod told;
 use crate::bare::bare;
 use crate::told::told_all;
 use app_core::App;
+use of_types::Items;
 use report::Record;
 use rv_base::JournalEntry;
 use rv_bodies::Typed;
@@ -34,6 +35,27 @@ fn count_turns(entries: &[JournalEntry<Typed>]) -> u64
     turns
 }
 
+/// The record of a world without its journal: all that the last line of its report tells. So many steps were its script's,
+/// which made so many of its entries.
+pub fn sums_of<A: App>(
+    alloc: Global,
+    world: &World<Typed, A>,
+    steps: usize,
+    script: usize,
+) -> Result<Record, AllocError>
+    requires { script ≤ length world.now.journal }
+    ensures { IfOk result (λ told. told ≡ sums_by world.now steps script) }
+{
+    Ok(Record {
+        setup: world.setup().copy()?,
+        journal: Items::new(alloc),
+        log: copy_entries(alloc, world.decided())?,
+        switches: told_all(alloc, world)?,
+        script: steps as u64,
+        closing: count_turns(&world.journal()[script..]),
+    })
+}
+
 /// The record of a world, with so many steps of a script, which made so many of its entries.
 pub fn record_of<A: App>(
     alloc: Global,
@@ -44,13 +66,7 @@ pub fn record_of<A: App>(
     requires { script ≤ length world.now.journal }
     ensures { IfOk result (λ told. told ≡ told_by world.now steps script) }
 {
-    let entries = world.journal();
-    Ok(Record {
-        setup: world.setup().copy()?,
-        journal: bare(alloc, entries)?,
-        log: copy_entries(alloc, world.decided())?,
-        switches: told_all(alloc, world)?,
-        script: steps as u64,
-        closing: count_turns(&entries[script..]),
-    })
+    let mut told = sums_of(alloc, world, steps, script)?;
+    told.journal = bare(alloc, world.journal())?;
+    Ok(told)
 }

@@ -6,4 +6,5 @@ pub mod Whole
 pub mod Valid
 pub mod Canonical
 pub mod Sizes
+pub mod Forms
 pub mod Laws

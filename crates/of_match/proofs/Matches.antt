@@ -16,7 +16,8 @@ use Rattle.of_bytes.proofs.Steps.{bind_ok, ok_is}
 use Rattle.of_match.proofs.Loop.{turn}
 use Rattle.of_match.proofs.Fields.{TakesField, field_takes, field_again}
 
-spelled-cons : (field : Field) (fields : List Field) → spelled (field ∷ fields) ≡ field_bytes field ++ spelled fields
+-- one field more
+pub spelled-cons : (field : Field) (fields : List Field) → spelled (field ∷ fields) ≡ field_bytes field ++ spelled fields
 unfolding spelled
 spelled-cons field fields = flat_map-cons field_bytes field fields
 

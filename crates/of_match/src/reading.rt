@@ -210,6 +210,10 @@ pub fn read_match(bytes: &[u8]) -> Result<(Match, usize), MatchFault>
     ensures only { (m : Match) (text rest : List ℕ) → bytes.now ≡ text ++ rest → IsSpelled text m → result ≡ Ok (m, length text) }
     // Which fault it is.
     ensures exact { result ≡ match_at bytes.now }
+    // What is read is valid.
+    ensures valid { IfOk result (λ x. IsValidMatch x.0) }
+    // It is written in no more bytes than it was read from.
+    ensures short { IfOk result (λ x. match_size x.0 ≤ x.1) }
 {
     first_match(bytes)
 }

@@ -2,6 +2,7 @@
 use Rattle.std.proofs.Common.{◌≡◌, ℕ, ◌-◌, ◌≤◌, inl, inr, false, ltb, List, [], ◌∷◌, ◌++◌, length, take, drop, Some, Ok, refl, sym, ap, ◌∙◌, append_assoc, arith, eq-eqb}
 use Rattle.std.proofs.lemmas.Bool.{le-ltb, le-leb, ne_eqb}
 use Rattle.std.proofs.lemmas.List.{append-nil, length-append, length-drop, drop_all, drop_at, take_at, take_all}
+use Rattle.of_bytes.specs.Numbers.{number}
 use Rattle.of_bytes.specs.Reading.{◌>>=◌}
 use Rattle.of_match.specs.Reading as matches
 use Rattle.of_match.specs.Spelling.{IsSpelled}
@@ -155,6 +156,10 @@ message_again bytes xid m s =
     let there = s.there in
     rw (le-leb 1 (length bytes) (omega arith), s.version_is, le-ltb (length bytes) 8 there, s.length_is, eq-eqb (length bytes) (length bytes) refl, s.kind_is) (body_again m (drop 8 bytes) s.body)
 
-pub xid_again : (bytes : List ℕ) (xid : ℕ) (m : OfMessage) → Spells bytes xid m → xid_of bytes ≡ xid
+-- the number stands where there is a header
+pub xid_there : (bytes : List ℕ) (xid : ℕ) → 8 ≤ length bytes → number 4 4 bytes ≡ xid → xid_of bytes ≡ xid
 unfolding xid_of
-xid_again bytes xid m s = rw (le-ltb (length bytes) 8 s.there) s.xid_is
+xid_there bytes xid there is = rw (le-ltb (length bytes) 8 there) is
+
+pub xid_again : (bytes : List ℕ) (xid : ℕ) (m : OfMessage) → Spells bytes xid m → xid_of bytes ≡ xid
+xid_again bytes xid m s = xid_there bytes xid s.there s.xid_is

@@ -1,5 +1,5 @@
 -- The laws of reading, as the clauses cite them.
-use Rattle.std.proofs.Common.{◌≡◌, ℕ, List, Result, Ok, Err, refl, sym, subst, ◌∙◌}
+use Rattle.std.proofs.Common.{◌≡◌, ℕ, ◌≤◌, List, length, Result, Ok, Err, refl, sym, subst, ◌∙◌}
 use Rattle.std.specs.Prelude.{IfOk}
 use Rattle.of_bytes.proofs.Bytes.{IsBytes}
 use Rattle.of_bytes.proofs.Steps.{ok_is}
@@ -10,13 +10,27 @@ use Rattle.of_types.specs.declared.refusal.Refusal.{Refusal}
 use Rattle.of_messages.specs.Answers.{IsFirst, IsRead}
 use Rattle.of_messages.specs.Errors.{refusal}
 use Rattle.of_messages.specs.Grammar.{Spells}
-use Rattle.of_messages.specs.Reading.{message_at}
+use Rattle.of_messages.specs.Reading.{message_at, xid_of}
 use Rattle.of_messages.proofs.Again.{message_again, xid_again}
+use Rattle.of_types.specs.Sizes.{plain_size}
+use Rattle.of_types.specs.Valid.{IsValidPlain}
+use Rattle.of_messages.proofs.Forms.{message_valid, message_long, length_fits}
 use Rattle.of_messages.proofs.Takes.{message_takes}
 
 pub is_found : (bytes : List ℕ) (r : Result (ℕ × OfMessage) OfFault) → IsBytes bytes → IsFirst bytes r → IfOk r (λ x. Spells bytes x.0 x.1)
 is_found bytes (Ok x) fits e = subst (λ (n : ℕ). Spells bytes n x.1) (sym e.0) (message_takes bytes x.1 fits e.1)
 is_found bytes (Err d) fits e = tt
+
+-- what is read is valid, and is written in no more bytes
+pub is_valid : (bytes : List ℕ) (r : Result (ℕ × OfMessage) OfFault) → IsBytes bytes → IsFirst bytes r → IfOk r (λ x. IsValidPlain x.1)
+is_valid bytes (Ok x) fits e = message_valid bytes (xid_of bytes) x.1 (message_takes bytes x.1 fits e.1)
+is_valid bytes (Err d) fits e = tt
+
+pub is_short : (bytes : List ℕ) (r : Result (ℕ × OfMessage) OfFault) → IsBytes bytes → IsFirst bytes r → IfOk r (λ x. (plain_size x.1 ≤ length bytes) × (length bytes ≤ 65535))
+is_short bytes (Ok x) fits e =
+    let s = message_takes bytes x.1 fits e.1 in
+    (message_long bytes (xid_of bytes) x.1 s, length_fits bytes (xid_of bytes) x.1 fits s)
+is_short bytes (Err d) fits e = tt
 
 abbrev pair : ℕ → OfMessage → ℕ × OfMessage
 pair a m = (a, m)

@@ -1,5 +1,6 @@
 pub mod Ports
 pub mod Again
 pub mod Takes
+pub mod Forms
 pub mod Laws
 pub mod Written

@@ -19,6 +19,8 @@ use Rattle.of_types.specs.Sizes.{instruction_size, match_size, plain_size}
 use Rattle.of_types.specs.Valid.{IsValidMatch, IsValidPlain}
 use Rattle.of_messages.specs.Canonical.{action, actions_of, applied, instruction_of, packet_in_front, port_match, packet_in_body, port_state, port_status_body, packet_out_body, command_number, flow_mod_cookies, flow_mod_times, flow_mod_filter, flow_mod_body, role_body, error_body, features_body, plain_body, plain_type, framed, canonical}
 use Rattle.of_messages.specs.Fits.{FitPorts, FitsPacketIn, FitsPortStatus, FitsPacketOut, FitsFlowMod, FitsPlain}
+use Rattle.of_messages.specs.Reading.{xid_of}
+use Rattle.of_messages.proofs.Again.{xid_there}
 use Rattle.of_messages.specs.Grammar.{IsOutput, SpellsActions, IsApply, SpellsInstructions, IsError, IsFeaturesReply, IsPacketIn, IsPortStatus, IsPacketOut, IsFlowModFront, IsFlowMod, IsRole, SpellsBody, Spells}
 
 -- ---- actions and instructions
@@ -302,3 +304,12 @@ pub message_spelled : (xid : ℕ) (m : OfMessage) → IsValidPlain m → FitsPla
 unfolding canonical
 message_spelled xid m v f short x =
     framed_spelled (plain_type m) xid (plain_body m) m refl (type_fits m) (omega (arith, body_size m)) x (body_spelled m v f short)
+
+framed_xid : (kind xid : ℕ) (body : List ℕ) → xid < 2 ^ 32 → xid_of (framed kind xid body) ≡ xid
+unfolding framed one two four
+framed_xid kind xid body x = xid_there _ xid (omega arith) (number_bytes 4 xid [] x)
+
+-- what is written has the number of the request
+pub message_xid : (xid : ℕ) (m : OfMessage) → xid < 2 ^ 32 → xid_of (canonical xid m) ≡ xid
+unfolding canonical
+message_xid xid m x = framed_xid (plain_type m) xid (plain_body m) x

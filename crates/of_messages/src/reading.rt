@@ -1,5 +1,5 @@
 //! Reading a message from left to right.
-ghost use Rattle.std.specs.Prelude.{◌≡◌, ◌≤◌, ◌<◌, ◌^◌, ℕ, List, Ok, IfOk};
+ghost use Rattle.std.specs.Prelude.{◌≡◌, ◌≤◌, ◌<◌, ◌^◌, ℕ, List, Ok, length, IfOk};
 ghost use Rattle.of_types.specs.declared.message.OfMessage.{OfMessage};
 ghost use Rattle.of_bytes.specs.Reading.{Gives};
 ghost use Rattle.of_messages.specs.Answers.{GivesBody, IsFirst, IsRead};
@@ -117,6 +117,10 @@ pub fn decode(alloc: Global, frame: &[u8]) -> Result<(u32, OfMessage), OfFault>
     ensures only { (xid : ℕ) (m : OfMessage) → Spells frame.now xid m → IsRead (xid, m) result }
     // Which answer it is.
     ensures exact { IsFirst frame.now result }
+    // What is read is valid.
+    ensures valid { IfOk result (λ x. IsValidPlain x.1) }
+    // It is written in no more bytes than it was read from, and so its length fits the header.
+    ensures short { IfOk result (λ x. (plain_size x.1 ≤ length frame.now) × (length frame.now ≤ 65535)) }
 {
     first_answer(alloc, frame)
 }
@@ -127,4 +131,8 @@ pub fn message_law()
     ensures again { (xid : ℕ) (m : OfMessage) → IsValidPlain m → FitsPlain m → plain_size m ≤ 65535 → xid < 2 ^ 32 → message_at (canonical xid m) ≡ Ok m }
     // Bytes spell at most one message.
     ensures one { (bytes : List ℕ) (xid other : ℕ) (m n : OfMessage) → Spells bytes xid m → Spells bytes other n → (xid ≡ other) × (m ≡ n) }
+    // With the number of the request.
+    ensures xid { (xid : ℕ) (m : OfMessage) → xid < 2 ^ 32 → xid_of (canonical xid m) ≡ xid }
+    // A message is written in as many bytes as its size tells.
+    ensures size { (xid : ℕ) (m : OfMessage) → length (canonical xid m) ≡ plain_size m }
 {}

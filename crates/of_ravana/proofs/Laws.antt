@@ -1,5 +1,5 @@
 -- The laws of reading, as the clauses cite them.
-use Rattle.std.proofs.Common.{◌≡◌, ℕ, List, Result, Ok, Err, sym, ◌∙◌}
+use Rattle.std.proofs.Common.{◌≡◌, ℕ, ◌+◌, ◌≤◌, List, length, Result, Ok, Err, sym, ◌∙◌}
 use Rattle.std.specs.Prelude.{IfOk}
 use Rattle.of_bytes.proofs.Bytes.{IsBytes}
 use Rattle.of_bytes.proofs.Steps.{ok_is}
@@ -13,11 +13,23 @@ use Rattle.of_ravana.specs.Answers.{IsFirst}
 use Rattle.of_ravana.specs.Grammar.{SpellsExtension}
 use Rattle.of_ravana.specs.Reading.{extension_at}
 use Rattle.of_ravana.proofs.Again.{extension_again}
+use Rattle.of_types.specs.Sizes.{extension_size}
+use Rattle.of_types.specs.Valid.{IsValidExtension}
+use Rattle.of_ravana.proofs.Forms.{extension_valid, extension_long}
 use Rattle.of_ravana.proofs.Takes.{extension_takes}
 
 pub is_found : (body : List ℕ) (r : Result Extension OfFault) → IsBytes body → IsFirst body r → IfOk r (λ said. SpellsExtension body said)
 is_found body (Ok said) fits e = extension_takes body said fits e
 is_found body (Err d) fits e = tt
+
+-- what is read is valid, and is written in no more bytes
+pub is_valid : (body : List ℕ) (r : Result Extension OfFault) → IsBytes body → IsFirst body r → IfOk r (λ said. IsValidExtension said)
+is_valid body (Ok said) fits e = extension_valid body said (extension_takes body said fits e)
+is_valid body (Err d) fits e = tt
+
+pub is_short : (body : List ℕ) (r : Result Extension OfFault) → IsBytes body → IsFirst body r → IfOk r (λ said. extension_size said ≤ 8 + length body)
+is_short body (Ok said) fits e = extension_long body said (extension_takes body said fits e)
+is_short body (Err d) fits e = tt
 
 not_both : (body : List ℕ) (said : Extension) (e : Refusal) → extension_at body ≡ Ok said → extension_at body ≡ Err e → ⊥
 not_both body said e p q = cc

@@ -1,14 +1,17 @@
 //! Reading a message of the extension from left to right.
-ghost use Rattle.std.specs.Prelude.{◌≡◌, ◌≤◌, ℕ, List, Ok, length, IfOk};
+ghost use Rattle.std.specs.Prelude.{◌≡◌, ◌≤◌, ◌+◌, ℕ, List, Ok, length, IfOk};
 ghost use Rattle.of_bytes.specs.Reading.{Gives};
 ghost use Rattle.of_messages.specs.Answers.{GivesBody, IsRead};
 ghost use Rattle.of_types.specs.declared.message.Extension.{Extension};
+ghost use Rattle.of_types.specs.declared.message.OfMessage.{OfMessage};
+ghost use Rattle.of_types.specs.declared.message.Spoken.{Spoken};
+ghost use Rattle.of_types.specs.declared.message.Spoken.TheVariants as spoken;
 ghost use Rattle.of_types.specs.Sizes.{extension_size};
 ghost use Rattle.of_types.specs.Valid.{IsValidExtension};
 ghost use Rattle.of_ravana.specs.Answers.{IsFirst};
 ghost use Rattle.of_ravana.specs.Canonical.{canonical_extension};
 ghost use Rattle.of_ravana.specs.Fits.{FitsExtension};
-ghost use Rattle.of_ravana.specs.Grammar.{SpellsExtension};
+ghost use Rattle.of_ravana.specs.Grammar.{SpellsExtension, SpellsSpoken};
 ghost use Rattle.of_ravana.specs.Reading.{inner_at, as_happening, as_order, happening_at, order_at, event_at, through_at, command_at, outcome_at, cmd_ack_at, body_at, extension_at};
 
 use of_bytes::{u8_at, u16_at, u32_at, u64_at};
@@ -221,6 +224,10 @@ pub fn decode_extension(alloc: Global, body: &[u8]) -> Result<Extension, OfFault
     ensures only { (said : Extension) → SpellsExtension body.now said → IsRead said result }
     // Which answer it is.
     ensures exact { IsFirst body.now result }
+    // What is read is valid.
+    ensures valid { IfOk result (λ said. IsValidExtension said) }
+    // With a header it is written in no more bytes than it was read from.
+    ensures short { IfOk result (λ said. extension_size said ≤ 8 + length body.now) }
 {
     first_answer(alloc, body)
 }
@@ -231,4 +238,10 @@ pub fn extension_law()
     ensures again { (said : Extension) → IsValidExtension said → FitsExtension said → extension_size said ≤ 65535 → extension_at (canonical_extension said) ≡ Ok said }
     // Bytes spell at most one message.
     ensures one { (body : List ℕ) (said other : Extension) → SpellsExtension body said → SpellsExtension body other → said ≡ other }
+    // Bytes spell at most one of what a controller and a switch say, and one number of a request.
+    ensures one_spoken { (bytes : List ℕ) (xid other : ℕ) (said told : Spoken) → SpellsSpoken bytes xid said → SpellsSpoken bytes other told → (xid ≡ other) × (said ≡ told) }
+    // The bytes of a message of the extension spell no plain message.
+    ensures no_plain { (bytes : List ℕ) (xid other : ℕ) (said : Extension) (m : OfMessage) → SpellsSpoken bytes xid (spoken.Ravana said) → SpellsSpoken bytes other (spoken.Plain m) → ⊥ }
+    // What is written has its size.
+    ensures size { (said : Extension) → 8 + length (canonical_extension said) ≡ extension_size said }
 {}

@@ -1,9 +1,9 @@
 //! Writing what a controller and a switch say in its one form.
 ghost use Rattle.std.specs.Prelude.{◌≡◌, ◌≤◌, ◌+◌, ◌++◌, length, IfOk, OnOk};
 ghost use Rattle.of_types.specs.Sizes.{extension_size};
-ghost use Rattle.of_types.specs.Valid.{IsValid, IsValidExtension};
+ghost use Rattle.of_types.specs.Valid.{IsValidExtension};
 ghost use Rattle.of_ravana.specs.Canonical.{canonical_happening, canonical_order, result_bytes, outcome_bytes, command_front, extension_rest, extension_type, extension_life, extension_body, canonical_extension, spoken_message, canonical};
-ghost use Rattle.of_ravana.specs.Grammar.{SpellsExtension, SpellsSpoken};
+ghost use Rattle.of_ravana.specs.Grammar.{SpellsExtension, SpellsSpoken, IsValidSpoken, spoken_size};
 
 use crate::fitting::extension_fits;
 use of_bytes::{eight, four, two, zeros};
@@ -183,7 +183,9 @@ pub fn encode_extension(alloc: Global, said: &Extension) -> Result<Octets, Alloc
 pub fn canonical(alloc: Global, xid: u32, said: &Spoken) -> Result<Octets, AllocError>
     ensures bytes { IfOk result (λ bytes. bytes ≡ canonical xid said.now) }
     // Those of what is valid spell it.
-    ensures spelled { IfOk result (λ bytes. IsValid said.now → SpellsSpoken bytes xid said.now) }
+    ensures spelled { IfOk result (λ bytes. IsValidSpoken said.now → SpellsSpoken bytes xid said.now) }
+    // They are as many as its size tells.
+    ensures size { IfOk result (λ bytes. length bytes ≡ spoken_size said.now) }
 {
     match said {
         Spoken::Plain(message) => encode(alloc, xid, message),

@@ -1,5 +1,5 @@
 -- What the forms of a match have: it is valid, and none is shorter than its canonical form.
-use Rattle.std.proofs.Common.{◌≡◌, ℕ, ◌+◌, ◌-◌, ◌*◌, ◌^◌, ◌<◌, ◌≤◌, Bool, true, false, cond, eqb, List, [], ◌∷◌, ◌++◌, length, Option, Some, None, refl, sym, ap, subst, ◌∙◌, arith, lit<}
+use Rattle.std.proofs.Common.{◌≡◌, ℕ, ◌+◌, ◌-◌, ◌*◌, ◌^◌, ◌<◌, ◌≤◌, Bool, true, false, cond, eqb, List, [], ◌∷◌, length, Option, Some, None, refl, ap, subst, ◌∙◌, arith, lit<}
 use Rattle.std.specs.Prelude.{IfSome, fold, bit_and, unwrap_or, is_some}
 use Rattle.std.specs.List.{AllByRecursion}
 use Rattle.std.proofs.Math.Nat.{mod-eq_of_lt}
@@ -15,7 +15,7 @@ use Rattle.of_types.specs.Valid.{IsMasked48, IsMasked32, Needs, IsValidMatch}
 use Rattle.of_match.specs.declared.kind.FieldKind.{FieldKind}
 use Rattle.of_match.specs.declared.kind.FieldKind.TheVariants.{InPort, EthDst, EthSrc, EthType, IpProto, Ipv4Src, Ipv4Dst, TcpSrc, TcpDst, UdpSrc, UdpDst}
 use Rattle.of_match.specs.Field.{Field, IsField, width_of, field_bytes}
-use Rattle.of_match.specs.Reading.{masked48, masked32, put, match_of, needs, has_prerequisites}
+use Rattle.of_match.specs.Reading.{put, match_of, needs}
 use Rattle.of_match.specs.Spelling.{IsSpelled}
 use Rattle.of_match.specs.Writing.{spelled}
 use Rattle.of_match.proofs.Fields.{length-payload}

@@ -1,5 +1,5 @@
 -- What the forms of a message have: it is valid, and none is shorter than its canonical form.
-use Rattle.std.proofs.Common.{◌≡◌, ℕ, ◌+◌, ◌*◌, ◌≤◌, inl, inr, List, [], ◌∷◌, ◌++◌, length, drop, ap, subst, arith}
+use Rattle.std.proofs.Common.{ℕ, ◌+◌, ◌*◌, ◌≤◌, inl, inr, List, [], ◌∷◌, ◌++◌, length, drop, ap, subst, arith}
 use Rattle.std.proofs.lemmas.List.{length-append, length-drop}
 use Rattle.of_bytes.proofs.Bytes.{IsBytes, IsBytes-drop, big_from-lt}
 use Rattle.of_match.proofs.Forms.{spelled_valid, spelled_long}

@@ -6,6 +6,8 @@ pub mod Turns
 pub mod Events
 pub mod Addresses
 pub mod Laws
+pub mod Rows
+pub mod Told
 pub mod StepViews
 pub mod WorkViews
 pub mod Views

@@ -8,6 +8,7 @@
 
 ghost use Rattle.addresses.specs.Laws.{WaitsForActors};
 ghost use Rattle.rv_laws.specs.Laws.{InEveryRun, AreAgreed, AreValidLogs, IsLed, AreViewsSuspected, ControllersKeepTheirSide};
+ghost use Rattle.rv_laws.specs.Told.{IsSpellableRun};
 ghost use Rattle.rv_runs.specs.Laws.{IsLasting, IsExactlyOnce, IsFenced};
 
 /// The controllers of every run keep to their side: their committed logs agree and are valid, and each of their turns makes
@@ -56,4 +57,10 @@ pub fn waits_for_actors<B>()
 /// No controller ever has, or has promised, a view above the greatest that was suspected.
 pub fn views_are_suspected<B>()
     ensures { InEveryRun B (λ scene results entries. AreViewsSuspected scene results entries) }
+{}
+
+/// What is told of a run can be spelled: each event of a switch, which is that switch's own, each order that it carried out
+/// and each row of its table, and each entry of the decided log, whose events are of switches of the setup.
+pub fn what_is_told_can_be_spelled<B>()
+    ensures { InEveryRun B (λ scene results entries. IsSpellableRun scene results entries) }
 {}

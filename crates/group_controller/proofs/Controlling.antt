@@ -1,6 +1,6 @@
 -- Turns of a controller: what its rule is, and what stands after it.
 use Rattle.std.proofs.Common.{◌≡◌, ◌≤◌, ◌<◌, ℕ, ◌+◌, Bool, true, false, List, [], ◌∷◌, ◌++◌, refl, sym, ap, subst, ◌∙◌}
-use Rattle.std.specs.Prelude.{Result, Ok, Err, IfOk, OnErr, IfSome, Option, Some, None, option_to_list, if◌then◌else◌}
+use Rattle.std.specs.Prelude.{Result, Ok, Err, IfOk, OnErr, IfSome, Option, Some, None, is_none, nat_lt, ◌&&◌, take, option_to_list, if◌then◌else◌}
 use Rattle.std.specs.List.{AllByRecursion}
 use Rattle.rv_base.specs.declared.journal.Letter.{Letter}
 use Rattle.rv_base.specs.declared.journal.SaveResult.{SaveResult}
@@ -10,17 +10,20 @@ use Rattle.vr_log.specs.declared.message.VrLetter.{VrLetter}
 use Rattle.vr_log.specs.declared.state.VrOut.{VrOut}
 use Rattle.vr_recovery.specs.Recovering.{restarted}
 use Rattle.vr_core.specs.Step.{Stepped}
+use Rattle.app_core.specs.Chain.{chain_after, starting_chain}
 use Rattle.dispatcher.specs.Ledger.{most_commands}
 use Rattle.group_controller.specs.declared.messages.ControllerSays.{ControllerSays}
 use Rattle.of_types.specs.declared.setup.Setup.{Setup}
 use Rattle.of_types.specs.Lives.{last_life}
 use Rattle.of_types.specs.Setups.{IsSetup}
 use Rattle.std.proofs.lemmas.Bool.{lt-ltb}
+use Rattle.std.proofs.lemmas.List.{append-nil}
 use Rattle.rv_base.specs.declared.journal.Local.{Local}
 use Rattle.rv_base.specs.declared.journal.Local.TheVariants as local
 use Rattle.vr_log.specs.declared.state.Status.{Status}
 use Rattle.vr_log.specs.declared.state.Status.TheVariants.{Normal, ViewChange, Recovering, Down}
 use Rattle.vr_log.specs.declared.state.VrState.{VrState}
+use Rattle.vr_log.specs.Log.{received}
 use Rattle.vr_log.specs.Steps.{later_of}
 use Rattle.vr_log.specs.Valid.{down_state, starting_state}
 use Rattle.vr_core.specs.Lasting.{Lasts, promised}
@@ -30,7 +33,7 @@ use Rattle.group_controller.specs.declared.messages.ControllerInput.TheVariants 
 use Rattle.group_controller.specs.Acting.{Acting, Acts, Begins, pair_with, with_out, with_state, Works}
 use Rattle.group_controller.specs.Rules.{controller_work, is_crash, is_down, is_restart, on_crash, on_input, on_local, on_restart, when_down}
 use Rattle.group_controller.specs.State.{ControllerState, Work, down, fresh, resting, stepped, to_members, with_no_met_limit}
-use Rattle.group_controller.specs.Turns.{acting_by, Done, Keeps, KnowsPair, left_by, pair_in, Restarts, Saves, Turns, AreAlike, Born, Controlling, Controls, Stands, state_of, state_or}
+use Rattle.group_controller.specs.Turns.{acting_by, begins_life, Done, Keeps, KnowsPair, left_by, MayTake, pair_in, PutsBack, Restarts, Saves, LeavesShelf, Turns, AreAlike, Born, Controlling, Controls, Stands, state_of, state_or, TakesBy, TakesOne, TakesOneAtMost}
 
 -- one that is awake does what the rule of its input says
 awake_is : (c : ControllerState) → (c.vr.status ≡ Down → ⊥) → is_down c ≡ false
@@ -384,3 +387,103 @@ knows_kept a saved letters c new pb pa fb fa k =
 pub whichever : {X E : Type 0} (r : Result X E) (P : X → Type 0) (Q R : Type 0) → IfOk r P → OnErr r Q → ((x : X) → P x → R) → (Q → R) → R
 whichever (Ok x) P Q R ok err f g = f x ok
 whichever (Err e) P Q R ok err f g = g err
+
+-- whatever went wrong
+pub on_any_err : {X E : Type 0} (r : Result X E) (P : Type 0) → P → OnErr r P
+on_any_err (Ok x) P h = tt
+on_any_err (Err e) P h = h
+
+not_both_local : (what : Local) → is_restart (controller_input.Local what) ≡ true → is_crash (controller_input.Local what) ≡ false
+not_both_local (local.Frame port bytes) h = absurd cc h
+not_both_local (local.Port port up) h = absurd cc h
+not_both_local local.Tick h = absurd cc h
+not_both_local (local.Suspect view) h = absurd cc h
+not_both_local local.Crash h = absurd cc h
+not_both_local local.Restart h = refl
+
+-- a restart is no crash
+pub not_both : (input : ControllerInput) → is_restart input ≡ true → is_crash input ≡ false
+not_both (controller_input.Local what) h = not_both_local what h
+not_both (controller_input.Of switch xid said) h = absurd cc h
+not_both (controller_input.Malformed sender) h = absurd cc h
+not_both (controller_input.Vr from message) h = absurd cc h
+
+module _ {A : Type 0} (c : Controlling A) (input : ControllerInput) where
+  -- no life begins where one is not down
+  pub awake_begins : (a : Acting A) → c.acting ≡ Some a → begins_life c input ≡ false
+  awake_begins a is = ap (λ (o : Option (Acting A)). is_none o && is_restart input && nat_lt c.life last_life) is
+
+  -- nor at another input
+  pub dropped_begins : c.acting ≡ None → is_restart input ≡ false → begins_life c input ≡ false
+  dropped_begins off told =
+      ap (λ (o : Option (Acting A)). is_none o && is_restart input && nat_lt c.life last_life) off ∙ ap (λ (b : Bool). b && nat_lt c.life last_life) told
+
+  -- one does at a restart, where there is one
+  pub restart_begins : c.acting ≡ None → is_restart input ≡ true → begins_life c input ≡ nat_lt c.life last_life
+  restart_begins off told =
+      ap (λ (o : Option (Acting A)). is_none o && is_restart input && nat_lt c.life last_life) off ∙ ap (λ (b : Bool). b && nat_lt c.life last_life) told
+
+module _ {A : Type 0} (kinds_of : A → List ℕ) (states_of : A → List (List ℕ)) where
+  -- the shelf of one that was told to restart
+  pub restart_leaves : {X E : Type 0} (r : Result X E) (c new : Controlling A) (b again : Bool) → b ≡ again → c.acting ≡ None →
+      IfOk r (λ _. LeavesShelf kinds_of states_of again (record c { acting = None }) new) → IfOk r (λ _. LeavesShelf kinds_of states_of b c new)
+  restart_leaves r c new b again same off h =
+      subst (λ (x : Bool). IfOk r (λ _. LeavesShelf kinds_of states_of x c new)) (sym same)
+      (subst (λ (o : Option (Acting A)). IfOk r (λ _. LeavesShelf kinds_of states_of again (record c { acting = o }) new)) (sym off) h)
+
+  -- the member of a life that begins took no event
+  pub born_fresh : (most_of : A → ℕ) (suits : A → Setup → Type 0) (c : Controlling A) (kinds : List ℕ) (life : ℕ) (a : Acting A) → Born kinds_of most_of states_of suits c kinds life a →
+      states_of a.dispatcher.app ≡ starting_chain (kinds_of a.dispatcher.app)
+  born_fresh most_of suits c kinds life a b =
+      b.acts.stands.states
+      ∙ ap (λ (w : Work). chain_after kinds c.setup (starting_chain kinds) (received (take w.state.vr.commit w.state.vr.log))) b.work_is
+      ∙ ap (λ (ks : List ℕ). starting_chain ks) (sym b.acts.stands.kind)
+
+  -- the application of a life that did not begin is put back
+  pub puts_back : (b : Bool) (between new : List A) (app : A) → states_of app ≡ starting_chain (kinds_of app) → new ≡ (if b then between ++ app ∷ [] else between) → PutsBack kinds_of states_of between new
+  puts_back true between new app fresh is = (Some app, is, fresh)
+  puts_back false between new app fresh is = (None, is ∙ sym (append-nil between), tt)
+
+  -- whatever a turn answers that begins no life
+  pub keeps_shelf : {X E : Type 0} (r : Result X E) (c new : Controlling A) (b : Bool) → b ≡ false → new.shelf ≡ c.shelf → IfOk r (λ _. LeavesShelf kinds_of states_of b c new)
+  keeps_shelf (Ok x) c new b off same = subst (λ (b : Bool). LeavesShelf kinds_of states_of b c new) (sym off) same
+  keeps_shelf (Err e) c new b off same = tt
+
+  -- a restart took an application, and its save had this result
+  pub restart_takes : (c mid new : Controlling A) (r : SaveResult) → c.life < last_life → mid ≡ record c { shelf = mid.shelf } → new.results ≡ mid.results ++ r ∷ [] → TakesBy kinds_of states_of r c.shelf new.shelf →
+      LeavesShelf kinds_of states_of (nat_lt c.life last_life) c new
+  restart_takes c mid new r low mid_is results takes =
+      subst (λ (b : Bool). LeavesShelf kinds_of states_of b c new) (sym (lt-ltb c.life last_life low))
+      (r, results ∙ ap (λ (x : Controlling A). x.results ++ r ∷ []) mid_is, takes)
+
+  pub takes_saved : (r : SaveResult) (old between new : List A) → r ≡ Saved → TakesOne old between → new ≡ between → TakesBy kinds_of states_of r old new
+  takes_saved r old between new is takes same =
+      subst (λ (x : SaveResult). TakesBy kinds_of states_of x old new) (sym is) (subst (λ (l : List A). TakesOne old l) (sym same) takes)
+
+  pub takes_kept_new : (r : SaveResult) (old between new : List A) → r ≡ KeptNew → TakesOne old between → new ≡ between → TakesBy kinds_of states_of r old new
+  takes_kept_new r old between new is takes same =
+      subst (λ (x : SaveResult). TakesBy kinds_of states_of x old new) (sym is) (subst (λ (l : List A). TakesOne old l) (sym same) takes)
+
+  pub takes_kept_old : (r : SaveResult) (old between new : List A) → r ≡ KeptOld → TakesOne old between → PutsBack kinds_of states_of between new → TakesBy kinds_of states_of r old new
+  takes_kept_old r old between new is takes back =
+      subst (λ (x : SaveResult). TakesBy kinds_of states_of x old new) (sym is) (between, takes, back)
+
+module _ {A : Type 0} where
+  -- the same at want of memory
+  pub takes_none : {X E : Type 0} (r : Result X E) (c new : Controlling A) (b : Bool) → b ≡ false → new.shelf ≡ c.shelf → OnErr r (MayTake b c new)
+  takes_none (Ok x) c new b off same = tt
+  takes_none (Err e) c new b off same = subst (λ (b : Bool). MayTake b c new) (sym off) same
+
+  pub restart_may_take : {X E : Type 0} (r : Result X E) (c new : Controlling A) (b again : Bool) → b ≡ again → c.acting ≡ None →
+      OnErr r (MayTake again (record c { acting = None }) new) → OnErr r (MayTake b c new)
+  restart_may_take r c new b again same off h =
+      subst (λ (x : Bool). OnErr r (MayTake x c new)) (sym same)
+      (subst (λ (o : Option (Acting A)). OnErr r (MayTake again (record c { acting = o }) new)) (sym off) h)
+
+  -- a restart that wants memory before it took an application, or after
+  pub may_have_taken : (c new : Controlling A) → c.life < last_life → TakesOneAtMost c.shelf new.shelf → MayTake (nat_lt c.life last_life) c new
+  may_have_taken c new low takes = subst (λ (b : Bool). MayTake b c new) (sym (lt-ltb c.life last_life low)) takes
+
+  pub has_taken : (c between new : Controlling A) → c.life < last_life → TakesOne c.shelf between.shelf → new ≡ between → MayTake (nat_lt c.life last_life) c new
+  has_taken c between new low takes same =
+      may_have_taken c new low (subst (λ (x : Controlling A). TakesOneAtMost c.shelf x.shelf) (sym same) (Some takes.0, takes.1))

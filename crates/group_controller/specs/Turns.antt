@@ -1,7 +1,8 @@
 -- One turn of a controller: what it leaves, saves and posts.
-use Rattle.std.specs.Prelude.{◌≡◌, ◌≤◌, ◌<◌, ℕ, List, [], ◌∷◌, ◌++◌, Option, Some, None, IfSome}
+use Rattle.std.specs.Prelude.{◌≡◌, ◌≤◌, ◌<◌, ℕ, nat_lt, Bool, true, false, ◌&&◌, List, [], ◌∷◌, ◌++◌, Option, Some, None, is_none, IfSome, option_to_list}
 use Rattle.std.specs.List.{AllByRecursion}
 use Rattle.of_types.specs.declared.setup.Setup.{Setup}
+use Rattle.of_types.specs.Lives.{last_life}
 use Rattle.of_types.specs.Setups.{IsSetup}
 use Rattle.rv_base.specs.declared.journal.Letter.{Letter}
 use Rattle.rv_base.specs.declared.journal.SaveResult.{SaveResult}
@@ -11,11 +12,12 @@ use Rattle.rv_base.specs.Stables.{standing}
 use Rattle.vr_log.specs.declared.state.Status.TheVariants.{Down}
 use Rattle.vr_log.specs.Valid.{down_state}
 use Rattle.vr_recovery.specs.Recovering.{restarted}
+use Rattle.app_core.specs.Chain.{starting_chain}
 use Rattle.dispatcher.specs.Ledger.{most_commands}
 use Rattle.group_controller.specs.declared.messages.ControllerInput.{ControllerInput}
 use Rattle.group_controller.specs.declared.messages.ControllerSays.{ControllerSays}
 use Rattle.group_controller.specs.Acting.{Acting, Acts, Begins}
-use Rattle.group_controller.specs.Rules.{controller_work, on_restart}
+use Rattle.group_controller.specs.Rules.{controller_work, is_restart, on_restart}
 use Rattle.group_controller.specs.State.{ControllerState, Work, down, fresh, resting, stepped}
 
 -- what contracts see of a controller: its setup and its number, its stable pair, its turn where it is not down, the
@@ -153,3 +155,41 @@ pub record Born {A : Type 0} (kinds_of : A → List ℕ) (most_of : A → ℕ) (
 abbrev pub Restarts : {A : Type 0} → Controlling A → List (Letter ControllerSays) → Controlling A → ℕ × ℕ → ℕ × ℕ → ℕ → ℕ → Type 0
 Restarts old letters new pair_before pair_after before after =
     let work = on_restart (state_of old) in Done (state_of old) work work.save (state_of new) letters old.results new.results pair_before pair_after before after
+
+-- one that is down is told to restart, and a life is left to it
+abbrev pub begins_life : {A : Type 0} → Controlling A → ControllerInput → Bool
+begins_life c input = is_none c.acting && is_restart input && nat_lt c.life last_life
+
+-- the next application was taken from the shelf of later lives, where it stood last
+abbrev pub TakesOne : {A : Type 0} → List A → List A → Type 0
+TakesOne {A} old new = (app : A) × (old ≡ new ++ app ∷ [])
+
+-- it was taken, or none was
+abbrev pub TakesOneAtMost : {A : Type 0} → List A → List A → Type 0
+TakesOneAtMost {A} old new = (app : Option A) × (old ≡ new ++ option_to_list app)
+
+-- an application that has taken no event was put back, or there was no room for it
+abbrev pub PutsBack : {A : Type 0} → (A → List ℕ) → (A → List (List ℕ)) → List A → List A → Type 0
+PutsBack {A} kinds_of states_of old new =
+    (app : Option A) × (new ≡ old ++ option_to_list app) × IfSome app (λ app. states_of app ≡ starting_chain (kinds_of app))
+
+-- A life was to begin, and its save had this result: its application was taken, and is put back only where the old
+-- pair stands.
+abbrev pub TakesBy : {A : Type 0} → (A → List ℕ) → (A → List (List ℕ)) → SaveResult → List A → List A → Type 0
+TakesBy kinds_of states_of Saved old new = TakesOne old new
+TakesBy kinds_of states_of KeptNew old new = TakesOne old new
+TakesBy {A} kinds_of states_of KeptOld old new = (between : List A) × TakesOne old between × PutsBack kinds_of states_of between new
+
+abbrev pub Takes : {A : Type 0} → (A → List ℕ) → (A → List (List ℕ)) → Controlling A → Controlling A → Type 0
+Takes kinds_of states_of old new =
+    (result : SaveResult) × (new.results ≡ old.results ++ result ∷ []) × TakesBy kinds_of states_of result old.shelf new.shelf
+
+-- A turn leaves the shelf of later lives as it was, but a restart that begins a life takes its application from there.
+abbrev pub LeavesShelf : {A : Type 0} → (A → List ℕ) → (A → List (List ℕ)) → Bool → Controlling A → Controlling A → Type 0
+LeavesShelf kinds_of states_of false old new = new.shelf ≡ old.shelf
+LeavesShelf kinds_of states_of true old new = Takes kinds_of states_of old new
+
+-- So does a turn that wants memory: the application of a life that was to begin may be gone.
+abbrev pub MayTake : {A : Type 0} → Bool → Controlling A → Controlling A → Type 0
+MayTake false old new = new.shelf ≡ old.shelf
+MayTake true old new = TakesOneAtMost old.shelf new.shelf

@@ -1,5 +1,5 @@
 //! A controller that is not down: a member of its group, with the dispatcher of its life.
-ghost use Rattle.std.specs.Prelude.{◌≡◌, ◌≤◌, ◌∷◌, [], true, false, ◌&&◌, not, nat_eq, ℕ, None, map, flat_map, IfOk, OnOk};
+ghost use Rattle.std.specs.Prelude.{◌≡◌, ◌≤◌, ◌∷◌, [], true, false, ◌&&◌, not, nat_eq, ℕ, None, map, flat_map, IfOk, OnErr, OnOk};
 ghost use Rattle.of_types.specs.declared.setup.Setup.{Setup};
 ghost use Rattle.of_types.specs.Setups.{IsSetup};
 ghost use Rattle.vr_log.specs.Log.{may_follow};
@@ -485,11 +485,12 @@ impl<A: App> Active<A> {
         dispatcher.into_app()
     }
 
-    /// What it does with an input. A crash is told by the caller.
+    /// What it does with an input. A crash is told by the caller, and takes no memory here.
     pub(crate) fn on_input(&mut self, input: ControllerInput) -> Result<(), AllocError>
         requires begins { InSomeGroup (Begins A.kinds A.most A.states A.suits self.old) }
-        ensures { ForEachGroup (Begins A.kinds A.most A.states A.suits self.old) (λ kinds setup. rules.is_crash input ≡ false →
+        ensures works { ForEachGroup (Begins A.kinds A.most A.states A.suits self.old) (λ kinds setup. rules.is_crash input ≡ false →
             OnOk result (Works A.kinds A.most A.states A.suits kinds setup self.old (rules.on_input kinds setup self.old.work.state input) self.new)) }
+        ensures crash { OnErr result (rules.is_crash input ≡ false) }
     {
         match input {
             ControllerInput::Local(Local::Tick) => self.tick(),

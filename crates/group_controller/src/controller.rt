@@ -1,12 +1,13 @@
 //! One turn of a controller.
-ghost use Rattle.std.specs.Prelude.{◌≡◌, ◌≤◌, ◌<◌, ◌∷◌, ◌++◌, [], ℕ, List, Some, None, option_map, nat_eq, ◌&&◌, IfOk, OnErr};
+ghost use Rattle.std.specs.Prelude.{◌≡◌, ◌≤◌, ◌<◌, ◌∷◌, ◌++◌, [], ℕ, List, Some, None, option_map, nat_eq, nat_lt, false, ◌&&◌, IfOk, OnErr};
 ghost use Rattle.std.specs.List.{AllByRecursion};
+ghost use Rattle.of_types.specs.Lives.{last_life};
 ghost use Rattle.of_types.specs.Setups.{IsSetup};
 ghost use Rattle.rv_base.specs.Stables.{standing};
 ghost use Rattle.dispatcher.specs.Ledger.{most_commands};
 ghost use Rattle.group_controller.specs.Rules.{is_crash, is_restart};
 ghost use Rattle.group_controller.specs.State.{resting, starting_controller};
-ghost use Rattle.group_controller.specs.Turns.{AreAlike, Born, Controls, ForEachKinds, Keeps, KnowsPair, pair_in, Restarts, Saves, Stands, state_of, Turns, Wants};
+ghost use Rattle.group_controller.specs.Turns.{AreAlike, begins_life, Born, Controls, ForEachKinds, Keeps, KnowsPair, LeavesShelf, MayTake, pair_in, Restarts, Saves, Stands, state_of, TakesOne, TakesOneAtMost, Turns, Wants};
 
 use crate::active::Active;
 use crate::messages::{ControllerInput, ControllerSays};
@@ -246,6 +247,8 @@ impl<A: App> Controller<A> {
         ensures controls { ForEachKinds (λ kinds. Controls A.kinds A.most A.states A.suits self.old kinds × Stands A.kinds A.most A.states A.suits self.old kinds active) (λ kinds. Controls A.kinds A.most A.states A.suits self.new kinds) }
         ensures pair { KnowsPair self.old self.new (W.pair stable.old) (W.pair stable.new) }
         ensures who { (self.new.setup ≡ self.old.setup) × (self.new.me ≡ self.old.me) }
+        ensures crash { OnErr result (is_crash input ≡ false) }
+        ensures shelf { self.new.shelf ≡ self.old.shelf }
     {
         // (`on_input` takes a crash too, and does nothing with it.)
         let crashes = is_crash(&input);
@@ -267,6 +270,8 @@ impl<A: App> Controller<A> {
         ensures shelf { self.new ≡ record self.old { shelf = self.new.shelf } }
         ensures alike { ForEachKinds (Controls A.kinds A.most A.states A.suits self.old) (λ kinds. AreAlike A.kinds A.most kinds self.new.shelf) }
         ensures born { ForEachKinds (Controls A.kinds A.most A.states A.suits self.old) (λ kinds. IfOk result (Born A.kinds A.most A.states A.suits self.old kinds life)) }
+        ensures takes { IfOk result (λ _. TakesOne self.old.shelf self.new.shelf) }
+        ensures lost { OnErr result (TakesOneAtMost self.old.shelf self.new.shelf) }
     {
         let (replica, out) = Replica::restart(
             self.alloc,
@@ -294,6 +299,8 @@ impl<A: App> Controller<A> {
         ensures controls { ForEachKinds (Controls A.kinds A.most A.states A.suits self.old) (λ kinds. Controls A.kinds A.most A.states A.suits self.new kinds) }
         ensures pair { KnowsPair self.old self.new (W.pair stable.old) (W.pair stable.new) }
         ensures who { (self.new.setup ≡ self.old.setup) × (self.new.me ≡ self.old.me) }
+        ensures shelf { IfOk result (λ _. LeavesShelf A.kinds A.states (nat_lt self.old.life last_life) self.old self.new) }
+        ensures lost { OnErr result (MayTake (nat_lt self.old.life last_life) self.old self.new) }
     {
         if self.life >= u64::from(LAST_LIFE) {
             return Ok(Letters::new(self.alloc));
@@ -326,6 +333,13 @@ impl<A: App> Controller<A> {
         ensures controls { ForEachKinds (Controls A.kinds A.most A.states A.suits self.old) (λ kinds. Controls A.kinds A.most A.states A.suits self.new kinds) }
         ensures pair { W.pair stable.new ≡ pair_in (state_of self.new) }
         ensures who { (self.new.setup ≡ self.old.setup) × (self.new.me ≡ self.old.me) }
+
+        // A crash takes no memory.
+        ensures crash { OnErr result (is_crash input ≡ false) }
+
+        // The applications of later lives stay on their shelf, but a restart that begins a life takes its own.
+        ensures shelf { IfOk result (λ _. LeavesShelf A.kinds A.states (begins_life self.old input) self.old self.new) }
+        ensures lost { OnErr result (MayTake (begins_life self.old input) self.old self.new) }
     {
         match self.active.take() {
             Some(active) => self.act(active, input, stable),

@@ -1,4 +1,4 @@
-use Rattle.std.proofs.Common.{◌∙◌, subst, sym, ap}
+use Rattle.std.proofs.Common.{◌≡◌, ◌∙◌, subst, sym, ap}
 use Rattle.std.proofs.lemmas.Result.{IfOk-weaker}
 use Rattle.group_controller.specs.Acting.{Acting, Works}
 use Rattle.group_controller.specs.Rules.{on_input}
@@ -15,7 +15,7 @@ returns-in-Some-clause-turn g c = λ kinds stands.
     let now = c.args.self.now in
     let began = began_begins g.A.App.kinds g.A.App.most g.A.App.states g.A.App.suits kinds now c.args.active c.forget_limit.new.self stands c.forget_limit.ensures in
     let off = sym c.is_crash-crashes.ensures ∙ c.if-crashes.false in
-    let works = subst (λ (b : Acting _). Works g.A.App.kinds g.A.App.most g.A.App.states g.A.App.suits kinds now.setup b (on_input kinds now.setup b.work.state c.args.input) c.on_input.new.self) c.forget_limit.ensures (c.in_ok-on_input.ensures kinds now.setup began off) in
+    let works = subst (λ (b : Acting _). Works g.A.App.kinds g.A.App.most g.A.App.states g.A.App.suits kinds now.setup b (on_input kinds now.setup b.work.state c.args.input) c.on_input.new.self) c.forget_limit.ensures (c.in_ok-on_input.ensures.works kinds now.setup began off) in
     let promise = ap (λ (a : Acting _). a.promise) (sym c.active.view_is) ∙ c.in-Some.is in
     IfOk-weaker c.keep_saved.result _ _ (λ letters k. act_saved g.A.App.kinds g.A.App.most g.A.App.states g.A.App.suits kinds now c.args.active c.on_input.new.self c.args.input c.in-Some.promise letters c.keep_saved.new.self _ _ _ _ stands works promise k) c.keep_saved.ensures.saves
 
@@ -25,7 +25,7 @@ returns-in-Some-clause-controls g c = λ kinds both.
     let now = c.args.self.now in
     let began = began_begins g.A.App.kinds g.A.App.most g.A.App.states g.A.App.suits kinds now c.args.active c.forget_limit.new.self stands c.forget_limit.ensures in
     let off = sym c.is_crash-crashes.ensures ∙ c.if-crashes.false in
-    let works = subst (λ (b : Acting _). Works g.A.App.kinds g.A.App.most g.A.App.states g.A.App.suits kinds now.setup b (on_input kinds now.setup b.work.state c.args.input) c.on_input.new.self) c.forget_limit.ensures (c.in_ok-on_input.ensures kinds now.setup began off) in
+    let works = subst (λ (b : Acting _). Works g.A.App.kinds g.A.App.most g.A.App.states g.A.App.suits kinds now.setup b (on_input kinds now.setup b.work.state c.args.input) c.on_input.new.self) c.forget_limit.ensures (c.in_ok-on_input.ensures.works kinds now.setup began off) in
     let promise = ap (λ (a : Acting _). a.promise) (sym c.active.view_is) ∙ c.in-Some.is in
     whichever c.keep_saved.result _ _ (Controls g.A.App.kinds g.A.App.most g.A.App.states g.A.App.suits c.keep_saved.new.self kinds) c.keep_saved.ensures.saves c.keep_saved.ensures.wants
     (λ letters k. controls_saved g.A.App.kinds g.A.App.most g.A.App.states g.A.App.suits kinds now c.keep_saved.new.self c.args.active c.on_input.new.self _ c.in-Some.promise letters _ _ _ _ both.0 stands works promise k)
@@ -36,7 +36,7 @@ returns-in-None-clause-turn g c = λ kinds stands.
     let now = c.args.self.now in
     let began = began_begins g.A.App.kinds g.A.App.most g.A.App.states g.A.App.suits kinds now c.args.active c.forget_limit.new.self stands c.forget_limit.ensures in
     let off = sym c.is_crash-crashes.ensures ∙ c.if-crashes.false in
-    let works = subst (λ (b : Acting _). Works g.A.App.kinds g.A.App.most g.A.App.states g.A.App.suits kinds now.setup b (on_input kinds now.setup b.work.state c.args.input) c.on_input.new.self) c.forget_limit.ensures (c.in_ok-on_input.ensures kinds now.setup began off) in
+    let works = subst (λ (b : Acting _). Works g.A.App.kinds g.A.App.most g.A.App.states g.A.App.suits kinds now.setup b (on_input kinds now.setup b.work.state c.args.input) c.on_input.new.self) c.forget_limit.ensures (c.in_ok-on_input.ensures.works kinds now.setup began off) in
     let none = ap (λ (a : Acting _). a.promise) (sym c.active.view_is) ∙ c.in-None.is in
     act_unsaved g.A.App.kinds g.A.App.most g.A.App.states g.A.App.suits kinds now c.args.active c.on_input.new.self c.args.input c.keep.result c.keep.new.self (g.W.Stable.pair c.args.stable.now) (g.W.Stable.faults c.args.stable.now) stands works none c.keep.ensures.letters c.keep.ensures.kept
 
@@ -46,7 +46,7 @@ returns-in-None-clause-controls g c = λ kinds both.
     let now = c.args.self.now in
     let began = began_begins g.A.App.kinds g.A.App.most g.A.App.states g.A.App.suits kinds now c.args.active c.forget_limit.new.self stands c.forget_limit.ensures in
     let off = sym c.is_crash-crashes.ensures ∙ c.if-crashes.false in
-    let works = subst (λ (b : Acting _). Works g.A.App.kinds g.A.App.most g.A.App.states g.A.App.suits kinds now.setup b (on_input kinds now.setup b.work.state c.args.input) c.on_input.new.self) c.forget_limit.ensures (c.in_ok-on_input.ensures kinds now.setup began off) in
+    let works = subst (λ (b : Acting _). Works g.A.App.kinds g.A.App.most g.A.App.states g.A.App.suits kinds now.setup b (on_input kinds now.setup b.work.state c.args.input) c.on_input.new.self) c.forget_limit.ensures (c.in_ok-on_input.ensures.works kinds now.setup began off) in
     let none = ap (λ (a : Acting _). a.promise) (sym c.active.view_is) ∙ c.in-None.is in
     controls_kept g.A.App.kinds g.A.App.most g.A.App.states g.A.App.suits kinds now c.keep.new.self c.args.active c.on_input.new.self _ both.0 stands works none c.keep.ensures.kept
 
@@ -59,3 +59,8 @@ returns-in-Some-clause-pair g c =
 
 pub returns-in-None-clause-pair : goal.returns-in-None-clause-pair
 returns-in-None-clause-pair g c = λ known. known ∙ ap (λ (x : Controlling _). (x.promise, x.life)) (sym c.keep.ensures.kept)
+
+pub returns-in-Some-clause-shelf : goal.returns-in-Some-clause-shelf
+returns-in-Some-clause-shelf g c =
+    whichever c.keep_saved.result _ _ (c.keep_saved.new.self.shelf ≡ c.args.self.now.shelf) c.keep_saved.ensures.saves c.keep_saved.ensures.wants
+    (λ letters k. ap (λ (x : Controlling _). x.shelf) k.left) (λ w. ap (λ (x : Controlling _). x.shelf) w.0)

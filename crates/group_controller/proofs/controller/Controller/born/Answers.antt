@@ -1,9 +1,11 @@
-use Rattle.std.proofs.Common.{List, ℕ, ap, subst, sym}
+use Rattle.std.proofs.Common.{List, ℕ, ◌++◌, ◌∙◌, ap, subst, sym}
+use Rattle.std.proofs.lemmas.List.{append-nil}
+use Rattle.std.specs.Prelude.{Option, None, option_to_list}
 use Rattle.vr_log.specs.declared.state.VrState.{VrState}
 use Rattle.vr_core.specs.Lasting.{CollectsItsOwn}
 use Rattle.group_controller.specs.Acting.{Begins}
-use Rattle.group_controller.specs.Turns.{Born, Controlling, Controls}
-use Rattle.group_controller.proofs.Controlling.{born_is, last_alike, rest_alike}
+use Rattle.group_controller.specs.Turns.{Born, Controlling, Controls, TakesOneAtMost}
+use Rattle.group_controller.proofs.Controlling.{born_is, last_alike, on_any_err, rest_alike}
 use Rattle.group_controller.proofs.controller.Controller.born.Goals as goal
 
 pub returns-clause-born : goal.returns-clause-born
@@ -60,3 +62,19 @@ pub returns-clause-alike : goal.returns-clause-alike
 returns-clause-alike g c = λ kinds controls.
     let inside = subst (λ (x : Controlling _). Controls g.A.App.kinds g.A.App.most g.A.App.states g.A.App.suits x kinds) (sym c.self.view_is) controls in
     rest_alike g.A.App.kinds g.A.App.most g.A.App.states g.A.App.suits kinds c.self.inside.shelf.items c.pop.new.self.items c.pop.result inside.shelf c.pop.ensures.items
+
+pub returns-in_default-clause-lost : goal.returns-in_default-clause-lost
+returns-in_default-clause-lost g c = (c.pop.result, ap (λ (x : Controlling _). x.shelf) (sym c.self.view_is) ∙ c.pop.ensures.items)
+
+pub returns-in_err-active-clause-lost : goal.returns-in_err-active-clause-lost
+returns-in_err-active-clause-lost g c = on_any_err _ (TakesOneAtMost c.args.self.now.shelf c.pop.new.self.items) (c.pop.result, ap (λ (x : Controlling _). x.shelf) (sym c.self.view_is) ∙ c.pop.ensures.items)
+
+pub returns-in_err-take-clause-lost : goal.returns-in_err-take-clause-lost
+returns-in_err-take-clause-lost g c = on_any_err _ (TakesOneAtMost c.args.self.now.shelf c.pop.new.self.items) (c.pop.result, ap (λ (x : Controlling _). x.shelf) (sym c.self.view_is) ∙ c.pop.ensures.items)
+
+pub returns-in_err-replica-clause-lost : goal.returns-in_err-replica-clause-lost
+returns-in_err-replica-clause-lost g c = on_any_err _ (TakesOneAtMost c.args.self.now.shelf c.args.self.now.shelf) (None, sym (append-nil c.args.self.now.shelf))
+
+pub returns-clause-takes : goal.returns-clause-takes
+returns-clause-takes g c =
+    (c.in-Some.app, ap (λ (x : Controlling _). x.shelf) (sym c.self.view_is) ∙ c.pop.ensures.items ∙ ap (λ (o : Option _). c.pop.new.self.items ++ option_to_list o) c.in-Some.is)

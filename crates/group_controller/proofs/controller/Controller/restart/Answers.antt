@@ -1,8 +1,9 @@
-use Rattle.std.proofs.Common.{rules, ◌≤◌, ◌+◌, ◌∷◌, [], ◌++◌, ap, subst, sym, ◌∙◌}
+use Rattle.std.proofs.Common.{rules, ◌≡◌, ◌≤◌, ◌+◌, ◌∷◌, [], ◌++◌, ap, subst, sym, ◌∙◌}
 use Rattle.rv_base.specs.Stables.{standing}
+use Rattle.app_core.specs.Chain.{starting_chain}
 use Rattle.dispatcher.specs.Ledger.{most_commands}
-use Rattle.group_controller.specs.Turns.{AreAlike, Controlling, Saves}
-use Rattle.group_controller.proofs.Controlling.{controls_back, pushed_alike, restart_kept_new, restart_saved}
+use Rattle.group_controller.specs.Turns.{AreAlike, Controlling, PutsBack, Saves}
+use Rattle.group_controller.proofs.Controlling.{born_fresh, controls_back, may_have_taken, has_taken, on_any_err, pushed_alike, puts_back, restart_kept_new, restart_saved, restart_takes, takes_kept_new, takes_kept_old, takes_saved}
 use Rattle.group_controller.proofs.controller.Controller.restart.Goals as goal
 
 pub returns-in-KeptNew-clause-turn : goal.returns-in-KeptNew-clause-turn
@@ -41,3 +42,37 @@ returns-in-Saved-clause-turn g c = λ kinds controls.
     restart_saved g.A.App.kinds g.A.App.most g.A.App.states g.A.App.suits kinds c.args.self.now c.born.new.self c.save-2.new.self c.keep.new.self c.in_ok-active.active c.keep.result life r (g.W.Stable.pair c.args.stable.now) (g.W.Stable.pair c.save-2.new.stable) (g.W.Stable.faults c.args.stable.now) (g.W.Stable.faults c.save-2.new.stable)
     c.requires.down (search rules) (ap (λ (x : Controlling _). x.life + 1) c.self.view_is) c.in_ok-active.ensures.shelf c.in-Saved.is saves (c.in_ok-active.ensures.born kinds controls)
     (ap (λ (x : Controlling _). x.results) c.in_ok-save.ensures.left) c.keep.ensures.letters c.keep.ensures.kept
+
+pub returns-in-Saved-clause-shelf : goal.returns-in-Saved-clause-shelf
+returns-in-Saved-clause-shelf g c =
+    let r = c.in_ok-save.field-0 in
+    restart_takes g.A.App.kinds g.A.App.states c.args.self.now c.born.new.self c.keep.new.self r (search rules) c.in_ok-active.ensures.shelf
+    (ap (λ (x : Controlling _). x.results) c.keep.ensures.kept ∙ ap (λ (x : Controlling _). x.results) c.in_ok-save.ensures.left)
+    (takes_saved g.A.App.kinds g.A.App.states r c.args.self.now.shelf c.born.new.self.shelf c.keep.new.self.shelf c.in-Saved.is c.in_ok-active.ensures.takes
+    (ap (λ (x : Controlling _). x.shelf) c.keep.ensures.kept ∙ ap (λ (x : Controlling _). x.shelf) c.in_ok-save.ensures.left))
+
+pub returns-in-KeptNew-clause-shelf : goal.returns-in-KeptNew-clause-shelf
+returns-in-KeptNew-clause-shelf g c =
+    let r = c.in_ok-save.field-0 in
+    restart_takes g.A.App.kinds g.A.App.states c.args.self.now c.born.new.self c.save-2.new.self r (search rules) c.in_ok-active.ensures.shelf
+    (ap (λ (x : Controlling _). x.results) c.in_ok-save.ensures.left)
+    (takes_kept_new g.A.App.kinds g.A.App.states r c.args.self.now.shelf c.born.new.self.shelf c.save-2.new.self.shelf c.in-KeptNew.is c.in_ok-active.ensures.takes
+    (ap (λ (x : Controlling _). x.shelf) c.in_ok-save.ensures.left))
+
+pub returns-in_err-active-clause-lost : goal.returns-in_err-active-clause-lost
+returns-in_err-active-clause-lost g c = on_any_err _ _ (may_have_taken c.args.self.now c.born.new.self (search rules) c.in_err-active.ensures.lost)
+
+pub returns-in_err-save-clause-lost : goal.returns-in_err-save-clause-lost
+returns-in_err-save-clause-lost g c = on_any_err _ _ (has_taken c.args.self.now c.born.new.self c.save-2.new.self (search rules) c.in_ok-active.ensures.takes c.in_err-save.ensures.wants.0)
+
+pub returns-in-KeptOld-clause-shelf : goal.returns-in-KeptOld-clause-shelf
+returns-in-KeptOld-clause-shelf g c =
+    let r = c.in_ok-save.field-0 in
+    let i = c.self-in-KeptOld.inside in
+    let left : Controlling _ = record { setup = i.setup; me = i.me; promise = i.promise; life = i.life; acting = i.active; shelf = c.push.new.self.items; results = i.results.items } in
+    let after_is = c.self-in-KeptOld.view_is ∙ c.in_ok-save.ensures.left in
+    let born = c.in_ok-active.ensures.born c.requires.controls.0 c.requires.controls.1 in
+    let fresh = subst (λ a. g.A.App.states a ≡ starting_chain (g.A.App.kinds a)) (sym c.into_app.ensures) (born_fresh g.A.App.kinds g.A.App.states g.A.App.most g.A.App.suits c.args.self.now c.requires.controls.0 _ c.in_ok-active.active born) in
+    restart_takes g.A.App.kinds g.A.App.states c.args.self.now c.born.new.self left r (search rules) c.in_ok-active.ensures.shelf (ap (λ (x : Controlling _). x.results) after_is)
+    (takes_kept_old g.A.App.kinds g.A.App.states r c.args.self.now.shelf c.born.new.self.shelf left.shelf c.in-KeptOld.is c.in_ok-active.ensures.takes
+    (subst (λ l. PutsBack g.A.App.kinds g.A.App.states l left.shelf) (ap (λ (x : Controlling _). x.shelf) after_is) (puts_back g.A.App.kinds g.A.App.states _ i.shelf.items left.shelf c.into_app.result fresh c.push.ensures.items)))

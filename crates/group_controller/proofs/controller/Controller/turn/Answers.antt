@@ -1,9 +1,10 @@
-use Rattle.std.proofs.Common.{◌∙◌, subst, sym, ap}
+use Rattle.std.proofs.Common.{◌∙◌, refl, subst, sym, ap}
 use Rattle.std.proofs.lemmas.Result.{IfOk-weaker}
-use Rattle.std.specs.Prelude.{Option}
+use Rattle.std.specs.Prelude.{Bool, IfOk, nat_lt, OnErr, Option}
+use Rattle.of_types.specs.Lives.{last_life}
 use Rattle.group_controller.specs.Acting.{Acting}
-use Rattle.group_controller.specs.Turns.{Controlling, Controls, Restarts, Stands, Turns}
-use Rattle.group_controller.proofs.Controlling.{pair_known, taken_stands, turn_drops, turn_restarts}
+use Rattle.group_controller.specs.Turns.{begins_life, Controlling, Controls, MayTake, Restarts, LeavesShelf, Stands, Turns}
+use Rattle.group_controller.proofs.Controlling.{awake_begins, dropped_begins, keeps_shelf, takes_none, not_both, on_any_err, pair_known, restart_begins, restart_may_take, restart_leaves, taken_stands, turn_drops, turn_restarts}
 use Rattle.group_controller.proofs.controller.Controller.turn.Goals as goal
 
 pub returns-in-Some-clause-pair : goal.returns-in-Some-clause-pair
@@ -39,3 +40,50 @@ returns-else-is_restart-clause-turn g c = λ kinds stood.
     let told = sym c.is_restart.ensures ∙ c.if-is_restart.false in
     subst (λ (x : Controlling _). Turns kinds x c.args.input c.new.result left (g.W.Stable.pair c.args.stable.now) (g.W.Stable.pair c.args.stable.now) (g.W.Stable.faults c.args.stable.now) (g.W.Stable.faults c.args.stable.now)) c.self.view_is
     (turn_drops g.A.App.kinds g.A.App.most g.A.App.states g.A.App.suits kinds now left c.args.input c.new.result (g.W.Stable.pair c.args.stable.now) (g.W.Stable.faults c.args.stable.now) off told c.new.ensures (ap (λ (o : Option (Acting _)). record now { acting = o }) c.take.ensures.after))
+
+pub returns-in-Some-clause-shelf : goal.returns-in-Some-clause-shelf
+returns-in-Some-clause-shelf g c =
+    let i = c.self.inside in
+    let now : Controlling _ = record { setup = i.setup; me = i.me; promise = i.promise; life = i.life; acting = i.active; shelf = i.shelf.items; results = i.results.items } in
+    subst (λ (x : Controlling _). IfOk c.act.result (λ _. LeavesShelf g.A.App.kinds g.A.App.states (begins_life x c.args.input) x c.act.new.self)) c.self.view_is
+    (keeps_shelf g.A.App.kinds g.A.App.states c.act.result now c.act.new.self (begins_life now c.args.input) (awake_begins now c.args.input c.in-Some.active (sym c.take.ensures.value ∙ c.in-Some.is)) c.act.ensures.shelf)
+
+pub returns-in-Some-clause-lost : goal.returns-in-Some-clause-lost
+returns-in-Some-clause-lost g c =
+    let i = c.self.inside in
+    let now : Controlling _ = record { setup = i.setup; me = i.me; promise = i.promise; life = i.life; acting = i.active; shelf = i.shelf.items; results = i.results.items } in
+    subst (λ (x : Controlling _). OnErr c.act.result (MayTake (begins_life x c.args.input) x c.act.new.self)) c.self.view_is
+    (takes_none c.act.result now c.act.new.self (begins_life now c.args.input) (awake_begins now c.args.input c.in-Some.active (sym c.take.ensures.value ∙ c.in-Some.is)) c.act.ensures.shelf)
+
+pub returns-then-is_restart-clause-shelf : goal.returns-then-is_restart-clause-shelf
+returns-then-is_restart-clause-shelf g c =
+    let i = c.self.inside in
+    let now : Controlling _ = record { setup = i.setup; me = i.me; promise = i.promise; life = i.life; acting = i.active; shelf = i.shelf.items; results = i.results.items } in
+    let off = sym c.take.ensures.value ∙ c.in-None.is in
+    let told = sym c.is_restart.ensures ∙ c.if-is_restart.true in
+    subst (λ (x : Controlling _). IfOk c.restart.result (λ _. LeavesShelf g.A.App.kinds g.A.App.states (begins_life x c.args.input) x c.restart.new.self)) c.self.view_is
+    (restart_leaves g.A.App.kinds g.A.App.states c.restart.result now c.restart.new.self (begins_life now c.args.input) (nat_lt i.life last_life) (restart_begins now c.args.input off told) off
+    (subst (λ (o : Option (Acting _)). IfOk c.restart.result (λ _. LeavesShelf g.A.App.kinds g.A.App.states (nat_lt i.life last_life) (record now { acting = o }) c.restart.new.self)) c.take.ensures.after c.restart.ensures.shelf))
+
+pub returns-then-is_restart-clause-lost : goal.returns-then-is_restart-clause-lost
+returns-then-is_restart-clause-lost g c =
+    let i = c.self.inside in
+    let now : Controlling _ = record { setup = i.setup; me = i.me; promise = i.promise; life = i.life; acting = i.active; shelf = i.shelf.items; results = i.results.items } in
+    let off = sym c.take.ensures.value ∙ c.in-None.is in
+    let told = sym c.is_restart.ensures ∙ c.if-is_restart.true in
+    subst (λ (x : Controlling _). OnErr c.restart.result (MayTake (begins_life x c.args.input) x c.restart.new.self)) c.self.view_is
+    (restart_may_take c.restart.result now c.restart.new.self (begins_life now c.args.input) (nat_lt i.life last_life) (restart_begins now c.args.input off told) off
+    (subst (λ (o : Option (Acting _)). OnErr c.restart.result (MayTake (nat_lt i.life last_life) (record now { acting = o }) c.restart.new.self)) c.take.ensures.after c.restart.ensures.lost))
+
+pub returns-then-is_restart-clause-crash : goal.returns-then-is_restart-clause-crash
+returns-then-is_restart-clause-crash g c = on_any_err c.restart.result _ (not_both c.args.input (sym c.is_restart.ensures ∙ c.if-is_restart.true))
+
+pub returns-else-is_restart-clause-shelf : goal.returns-else-is_restart-clause-shelf
+returns-else-is_restart-clause-shelf g c =
+    let i = c.self.inside in
+    let now : Controlling _ = record { setup = i.setup; me = i.me; promise = i.promise; life = i.life; acting = i.active; shelf = i.shelf.items; results = i.results.items } in
+    let off = sym c.take.ensures.value ∙ c.in-None.is in
+    let told = sym c.is_restart.ensures ∙ c.if-is_restart.false in
+    let left : Controlling _ = record now { acting = c.take.new.self } in
+    subst (λ (x : Controlling _). LeavesShelf g.A.App.kinds g.A.App.states (begins_life x c.args.input) x left) c.self.view_is
+    (subst (λ (b : Bool). LeavesShelf g.A.App.kinds g.A.App.states b now left) (sym (dropped_begins now c.args.input off told)) refl)

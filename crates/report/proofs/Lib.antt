@@ -1,4 +1,5 @@
 pub mod Apart
+pub mod Bytes
 pub mod LinesAgain
 pub mod LinesTaken
 pub mod ListsAgain
@@ -14,6 +15,7 @@ pub mod Sequences
 pub mod SetupAgain
 pub mod SetupTaken
 pub mod SetupTests
+pub mod Spellable
 pub mod Steps
 pub mod Takers
 pub mod Texts

@@ -1,5 +1,5 @@
 -- Messages, matches and actions in base sixteen are written as they were read.
-use Rattle.std.proofs.Common.{◌≡◌, ℕ, zero, suc, ◌+◌, ◌-◌, ◌/◌, ◌%◌, ◌^◌, ◌≤◌, ◌<◌, Bool, true, false, cond, List, [], ◌∷◌, ◌++◌, length, take, drop, refl, sym, ap, subst, ◌∙◌, append_assoc, length-append, arith}
+use Rattle.std.proofs.Common.{◌≡◌, ℕ, zero, suc, ◌+◌, ◌-◌, ◌/◌, ◌%◌, ◌^◌, ◌≤◌, ◌<◌, Bool, true, false, cond, List, ◌++◌, length, take, drop, refl, sym, ap, subst, ◌∙◌, append_assoc, length-append, arith}
 use Rattle.std.specs.Prelude.{Option, Some, None, Result, Ok, Err, nat_le, nat_eq, replicate}
 use Rattle.std.specs.Result.{result_ok}
 use Rattle.std.proofs.lemmas.Bool.{leb-true}
@@ -32,6 +32,7 @@ use Rattle.report.specs.Canonical.{if_written, happening_in, happening_of, happe
 use Rattle.report.specs.Records.{AreBytes, IsTellable, IsMatch, AreOutputs}
 use Rattle.report.specs.Report.{word, hex}
 use Rattle.report.specs.Spelled.{◌>>=◌, hex_at}
+use Rattle.report.proofs.Bytes.{joined_bytes, zero_bytes}
 use Rattle.report.proofs.MessagesAgain.{padded_is}
 use Rattle.report.proofs.Takers.{then, both_found, found_as, Takes, Spelt, took}
 use Rattle.report.proofs.Texts.{passed, some_is}
@@ -215,16 +216,6 @@ whole_match m bytes taken len within s told size =
     let long : length (take taken bytes) ≡ 4 + length fields + length s.1 = ap length by.whole ∙ omega (arith, length-append (bare_match fields) s.1, bare_length fields) in
     let all : length bytes ≤ taken = omega (arith, length-take taken bytes, long, filled, front, told, size) in
     subst (λ l. IsSpelled l m) (take_all taken bytes all) s
-
-joined_bytes : (front bytes : List ℕ) → AreBytes front → AreBytes bytes → AreBytes (front ++ bytes)
-joined_bytes [] bytes first are i = are i
-joined_bytes (b ∷ front) bytes first are zero = first 0
-joined_bytes (b ∷ front) bytes first are (suc i) = joined_bytes front bytes (λ k. first (suc k)) are i
-
-zero_bytes : (n : ℕ) → AreBytes (replicate n 0)
-zero_bytes zero i = omega arith
-zero_bytes (suc n) zero = omega arith
-zero_bytes (suc n) (suc i) = zero_bytes n i
 
 padded_bytes : (bare : List ℕ) → AreBytes bare → AreBytes (padded bare)
 unfolding padded

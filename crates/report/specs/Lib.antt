@@ -1,8 +1,10 @@
 pub mod Canonical
+pub mod Fits
 pub mod Lines
 pub mod OneLine
 pub mod Reading
 pub mod Records
 pub mod Report
+pub mod Spellable
 pub mod Spelled
 pub mod Writing

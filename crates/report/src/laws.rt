@@ -1,8 +1,10 @@
 //! Laws of reports as text.
 ghost use Rattle.std.specs.Prelude.{◌≡◌, ℕ, List, Ok};
+ghost use Rattle.report.specs.Fits.{FitsRecord};
 ghost use Rattle.report.specs.Reading.{report_at};
 ghost use Rattle.report.specs.Records.{IsRecord};
 ghost use Rattle.report.specs.Report.{text};
+ghost use Rattle.report.specs.Spellable.{IsSpellable};
 ghost use Rattle.report.specs.declared.record.Record.{Record};
 
 /// Laws of reports as text.
@@ -15,4 +17,9 @@ pub fn report_law()
     ensures found { (bytes : List ℕ) (r : Record) → report_at bytes ≡ Ok r → IsRecord r }
     // It is read of its text alone.
     ensures only { (bytes : List ℕ) (r : Record) → report_at bytes ≡ Ok r → text r ≡ bytes }
+{}
+
+/// What fits and can be spelled is a record. That it fits is in its types (`record_fits`).
+pub fn record_law()
+    ensures { (r : Record) → FitsRecord r → IsSpellable r → IsRecord r }
 {}

@@ -19,7 +19,7 @@ mod words;
 mod writing;
 
 pub use fault::ReportFault;
-pub use laws::report_law;
+pub use laws::{record_law, report_law};
 pub use reading::read_report;
 pub use record::{Record, Shown, Told};
 pub use report_text::{last_line, text};

@@ -1,0 +1,5 @@
+use Rattle.report.proofs.Spellable.{is_record}
+use Rattle.report.proofs.laws.record_law.Goals as goal
+
+pub returns : goal.returns
+returns c = is_record

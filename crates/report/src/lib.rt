@@ -4,6 +4,7 @@
 mod canonical;
 mod counted;
 mod fault;
+mod fitting;
 mod journal_lines;
 mod laws;
 mod lines;
@@ -19,6 +20,7 @@ mod words;
 mod writing;
 
 pub use fault::ReportFault;
+pub use fitting::record_fits;
 pub use laws::{record_law, report_law};
 pub use reading::read_report;
 pub use record::{Record, Shown, Told};

@@ -255,12 +255,15 @@ fn write_plain(alloc: Global, out: &mut Octets, message: &OfMessage) -> Result<(
     }
 }
 
+/// Room for the body of most messages, so that it seldom has to grow.
+const ROOM: usize = 128;
+
 /// A message with its header.
 #[tactic(auto, unfolding(crate::specs::Canonical::framed))]
 fn framed(alloc: Global, kind: u8, xid: u32, body: &[u8]) -> Result<Octets, AllocError>
     ensures { IfOk result (λ bytes. bytes ≡ framed kind xid body.now) }
 {
-    let mut out = Octets::new(alloc);
+    let mut out = Octets::from_vec(Vec::with_capacity(alloc, 8 + body.len())?);
     out.append(&one(VERSION))?;
     out.append(&one(kind))?;
     out.append(&long_length(8 + body.len()))?;
@@ -295,7 +298,7 @@ fn plain_type(message: &OfMessage) -> u8
 fn written(alloc: Global, xid: u32, message: &OfMessage) -> Result<Octets, AllocError>
     ensures { IfOk result (λ bytes. bytes ≡ canonical xid message.now) }
 {
-    let mut body = Octets::new(alloc);
+    let mut body = Octets::from_vec(Vec::with_capacity(alloc, ROOM)?);
     write_plain(alloc, &mut body, message)?;
     framed(alloc, plain_type(message), xid, body.as_slice())
 }

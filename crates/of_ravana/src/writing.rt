@@ -75,11 +75,14 @@ fn write_command_front(
     Ok(())
 }
 
+/// Room for what most messages say, so that it seldom has to grow.
+const ROOM: usize = 128;
+
 /// What a message says after its life.
 fn extension_rest(alloc: Global, said: &Extension) -> Result<Octets, AllocError>
     ensures { IfOk result (λ bytes. bytes ≡ extension_rest said.now) }
 {
-    let mut out = Octets::new(alloc);
+    let mut out = Octets::from_vec(Vec::with_capacity(alloc, ROOM)?);
     match said {
         Extension::Event { number, what, .. } => {
             let told = canonical_happening(alloc, what)?;
@@ -143,7 +146,7 @@ fn extension_life(said: &Extension) -> u32
 fn extension_body(alloc: Global, kind: u32, life: u32, rest: &[u8]) -> Result<Octets, AllocError>
     ensures { IfOk result (λ bytes. bytes ≡ extension_body kind life rest.now) }
 {
-    let mut out = Octets::new(alloc);
+    let mut out = Octets::from_vec(Vec::with_capacity(alloc, rest.len().saturating_add(16))?);
     out.append(&four(RAVANA))?;
     out.append(&four(kind))?;
     out.append(&four(life))?;

@@ -265,6 +265,9 @@ fn write_vr(alloc: Global, out: &mut Octets, message: &VrMessage) -> Result<(), 
     }
 }
 
+/// Room for the messages without an event, which are most, so that they need not grow.
+const ROOM: usize = 32;
+
 /// The bytes of a message between members of a group. Counts and lengths stand in four bytes; of greater
 /// ones their lowest four bytes stand there.
 #[tactic(auto, using(crate::proofs::Written::vr_length))]
@@ -276,7 +279,7 @@ pub fn encode_vr(alloc: Global, message: &VrMessage) -> Result<Octets, AllocErro
     ensures size { length (canonical_vr message.now) ≡ vr_size message.now }
 {
     reads_back(message);
-    let mut out = Octets::new(alloc);
+    let mut out = Octets::from_vec(Vec::with_capacity(alloc, ROOM)?);
     write_vr(alloc, &mut out, message)?;
     Ok(out)
 }

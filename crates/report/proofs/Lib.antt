@@ -15,7 +15,7 @@ pub mod Sequences
 pub mod SetupAgain
 pub mod SetupTaken
 pub mod SetupTests
-pub mod Spellable
+pub mod Writable
 pub mod Steps
 pub mod Takers
 pub mod Texts

@@ -23,7 +23,7 @@ use Rattle.report.specs.declared.record.Shown.{Shown}
 use Rattle.report.specs.declared.record.Told.{Told}
 use Rattle.report.specs.Fits.{FitsEntry, FitsMessage, FitsEvent, FitsLogEntry, FitsExecuted, FitsShown, FitsTold, FitsRecord}
 use Rattle.report.specs.Records.{IsToldEntry, IsTellable, IsToldEvent, IsLogEntry, IsToldExecuted, IsShown, IsEventOf, IsTold, AreTold, IsRecord}
-use Rattle.report.specs.Spellable.{HasLine, IsSpellableEvent, IsSpellableExecuted, IsSpellableRow, IsSpellableTold, AreSpellable, IsSpellable}
+use Rattle.report.specs.Writable.{HasLine, IsWritableEvent, IsWritableExecuted, IsWritableRow, IsWritableTold, AreWritable, IsWritable}
 use Rattle.report.proofs.Bytes.{bare_match_bytes, actions_bytes, message_bytes}
 
 -- what follows of two things that hold of each of a list
@@ -63,20 +63,20 @@ log_entry : (e : Entry) → FitsLogEntry e → IsValidEntry e → IsLogEntry e
 log_entry (Received e) f short = told_event e f short
 log_entry (Processed j) f short = f
 
-event_of : (switch : ℕ) (e : Event) → FitsEvent e → IsSpellableEvent switch e → IsEventOf switch e
+event_of : (switch : ℕ) (e : Event) → FitsEvent e → IsWritableEvent switch e → IsEventOf switch e
 event_of switch e f s = record { told = told_event e f s.small; of = s.of }
 
-told_executed : (x : Executed) → FitsExecuted x → IsSpellableExecuted x → IsToldExecuted x
+told_executed : (x : Executed) → FitsExecuted x → IsWritableExecuted x → IsToldExecuted x
 told_executed x f s = record { life = f.life; number = f.number; generation = f.generation; from = f.from; order = order_tellable x.order s.valid s.small f.order }
 
-shown : (r : Shown) → FitsShown r → IsSpellableRow r → IsShown r
+shown : (r : Shown) → FitsShown r → IsWritableRow r → IsShown r
 shown r f s = record {
   priority = f.priority;
   matching = record { spelled = is_form r.matching s.matching f.matching; bytes = bare_match_bytes r.matching };
   actions = record { few = s.few; ports = f.actions; bytes = actions_bytes r.actions };
 }
 
-told : (switch : ℕ) (t : Told) → FitsTold t → IsSpellableTold switch t → IsTold switch t
+told : (switch : ℕ) (t : Told) → FitsTold t → IsWritableTold switch t → IsTold switch t
 told switch t f s = record {
   generation = f.generation;
   master = f.master;
@@ -86,16 +86,16 @@ told switch t f s = record {
   few_events = f.few_events;
   few_executed = f.few_executed;
   few_rows = f.few_rows;
-  events = both_all FitsEvent (IsSpellableEvent switch) (IsEventOf switch) (event_of switch) t.events f.events s.events;
-  executed = both_all FitsExecuted IsSpellableExecuted IsToldExecuted told_executed t.executed f.executed s.executed;
-  rows = both_all FitsShown IsSpellableRow IsShown shown t.rows f.rows s.rows;
+  events = both_all FitsEvent (IsWritableEvent switch) (IsEventOf switch) (event_of switch) t.events f.events s.events;
+  executed = both_all FitsExecuted IsWritableExecuted IsToldExecuted told_executed t.executed f.executed s.executed;
+  rows = both_all FitsShown IsWritableRow IsShown shown t.rows f.rows s.rows;
 }
 
-all_told : (switch : ℕ) (switches : List Told) → AllByRecursion FitsTold switches → AreSpellable switch switches → AreTold switch switches
+all_told : (switch : ℕ) (switches : List Told) → AllByRecursion FitsTold switches → AreWritable switch switches → AreTold switch switches
 all_told switch [] f s = tt
 all_told switch (t ∷ switches) (f, fs) (s, ss) = (told switch t f s, all_told (switch + 1) switches fs ss)
 
-pub is_record : (r : Record) → FitsRecord r → IsSpellable r → IsRecord r
+pub is_record : (r : Record) → FitsRecord r → IsWritable r → IsRecord r
 is_record r f s = record {
   setup = s.setup;
   rules = f.rules;

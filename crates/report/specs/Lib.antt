@@ -5,6 +5,6 @@ pub mod OneLine
 pub mod Reading
 pub mod Records
 pub mod Report
-pub mod Spellable
+pub mod Writable
 pub mod Spelled
 pub mod Writing

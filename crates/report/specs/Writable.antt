@@ -20,33 +20,33 @@ HasLine (entry.Refused a) = ⊥
 HasLine _ = Unit {0}
 
 -- an event of this switch, whose message fits its header
-pub record IsSpellableEvent (switch : ℕ) (e : Event) : Type 0 where
+pub record IsWritableEvent (switch : ℕ) (e : Event) : Type 0 where
   pub of : e.switch ≡ switch
   pub small : happening_size e.what ≤ 65535
 
 -- a command whose order is valid and fits its header
-pub record IsSpellableExecuted (x : Executed) : Type 0 where
+pub record IsWritableExecuted (x : Executed) : Type 0 where
   pub valid : IsValidOrder x.order
   pub small : order_size x.order ≤ 65535
 
 -- a row whose match is valid, and whose actions fit one message
-pub record IsSpellableRow (r : Shown) : Type 0 where
+pub record IsWritableRow (r : Shown) : Type 0 where
   pub matching : IsValidMatch r.matching
   pub few : length r.actions ≤ 4095
 
-pub record IsSpellableTold (switch : ℕ) (t : Told) : Type 0 where
-  pub events : AllByRecursion (IsSpellableEvent switch) t.events
-  pub executed : AllByRecursion IsSpellableExecuted t.executed
-  pub rows : AllByRecursion IsSpellableRow t.rows
+pub record IsWritableTold (switch : ℕ) (t : Told) : Type 0 where
+  pub events : AllByRecursion (IsWritableEvent switch) t.events
+  pub executed : AllByRecursion IsWritableExecuted t.executed
+  pub rows : AllByRecursion IsWritableRow t.rows
 
 -- the switches from this one on
-abbrev pub AreSpellable : ℕ → List Told → Type 0
-AreSpellable switch [] = Unit {0}
-AreSpellable switch (t ∷ switches) = IsSpellableTold switch t × AreSpellable (switch + 1) switches
+abbrev pub AreWritable : ℕ → List Told → Type 0
+AreWritable switch [] = Unit {0}
+AreWritable switch (t ∷ switches) = IsWritableTold switch t × AreWritable (switch + 1) switches
 
-pub record IsSpellable (r : Record) : Type 0 where
+pub record IsWritable (r : Record) : Type 0 where
   pub setup : IsSetup r.setup
   pub journal_is : AllByRecursion HasLine r.journal
   pub log : AllByRecursion IsValidEntry r.log
   pub switches : length r.switches ≡ length r.setup.ports
-  pub told : AreSpellable 0 r.switches
+  pub told : AreWritable 0 r.switches

@@ -4,7 +4,7 @@ ghost use Rattle.report.specs.Fits.{FitsRecord};
 ghost use Rattle.report.specs.Reading.{report_at};
 ghost use Rattle.report.specs.Records.{IsRecord};
 ghost use Rattle.report.specs.Report.{text};
-ghost use Rattle.report.specs.Spellable.{IsSpellable};
+ghost use Rattle.report.specs.Writable.{IsWritable};
 ghost use Rattle.report.specs.declared.record.Record.{Record};
 
 /// Laws of reports as text.
@@ -21,5 +21,5 @@ pub fn report_law()
 
 /// What fits and can be spelled is a record. That it fits is in its types (`record_fits`).
 pub fn record_law()
-    ensures { (r : Record) → FitsRecord r → IsSpellable r → IsRecord r }
+    ensures { (r : Record) → FitsRecord r → IsWritable r → IsRecord r }
 {}

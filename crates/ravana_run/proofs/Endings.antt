@@ -3,8 +3,8 @@ use Rattle.std.proofs.Common.{◌≡◌, ◌≢◌, ◌≤◌, ◌<◌, ◌⊎�
 use Rattle.std.specs.Prelude.{Option, is_some, option_map, Result, IfOk, IfErr, Bool, Contains}
 use Rattle.std.specs.Io.KnownBytes.{Consumes, IsAtEnd}
 use Rattle.std.proofs.lemmas.Bool.{lt-leb}
-use Rattle.report.specs.declared.record.Record.{Record}
-use Rattle.report.specs.Report.{end_line, text}
+use Rattle.ravana_run.specs.declared.sim.Output.{Output}
+use Rattle.ravana_run.specs.declared.sim.Output.TheVariants as told_as
 use Rattle.scenario.specs.declared.scenario.Fault.{Fault}
 use Rattle.scenario.specs.declared.scenario.Scenario.{Scenario}
 use Rattle.scenario.specs.Generated.{generated}
@@ -67,7 +67,7 @@ never_both words s said other = no_truth (sym other ∙ ap (λ x. is_some x) sai
 -- a scenario's bytes are refused, or its run ends so
 refused_or_ran : (kinds : List ℕ) (saves : Telling) (bytes : List ℕ) (e : Ending) → EndsScenario kinds saves bytes e →
     ((fault : Fault) × (e ≡ ending.Refused fault) × (scenario_of bytes ≡ Err fault))
-    ⊎ ((scenario : Scenario) × (scenario_of bytes ≡ Ok scenario) × EndsRun kinds saves text scenario e)
+    ⊎ ((scenario : Scenario) × (scenario_of bytes ≡ Ok scenario) × EndsRun kinds saves told_as.Report scenario e)
 refused_or_ran kinds saves bytes (ending.Refused fault) is = inl (fault, refl, is)
 refused_or_ran kinds saves bytes (ending.Report written) ends = inr ends
 refused_or_ran kinds saves bytes ending.Usage ends = inr ends
@@ -79,7 +79,7 @@ refused_or_ran kinds saves bytes ending.Same ends = inr ends
 refused_or_ran kinds saves bytes (ending.Differs n) ends = inr ends
 
 -- the bytes of a scenario whose run ends so
-ran_ends : (kinds : List ℕ) (saves : Telling) (bytes : List ℕ) (scenario : Scenario) (e : Ending) → scenario_of bytes ≡ Ok scenario → EndsRun kinds saves text scenario e → EndsScenario kinds saves bytes e
+ran_ends : (kinds : List ℕ) (saves : Telling) (bytes : List ℕ) (scenario : Scenario) (e : Ending) → scenario_of bytes ≡ Ok scenario → EndsRun kinds saves told_as.Report scenario e → EndsScenario kinds saves bytes e
 ran_ends kinds saves bytes scenario (ending.Refused fault) is never = absurd never
 ran_ends kinds saves bytes scenario (ending.Report written) is ran = (scenario, is, ran)
 ran_ends kinds saves bytes scenario ending.Usage is ran = (scenario, is, ran)
@@ -91,7 +91,7 @@ ran_ends kinds saves bytes scenario ending.Same is ran = (scenario, is, ran)
 ran_ends kinds saves bytes scenario (ending.Differs n) is ran = (scenario, is, ran)
 
 pub scenario_ends : {X : Type 0} (kinds : List ℕ) (saves : Telling) (bytes : List ℕ) (scenario : Scenario) (result : Result Ending X) → scenario_of bytes ≡ Ok scenario →
-    IfOk result (λ e. EndsRun kinds saves text scenario e) → IfOk result (λ e. EndsScenario kinds saves bytes e)
+    IfOk result (λ e. EndsRun kinds saves told_as.Report scenario e) → IfOk result (λ e. EndsScenario kinds saves bytes e)
 scenario_ends kinds saves bytes scenario (Ok e) is ran = ran_ends kinds saves bytes scenario e is ran
 scenario_ends kinds saves bytes scenario (Err x) is ran = tt
 
@@ -118,16 +118,16 @@ module _ (words : List (List ℕ)) (unread unfailed : Type 0) where
   audit_tells e said kept no_usage no_failure range = ends_tells (service.Reads reader.Audit) e said no_usage (λ is. absurd (no_failure is)) (λ _. kept) (λ _. range)
 
   module _ (kinds : List ℕ) (saves : Telling) where
-    tells_run : (s : Service) (e : Ending) (tells : Record → List ℕ) (scenario : Scenario) → IsServed words s → (IsAudit words → ⊥) → unfailed → EndsRun kinds saves tells scenario e → Tells words unread unfailed e
-    tells_run s (ending.Report written) tells scenario said other kept ends = run_tells s (ending.Report written) said other kept (λ is. omega (arith, is)) (λ is. omega (arith, is))
-    tells_run s ending.Usage tells scenario said other kept never = absurd never
-    tells_run s (ending.Refused fault) tells scenario said other kept never = absurd never
-    tells_run s ending.Unread tells scenario said other kept never = absurd never
-    tells_run s (ending.NoQuorum up needed) tells scenario said other kept ends = run_tells s (ending.NoQuorum up needed) said other kept (λ is. omega (arith, is)) (λ is. omega (arith, is))
-    tells_run s (ending.Overfull limit) tells scenario said other kept ends = run_tells s (ending.Overfull limit) said other kept (λ is. omega (arith, is)) (λ is. omega (arith, is))
-    tells_run s (ending.Unposted count letters) tells scenario said other kept ends = run_tells s (ending.Unposted count letters) said other kept (λ is. omega (arith, is)) (λ is. omega (arith, is))
-    tells_run s ending.Same tells scenario said other kept never = absurd never
-    tells_run s (ending.Differs n) tells scenario said other kept never = absurd never
+    tells_run : (s : Service) (e : Ending) (output : Output) (scenario : Scenario) → IsServed words s → (IsAudit words → ⊥) → unfailed → EndsRun kinds saves output scenario e → Tells words unread unfailed e
+    tells_run s (ending.Report written) output scenario said other kept ends = run_tells s (ending.Report written) said other kept (λ is. omega (arith, is)) (λ is. omega (arith, is))
+    tells_run s ending.Usage output scenario said other kept never = absurd never
+    tells_run s (ending.Refused fault) output scenario said other kept never = absurd never
+    tells_run s ending.Unread output scenario said other kept never = absurd never
+    tells_run s (ending.NoQuorum up needed) output scenario said other kept ends = run_tells s (ending.NoQuorum up needed) said other kept (λ is. omega (arith, is)) (λ is. omega (arith, is))
+    tells_run s (ending.Overfull limit) output scenario said other kept ends = run_tells s (ending.Overfull limit) said other kept (λ is. omega (arith, is)) (λ is. omega (arith, is))
+    tells_run s (ending.Unposted count letters) output scenario said other kept ends = run_tells s (ending.Unposted count letters) said other kept (λ is. omega (arith, is)) (λ is. omega (arith, is))
+    tells_run s ending.Same output scenario said other kept never = absurd never
+    tells_run s (ending.Differs n) output scenario said other kept never = absurd never
 
     tells_scenario : (e : Ending) (bytes : List ℕ) → IsServed words (service.Reads reader.Sim) → unfailed → EndsScenario kinds saves bytes e → Tells words unread unfailed e
     tells_scenario e bytes said kept ends =
@@ -135,10 +135,10 @@ module _ (words : List (List ℕ)) (unread unfailed : Type 0) where
         elim (refused_or_ran kinds saves bytes e ends) [
           | inl refused ↦ subst (λ x. Tells words unread unfailed x) (sym refused.1)
               (run_tells (service.Reads reader.Sim) (ending.Refused refused.0) said other kept (λ is. omega (arith, is)) (λ is. omega (arith, is)))
-          | inr ran ↦ tells_run (service.Reads reader.Sim) e text ran.0 said other kept ran.2
+          | inr ran ↦ tells_run (service.Reads reader.Sim) e told_as.Report ran.0 said other kept ran.2
         ]
 
-    tells_report : (e : Ending) (bytes : List ℕ) → IsServed words (service.Reads reader.Audit) → unfailed → EndsReport bytes e → Tells words unread unfailed e
+    tells_report : (e : Ending) (bytes : List ℕ) → IsServed words (service.Reads reader.Audit) → unfailed → EndsReport kinds bytes e → Tells words unread unfailed e
     tells_report (ending.Report written) bytes said kept never = absurd never
     tells_report ending.Usage bytes said kept never = absurd never
     tells_report (ending.Refused fault) bytes said kept ends =
@@ -160,12 +160,12 @@ module _ (words : List (List ℕ)) (unread unfailed : Type 0) where
     read_tells r bytes (Ok e) said kept ends = tells_read r e bytes said kept ends
     read_tells r bytes (Err x) said kept ends = tt
 
-    pub made_tells : {X : Type 0} (number controllers switches frames : ℕ) (scenario : Scenario) (tells : Record → List ℕ) (result : Result Ending X) → IsServed words (service.Gen number controllers switches frames) → unfailed →
-        IfOk result (λ e. EndsRun kinds saves tells scenario e) → IfOk result (λ e. Tells words unread unfailed e)
-    made_tells number controllers switches frames scenario tells (Ok e) said kept ends =
-        tells_run (service.Gen number controllers switches frames) e tells scenario said
+    pub made_tells : {X : Type 0} (number controllers switches frames : ℕ) (scenario : Scenario) (output : Output) (result : Result Ending X) → IsServed words (service.Gen number controllers switches frames) → unfailed →
+        IfOk result (λ e. EndsRun kinds saves output scenario e) → IfOk result (λ e. Tells words unread unfailed e)
+    made_tells number controllers switches frames scenario output (Ok e) said kept ends =
+        tells_run (service.Gen number controllers switches frames) e output scenario said
         (λ audit. no_audit_made words number controllers switches frames (job_served words (service.Gen number controllers switches frames) said) audit) kept ends
-    made_tells number controllers switches frames scenario tells (Err x) said kept ends = tt
+    made_tells number controllers switches frames scenario output (Err x) said kept ends = tt
 
 module _ (kinds : List ℕ) (saves : Telling) (words : List (List ℕ)) (unread : Type 0) where
   pub usage_caused : (before after : Option (List ℕ)) → service_for (job_of words) ≡ None → HasEndingCause kinds saves words unread before after ending.Usage
@@ -182,33 +182,33 @@ module _ (kinds : List ℕ) (saves : Telling) (words : List (List ℕ)) (unread 
   IsCaused input rest e = Outcome kinds saves words input rest unread (ending_status e) (ending_text e)
 
   -- the run of the scenario that was asked
-  ran_caused : (input rest : List ℕ) (e : Ending) (scenario : Scenario) (tells : Record → List ℕ) → IsAsked words input rest scenario tells → EndsRun kinds saves tells scenario e → IsCaused input rest e
-  ran_caused input rest (ending.Report written) scenario tells asked done = outcome.Closed scenario tells asked done
-  ran_caused input rest ending.Usage scenario tells asked never = absurd never
-  ran_caused input rest (ending.Refused fault) scenario tells asked never = absurd never
-  ran_caused input rest ending.Unread scenario tells asked never = absurd never
-  ran_caused input rest (ending.NoQuorum up needed) scenario tells asked left = outcome.Left scenario tells up needed asked left
-  ran_caused input rest (ending.Overfull limit) scenario tells asked full = outcome.Overfull scenario tells limit asked full
-  ran_caused input rest (ending.Unposted bytes letters) scenario tells asked full = outcome.Unposted scenario tells bytes letters asked full
-  ran_caused input rest ending.Same scenario tells asked never = absurd never
-  ran_caused input rest (ending.Differs n) scenario tells asked never = absurd never
+  ran_caused : (input rest : List ℕ) (e : Ending) (scenario : Scenario) (output : Output) → IsAsked words input rest scenario output → EndsRun kinds saves output scenario e → IsCaused input rest e
+  ran_caused input rest (ending.Report written) scenario output asked done = outcome.Closed scenario output asked done
+  ran_caused input rest ending.Usage scenario output asked never = absurd never
+  ran_caused input rest (ending.Refused fault) scenario output asked never = absurd never
+  ran_caused input rest ending.Unread scenario output asked never = absurd never
+  ran_caused input rest (ending.NoQuorum up needed) scenario output asked left = outcome.Left scenario output up needed asked left
+  ran_caused input rest (ending.Overfull limit) scenario output asked full = outcome.Overfull scenario output limit asked full
+  ran_caused input rest (ending.Unposted bytes letters) scenario output asked full = outcome.Unposted scenario output bytes letters asked full
+  ran_caused input rest ending.Same scenario output asked never = absurd never
+  ran_caused input rest (ending.Differs n) scenario output asked never = absurd never
 
   -- the scenario that four numbers make
   made_ended : (before after : Option (List ℕ)) (e : Ending) (number controllers switches frames : ℕ) → IsServed words (service.Gen number controllers switches frames) → after ≡ before →
-      EndsRun kinds saves end_line (generated number controllers switches frames) e → HasEndingCause kinds saves words unread before after e
+      EndsRun kinds saves told_as.LastLine (generated number controllers switches frames) e → HasEndingCause kinds saves words unread before after e
   made_ended None after e number controllers switches frames said same ends = tt
   made_ended (Some input) None e number controllers switches frames said same ends = tt
   made_ended (Some input) (Some rest) e number controllers switches frames said same ends =
-      ran_caused input rest e (generated number controllers switches frames) end_line
+      ran_caused input rest e (generated number controllers switches frames) told_as.LastLine
       (Of_numbers number controllers switches frames (job_served words (service.Gen number controllers switches frames) said) (one same)) ends
     where
       one : Some rest ≡ Some input → rest ≡ input
       one h = cc
 
   pub made_caused : {X : Type 0} (before after : Option (List ℕ)) (number controllers switches frames : ℕ) (scenario : Scenario) (result : Result Ending X) → IsServed words (service.Gen number controllers switches frames) → after ≡ before →
-      scenario ≡ generated number controllers switches frames → IfOk result (λ e. EndsRun kinds saves end_line scenario e) → IfOk result (λ e. HasEndingCause kinds saves words unread before after e)
+      scenario ≡ generated number controllers switches frames → IfOk result (λ e. EndsRun kinds saves told_as.LastLine scenario e) → IfOk result (λ e. HasEndingCause kinds saves words unread before after e)
   made_caused before after number controllers switches frames scenario (Ok e) said same is ends =
-      made_ended before after e number controllers switches frames said same (subst (λ s. EndsRun kinds saves end_line s e) is ends)
+      made_ended before after e number controllers switches frames said same (subst (λ s. EndsRun kinds saves told_as.LastLine s e) is ends)
   made_caused before after number controllers switches frames scenario (Err x) said same is ends = tt
 
   -- all that there was, was read
@@ -216,14 +216,14 @@ module _ (kinds : List ℕ) (saves : Telling) (words : List (List ℕ)) (unread 
   run_of_all input rest e said none ends =
       elim (refused_or_ran kinds saves input e ends) [
         | inl refused ↦ subst (λ x. IsCaused input rest x) (sym refused.1) (outcome.Refused refused.0 said (subst (λ r. HasRead scenario_limit input r) (sym none) To_the_end) refused.2)
-        | inr ran ↦ ran_caused input rest e ran.0 text (Of_bytes said none ran.1) ran.2
+        | inr ran ↦ ran_caused input rest e ran.0 told_as.Report (Of_bytes said none ran.1) ran.2
       ]
 
   -- too much was read
   oversized : (input rest : List ℕ) (fault : Fault) → IsAudit words → length rest + (report_limit + 1) ≡ length input → fault ≡ too_large → IsCaused input rest (ending.Refused fault)
   oversized input rest fault said many is = subst (λ f. IsCaused input rest (ending.Refused f)) (sym is) (outcome.Oversized said many)
 
-  audit_of_all : (input rest : List ℕ) (e : Ending) → IsAudit words → rest ≡ [] → length input ≤ report_limit + 1 → EndsReport input e → IsCaused input rest e
+  audit_of_all : (input rest : List ℕ) (e : Ending) → IsAudit words → rest ≡ [] → length input ≤ report_limit + 1 → EndsReport kinds input e → IsCaused input rest e
   audit_of_all input rest (ending.Report written) said none most never = absurd never
   audit_of_all input rest ending.Usage said none most never = absurd never
   audit_of_all input rest (ending.Refused fault) said none most (is, many) = oversized input rest fault said (omega (arith, ap (λ r. length r) none, most, many)) is
@@ -247,7 +247,7 @@ module _ (kinds : List ℕ) (saves : Telling) (words : List (List ℕ)) (unread 
         | inr ran ↦ never_found bytes (too_long bytes (omega (arith, long))) ran.1
       ]
 
-  audit_past : (input rest bytes : List ℕ) (e : Ending) → IsAudit words → input ≡ bytes ++ rest → length bytes ≡ report_limit + 1 → EndsReport bytes e → IsCaused input rest e
+  audit_past : (input rest bytes : List ℕ) (e : Ending) → IsAudit words → input ≡ bytes ++ rest → length bytes ≡ report_limit + 1 → EndsReport kinds bytes e → IsCaused input rest e
   audit_past input rest bytes (ending.Report written) said is long never = absurd never
   audit_past input rest bytes ending.Usage said is long never = absurd never
   audit_past input rest bytes (ending.Refused fault) said is long (large, many) =

@@ -6,3 +6,4 @@ pub mod Ran
 pub mod Shelving
 pub mod Tellings
 pub mod LastLine
+pub mod Recorded

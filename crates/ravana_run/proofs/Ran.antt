@@ -13,16 +13,18 @@ use Rattle.rv_base.specs.Turns.{IsWithinLimits}
 use Rattle.rv_base.proofs.All.{all_get}
 use Rattle.group_controller.specs.Turns.{Controlling, state_of, pair_in}
 use Rattle.of_switch.specs.State.{SwitchState}
-use Rattle.rv_bodies.specs.declared.typed.Typed.{Typed}
+use Rattle.of_types.specs.Setups.{IsSetup}
+use Rattle.rv_laws.proofs.Told.{told_law}
 use Rattle.rv_laws.proofs.Laws.{agreement_law, lasting_law, once_law, fence_law}
 use Rattle.rv_runs.specs.Committed.{controller_state, count_up, decided, members_up, switch_state}
 use Rattle.rv_runs.specs.Legal.{IsPossible, results_of}
 use Rattle.rv_runs.specs.Schedule.{Answer, Closes, FollowsInOrder, IsBegun, count_turns, majority}
 use Rattle.rv_runs.specs.Schedule as schedule
-use Rattle.rv_runs.specs.States.{IsFaithful, Scene, Sealing, controller_at}
+use Rattle.rv_runs.specs.States.{Scene, controller_at}
 use Rattle.rv_base.specs.declared.journal.Actor.TheVariants as actor
 use Rattle.rv_base.specs.Part.{part}
-use Rattle.rv_runs.proofs.Bodies.{own_again}
+use Rattle.rv_runs.specs.Bodies.{byte_bodies}
+use Rattle.rv_runs.proofs.Bodies.{bytes_again}
 use Rattle.rv_runs.proofs.Pasts.{from_some}
 use Rattle.rv_runs.proofs.Playing.{AllSaved, all_saved, the_one_journal}
 use Rattle.rv_base.specs.declared.wire.Stop.{Stop}
@@ -39,20 +41,17 @@ use Rattle.closing.proofs.Turned.{past_joined}
 use Rattle.closing.proofs.Worlds.{Runs, states_are}
 use Rattle.scenario.specs.declared.scenario.Scenario.{Scenario}
 use Rattle.report.specs.declared.record.Record.{Record}
-use Rattle.rv_record.specs.Shows.{Shows, scene_typed, told_by, told_of}
+use Rattle.report.specs.Fits.{FitsRecord}
+use Rattle.report.specs.Writable.{IsWritable}
+use Rattle.rv_record.specs.Shows.{Shows, told_by, told_of}
 use Rattle.playing.specs.Played.{HasPlayed, RunStops}
-use Rattle.ravana_run.specs.Play.{AreFresh, StopsAs, ending_by}
+use Rattle.ravana_run.specs.declared.sim.Output.{Output}
+use Rattle.ravana_run.specs.Play.{AreFresh, IfDone, IfReport, StopsAs, ending_by, told_text}
+use Rattle.ravana_run.proofs.Recorded.{one_record, told_writable}
 use Rattle.ravana_run.specs.declared.ending.Ending.{Ending}
 use Rattle.ravana_run.specs.Ending.{EndsRun}
 use Rattle.ravana_run.specs.Runs.{AreSaved, HasRun, IsCutShort, IsDone, IsLawful, IsRun, IsTheOne, IsUnposted, StableTells, StablesTell, scene_for}
 use Rattle.ravana_run.proofs.Playing.{rest_is, within_journal}
-
--- how messages stand for themselves
-abbrev pub typed : Sealing Typed
-typed = (scene_typed [] (record { controllers = 0; ports = []; links = []; deny = [] })).sealing
-
-pub faithful : IsFaithful typed
-faithful = own_again
 
 -- of the first stables
 there_is : {X : Type 0} (xs : List X) (i : ℕ) → i < length xs → (x : X) × (slice_get xs i ≡ Some x)
@@ -60,12 +59,12 @@ there_is [] i less = absurd (omega (arith, less))
 there_is (x ∷ xs) zero less = (x, refl)
 there_is (x ∷ xs) (suc i) less = there_is xs i (omega (arith, less))
 
-pub fresh_pairs : {A W : Type 0} (controls : Controlling A → List ℕ → Type 0) (pair : W → ℕ × ℕ) (stables : List W) (setup : Setup) (w : Worlding Typed A) (kinds : List ℕ) → AreFresh pair stables → StartsAs setup w →
-    Holds controls typed w kinds → PairsStand pair stables w.controllers
+pub fresh_pairs : {A W : Type 0} (controls : Controlling A → List ℕ → Type 0) (pair : W → ℕ × ℕ) (stables : List W) (setup : Setup) (w : Worlding (List ℕ) A) (kinds : List ℕ) → AreFresh pair stables → StartsAs setup w →
+    Holds controls byte_bodies w kinds → PairsStand pair stables w.controllers
 fresh_pairs controls pair stables setup w kinds fresh starts holds c x found =
     let within = slice_get_within w.controllers c x found in
     let group = holds.run.group in
-    let few = few_members (scene_in typed w kinds) w holds.run in
+    let few = few_members (scene_in byte_bodies w kinds) w holds.run in
     let count = fresh.count in
     let s = there_is stables c (omega (arith, within, few, count, group)) in
     (s.0, s.1, all_get (λ stable. pair stable ≡ (0, 0)) stables c s.0 fresh.each s.1 ∙ sym (starts.pairs c x found))
@@ -75,16 +74,16 @@ none_left [] h = refl
 none_left (x ∷ xs) h = cc
 
 module _ {A W : Type 0} (controls : Controlling A → List ℕ → Type 0) (pair : W → ℕ × ℕ) (faults : W → ℕ) (scenario : Scenario) (kinds : List ℕ)
-    (start : Worlding Typed A) (stables : List W) (w : Worlding Typed A) (stables_after : List W)
-    (begins : StartsAs scenario.setup start) (holds : Holds controls typed start kinds) (pairs : PairsStand pair stables start.controllers)
-    (k : Keeps controls pair faults typed start stables w stables_after) (within : IsWithinLimits typed.size (past w.journal)) where
-  abbrev OfRun : Scene Typed
+    (start : Worlding (List ℕ) A) (stables : List W) (w : Worlding (List ℕ) A) (stables_after : List W)
+    (begins : StartsAs scenario.setup start) (holds : Holds controls byte_bodies start kinds) (pairs : PairsStand pair stables start.controllers)
+    (k : Keeps controls pair faults byte_bodies start stables w stables_after) (within : IsWithinLimits byte_bodies.size (past w.journal)) where
+  abbrev OfRun : Scene (List ℕ)
   OfRun = scene_for kinds scenario
 
   abbrev Results : List (List SaveResult)
   Results = results_in w.controllers
 
-  now_holds : Holds controls typed w kinds
+  now_holds : Holds controls byte_bodies w kinds
   now_holds = k.holds kinds holds
 
   same_setup : w.setup ≡ scenario.setup
@@ -92,20 +91,20 @@ module _ {A W : Type 0} (controls : Controlling A → List ℕ → Type 0) (pair
 
   -- the world is that of a run of the scenario
   runs : Runs controls OfRun w
-  runs = subst (λ (s : Setup). Runs controls (record { setup = s; kinds = kinds; sealing = typed }) w) same_setup now_holds.run
+  runs = subst (λ (s : Setup). Runs controls (record { setup = s; kinds = kinds; sealing = byte_bodies }) w) same_setup now_holds.run
 
   first_runs : Runs controls OfRun start
-  first_runs = subst (λ (s : Setup). Runs controls (record { setup = s; kinds = kinds; sealing = typed }) start) begins.setup_is holds.run
+  first_runs = subst (λ (s : Setup). Runs controls (record { setup = s; kinds = kinds; sealing = byte_bodies }) start) begins.setup_is holds.run
 
   none_yet : AreMore scenario.setup.controllers Results Results
   none_yet = no_more scenario.setup.controllers Results
 
   lawful : IsLawful OfRun Results (past w.journal)
   lawful = record {
-    agreed = agreement_law OfRun Results (past w.journal) runs.setup faithful runs.legal.possible;
-    exactly_once = once_law OfRun Results (past w.journal) runs.setup faithful runs.legal.possible;
-    fenced = fence_law OfRun Results (past w.journal) runs.setup faithful runs.legal.possible;
-    lasting = lasting_law OfRun Results (past w.journal) runs.setup faithful runs.legal.possible;
+    agreed = agreement_law OfRun Results (past w.journal) runs.setup bytes_again runs.legal.possible;
+    exactly_once = once_law OfRun Results (past w.journal) runs.setup bytes_again runs.legal.possible;
+    fenced = fence_law OfRun Results (past w.journal) runs.setup bytes_again runs.legal.possible;
+    lasting = lasting_law OfRun Results (past w.journal) runs.setup bytes_again runs.legal.possible;
   }
 
   -- no save was made before
@@ -132,9 +131,9 @@ module _ {A W : Type 0} (controls : Controlling A → List ℕ → Type 0) (pair
         pair_is = ap pair (from_some t.1 last.0 (sym t.3 ∙ last.1)) ∙ last.2 ∙ ap (λ x. pair_in (state_of x)) (from_some t.0 n.member (sym t.2 ∙ n.stands)) ∙ ap pair_in n.state;
       }
 
-  module _ (count : ℕ) (answer : Answer) (played : HasPlayed (scene_in typed start kinds) scenario.steps count answer w) where
-    same_scene : (P : Scene Typed → Type 0) → P (scene_in typed start kinds) → P OfRun
-    same_scene P h = subst (λ (s : Setup). P (record { setup = s; kinds = kinds; sealing = typed })) begins.setup_is h
+  module _ (count : ℕ) (answer : Answer) (played : HasPlayed (scene_in byte_bodies start kinds) scenario.steps count answer w) where
+    same_scene : (P : Scene (List ℕ) → Type 0) → P (scene_in byte_bodies start kinds) → P OfRun
+    same_scene P h = subst (λ (s : Setup). P (record { setup = s; kinds = kinds; sealing = byte_bodies })) begins.setup_is h
 
     as_group : AreMore w.setup.controllers Results Results
     as_group = no_more w.setup.controllers Results
@@ -176,9 +175,9 @@ module _ {A W : Type 0} (controls : Controlling A → List ℕ → Type 0) (pair
     shows told is = record {
       setup = ap (λ t. t.setup) is ∙ same_setup;
       journal_is = ap (λ t. t.journal) is;
-      log = ap (λ t. t.log) is ∙ sym (subst (λ (s : Setup). decided (record { setup = s; kinds = kinds; sealing = typed }) Results (past w.journal) ≡ w.decided) same_setup (now_holds.decided Results as_group));
+      log = ap (λ t. t.log) is ∙ sym (subst (λ (s : Setup). decided (record { setup = s; kinds = kinds; sealing = byte_bodies }) Results (past w.journal) ≡ w.decided) same_setup (now_holds.decided Results as_group));
       script = ap (λ t. t.script) is;
-      closing_is = ap (λ t. t.closing) is ∙ ap count_turns (rest_is (scene_in typed start kinds) scenario.steps count answer w played);
+      closing_is = ap (λ t. t.closing) is ∙ ap count_turns (rest_is (scene_in byte_bodies start kinds) scenario.steps count answer w played);
       switches = ap (λ t. t.switches) is ∙ sym (ap (λ n. map (λ s. told_of (switch_state OfRun s (past w.journal))) (range_with_len 0 n)) (sym runs.count)
           ∙ map_range (λ s. told_of (switch_state OfRun s (past w.journal))) told_of w.switches 0 told_at);
     }
@@ -191,11 +190,11 @@ module _ {A W : Type 0} (controls : Controlling A → List ℕ → Type 0) (pair
             let number : 0 + i ≡ i = omega arith in
             ap (λ n. told_of (switch_state OfRun n (past w.journal))) number ∙ ap told_of (from_some (switch_state OfRun i (past w.journal)) x (sym (runs.switches i there) ∙ found))
 
-  pub is_done : (count primary : ℕ) (tells : Record → List ℕ) (told : Record) (written : List ℕ) (played : HasPlayed (scene_in typed start kinds) scenario.steps count (schedule.Done primary) w) →
-      majority start.setup.controllers ≤ length (up_in w.controllers) → told ≡ told_by w (length scenario.steps) count → written ≡ tells told →
-      IsDone kinds (StablesTell pair faults stables stables_after) scenario tells written
+  pub is_done : (count primary : ℕ) (output : Output) (told : Record) (written : List ℕ) (played : HasPlayed (scene_in byte_bodies start kinds) scenario.steps count (schedule.Done primary) w) →
+      majority start.setup.controllers ≤ length (up_in w.controllers) → told ≡ told_by w (length scenario.steps) count → written ≡ told_text output told → IfReport output (FitsRecord told) →
+      IsDone kinds (StablesTell pair faults stables stables_after) scenario output written
   unfolding has_run
-  is_done count primary tells told written played up is wrote =
+  is_done count primary output told written played up is wrote fits =
       let group : start.setup.controllers ≡ scenario.setup.controllers = ap (λ (s : Setup). s.controllers) begins.setup_is in
       let same = states_are controls OfRun w runs Results none_yet in
       record {
@@ -205,16 +204,20 @@ module _ {A W : Type 0} (controls : Controlling A → List ℕ → Type 0) (pair
         told = told;
         shows = shows count (schedule.Done primary) played told is;
         wrote = wrote;
+        one_record = one_record output told written wrote fits (subst (λ (t : Record). IsWritable t) (sym is) (told_writable OfRun Results scenario.steps played.front played.rest (schedule.Done primary) w
+            (subst (λ (s : Setup). IsSetup s) (sym same_setup) runs.setup) same_setup played.joined (follows count (schedule.Done primary) played) (closes count (schedule.Done primary) played) runs.count runs.switches
+            (subst (λ (s : Setup). decided (record { setup = s; kinds = kinds; sealing = byte_bodies }) Results (past w.journal) ≡ w.decided) same_setup (now_holds.decided Results (as_group count (schedule.Done primary) played)))
+            (told_law OfRun Results (past w.journal) runs.setup bytes_again runs.legal.possible) (length scenario.steps) count));
       }
 
-  pub is_unposted : (bytes letters : ℕ) → IsBegun (scene_in typed start kinds) Results scenario.steps bytes letters (past w.journal) → IsUnposted kinds (StablesTell pair faults stables stables_after) scenario bytes letters
+  pub is_unposted : (bytes letters : ℕ) → IsBegun (scene_in byte_bodies start kinds) Results scenario.steps bytes letters (past w.journal) → IsUnposted kinds (StablesTell pair faults stables stables_after) scenario bytes letters
   is_unposted bytes letters begun = record {
     results = Results;
     journal = w.journal;
     run = record {
       legal = runs.legal;
       within = within;
-      begun = subst (λ (s : Setup). IsBegun (record { setup = s; kinds = kinds; sealing = typed }) Results scenario.steps bytes letters (past w.journal)) begins.setup_is begun;
+      begun = subst (λ (s : Setup). IsBegun (record { setup = s; kinds = kinds; sealing = byte_bodies }) Results scenario.steps bytes letters (past w.journal)) begins.setup_is begun;
       lawful = lawful;
     };
     saved = stables_tell;
@@ -222,58 +225,58 @@ module _ {A W : Type 0} (controls : Controlling A → List ℕ → Type 0) (pair
 
 -- how a call ends, by how playing ended
 module _ {A W : Type 0} (controls : Controlling A → List ℕ → Type 0) (pair : W → ℕ × ℕ) (faults : W → ℕ) (scenario : Scenario) (kinds : List ℕ)
-    (start : Worlding Typed A) (stables : List W) (w : Worlding Typed A) (stables_after : List W)
-    (begins : StartsAs scenario.setup start) (holds : Holds controls typed start kinds) (pairs : PairsStand pair stables start.controllers)
-    (within : IsWithinLimits typed.size (past w.journal)) (taken : List Turn) (same : taken ≡ scenario.steps) where
+    (start : Worlding (List ℕ) A) (stables : List W) (w : Worlding (List ℕ) A) (stables_after : List W)
+    (begins : StartsAs scenario.setup start) (holds : Holds controls byte_bodies start kinds) (pairs : PairsStand pair stables start.controllers)
+    (within : IsWithinLimits byte_bodies.size (past w.journal)) (taken : List Turn) (same : taken ≡ scenario.steps) where
   abbrev Kept : Type 0
-  Kept = Keeps controls pair faults typed start stables w stables_after
+  Kept = Keeps controls pair faults byte_bodies start stables w stables_after
 
-  abbrev Ends : (Record → List ℕ) → Ending → Type 0
-  Ends tells e = EndsRun kinds (StablesTell pair faults stables stables_after) tells scenario e
+  abbrev Ends : Output → Ending → Type 0
+  Ends output e = EndsRun kinds (StablesTell pair faults stables stables_after) output scenario e
 
-  one_ending : (closed : Closed) (count : ℕ) (tells : Record → List ℕ) → Kept → HasPlayed (scene_in typed start kinds) scenario.steps count (answer_of closed) w →
-      HasMajority closed start.setup.controllers (up_in w.controllers) → Ends tells (ending_by closed (tells (told_by w (length scenario.steps) count)))
-  one_ending (closed.Done primary) count tells k played up =
-      is_done controls pair faults scenario kinds start stables w stables_after begins holds pairs k within count primary tells (told_by w (length scenario.steps) count) (tells (told_by w (length scenario.steps) count)) played up refl refl
-  one_ending (closed.NoQuorum up needed) count tells k played most = has_run controls pair faults scenario kinds start stables w stables_after begins holds pairs k within count (schedule.NoQuorum up needed) played
-  one_ending (closed.Overfull limit) count tells k played most = has_run controls pair faults scenario kinds start stables w stables_after begins holds pairs k within count (schedule.Overfull limit) played
+  one_ending : (closed : Closed) (count : ℕ) (output : Output) → Kept → HasPlayed (scene_in byte_bodies start kinds) scenario.steps count (answer_of closed) w →
+      HasMajority closed start.setup.controllers (up_in w.controllers) → IfDone closed (IfReport output (FitsRecord (told_by w (length scenario.steps) count))) → Ends output (ending_by closed (told_text output (told_by w (length scenario.steps) count)))
+  one_ending (closed.Done primary) count output k played up fits =
+      is_done controls pair faults scenario kinds start stables w stables_after begins holds pairs k within count primary output (told_by w (length scenario.steps) count) (told_text output (told_by w (length scenario.steps) count)) played up refl refl fits
+  one_ending (closed.NoQuorum up needed) count output k played most fits = has_run controls pair faults scenario kinds start stables w stables_after begins holds pairs k within count (schedule.NoQuorum up needed) played
+  one_ending (closed.Overfull limit) count output k played most fits = has_run controls pair faults scenario kinds start stables w stables_after begins holds pairs k within count (schedule.Overfull limit) played
 
-  ok_ending : {X : Type 0} (closed : Closed) (count : ℕ) (tells : Record → List ℕ) (steps : ℕ) (ended : Result Ending X) → steps ≡ length scenario.steps → Kept → HasPlayed (scene_in typed start kinds) taken count (answer_of closed) w →
-      HasMajority closed start.setup.controllers (up_in w.controllers) → IfOk ended (λ e. e ≡ ending_by closed (tells (told_by w steps count))) → IfOk ended (λ e. Ends tells e)
-  ok_ending closed count tells steps (Err x) long k played up is = tt
-  ok_ending closed count tells steps (Ok e) long k played up is =
-      subst (λ x. Ends tells x) (sym (is ∙ ap (λ n. ending_by closed (tells (told_by w n count))) long))
-      (one_ending closed count tells k (subst (λ (l : List Turn). HasPlayed (scene_in typed start kinds) l count (answer_of closed) w) same played) up)
+  ok_ending : {X : Type 0} (closed : Closed) (count : ℕ) (output : Output) (steps : ℕ) (ended : Result Ending X) → steps ≡ length scenario.steps → Kept → HasPlayed (scene_in byte_bodies start kinds) taken count (answer_of closed) w →
+      HasMajority closed start.setup.controllers (up_in w.controllers) → IfOk ended (λ e. e ≡ ending_by closed (told_text output (told_by w steps count))) → IfOk ended (λ _. IfDone closed (IfReport output (FitsRecord (told_by w steps count)))) → IfOk ended (λ e. Ends output e)
+  ok_ending closed count output steps (Err x) long k played up is fits = tt
+  ok_ending closed count output steps (Ok e) long k played up is fits =
+      subst (λ x. Ends output x) (sym (is ∙ ap (λ n. ending_by closed (told_text output (told_by w n count))) long))
+      (one_ending closed count output k (subst (λ (l : List Turn). HasPlayed (scene_in byte_bodies start kinds) l count (answer_of closed) w) same played) up (subst (λ (n : ℕ). IfDone closed (IfReport output (FitsRecord (told_by w n count)))) long fits))
 
   -- it came to the end of its closing
-  pub ends_closed : {X : Type 0} (result : Result (Closed × ℕ) Stop) (closed : Closed) (count : ℕ) (tells : Record → List ℕ) (steps : ℕ) (ended : Result Ending X) → result ≡ Ok (closed, count) → steps ≡ length scenario.steps →
-      IfMemory result Kept → IfOk result (λ played. HasPlayed (scene_in typed start kinds) taken played.1 (answer_of played.0) w) → IfOk result (λ played. HasMajority played.0 start.setup.controllers (up_in w.controllers)) →
-      IfOk ended (λ e. e ≡ ending_by closed (tells (told_by w steps count))) → IfOk ended (λ e. Ends tells e)
-  ends_closed result closed count tells steps ended is long k played up ending_is =
-      ok_ending closed count tells steps ended long
+  pub ends_closed : {X : Type 0} (result : Result (Closed × ℕ) Stop) (closed : Closed) (count : ℕ) (output : Output) (steps : ℕ) (ended : Result Ending X) → result ≡ Ok (closed, count) → steps ≡ length scenario.steps →
+      IfMemory result Kept → IfOk result (λ played. HasPlayed (scene_in byte_bodies start kinds) taken played.1 (answer_of played.0) w) → IfOk result (λ played. HasMajority played.0 start.setup.controllers (up_in w.controllers)) →
+      IfOk ended (λ e. e ≡ ending_by closed (told_text output (told_by w steps count))) → IfOk ended (λ _. IfDone closed (IfReport output (FitsRecord (told_by w steps count)))) → IfOk ended (λ e. Ends output e)
+  ends_closed result closed count output steps ended is long k played up ending_is fits =
+      ok_ending closed count output steps ended long
       (subst (λ (r : Result (Closed × ℕ) Stop). IfMemory r Kept) is k)
-      (subst (λ (r : Result (Closed × ℕ) Stop). IfOk r (λ played. HasPlayed (scene_in typed start kinds) taken played.1 (answer_of played.0) w)) is played)
+      (subst (λ (r : Result (Closed × ℕ) Stop). IfOk r (λ played. HasPlayed (scene_in byte_bodies start kinds) taken played.1 (answer_of played.0) w)) is played)
       (subst (λ (r : Result (Closed × ℕ) Stop). IfOk r (λ played. HasMajority played.0 start.setup.controllers (up_in w.controllers))) is up)
-      ending_is
+      ending_is fits
 
-  one_stop : {X : Type 0} (stop : Stop) (tells : Record → List ℕ) (ended : Result Ending X) → IfMemory {T = Closed × ℕ} (Err stop) Kept → RunStops (scene_in typed start kinds) taken w stop →
-      IfOk ended (λ e. StopsAs stop e) → IfOk ended (λ e. Ends tells e)
-  one_stop stop tells (Err x) k stops is = tt
-  one_stop OutOfMemory tells (Ok e) k stops never = absurd never
-  one_stop (JournalFull bytes letters) tells (Ok e) k stops is =
-      subst (λ x. Ends tells x) (sym is)
+  one_stop : {X : Type 0} (stop : Stop) (output : Output) (ended : Result Ending X) → IfMemory {T = Closed × ℕ} (Err stop) Kept → RunStops (scene_in byte_bodies start kinds) taken w stop →
+      IfOk ended (λ e. StopsAs stop e) → IfOk ended (λ e. Ends output e)
+  one_stop stop output (Err x) k stops is = tt
+  one_stop OutOfMemory output (Ok e) k stops never = absurd never
+  one_stop (JournalFull bytes letters) output (Ok e) k stops is =
+      subst (λ x. Ends output x) (sym is)
       (is_unposted controls pair faults scenario kinds start stables w stables_after begins holds pairs k within bytes letters
-      (subst (λ (l : List Turn). IsBegun (scene_in typed start kinds) (results_in w.controllers) l bytes letters (past w.journal)) same stops))
+      (subst (λ (l : List Turn). IsBegun (scene_in byte_bodies start kinds) (results_in w.controllers) l bytes letters (past w.journal)) same stops))
 
   -- or it stopped
-  pub ends_stopped : {X : Type 0} (result : Result (Closed × ℕ) Stop) (stop : Stop) (tells : Record → List ℕ) (ended : Result Ending X) → result ≡ Err stop → IfMemory result Kept →
-      IfErr result (RunStops (scene_in typed start kinds) taken w) → IfOk ended (λ e. StopsAs stop e) → IfOk ended (λ e. Ends tells e)
-  ends_stopped result stop tells ended is k stops ending_is =
-      one_stop stop tells ended (subst (λ (r : Result (Closed × ℕ) Stop). IfMemory r Kept) is k)
-      (subst (λ (r : Result (Closed × ℕ) Stop). IfErr r (RunStops (scene_in typed start kinds) taken w)) is stops) ending_is
+  pub ends_stopped : {X : Type 0} (result : Result (Closed × ℕ) Stop) (stop : Stop) (output : Output) (ended : Result Ending X) → result ≡ Err stop → IfMemory result Kept →
+      IfErr result (RunStops (scene_in byte_bodies start kinds) taken w) → IfOk ended (λ e. StopsAs stop e) → IfOk ended (λ e. Ends output e)
+  ends_stopped result stop output ended is k stops ending_is =
+      one_stop stop output ended (subst (λ (r : Result (Closed × ℕ) Stop). IfMemory r Kept) is k)
+      (subst (λ (r : Result (Closed × ℕ) Stop). IfErr r (RunStops (scene_in byte_bodies start kinds) taken w)) is stops) ending_is
 
 -- the script's part is not longer than the journal
-pub script_within : {A : Type 0} (scene : Scene Typed) (taken : List Turn) (w : Worlding Typed A) (result : Result (Closed × ℕ) Stop) (closed : Closed) (count : ℕ) → result ≡ Ok (closed, count) →
+pub script_within : {A : Type 0} (scene : Scene (List ℕ)) (taken : List Turn) (w : Worlding (List ℕ) A) (result : Result (Closed × ℕ) Stop) (closed : Closed) (count : ℕ) → result ≡ Ok (closed, count) →
     IfOk result (λ played. HasPlayed scene taken played.1 (answer_of played.0) w) → count ≤ length w.journal
 script_within scene taken w result closed count is played =
     within_journal scene taken count (answer_of closed) w (subst (λ (r : Result (Closed × ℕ) Stop). IfOk r (λ p. HasPlayed scene taken p.1 (answer_of p.0) w)) is played)

@@ -2,15 +2,15 @@
 use Rattle.std.specs.Prelude.{◌≡◌, ◌<◌, ◌≤◌, ℕ, List, length, Some, None, Ok, Err}
 use Rattle.scenario.specs.declared.scenario.Scenario.{Scenario}
 use Rattle.scenario.specs.Scenario.{scenario_of}
-use Rattle.report.specs.declared.record.Record.{Record}
-use Rattle.report.specs.Report.{text}
+use Rattle.ravana_run.specs.declared.sim.Output.{Output}
+use Rattle.ravana_run.specs.declared.sim.Output.TheVariants as told_as
 use Rattle.ravana_run.specs.declared.ending.Ending.{Ending}
 use Rattle.ravana_run.specs.declared.ending.Ending.TheVariants.{Report, Usage, Refused, Unread, NoQuorum, Overfull, Unposted, Same, Differs}
 use Rattle.ravana_run.specs.declared.ending.Text.{Text}
 use Rattle.ravana_run.specs.declared.ending.Text.TheVariants.{Fixed, Own}
 use Rattle.ravana_run.specs.Lines.{usage_line, fault_line, unread_line, no_quorum_line, overfull_line, unposted_line, same_line, differs_line}
 use Rattle.audit.specs.Audit.{differs}
-use Rattle.ravana_run.specs.Audited.{audited_kinds, report_limit, too_large}
+use Rattle.ravana_run.specs.Audited.{report_limit, too_large}
 use Rattle.ravana_run.specs.declared.service.Reader.{Reader}
 use Rattle.ravana_run.specs.declared.service.Reader.TheVariants.{Sim, Audit}
 use Rattle.ravana_run.specs.Runs.{IsDone, IsLeft, IsOverfull, IsUnposted, Telling}
@@ -43,30 +43,31 @@ text_bytes (Fixed line) = line.now
 text_bytes (Own bytes) = bytes
 
 -- how a run of a scenario ends, of which this is told at rest
-abbrev pub EndsRun : List ℕ → Telling → (Record → List ℕ) → Scenario → Ending → Type 0
-EndsRun kinds saves tells scenario (Report words) = IsDone kinds saves scenario tells words
-EndsRun kinds saves tells scenario (NoQuorum up needed) = IsLeft kinds saves scenario up needed
-EndsRun kinds saves tells scenario (Overfull limit) = IsOverfull kinds saves scenario limit
-EndsRun kinds saves tells scenario (Unposted bytes letters) = IsUnposted kinds saves scenario bytes letters
-EndsRun kinds saves tells scenario Usage = ⊥
-EndsRun kinds saves tells scenario (Refused fault) = ⊥
-EndsRun kinds saves tells scenario Unread = ⊥
-EndsRun kinds saves tells scenario Same = ⊥
-EndsRun kinds saves tells scenario (Differs n) = ⊥
+abbrev pub EndsRun : List ℕ → Telling → Output → Scenario → Ending → Type 0
+EndsRun kinds saves output scenario (Report words) = IsDone kinds saves scenario output words
+EndsRun kinds saves output scenario (NoQuorum up needed) = IsLeft kinds saves scenario up needed
+EndsRun kinds saves output scenario (Overfull limit) = IsOverfull kinds saves scenario limit
+EndsRun kinds saves output scenario (Unposted bytes letters) = IsUnposted kinds saves scenario bytes letters
+EndsRun kinds saves output scenario Usage = ⊥
+EndsRun kinds saves output scenario (Refused fault) = ⊥
+EndsRun kinds saves output scenario Unread = ⊥
+EndsRun kinds saves output scenario Same = ⊥
+EndsRun kinds saves output scenario (Differs n) = ⊥
 
 -- how the bytes of a scenario end: they are refused by their first fault, or the run of their scenario ends so
 abbrev pub EndsScenario : List ℕ → Telling → List ℕ → Ending → Type 0
 EndsScenario kinds saves bytes (Refused fault) = scenario_of bytes ≡ Err fault
-EndsScenario kinds saves bytes ending = (scenario : Scenario) × (scenario_of bytes ≡ Ok scenario) × EndsRun kinds saves text scenario ending
+EndsScenario kinds saves bytes ending = (scenario : Scenario) × (scenario_of bytes ≡ Ok scenario) × EndsRun kinds saves told_as.Report scenario ending
 
--- how the bytes of a report end: they are too many, or no line differs, or the first one that does
-abbrev pub EndsReport : List ℕ → Ending → Type 0
-EndsReport bytes (Refused fault) = (fault ≡ too_large) × (report_limit < length bytes)
-EndsReport bytes Same = (length bytes ≤ report_limit) × (differs audited_kinds bytes ≡ None)
-EndsReport bytes (Differs n) = (length bytes ≤ report_limit) × (differs audited_kinds bytes ≡ Some n)
-EndsReport bytes _ = ⊥
+-- how the bytes of a report end, for controllers with applications of these kinds: they are too many, or no line differs, or
+-- the first one that does
+abbrev pub EndsReport : List ℕ → List ℕ → Ending → Type 0
+EndsReport kinds bytes (Refused fault) = (fault ≡ too_large) × (report_limit < length bytes)
+EndsReport kinds bytes Same = (length bytes ≤ report_limit) × (differs kinds bytes ≡ None)
+EndsReport kinds bytes (Differs n) = (length bytes ≤ report_limit) × (differs kinds bytes ≡ Some n)
+EndsReport kinds bytes _ = ⊥
 
 -- how the bytes that are read end
 abbrev pub EndsRead : List ℕ → Telling → Reader → List ℕ → Ending → Type 0
 EndsRead kinds saves Sim bytes ending = EndsScenario kinds saves bytes ending
-EndsRead kinds saves Audit bytes ending = EndsReport bytes ending
+EndsRead kinds saves Audit bytes ending = EndsReport kinds bytes ending

@@ -5,15 +5,15 @@ use Rattle.scenario.specs.declared.scenario.Fault.{Fault}
 use Rattle.scenario.specs.declared.scenario.Scenario.{Scenario}
 use Rattle.scenario.specs.Scenario.{scenario_of, scenario_limit}
 use Rattle.scenario.specs.Generated.{generated}
-use Rattle.report.specs.declared.record.Record.{Record}
-use Rattle.report.specs.Report.{end_line, text}
+use Rattle.ravana_run.specs.declared.sim.Output.{Output}
+use Rattle.ravana_run.specs.declared.sim.Output.TheVariants.{Report, LastLine}
 use Rattle.words.specs.declared.Job.{Job}
 use Rattle.words.specs.declared.Job.TheVariants.{Sim, Audit, Gen}
 use Rattle.words.specs.Words.{job_of}
 use Rattle.ravana_run.specs.Lines.{usage_line, fault_line, unread_line, no_quorum_line, overfull_line, unposted_line, same_line, differs_line}
 use Rattle.audit.specs.Audit.{differs}
 use Rattle.ravana_run.specs.declared.service.Service.{Service}
-use Rattle.ravana_run.specs.Audited.{audited_kinds, report_limit, too_large}
+use Rattle.ravana_run.specs.Audited.{report_limit, too_large}
 use Rattle.ravana_run.specs.Service.{service_of}
 use Rattle.ravana_run.specs.Runs.{IsDone, IsLeft, IsOverfull, IsUnposted, Telling}
 
@@ -47,27 +47,27 @@ IsAudit words = job_of words ≡ Some Audit
 
 -- the scenario that words ask to play, and what is told of its run at rest: of bytes that were all read, its report; of
 -- four numbers, the report's last line
-pub data IsAsked (words : List (List ℕ)) (input rest : List ℕ) : Scenario → (Record → List ℕ) → Type 0 where
-  Of_bytes : {scenario : Scenario} → job_of words ≡ Some Sim → rest ≡ [] → scenario_of input ≡ Ok scenario → IsAsked words input rest scenario text
+pub data IsAsked (words : List (List ℕ)) (input rest : List ℕ) : Scenario → Output → Type 0 where
+  Of_bytes : {scenario : Scenario} → job_of words ≡ Some Sim → rest ≡ [] → scenario_of input ≡ Ok scenario → IsAsked words input rest scenario Report
   Of_numbers : (number controllers switches frames : ℕ) → job_of words ≡ Some (Gen number controllers switches frames) → rest ≡ input →
-      IsAsked words input rest (generated number controllers switches frames) end_line
+      IsAsked words input rest (generated number controllers switches frames) LastLine
 
 -- what a call has to write, with its status, by the cause of it: one case for each
 pub data Outcome (kinds : List ℕ) (saves : Telling) (words : List (List ℕ)) (input rest : List ℕ) (unread : Type 0) : ℕ → List ℕ → Type 0 where
   Usage : IsUnserved words → Outcome kinds saves words input rest unread 2 usage_line
   Refused : (fault : Fault) → job_of words ≡ Some Sim → HasRead scenario_limit input rest → scenario_of input ≡ Err fault → Outcome kinds saves words input rest unread 3 (fault_line fault)
   Unread : is_served_job (job_of words) ≡ true → unread → Outcome kinds saves words input rest unread 4 unread_line
-  Closed : (scenario : Scenario) (tells : Record → List ℕ) {written : List ℕ} → IsAsked words input rest scenario tells → IsDone kinds saves scenario tells written →
+  Closed : (scenario : Scenario) (output : Output) {written : List ℕ} → IsAsked words input rest scenario output → IsDone kinds saves scenario output written →
       Outcome kinds saves words input rest unread 0 written
-  Left : (scenario : Scenario) (tells : Record → List ℕ) (up needed : ℕ) → IsAsked words input rest scenario tells → IsLeft kinds saves scenario up needed →
+  Left : (scenario : Scenario) (output : Output) (up needed : ℕ) → IsAsked words input rest scenario output → IsLeft kinds saves scenario up needed →
       Outcome kinds saves words input rest unread 7 (no_quorum_line up needed)
-  Overfull : (scenario : Scenario) (tells : Record → List ℕ) (limit : LogFull) → IsAsked words input rest scenario tells → IsOverfull kinds saves scenario limit →
+  Overfull : (scenario : Scenario) (output : Output) (limit : LogFull) → IsAsked words input rest scenario output → IsOverfull kinds saves scenario limit →
       Outcome kinds saves words input rest unread 9 (overfull_line limit)
-  Unposted : (scenario : Scenario) (tells : Record → List ℕ) (bytes letters : ℕ) → IsAsked words input rest scenario tells → IsUnposted kinds saves scenario bytes letters →
+  Unposted : (scenario : Scenario) (output : Output) (bytes letters : ℕ) → IsAsked words input rest scenario output → IsUnposted kinds saves scenario bytes letters →
       Outcome kinds saves words input rest unread 10 (unposted_line bytes letters)
   Oversized : IsAudit words → length rest + (report_limit + 1) ≡ length input → Outcome kinds saves words input rest unread 3 (fault_line too_large)
-  Same : IsAudit words → rest ≡ [] → length input ≤ report_limit → differs audited_kinds input ≡ None → Outcome kinds saves words input rest unread 0 same_line
-  Differs : (n : ℕ) → IsAudit words → rest ≡ [] → length input ≤ report_limit → differs audited_kinds input ≡ Some n → Outcome kinds saves words input rest unread 8 (differs_line n)
+  Same : IsAudit words → rest ≡ [] → length input ≤ report_limit → differs kinds input ≡ None → Outcome kinds saves words input rest unread 0 same_line
+  Differs : (n : ℕ) → IsAudit words → rest ≡ [] → length input ≤ report_limit → differs kinds input ≡ Some n → Outcome kinds saves words input rest unread 8 (differs_line n)
 
 -- what was taken is the front of what an outcome writes
 pub record IsCut (kinds : List ℕ) (saves : Telling) (words : List (List ℕ)) (input rest : List ℕ) (unread : Type 0) (written : List ℕ) : Type 0 where
@@ -93,10 +93,10 @@ statuses_of_usage = 2 ∷ 5 ∷ 6 ∷ []
 abbrev pub statuses_of_audit : List ℕ
 statuses_of_audit = 0 ∷ 3 ∷ 4 ∷ 5 ∷ 6 ∷ 8 ∷ []
 
--- the status that the bytes of a report have
-abbrev pub audit_status : List ℕ → ℕ
-audit_status input = if nat_lt report_limit (length input) then 3 else elim (differs audited_kinds input) [ None ↦ 0 | Some n ↦ 8 ]
+-- the status that the bytes of a report have, for controllers with applications of these kinds
+abbrev pub audit_status : List ℕ → List ℕ → ℕ
+audit_status kinds input = if nat_lt report_limit (length input) then 3 else elim (differs kinds input) [ None ↦ 0 | Some n ↦ 8 ]
 
 -- an audit in which nothing failed ends by that, or finds no memory
-pub record IsComplete (words : List (List ℕ)) (input : List ℕ) (unread unwritten : Type 0) (status : ℕ) : Type 0 where
-  pub ends : IsAudit words → (unread → ⊥) → (unwritten → ⊥) → Contains (audit_status input ∷ 6 ∷ []) status
+pub record IsComplete (kinds : List ℕ) (words : List (List ℕ)) (input : List ℕ) (unread unwritten : Type 0) (status : ℕ) : Type 0 where
+  pub ends : IsAudit words → (unread → ⊥) → (unwritten → ⊥) → Contains (audit_status kinds input ∷ 6 ∷ []) status

@@ -1,9 +1,10 @@
 -- What a run starts from, and how a call ends by it.
-use Rattle.std.specs.Prelude.{◌≡◌, ℕ, ◌*◌, ◌+◌, List, length}
+use Rattle.std.specs.Prelude.{◌≡◌, ℕ, ◌*◌, ◌+◌, List, [], ◌∷◌, length}
 use Rattle.std.specs.List.{AllByRecursion}
 use Rattle.rv_base.specs.declared.wire.Stop.{Stop}
 use Rattle.rv_base.specs.declared.wire.Stop.TheVariants.{OutOfMemory, JournalFull}
 use Rattle.of_types.specs.Lives.{last_life}
+use Rattle.app_core.specs.Chain.{firewall, learning}
 use Rattle.group_controller.specs.Turns.{AreAlike}
 use Rattle.report.specs.declared.record.Record.{Record}
 use Rattle.report.specs.Report.{end_line, text}
@@ -24,10 +25,25 @@ pub record AreChains {A : Type 0} (kinds_of : A → List ℕ) (most_of : A → �
   pub count : length chains ≡ 7 * (last_life + 1)
   pub alike : AreAlike kinds_of most_of kinds chains
 
+-- the kinds of the parts that the program gives each life of a controller, in order: a firewall before a learning
+abbrev pub program_kinds : List ℕ
+program_kinds = firewall ∷ learning ∷ []
+
 -- what is told of a run at rest: its report, or the report's last line
 abbrev pub told_text : Output → Record → List ℕ
 told_text Report told = text told
 told_text LastLine told = end_line told
+
+-- a claim on what is told as a report
+abbrev pub IfReport : Output → Type 0 → Type 0
+IfReport Report claim = claim
+IfReport LastLine claim = Unit {0}
+
+-- a claim on what is told of a closing that came to rest
+abbrev pub IfDone : Closed → Type 0 → Type 0
+IfDone (closed.Done primary) claim = claim
+IfDone (closed.NoQuorum up needed) claim = Unit {0}
+IfDone (closed.Overfull limit) claim = Unit {0}
 
 -- how a call ends by the end of a closing, with what is told of a run at rest
 abbrev pub ending_by : Closed → List ℕ → Ending

@@ -17,15 +17,19 @@ use Rattle.rv_runs.specs.Play.{plays}
 use Rattle.rv_runs.specs.Schedule.{Answer, Closes, FollowsInOrder, IsBegun, majority}
 use Rattle.rv_runs.specs.Schedule as schedule
 use Rattle.rv_runs.specs.States.{Scene}
-use Rattle.rv_bodies.specs.declared.typed.Typed.{Typed}
 use Rattle.rv_world.specs.World.{is_failed}
 use Rattle.scenario.specs.declared.scenario.Scenario.{Scenario}
 use Rattle.report.specs.declared.record.Record.{Record}
-use Rattle.rv_record.specs.Shows.{Shows, scene_typed}
+use Rattle.report.specs.Records.{IsRecord}
+use Rattle.report.specs.Report.{text}
+use Rattle.rv_record.specs.Shows.{Shows}
+use Rattle.rv_actors.specs.Bare.{scene_bytes}
+use Rattle.ravana_run.specs.declared.sim.Output.{Output}
+use Rattle.ravana_run.specs.Play.{IfReport, told_text}
 
 -- what the run of a scenario is about, where the applications are of these kinds
-abbrev pub scene_for : List ℕ → Scenario → Scene Typed
-scene_for kinds scenario = scene_typed kinds scenario.setup
+abbrev pub scene_for : List ℕ → Scenario → Scene (List ℕ)
+scene_for kinds scenario = scene_bytes kinds scenario.setup
 
 -- the headline: controllers agree, each event and each command exactly once, no command of a stale generation, and what was decided lasts
 pub record IsLawful {B : Type 0} (scene : Scene B) (results : List (List SaveResult)) (entries : List (JournalEntry B)) : Type 0 where
@@ -36,7 +40,7 @@ pub record IsLawful {B : Type 0} (scene : Scene B) (results : List (List SaveRes
 
 -- the stable pair of a controller is the one that the journal gives, and its count of faults rose with each of the
 -- controller's saves that failed, up to its end
-pub record StableTells {W : Type 0} (pair : W → ℕ × ℕ) (faults : W → ℕ) (stables stables_after : List W) (scene : Scene Typed) (results : List (List SaveResult)) (journal : List (JournalEntry Typed)) (c : ℕ) : Type 0 where
+pub record StableTells {W : Type 0} (pair : W → ℕ × ℕ) (faults : W → ℕ) (stables stables_after : List W) (scene : Scene (List ℕ)) (results : List (List SaveResult)) (journal : List (JournalEntry (List ℕ))) (c : ℕ) : Type 0 where
   pub old : W
   pub new : W
   pub stood : slice_get stables c ≡ Some old
@@ -44,13 +48,13 @@ pub record StableTells {W : Type 0} (pair : W → ℕ × ℕ) (faults : W → �
   pub rose : (faults old + count_by is_failed (results_of results c) ≤ faults new) ⊎ (2 ^ 64 - 1 ≤ faults new)
   pub pair_is : pair new ≡ pair_in (controller_state scene results c (past journal))
 
-abbrev pub StablesTell : {W : Type 0} → (W → ℕ × ℕ) → (W → ℕ) → List W → List W → Scene Typed → List (List SaveResult) → List (JournalEntry Typed) → Type 0
+abbrev pub StablesTell : {W : Type 0} → (W → ℕ × ℕ) → (W → ℕ) → List W → List W → Scene (List ℕ) → List (List SaveResult) → List (JournalEntry (List ℕ)) → Type 0
 StablesTell pair faults stables stables_after scene results journal =
     (c : ℕ) → c < scene.setup.controllers → StableTells pair faults stables stables_after scene results journal c
 
 -- a run of a scenario up to the answer of its closing: a legal journal within the limits, in which the script follows the
 -- steps in order, and the entries behind it are those of the closing schedule
-pub record IsRun (kinds : List ℕ) (scenario : Scenario) (results : List (List SaveResult)) (script closing journal : List (JournalEntry Typed)) (answer : Answer) : Type 0 where
+pub record IsRun (kinds : List ℕ) (scenario : Scenario) (results : List (List SaveResult)) (script closing journal : List (JournalEntry (List ℕ))) (answer : Answer) : Type 0 where
   pub joined : journal ≡ script ++ closing
   pub legal : IsLegal (scene_for kinds scenario) results journal
   pub within : IsWithinLimits (scene_for kinds scenario).sealing.size (past journal)
@@ -59,7 +63,7 @@ pub record IsRun (kinds : List ℕ) (scenario : Scenario) (results : List (List 
   pub lawful : IsLawful (scene_for kinds scenario) results (past journal)
 
 -- a run that is cut short where an outbox passes the limits of the journal, in the script or in the closing
-pub record IsCutShort (kinds : List ℕ) (scenario : Scenario) (results : List (List SaveResult)) (bytes letters : ℕ) (journal : List (JournalEntry Typed)) : Type 0 where
+pub record IsCutShort (kinds : List ℕ) (scenario : Scenario) (results : List (List SaveResult)) (bytes letters : ℕ) (journal : List (JournalEntry (List ℕ))) : Type 0 where
   pub legal : IsLegal (scene_for kinds scenario) results journal
   pub within : IsWithinLimits (scene_for kinds scenario).sealing.size (past journal)
   pub begun : IsBegun (scene_for kinds scenario) results scenario.steps bytes letters (past journal)
@@ -70,32 +74,37 @@ abbrev pub AreSaved : ℕ → List (List SaveResult) → Type 0
 AreSaved group results = (c : ℕ) → c < group → AllByRecursion (λ r. r ≡ Saved) (results_of results c)
 
 -- the one journal that a scenario has where each save is made
-pub record IsTheOne (scene : Scene Typed) (steps : List Turn) (journal : List (JournalEntry Typed)) (answer : Answer) : Type 0 where
+pub record IsTheOne (scene : Scene (List ℕ)) (steps : List Turn) (journal : List (JournalEntry (List ℕ))) (answer : Answer) : Type 0 where
   pub most : ℕ
   pub plays_it : plays most scene [] steps ≡ record { entries = past journal; answer = Some answer }
 
 -- what a call tells of the stable pairs, over a run's results and journal
 abbrev pub Telling : Type 1
-Telling = Scene Typed → List (List SaveResult) → List (JournalEntry Typed) → Type 0
+Telling = Scene (List ℕ) → List (List SaveResult) → List (JournalEntry (List ℕ)) → Type 0
 
 -- a run up to this answer, and what its stable pairs tell
 pub record HasRun (kinds : List ℕ) (saves : Telling) (scenario : Scenario) (answer : Answer) : Type 0 where
   pub results : List (List SaveResult)
-  pub script : List (JournalEntry Typed)
-  pub closing : List (JournalEntry Typed)
-  pub journal : List (JournalEntry Typed)
+  pub script : List (JournalEntry (List ℕ))
+  pub closing : List (JournalEntry (List ℕ))
+  pub journal : List (JournalEntry (List ℕ))
   pub run : IsRun kinds scenario results script closing journal answer
   pub saved : saves (scene_for kinds scenario) results journal
   pub one : AreSaved scenario.setup.controllers results → IsTheOne (scene_for kinds scenario) scenario.steps journal answer
 
+-- what is told as a report is a record, and no other record has the text that was written
+abbrev pub IsOneRecord : Output → Record → List ℕ → Type 0
+IsOneRecord output told written = IfReport output (IsRecord told × ((other : Record) → IsRecord other → text other ≡ written → other ≡ told))
+
 -- a run to its end and what is told of it. At least f + 1 of the 2 f + 1 controllers take part in the end
-pub record IsDone (kinds : List ℕ) (saves : Telling) (scenario : Scenario) (tells : Record → List ℕ) (written : List ℕ) : Type 0 where
+pub record IsDone (kinds : List ℕ) (saves : Telling) (scenario : Scenario) (output : Output) (written : List ℕ) : Type 0 where
   pub primary : ℕ
   pub ran : HasRun kinds saves scenario (schedule.Done primary)
   pub up : majority scenario.setup.controllers ≤ count_up (scene_for kinds scenario) ran.results (past ran.journal)
   pub told : Record
   pub shows : Shows (scene_for kinds scenario) ran.results (length scenario.steps) ran.closing ran.journal told
-  pub wrote : written ≡ tells told
+  pub wrote : written ≡ told_text output told
+  pub one_record : IsOneRecord output told written
 
 -- a run that ended since too few controllers took part where its closing began
 abbrev pub IsLeft : List ℕ → Telling → Scenario → ℕ → ℕ → Type 0
@@ -108,6 +117,6 @@ IsOverfull kinds saves scenario limit = HasRun kinds saves scenario (schedule.Ov
 -- a run that was cut short since an outbox found no room in the journal
 pub record IsUnposted (kinds : List ℕ) (saves : Telling) (scenario : Scenario) (bytes letters : ℕ) : Type 0 where
   pub results : List (List SaveResult)
-  pub journal : List (JournalEntry Typed)
+  pub journal : List (JournalEntry (List ℕ))
   pub run : IsCutShort kinds scenario results bytes letters journal
   pub saved : saves (scene_for kinds scenario) results journal

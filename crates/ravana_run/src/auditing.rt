@@ -1,15 +1,12 @@
 //! The audit of the bytes that were read.
-ghost use Rattle.std.specs.Prelude.{◌≡◌, IfOk};
+ghost use Rattle.std.specs.Prelude.{◌≡◌, ℕ, List, IfOk};
 ghost use Rattle.audit.specs.Audit.{differs, verdict_of};
-ghost use Rattle.ravana_run.specs.Audited.{audited_kinds};
 ghost use Rattle.ravana_run.specs.Ending.{EndsReport};
+ghost use Rattle.ravana_run.specs.Play.{AreChains};
 
 use crate::ending::Ending;
-use app_chain::Chain;
-use app_core::Part;
+use app_core::App;
 use audit::{Verdict, check};
-use firewall_app::Firewall;
-use learning_app::Learning;
 use scenario::{Fault, FaultKind, FaultPlace};
 use std::alloc::{AllocError, Global};
 
@@ -22,25 +19,24 @@ const TOO_LARGE: Fault = Fault {
     place: FaultPlace::Top,
 };
 
-/// What the audit of a report finds, for a controller that runs a firewall before a learning.
-fn verdict_on(alloc: Global, bytes: &[u8]) -> Result<Verdict, AllocError>
-    ensures { IfOk result (λ verdict. verdict ≡ verdict_of (differs audited_kinds bytes.now)) }
+/// What the audit of a report finds, by the applications of the first life of the first controller.
+fn verdict_on<A: App>(alloc: Global, bytes: &[u8], chains: Vec<A>) -> Result<Verdict, AllocError>
+    requires chains { (kinds : List ℕ) × AreChains A.kinds A.most kinds chains.items }
+    ensures { (kinds : List ℕ) → AreChains A.kinds A.most kinds chains.items → IfOk result (λ verdict. verdict ≡ verdict_of (differs kinds bytes.now)) }
 {
-    let mut parts: Vec<Box<dyn Part + Send>> = Vec::new(alloc);
-    parts.push(Box::new(alloc, Firewall::new(alloc))?)?;
-    parts.push(Box::new(alloc, Learning::new(alloc))?)?;
-    let mut chain = Chain::new(parts);
-    check(alloc, bytes, &mut chain)
+    let mut chains = chains;
+    check(alloc, bytes, &mut chains[0])
 }
 
 /// How the bytes of a report end.
-pub fn audited(alloc: Global, bytes: &[u8]) -> Result<Ending, AllocError>
-    ensures { IfOk result (λ ending. EndsReport bytes.now ending) }
+pub fn audited<A: App>(alloc: Global, bytes: &[u8], chains: Vec<A>) -> Result<Ending, AllocError>
+    requires chains { (kinds : List ℕ) × AreChains A.kinds A.most kinds chains.items }
+    ensures { (kinds : List ℕ) → AreChains A.kinds A.most kinds chains.items → IfOk result (EndsReport kinds bytes.now) }
 {
     if bytes.len() > REPORT_LIMIT {
         return Ok(Ending::Refused(TOO_LARGE));
     }
-    match verdict_on(alloc, bytes)? {
+    match verdict_on(alloc, bytes, chains)? {
         Verdict::Same => Ok(Ending::Same),
         Verdict::Differs { line } => Ok(Ending::Differs { line }),
     }

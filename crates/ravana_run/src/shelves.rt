@@ -4,8 +4,7 @@ ghost use Rattle.std.specs.List.{AllByRecursion};
 ghost use Rattle.dispatcher.specs.Ledger.{most_commands};
 ghost use Rattle.group_controller.specs.Turns.{AreAlike};
 ghost use Rattle.rv_world.specs.World.{IsStocked};
-ghost use Rattle.ravana_run.specs.Audited.{audited_kinds};
-ghost use Rattle.ravana_run.specs.Play.{AreChains};
+ghost use Rattle.ravana_run.specs.Play.{AreChains, program_kinds};
 
 use app_chain::LifeOf;
 use app_core::{App, Part};
@@ -24,11 +23,11 @@ pub fn push_life<P: Part>(
     number: u8,
     parts: Vec<P>,
 ) -> Result<(), AllocError>
-    requires kinds { map P.kind_of parts.items ≡ audited_kinds }
+    requires kinds { map P.kind_of parts.items ≡ program_kinds }
     requires most { sum (map P.most_of parts.items) ≤ most_commands }
     ensures count { OnOk result (length lives.new.items ≡ length lives.old.items + 1) }
-    ensures alike { AreAlike (λ life. map P.kind_of life.parts.items) (λ life. sum (map P.most_of life.parts.items)) audited_kinds lives.old.items →
-        OnOk result (AreAlike (λ life. map P.kind_of life.parts.items) (λ life. sum (map P.most_of life.parts.items)) audited_kinds lives.new.items) }
+    ensures alike { AreAlike (λ life. map P.kind_of life.parts.items) (λ life. sum (map P.most_of life.parts.items)) program_kinds lives.old.items →
+        OnOk result (AreAlike (λ life. map P.kind_of life.parts.items) (λ life. sum (map P.most_of life.parts.items)) program_kinds lives.new.items) }
 {
     lives.push(LifeOf {
         controller: number / LIVES as u8,

@@ -5,7 +5,8 @@ ghost use Rattle.rv_world.specs.World.{IsStocked};
 ghost use Rattle.rv_record.specs.Shows.{told_by};
 ghost use Rattle.scenario.specs.Scenario.{IsScenario};
 ghost use Rattle.ravana_run.specs.Ending.{EndsRun};
-ghost use Rattle.ravana_run.specs.Play.{AreFresh, StopsAs, ending_by, told_text};
+ghost use Rattle.report.specs.Fits.{FitsRecord};
+ghost use Rattle.ravana_run.specs.Play.{AreFresh, IfDone, IfReport, StopsAs, ending_by, told_text};
 ghost use Rattle.ravana_run.specs.Runs.{StablesTell};
 
 use crate::ending::Ending;
@@ -13,9 +14,9 @@ use app_core::App;
 use closing::Closed;
 use of_types::Octets;
 use playing::play;
-use report::{last_line, text};
+use report::{last_line, record_fits, text};
+use rv_actors::Bytes;
 use rv_base::{Stable, Stop};
-use rv_bodies::Typed;
 use rv_record::{record_of, sums_of};
 use rv_world::World;
 use scenario::Scenario;
@@ -33,16 +34,18 @@ impl Output {
     fn text_of<A: App>(
         self,
         alloc: Global,
-        world: &World<Typed, A>,
+        world: &World<Bytes, A>,
         steps: usize,
         script: usize,
     ) -> Result<Octets, AllocError>
         requires { script ≤ length world.now.journal }
-        ensures { IfOk result (λ bytes. bytes ≡ told_text self (told_by world.now steps script)) }
+        ensures text { IfOk result (λ bytes. bytes ≡ told_text self (told_by world.now steps script)) }
+        ensures fits { IfOk result (λ _. IfReport self (FitsRecord (told_by world.now steps script))) }
     {
         match self {
             Output::Report => {
                 let told = record_of(alloc, world, steps, script)?;
+                record_fits(&told);
                 text(alloc, &told)
             }
             Output::LastLine => {
@@ -56,14 +59,15 @@ impl Output {
 /// How a call ends by the end of a closing.
 fn rested<A: App>(
     alloc: Global,
-    world: &World<Typed, A>,
+    world: &World<Bytes, A>,
     output: Output,
     ended: Closed,
     steps: usize,
     script: usize,
 ) -> Result<Ending, AllocError>
     requires { script ≤ length world.now.journal }
-    ensures { IfOk result (λ ending. ending ≡ ending_by ended (told_text output (told_by world.now steps script))) }
+    ensures ending { IfOk result (λ ending. ending ≡ ending_by ended (told_text output (told_by world.now steps script))) }
+    ensures fits { IfOk result (λ _. IfDone ended (IfReport output (FitsRecord (told_by world.now steps script)))) }
 {
     match ended {
         Closed::Done { .. } => {
@@ -98,9 +102,9 @@ pub fn simulate<A: App, W: Stable>(
     requires stocked { (kinds : List ℕ) × AllByRecursion (λ shelf. IsStocked A.kinds A.most kinds shelf.items) shelves.items }
     requires fresh { AreFresh W.pair stables.old }
     ensures { (kinds : List ℕ) → AllByRecursion (λ shelf. IsStocked A.kinds A.most kinds shelf.items) shelves.items →
-        IfOk result (EndsRun kinds (StablesTell W.pair W.faults stables.old stables.new) (told_text output) scenario.now) }
+        IfOk result (EndsRun kinds (StablesTell W.pair W.faults stables.old stables.new) output scenario.now) }
 {
-    let mut world = World::<Typed, A>::new(alloc, &scenario.setup, shelves)?;
+    let mut world = World::<Bytes, A>::new(alloc, &scenario.setup, shelves)?;
     let ended = play(alloc, &mut world, stables, scenario.steps.as_slice());
     world.lawful();
     match ended {

@@ -6,7 +6,7 @@ ghost use Rattle.scenario.specs.Scenario.{IsScenario};
 ghost use Rattle.ravana_run.specs.Outcome.{Answers, IsTold, IsUnserved, IsAudit, IsComplete, service_for, statuses, statuses_of_usage, statuses_of_audit};
 ghost use Rattle.ravana_run.specs.Ending.{EndsRead, EndsScenario, EndsRun};
 ghost use Rattle.ravana_run.specs.Cause.{HasEndingCause, Tells};
-ghost use Rattle.ravana_run.specs.Play.{AreChains, AreFresh, told_text};
+ghost use Rattle.ravana_run.specs.Play.{AreChains, AreFresh};
 ghost use Rattle.ravana_run.specs.Runs.{StablesTell};
 
 use crate::auditing::audited;
@@ -48,7 +48,7 @@ fn end_of_scenario<A: App, W: Stable>(
     requires is { IsScenario scenario.now }
     requires chains { (kinds : List ℕ) × AreChains A.kinds A.most kinds chains.items }
     requires fresh { AreFresh W.pair stables.old }
-    ensures { (kinds : List ℕ) → AreChains A.kinds A.most kinds chains.items → IfOk result (EndsRun kinds (StablesTell W.pair W.faults stables.old stables.new) (told_text output) scenario.now) }
+    ensures { (kinds : List ℕ) → AreChains A.kinds A.most kinds chains.items → IfOk result (EndsRun kinds (StablesTell W.pair W.faults stables.old stables.new) output scenario.now) }
 {
     let shelves = shelves_of(alloc, chains, scenario.setup.controllers)?;
     simulate(alloc, scenario, output, stables, shelves)
@@ -86,7 +86,7 @@ fn end_of_reading<A: App, W: Stable>(
 {
     match reader {
         Reader::Sim => simulated(alloc, bytes, stables, chains),
-        Reader::Audit => audited(alloc, bytes),
+        Reader::Audit => audited(alloc, bytes, chains),
     }
 }
 
@@ -150,7 +150,7 @@ pub fn ravana<A: App, S: Source, K: Sink, W: Stable>(
     ensures usage { result ≡ 2 → IsUnserved (map string_bytes words.now) }
     ensures words { IsUnserved (map string_bytes words.now) → Contains statuses_of_usage result }
     ensures audit { IsAudit (map string_bytes words.now) → Contains statuses_of_audit result }
-    ensures complete { IsTold (S.left source.old) (S.left source.new) (K.taken sink.old) (K.taken sink.new) (λ input rest written. IsComplete (map string_bytes words.now) input (Rose (S.faults source.old) (S.faults source.new)) (Rose (K.faults sink.old) (K.faults sink.new)) result) }
+    ensures complete { (kinds : List ℕ) → AreChains A.kinds A.most kinds chains.items → IsTold (S.left source.old) (S.left source.new) (K.taken sink.old) (K.taken sink.new) (λ input rest written. IsComplete kinds (map string_bytes words.now) input (Rose (S.faults source.old) (S.faults source.new)) (Rose (K.faults sink.old) (K.faults sink.new)) result) }
     ensures unread { result ≡ 4 → Rose (S.faults source.old) (S.faults source.new) }
     ensures unwritten { result ≡ 5 → Rose (K.faults sink.old) (K.faults sink.new) }
     ensures range { Contains statuses result }

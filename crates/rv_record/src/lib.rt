@@ -5,22 +5,20 @@ ghost use Rattle.std.specs.Prelude.{◌≡◌, ◌≤◌, length, IfOk};
 ghost use Rattle.rv_runs.specs.Schedule.{count_turns};
 ghost use Rattle.rv_record.specs.Shows.{sums_by, told_by};
 
-mod bare;
 mod told;
 
-use crate::bare::bare;
 use crate::told::told_all;
 use app_core::App;
 use of_types::Items;
 use report::Record;
+use rv_actors::{Bytes, bare};
 use rv_base::JournalEntry;
-use rv_bodies::Typed;
 use rv_world::World;
 use std::alloc::{AllocError, Global};
 use vr_log::copy_entries;
 
 /// How many turns entries are: suspicions and draws.
-fn count_turns(entries: &[JournalEntry<Typed>]) -> u64
+fn count_turns(entries: &[JournalEntry<Bytes>]) -> u64
     ensures { result ≡ count_turns entries.now }
 {
     let mut turns = 0;
@@ -39,7 +37,7 @@ fn count_turns(entries: &[JournalEntry<Typed>]) -> u64
 /// which made so many of its entries.
 pub fn sums_of<A: App>(
     alloc: Global,
-    world: &World<Typed, A>,
+    world: &World<Bytes, A>,
     steps: usize,
     script: usize,
 ) -> Result<Record, AllocError>
@@ -59,7 +57,7 @@ pub fn sums_of<A: App>(
 /// The record of a world, with so many steps of a script, which made so many of its entries.
 pub fn record_of<A: App>(
     alloc: Global,
-    world: &World<Typed, A>,
+    world: &World<Bytes, A>,
     steps: usize,
     script: usize,
 ) -> Result<Record, AllocError>

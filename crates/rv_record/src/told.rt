@@ -6,7 +6,7 @@ use app_core::App;
 use of_switch::Switch;
 use of_types::{Items, Row};
 use report::{Shown, Told};
-use rv_bodies::Typed;
+use rv_actors::Bytes;
 use rv_world::World;
 use std::alloc::{AllocError, Global};
 
@@ -51,7 +51,7 @@ fn told_of(alloc: Global, switch: &Switch) -> Result<Told, AllocError>
 }
 
 /// What is told of each switch, by number.
-pub fn told_all<A: App>(alloc: Global, world: &World<Typed, A>) -> Result<Items<Told>, AllocError>
+pub fn told_all<A: App>(alloc: Global, world: &World<Bytes, A>) -> Result<Items<Told>, AllocError>
     ensures { IfOk result (λ told. told ≡ map shows.told_of world.now.switches) }
 {
     let mut told = Items::new(alloc);

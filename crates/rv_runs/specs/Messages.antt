@@ -1,13 +1,12 @@
 -- Messages, their ways and their sizes.
 use Rattle.std.specs.Prelude.{◌<◌, ◌≤◌, ℕ, ◌+◌, ◌-◌, ◌^◌, min, [], length}
-use Rattle.of_types.specs.declared.message.OfMessage.TheVariants as plain
 use Rattle.of_types.specs.declared.message.Spoken.{Spoken}
 use Rattle.of_types.specs.declared.message.Spoken.TheVariants as spoken
 use Rattle.of_types.specs.Sizes.{plain_size, extension_size}
 use Rattle.of_types.specs.declared.numbers.TheConstants.{SHORTEST_FRAME, LONGEST_FRAME}
-use Rattle.of_types.specs.Valid.{IsValid}
 use Rattle.of_messages.specs.Fits.{FitsPlain}
 use Rattle.of_ravana.specs.Fits.{FitsExtension}
+use Rattle.of_ravana.specs.Grammar.{IsValidSpoken}
 use Rattle.vr_log.specs.Sizes.{vr_size, IsValidVr}
 use Rattle.vr_codec.specs.Fits.{FitsVr}
 use Rattle.rv_base.specs.declared.journal.Actor.{Actor}
@@ -32,10 +31,9 @@ way_of_message (message.Of xid said) = way.Of
 way_of_message (message.Vr said) = way.Vr
 way_of_message (message.Frame port bytes) = way.Link
 
--- a message that can be spelled. An EXPERIMENTER is said as what it means, a message of the extension
+-- a message that can be spelled
 abbrev pub IsValidMessage : Message → Type 0
-IsValidMessage (message.Of xid (spoken.Plain (plain.Experimenter body))) = ⊥
-IsValidMessage (message.Of xid said) = IsValid said
+IsValidMessage (message.Of xid said) = IsValidSpoken said
 IsValidMessage (message.Vr said) = IsValidVr said
 IsValidMessage (message.Frame port bytes) = (SHORTEST_FRAME ≤ length bytes) × (length bytes ≤ LONGEST_FRAME)
 

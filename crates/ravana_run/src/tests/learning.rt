@@ -1,6 +1,6 @@
 //! Controllers that learn in a list in place of a map.
 
-use crate::tests::calls::{SOUND, serve, serve_with, words_of};
+use crate::tests::calls::{SAME, SOUND, assert_served, serve, serve_with, words_of};
 use crate::tests::steps::{COMMITTED, CRASH_C0, DRAW_S0, FRAME_AB, LEARNED, ONE, Script, THREE};
 use std::alloc::{AllocError, Global};
 use std::process::Abort;
@@ -21,7 +21,7 @@ fn assert_same(
     assert_eq!(rt; in_lists.status, 0, "at {last}");
     assert_eq!(rt; in_lists.text(), in_maps.text(), "at {last}");
     assert_eq!(rt; in_lists.text().lines().last(), Some(last));
-    Ok(())
+    assert_served(rt, alloc, "audit", in_lists.written.as_slice(), 0, SAME)
 }
 
 #[test]

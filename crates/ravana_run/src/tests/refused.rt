@@ -1,6 +1,6 @@
 //! Scenarios that are refused, with the kind and the place of their first fault.
 
-use crate::tests::calls::{SOUND, assert_served, serve};
+use crate::tests::calls::{SAME, SOUND, assert_served, serve};
 use crate::tests::steps::{ONE, RESTART_S0, Script, TICK_C0};
 use std::alloc::Global;
 use std::process::Abort;
@@ -166,6 +166,7 @@ fn refuses_a_sixteenth_restart(rt: HostRuntime) -> Result<(), Fail> {
     let input = fifteen.text(rt.alloc())?;
     let answer = serve(rt.alloc(), "sim", input.as_bytes(), SOUND)?;
     assert_eq!(rt; answer.status, 0);
+    assert_served(&rt, rt.alloc(), "audit", answer.written.as_slice(), 0, SAME)?;
 
     let sixteen = Script {
         steps: &[(1, &[TICK_C0]), (16, &[RESTART_S0])],

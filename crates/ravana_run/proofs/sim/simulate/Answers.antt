@@ -5,9 +5,9 @@ use Rattle.rv_base.specs.declared.journal.Turn.{Turn}
 use Rattle.rv_base.specs.Actors.{IsActor}
 use Rattle.rv_base.specs.Turns.{turn_actor}
 use Rattle.group_controller.specs.Turns.{Controls}
+use Rattle.rv_runs.specs.Bodies.{byte_bodies}
 use Rattle.rv_world.specs.World.{scene_in}
-use Rattle.ravana_run.specs.Play.{told_text}
-use Rattle.ravana_run.proofs.Ran.{ends_closed, ends_stopped, fresh_pairs, script_within, typed}
+use Rattle.ravana_run.proofs.Ran.{ends_closed, ends_stopped, fresh_pairs, script_within}
 use Rattle.playing.specs.Played.{StepSuspectsUpTo}
 use Rattle.ravana_run.proofs.Playing.{views_up_to}
 use Rattle.ravana_run.proofs.sim.simulate.Goals as goal
@@ -30,7 +30,7 @@ pub rested-requires : goal.rested-requires
 rested-requires g c =
     let kinds = c.requires.stocked.0 in
     let holds = c.in_ok-world.ensures.holds kinds c.requires.stocked.1 in
-    script_within (scene_in typed c.in_ok-world.world kinds) c.as_slice.result.now c.play-ended.new.world c.play-ended.result c.in-Ok.closed c.in-Ok.script c.in-Ok.is (c.play-ended.ensures.played kinds holds)
+    script_within (scene_in byte_bodies c.in_ok-world.world kinds) c.as_slice.result.now c.play-ended.new.world c.play-ended.result c.in-Ok.closed c.in-Ok.script c.in-Ok.is (c.play-ended.ensures.played kinds holds)
 
 pub returns-in-Ok : goal.returns-in-Ok
 returns-in-Ok g c =
@@ -42,8 +42,8 @@ returns-in-Ok g c =
     let holds = c.in_ok-world.ensures.holds kinds stocked in
     ends_closed controls g.W.Stable.pair g.W.Stable.faults scenario kinds start c.args.stables.now c.play-ended.new.world c.play-ended.new.stables starts holds
     (fresh_pairs controls g.W.Stable.pair c.args.stables.now scenario.setup start kinds c.requires.fresh starts holds) c.lawful.ensures.within c.as_slice.result.now c.as_slice.ensures
-    c.play-ended.result c.in-Ok.closed c.in-Ok.script (told_text c.args.output) c.len.result c.rested.result c.in-Ok.is c.len.ensures
-    c.play-ended.ensures.keeps (c.play-ended.ensures.played kinds holds) c.play-ended.ensures.up c.rested.ensures
+    c.play-ended.result c.in-Ok.closed c.in-Ok.script c.args.output c.len.result c.rested.result c.in-Ok.is c.len.ensures
+    c.play-ended.ensures.keeps (c.play-ended.ensures.played kinds holds) c.play-ended.ensures.up c.rested.ensures.ending c.rested.ensures.fits
 
 pub returns : goal.returns
 returns g c =
@@ -55,7 +55,7 @@ returns g c =
     let holds = c.in_ok-world.ensures.holds kinds stocked in
     ends_stopped controls g.W.Stable.pair g.W.Stable.faults scenario kinds start c.args.stables.now c.play-ended.new.world c.play-ended.new.stables starts holds
     (fresh_pairs controls g.W.Stable.pair c.args.stables.now scenario.setup start kinds c.requires.fresh starts holds) c.lawful.ensures.within c.as_slice.result.now c.as_slice.ensures
-    c.play-ended.result c.in-Err.stop (told_text c.args.output) c.stopped.result c.in-Err.is c.play-ended.ensures.keeps (c.play-ended.ensures.stops kinds holds) c.stopped.ensures
+    c.play-ended.result c.in-Err.stop c.args.output c.stopped.result c.in-Err.is c.play-ended.ensures.keeps (c.play-ended.ensures.stops kinds holds) c.stopped.ensures
 
 pub play-ended-requires-clause-views : goal.play-ended-requires-clause-views
 play-ended-requires-clause-views g c =

@@ -8,3 +8,8 @@ pub returns-in-Sim : goal.returns-in-Sim
 returns-in-Sim g c = λ kinds chains.
     subst (λ (r : Reader). IfOk c.simulated.result (λ e. EndsRead kinds (StablesTell g.W.Stable.pair g.W.Stable.faults c.args.stables.now c.simulated.new.stables) r c.args.bytes.now e)) (sym c.in-Sim.is)
     (c.simulated.ensures kinds chains)
+
+pub returns-in-Audit : goal.returns-in-Audit
+returns-in-Audit g c = λ kinds chains.
+    subst (λ (r : Reader). IfOk c.audited.result (λ e. EndsRead kinds (StablesTell g.W.Stable.pair g.W.Stable.faults c.args.stables.now c.args.stables.now) r c.args.bytes.now e)) (sym c.in-Audit.is)
+    (c.audited.ensures kinds chains)

@@ -1,6 +1,6 @@
 use Rattle.std.proofs.Common.{Some, List, ℕ, map, refl, ap, subst, sym, ◌∙◌, Err, IfOk}
 use Rattle.std.specs.Prelude.{Option, string_bytes}
-use Rattle.report.specs.Report.{end_line}
+use Rattle.ravana_run.specs.declared.sim.Output.TheVariants.{LastLine}
 use Rattle.ravana_run.specs.declared.service.Service.{Service}
 use Rattle.ravana_run.specs.declared.service.Service.TheVariants as service
 use Rattle.ravana_run.specs.Ending.{EndsRead}
@@ -38,7 +38,7 @@ returns-in-Some-Gen-clause-cause g c = λ kinds chains.
 pub returns-in-Some-Gen-clause-told : goal.returns-in-Some-Gen-clause-told
 returns-in-Some-Gen-clause-told g c =
     let kinds = c.requires.chains.0 in
-    made_tells (map string_bytes c.args.words.now) _ _ kinds (StablesTell g.W.Stable.pair g.W.Stable.faults c.args.stables.now c.end_of_scenario.new.stables) c.in-Some-Gen.number c.in-Some-Gen.controllers c.in-Some-Gen.switches c.in-Some-Gen.frames c.in_ok-scenario-in-Some-Gen.scenario end_line c.end_of_scenario.result (sym c.in-Some-Gen.ensures ∙ ap (λ s. some_of s) c.in-Some-Gen.field-0-is) refl
+    made_tells (map string_bytes c.args.words.now) _ _ kinds (StablesTell g.W.Stable.pair g.W.Stable.faults c.args.stables.now c.end_of_scenario.new.stables) c.in-Some-Gen.number c.in-Some-Gen.controllers c.in-Some-Gen.switches c.in-Some-Gen.frames c.in_ok-scenario-in-Some-Gen.scenario LastLine c.end_of_scenario.result (sym c.in-Some-Gen.ensures ∙ ap (λ s. some_of s) c.in-Some-Gen.field-0-is) refl
     (c.end_of_scenario.ensures kinds c.requires.chains.1)
 
 pub returns-in-Ok-clause-cause : goal.returns-in-Ok-clause-cause

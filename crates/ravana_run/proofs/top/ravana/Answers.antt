@@ -13,7 +13,7 @@ returns-in_default-clause-audit g c = λ _. (4, omega arith, refl)
 
 pub returns-in_default-clause-complete : goal.returns-in_default-clause-complete
 returns-in_default-clause-complete g c =
-    let kinds = c.requires.chains.0 in
+    λ kinds chains.
     let saves = StablesTell g.W.Stable.pair g.W.Stable.faults c.args.stables.now c.outcome.new.stables in
     complete kinds saves _ _ _ _ _ _ _ _ (nothing kinds saves _ _ _ _ _ _)
 
@@ -28,7 +28,7 @@ returns-in_default-into_text-clause-audit g c = λ _. (4, omega arith, refl)
 
 pub returns-in_default-into_text-clause-complete : goal.returns-in_default-into_text-clause-complete
 returns-in_default-into_text-clause-complete g c =
-    let kinds = c.requires.chains.0 in
+    λ kinds chains.
     let saves = StablesTell g.W.Stable.pair g.W.Stable.faults c.args.stables.now c.outcome.new.stables in
     complete kinds saves _ _ _ _ _ _ _ _ (nothing kinds saves _ _ _ _ _ _)
 
@@ -42,9 +42,9 @@ returns-in-Ok-write_all-clause-answer g c =
 
 pub returns-in-Ok-write_all-clause-complete : goal.returns-in-Ok-write_all-clause-complete
 returns-in-Ok-write_all-clause-complete g c =
-    let kinds = c.requires.chains.0 in
+    λ kinds chains.
     let saves = StablesTell g.W.Stable.pair g.W.Stable.faults c.args.stables.now c.outcome.new.stables in
-    rw c.status-status.ensures (complete kinds saves _ _ _ _ _ _ _ _ (served kinds saves _ _ _ _ _ _ _ c.in-Ok.ending _ (c.in-Ok.ensures.cause kinds c.requires.chains.1) (c.as_slice.ensures ∙ c.in-Ok-into_text.ensures.ok) c.in-Ok-write_all.ensures.ok))
+    rw c.status-status.ensures (complete kinds saves _ _ _ _ _ _ _ _ (served kinds saves _ _ _ _ _ _ _ c.in-Ok.ending _ (c.in-Ok.ensures.cause kinds chains) (c.as_slice.ensures ∙ c.in-Ok-into_text.ensures.ok) c.in-Ok-write_all.ensures.ok))
 
 pub returns-in-Ok-write_all-clause-audit : goal.returns-in-Ok-write_all-clause-audit
 returns-in-Ok-write_all-clause-audit g c = λ is. rw c.status-status.ensures (c.in-Ok.ensures.told.audit is)
@@ -68,9 +68,9 @@ returns-clause-answer g c =
 
 pub returns-clause-complete : goal.returns-clause-complete
 returns-clause-complete g c =
-    let kinds = c.requires.chains.0 in
+    λ kinds chains.
     let saves = StablesTell g.W.Stable.pair g.W.Stable.faults c.args.stables.now c.outcome.new.stables in
-    complete kinds saves _ _ _ _ _ _ _ _ (cut kinds saves _ _ _ _ _ _ _ c.in-Ok.ending _ (c.in-Ok.ensures.cause kinds c.requires.chains.1) (c.as_slice.ensures ∙ c.in-Ok-into_text.ensures.ok) c.in-Err.ensures.cause.failed c.in-Err.ensures.err)
+    complete kinds saves _ _ _ _ _ _ _ _ (cut kinds saves _ _ _ _ _ _ _ c.in-Ok.ending _ (c.in-Ok.ensures.cause kinds chains) (c.as_slice.ensures ∙ c.in-Ok-into_text.ensures.ok) c.in-Err.ensures.cause.failed c.in-Err.ensures.err)
 
 pub returns-clause-audit : goal.returns-clause-audit
 returns-clause-audit g c = λ _. (3, omega arith, refl)

@@ -1,7 +1,7 @@
 use Rattle.std.proofs.Common.{◌≡◌, map, length}
 use Rattle.std.specs.Prelude.{sum}
 use Rattle.app_core.specs.contracts.part.BoxDynPartSendPart.TheImpl.{ghosts}
-use Rattle.ravana_run.specs.Audited.{audited_kinds}
+use Rattle.ravana_run.specs.Play.{program_kinds}
 use Rattle.group_controller.specs.Turns.{AreAlike}
 use Rattle.ravana_run.proofs.tests.calls.serve_with.OwnLists.{own-1, lawful-own-1}
 use Rattle.ravana_run.proofs.tests.calls.serve_with.Hidden.{sends-own-1}
@@ -12,5 +12,5 @@ invariant-making l =
     let boxes = ghosts (own-1, lawful-own-1, sends-own-1) in
     record {
       count : length l.chains.items ≡ l.number;
-      alike : AreAlike (λ life. map boxes.kind_of life.parts.items) (λ life. sum (map boxes.most_of life.parts.items)) audited_kinds l.chains.items;
+      alike : AreAlike (λ life. map boxes.kind_of life.parts.items) (λ life. sum (map boxes.most_of life.parts.items)) program_kinds l.chains.items;
     }

@@ -1,37 +1,17 @@
-//! Journals with each body as its bytes.
+//! Journals of bytes as such.
 ghost use Rattle.std.specs.Prelude.{◌≡◌, IfOk};
-ghost use Rattle.rv_record.specs.Shows as shows;
 
-use of_bytes::four;
-use of_ravana::canonical;
+use crate::bytes::Bytes;
 use of_types::{Items, Octets};
 use rv_base::{Journal, JournalEntry, Letter, Letters};
-use rv_bodies::Typed;
-use rv_runs::Message;
 use std::alloc::{AllocError, Global};
-use vr_codec::encode_vr;
 
-/// The bytes of a body.
-fn typed_bytes(alloc: Global, body: &Typed) -> Result<Octets, AllocError>
-    ensures { IfOk result (λ bytes. bytes ≡ shows.message_bytes body.now.message) }
+fn bare_letters(alloc: Global, letters: &[Letter<Bytes>]) -> Result<Letters<Octets>, AllocError>
+    ensures { IfOk result (λ bare. bare ≡ letters.now) }
 {
-    match &body.message {
-        Message::Of { xid, message } => canonical(alloc, *xid, message),
-        Message::Vr(message) => encode_vr(alloc, message),
-        Message::Frame { port, bytes } => {
-            let mut body = Octets::from_slice(alloc, &four(*port))?;
-            body.append(bytes.as_slice())?;
-            Ok(body)
-        }
-    }
-}
-
-fn bare_letters(alloc: Global, letters: &[Letter<Typed>]) -> Result<Letters<Octets>, AllocError>
-    ensures { IfOk result (λ bare. bare ≡ shows.bare_letters letters.now) }
-{
-    let mut bare = Items::new(alloc);
+    let mut bare = Items::from_vec(Vec::with_capacity(alloc, letters.len())?);
     for letter in letters {
-        let body = typed_bytes(alloc, &letter.body)?;
+        let body = Octets::from_slice(alloc, letter.body.as_slice())?;
         bare.push(Letter {
             to: letter.to,
             body,
@@ -40,12 +20,11 @@ fn bare_letters(alloc: Global, letters: &[Letter<Typed>]) -> Result<Letters<Octe
     Ok(bare)
 }
 
-/// An entry with each body as its bytes.
 fn bare_entry(
     alloc: Global,
-    entry: &JournalEntry<Typed>,
+    entry: &JournalEntry<Bytes>,
 ) -> Result<JournalEntry<Octets>, AllocError>
-    ensures { IfOk result (λ bare. bare ≡ shows.bare_entry entry.now) }
+    ensures { IfOk result (λ bare. bare ≡ entry.now) }
 {
     match entry {
         JournalEntry::Post {
@@ -83,11 +62,11 @@ fn bare_entry(
     }
 }
 
-/// A journal with each body as its bytes.
-pub fn bare(alloc: Global, journal: &[JournalEntry<Typed>]) -> Result<Journal<Octets>, AllocError>
-    ensures { IfOk result (λ bare. bare ≡ shows.bare journal.now) }
+/// The same journal, each body as its bytes.
+pub fn bare(alloc: Global, journal: &[JournalEntry<Bytes>]) -> Result<Journal<Octets>, AllocError>
+    ensures { IfOk result (λ bare. bare ≡ journal.now) }
 {
-    let mut entries = Items::new(alloc);
+    let mut entries = Items::from_vec(Vec::with_capacity(alloc, journal.len())?);
     for entry in journal {
         entries.push(bare_entry(alloc, entry)?)?;
     }

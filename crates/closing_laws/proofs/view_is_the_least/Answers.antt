@@ -1,0 +1,5 @@
+use Rattle.closing_laws.proofs.Pasts.{view_law}
+use Rattle.closing_laws.proofs.view_is_the_least.Goals as goal
+
+pub returns : goal.returns
+returns g c = view_law

@@ -1,0 +1,4 @@
+pub mod Quorum
+pub mod Draining
+pub mod Views
+pub mod Starts

@@ -1,6 +1,6 @@
 -- A controller alone in its group starts the view of a closing as it suspects it.
-use Rattle.std.proofs.Common.{◌≡◌, ◌≤◌, ◌<◌, ℕ, ◌+◌, ◌/◌, ◌%◌, true, false, List, [], ◌∷◌, ◌++◌, length, map, refl, sym, ◌∙◌, ap, subst, arith}
-use Rattle.std.specs.Prelude.{nat_eq, reverse, Some, None, if◌then◌else◌}
+use Rattle.std.proofs.Common.{◌≡◌, ◌≤◌, ◌<◌, ℕ, ◌/◌, ◌%◌, true, false, List, [], ◌∷◌, ◌++◌, length, map, refl, sym, ◌∙◌, ap, subst, arith}
+use Rattle.std.specs.Prelude.{nat_eq, reverse, Some, None}
 use Rattle.std.proofs.lemmas.Bool.{eq-eqb, ne_eqb, eqb-false, le-ltb}
 use Rattle.of_types.specs.Setups.{IsSetup}
 use Rattle.rv_base.specs.declared.journal.Actor.{Actor}
@@ -18,15 +18,14 @@ use Rattle.vr_log.specs.Members.{leads, others_below}
 use Rattle.vr_log.specs.Steps.{VrStep, letter, to_others}
 use Rattle.view_change.specs.Entering.{started, view_start}
 use Rattle.vr_core.specs.declared.input.VrInput.TheVariants as vr_input
-use Rattle.vr_core.specs.Step.{vr_step}
 use Rattle.group_controller.specs.declared.messages.ControllerInput.TheVariants as controller_input
 use Rattle.group_controller.specs.declared.messages.ControllerSays.{ControllerSays}
-use Rattle.group_controller.specs.State.{ControllerState, Work, fresh, stepped, with_no_met_limit}
+use Rattle.group_controller.specs.State.{Work, fresh, stepped, with_no_met_limit}
 use Rattle.group_controller.specs.Rules.{after_step, starting_view}
 use Rattle.rv_runs.specs.States.{Scene, IsFaithful, controller_message, sealed_letters}
 use Rattle.rv_runs.specs.Legal.{IsPossible}
 use Rattle.rv_runs.specs.Committed.{controller_state, states_of, members_up}
-use Rattle.rv_runs.specs.Schedule.{Answer, Phase, Losing, Suspecting, Move, Takes, ClosesTo, IsEnd, IsMove, IsPosted, after_move, count_turns, majority, next_move, next_suspicion}
+use Rattle.rv_runs.specs.Schedule.{Phase, Losing, Suspecting, Move, Takes, ClosesTo, IsEnd, IsMove, IsPosted, after_move, count_turns, majority, next_move, next_suspicion}
 use Rattle.closing_laws.specs.Quorum.{has}
 use Rattle.closing_laws.specs.Views.{HasBest, IsMember, gathering, lacks, log_of, started_with, tellers, turns_to_start}
 use Rattle.closing_laws.specs.Starts.{FindRoom, HasStartedIn, IsAttempt, Starts, StartsInTime, members_at, quorum_after, starting_turn, turns_after, view_after}

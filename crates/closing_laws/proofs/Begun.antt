@@ -25,7 +25,7 @@ use Rattle.rv_laws.proofs.Members.{owned_at}
 use Rattle.closing_laws.specs.Quorum.{has, IsQuorum}
 use Rattle.closing_laws.specs.Draining.{Group, all_suspected, resting}
 use Rattle.closing_laws.specs.Views.{HasBest, IsCovered, IsMember, in_view, lacks, turns_to_start}
-use Rattle.closing_laws.specs.Starts.{FindRoom, HasStartedIn, IsAttempt, StartsInTime, ViewsStartInTime, members_at, quorum_after, turns_after, view_after}
+use Rattle.closing_laws.specs.Starts.{FindRoom, HasStartedIn, IsAttempt, StartsInTime, members_at, quorum_after, turns_after, view_after}
 use Rattle.closing_laws.proofs.Numbers.{Once, filter_has}
 use Rattle.closing_laws.proofs.Covering.{covered}
 use Rattle.closing_laws.proofs.Pasts as pasts

@@ -1,5 +1,5 @@
 -- The view of a closing starts in time, in each group.
-use Rattle.std.proofs.Common.{◌≡◌, ◌<◌, inl, inr, ℕ, ◌/◌, arith}
+use Rattle.std.proofs.Common.{◌<◌, inl, inr, ℕ, ◌/◌, arith}
 use Rattle.std.proofs.lemmas.Bool.{cases_lt}
 use Rattle.rv_agreement.proofs.Groups.{odd_law}
 use Rattle.closing_laws.specs.Starts.{ViewsStartInTime}

@@ -1,5 +1,5 @@
 -- A controller alone in its group starts the view of a closing as it suspects it.
-use Rattle.std.proofs.Common.{◌≡◌, ◌≤◌, ◌<◌, ℕ, ◌/◌, ◌%◌, true, false, List, [], ◌∷◌, ◌++◌, length, map, refl, sym, ◌∙◌, ap, subst, arith}
+use Rattle.std.proofs.Common.{◌≡◌, ◌≤◌, ◌<◌, ℕ, ◌/◌, ◌%◌, true, false, List, [], ◌∷◌, ◌++◌, length, map, take, refl, sym, ◌∙◌, ap, subst, arith}
 use Rattle.std.specs.Prelude.{nat_eq, reverse, Some, None}
 use Rattle.std.proofs.lemmas.Bool.{eq-eqb, ne_eqb, eqb-false, le-ltb}
 use Rattle.of_types.specs.Setups.{IsSetup}
@@ -20,15 +20,16 @@ use Rattle.view_change.specs.Entering.{started, view_start}
 use Rattle.vr_core.specs.declared.input.VrInput.TheVariants as vr_input
 use Rattle.group_controller.specs.declared.messages.ControllerInput.TheVariants as controller_input
 use Rattle.group_controller.specs.declared.messages.ControllerSays.{ControllerSays}
-use Rattle.group_controller.specs.State.{Work, fresh, stepped, with_no_met_limit}
+use Rattle.group_controller.specs.State.{ControllerState, Work, fresh, stepped, with_no_met_limit}
 use Rattle.group_controller.specs.Rules.{after_step, starting_view}
-use Rattle.rv_runs.specs.States.{Scene, IsFaithful, controller_message, sealed_letters}
+use Rattle.rv_runs.specs.declared.messages.Unsealed.TheVariants as unsealed
+use Rattle.rv_runs.specs.States.{Scene, IsFaithful, content, controller_message, sealed_letters}
 use Rattle.rv_runs.specs.Legal.{IsPossible}
 use Rattle.rv_runs.specs.Committed.{controller_state, states_of, members_up}
-use Rattle.rv_runs.specs.Schedule.{Phase, Losing, Suspecting, Move, Takes, ClosesTo, IsEnd, IsMove, IsPosted, after_move, count_turns, majority, next_move, next_suspicion}
+use Rattle.rv_runs.specs.Schedule.{Phase, Losing, Suspecting, Move, Takes, ClosesTo, IsEnd, IsMove, IsPosted, after_member, after_move, count_turns, majority, next_move, next_suspicion}
 use Rattle.closing_laws.specs.Quorum.{has}
-use Rattle.closing_laws.specs.Views.{HasBest, IsMember, gathering, lacks, log_of, started_with, tellers, turns_to_start}
-use Rattle.closing_laws.specs.Starts.{FindRoom, HasStartedIn, IsAttempt, Starts, StartsInTime, members_at, quorum_after, starting_turn, turns_after, view_after}
+use Rattle.closing_laws.specs.Views.{HasBest, IsCovered, IsMember, gathering, lacks, log_of, started_with, tellers, turns_to_start}
+use Rattle.closing_laws.specs.Starts.{FindRoom, HasStartedIn, IsAttempt, Starts, StartsInTime, Last_suspects, members_at, quorum_after, starting_turn, turns_after, view_after}
 use Rattle.closing_laws.proofs.Begun as begun
 use Rattle.closing_laws.proofs.Numbers.{has_here, no_both}
 use Rattle.closing_laws.proofs.Steps as steps
@@ -76,6 +77,20 @@ module _ {B : Type 0} (scene : Scene B) (results : List (List SaveResult)) (befo
   member : IsMember 1 w 0 (start 0)
   member = subst (λ (k : ℕ). IsMember k w 0 (start 0)) single (begun.ready scene results before most 0 there)
 
+  -- the one log covers itself
+  own_covered : IsCovered quorum start best
+  own_covered = record {
+    agrees = λ j chosen. ap (λ (k : ℕ). take (start j).commit (start k).log) (alone_at j chosen ∙ sym is_best);
+    covers = λ j chosen.
+        let within = member.commit in
+        let here = ap (λ (k : ℕ). (start k).commit) (alone_at j chosen) in
+        let there = ap (λ (k : ℕ). length (start k).log) is_best in
+        omega (arith, within, here, there);
+  }
+    where
+      alone_at : (j : ℕ) → has quorum j ≡ true → j ≡ 0
+      alone_at j chosen = let less = small j chosen in omega (arith, less, single)
+
   abbrev begins_as : VrState
   begins_as = started (gathering (start 0) w [] [] None) (start 0).log (start 0).commit (start 0).commit
 
@@ -105,7 +120,7 @@ module _ {B : Type 0} (scene : Scene B) (results : List (List SaveResult)) (befo
       ∙ ap (after_step scene.kinds scene.setup (with_no_met_limit c)) (steps.alone w (start 0) member)
       ∙ starting_later scene.kinds scene.setup (with_no_met_limit c) step apart now
       ∙ ap (λ (ls : List VrLetter). starting_view scene.kinds scene.setup (stepped (fresh begins_as) (record { state = begins_as; promise = Some w; letters = ls }))) (sym silent))
-      (turn_local scene results 0 w before (a.saves 0))
+      (turn_local scene results 0 w before (λ i. a.saves 0 i (omega (arith, single))))
 
   starts_as : turn_work ≡ starting_turn scene.kinds scene.setup (Some w) (started_with (start (w % n)) w [] (map (log_of start) (tellers (w % n) quorum)) (start best).log)
   starts_as =
@@ -115,8 +130,9 @@ module _ {B : Type 0} (scene : Scene B) (results : List (List SaveResult)) (befo
       ∙ ap (λ (k : ℕ). started_with (start 0) w [] [] (start k).log) is_best))
 
   begun_in : (Q : List (JournalEntry B)) → (at scene results 0 Q).now ≡ (at scene results 0 (suspicion ∷ before)).now → (number : ℕ) →
-      pool Q ≡ numbered number (actor.Controller 0) (sealed_letters controller_message scene.sealing turn_work.letters) → HasStartedIn scene results w quorum start best Q
-  begun_in Q same number waits = record {
+      pool Q ≡ numbered number (actor.Controller 0) (sealed_letters controller_message scene.sealing turn_work.letters) →
+      map (content scene.sealing) (pool Q) ≡ map (λ (l : Letter ControllerSays). unsealed.Message (controller_message l.body)) turn_work.letters → HasStartedIn scene results w quorum start best Q
+  begun_in Q same number waits says = record {
     voters = λ c. [];
     promise = Some w;
     turn = turn_work;
@@ -126,6 +142,7 @@ module _ {B : Type 0} (scene : Scene B) (results : List (List SaveResult)) (befo
     outside = λ c less out. let zero_it : c ≡ 0 = omega (arith, less, single) in absurd (no_both (has quorum 0) there (ap (has quorum) (sym zero_it) ∙ out));
     number = number;
     waits = waits ∙ ap (λ (k : ℕ). numbered number (actor.Controller k) (sealed_letters controller_message scene.sealing turn_work.letters)) (sym first);
+    says = says;
   }
 
   one_turn : turns_after scene results before best ≡ 1
@@ -134,9 +151,18 @@ module _ {B : Type 0} (scene : Scene B) (results : List (List SaveResult)) (befo
       let lack : lacks (w % n) start best ≡ false = ap (λ (k : ℕ). lacks k start best) first ∙ ap (lacks 0 start) is_best ∙ le-ltb (start 0).commit (start 0).commit (omega arith) in
       ap (λ (k : ℕ). turns_to_start k (lacks (w % n) start best)) half ∙ ap (turns_to_start 0) lack
 
+  -- the closing goes on
+  goes_behind : (Q rest : List (JournalEntry B)) → (at scene results 0 Q).now ≡ (at scene results 0 (suspicion ∷ before)).now →
+      ClosesTo scene results (after_member w (at scene results 0 (suspicion ∷ before)).now (Suspecting w quorum [])) Q rest last →
+      ClosesTo scene results (after_member w (controller_state scene results (w % n) Q) (Suspecting w quorum [])) Q rest last
+  goes_behind Q rest same closes =
+      subst (λ (c : ControllerState). ClosesTo scene results (after_member w c (Suspecting w quorum [])) Q rest last)
+      (sym (ap (λ (k : ℕ). controller_state scene results k Q) first ∙ same)) closes
+
   -- what comes behind the suspicion
-  starts_now : (rest : List (JournalEntry B)) (phase : Phase) → entries ≡ suspicion ∷ rest → ClosesTo scene results phase (suspicion ∷ before) rest last → Starts scene results before entries best
-  starts_now rest phase is closes = by_next (walking.next_of scene results setup faithful w quorum small before a.saves phase (suspicion ∷ before) rest last closes done)
+  starts_now : (rest : List (JournalEntry B)) (phase : Phase) → entries ≡ suspicion ∷ rest → phase ≡ after_member w (at scene results 0 (suspicion ∷ before)).now (Suspecting w quorum []) →
+      ClosesTo scene results phase (suspicion ∷ before) rest last → Starts scene results before entries last best
+  starts_now rest phase is phase_is closes = by_next (walking.next_of scene results setup faithful w quorum small before a.saves phase (suspicion ∷ before) rest last closes done)
     where
       can : IsPossible scene results (later (suspicion ∷ before) rest)
       can = subst (λ (l : List (JournalEntry B)). IsPossible scene results (later before l)) is (subst (λ (l : List (JournalEntry B)). IsPossible scene results l) (sym (later_is before entries)) a.possible)
@@ -147,7 +173,7 @@ module _ {B : Type 0} (scene : Scene B) (results : List (List SaveResult)) (befo
       room : FindRoom rest
       room = (subst (λ (l : List (JournalEntry B)). FindRoom l) is a.room).1
 
-      by_next : walking.Next scene results setup faithful w quorum small before a.saves (suspicion ∷ before) rest → Starts scene results before entries best
+      by_next : walking.Next scene results setup faithful w quorum small before a.saves (suspicion ∷ before) rest → Starts scene results before entries last best
       by_next (walking.Done nothing) =
           let none : turn_work.letters ≡ [] = sym turn.owed ∙ walking.owes_nothing scene results setup faithful w quorum small before a.saves (suspicion ∷ before) before suspicion 0 refl refl nothing in
           let all = one_turn in
@@ -156,7 +182,14 @@ module _ {B : Type 0} (scene : Scene B) (results : List (List SaveResult)) (befo
             rest = rest;
             joined = is;
             turns = sym all;
-            started = begun_in (suspicion ∷ before) refl 0 (a.empty ∙ ap (λ (ls : List (Letter ControllerSays)). numbered 0 (actor.Controller 0) (sealed_letters controller_message scene.sealing ls)) (sym none));
+            started = begun_in (suspicion ∷ before) refl 0 (a.empty ∙ ap (λ (ls : List (Letter ControllerSays)). numbered 0 (actor.Controller 0) (sealed_letters controller_message scene.sealing ls)) (sym none))
+                (ap (map (content scene.sealing)) a.empty ∙ ap (map (λ (l : Letter ControllerSays). unsealed.Message (controller_message l.body))) (sym none));
+            covered = own_covered;
+            unchanged = λ t. walking.switches_stay scene results setup faithful w quorum small before a.saves 0 suspicion before refl t;
+            posted = nothing;
+            phase = Suspecting w quorum [];
+            drains = Last_suspects;
+            goes_on = goes_behind (suspicion ∷ before) rest refl (subst (λ (x : Phase). ClosesTo scene results x (suspicion ∷ before) rest last) phase_is closes);
           }
       by_next (walking.Posting whose number letters lost more rest_is input) =
           let own : whose ≡ actor.Controller 0 = walking.poster scene results setup faithful w quorum small before a.saves (suspicion ∷ before) before suspicion 0 whose refl refl input in
@@ -174,7 +207,18 @@ module _ {B : Type 0} (scene : Scene B) (results : List (List SaveResult)) (befo
             started = begun_in (it ∷ (suspicion ∷ before)) (walking.posted_holds scene results setup faithful w quorum small before a.saves 0 number letters lost (suspicion ∷ before) 0).0 number
                 (walking.pool_grows scene results setup faithful w quorum small before a.saves 0 number letters lost (suspicion ∷ before) after fit
                 ∙ ap (λ (ps : List (Packet B)). ps ++ numbered number (actor.Controller 0) (sealed_letters controller_message scene.sealing (at scene results 0 (suspicion ∷ before)).owed)) a.empty
-                ∙ ap (λ (ls : List (Letter ControllerSays)). numbered number (actor.Controller 0) (sealed_letters controller_message scene.sealing ls)) turn.owed);
+                ∙ ap (λ (ls : List (Letter ControllerSays)). numbered number (actor.Controller 0) (sealed_letters controller_message scene.sealing ls)) turn.owed)
+                (walking.says_posted scene results setup faithful w quorum small before a.saves 0 number letters lost (suspicion ∷ before) after fit a.empty
+                ∙ ap (map (λ (l : Letter ControllerSays). unsealed.Message (controller_message l.body))) turn.owed);
+            covered = own_covered;
+            unchanged = λ t. walking.switches_stay scene results setup faithful w quorum small before a.saves 0 it (suspicion ∷ before) refl t
+                ∙ walking.switches_stay scene results setup faithful w quorum small before a.saves 0 suspicion before refl t;
+            posted = walking.posted_all scene results setup faithful w quorum small before a.saves 0 number letters lost (suspicion ∷ before);
+            phase = Suspecting w quorum [];
+            drains = Last_suspects;
+            goes_on = goes_behind (it ∷ (suspicion ∷ before)) more (walking.posted_holds scene results setup faithful w quorum small before a.saves 0 number letters lost (suspicion ∷ before) 0).0
+                (subst (λ (l : List (JournalEntry B)). ClosesTo scene results (after_member w (at scene results 0 (suspicion ∷ before)).now (Suspecting w quorum [])) (suspicion ∷ before) l last) split
+                (subst (λ (x : Phase). ClosesTo scene results x (suspicion ∷ before) rest last) phase_is closes)).1;
           }
 
   first_takes : next_move scene results (Suspecting w quorum quorum) before ≡ Takes suspicion (Suspecting w quorum [])
@@ -190,7 +234,7 @@ module _ {B : Type 0} (scene : Scene B) (results : List (List SaveResult)) (befo
       let whole = ap (λ (l : List (JournalEntry B)). count_turns l) joined in
       let front = begun.turns_first (suspicion ∷ []) rest in
       record {
-        starts = λ enough. starts_now rest (after_move scene results suspicion before next) joined closes';
+        starts = λ enough. starts_now rest (after_move scene results suspicion before next) joined (ap (λ (x : Phase). after_move scene results suspicion before x) m.1) closes';
         goes_on = λ less answer end. absurd (omega (arith, all, less, whole, front));
       }
 

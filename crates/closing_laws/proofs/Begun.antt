@@ -19,13 +19,13 @@ use Rattle.vr_log.specs.Members.{is_up, others_below}
 use Rattle.group_controller.specs.State.{ControllerState}
 use Rattle.rv_runs.specs.States.{Scene, IsFaithful}
 use Rattle.rv_runs.specs.Legal.{IsPossible, results_of}
-use Rattle.rv_runs.specs.Committed.{controller_state, states_of, members_up}
-use Rattle.rv_runs.specs.Schedule.{Answer, Phase, Losing, Suspecting, Move, Ends, NoQuorum, ClosesTo, IsEnd, IsInputOf, IsMove, IsPosted, count_turns, is_turn, majority, next_move, next_lost, next_suspicion}
+use Rattle.rv_runs.specs.Committed.{controller_state, switch_state, states_of, members_up}
+use Rattle.rv_runs.specs.Schedule.{Answer, Phase, Losing, Suspecting, Draining, Move, Ends, NoQuorum, ClosesTo, IsEnd, IsInputOf, IsMove, IsPosted, after_member, count_turns, is_turn, majority, next_move, next_lost, next_suspicion}
 use Rattle.rv_laws.proofs.Members.{owned_at}
 use Rattle.closing_laws.specs.Quorum.{has, IsQuorum}
 use Rattle.closing_laws.specs.Draining.{Group, all_suspected, resting}
 use Rattle.closing_laws.specs.Views.{HasBest, IsCovered, IsMember, in_view, lacks, turns_to_start}
-use Rattle.closing_laws.specs.Starts.{FindRoom, HasStartedIn, IsAttempt, StartsInTime, members_at, quorum_after, turns_after, view_after}
+use Rattle.closing_laws.specs.Starts.{FindRoom, HasStartedIn, IsAttempt, StartsInTime, Drains, members_at, quorum_after, turns_after, view_after}
 use Rattle.closing_laws.proofs.Numbers.{Once, filter_has}
 use Rattle.closing_laws.proofs.Covering.{covered}
 use Rattle.closing_laws.proofs.Pasts as pasts
@@ -38,7 +38,7 @@ use Rattle.closing_laws.proofs.Walking.{later, later_is}
 use Rattle.closing_laws.proofs.Walking as walking
 
 -- what holds of all that a range gives
-all_range : {X : Type 0} (f : ℕ → X) (P : X → Type 0) (a n : ℕ) → AllByRecursion P (map f (range_with_len a n)) → (j : ℕ) → a ≤ j → j < a + n → P (f j)
+pub all_range : {X : Type 0} (f : ℕ → X) (P : X → Type 0) (a n : ℕ) → AllByRecursion P (map f (range_with_len a n)) → (j : ℕ) → a ≤ j → j < a + n → P (f j)
 all_range f P a zero all j low high = absurd (omega (arith, low, high))
 all_range f P a (suc n) all j low high = elim (cases_eq a j) [
   | inl e ↦ subst (λ (k : ℕ). P (f k)) e all.0
@@ -48,7 +48,7 @@ all_range f P a (suc n) all j low high = elim (cases_eq a j) [
 pub counts_append : {B : Type 0} (first rest : List (JournalEntry B)) → count_turns (first ++ rest) ≡ count_turns first + count_turns rest
 counts_append {B = B} first rest = sum_by-append (λ (x : JournalEntry B). cond (is_turn x) 1 0) first rest
 
-later_append : {B : Type 0} (P first rest : List (JournalEntry B)) → later P (first ++ rest) ≡ later (later P first) rest
+pub later_append : {B : Type 0} (P first rest : List (JournalEntry B)) → later P (first ++ rest) ≡ later (later P first) rest
 later_append P [] rest = refl
 later_append P (e ∷ first) rest = later_append (e ∷ P) first rest
 
@@ -140,7 +140,7 @@ module _ {B : Type 0} (scene : Scene B) (results : List (List SaveResult)) (befo
 
     start_stands : walking.Stands scene results setup faithful w quorum quorum_is.members before a.saves before (resting start)
     start_stands = record {
-      holds = record { members = λ c lt. refl; saves = λ c. omega arith };
+      holds = record { members = λ c lt. refl; saves = λ c. omega arith; switches = λ t. refl };
       carries = subst (λ (ps : List (Packet B)). AllCarry scene results ps []) (sym a.empty) tt;
       posted = a.rests;
     }
@@ -205,8 +205,10 @@ module _ {B : Type 0} (scene : Scene B) (results : List (List SaveResult)) (befo
       }
 
       -- and where it did
-      it_starts : (second more : List (JournalEntry B)) → rest ≡ second ++ more → entered_group.turns + count_turns second ≡ turns → HasStartedIn scene results w quorum start best (later P1 second) → StartsInTime scene results before entries x best
-      it_starts second more rest_is in_all started =
+      it_starts : (second more : List (JournalEntry B)) → rest ≡ second ++ more → entered_group.turns + count_turns second ≡ turns → HasStartedIn scene results w quorum start best (later P1 second) →
+          ((t : ℕ) → switch_state scene t (later P1 second) ≡ switch_state scene t before) → IsPosted scene results (later P1 second) →
+          ClosesTo scene results (after_member w (controller_state scene results (w % n) (later P1 second)) (Draining w quorum)) (later P1 second) more x → StartsInTime scene results before entries x best
+      it_starts second more rest_is in_all started unchanged posted goes_then =
           let joined : entries ≡ (first ++ second) ++ more = is ∙ ap (λ (l : List (JournalEntry B)). first ++ l) rest_is ∙ sym (append_assoc first second more) in
           let parts = counts_append first second in
           let whole = ap (λ (l : List (JournalEntry B)). count_turns l) joined in
@@ -218,6 +220,14 @@ module _ {B : Type 0} (scene : Scene B) (results : List (List SaveResult)) (befo
               joined = joined;
               turns = omega (arith, parts, counted, in_all);
               started = subst (λ (l : List (JournalEntry B)). HasStartedIn scene results w quorum start best l) (sym (later_append before first second) ∙ later_is before (first ++ second)) started;
+              covered = is_covered;
+              unchanged = λ t. subst (λ (l : List (JournalEntry B)). switch_state scene t l ≡ switch_state scene t before) (sym (later_append before first second) ∙ later_is before (first ++ second)) (unchanged t);
+              posted = subst (λ (l : List (JournalEntry B)). IsPosted scene results l) (sym (later_append before first second) ∙ later_is before (first ++ second)) posted;
+              phase = Draining w quorum;
+              drains = Drains;
+              goes_on =
+                  subst (λ (l : List (JournalEntry B)). ClosesTo scene results (after_member w (controller_state scene results (w % n) l) (Draining w quorum)) l more x)
+                  (sym (later_append before first second) ∙ later_is before (first ++ second)) goes_then;
             };
             goes_on = λ less answer end. absurd (omega (arith, parts, counted, in_all, whole, front, less));
           }
@@ -232,7 +242,7 @@ module _ {B : Type 0} (scene : Scene B) (results : List (List SaveResult)) (befo
         split2 = ap (later P1) rest_is ∙ later_append P1 second more
 
         last_part : (((answer : Answer) → IsEnd (next_move scene results x (later P2 more)) answer → ⊥) × (more ≡ [])) ⊎
-            walking.Begun scene results setup faithful w quorum quorum_is.members before a.saves z start best way.2 (ready (w % n) quorum_is.primary) quorum_is.primary P2 more → StartsInTime scene results before entries x best
+            walking.Begun scene results setup faithful w quorum quorum_is.members before a.saves z start best way.2 (ready (w % n) quorum_is.primary) quorum_is.primary P2 more x → StartsInTime scene results before entries x best
         last_part (inl none) =
             let parts = ap (λ (l : List (JournalEntry B)). count_turns l) rest_is ∙ counts_append second more in
             let empty : count_turns more ≡ 0 = ap (λ (l : List (JournalEntry B)). count_turns l) none.1 in
@@ -245,6 +255,9 @@ module _ {B : Type 0} (scene : Scene B) (results : List (List SaveResult)) (befo
             it_starts (second ++ begun.first) begun.rest (rest_is ∙ ap (λ (l : List (JournalEntry B)). second ++ l) begun.joined ∙ sym (append_assoc second begun.first begun.rest))
             (omega (arith, parts, one, all, so_far))
             (subst (λ (l : List (JournalEntry B)). HasStartedIn scene results w quorum start best l) (sym (later_append P1 second begun.first)) begun.started)
+            (λ t. subst (λ (l : List (JournalEntry B)). switch_state scene t l ≡ switch_state scene t before) (sym (later_append P1 second begun.first)) (begun.unchanged t))
+            (subst (λ (l : List (JournalEntry B)). IsPosted scene results l) (sym (later_append P1 second begun.first)) begun.posted)
+            (subst (λ (l : List (JournalEntry B)). ClosesTo scene results (after_member w (controller_state scene results (w % n) l) (Draining w quorum)) l begun.rest x) (sym (later_append P1 second begun.first)) begun.goes_on)
 
         at_last : StartsInTime scene results before entries x best
         at_last =
@@ -284,8 +297,10 @@ module _ {B : Type 0} (scene : Scene B) (results : List (List SaveResult)) (befo
         by_entries [] is =
             let still : last ≡ Losing = subst (λ (l : List (JournalEntry B)). ClosesTo scene results Losing before l last) is a.closes in
             let r = from_suspicions (Suspecting w quorum quorum) (subst (λ (l : List (JournalEntry B)). ClosesTo scene results (Suspecting w quorum quorum) before l (Suspecting w quorum quorum)) (sym is) refl) in
+            let none : count_turns entries ≡ 0 = ap (λ (l : List (JournalEntry B)). count_turns l) is in
+            let more = long (n / 2) (lacks (w % n) start best) several in
             record {
-              starts = r.starts;
+              starts = λ enough. absurd (omega (arith, none, more, enough));
               goes_on = λ less answer end. r.goes_on less answer
                   (subst (λ (l : List (JournalEntry B)). IsEnd (next_move scene results (Suspecting w quorum quorum) (reverse l ++ before)) answer) (sym is)
                   (subst (λ (v : Move B). IsEnd v answer) (first_move a.empty)

@@ -48,6 +48,16 @@ filter_has t (x ∷ xs) j h = elim (kept_by t x j xs (t x) refl h) [
   | inr k ↦ (or_left (nat_eq x j) (has xs j) (eq-eqb x j k.0), ap t (sym k.0) ∙ k.1)
 ]
 
+pub filter_in : (t : ℕ → Bool) (xs : List ℕ) (j : ℕ) → has xs j ≡ true → t j ≡ true → has (filter t xs) j ≡ true
+filter_in t [] j h k = absurd (true≢false (sym h))
+filter_in t (x ∷ xs) j h k = by_first (or_cases (nat_eq x j) (has xs j) h) (t x) refl (λ i. filter_in t xs j i k)
+  where
+    by_first : (nat_eq x j ≡ true) ⊎ (has xs j ≡ true) → (b : Bool) → t x ≡ b → (has xs j ≡ true → has (filter t xs) j ≡ true) → has (if b then x ∷ filter t xs else filter t xs) j ≡ true
+    by_first (inl e) true is rest = or_left (nat_eq x j) (has (filter t xs) j) e
+    by_first (inl e) false is rest = absurd (no_both (t j) k (ap t (sym (eqb-true x j e)) ∙ is))
+    by_first (inr i) true is rest = has_later x j (filter t xs) (rest i)
+    by_first (inr i) false is rest = rest i
+
 pub filter_none : (t : ℕ → Bool) (xs : List ℕ) (j : ℕ) → has xs j ≡ false → has (filter t xs) j ≡ false
 filter_none t xs j h = by_value (has (filter t xs) j) refl
   where

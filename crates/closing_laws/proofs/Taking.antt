@@ -64,7 +64,7 @@ changing_not_normal s e = by_status s.status e
 pub changing_leads_not : (s : VrState) → is_changing s ≡ true → leads s ≡ false
 changing_leads_not s e = ap (λ (b : Bool). b && is_primary s) (changing_not_normal s e)
 
-up_not_down : (c : ControllerState) → is_up c.vr ≡ true → is_down c ≡ false
+pub up_not_down : (c : ControllerState) → is_up c.vr ≡ true → is_down c ≡ false
 up_not_down c e = by_status c.vr.status e
   where
     by_status : (x : Status) → (elim x [ status.Normal ↦ true | status.ViewChange ↦ true | status.Recovering ↦ false | status.Down ↦ false ]) ≡ true →
@@ -107,7 +107,7 @@ Succeeds results from = (i : ℕ) → from ≤ i → slice_index_or results i Sa
 abbrev Took : ControllerAt → Work → ControllerAt → Type 0
 Took w work t = (t.now ≡ work.state) × (t.owed ≡ work.letters) × (w.saves ≤ t.saves)
 
-took_saved : (results : List SaveResult) (w : ControllerAt) (work : Work) → Succeeds results w.saves → Took w work (controller_took results w work)
+pub took_saved : (results : List SaveResult) (w : ControllerAt) (work : Work) → Succeeds results w.saves → Took w work (controller_took results w work)
 took_saved results w work all = by_save work.save
   where
     by_save : (q : Option (ℕ × ℕ)) → Took w work (elim q [

@@ -1,6 +1,6 @@
 -- The members of a quorum suspect a view, and it starts.
 use Rattle.std.proofs.Common.{◌≡◌, ◌≤◌, ◌<◌, ◌⊎◌, inl, inr, ℕ, ◌+◌, ◌/◌, ◌%◌, Bool, true, false, List, [], ◌∷◌, ◌++◌, length, map, take, drop, refl, sym, ◌∙◌, ap, subst, arith, append-nil, append_assoc}
-use Rattle.std.specs.Prelude.{not, nat_eq, nat_le, ◌&&◌, ◌||◌, filter, max, Some, None, if◌then◌else◌}
+use Rattle.std.specs.Prelude.{not, nat_eq, nat_le, ◌&&◌, ◌||◌, max, Some, None, if◌then◌else◌}
 use Rattle.std.proofs.lemmas.Bool.{eq-eqb, ne_eqb, eqb-true, eqb-false, le-leb, lt-leb, ltb-true, ltb-false, or_left, or_right, or_cases, or_parts, and_right, true≢false, cases_lt}
 use Rattle.std.proofs.lemmas.List.{length-map, length-take-le, length-drop}
 use Rattle.vr_log.specs.declared.entry.Entry.{Entry}
@@ -21,7 +21,7 @@ use Rattle.closing_laws.specs.Views.{IsMember, in_view, voting, log_of, behind, 
 use Rattle.closing_laws.proofs.Words.{call, all_calls, all_packets, times, log_sent, IsChosen}
 use Rattle.closing_laws.proofs.Picked.{IsPicked, picked_of_quorum}
 use Rattle.closing_laws.proofs.Members.{suspects, guard_open, sound_here, entries_same}
-use Rattle.closing_laws.proofs.Numbers.{Once, has_here, has_later, no_both, filter_has, filter_once, others_but_one}
+use Rattle.closing_laws.proofs.Numbers.{Once, has_here, has_later, no_both, filter_has, filter_in, filter_once, others_but_one}
 use Rattle.closing_laws.proofs.Calls.{After, AreChanging, after_on, after_first, one_drawn, held}
 use Rattle.closing_laws.proofs.Turns.{turns_are}
 use Rattle.closing_laws.proofs.Paths.{IsLast, Path, Suspects, of_drains}
@@ -30,7 +30,7 @@ use Rattle.closing_laws.proofs.Starting.{IsBest, Holds, best_found, joined_log, 
 use Rattle.closing_laws.proofs.Collecting.{votes_of, leader, its_turn, its_group, gathered, led, led_changing, led_first, log_heard, BeforeLast, collect_last, before_last}
 
 -- the order in which logs are told has each member once
-last_has : (turned xs : List ℕ) (j : ℕ) → has (last_first turned xs) j ≡ (has turned j || has xs j)
+pub last_has : (turned xs : List ℕ) (j : ℕ) → has (last_first turned xs) j ≡ (has turned j || has xs j)
 last_has turned [] j = behind_has turned [] j
 last_has turned (c ∷ []) j = ap (λ (b : Bool). nat_eq c j || b) (behind_has turned [] j) ∙ moved (nat_eq c j) (has turned j)
   where
@@ -64,7 +64,7 @@ last_once turned (c ∷ []) once =
 last_once turned (c ∷ (d ∷ more)) once = last_once (c ∷ turned) (d ∷ more) once
 
 -- the greatest commit number of logs that a list covers
-greatest_within : (start : ℕ → VrState) (xs : List ℕ) (k most : ℕ) → k ≤ most → ((j : ℕ) → has xs j ≡ true → (start j).commit ≤ most) → greatest_commit k (map (log_of start) xs) ≤ most
+pub greatest_within : (start : ℕ → VrState) (xs : List ℕ) (k most : ℕ) → k ≤ most → ((j : ℕ) → has xs j ≡ true → (start j).commit ≤ most) → greatest_commit k (map (log_of start) xs) ≤ most
 greatest_within start [] k most le all = le
 greatest_within start (x ∷ xs) k most le all =
     let first = all x (has_here x xs) in
@@ -109,16 +109,6 @@ module _ (n w : ℕ) (quorum : List ℕ) (start : ℕ → VrState) (ready : (j :
 
   own_is : own_log (start (w % n)) ≡ log_of start (w % n)
   own_is = ap (λ (k : ℕ). record { from = k; normal = (start (w % n)).normal; commit = (start (w % n)).commit; log = drop (start (w % n)).commit (start (w % n)).log }) (leader n w quorum start ready q group).me
-
-  filter_in : (t : ℕ → Bool) (xs : List ℕ) (j : ℕ) → has xs j ≡ true → t j ≡ true → has (filter t xs) j ≡ true
-  filter_in t [] j h k = absurd (true≢false (sym h))
-  filter_in t (x ∷ xs) j h k = by_first (or_cases (nat_eq x j) (has xs j) h) (t x) refl (λ i. filter_in t xs j i k)
-    where
-      by_first : (nat_eq x j ≡ true) ⊎ (has xs j ≡ true) → (b : Bool) → t x ≡ b → (has xs j ≡ true → has (filter t xs) j ≡ true) → has (if b then x ∷ filter t xs else filter t xs) j ≡ true
-      by_first (inl e) true is rest = or_left (nat_eq x j) (has (filter t xs) j) e
-      by_first (inl e) false is rest = absurd (no_both (t j) k (ap t (sym (eqb-true x j e)) ∙ is))
-      by_first (inr i) true is rest = has_later x j (filter t xs) (rest i)
-      by_first (inr i) false is rest = rest i
 
   in_bs : (j : ℕ) → has quorum j ≡ true → nat_eq (w % n) j ≡ false → has bs j ≡ true
   in_bs j member other = filter_in (λ x. not (nat_eq (w % n) x)) (last_first [] quorum) j (last_has [] quorum j ∙ member) (ap not other)

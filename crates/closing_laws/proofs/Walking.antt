@@ -15,8 +15,8 @@ use Rattle.rv_base.specs.declared.journal.Local.TheVariants as local
 use Rattle.rv_base.specs.declared.journal.Packet.{Packet}
 use Rattle.rv_base.specs.declared.journal.SaveResult.{SaveResult}
 use Rattle.rv_base.specs.declared.journal.SaveResult.TheVariants.{Saved}
-use Rattle.rv_base.specs.Actors.{actor_of}
-use Rattle.rv_base.specs.Part.{packet_of, part}
+use Rattle.rv_base.specs.Actors.{actor_of, same_actor}
+use Rattle.rv_base.specs.Part.{drawn, packet_of, part}
 use Rattle.rv_base.specs.Pool.{pool, numbered, letters_posted, without}
 use Rattle.rv_base.proofs.Pools.{Rising, Rising-pool}
 use Rattle.vr_log.specs.declared.message.VrLetter.{VrLetter}
@@ -33,6 +33,8 @@ use Rattle.group_controller.specs.declared.messages.ControllerSays.{ControllerSa
 use Rattle.group_controller.specs.State.{ControllerState, Work, stepped, to_members, with_no_met_limit}
 use Rattle.group_controller.specs.Rules.{after_step, controller_work}
 use Rattle.rv_runs.specs.declared.messages.Unsealed.{Unsealed}
+use Rattle.rv_runs.specs.declared.messages.Unsealed.TheVariants as unsealed
+use Rattle.rv_runs.specs.Committed.{switch_state}
 use Rattle.rv_runs.specs.Messages.{FitsMessage}
 use Rattle.rv_runs.specs.States.{Scene, IsFaithful, ControllerAt, content, controller_hears, controller_message, sealed_letters, switch_at, switch_message}
 use Rattle.rv_runs.specs.Legal.{Fits, IsPossible, IsSoundSwitch, results_of}
@@ -48,6 +50,7 @@ use Rattle.closing_laws.specs.Quorum.{has}
 use Rattle.closing_laws.specs.Draining.{Flight, Group, flown, suspected, took}
 use Rattle.closing_laws.specs.Views.{IsMember, log_of, started_with, tellers}
 use Rattle.closing_laws.specs.Starts.{FindRoom, HasStartedIn, SavesSucceed, starting_turn}
+use Rattle.closing_laws.proofs.Carrying.{letters_read, ordered_may}
 use Rattle.closing_laws.proofs.Paths.{IsLast, Path, Arrives, Suspects, Draws, Loses, hears, path_turns}
 use Rattle.closing_laws.proofs.Taking.{AllCarry, By_message, By_suspicion, HeadOf, TurnOf, all_fit, at, carry_both, changing_leads_not, changing_up, finds_head, head_of, leaves_head, member_work, others_stay, own_steps, posts_carry, quiet_work, starting_work, turn_draw, turn_local}
 
@@ -84,10 +87,16 @@ module _ {B : Type 0} (scene : Scene B) (results : List (List SaveResult)) (setu
   possible_under [] P h = h
   possible_under (e ∷ rest) P h = possible_before scene results e P (possible_under rest (e ∷ P) h)
 
-  -- the controllers hold these members
+  -- an entry of a controller leaves the switches as they are
+  pub switches_stay : (m : ℕ) (e : JournalEntry B) (P : List (JournalEntry B)) → actor_of e ≡ actor.Controller m → (t : ℕ) → switch_state scene t (e ∷ P) ≡ switch_state scene t P
+  switches_stay m e P whose t =
+      ap (λ (a : Actor). (switch_at scene t (if same_actor a (actor.Switch t) then (e, drawn e P) ∷ part (actor.Switch t) P else part (actor.Switch t) P)).now) whose
+
+  -- the controllers hold these members, and the switches are as before
   pub record Holds (P : List (JournalEntry B)) (g : Group) : Type 0 where
     pub members : (c : ℕ) → c < scene.setup.controllers → (at scene results c P).now.vr ≡ g.at c
     pub saves : (c : ℕ) → (at scene results c before).saves ≤ (at scene results c P).saves
+    pub switches : (t : ℕ) → switch_state scene t P ≡ switch_state scene t before
 
   -- and what waits is what waits between them. All was posted
   pub record Stands (P : List (JournalEntry B)) (g : Group) : Type 0 where
@@ -148,7 +157,7 @@ module _ {B : Type 0} (scene : Scene B) (results : List (List SaveResult)) (setu
     abbrev after_post : ControllerAt
     after_post = record (at scene results m P) { owed = []; fresh = false }
 
-    posted_own : at scene results m (post ∷ P) ≡ after_post
+    pub posted_own : at scene results m (post ∷ P) ≡ after_post
     posted_own = own_steps scene results m post P refl
 
     -- a post changes nobody
@@ -173,6 +182,16 @@ module _ {B : Type 0} (scene : Scene B) (results : List (List SaveResult)) (setu
       pub pool_grows : pool (post ∷ P) ≡ pool P ++ numbered first (actor.Controller m) (sealed_letters controller_message scene.sealing (at scene results m P).owed)
       pool_grows = ap (λ (l : List (Packet B)). pool P ++ l) (all_fit first (actor.Controller m) letters lost room ∙ ap (numbered first (actor.Controller m)) letters_are)
 
+      -- what was owed can be read
+      pub says_posted : pool P ≡ [] → map (content scene.sealing) (pool (post ∷ P)) ≡ map (λ (l : Letter ControllerSays). unsealed.Message (controller_message l.body)) (at scene results m P).owed
+      says_posted empty =
+          let old = possible_before scene results post P possible in
+          let holds = (always scene results setup faithful P old 0).controllers m (possible.named.0) in
+          ap (map (content scene.sealing))
+          (pool_grows ∙ ap (λ (ps : List (Packet B)). ps ++ numbered first (actor.Controller m) (sealed_letters controller_message scene.sealing (at scene results m P).owed)) empty)
+          ∙ letters_read scene.sealing faithful controller_message (actor.Controller m) first (at scene results m P).owed (λ l among. ordered_may scene.kinds scene.setup _ m l (holds.owed l among))
+          (fits scene results post P possible m (self_controller m)).2
+
       pub stands_posted : (g : Group) (vs : List VrLetter) (waiting : List Flight) → m < scene.setup.controllers → (at scene results m P).owed ≡ to_members vs → AllCarry scene results (pool P) waiting →
           g.pool ≡ waiting ++ map (flown m) vs → Holds P g → Stands (post ∷ P) g
       stands_posted g vs waiting there owed carries is holds =
@@ -189,13 +208,14 @@ module _ {B : Type 0} (scene : Scene B) (results : List (List SaveResult)) (setu
             holds = record {
               members = λ c lt. ap (λ (x : ControllerState). x.vr) (posted_holds c).0 ∙ holds.members c lt;
               saves = λ c. let same = (posted_holds c).1 in let low = holds.saves c in omega (arith, same, low);
+              switches = λ t. switches_stay m post P refl t ∙ holds.switches t;
             };
             carries = subst (λ (ps : List (Packet B)). AllCarry scene results ps g.pool) (sym grown) (subst (λ (fs : List Flight). AllCarry scene results (pool P ++ numbered first (actor.Controller m) (sealed_letters controller_message scene.sealing (to_members vs))) fs) (sym is) all);
             posted = posted_all;
           }
 
   -- one that owes nothing posts nothing
-  switch_fits : (m first : ℕ) (letters : List (Letter B)) (lost : ℕ) (P : List (JournalEntry B)) → IsPossible scene results (Post (actor.Switch m) first letters lost ∷ P) →
+  pub switch_fits : (m first : ℕ) (letters : List (Letter B)) (lost : ℕ) (P : List (JournalEntry B)) → IsPossible scene results (Post (actor.Switch m) first letters lost ∷ P) →
       Fits switch_message scene.sealing (switch_at scene m (part (actor.Switch m) P)).owed (part (actor.Switch m) P) (Post (actor.Switch m) first letters lost)
   switch_fits m first letters lost P possible =
       elim (switch_after scene m (Post (actor.Switch m) first letters lost) P) [
@@ -231,6 +251,7 @@ module _ {B : Type 0} (scene : Scene B) (results : List (List SaveResult)) (setu
     took_holds waiting = record {
       members = λ c lt. member c (nat_eq c m) refl (holds.members c lt);
       saves = λ c. saved c (nat_eq c m) refl (holds.saves c);
+      switches = λ t. switches_stay m e P whose t ∙ holds.switches t;
     }
       where
         member : (c : ℕ) (b : Bool) → nat_eq c m ≡ b → (at scene results c P).now.vr ≡ g.at c → (at scene results c (e ∷ P)).now.vr ≡ (if b then step.state else g.at c)
@@ -267,8 +288,8 @@ module _ {B : Type 0} (scene : Scene B) (results : List (List SaveResult)) (setu
         (ap (λ (x : ControllerState). is_up x.vr) turn.now ∙ changing_up step.state changes) (ap (λ (x : ControllerState). x.full) turn.now)
 
   -- which saves succeed
-  pub still_succeed : (P : List (JournalEntry B)) (g : Group) → Holds P g → (m i : ℕ) → (at scene results m P).saves ≤ i → slice_index_or (results_of results m) i Saved ≡ Saved
-  still_succeed P g holds m i le = let low = holds.saves m in succeed m i (omega (arith, low, le))
+  pub still_succeed : (P : List (JournalEntry B)) (g : Group) → Holds P g → (m : ℕ) → m < scene.setup.controllers → (i : ℕ) → (at scene results m P).saves ≤ i → slice_index_or (results_of results m) i Saved ≡ Saved
+  still_succeed P g holds m there i le = let low = holds.saves m in succeed m i there (omega (arith, low, le))
 
   -- where a closing stands, and who is still to suspect
   pub data PhaseOf : Phase → List ℕ → Type 0 where
@@ -340,7 +361,7 @@ module _ {B : Type 0} (scene : Scene B) (results : List (List SaveResult)) (setu
           (member_work scene.kinds scene.setup c (controller_input.Local (local.Suspect w)) (vr_input.Suspect w) (By_suspicion w) (ap is_up holds_it ∙ up)
           ∙ ap (λ (s : VrState). after_step scene.kinds scene.setup (with_no_met_limit c) (vr_step s (vr_input.Suspect w))) holds_it
           ∙ quiet_work scene.kinds scene.setup (with_no_met_limit c) step_of_it changes)
-          (turn_local scene results m w P (still_succeed P g stands.holds m))
+          (turn_local scene results m w P (still_succeed P g stands.holds m (small m member)))
 
       suspects_goes : Path w quorum z ms (suspected g w m) → Here rest P last suspicion (Suspecting w quorum ms) → ((P' : List (JournalEntry B)) → Again rest last P') → Outcome P g (suspicion ∷ rest) last
       suspects_goes path here again =
@@ -384,10 +405,10 @@ module _ {B : Type 0} (scene : Scene B) (results : List (List SaveResult)) (setu
       abbrev draw : JournalEntry B
       draw = Draw (actor.Controller f.to) h.packet.id false
 
-      draw_turn : (g : Group) → Stands P g → TurnOf scene results f.to draw P (controller_work scene.kinds scene.setup (at scene results f.to P).now (controller_input.Vr f.from f.message))
-      draw_turn g stands =
+      draw_turn : (g : Group) → Stands P g → has quorum f.to ≡ true → TurnOf scene results f.to draw P (controller_work scene.kinds scene.setup (at scene results f.to P).now (controller_input.Vr f.from f.message))
+      draw_turn g stands member =
           subst (λ (x : ControllerInput). TurnOf scene results f.to draw P (controller_work scene.kinds scene.setup (at scene results f.to P).now x)) heard_head
-          (turn_draw scene results f.to h.packet P found_head (still_succeed P g stands.holds f.to))
+          (turn_draw scene results f.to h.packet P found_head (still_succeed P g stands.holds f.to (small f.to member)))
 
       drawn_work : (g : Group) → Stands P g → has quorum f.to ≡ true → is_changing (g.at f.to) ≡ true →
           controller_work scene.kinds scene.setup (at scene results f.to P).now (controller_input.Vr f.from f.message) ≡
@@ -404,7 +425,7 @@ module _ {B : Type 0} (scene : Scene B) (results : List (List SaveResult)) (setu
           let c = (at scene results f.to P).now in
           let turn : TurnOf scene results f.to draw P (stepped (with_no_met_limit c) (hears g f)) =
           subst (λ (x : Work). TurnOf scene results f.to draw P x)
-          (drawn_work g stands member changing ∙ quiet_work scene.kinds scene.setup (with_no_met_limit c) (hears g f) changes) (draw_turn g stands) in
+          (drawn_work g stands member changing ∙ quiet_work scene.kinds scene.setup (with_no_met_limit c) (hears g f) changes) (draw_turn g stands member) in
           let same = took_stays f.to draw P g (hears g f) (small f.to member) refl stands.holds turn (Draining w quorum) changes in
           let possible = possible_before scene results draw P (possible_under rest (draw ∷ P) here.1) in
           let carries : AllCarry scene results (pool (draw ∷ P)) waiting = subst (λ (ps : List (Packet B)). AllCarry scene results ps waiting) (sym (left_head possible)) h.others in
@@ -428,6 +449,7 @@ module _ {B : Type 0} (scene : Scene B) (results : List (List SaveResult)) (setu
             holds = record {
               members = λ c lt. member c (nat_eq f.to c) refl own (stands.holds.members c lt);
               saves = λ c. saved c (nat_eq f.to c) refl own (stands.holds.saves c);
+              switches = λ t. switches_stay f.to loss P refl t ∙ stands.holds.switches t;
             };
             carries = subst (λ (ps : List (Packet B)). AllCarry scene results ps waiting) (sym (left_head possible)) h.others;
             posted = ap (λ (x : ControllerAt). sealed_letters controller_message scene.sealing x.owed) own ∙ ap (sealed_letters controller_message scene.sealing) owed;
@@ -532,12 +554,15 @@ module _ {B : Type 0} (scene : Scene B) (results : List (List SaveResult)) (setu
     none_carried (p ∷ ps) h = absurd h
 
     -- the first entries bring the view to its start
-    pub record Begun (P : List (JournalEntry B)) (entries : List (JournalEntry B)) : Type 0 where
+    pub record Begun (P : List (JournalEntry B)) (entries : List (JournalEntry B)) (last : Phase) : Type 0 where
       pub first : List (JournalEntry B)
       pub rest : List (JournalEntry B)
       pub joined : entries ≡ first ++ rest
       pub one : count_turns first ≡ 1
       pub started : HasStartedIn scene results w quorum start best (later P first)
+      pub unchanged : (t : ℕ) → switch_state scene t (later P first) ≡ switch_state scene t before
+      pub posted : IsPosted scene results (later P first)
+      pub goes_on : ClosesTo scene results (after_member w (at scene results (w % m) (later P first)).now (Draining w quorum)) (later P first) rest last
 
     module _ (P : List (JournalEntry B)) (h : HeadOf scene results (pool P) last_flight []) (stands : Stands P z) where
       abbrev start_draw : JournalEntry B
@@ -553,7 +578,7 @@ module _ {B : Type 0} (scene : Scene B) (results : List (List SaveResult)) (setu
           (drawn_work z last_flight [] P h z stands leads_it changing
           ∙ ap (after_step scene.kinds scene.setup (with_no_met_limit c)) ends.starts
           ∙ starting_work scene.kinds scene.setup (with_no_met_limit c) (tells_start started_member) before_not now)
-          (draw_turn z last_flight [] P h z stands)
+          (draw_turn z last_flight [] P h z stands leads_it)
 
       stays_there : (c : ℕ) → nat_eq c (w % m) ≡ false → c < m → (at scene results c (start_draw ∷ P)).now.vr ≡ z.at c
       stays_there c other lt =
@@ -567,8 +592,9 @@ module _ {B : Type 0} (scene : Scene B) (results : List (List SaveResult)) (setu
 
       -- where the controllers are as after the draw
       begun_in : (Q : List (JournalEntry B)) → ((c : ℕ) → (at scene results c Q).now ≡ (at scene results c (start_draw ∷ P)).now) → (number : ℕ) →
-          pool Q ≡ numbered number (actor.Controller (w % m)) (sealed_letters controller_message scene.sealing turn_work.letters) → HasStartedIn scene results w quorum start best Q
-      begun_in Q same number waits = record {
+          pool Q ≡ numbered number (actor.Controller (w % m)) (sealed_letters controller_message scene.sealing turn_work.letters) →
+          map (content scene.sealing) (pool Q) ≡ map (λ (l : Letter ControllerSays). unsealed.Message (controller_message l.body)) turn_work.letters → HasStartedIn scene results w quorum start best Q
+      begun_in Q same number waits says = record {
         voters = ends.voters;
         promise = None;
         turn = turn_work;
@@ -578,29 +604,38 @@ module _ {B : Type 0} (scene : Scene B) (results : List (List SaveResult)) (setu
         outside = λ c lt out. ap (λ (x : ControllerState). x.vr) (same c) ∙ stays_there c (not_leader c out) lt ∙ ends.outside c out;
         number = number;
         waits = waits;
+        says = says;
       }
 
       pool_empty : IsPossible scene results P → pool (start_draw ∷ P) ≡ []
       pool_empty possible = left_head z last_flight [] P h possible ∙ none_carried h.rest h.others
 
-      starts_goes : (rest : List (JournalEntry B)) (last phase : Phase) → FindRoom rest → ClosesTo scene results phase (start_draw ∷ P) rest last → IsPossible scene results (later (start_draw ∷ P) rest) →
-          IsPosted scene results (later (start_draw ∷ P) rest) → Begun P (start_draw ∷ rest)
-      starts_goes rest last phase room closes possible posted = by_next (next_of phase (start_draw ∷ P) rest last closes posted)
+      abbrev phase_then : Phase
+      phase_then = after_member w (at scene results (w % m) (start_draw ∷ P)).now (Draining w quorum)
+
+      starts_goes : (rest : List (JournalEntry B)) (last : Phase) → FindRoom rest → ClosesTo scene results phase_then (start_draw ∷ P) rest last → IsPossible scene results (later (start_draw ∷ P) rest) →
+          IsPosted scene results (later (start_draw ∷ P) rest) → Begun P (start_draw ∷ rest) last
+      starts_goes rest last room closes possible posted = by_next (next_of phase_then (start_draw ∷ P) rest last closes posted)
         where
           was : IsPossible scene results (start_draw ∷ P)
           was = possible_under rest (start_draw ∷ P) possible
 
-          by_next : Next (start_draw ∷ P) rest → Begun P (start_draw ∷ rest)
+          by_next : Next (start_draw ∷ P) rest → Begun P (start_draw ∷ rest) last
           by_next (Done done) =
               let none : turn_work.letters ≡ [] = sym turn_is.owed ∙ owes_nothing (start_draw ∷ P) P start_draw (w % m) refl refl done in
+              let empty = pool_empty (possible_before scene results start_draw P was) in
               record {
                 first = start_draw ∷ [];
                 rest = rest;
                 joined = refl;
                 one = refl;
                 started =
-                    (begun_in (start_draw ∷ P) (λ c. refl) 0 (pool_empty (possible_before scene results start_draw P was)
-                    ∙ ap (λ (ls : List (Letter ControllerSays)). numbered 0 (actor.Controller (w % m)) (sealed_letters controller_message scene.sealing ls)) (sym none)));
+                    (begun_in (start_draw ∷ P) (λ c. refl) 0
+                    (empty ∙ ap (λ (ls : List (Letter ControllerSays)). numbered 0 (actor.Controller (w % m)) (sealed_letters controller_message scene.sealing ls)) (sym none))
+                    (ap (map (content scene.sealing)) empty ∙ ap (map (λ (l : Letter ControllerSays). unsealed.Message (controller_message l.body))) (sym none)));
+                unchanged = λ t. switches_stay (w % m) start_draw P refl t ∙ stands.holds.switches t;
+                posted = done;
+                goes_on = closes;
               }
           by_next (Posting a first letters lost more is input) =
               let whose : a ≡ actor.Controller (w % m) = poster (start_draw ∷ P) P start_draw (w % m) a refl refl input in
@@ -618,27 +653,34 @@ module _ {B : Type 0} (scene : Scene B) (results : List (List SaveResult)) (setu
                     (pool_grows (w % m) first letters lost (start_draw ∷ P) after fit
                     ∙ ap (λ (ps : List (Packet B)). ps ++ numbered first (actor.Controller (w % m)) (sealed_letters controller_message scene.sealing (at scene results (w % m) (start_draw ∷ P)).owed))
                     (pool_empty (possible_before scene results start_draw P was))
-                    ∙ ap (λ (ls : List (Letter ControllerSays)). numbered first (actor.Controller (w % m)) (sealed_letters controller_message scene.sealing ls)) turn_is.owed));
+                    ∙ ap (λ (ls : List (Letter ControllerSays)). numbered first (actor.Controller (w % m)) (sealed_letters controller_message scene.sealing ls)) turn_is.owed)
+                    (says_posted (w % m) first letters lost (start_draw ∷ P) after fit (pool_empty (possible_before scene results start_draw P was))
+                    ∙ ap (map (λ (l : Letter ControllerSays). unsealed.Message (controller_message l.body))) turn_is.owed));
+                unchanged = λ t. switches_stay (w % m) it (start_draw ∷ P) refl t ∙ switches_stay (w % m) start_draw P refl t ∙ stands.holds.switches t;
+                posted = posted_all (w % m) first letters lost (start_draw ∷ P);
+                goes_on =
+                    subst (λ (c : ControllerState). ClosesTo scene results (after_member w c (Draining w quorum)) (it ∷ (start_draw ∷ P)) more last)
+                    (sym (posted_holds (w % m) first letters lost (start_draw ∷ P) (w % m)).0)
+                    (subst (λ (l : List (JournalEntry B)). ClosesTo scene results phase_then (start_draw ∷ P) l last) split closes).1;
               }
 
     module _ (P : List (JournalEntry B)) (stands : Stands P z) where
       head_here : HeadOf scene results (pool P) last_flight []
       head_here = head_of scene results (pool P) last_flight [] (subst (λ (fs : List Flight). AllCarry scene results (pool P) fs) ends.waits stands.carries)
 
-      pub last_turn : (e : JournalEntry B) (rest : List (JournalEntry B)) (last phase : Phase) → PhaseOf phase [] → FindRoom rest → (next : Phase) → IsMove (next_move scene results phase P) e next → Here rest P last e next → Begun P (e ∷ rest)
+      pub last_turn : (e : JournalEntry B) (rest : List (JournalEntry B)) (last phase : Phase) → PhaseOf phase [] → FindRoom rest → (next : Phase) → IsMove (next_move scene results phase P) e next → Here rest P last e next → Begun P (e ∷ rest) last
       last_turn e rest last phase at_phase room next move here =
           let h = head_here in
           let m' = subst (λ (v : Move B). IsMove v e next) (next_is z last_flight [] P h phase at_phase) move in
           let e_is = m'.0 ∙ drawn_entry z last_flight [] P h leads_it in
           let here' = here_is rest P last e (Draw (actor.Controller (w % m)) h.packet.id false) next (Draining w quorum) e_is m'.1 here in
-          subst (λ (x : JournalEntry B). Begun P (x ∷ rest)) (sym e_is)
-          (starts_goes P h stands rest last (after_move scene results (Draw (actor.Controller (w % m)) h.packet.id false) P (Draining w quorum)) room here'.0 here'.1 here'.2)
+          subst (λ (x : JournalEntry B). Begun P (x ∷ rest) last) (sym e_is) (starts_goes P h stands rest last room here'.0 here'.1 here'.2)
 
       pub no_end : (phase : Phase) → PhaseOf phase [] → (answer : Answer) → IsEnd (next_move scene results phase P) answer → ⊥
       no_end phase at_phase answer end = let h = head_here in never_ends z P phase (drained quorum h.packet) (Draining w quorum) answer (next_is z last_flight [] P h phase at_phase) end
 
       pub begins : (entries : List (JournalEntry B)) (last phase : Phase) → PhaseOf phase [] → FindRoom entries → ClosesTo scene results phase P entries last → IsPossible scene results (later P entries) → IsPosted scene results (later P entries) →
-          (((answer : Answer) → IsEnd (next_move scene results last (later P entries)) answer → ⊥) × (entries ≡ [])) ⊎ Begun P entries
+          (((answer : Answer) → IsEnd (next_move scene results last (later P entries)) answer → ⊥) × (entries ≡ [])) ⊎ Begun P entries last
       begins [] last phase at_phase room closes possible posted = inl ((λ answer end. no_end phase at_phase answer (subst (λ (x : Phase). IsEnd (next_move scene results x P) answer) closes end)), refl)
       begins (Post a first letters lost ∷ rest) last phase at_phase room closes possible posted =
           absurd (never_posts P stands.posted a first letters lost closes.0 (possible_under rest (Post a first letters lost ∷ P) possible))

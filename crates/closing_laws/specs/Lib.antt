@@ -2,3 +2,10 @@ pub mod Quorum
 pub mod Draining
 pub mod Views
 pub mod Starts
+pub mod Ways
+pub mod Following
+pub mod Serving
+pub mod Ends
+pub mod Measure
+pub mod Given
+pub mod Stops

@@ -14,12 +14,13 @@ use Rattle.vr_log.specs.declared.state.VrState.{VrState}
 use Rattle.view_change.specs.Entering.{tells_start}
 use Rattle.group_controller.specs.State.{Work, fresh, stepped}
 use Rattle.group_controller.specs.Rules.{starting_view}
-use Rattle.rv_runs.specs.States.{Scene, IsFaithful, controller_at, controller_message, sealed_letters}
+use Rattle.rv_runs.specs.declared.messages.Unsealed.TheVariants as unsealed
+use Rattle.rv_runs.specs.States.{Scene, IsFaithful, content, controller_at, controller_message, sealed_letters}
 use Rattle.rv_runs.specs.Legal.{IsPossible, results_of}
-use Rattle.rv_runs.specs.Committed.{controller_state, states_of, count_up}
-use Rattle.rv_runs.specs.Schedule.{Phase, Losing, Answer, ClosesTo, IsPosted, IsEnd, closing_view, count_turns, majority, next_move}
+use Rattle.rv_runs.specs.Committed.{controller_state, switch_state, states_of, count_up}
+use Rattle.rv_runs.specs.Schedule.{Phase, Losing, Suspecting, Draining, Answer, ClosesTo, IsPosted, IsEnd, after_member, closing_view, count_turns, majority, next_move}
 use Rattle.closing_laws.specs.Quorum.{has, members_that_close}
-use Rattle.closing_laws.specs.Views.{HasBest, in_view, lacks, log_of, started_with, tellers, turns_to_start}
+use Rattle.closing_laws.specs.Views.{HasBest, IsCovered, in_view, lacks, log_of, started_with, tellers, turns_to_start}
 
 -- the letters of a post found room in the pool
 abbrev pub FindsRoom : {B : Type 0} → JournalEntry B → Type 0
@@ -32,7 +33,7 @@ FindRoom entries = AllByRecursion (λ e. FindsRoom e) entries
 -- each save of a controller after a past succeeds
 abbrev pub SavesSucceed : {B : Type 0} → Scene B → List (List SaveResult) → List (JournalEntry B) → Type 0
 SavesSucceed scene results before =
-    (c i : ℕ) → (controller_at scene (results_of results c) c (part (actor.Controller c) before)).saves ≤ i →
+    (c i : ℕ) → c < scene.setup.controllers → (controller_at scene (results_of results c) c (part (actor.Controller c) before)).saves ≤ i →
     slice_index_or (results_of results c) i Saved ≡ Saved
 
 -- the members of the controllers after a past, by number
@@ -44,7 +45,8 @@ abbrev pub starting_turn : List ℕ → Setup → Option ℕ → VrState → Wor
 starting_turn kinds setup promise s = starting_view kinds setup (stepped (fresh s) (record (tells_start s) { promise = promise }))
 
 -- A view has started in a journal: its primary has taken that turn, from the best log of the quorum, and nothing waits but
--- what it said in it. The others of the quorum wait in the view with what they had, and those outside are as they were.
+-- what it said in it, as it said it. The others of the quorum wait in the view with what they had, and those outside are as
+-- they were.
 pub record HasStartedIn {B : Type 0} (scene : Scene B) (results : List (List SaveResult)) (view : ℕ) (quorum : List ℕ) (start : ℕ → VrState) (best : ℕ) (entries : List (JournalEntry B)) : Type 0 where
   pub voters : ℕ → List ℕ
   pub promise : Option ℕ
@@ -58,6 +60,7 @@ pub record HasStartedIn {B : Type 0} (scene : Scene B) (results : List (List Sav
   pub outside : (c : ℕ) → c < scene.setup.controllers → has quorum c ≡ false → members_at scene results entries c ≡ start c
   pub number : ℕ
   pub waits : pool entries ≡ numbered number (actor.Controller (view % scene.setup.controllers)) (sealed_letters controller_message scene.sealing turn.letters)
+  pub says : map (content scene.sealing) (pool entries) ≡ map (λ l. unsealed.Message (controller_message l.body)) turn.letters
 
 -- A closing over a past in which nothing waits or is owed, where a majority takes part, up to some phase of it. Each save
 -- succeeds, and each letter finds room
@@ -83,17 +86,31 @@ abbrev pub turns_after : {B : Type 0} → Scene B → List (List SaveResult) →
 turns_after scene results before best =
     turns_to_start (scene.setup.controllers / 2) (lacks (view_after scene results before % scene.setup.controllers) (members_at scene results before) best)
 
--- the first of these entries bring it there, with exactly so many turns
-pub record Starts {B : Type 0} (scene : Scene B) (results : List (List SaveResult)) (before entries : List (JournalEntry B)) (best : ℕ) : Type 0 where
+-- all members suspect, and the pool is drained
+pub data IsDraining (view : ℕ) (quorum : List ℕ) : Phase → Type 0 where
+  Last_suspects : IsDraining view quorum (Suspecting view quorum [])
+  Drains : IsDraining view quorum (Draining view quorum)
+
+-- The first of these entries bring it there, with exactly so many turns, and the closing goes on from there. No switch has
+-- taken a turn, and nothing is owed.
+pub record Starts {B : Type 0} (scene : Scene B) (results : List (List SaveResult)) (before entries : List (JournalEntry B)) (last : Phase) (best : ℕ) : Type 0 where
   pub first : List (JournalEntry B)
   pub rest : List (JournalEntry B)
   pub joined : entries ≡ first ++ rest
   pub turns : count_turns first ≡ turns_after scene results before best
   pub started : HasStartedIn scene results (view_after scene results before) (quorum_after scene results before) (members_at scene results before) best (reverse first ++ before)
+  pub covered : IsCovered (quorum_after scene results before) (members_at scene results before) best
+  pub unchanged : (t : ℕ) → switch_state scene t (reverse first ++ before) ≡ switch_state scene t before
+  pub posted : IsPosted scene results (reverse first ++ before)
+  pub phase : Phase
+  pub drains : IsDraining (view_after scene results before) (quorum_after scene results before) phase
+  pub goes_on : ClosesTo scene results
+      (after_member (view_after scene results before) (controller_state scene results (view_after scene results before % scene.setup.controllers) (reverse first ++ before)) phase)
+      (reverse first ++ before) rest last
 
 -- it starts with so many turns, and the closing doesn't end before
 pub record StartsInTime {B : Type 0} (scene : Scene B) (results : List (List SaveResult)) (before entries : List (JournalEntry B)) (last : Phase) (best : ℕ) : Type 0 where
-  pub starts : turns_after scene results before best ≤ count_turns entries → Starts scene results before entries best
+  pub starts : turns_after scene results before best ≤ count_turns entries → Starts scene results before entries last best
   pub goes_on : count_turns entries < turns_after scene results before best → (answer : Answer) → IsEnd (next_move scene results last (reverse entries ++ before)) answer → ⊥
 
 -- in each closing the view starts in time, from the best log of its quorum

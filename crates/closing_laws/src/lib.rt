@@ -19,6 +19,8 @@ ghost use Rattle.vr_core.specs.Step.{vr_step};
 ghost use Rattle.closing_laws.specs.Quorum.{HasAQuorum, HasTheLeastView, IsQuorum, WhereMostAreUp, has, members_that_close};
 ghost use Rattle.closing_laws.specs.Draining.{all_suspected, drains, resting};
 ghost use Rattle.closing_laws.specs.Starts.{ViewsStartInTime};
+ghost use Rattle.closing_laws.specs.Ends.{ClosingsRest};
+ghost use Rattle.closing_laws.specs.Stops.{ClosingsFindAQuorum};
 ghost use Rattle.closing_laws.specs.Views.{HasBest, HasStarted, IsCovered, IsMember, gathering, in_started, in_view, started_with, vote_letters, voting};
 
 /// Where a majority of a group takes part, the members that a closing takes are a quorum: f + 1 of those that take part,
@@ -107,4 +109,17 @@ pub fn view_starts()
 /// save has to succeed, and each letter to find room.
 pub fn views_start_in_time<B>()
     ensures { ViewsStartInTime B }
+{}
+
+/// A closing that ends has left nothing undone, whatever it began behind, and however often a failed save made it begin again:
+/// nothing waits, each switch is at rest, each event is processed, and what the primary that closed has committed is what is
+/// decided. Each letter of it has to find room, and the applications may give at most 128 commands for an event, by their kinds.
+pub fn closings_rest<B>()
+    ensures { ClosingsRest B }
+{}
+
+/// A closing that a majority takes part in as it begins finds its quorum, where each save in it succeeds: that too few take part
+/// is its answer only where it began with too few, or a save failed.
+pub fn closings_find_a_quorum<B>()
+    ensures { ClosingsFindAQuorum B }
 {}

@@ -1,12 +1,14 @@
 -- What the run of a scenario is, once it was played.
 use Rattle.std.proofs.Common.{◌≡◌, ◌≤◌, ◌<◌, ◌⊎◌, inl, inr, ℕ, zero, suc, ◌+◌, List, [], ◌∷◌, ◌++◌, length, map, drop, refl, sym, ◌∙◌, ap, subst, arith}
-use Rattle.std.specs.Prelude.{◌-◌, ◌^◌, count_by, reverse, slice_get, Some, IfOk, IfErr, Result, Ok, Err}
+use Rattle.std.specs.Prelude.{◌-◌, ◌^◌, count_by, reverse, slice_get, slice_index_or, Some, IfOk, IfErr, Result, Ok, Err}
 use Rattle.std.specs.List.{AllByRecursion, range_with_len}
+use Rattle.std.proofs.lemmas.Bool.{cases_lt}
 use Rattle.std.proofs.lemmas.List.{length-map}
 use Rattle.std.proofs.lemmas.Option.{slice_get_within}
 use Rattle.of_types.specs.declared.setup.Setup.{Setup}
 use Rattle.rv_base.specs.declared.journal.JournalEntry.{JournalEntry}
 use Rattle.rv_base.specs.declared.journal.SaveResult.{SaveResult}
+use Rattle.rv_base.specs.declared.journal.SaveResult.TheVariants.{Saved}
 use Rattle.rv_base.specs.declared.journal.Turn.{Turn}
 use Rattle.rv_base.specs.Pool.{past}
 use Rattle.rv_base.specs.Turns.{IsWithinLimits}
@@ -17,7 +19,7 @@ use Rattle.of_types.specs.Setups.{IsSetup}
 use Rattle.rv_laws.proofs.Told.{told_law}
 use Rattle.rv_laws.proofs.Laws.{agreement_law, lasting_law, once_law, fence_law}
 use Rattle.rv_runs.specs.Committed.{controller_state, count_up, decided, members_up, switch_state}
-use Rattle.rv_runs.specs.Legal.{IsPossible, results_of}
+use Rattle.rv_runs.specs.Legal.{IsLegalPast, IsPossible, results_of}
 use Rattle.rv_runs.specs.Schedule.{Answer, Closes, FollowsInOrder, IsBegun, count_turns, majority}
 use Rattle.rv_runs.specs.Schedule as schedule
 use Rattle.rv_runs.specs.States.{Scene, controller_at}
@@ -37,6 +39,12 @@ use Rattle.closing.specs.declared.closed.Closed.TheVariants as closed
 use Rattle.closing.specs.Closing.{HasMajority, answer_of, up_in}
 use Rattle.closing.proofs.Lists.{map_range}
 use Rattle.closing.proofs.Parts.{few_members}
+use Rattle.closing_laws.specs.Ends.{HasRested}
+use Rattle.closing_laws.specs.Given.{given_by}
+use Rattle.closing_laws.specs.Starts.{FindRoom}
+use Rattle.closing_laws.proofs.Quorate.{quorum_law}
+use Rattle.closing_laws.proofs.Rested.{rest_law}
+use Rattle.dispatcher.specs.Ledger.{most_commands}
 use Rattle.closing.proofs.Turned.{past_joined}
 use Rattle.closing.proofs.Worlds.{Runs, states_are}
 use Rattle.scenario.specs.declared.scenario.Scenario.{Scenario}
@@ -50,7 +58,7 @@ use Rattle.ravana_run.specs.Play.{AreFresh, IfDone, IfReport, StopsAs, ending_by
 use Rattle.ravana_run.proofs.Recorded.{one_record, told_writable}
 use Rattle.ravana_run.specs.declared.ending.Ending.{Ending}
 use Rattle.ravana_run.specs.Ending.{EndsRun}
-use Rattle.ravana_run.specs.Runs.{AreSaved, HasRun, IsCutShort, IsDone, IsLawful, IsRun, IsTheOne, IsUnposted, StableTells, StablesTell, scene_for}
+use Rattle.ravana_run.specs.Runs.{AreSaved, HasRun, IsCutShort, IsDone, IsLawful, IsLeft, IsRun, IsTheOne, IsUnposted, StableTells, StablesTell, scene_for}
 use Rattle.ravana_run.proofs.Playing.{rest_is, within_journal}
 
 -- of the first stables
@@ -170,6 +178,13 @@ module _ {A W : Type 0} (controls : Controlling A → List ℕ → Type 0) (pair
       one = one;
     }
 
+    -- nothing is left undone
+    rested : (primary : ℕ) → answer ≡ schedule.Done primary → given_by kinds ≤ most_commands → FindRoom played.rest → HasRested OfRun Results primary (past w.journal)
+    rested primary is given room =
+        subst (λ (l : List (JournalEntry (List ℕ))). HasRested OfRun Results primary l) (sym whole)
+        (rest_law OfRun Results (past played.front) played.rest primary runs.setup bytes_again given (subst (λ (l : List (JournalEntry (List ℕ))). IsLegalPast OfRun Results l) whole runs.legal)
+        (subst (λ (x : Answer). Closes OfRun Results (past played.front) played.rest x) is closes) room)
+
     -- what is told of it
     shows : (told : Record) → told ≡ told_by w (length scenario.steps) count → Shows OfRun Results (length scenario.steps) played.rest w.journal told
     shows told is = record {
@@ -200,6 +215,7 @@ module _ {A W : Type 0} (controls : Controlling A → List ℕ → Type 0) (pair
       record {
         primary = primary;
         ran = has_run count (schedule.Done primary) played;
+        rested = rested count (schedule.Done primary) played primary refl;
         up = subst (λ n. majority n ≤ count_up OfRun Results (past w.journal)) group (subst (λ l. majority start.setup.controllers ≤ length (members_up l)) (sym same) up);
         told = told;
         shows = shows count (schedule.Done primary) played told is;
@@ -209,6 +225,23 @@ module _ {A W : Type 0} (controls : Controlling A → List ℕ → Type 0) (pair
             (subst (λ (s : Setup). decided (record { setup = s; kinds = kinds; sealing = byte_bodies }) Results (past w.journal) ≡ w.decided) same_setup (now_holds.decided Results (as_group count (schedule.Done primary) played)))
             (told_law OfRun Results (past w.journal) runs.setup bytes_again runs.legal.possible) (length scenario.steps) count));
       }
+
+  -- each save is made, so each succeeds
+  each_saved : (rs : List SaveResult) → AllByRecursion (λ r. r ≡ Saved) rs → (i : ℕ) → slice_index_or rs i Saved ≡ Saved
+  each_saved [] all i = refl
+  each_saved (r ∷ rs) all zero = all.0
+  each_saved (r ∷ rs) all (suc i) = each_saved rs all.1 i
+
+  pub is_left : (count up needed : ℕ) (played : HasPlayed (scene_in byte_bodies start kinds) scenario.steps count (schedule.NoQuorum up needed) w) → IsLeft kinds (StablesTell pair faults stables stables_after) scenario up needed
+  unfolding has_run
+  is_left count up needed played = record {
+    ran = has_run count (schedule.NoQuorum up needed) played;
+    few = λ saved. elim (cases_lt (count_up OfRun Results (past played.front)) (majority scenario.setup.controllers)) [
+      | inl less ↦ less
+      | inr most ↦
+          absurd (quorum_law OfRun Results (past played.front) played.rest up needed most (λ c i there low. each_saved (results_of Results c) (saved c there) i) (closes count (schedule.NoQuorum up needed) played))
+    ];
+  }
 
   pub is_unposted : (bytes letters : ℕ) → IsBegun (scene_in byte_bodies start kinds) Results scenario.steps bytes letters (past w.journal) → IsUnposted kinds (StablesTell pair faults stables stables_after) scenario bytes letters
   is_unposted bytes letters begun = record {
@@ -238,7 +271,7 @@ module _ {A W : Type 0} (controls : Controlling A → List ℕ → Type 0) (pair
       HasMajority closed start.setup.controllers (up_in w.controllers) → IfDone closed (IfReport output (FitsRecord (told_by w (length scenario.steps) count))) → Ends output (ending_by closed (told_text output (told_by w (length scenario.steps) count)))
   one_ending (closed.Done primary) count output k played up fits =
       is_done controls pair faults scenario kinds start stables w stables_after begins holds pairs k within count primary output (told_by w (length scenario.steps) count) (told_text output (told_by w (length scenario.steps) count)) played up refl refl fits
-  one_ending (closed.NoQuorum up needed) count output k played most fits = has_run controls pair faults scenario kinds start stables w stables_after begins holds pairs k within count (schedule.NoQuorum up needed) played
+  one_ending (closed.NoQuorum up needed) count output k played most fits = is_left controls pair faults scenario kinds start stables w stables_after begins holds pairs k within count up needed played
   one_ending (closed.Overfull limit) count output k played most fits = has_run controls pair faults scenario kinds start stables w stables_after begins holds pairs k within count (schedule.Overfull limit) played
 
   ok_ending : {X : Type 0} (closed : Closed) (count : ℕ) (output : Output) (steps : ℕ) (ended : Result Ending X) → steps ≡ length scenario.steps → Kept → HasPlayed (scene_in byte_bodies start kinds) taken count (answer_of closed) w →

@@ -17,6 +17,10 @@ use Rattle.rv_runs.specs.Play.{plays}
 use Rattle.rv_runs.specs.Schedule.{Answer, Closes, FollowsInOrder, IsBegun, majority}
 use Rattle.rv_runs.specs.Schedule as schedule
 use Rattle.rv_runs.specs.States.{Scene}
+use Rattle.closing_laws.specs.Ends.{HasRested}
+use Rattle.closing_laws.specs.Given.{given_by}
+use Rattle.closing_laws.specs.Starts.{FindRoom}
+use Rattle.dispatcher.specs.Ledger.{most_commands}
 use Rattle.rv_world.specs.World.{is_failed}
 use Rattle.scenario.specs.declared.scenario.Scenario.{Scenario}
 use Rattle.report.specs.declared.record.Record.{Record}
@@ -96,19 +100,23 @@ pub record HasRun (kinds : List ℕ) (saves : Telling) (scenario : Scenario) (an
 abbrev pub IsOneRecord : Output → Record → List ℕ → Type 0
 IsOneRecord output told written = IfReport output (IsRecord told × ((other : Record) → IsRecord other → text other ≡ written → other ≡ told))
 
--- a run to its end and what is told of it. At least f + 1 of the 2 f + 1 controllers take part in the end
+-- A run to its end and what is told of it. At least f + 1 of the 2 f + 1 controllers take part in the end. Nothing is left
+-- undone, where each letter of the closing found room, and the applications give no more commands for an event than a
+-- ledger holds.
 pub record IsDone (kinds : List ℕ) (saves : Telling) (scenario : Scenario) (output : Output) (written : List ℕ) : Type 0 where
   pub primary : ℕ
   pub ran : HasRun kinds saves scenario (schedule.Done primary)
   pub up : majority scenario.setup.controllers ≤ count_up (scene_for kinds scenario) ran.results (past ran.journal)
+  pub rested : given_by kinds ≤ most_commands → FindRoom ran.closing → HasRested (scene_for kinds scenario) ran.results primary (past ran.journal)
   pub told : Record
   pub shows : Shows (scene_for kinds scenario) ran.results (length scenario.steps) ran.closing ran.journal told
   pub wrote : written ≡ told_text output told
   pub one_record : IsOneRecord output told written
 
--- a run that ended since too few controllers took part where its closing began
-abbrev pub IsLeft : List ℕ → Telling → Scenario → ℕ → ℕ → Type 0
-IsLeft kinds saves scenario up needed = HasRun kinds saves scenario (schedule.NoQuorum up needed)
+-- a run that ended since too few controllers took part: where each save was made, they did so where its closing began
+pub record IsLeft (kinds : List ℕ) (saves : Telling) (scenario : Scenario) (up needed : ℕ) : Type 0 where
+  pub ran : HasRun kinds saves scenario (schedule.NoQuorum up needed)
+  pub few : AreSaved scenario.setup.controllers ran.results → count_up (scene_for kinds scenario) ran.results (past ran.script) < majority scenario.setup.controllers
 
 -- a run that ended since a proposal in the closing found no room in the log
 abbrev pub IsOverfull : List ℕ → Telling → Scenario → LogFull → Type 0

@@ -17,6 +17,10 @@ const BASE: &[&str] = &[
 /// What the closing takes behind so many steps of them.
 const CLOSINGS: [u64; 13] = [8, 8, 8, 8, 17, 17, 17, 16, 16, 16, 16, 13, 13];
 
+/// The bound on the turns of a closing, of three controllers and a switch, where it finds nothing left to do: 4 n n + 8 n, and 2
+/// for each switch.
+const BOUND: u64 = 4 * 3 * 3 + 8 * 3 + 2;
+
 /// Stops behind so many steps.
 fn assert_stop(
     rt: &impl Abort,
@@ -36,6 +40,7 @@ fn assert_stop(
     let end = format!(in alloc; "end script {steps} closing {closing} {sums}")?;
     assert_eq!(rt; answer.text().lines().last(), Some(end.as_str()));
     assert_eq!(rt; answer.status, 0, "at {end}");
+    assert!(rt; closing <= BOUND, "at {end}");
     assert_served(rt, alloc, "audit", answer.written.as_slice(), 0, SAME)
 }
 

@@ -1,0 +1,171 @@
+-- What the others of a quorum have acknowledged is committed.
+use Rattle.std.proofs.Common.{◌≡◌, ◌≤◌, ◌<◌, ◌⊎◌, inl, inr, ℕ, zero, suc, ◌+◌, ◌/◌, Bool, true, false, List, [], ◌∷◌, ◌++◌, length, take, drop, max, refl, sym, ◌∙◌, ap, subst, arith, append-nil}
+use Rattle.std.specs.Prelude.{not, nat_eq, nat_le, ◌&&◌, slice_index, slice_set, filter, count_by, cond, if◌then◌else◌}
+use Rattle.std.proofs.lemmas.Bool.{eqb-false, eqb-true, eq-eqb, ne_eqb, le-leb, not-true, not-false, and_from}
+use Rattle.std.proofs.lemmas.List.{length-append}
+use Rattle.std.proofs.lemmas.List.Sums.{sum_by-cons}
+use Rattle.lists.specs.Lists.{IsIn}
+use Rattle.lists.proofs.Elements.{filter_has}
+use Rattle.vr_log.specs.declared.entry.Entry.{Entry}
+use Rattle.vr_log.specs.declared.message.VrMessage.TheVariants as vr
+use Rattle.vr_log.specs.declared.state.VrState.{VrState}
+use Rattle.vr_log.specs.Members.{most_failures, others, others_below}
+use Rattle.vr_normal.specs.Cases.{acked_by, acks, agreed, counted, greatest, is_agreed, ops}
+use Rattle.rv_runs.specs.declared.messages.Message.{Message}
+use Rattle.rv_runs.specs.declared.messages.Message.TheVariants as message
+use Rattle.closing_laws.specs.Quorum.{has}
+use Rattle.closing_laws.specs.Following.{ArePrepares, AreAcknowledged, Start, KeepsUp, IsAgreed, Leads}
+use Rattle.closing_laws.proofs.Numbers.{Once, below_has, below_once, below_others, filter_on, filter_once, filter_twice, others_but_one}
+use Rattle.closing_laws.proofs.Numbers as numbers
+use Rattle.closing_laws.proofs.Picked.{IsPicked}
+use Rattle.closing_laws.proofs.Followers.{keeps_up_longer, prepares_rise}
+
+-- the greatest of some numbers
+greatest_bound : (least x : ℕ) (ns : List ℕ) → IsIn x ns → x ≤ greatest least ns
+greatest_bound least x [] h = absurd h
+greatest_bound least x (n ∷ ns) (inl e) = omega (arith, e)
+greatest_bound least x (n ∷ ns) (inr h) = let low = greatest_bound least x ns h in omega (arith, low)
+
+pub greatest_least : (least : ℕ) (ns : List ℕ) → least ≤ greatest least ns
+greatest_least least [] = omega arith
+greatest_least least (n ∷ ns) = let low = greatest_least least ns in omega (arith, low)
+
+ops_in : (op n : ℕ) → 0 < op → op ≤ n → IsIn op (ops n)
+ops_in op zero some le = absurd (omega (arith, some, le))
+ops_in op (suc n) some le = by_last (nat_eq op (suc n)) refl (λ low. ops_in op n some low)
+  where
+    by_last : (b : Bool) → nat_eq op (suc n) ≡ b → (op ≤ n → IsIn op (ops n)) → IsIn op (ops (suc n))
+    by_last true e below = inl (eqb-true op (suc n) e)
+    by_last false e below = let other = eqb-false op (suc n) e in inr (below (omega (arith, le, other)))
+
+-- as many as are among these pass a weaker test
+count_more : (p q : ℕ → Bool) (xs : List ℕ) → ((x : ℕ) → has xs x ≡ true → q x ≡ true → p x ≡ true) → length (filter q xs) ≤ count_by p xs
+count_more p q [] h = omega arith
+count_more p q (x ∷ xs) h = by_first (q x) refl (count_more p q xs (λ y m. h y (numbers.has_later x y xs m))) (sum_by-cons (λ (y : ℕ). cond (p y) 1 0) x xs)
+  where
+    by_first : (b : Bool) → q x ≡ b → length (filter q xs) ≤ count_by p xs → count_by p (x ∷ xs) ≡ cond (p x) 1 0 + count_by p xs → length (filter q (x ∷ xs)) ≤ count_by p (x ∷ xs)
+    by_first true e low all =
+        let passes : ◌≡◌ {A = ℕ} (cond (p x) 1 0) 1 = ap (λ (c : Bool). cond c 1 0) (h x (numbers.has_here x xs) e) in
+        let more : length (filter q (x ∷ xs)) ≡ suc (length (filter q xs)) = ap (λ (c : Bool). length (if c then x ∷ filter q xs else filter q xs)) e in
+        omega (arith, low, all, passes, more)
+    by_first false e low all =
+        let more : length (filter q (x ∷ xs)) ≡ length (filter q xs) = ap (λ (c : Bool). length (if c then x ∷ filter q xs else filter q xs)) e in
+        omega (arith, low, all, more)
+
+module _ (p : VrState) (view : ℕ) (quorum : List ℕ) (picked : IsPicked p.controllers view quorum) (mine : has quorum p.me ≡ true) where
+  abbrev n : ℕ
+  n = p.controllers
+
+  others_are : filter (λ j. not (nat_eq p.me j)) quorum ≡ filter (has quorum) (others_below p.me n)
+  others_are =
+      ap (filter (λ j. not (nat_eq p.me j))) picked.ascending
+      ∙ filter_twice (λ j. not (nat_eq p.me j)) (has quorum) (others_below n n)
+      ∙ filter_on (λ j. has quorum j && not (nat_eq p.me j)) (λ j. not (nat_eq p.me j) && has quorum j) (others_below n n) (λ j m. swap (has quorum j) (not (nat_eq p.me j)))
+      ∙ sym (filter_twice (has quorum) (λ j. not (nat_eq p.me j)) (others_below n n))
+      ∙ ap (filter (has quorum)) (sym (below_others p.me n n (omega arith)))
+    where
+      swap : (a b : Bool) → (a && b) ≡ (b && a)
+      swap true true = refl
+      swap true false = refl
+      swap false true = refl
+      swap false false = refl
+
+  quorum_once : Once quorum
+  quorum_once = subst Once (sym picked.ascending) (filter_once (has quorum) (others_below n n) (below_once n n))
+
+  enough : length (filter (has quorum) (others_below p.me n)) ≡ n / 2
+  enough =
+      let all = others_but_one p.me quorum quorum_once mine in
+      let same = ap (λ (l : List ℕ). length l) others_are in
+      let count = picked.count in
+      omega (arith, all, same, count)
+
+  pub all_agree : (op : ℕ) → ((b : ℕ) → has quorum b ≡ true → (b ≡ p.me → ⊥) → op ≤ slice_index p.acked b) → is_agreed p op ≡ true
+  all_agree op each =
+      let most = count_more (λ j. nat_le op (slice_index p.acked j)) (has quorum) (others_below p.me n)
+      (λ j there chosen. le-leb op (slice_index p.acked j) (each j chosen (λ e. eqb-false p.me j (below_has p.me n j there).1 (sym e)))) in
+      let count = enough in
+      le-leb (most_failures p) (acks p op) (omega (arith, most, count))
+
+  -- so it is committed
+  pub counted_agreed : IsAgreed (counted p) quorum
+  counted_agreed op le each = by_op (nat_eq op 0) refl
+    where
+      by_op : (b : Bool) → nat_eq op 0 ≡ b → op ≤ agreed p
+      by_op true e = let none = eqb-true op 0 e in omega (arith, none)
+      by_op false e =
+          let some = eqb-false op 0 e in
+          greatest_bound p.commit op (filter (is_agreed p) (ops (length p.log)))
+          (filter_has (is_agreed p) (ops (length p.log)) op (ops_in op (length p.log) (omega (arith, some)) le) (all_agree op each))
+
+-- no more than there is
+pub agreed_within : (p : VrState) → p.commit ≤ length p.log → agreed p ≤ length p.log
+agreed_within p le = bound (ops (length p.log)) (ops_small (length p.log))
+  where
+    by_test : (x : ℕ) (ns : List ℕ) (b : Bool) → is_agreed p x ≡ b → x ≤ length p.log → greatest p.commit (filter (is_agreed p) ns) ≤ length p.log →
+        greatest p.commit (if is_agreed p x then x ∷ filter (is_agreed p) ns else filter (is_agreed p) ns) ≤ length p.log
+    by_test x ns true e here low =
+        let same = ap (λ (c : Bool). greatest p.commit (if c then x ∷ filter (is_agreed p) ns else filter (is_agreed p) ns)) e in
+        omega (arith, low, here, same)
+    by_test x ns false e here low =
+        let same = ap (λ (c : Bool). greatest p.commit (if c then x ∷ filter (is_agreed p) ns else filter (is_agreed p) ns)) e in
+        omega (arith, low, same)
+
+    bound : (ns : List ℕ) → ((x : ℕ) → IsIn x ns → x ≤ length p.log) → greatest p.commit (filter (is_agreed p) ns) ≤ length p.log
+    bound [] small = le
+    bound (x ∷ ns) small = by_test x ns (is_agreed p x) refl (small x (inl refl)) (bound ns (λ y m. small y (inr m)))
+
+    ops_small : (k x : ℕ) → IsIn x (ops k) → x ≤ k
+    ops_small zero x h = absurd h
+    ops_small (suc k) x (inl e) = omega (arith, e)
+    ops_small (suc k) x (inr h) = let low = ops_small k x h in omega (arith, low)
+
+-- where the log grows
+pub agreed_longer : (p p' : VrState) (quorum : List ℕ) (more : List Entry) → p'.log ≡ p.log ++ more → p'.me ≡ p.me → p'.acked ≡ p.acked → p.commit ≤ p'.commit →
+    ((b : ℕ) × (has quorum b ≡ true) × (b ≡ p.me → ⊥) × (slice_index p.acked b ≤ length p.log)) ⊎ (p'.commit ≡ length p'.log) → IsAgreed p quorum → IsAgreed p' quorum
+agreed_longer p p' quorum more log me acked commit (inr all) agree op le each = omega (arith, all, le)
+agreed_longer p p' quorum more log me acked commit (inl (b, chosen, other, low)) agree op le each =
+    let told = λ (c : ℕ) (m : has quorum c ≡ true) (o : c ≡ p.me → ⊥). subst (λ (l : List ℕ). op ≤ slice_index l c) acked (each c m (λ e. o (e ∙ me))) in
+    let here = told b chosen other in
+    let done = agree op (omega (arith, here, low)) told in
+    omega (arith, done, commit)
+
+-- an acknowledgement comes
+module _ (start : Start) (p p' : VrState) (lead : Leads start p) (size : p'.controllers ≡ p.controllers) (view : p'.view ≡ p.view) (log : p'.log ≡ p.log) (commit : p.commit ≤ p'.commit) where
+  same_log : p'.log ≡ p.log ++ []
+  same_log = log ∙ sym (append-nil p.log)
+
+  -- the others keep up as before
+  pub keeps_up_still : (b : ℕ) (s : VrState) (out in_ : List Message) → slice_index p'.acked b ≡ slice_index p.acked b → KeepsUp start p b s out in_ → KeepsUp start p' b s out in_
+  keeps_up_still b s out in_ acked h =
+      subst (λ (ms : List Message). KeepsUp start p' b s ms in_) (append-nil out) (keeps_up_longer start p lead p' [] b s out in_ [] size view same_log commit acked tt h)
+
+  -- and so does the one from whom it comes
+  pub keeps_up_acked : (b op : ℕ) (s : VrState) (out in_ : List Message) → slice_index p'.acked b ≡ max op (slice_index p.acked b) →
+      KeepsUp start p b s out (message.Vr (vr.PrepareOk p.view op) ∷ in_) → (op ≤ length p.log) × KeepsUp start p' b s out in_
+  keeps_up_acked b op s out in_ acked (inl h) = absurd (let e = h.silent in cc)
+  keeps_up_acked b op s out in_ acked (inr h) =
+      let is : h.acks.0 ≡ op = (let e = h.acks.1 in cc) in
+      let more = h.acks.2 in
+      let within = h.acks.3 in
+      let most = h.most in
+      let now : slice_index p'.acked b ≡ op = omega (arith, acked, is, more) in (
+        omega (arith, is, within, most),
+        inr record {
+          me = h.me;
+          size = h.size ∙ sym size;
+          normal = h.normal;
+          view = h.view ∙ sym view;
+          promise = subst (λ (v : ℕ). s.promise ≤ v) (sym view) h.promise;
+          log = h.log ∙ ap (take (length s.log)) (sym log);
+          least = h.least;
+          most = subst (λ (l : List Entry). length s.log ≤ length l) (sym log) h.most;
+          commit = (let c = h.commit in omega (arith, c, commit));
+          entries = subst (λ (v : ℕ). ArePrepares v p'.commit (length s.log) (drop (length s.log) p'.log) out) (sym view)
+              (subst (λ (l : List Entry). ArePrepares p.view p'.commit (length s.log) (drop (length s.log) l) out) (sym log)
+              (prepares_rise p.view p.commit p'.commit (length s.log) (drop (length s.log) p.log) out commit h.entries));
+          acked = omega (arith, now, is, within);
+          acks = subst (λ (v : ℕ). AreAcknowledged v start.known (slice_index p'.acked b) (length s.log) in_) (sym view)
+              (subst (λ (a : ℕ). AreAcknowledged p.view start.known a (length s.log) in_) (is ∙ sym now) h.acks.4);
+        },
+      )

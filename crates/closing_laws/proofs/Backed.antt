@@ -1,0 +1,172 @@
+-- A controller that led a view above 0 as it posted has f + 1 controllers that promise the view, from then on.
+use Rattle.std.proofs.Common.{◌≡◌, ℕ, ◌+◌, ◌*◌, ◌<◌, ◌≤◌, Bool, true, false, cond, nat_le, eqb, leb, None, List, [], ◌∷◌, ◌++◌, refl, sym, ap, ◌∙◌, subst, arith, le_refl, le_trans, append-nil}
+use Rattle.std.proofs.lemmas.Bool.{and_parts, eqb-true, leb-true, le-leb}
+use Rattle.rv_base.specs.declared.journal.Actor.TheVariants as actor
+use Rattle.rv_base.specs.declared.journal.JournalEntry.{JournalEntry}
+use Rattle.rv_base.specs.declared.journal.JournalEntry.TheVariants.{Post}
+use Rattle.rv_base.specs.declared.journal.Letter.{Letter}
+use Rattle.rv_base.specs.declared.journal.SaveResult.{SaveResult}
+use Rattle.rv_base.specs.Part.{part}
+use Rattle.agreement.specs.Lists.{count_below}
+use Rattle.agreement.specs.History as core
+use Rattle.agreement.specs.History.{Group, History, size, primary_of}
+use Rattle.agreement.specs.Invariant.{Invariant, IsGroup}
+use Rattle.agreement.specs.Journals as journal
+use Rattle.agreement.specs.Journals.{Rules, Follows, history, held, settled, settled_by}
+use Rattle.agreement.specs.Laws.{Run, still, then}
+use Rattle.agreement.proofs.Agreeing as agreeing
+use Rattle.agreement.proofs.Backing.{backed_law}
+use Rattle.agreement.proofs.Counts.{count_more}
+use Rattle.agreement.proofs.Frame.{promise_more}
+use Rattle.agreement.proofs.Journals.{journal_runs, posted_now, then_ok}
+use Rattle.agreement.proofs.Keeping.{move_keeps}
+use Rattle.agreement.proofs.Runs.{start_good, run_keeps}
+use Rattle.agreement.proofs.Standing.{folds_law}
+use Rattle.vr_log.specs.declared.entry.Entry.{Entry}
+use Rattle.vr_log.specs.declared.state.VrState.{VrState}
+use Rattle.vr_log.specs.Members as member
+use Rattle.members.specs.Projection.{group_of, state_of, is_member}
+use Rattle.members.proofs.Members.{IsMemberOf, member_of, normal_of, same_primary}
+use Rattle.controllers.specs.Projection.{OwnInput}
+use Rattle.controllers.specs.Rules.{SavingController}
+use Rattle.controllers.proofs.Following.{follow_law}
+use Rattle.rv_runs.specs.States.{Scene, controller_at}
+use Rattle.rv_runs.specs.Legal.{results_of}
+use Rattle.rv_runs.specs.Committed.{controller_state}
+use Rattle.rv_agreement.specs.Projection.{past_of, rules_of}
+use Rattle.rv_agreement.proofs.Agreeing.{past_on}
+use Rattle.rv_agreement.proofs.Journals.{in_group, past_orderly}
+use Rattle.rv_agreement.proofs.Reading.{IsReadPast, read_before}
+use Rattle.rv_agreement.proofs.Standing.{saving, stands_alike}
+
+-- no promise falls
+run_promises : {E : Type 0} {g : Group E} {h0 h : History E} → IsGroup g → Invariant g h0 → Run g h0 h → (j : ℕ) → h0.promise j ≤ h.promise j
+run_promises {h0 = h0} gr i still j = le_refl (h0.promise j)
+run_promises gr i (then c b r m) j = le_trans (run_promises gr i r j) (promise_more (move_keeps gr (run_keeps gr i r) b m).step j)
+
+module _ {Own A E : Type 0} {r : Rules Own A E} {g : Group E} (f : Follows r g) (o : 1 ≤ g.most_failures) where
+  -- nor in a journal, of what no refusal takes back
+  pub promises_rise : (more past : List (journal.Entry Own E)) → journal.IsLegal r g (more ++ past) → (j : ℕ) → r.promise (held r j past).now ≤ r.promise (held r j (more ++ past)).now
+  promises_rise more past k j =
+      let good = agreeing.journal_good f o past (agreeing.legal_past r g more past k) in
+      run_promises f.group good (journal_runs f o more past good k) j
+
+  -- f + 1 controllers promise the view of one that leads, at each later time
+  pub backed_since : (more past : List (journal.Entry Own E)) (c : ℕ) → journal.IsLegal r g (more ++ past) → c < size g → (let s = r.state (held r c past).now in
+      s.status ≡ core.Normal → c ≡ primary_of g s.view → 1 ≤ s.view → g.most_failures < count_below (λ j. leb s.view (r.promise (held r j (more ++ past)).now)) (size g))
+  backed_since more past c k b n is some =
+      let k1 = agreeing.legal_past r g more past k in
+      let i0 = start_good f.group f.starts in
+      let run : Run g (history r g []) (history r g past) =
+      subst (λ (x : List (journal.Entry Own E)). Run g (history r g []) (history r g x)) (append-nil past) (journal_runs f o past [] i0 (subst (λ (x : List (journal.Entry Own E)). journal.IsLegal r g x) (sym (append-nil past)) k1)) in
+      let view : ℕ = (r.state (held r c past).now).view in
+      let then_many = backed_law g (history r g []) (history r g past) f.group f.starts run c b n is some in
+      let more_now = count_more (λ j. leb view (r.promise (held r j past).now)) (λ j. leb view (r.promise (held r j (more ++ past)).now)) (size g)
+      (λ j l e. let u = leb-true view (r.promise (held r j past).now) e in let p = promises_rise more past k j in le-leb view (r.promise (held r j (more ++ past)).now) (omega (arith, u, p))) in
+      omega (arith, then_many, more_now)
+
+-- what is posted changes no state
+settled_posts : {Own A E : Type 0} (r : Rules Own A E) (c j : ℕ) (past : List (journal.Entry Own E)) → settled r j (journal.Posts c ∷ past) ≡ settled r j past
+settled_posts r c j past = by_own (eqb c j)
+  where
+    by_own : (t : Bool)
+        → (let w = held r j past in
+        let v = cond t (record { now = settled_by r j w.now w.open_input; open_input = None }) w in
+        settled_by r j v.now v.open_input ≡ settled_by r j w.now w.open_input)
+    by_own true = refl
+    by_own false = refl
+
+pub read_more : {B : Type 0} (scene : Scene B) (results : List (List SaveResult)) (more past : List (JournalEntry B)) → IsReadPast scene results (more ++ past) → IsReadPast scene results past
+read_more scene results [] past k = k
+read_more scene results (e ∷ more) past k = read_more scene results more past (read_before scene results e (more ++ past) k)
+
+module _ {B : Type 0} (scene : Scene B) (results : List (List SaveResult)) (most_failures : ℕ) (n : scene.setup.controllers ≡ 2 * most_failures + 1) where
+  abbrev r : Rules OwnInput SavingController Entry
+  r = rules_of scene most_failures results
+
+  abbrev g : Group Entry
+  g = group_of most_failures
+
+  whole_group : scene.setup.controllers ≡ 2 * most_failures + 1 → scene.setup.controllers ≡ size g
+  unfolding size
+  whole_group e = e
+
+  abbrev at : ℕ → List (JournalEntry B) → SavingController
+  at j past = saving (controller_at scene (results_of results j) j (part (actor.Controller j) past))
+
+  legal : (past : List (JournalEntry B)) → IsReadPast scene results past → journal.IsLegal r g (past_of scene past)
+  legal past k = (folds_law r g (past_of scene past) (past_orderly scene results most_failures n past k).orderly).0
+
+  is_now : (past : List (JournalEntry B)) → IsReadPast scene results past → (j : ℕ) → settled r j (past_of scene past) ≡ at j past
+  is_now past k j =
+      ((folds_law r g (past_of scene past) (past_orderly scene results most_failures n past k).orderly).1 j).now ∙ (stands_alike scene results most_failures j n past k.possible.orderly).now
+
+  -- each is a member of the group
+  pub member_at : (past : List (JournalEntry B)) → IsReadPast scene results past → (d : ℕ) → d < scene.setup.controllers → is_member g d (controller_state scene results d past).vr ≡ true
+  member_at past k d b =
+      let follow = follow_law scene.kinds scene.setup most_failures (λ c. results_of results c) in
+      subst (λ (a : SavingController). r.is_valid d a ≡ true) (is_now past k d) (then_ok follow d (past_of scene past) (in_group scene results most_failures n d b))
+
+  -- one that leads is normal, and the primary of its view
+  leads_as : (past : List (JournalEntry B)) → IsReadPast scene results past → (d : ℕ) → d < scene.setup.controllers → (let s = (controller_state scene results d past).vr in
+      member.leads s ≡ true → ((state_of s).status ≡ core.Normal) × (d ≡ primary_of g s.view))
+  leads_as past k d b leading =
+      let s : VrState = (controller_state scene results d past).vr in
+      let of : IsMemberOf g d s = member_of g d s (member_at past k d b) in
+      let x = and_parts (member.is_normal s) (member.is_primary s) leading in
+      (normal_of s.status x.0, sym (sym (same_primary g s of.controllers s.view) ∙ eqb-true (member.primary_of s s.view) s.me x.1 ∙ of.me))
+
+  abbrev Backed : ℕ → List (journal.Entry OwnInput Entry) → Type 0
+  Backed view es = most_failures < count_below (λ j. leb view (r.promise (held r j es).now)) (size g)
+
+  module _ (o : 1 ≤ most_failures) where
+    -- what f + 1 have promised for good they promise now
+    now_promised : (view : ℕ) (es : List (journal.Entry OwnInput Entry)) (past : List (JournalEntry B)) → IsReadPast scene results past → journal.IsLegal r g es →
+        ((j : ℕ) → settled r j es ≡ settled r j (past_of scene past)) → Backed view es → most_failures < count_below (λ j. nat_le view (controller_state scene results j past).vr.promise) scene.setup.controllers
+    now_promised view es past k fine same many =
+        let follow = follow_law scene.kinds scene.setup most_failures (λ c. results_of results c) in
+        let settle : count_below (λ j. leb view (r.promise (held r j es).now)) (size g) ≤ count_below (λ j. nat_le view (controller_state scene results j past).vr.promise) (size g) =
+        count_more (λ j. leb view (r.promise (held r j es).now)) (λ j. nat_le view (controller_state scene results j past).vr.promise) (size g)
+        (λ j l h.
+        let rises = promises_rise follow o (journal.Posts j ∷ []) es (l, fine) j in
+        let is : r.promise (held r j (journal.Posts j ∷ es)).now ≡ (controller_state scene results j past).vr.promise =
+        ap (λ (w : journal.Held OwnInput SavingController Entry). r.promise w.now) (posted_now r j (held r j es)) ∙ ap (λ (a : SavingController). r.promise a) (same j ∙ is_now past k j) in
+        let u = leb-true view (r.promise (held r j es).now) h in
+        le-leb view (controller_state scene results j past).vr.promise (omega (arith, u, rises, is))) in
+        subst (λ (m : ℕ). most_failures < count_below (λ j. nat_le view (controller_state scene results j past).vr.promise) m) (sym (whole_group n)) (omega (arith, many, settle))
+
+    -- f + 1 promise the view of one that leads
+    pub backed_here : (past : List (JournalEntry B)) (d : ℕ) → IsReadPast scene results past → d < scene.setup.controllers →
+        (let s = (controller_state scene results d past).vr in
+        member.leads s ≡ true → 1 ≤ s.view → most_failures < count_below (λ j. nat_le s.view (controller_state scene results j past).vr.promise) scene.setup.controllers)
+    backed_here past d k b leading some =
+        let follow = follow_law scene.kinds scene.setup most_failures (λ c. results_of results c) in
+        let there = in_group scene results most_failures n d b in
+        let es : List (journal.Entry OwnInput Entry) = journal.Posts d ∷ past_of scene past in
+        let as_it = leads_as past k d b leading in
+        let mine : (held r d es).now ≡ at d past = ap (λ (w : journal.Held OwnInput SavingController Entry). w.now) (posted_now r d (held r d (past_of scene past))) ∙ is_now past k d in
+        let many : Backed (controller_state scene results d past).vr.view es =
+        subst (λ (a : SavingController). (let z = r.state a in z.status ≡ core.Normal → d ≡ primary_of g z.view → 1 ≤ z.view → Backed z.view es)) mine
+        (backed_since follow o [] es d (there, legal past k) there) as_it.0 as_it.1 some in
+        now_promised (controller_state scene results d past).vr.view es past k (there, legal past k) (λ j. settled_posts r d j (past_of scene past)) many
+
+    -- and for ever that of one that led as it posted
+    pub backed_now : (more before : List (JournalEntry B)) (d first lost : ℕ) (letters : List (Letter B)) → IsReadPast scene results (more ++ Post (actor.Controller d) first letters lost ∷ before) → d < scene.setup.controllers →
+        (let s = (controller_state scene results d before).vr in
+        member.leads s ≡ true → 1 ≤ s.view →
+        most_failures < count_below (λ j. nat_le s.view (controller_state scene results j (more ++ Post (actor.Controller d) first letters lost ∷ before)).vr.promise) scene.setup.controllers)
+    backed_now more before d first lost letters k b leading some =
+        let e : JournalEntry B = Post (actor.Controller d) first letters lost in
+        let past : List (JournalEntry B) = more ++ e ∷ before in
+        let follow = follow_law scene.kinds scene.setup most_failures (λ c. results_of results c) in
+        let k1 = read_before scene results e before (read_more scene results more (e ∷ before) k) in
+        let there = in_group scene results most_failures n d b in
+        let s : VrState = (controller_state scene results d before).vr in
+        let as_it = leads_as before k1 d b leading in
+        let mine : (held r d (past_of scene (e ∷ before))).now ≡ at d before = ap (λ (w : journal.Held OwnInput SavingController Entry). w.now) (posted_now r d (held r d (past_of scene before))) ∙ is_now before k1 d in
+        let on = past_on scene results most_failures n more (e ∷ before) in
+        let many : Backed s.view (past_of scene past) =
+        subst (λ (es : List (journal.Entry OwnInput Entry)). Backed s.view es) (sym on.1)
+        (subst (λ (a : SavingController). (let z = r.state a in z.status ≡ core.Normal → d ≡ primary_of g z.view → 1 ≤ z.view → Backed z.view (on.0 ++ past_of scene (e ∷ before)))) mine
+        (backed_since follow o on.0 (past_of scene (e ∷ before)) d (subst (λ (es : List (journal.Entry OwnInput Entry)). journal.IsLegal r g es) on.1 (legal past k)) there) as_it.0 as_it.1 some) in
+        now_promised s.view (past_of scene past) past k (legal past k) (λ j. refl) many

@@ -42,7 +42,7 @@ impl Unmarked {
         Ok(())
     }
 
-    /// Marks the next one if it is of this life and its number is at most this one, and gives its place.
+    /// Marks the next one if it is of an earlier life, or of this one and its number is at most this one, and gives its place.
     fn mark(&mut self, life: u32, most: u64) -> Option<u64> {
         let place = next_place(self.listed.as_slice(), self.marked, life, most)?;
         self.marked = self.marked.saturating_add(1);
@@ -50,10 +50,10 @@ impl Unmarked {
     }
 }
 
-/// The place of the next one, if it is of this life and its number is at most this one.
+/// The place of the next one, if it is of an earlier life, or of this one and its number is at most this one.
 fn next_place(listed: &[Listed], marked: usize, life: u32, most: u64) -> Option<u64> {
     let next = listed.get(marked)?;
-    if next.life == life && next.number <= most {
+    if next.life < life || next.life == life && next.number <= most {
         Some(next.place)
     } else {
         None

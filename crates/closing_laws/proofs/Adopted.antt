@@ -11,11 +11,12 @@ use Rattle.vr_log.specs.declared.state.Supplied.{Supplied}
 use Rattle.vr_log.specs.declared.state.VrState.{VrState}
 use Rattle.vr_log.specs.Log.{is_log}
 use Rattle.vr_log.specs.Steps.{VrStep, quiet, guarded, is_sound, letter, tells}
+use Rattle.vr_log.proofs.Equal.{entries_same}
 use Rattle.view_change.specs.Adopting.{adopt, adopts, adopted, adopt_letters}
 use Rattle.vr_core.specs.declared.input.VrInput.TheVariants as vr_input
 use Rattle.vr_core.specs.Step.{vr_step, on_vr}
 use Rattle.closing_laws.specs.Views.{in_view, in_started}
-use Rattle.closing_laws.proofs.Members.{entries_same, guard_open}
+use Rattle.closing_laws.proofs.Members.{guard_open}
 
 module _ (s : VrState) (w : ℕ) (voters : List ℕ) (sent : Bool) (logs : List Collected) (supply : Option Supplied) (log : List Entry) (base commit : ℕ)
     (small : w % s.controllers < s.controllers) (other : w % s.controllers ≡ s.me → ⊥) (from : base ≤ s.commit) (up_to : s.commit ≤ commit) (within : commit ≤ length log) (one : is_log log ≡ true)

@@ -1,16 +1,15 @@
 -- What the others of a quorum have acknowledged is committed.
-use Rattle.std.proofs.Common.{◌≡◌, ◌≤◌, ◌<◌, ◌⊎◌, inl, inr, ℕ, zero, suc, ◌+◌, ◌/◌, Bool, true, false, List, [], ◌∷◌, ◌++◌, length, take, drop, max, refl, sym, ◌∙◌, ap, subst, arith, append-nil}
-use Rattle.std.specs.Prelude.{not, nat_eq, nat_le, ◌&&◌, slice_index, slice_set, filter, count_by, cond, if◌then◌else◌}
-use Rattle.std.proofs.lemmas.Bool.{eqb-false, eqb-true, eq-eqb, ne_eqb, le-leb, not-true, not-false, and_from}
-use Rattle.std.proofs.lemmas.List.{length-append}
+use Rattle.std.proofs.Common.{◌≡◌, ◌≤◌, ◌⊎◌, inl, inr, ℕ, suc, ◌+◌, ◌/◌, Bool, true, false, List, [], ◌∷◌, ◌++◌, length, take, drop, max, refl, sym, ◌∙◌, ap, subst, arith, append-nil}
+use Rattle.std.specs.Prelude.{not, nat_eq, nat_le, ◌&&◌, slice_index, filter, count_by, cond, if◌then◌else◌}
+use Rattle.std.proofs.lemmas.Bool.{eqb-false, eqb-true, le-leb}
 use Rattle.std.proofs.lemmas.List.Sums.{sum_by-cons}
-use Rattle.lists.specs.Lists.{IsIn}
-use Rattle.lists.proofs.Elements.{filter_has}
+use Rattle.std.proofs.Math.Bool.{and_comm}
 use Rattle.vr_log.specs.declared.entry.Entry.{Entry}
 use Rattle.vr_log.specs.declared.message.VrMessage.TheVariants as vr
 use Rattle.vr_log.specs.declared.state.VrState.{VrState}
-use Rattle.vr_log.specs.Members.{most_failures, others, others_below}
-use Rattle.vr_normal.specs.Cases.{acked_by, acks, agreed, counted, greatest, is_agreed, ops}
+use Rattle.vr_log.specs.Members.{most_failures, others_below}
+use Rattle.vr_normal.specs.Cases.{acks, agreed, counted, is_agreed}
+use Rattle.vr_normal.proofs.Agreed.{greatest_of}
 use Rattle.rv_runs.specs.declared.messages.Message.{Message}
 use Rattle.rv_runs.specs.declared.messages.Message.TheVariants as message
 use Rattle.closing_laws.specs.Quorum.{has}
@@ -19,24 +18,6 @@ use Rattle.closing_laws.proofs.Numbers.{Once, below_has, below_once, below_other
 use Rattle.closing_laws.proofs.Numbers as numbers
 use Rattle.closing_laws.proofs.Picked.{IsPicked}
 use Rattle.closing_laws.proofs.Followers.{keeps_up_longer, prepares_rise}
-
--- the greatest of some numbers
-greatest_bound : (least x : ℕ) (ns : List ℕ) → IsIn x ns → x ≤ greatest least ns
-greatest_bound least x [] h = absurd h
-greatest_bound least x (n ∷ ns) (inl e) = omega (arith, e)
-greatest_bound least x (n ∷ ns) (inr h) = let low = greatest_bound least x ns h in omega (arith, low)
-
-pub greatest_least : (least : ℕ) (ns : List ℕ) → least ≤ greatest least ns
-greatest_least least [] = omega arith
-greatest_least least (n ∷ ns) = let low = greatest_least least ns in omega (arith, low)
-
-ops_in : (op n : ℕ) → 0 < op → op ≤ n → IsIn op (ops n)
-ops_in op zero some le = absurd (omega (arith, some, le))
-ops_in op (suc n) some le = by_last (nat_eq op (suc n)) refl (λ low. ops_in op n some low)
-  where
-    by_last : (b : Bool) → nat_eq op (suc n) ≡ b → (op ≤ n → IsIn op (ops n)) → IsIn op (ops (suc n))
-    by_last true e below = inl (eqb-true op (suc n) e)
-    by_last false e below = let other = eqb-false op (suc n) e in inr (below (omega (arith, le, other)))
 
 -- as many as are among these pass a weaker test
 count_more : (p q : ℕ → Bool) (xs : List ℕ) → ((x : ℕ) → has xs x ≡ true → q x ≡ true → p x ≡ true) → length (filter q xs) ≤ count_by p xs
@@ -60,20 +41,14 @@ module _ (p : VrState) (view : ℕ) (quorum : List ℕ) (picked : IsPicked p.con
   others_are =
       ap (filter (λ j. not (nat_eq p.me j))) picked.ascending
       ∙ filter_twice (λ j. not (nat_eq p.me j)) (has quorum) (others_below n n)
-      ∙ filter_on (λ j. has quorum j && not (nat_eq p.me j)) (λ j. not (nat_eq p.me j) && has quorum j) (others_below n n) (λ j m. swap (has quorum j) (not (nat_eq p.me j)))
+      ∙ filter_on (λ j. has quorum j && not (nat_eq p.me j)) (λ j. not (nat_eq p.me j) && has quorum j) (others_below n n) (λ j m. and_comm (has quorum j) (not (nat_eq p.me j)))
       ∙ sym (filter_twice (has quorum) (λ j. not (nat_eq p.me j)) (others_below n n))
       ∙ ap (filter (has quorum)) (sym (below_others p.me n n (omega arith)))
-    where
-      swap : (a b : Bool) → (a && b) ≡ (b && a)
-      swap true true = refl
-      swap true false = refl
-      swap false true = refl
-      swap false false = refl
 
   quorum_once : Once quorum
   quorum_once = subst Once (sym picked.ascending) (filter_once (has quorum) (others_below n n) (below_once n n))
 
-  enough : length (filter (has quorum) (others_below p.me n)) ≡ n / 2
+  pub enough : length (filter (has quorum) (others_below p.me n)) ≡ n / 2
   enough =
       let all = others_but_one p.me quorum quorum_once mine in
       let same = ap (λ (l : List ℕ). length l) others_are in
@@ -95,30 +70,7 @@ module _ (p : VrState) (view : ℕ) (quorum : List ℕ) (picked : IsPicked p.con
       by_op true e = let none = eqb-true op 0 e in omega (arith, none)
       by_op false e =
           let some = eqb-false op 0 e in
-          greatest_bound p.commit op (filter (is_agreed p) (ops (length p.log)))
-          (filter_has (is_agreed p) (ops (length p.log)) op (ops_in op (length p.log) (omega (arith, some)) le) (all_agree op each))
-
--- no more than there is
-pub agreed_within : (p : VrState) → p.commit ≤ length p.log → agreed p ≤ length p.log
-agreed_within p le = bound (ops (length p.log)) (ops_small (length p.log))
-  where
-    by_test : (x : ℕ) (ns : List ℕ) (b : Bool) → is_agreed p x ≡ b → x ≤ length p.log → greatest p.commit (filter (is_agreed p) ns) ≤ length p.log →
-        greatest p.commit (if is_agreed p x then x ∷ filter (is_agreed p) ns else filter (is_agreed p) ns) ≤ length p.log
-    by_test x ns true e here low =
-        let same = ap (λ (c : Bool). greatest p.commit (if c then x ∷ filter (is_agreed p) ns else filter (is_agreed p) ns)) e in
-        omega (arith, low, here, same)
-    by_test x ns false e here low =
-        let same = ap (λ (c : Bool). greatest p.commit (if c then x ∷ filter (is_agreed p) ns else filter (is_agreed p) ns)) e in
-        omega (arith, low, same)
-
-    bound : (ns : List ℕ) → ((x : ℕ) → IsIn x ns → x ≤ length p.log) → greatest p.commit (filter (is_agreed p) ns) ≤ length p.log
-    bound [] small = le
-    bound (x ∷ ns) small = by_test x ns (is_agreed p x) refl (small x (inl refl)) (bound ns (λ y m. small y (inr m)))
-
-    ops_small : (k x : ℕ) → IsIn x (ops k) → x ≤ k
-    ops_small zero x h = absurd h
-    ops_small (suc k) x (inl e) = omega (arith, e)
-    ops_small (suc k) x (inr h) = let low = ops_small k x h in omega (arith, low)
+          greatest_of (is_agreed p) p.commit (length p.log) op (omega (arith, some)) le (all_agree op each)
 
 -- where the log grows
 pub agreed_longer : (p p' : VrState) (quorum : List ℕ) (more : List Entry) → p'.log ≡ p.log ++ more → p'.me ≡ p.me → p'.acked ≡ p.acked → p.commit ≤ p'.commit →

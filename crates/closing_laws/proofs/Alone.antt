@@ -1,7 +1,7 @@
 -- A controller alone in its group starts the view of a closing as it suspects it.
 use Rattle.std.proofs.Common.{◌≡◌, ◌≤◌, ◌<◌, ℕ, ◌/◌, ◌%◌, true, false, List, [], ◌∷◌, ◌++◌, length, map, take, refl, sym, ◌∙◌, ap, subst, arith}
 use Rattle.std.specs.Prelude.{nat_eq, reverse, Some, None}
-use Rattle.std.proofs.lemmas.Bool.{eq-eqb, ne_eqb, eqb-false, le-ltb}
+use Rattle.std.proofs.lemmas.Bool.{eq-eqb, ne_eqb, eqb-false, le-ltb, both_ways}
 use Rattle.of_types.specs.Setups.{IsSetup}
 use Rattle.rv_base.specs.declared.journal.Actor.{Actor}
 use Rattle.rv_base.specs.declared.journal.Actor.TheVariants as actor
@@ -31,7 +31,7 @@ use Rattle.closing_laws.specs.Quorum.{has}
 use Rattle.closing_laws.specs.Views.{HasBest, IsCovered, IsMember, gathering, lacks, log_of, started_with, tellers, turns_to_start}
 use Rattle.closing_laws.specs.Starts.{FindRoom, HasStartedIn, IsAttempt, Starts, StartsInTime, Last_suspects, members_at, quorum_after, starting_turn, turns_after, view_after}
 use Rattle.closing_laws.proofs.Begun as begun
-use Rattle.closing_laws.proofs.Numbers.{has_here, no_both}
+use Rattle.closing_laws.proofs.Numbers.{has_here}
 use Rattle.closing_laws.proofs.Steps as steps
 use Rattle.closing_laws.proofs.Taking.{By_suspicion, TurnOf, at, member_work, starting_later, turn_local}
 use Rattle.closing_laws.proofs.Walking.{later, later_is}
@@ -139,7 +139,7 @@ module _ {B : Type 0} (scene : Scene B) (results : List (List SaveResult)) (befo
     turn_is = starts_as;
     primary = ap (λ (k : ℕ). controller_state scene results k Q) first ∙ same ∙ turn.now;
     others = λ c chosen other. let less = small c chosen in let zero_it : c ≡ 0 = omega (arith, less, single) in absurd (eqb-false c (w % n) other (zero_it ∙ sym first));
-    outside = λ c less out. let zero_it : c ≡ 0 = omega (arith, less, single) in absurd (no_both (has quorum 0) there (ap (has quorum) (sym zero_it) ∙ out));
+    outside = λ c less out. let zero_it : c ≡ 0 = omega (arith, less, single) in absurd (both_ways (has quorum 0) (ap (has quorum) (sym zero_it) ∙ out) there);
     number = number;
     waits = waits ∙ ap (λ (k : ℕ). numbered number (actor.Controller k) (sealed_letters controller_message scene.sealing turn_work.letters)) (sym first);
     says = says;

@@ -20,8 +20,8 @@ use Rattle.rv_base.specs.declared.journal.Letter.{Letter}
 use Rattle.rv_base.specs.declared.journal.Packet.{Packet}
 use Rattle.rv_base.specs.declared.journal.SaveResult.{SaveResult}
 use Rattle.rv_base.specs.declared.journal.SaveResult.TheVariants.{Saved, KeptOld, KeptNew}
-use Rattle.lists.proofs.Elements.{all_of}
 use Rattle.lists.specs.Lists.{IsIn}
+use Rattle.lists.proofs.Elements.{all_of}
 use Rattle.vr_log.specs.Members.{leads}
 use Rattle.role_fence.specs.Fence.{Fence}
 use Rattle.of_switch.specs.declared.says.SwitchInput.{SwitchInput}

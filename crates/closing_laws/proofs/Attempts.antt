@@ -1,30 +1,29 @@
 -- A closing that ends has a last attempt, in which each save succeeds.
 use Rattle.std.proofs.Common.{◌≡◌, ◌≤◌, ◌<◌, ◌⊎◌, inl, inr, ℕ, zero, suc, ◌+◌, ◌%◌, Bool, true, false, List, [], ◌∷◌, ◌++◌, length, refl, sym, ◌∙◌, ap, subst, arith}
-use Rattle.std.specs.Prelude.{nat_eq, nat_lt, not, reverse, slice_index_or, Option, Some, None, if◌then◌else◌}
-use Rattle.std.proofs.lemmas.Bool.{cond_both, cases_lt, cases_eq, le-ltb, true≢false}
-use Rattle.rv_base.specs.declared.journal.Actor.{Actor}
+use Rattle.std.specs.Prelude.{nat_eq, nat_lt, not, slice_index_or, Option, Some, None, if◌then◌else◌}
+use Rattle.std.proofs.lemmas.Bool.{cond_both, cases_lt, true≢false}
 use Rattle.rv_base.specs.declared.journal.Actor.TheVariants as actor
 use Rattle.rv_base.specs.declared.journal.JournalEntry.{JournalEntry}
 use Rattle.rv_base.specs.declared.journal.JournalEntry.TheVariants.{Post, Draw, Lose, Local, Idle, Refused}
-use Rattle.rv_base.specs.declared.journal.Local.{Local as LocalInput}
 use Rattle.rv_base.specs.declared.journal.Packet.{Packet}
 use Rattle.rv_base.specs.declared.journal.SaveResult.{SaveResult}
 use Rattle.rv_base.specs.declared.journal.SaveResult.TheVariants.{Saved, KeptOld, KeptNew}
 use Rattle.rv_base.specs.Actors.{same_actor, actor_of}
-use Rattle.rv_base.specs.Part.{part, drawn}
+use Rattle.rv_base.specs.Part.{drawn}
 use Rattle.rv_base.specs.Pool.{pool}
+use Rattle.rv_base.proofs.Leaving.{same_actor-true}
 use Rattle.vr_log.specs.declared.entry.LogFull.{LogFull}
 use Rattle.vr_log.specs.Members.{is_up}
 use Rattle.group_controller.specs.declared.messages.ControllerInput.TheVariants as controller_input
 use Rattle.group_controller.specs.State.{ControllerState, Work}
 use Rattle.group_controller.specs.Rules.{controller_work}
-use Rattle.rv_runs.specs.States.{Scene, ControllerAt, content, controller_at, controller_hears, controller_saved, controller_step, controller_took}
+use Rattle.rv_runs.specs.States.{Scene, ControllerAt, content, controller_hears, controller_saved, controller_step}
 use Rattle.rv_runs.specs.Legal.{results_of}
 use Rattle.rv_runs.specs.Committed.{states_of, members_up}
-use Rattle.rv_runs.specs.Schedule.{Answer, Done, NoQuorum, IsEnd, Phase, Losing, Suspecting, Draining, Met, Move, Takes, Ends, ClosesTo, IsMove, IsPosted, after_member, after_move, after_turn, closing_view, is_drawn, is_turn, majority, met_by, next_drained, next_lost, next_move, next_suspicion, next_view}
-use Rattle.closing_laws.proofs.Taking.{at, others_stay, own_steps}
+use Rattle.rv_runs.specs.Schedule.{Phase, Losing, Suspecting, Draining, Met, Move, Takes, Ends, ClosesTo, IsMove, after_move, after_turn, is_drawn, is_turn, majority, met_by, next_drained, next_lost, next_move, next_suspicion, next_view}
+use Rattle.closing_laws.proofs.Taking.{at, own_steps}
 use Rattle.closing_laws.specs.Starts.{SavesSucceed}
-use Rattle.closing_laws.proofs.Between.{actors_same}
+use Rattle.closing_laws.proofs.Taking.{at, own_steps}
 use Rattle.closing_laws.proofs.Carrying.{controller_rests}
 use Rattle.closing_laws.proofs.Walking.{later}
 
@@ -91,13 +90,13 @@ module _ {B : Type 0} (scene : Scene B) (results : List (List SaveResult)) where
   lost_on group states [] = view_on group states
   lost_on group states (p ∷ ps) = tt
 
-  move_on : (phase : Phase) (P : Past) → NoLimit (next_move scene results phase P)
+  pub move_on : (phase : Phase) (P : Past) → NoLimit (next_move scene results phase P)
   move_on Losing P = lost_on scene.setup.controllers (states_of scene results P) (pool P)
   move_on (Suspecting view quorum members) P = suspicion_on scene.setup.controllers view quorum members (pool P)
   move_on (Draining view quorum) P = drained_on scene.setup.controllers view quorum (pool P)
   move_on (Met limit) P = tt
 
-  not_met : (move : Move B) (e : JournalEntry B) (limit : LogFull) → NoLimit move → IsMove move e (Met limit) → ⊥
+  pub not_met : (move : Move B) (e : JournalEntry B) (limit : LogFull) → NoLimit move → IsMove move e (Met limit) → ⊥
   not_met (Takes f Losing) e limit on h = let m = h.1 in cc
   not_met (Takes f (Suspecting view quorum members)) e limit on h = let m = h.1 in cc
   not_met (Takes f (Draining view quorum)) e limit on h = let m = h.1 in cc
@@ -144,12 +143,6 @@ module _ {B : Type 0} (scene : Scene B) (results : List (List SaveResult)) where
   course (Lose a packet ∷ rest) P phase last closes = then_course P (Lose a packet) rest last tt (course rest (Lose a packet ∷ P) closes.1.0 last closes.1.2)
   course (Idle a ∷ rest) P phase last closes = then_course P (Idle a) rest last tt (course rest (Idle a ∷ P) closes.1.0 last closes.1.2)
   course (Refused a ∷ rest) P phase last closes = then_course P (Refused a) rest last tt (course rest (Refused a ∷ P) closes.1.0 last closes.1.2)
-
-  -- the save of a turn that leaves its controller up
-  saved_up : (w : ControllerAt) (work : Work) (promise life : ℕ) (r : SaveResult) → is_up (controller_saved w work promise life r).now.vr ≡ true → r ≡ Saved
-  saved_up w work promise life Saved up = refl
-  saved_up w work promise life KeptOld up = absurd (true≢false (sym up))
-  saved_up w work promise life KeptNew up = absurd (true≢false (sym up))
 
   -- a turn makes at most one save, and where its controller stays up that succeeds
   record Counted (rs : List SaveResult) (w t : ControllerAt) : Type 0 where
@@ -237,7 +230,7 @@ module _ {B : Type 0} (scene : Scene B) (results : List (List SaveResult)) where
     where
       by_actor : (b : Bool) → same_actor (actor_of e) (actor.Controller c) ≡ b → Counted (results_of results c) (at scene results c P) (at scene results c (e ∷ P))
       by_actor true mine =
-          let whose = actors_same (actor_of e) (actor.Controller c) mine in
+          let whose = same_actor-true (actor_of e) (actor.Controller c) mine in
           let is = own_steps scene results c e P whose in
           let ups = subst (λ (t : ControllerAt). (is_up t.now.vr ≡ true) ⊎ (is_turn e ≡ false)) is (leaves_own c e P whose up) in
           subst (λ (t : ControllerAt). Counted (results_of results c) (at scene results c P) t) (sym is) (own_counted c e P whose taken (drawn e P) ups)

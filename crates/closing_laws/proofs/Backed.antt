@@ -1,5 +1,5 @@
 -- A controller that led a view above 0 as it posted has f + 1 controllers that promise the view, from then on.
-use Rattle.std.proofs.Common.{◌≡◌, ℕ, ◌+◌, ◌*◌, ◌<◌, ◌≤◌, Bool, true, false, cond, nat_le, eqb, leb, None, List, [], ◌∷◌, ◌++◌, refl, sym, ap, ◌∙◌, subst, arith, le_refl, le_trans, append-nil}
+use Rattle.std.proofs.Common.{◌≡◌, ℕ, ◌+◌, ◌*◌, ◌<◌, ◌≤◌, true, nat_le, leb, List, [], ◌∷◌, ◌++◌, refl, sym, ap, ◌∙◌, subst, arith, le_refl, le_trans, append-nil}
 use Rattle.std.proofs.lemmas.Bool.{and_parts, eqb-true, leb-true, le-leb}
 use Rattle.rv_base.specs.declared.journal.Actor.TheVariants as actor
 use Rattle.rv_base.specs.declared.journal.JournalEntry.{JournalEntry}
@@ -65,17 +65,6 @@ module _ {Own A E : Type 0} {r : Rules Own A E} {g : Group E} (f : Follows r g) 
       (λ j l e. let u = leb-true view (r.promise (held r j past).now) e in let p = promises_rise more past k j in le-leb view (r.promise (held r j (more ++ past)).now) (omega (arith, u, p))) in
       omega (arith, then_many, more_now)
 
--- what is posted changes no state
-settled_posts : {Own A E : Type 0} (r : Rules Own A E) (c j : ℕ) (past : List (journal.Entry Own E)) → settled r j (journal.Posts c ∷ past) ≡ settled r j past
-settled_posts r c j past = by_own (eqb c j)
-  where
-    by_own : (t : Bool)
-        → (let w = held r j past in
-        let v = cond t (record { now = settled_by r j w.now w.open_input; open_input = None }) w in
-        settled_by r j v.now v.open_input ≡ settled_by r j w.now w.open_input)
-    by_own true = refl
-    by_own false = refl
-
 pub read_more : {B : Type 0} (scene : Scene B) (results : List (List SaveResult)) (more past : List (JournalEntry B)) → IsReadPast scene results (more ++ past) → IsReadPast scene results past
 read_more scene results [] past k = k
 read_more scene results (e ∷ more) past k = read_more scene results more past (read_before scene results e (more ++ past) k)
@@ -134,21 +123,6 @@ module _ {B : Type 0} (scene : Scene B) (results : List (List SaveResult)) (most
         let u = leb-true view (r.promise (held r j es).now) h in
         le-leb view (controller_state scene results j past).vr.promise (omega (arith, u, rises, is))) in
         subst (λ (m : ℕ). most_failures < count_below (λ j. nat_le view (controller_state scene results j past).vr.promise) m) (sym (whole_group n)) (omega (arith, many, settle))
-
-    -- f + 1 promise the view of one that leads
-    pub backed_here : (past : List (JournalEntry B)) (d : ℕ) → IsReadPast scene results past → d < scene.setup.controllers →
-        (let s = (controller_state scene results d past).vr in
-        member.leads s ≡ true → 1 ≤ s.view → most_failures < count_below (λ j. nat_le s.view (controller_state scene results j past).vr.promise) scene.setup.controllers)
-    backed_here past d k b leading some =
-        let follow = follow_law scene.kinds scene.setup most_failures (λ c. results_of results c) in
-        let there = in_group scene results most_failures n d b in
-        let es : List (journal.Entry OwnInput Entry) = journal.Posts d ∷ past_of scene past in
-        let as_it = leads_as past k d b leading in
-        let mine : (held r d es).now ≡ at d past = ap (λ (w : journal.Held OwnInput SavingController Entry). w.now) (posted_now r d (held r d (past_of scene past))) ∙ is_now past k d in
-        let many : Backed (controller_state scene results d past).vr.view es =
-        subst (λ (a : SavingController). (let z = r.state a in z.status ≡ core.Normal → d ≡ primary_of g z.view → 1 ≤ z.view → Backed z.view es)) mine
-        (backed_since follow o [] es d (there, legal past k) there) as_it.0 as_it.1 some in
-        now_promised (controller_state scene results d past).vr.view es past k (there, legal past k) (λ j. settled_posts r d j (past_of scene past)) many
 
     -- and for ever that of one that led as it posted
     pub backed_now : (more before : List (JournalEntry B)) (d first lost : ℕ) (letters : List (Letter B)) → IsReadPast scene results (more ++ Post (actor.Controller d) first letters lost ∷ before) → d < scene.setup.controllers →

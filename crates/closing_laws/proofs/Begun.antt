@@ -52,7 +52,7 @@ pub later_append : {B : Type 0} (P first rest : List (JournalEntry B)) → later
 later_append P [] rest = refl
 later_append P (e ∷ first) rest = later_append (e ∷ P) first rest
 
-room_behind : {B : Type 0} (first rest : List (JournalEntry B)) → FindRoom (first ++ rest) → FindRoom rest
+pub room_behind : {B : Type 0} (first rest : List (JournalEntry B)) → FindRoom (first ++ rest) → FindRoom rest
 room_behind [] rest room = room
 room_behind (e ∷ first) rest room = room_behind first rest room.1
 

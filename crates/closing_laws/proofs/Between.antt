@@ -1,24 +1,13 @@
 -- What is between two actors as a message leaves and letters are posted.
-use Rattle.std.proofs.Common.{◌≡◌, ◌⊎◌, inl, inr, ℕ, Bool, true, false, List, [], ◌∷◌, ◌++◌, map, refl, sym, ◌∙◌, ap, subst}
-use Rattle.std.specs.Prelude.{nat_eq, ◌&&◌, if◌then◌else◌}
-use Rattle.std.proofs.lemmas.Bool.{eq-eqb, eqb-true, and_right}
-use Rattle.lists.specs.Lists.{IsIn}
+use Rattle.std.proofs.Common.{◌≡◌, Bool, true, false, List, [], ◌∷◌, ◌++◌, map, refl, ◌∙◌, ap}
+use Rattle.std.specs.Prelude.{◌&&◌, if◌then◌else◌}
+use Rattle.std.proofs.lemmas.List.{append-nil}
 use Rattle.rv_base.specs.declared.journal.Actor.{Actor}
-use Rattle.rv_base.specs.declared.journal.Actor.TheVariants as actor
 use Rattle.rv_base.specs.declared.journal.Letter.{Letter}
 use Rattle.rv_base.specs.Actors.{same_actor}
+use Rattle.rv_base.proofs.Leaving.{same_actor-refl}
 use Rattle.rv_runs.specs.declared.messages.Message.{Message}
 use Rattle.closing_laws.specs.Ways.{Sent, sent_by, goes, between, told_to}
-
-pub own_actor : (a : Actor) → same_actor a a ≡ true
-own_actor (actor.Controller c) = eq-eqb c c refl
-own_actor (actor.Switch s) = eq-eqb s s refl
-
-pub actors_same : (a b : Actor) → same_actor a b ≡ true → a ≡ b
-actors_same (actor.Controller c) (actor.Controller d) e = ap (λ (k : ℕ). actor.Controller k) (eqb-true c d e)
-actors_same (actor.Switch s) (actor.Switch t) e = ap (λ (k : ℕ). actor.Switch k) (eqb-true s t e)
-actors_same (actor.Controller c) (actor.Switch t) e = absurd cc
-actors_same (actor.Switch s) (actor.Controller d) e = absurd cc
 
 pub between_joined : (from to : Actor) (ms ns : List Sent) → between from to (ms ++ ns) ≡ between from to ms ++ between from to ns
 between_joined from to [] ns = refl
@@ -38,13 +27,13 @@ between_own from to m ms f t = ap (λ (b : Bool). if b then m.said ∷ between f
   where
     way : goes from to m ≡ true
     way = ap (λ (a : Actor). same_actor a from && same_actor m.to to) f ∙ ap (λ (a : Actor). same_actor from from && same_actor a to) t
-        ∙ ap (λ (b : Bool). b && same_actor to to) (own_actor from) ∙ own_actor to
+        ∙ ap (λ (b : Bool). b && same_actor to to) (same_actor-refl from) ∙ same_actor-refl to
 
 -- letters of an actor
 pub between_sent : {A : Type 0} (says : A → Message) (from to : Actor) (letters : List (Letter A)) → between from to (map (sent_by says from) letters) ≡ told_to says to letters
 between_sent says from to [] = refl
 between_sent says from to (l ∷ letters) =
-    ap (λ (b : Bool). if b && same_actor l.to to then says l.body ∷ between from to (map (sent_by says from) letters) else between from to (map (sent_by says from) letters)) (own_actor from)
+    ap (λ (b : Bool). if b && same_actor l.to to then says l.body ∷ between from to (map (sent_by says from) letters) else between from to (map (sent_by says from) letters)) (same_actor-refl from)
     ∙ ap (λ (ms : List Message). if same_actor l.to to then says l.body ∷ ms else ms) (between_sent says from to letters)
 
 pub between_sent_by : {A : Type 0} (says : A → Message) (other from to : Actor) (letters : List (Letter A)) → same_actor other from ≡ false → between from to (map (sent_by says other) letters) ≡ []
@@ -61,8 +50,4 @@ posted_own says from to ms letters = between_joined from to ms (map (sent_by say
 pub posted_other : {A : Type 0} (says : A → Message) (other from to : Actor) (ms : List Sent) (letters : List (Letter A)) → same_actor other from ≡ false →
     between from to (ms ++ map (sent_by says other) letters) ≡ between from to ms
 posted_other says other from to ms letters e =
-    between_joined from to ms (map (sent_by says other) letters) ∙ ap (λ (l : List Message). between from to ms ++ l) (between_sent_by says other from to letters e) ∙ nothing (between from to ms)
-  where
-    nothing : (l : List Message) → l ++ [] ≡ l
-    nothing [] = refl
-    nothing (x ∷ xs) = ap (λ (k : List Message). x ∷ k) (nothing xs)
+    between_joined from to ms (map (sent_by says other) letters) ∙ ap (λ (l : List Message). between from to ms ++ l) (between_sent_by says other from to letters e) ∙ append-nil (between from to ms)

@@ -2,7 +2,9 @@
 -- its last one tells its log to the primary.
 use Rattle.std.proofs.Common.{◌≡◌, ◌<◌, inl, inr, ℕ, zero, suc, ◌+◌, ◌-◌, ◌/◌, ◌%◌, Bool, true, false, List, [], ◌∷◌, ◌++◌, length, map, drop, refl, sym, ◌∙◌, ap, subst, arith, append-nil, append_assoc}
 use Rattle.std.specs.Prelude.{not, nat_eq, ◌&&◌, ◌||◌, filter, if◌then◌else◌}
-use Rattle.std.proofs.lemmas.Bool.{eq-eqb, ne_eqb, eqb-true, eqb-false, cases_lt}
+use Rattle.std.proofs.lemmas.Bool.{eq-eqb, ne_eqb, eqb-true, eqb-false, cases_lt, both_ways}
+use Rattle.std.proofs.lemmas.List.{map-append}
+use Rattle.std.proofs.Math.Bool.{or-false, or_assoc}
 use Rattle.vr_log.specs.declared.message.VrMessage.TheVariants as message
 use Rattle.vr_log.specs.declared.state.VrState.{VrState}
 use Rattle.vr_log.specs.Members.{is_changing}
@@ -15,7 +17,7 @@ use Rattle.closing_laws.specs.Draining.{Flight, Group, flown, put, drained, drai
 use Rattle.closing_laws.specs.Views.{IsMember, vote_letters, voting}
 use Rattle.closing_laws.proofs.Words.{call, log_sent}
 use Rattle.closing_laws.proofs.Members.{vote_taken}
-use Rattle.closing_laws.proofs.Numbers.{Once, has_here, has_later, no_both, with_length}
+use Rattle.closing_laws.proofs.Numbers.{Once, has_here, has_later, with_length}
 
 -- the members of a quorum change view
 abbrev pub AreChanging : List ℕ → (ℕ → VrState) → Type 0
@@ -94,15 +96,7 @@ after_is n quorum g at at' pool pool' turns turns' h each p t =
 pub after_count : (n m : ℕ) (quorum : List ℕ) (g : Group) (at : ℕ → VrState) (pool : List Flight) (turns : ℕ) → n ≡ m → After n quorum g at pool turns → After m quorum g at pool turns
 after_count n m quorum g at pool turns same h = subst (λ (k : ℕ). After k quorum g at pool turns) same h
 
-or_none : (b : Bool) → b ≡ (b || false)
-or_none true = refl
-or_none false = refl
-
-pub map_append : (k : ℕ → Flight) (xs ys : List ℕ) → map k (xs ++ ys) ≡ map k xs ++ map k ys
-map_append k [] ys = refl
-map_append k (x ∷ xs) ys = ap (λ (l : List Flight). k x ∷ l) (map_append k xs ys)
-
-one_more : (b : Bool) (j : ℕ) (xs : List ℕ) → (if b then j ∷ [] else []) ++ xs ≡ (if b then j ∷ xs else xs)
+pub one_more : (b : Bool) (j : ℕ) (xs : List ℕ) → (if b then j ∷ [] else []) ++ xs ≡ (if b then j ∷ xs else xs)
 one_more true j xs = refl
 one_more false j xs = refl
 
@@ -222,12 +216,8 @@ module _ (n w : ℕ) (quorum : List ℕ) (start : ℕ → VrState) (ready : (j :
             (rw (member, free.unheard, eq-eqb j j refl) refl)
         placed x false e =
             let apart : nat_eq j x ≡ false = ne_eqb j x (λ i. eqb-false x j e (sym i)) in
-            let same : heard x ≡ (heard x || nat_eq j x) = rw apart (or_none (heard x)) in
+            let same : heard x ≡ (heard x || nat_eq j x) = rw apart (sym (or-false (heard x))) in
             each x ∙ ap (λ (b : Bool). if has quorum x then voting (n / 2) w (w % n) (start x) (if b then with_number c (voters x) else voters x) else start x) same
-
-    or_on : (a b d : Bool) → ((a || b) || d) ≡ (a || (b || d))
-    or_on true b d = refl
-    or_on false b d = refl
 
     told_by : (heard heard' : ℕ → Bool) (at : ℕ → VrState) → ((j : ℕ) → at j ≡ held (told heard) j) → ((j : ℕ) → heard j ≡ heard' j) → (j : ℕ) → at j ≡ held (told heard') j
     told_by heard heard' at each same j =
@@ -240,10 +230,10 @@ module _ (n w : ℕ) (quorum : List ℕ) (start : ℕ → VrState) (ready : (j :
         (rest ++ map (log_sent start w (w % n)) (filter tells_now js)) (turns + length (filter (has quorum) js))
     calls_drained small [] heard at rest turns each once unheard all =
         none_after quorum at (held (told (λ x. heard x || false))) rest (rest ++ []) turns (turns + 0)
-        (told_by heard (λ x. heard x || false) at each (λ j. or_none (heard j))) (sym (append-nil rest)) (omega arith)
+        (told_by heard (λ x. heard x || false) at each (λ j. sym (or-false (heard j)))) (sym (append-nil rest)) (omega arith)
     calls_drained small (j ∷ js) heard at rest turns each once unheard all =
         let later : (heard' : ℕ → Bool) → ((x : ℕ) → heard' x ≡ (heard x || nat_eq j x)) → (x : ℕ) → has js x ≡ true → heard' x ≡ false =
-        (λ heard' is x h. is x ∙ rw (unheard x (has_later j x js h), ne_eqb j x (λ e. no_both (has js x) h (ap (has js) (sym e) ∙ once.0))) refl) in
+        (λ heard' is x h. is x ∙ rw (unheard x (has_later j x js h), ne_eqb j x (λ e. both_ways (has js x) (ap (has js) (sym e) ∙ once.0) h)) refl) in
         let one : 1 + length js ≡ length (j ∷ js) = omega arith in
         subst (λ (k : ℕ). After k quorum (record { at = at; pool = map (call w c) (j ∷ js) ++ rest; turns = turns }) (held (told (λ x. heard x || has (j ∷ js) x)))
         (rest ++ map (log_sent start w (w % n)) (filter tells_now (j ∷ js))) (turns + length (filter (has quorum) (j ∷ js)))) one
@@ -267,7 +257,7 @@ module _ (n w : ℕ) (quorum : List ℕ) (start : ℕ → VrState) (ready : (j :
             let final = rest ++ map (log_sent start w (w % n)) (filter tells_now (j ∷ js)) in
             let joined : rest' ++ map (log_sent start w (w % n)) (filter tells_now js) ≡ final =
             append_assoc rest (map (log_sent start w (w % n)) told_one) (map (log_sent start w (w % n)) (filter tells_now js))
-            ∙ ap (λ (l : List Flight). rest ++ l) (sym (map_append (log_sent start w (w % n)) told_one (filter tells_now js)))
+            ∙ ap (λ (l : List Flight). rest ++ l) (sym (map-append (log_sent start w (w % n)) told_one (filter tells_now js)))
             ∙ ap (λ (l : List ℕ). rest ++ map (log_sent start w (w % n)) l) (one_more b j (filter tells_now js)
             ∙ ap (λ (a : Bool). if a && b then j ∷ filter tells_now js else filter tells_now js) (sym member)) in
             let count : turns + 1 + length (filter (has quorum) js) ≡ turns + length (filter (has quorum) (j ∷ js)) = rw member (omega arith) in
@@ -278,7 +268,7 @@ module _ (n w : ℕ) (quorum : List ℕ) (start : ℕ → VrState) (ready : (j :
             (held (told (λ x. heard x || has (j ∷ js) x))) (rest' ++ map (log_sent start w (w % n)) (filter tells_now js)) final
             (turns + 1 + length (filter (has quorum) js)) (turns + length (filter (has quorum) (j ∷ js))) (further found is rest' (turns + 1))
             (told_by (λ x. (heard x || nat_eq j x) || has js x) (λ x. heard x || (nat_eq j x || has js x)) (held (told (λ x. (heard x || nat_eq j x) || has js x))) (λ x. refl)
-            (λ x. or_on (heard x) (nat_eq j x) (has js x))) joined count)
+            (λ x. or_assoc (heard x) (nat_eq j x) (has js x))) joined count)
         by_member false other further =
             let final = rest ++ map (log_sent start w (w % n)) (filter tells_now (j ∷ js)) in
             let joined : rest ++ map (log_sent start w (w % n)) (filter tells_now js) ≡ final =
@@ -291,7 +281,7 @@ module _ (n w : ℕ) (quorum : List ℕ) (start : ℕ → VrState) (ready : (j :
             (held (told (λ x. heard x || has (j ∷ js) x))) (rest ++ map (log_sent start w (w % n)) (filter tells_now js)) final
             (turns + length (filter (has quorum) js)) (turns + length (filter (has quorum) (j ∷ js))) (further found is rest turns)
             (told_by (λ x. (heard x || nat_eq j x) || has js x) (λ x. heard x || (nat_eq j x || has js x)) (held (told (λ x. (heard x || nat_eq j x) || has js x))) (λ x. refl)
-            (λ x. or_on (heard x) (nat_eq j x) (has js x))) joined count)
+            (λ x. or_assoc (heard x) (nat_eq j x) (has js x))) joined count)
           where
             stays : (x : ℕ) (b : Bool) → nat_eq j x ≡ b → at x ≡ held (told (λ y. heard y || nat_eq j y)) x
             stays x true e =
@@ -300,4 +290,4 @@ module _ (n w : ℕ) (quorum : List ℕ) (start : ℕ → VrState) (ready : (j :
                 each x ∙ rw none refl
             stays x false e =
                 each x ∙ ap (λ (b : Bool). if has quorum x then voting (n / 2) w (w % n) (start x) (if b then with_number c (voters x) else voters x) else start x)
-                (rw e (or_none (heard x)))
+                (rw e (sym (or-false (heard x))))

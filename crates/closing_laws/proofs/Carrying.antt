@@ -1,6 +1,6 @@
 -- What waits in a journal, as messages; and what one entry of a closing does to what actors hold.
-use Rattle.std.proofs.Common.{◌≡◌, ◌≤◌, ◌<◌, ◌⊎◌, inl, inr, ℕ, ◌+◌, Bool, true, false, List, [], ◌∷◌, ◌++◌, map, length, refl, sym, ◌∙◌, ap, subst, arith}
-use Rattle.std.specs.Prelude.{nat_eq, ◌&&◌, ◌^◌, slice_index_or, Option, Some, None, if◌then◌else◌}
+use Rattle.std.proofs.Common.{◌≡◌, inl, inr, ℕ, ◌+◌, Bool, true, false, List, [], ◌∷◌, ◌++◌, map, length, refl, sym, ◌∙◌, ap, subst}
+use Rattle.std.specs.Prelude.{slice_index_or, Option, Some, None, if◌then◌else◌}
 use Rattle.std.specs.List.{AllByRecursion}
 use Rattle.std.proofs.lemmas.Bool.{and_parts, leb-true}
 use Rattle.of_types.specs.declared.message.Event.{Event}
@@ -9,21 +9,20 @@ use Rattle.of_types.specs.declared.setup.Setup.{Setup}
 use Rattle.rv_base.specs.declared.journal.Actor.{Actor}
 use Rattle.rv_base.specs.declared.journal.Actor.TheVariants as actor
 use Rattle.rv_base.specs.declared.journal.JournalEntry.{JournalEntry}
-use Rattle.rv_base.specs.declared.journal.JournalEntry.TheVariants.{Post, Draw, Lose, Local, Idle, Refused}
+use Rattle.rv_base.specs.declared.journal.JournalEntry.TheVariants.{Post, Draw, Lose}
 use Rattle.rv_base.specs.declared.journal.Letter.{Letter}
 use Rattle.rv_base.specs.declared.journal.Packet.{Packet}
 use Rattle.rv_base.specs.declared.journal.SaveResult.{SaveResult}
 use Rattle.rv_base.specs.declared.journal.SaveResult.TheVariants.{Saved}
 use Rattle.rv_base.specs.Actors.{same_actor, actor_of}
 use Rattle.rv_base.specs.Part.{part, drawn, packet_of}
-use Rattle.rv_base.specs.Pool.{pool, numbered, without}
+use Rattle.rv_base.specs.Pool.{pool, numbered}
 use Rattle.lists.specs.Lists.{IsIn}
-use Rattle.of_switch.specs.declared.says.SwitchInput.{SwitchInput}
 use Rattle.of_switch.specs.declared.says.SwitchSays.{SwitchSays}
 use Rattle.of_switch.specs.Rules.{switch_turn}
 use Rattle.group_controller.specs.declared.messages.ControllerInput.{ControllerInput}
 use Rattle.group_controller.specs.declared.messages.ControllerSays.{ControllerSays}
-use Rattle.group_controller.specs.State.{ControllerState, Work}
+use Rattle.group_controller.specs.State.{Work}
 use Rattle.group_controller.specs.Rules.{controller_work}
 use Rattle.rv_runs.specs.declared.messages.Message.{Message}
 use Rattle.rv_runs.specs.declared.messages.Unsealed.{Unsealed}
@@ -32,12 +31,13 @@ use Rattle.rv_runs.specs.declared.messages.Way.{Way}
 use Rattle.rv_runs.specs.Messages.{FitsMessage, IsValidMessage, way_of, way_of_message}
 use Rattle.rv_runs.specs.States.{Scene, Sealing, IsFaithful, ControllerAt, SwitchAt, content, controller_at, controller_hears, controller_message, controller_saved, controller_took, controller_step, sealed_letters, switch_at, switch_hears, switch_message, switch_step, switch_took}
 use Rattle.rv_runs.specs.Legal.{results_of}
-use Rattle.rv_runs.proofs.Pasts.{self_controller, self_switch}
+use Rattle.rv_runs.proofs.Pasts.{self_switch}
 use Rattle.exactly_once.specs.Facts.{PastFacts}
 use Rattle.exactly_once.specs.Invariant.{IsOrder, IsReport, Reported, Forwarded, ToMember, ToSwitch}
 use Rattle.exactly_once.proofs.Packets.{reported_valid, told_valid}
 use Rattle.closing_laws.specs.Ways.{Sent, sent_by}
-use Rattle.closing_laws.proofs.Taking.{at, others_stay, own_steps}
+use Rattle.closing_laws.proofs.Taking.{at, own_steps}
+use Rattle.closing_laws.proofs.Paired.{ArePaired, paired_append, paired_none}
 
 -- what an actor may say can be sealed, on the way of its kind
 abbrev pub MaySay : {A : Type 0} → (A → Message) → Actor → Letter A → Type 0
@@ -64,16 +64,10 @@ module _ {B : Type 0} (sealing : Sealing B) where
     pub says : content sealing p ≡ unsealed.Message m.said
 
   abbrev pub AllCarry : List (Packet B) → List Sent → Type 0
-  AllCarry [] [] = Unit {0}
-  AllCarry [] (m ∷ ms) = ⊥
-  AllCarry (p ∷ ps) [] = ⊥
-  AllCarry (p ∷ ps) (m ∷ ms) = Carries p m × AllCarry ps ms
+  AllCarry ps ms = ArePaired Carries ps ms
 
   pub carry_both : (ps qs : List (Packet B)) (ms ns : List Sent) → AllCarry ps ms → AllCarry qs ns → AllCarry (ps ++ qs) (ms ++ ns)
-  carry_both [] qs [] ns a b = b
-  carry_both [] qs (m ∷ ms) ns a b = absurd a
-  carry_both (p ∷ ps) qs [] ns a b = absurd a
-  carry_both (p ∷ ps) qs (m ∷ ms) ns a b = (a.0, carry_both ps qs ms ns a.1 b)
+  carry_both = paired_append Carries
 
   -- letters that are posted carry what they say
   pub letters_carry : {A : Type 0} → IsFaithful sealing → (says : A → Message) (a : Actor) (first : ℕ) (letters : List (Letter A)) → ((l : Letter A) → IsIn l letters → MaySay says a l) →
@@ -119,8 +113,7 @@ module _ {B : Type 0} (sealing : Sealing B) where
   head_of (p ∷ ps) m waiting a = record { packet = p; rest = ps; is = refl; carries = a.0; others = a.1 }
 
   pub none_carried : (ps : List (Packet B)) → AllCarry ps [] → ps ≡ []
-  none_carried [] a = refl
-  none_carried (p ∷ ps) a = absurd a
+  none_carried = paired_none Carries
 
 module _ {B : Type 0} (scene : Scene B) (results : List (List SaveResult)) where
   abbrev pub sw : ℕ → List (JournalEntry B) → SwitchAt

@@ -1,33 +1,21 @@
 -- The members that a closing takes are a quorum.
 use Rattle.std.proofs.Common.{◌≡◌, ◌≤◌, ◌<◌, inl, inr, ℕ, zero, suc, ◌/◌, ◌%◌, Bool, true, false, List, [], ◌∷◌, length, take, refl, sym, ◌∙◌, ap, subst, arith}
 use Rattle.std.specs.Prelude.{not, nat_eq, ◌&&◌, ◌||◌, filter, if◌then◌else◌}
-use Rattle.std.proofs.lemmas.Bool.{eq-eqb, ne_eqb, eqb-true, eqb-false, or_left, or_cases, true≢false}
+use Rattle.std.proofs.lemmas.Bool.{eq-eqb, ne_eqb, eqb-true, eqb-false, or_left, or_cases, true≢false, both_ways, false_from_ne_true}
 use Rattle.std.proofs.lemmas.List.{length-take-le}
 use Rattle.vr_log.specs.Members.{others_below}
 use Rattle.rv_runs.specs.Schedule.{quorum_of}
 use Rattle.closing_laws.specs.Quorum.{has, AreAmong}
-use Rattle.closing_laws.proofs.Numbers.{Once, has_here, has_later, no_both, filter_has, filter_once, filter_twice, filter_on, others_but_one, below_once}
+use Rattle.closing_laws.proofs.Numbers.{Once, has_here, has_later, filter_has, filter_once, filter_twice, filter_on, others_but_one, below_once, filter_in, filter_no}
 use Rattle.closing_laws.proofs.Picked.{IsPicked}
 
 -- what a list has, of those that pass a test
 has_filter : (t : ℕ → Bool) (xs : List ℕ) (j : ℕ) → has xs j ≡ true → has (filter t xs) j ≡ t j
-has_filter t [] j h = absurd (true≢false (sym h))
-has_filter t (x ∷ xs) j h = by_first (nat_eq x j) refl (t x) refl (λ k. has_filter t xs j k)
+has_filter t xs j h = by_test (t j) refl
   where
-    by_first : (a : Bool) → nat_eq x j ≡ a → (b : Bool) → t x ≡ b → (has xs j ≡ true → has (filter t xs) j ≡ t j) → has (if b then x ∷ filter t xs else filter t xs) j ≡ t j
-    by_first true e true k rest = or_left (nat_eq x j) (has (filter t xs) j) e ∙ sym k ∙ ap t (eqb-true x j e)
-    by_first true e false k rest =
-        let out : t j ≡ false = ap t (sym (eqb-true x j e)) ∙ k in
-        not_there (has (filter t xs) j) refl out ∙ sym out
-      where
-        not_there : (d : Bool) → has (filter t xs) j ≡ d → t j ≡ false → d ≡ false
-        not_there true i out = absurd (no_both (t j) (filter_has t xs j i).1 out)
-        not_there false i out = refl
-    by_first false e true k rest = ap (λ (d : Bool). d || has (filter t xs) j) e ∙ rest (later e)
-      where
-        later : nat_eq x j ≡ false → has xs j ≡ true
-        later i = elim (or_cases (nat_eq x j) (has xs j) h) [ inl at ↦ absurd (no_both (nat_eq x j) at i) | inr there ↦ there ]
-    by_first false e false k rest = rest (elim (or_cases (nat_eq x j) (has xs j) h) [ inl at ↦ absurd (no_both (nat_eq x j) at e) | inr there ↦ there ])
+    by_test : (b : Bool) → t j ≡ b → has (filter t xs) j ≡ b
+    by_test true e = filter_in t xs j h e
+    by_test false e = false_from_ne_true (has (filter t xs) j) (λ k. both_ways (t j) e (filter_has t xs j k).1)
 
 -- one number more
 one_more : (up ys : List ℕ) (y : ℕ) → Once up → has up y ≡ true → has ys y ≡ false → length (filter (has (y ∷ ys)) up) ≡ suc (length (filter (has ys) up))
@@ -40,7 +28,7 @@ one_more (x ∷ up) ys y once there new = by_first (nat_eq y x) refl (λ k. one_
         let same : y ≡ x = eqb-true y x e in
         let none : has ys x ≡ false = ap (has ys) (sym same) ∙ new in
         let rest_same : filter (has (y ∷ ys)) up ≡ filter (has ys) up =
-        filter_on (has (y ∷ ys)) (has ys) up (λ j k. ap (λ (d : Bool). d || has ys j) (ne_eqb y j (λ i. no_both (has up j) k (ap (has up) (sym i ∙ same) ∙ once.0)))) in
+        filter_on (has (y ∷ ys)) (has ys) up (λ j k. ap (λ (d : Bool). d || has ys j) (ne_eqb y j (λ i. both_ways (has up j) (ap (has up) (sym i ∙ same) ∙ once.0) k))) in
         rw none (ap (λ (l : List ℕ). suc (length l)) rest_same)
     by_first false e rest = by_second (has ys x) (rest (elim (or_cases (nat_eq x y) (has up y) there) [
       | inl at ↦ absurd (eqb-false y x e (sym (eqb-true x y at)))
@@ -52,12 +40,8 @@ one_more (x ∷ up) ys y once there new = by_first (nat_eq y x) refl (λ k. one_
         by_second true k = ap suc k
         by_second false k = k
 
-filter_never : (up : List ℕ) → filter (has []) up ≡ []
-filter_never [] = refl
-filter_never (x ∷ up) = filter_never up
-
 all_of_them : (up ys : List ℕ) → Once up → Once ys → ((j : ℕ) → has ys j ≡ true → has up j ≡ true) → length (filter (has ys) up) ≡ length ys
-all_of_them up [] once each within = ap length (filter_never up)
+all_of_them up [] once each within = ap length (filter_no up)
 all_of_them up (y ∷ ys) once each within =
     one_more up ys y once (within y (has_here y ys)) each.0 ∙ ap suc (all_of_them up ys once each.1 (λ j h. within j (has_later y j ys h)))
 
@@ -72,7 +56,7 @@ take_once (suc n) [] once = tt
 take_once (suc n) (x ∷ xs) once = (apart (has (take n xs) x) refl, take_once n xs once.1)
   where
     apart : (b : Bool) → has (take n xs) x ≡ b → b ≡ false
-    apart true e = absurd (no_both (has xs x) (take_has n xs x e) once.0)
+    apart true e = absurd (both_ways (has xs x) once.0 (take_has n xs x e))
     apart false e = refl
 
 -- those that take part, ascending: more than half of a group, and the primary of the view among them
@@ -116,7 +100,7 @@ quorum_picked n view up test ascending leads most =
     not_taken : (b : Bool) → has (take (n / 2) (filter (λ o. not (nat_eq o (view % n))) up)) (view % n) ≡ b → b ≡ false
     not_taken true e =
         let r = filter_has (λ o. not (nat_eq o (view % n))) up (view % n) (take_has (n / 2) (filter (λ o. not (nat_eq o (view % n))) up) (view % n) e) in
-        absurd (no_both (not (nat_eq (view % n) (view % n))) (r.1) (ap not (eq-eqb (view % n) (view % n) refl)))
+        absurd (both_ways (not (nat_eq (view % n) (view % n))) (ap not (eq-eqb (view % n) (view % n) refl)) (r.1))
     not_taken false e = refl
 
 -- each of them takes part

@@ -1,11 +1,10 @@
 -- A past in which nothing waits behind the start of a view has closed.
-use Rattle.std.proofs.Common.{◌≡◌, ◌≤◌, ◌<◌, ◌⊎◌, inl, inr, ℕ, suc, ◌%◌, Bool, true, false, List, [], ◌∷◌, ◌++◌, map, length, take, refl, sym, ◌∙◌, ap, subst, arith}
-use Rattle.std.specs.Prelude.{nat_eq, nat_lt, ◌&&◌, filter, count_by, if◌then◌else◌}
-use Rattle.std.proofs.lemmas.Bool.{cases_lt, eq-eqb, ltb-false}
+use Rattle.std.proofs.Common.{◌≡◌, ◌≤◌, ◌<◌, ℕ, ◌%◌, Bool, List, [], length, refl, sym, ◌∙◌, ap, subst, arith}
+use Rattle.std.specs.Prelude.{nat_eq, ◌&&◌, count_by, if◌then◌else◌}
+use Rattle.std.proofs.lemmas.Bool.{eq-eqb, ltb-false, and_from}
 use Rattle.std.proofs.lemmas.List.Sums.{length-filter}
+use Rattle.std.proofs.lemmas.List.{take_all, length-map}
 use Rattle.of_types.specs.declared.message.Event.{Event}
-use Rattle.of_types.specs.declared.message.Executed.{Executed}
-use Rattle.of_types.specs.declared.message.Order.{Order}
 use Rattle.of_types.specs.Setups.{IsSetup}
 use Rattle.rv_base.specs.declared.journal.JournalEntry.{JournalEntry}
 use Rattle.rv_base.specs.declared.journal.SaveResult.{SaveResult}
@@ -13,21 +12,17 @@ use Rattle.rv_base.specs.Pool.{pool}
 use Rattle.lists.specs.Lists.{IsIn, IsPrefix}
 use Rattle.lists.proofs.Elements.{filter_has, in_left}
 use Rattle.lists.proofs.Places.{in_get}
-use Rattle.lists.proofs.Prefixes.{prefix_equal, prefix_length, take_within}
+use Rattle.lists.proofs.Prefixes.{prefix_equal, prefix_length}
 use Rattle.vr_log.specs.declared.entry.Entry.{Entry}
 use Rattle.vr_log.specs.declared.state.VrState.{VrState}
-use Rattle.vr_log.specs.declared.entry.Entry.TheVariants.{Processed}
-use Rattle.vr_log.specs.Log.{is_log, received, processed}
-use Rattle.vr_log.specs.Members.{is_up}
-use Rattle.two_stage_log.specs.Counts.{has_unprocessed}
+use Rattle.vr_log.specs.Log.{received, processed}
 use Rattle.app_core.specs.Issued.{issued}
-use Rattle.controller_laws.proofs.Logs.{processed_at, processed_stands, received_prefix}
 use Rattle.of_switch.specs.State.{SwitchState, events_in, executed_in, life_of}
 use Rattle.group_controller.specs.State.{ControllerState, committed}
 use Rattle.rv_runs.specs.States.{Scene, IsFaithful}
 use Rattle.rv_runs.specs.Legal.{IsPossible}
-use Rattle.rv_runs.specs.Committed.{controller_state, decided, kept, switch_state}
-use Rattle.rv_runs.specs.Laws.{IsAtRest, IsClosed, IsExactlyOnce, events_from_life}
+use Rattle.rv_runs.specs.Committed.{controller_state, decided, switch_state}
+use Rattle.rv_runs.specs.Laws.{IsAtRest, events_from_life}
 use Rattle.rv_laws.proofs.Laws.{always, once_law}
 use Rattle.rv_laws.proofs.Members.{up_leads}
 use Rattle.closing_laws.specs.Following.{Start}
@@ -35,29 +30,7 @@ use Rattle.closing_laws.specs.Serving.{IsTrueOf, IsTruePrimary}
 use Rattle.closing_laws.specs.Ends.{HasRested}
 use Rattle.closing_laws.proofs.Drained as drained_by
 use Rattle.closing_laws.proofs.Resting as resting
-
-take_whole : (n : ℕ) (xs : List Entry) → n ≡ length xs → take n xs ≡ xs
-take_whole n [] e = ap (λ (k : ℕ). take k []) e
-take_whole n (x ∷ xs) e = ap (λ (k : ℕ). take k (x ∷ xs)) e ∙ whole (x ∷ xs)
-  where
-    whole : (ys : List Entry) → take (length ys) ys ≡ ys
-    whole [] = refl
-    whole (y ∷ ys) = ap (λ (l : List Entry). y ∷ l) (whole ys)
-
-mapped_length : (xs : List Executed) → length (map (λ x. x.order) xs) ≡ length xs
-mapped_length [] = refl
-mapped_length (x ∷ xs) = ap suc (mapped_length xs)
-
--- a log has no more events as processed than it has
-processed_few : (log : List Entry) → is_log log ≡ true → processed log ≤ length (received log)
-processed_few log one = elim (cases_lt (length (received log)) (processed log)) [
-  | inr le ↦ le
-  | inl more ↦
-      let at = processed_stands log (length (received log)) one more in
-      let less = (processed_at at.front (length (received log)) at.back (ap is_log (sym at.is) ∙ one)).1 in
-      let low = prefix_length (received_prefix {xs = at.front} {ys = log} (record { rest = Processed (length (received log)) ∷ at.back; joined = at.is })) in
-      absurd (omega (arith, less, low))
-]
+use Rattle.closing_laws.proofs.Growth.{processed_within}
 
 module _ {B : Type 0} (scene : Scene B) (results : List (List SaveResult)) (setup : IsSetup scene.setup) (faithful : IsFaithful scene.sealing) (P : List (JournalEntry B)) (possible : IsPossible scene results P)
     (w p : ℕ) (quorum : List ℕ) (start : Start) (leader : p ≡ w % scene.setup.controllers) (small : p < scene.setup.controllers) (members : ℕ → VrState) (switches : ℕ → SwitchState)
@@ -75,7 +48,7 @@ module _ {B : Type 0} (scene : Scene B) (results : List (List SaveResult)) (setu
       (let me = d.primary.me in let size = d.primary.size in omega (arith, me, size, small)) quorum d.primary.agreed members (λ b chosen other. d.keeps_up b chosen (λ e. other (e ∙ sym d.primary.me)))
 
   all : committed c ≡ c.vr.log
-  all = take_whole c.vr.commit c.vr.log commit_is
+  all = take_all c.vr.commit c.vr.log (omega (arith, commit_is))
 
   -- all of it is decided
   decided_is : decided scene results P ≡ c.vr.log
@@ -86,16 +59,13 @@ module _ {B : Type 0} (scene : Scene B) (results : List (List SaveResult)) (setu
       let once = once_law scene results P setup faithful possible in
       let here : IsIn e (received (decided scene results P)) = subst (λ (l : List Entry). IsIn e (received l)) (sym decided_is) among in
       let chosen : IsIn e (events_from_life s e.life (received (decided scene results P))) =
-      filter_has (λ y. nat_eq y.switch s && nat_eq y.life e.life) (received (decided scene results P)) e here (both (nat_eq e.switch s) (nat_eq e.life e.life) (eq-eqb e.switch s is) (eq-eqb e.life e.life refl)) in
+      filter_has (λ y. nat_eq y.switch s && nat_eq y.life e.life) (received (decided scene results P)) e here (and_from (nat_eq e.switch s) (nat_eq e.life e.life) (eq-eqb e.switch s is) (eq-eqb e.life e.life refl)) in
       let made = in_prefix e (once.ordered.made s e.life there) chosen in
       let at = in_get (events_in (switch_state scene s P) e.life) e made in
       let well = ((always scene results setup faithful P possible 0).switches s there).now.well in
       let low = (well.made e.life at.0 e at.1).0 in
       subst (λ (x : SwitchState). e.life ≤ life_of x) (same s there) low
     where
-      both : (a b : Bool) → a ≡ true → b ≡ true → (a && b) ≡ true
-      both a b i j = ap (λ (x : Bool). x && b) i ∙ j
-
       in_prefix : {xs ys : List Event} (x : Event) → IsPrefix xs ys → IsIn x xs → IsIn x ys
       in_prefix {xs = xs} x pre k = subst (λ (l : List Event). IsIn x l) (sym pre.joined) (in_left x xs pre.rest k)
 
@@ -124,7 +94,7 @@ module _ {B : Type 0} (scene : Scene B) (results : List (List SaveResult)) (setu
     executed =
         let once = once_law scene results P setup faithful possible in
         let most = prefix_length (once.orders s (life_of sw) there) in
-        let mapped = mapped_length (executed_in (switch_state scene s P) (life_of sw)) in
+        let mapped = length-map (executed_in (switch_state scene s P) (life_of sw)) (λ x. x.order) in
         let own = ap (λ (x : SwitchState). length (executed_in x (life_of sw))) (same s there) in
         let well = subst (λ (x : SwitchState). x.results.executed ≡ length (executed_in x (life_of x))) (same s there) ((always scene results setup faithful P possible 0).switches s there).now.well.count in
         let settled = resting.settled_is scene.kinds scene.setup c all d.primary.settled switches d.served true_of lives s there in
@@ -144,7 +114,7 @@ module _ {B : Type 0} (scene : Scene B) (results : List (List SaveResult)) (setu
   all_processed =
       let none = resting.all_processed scene.kinds scene.setup c all d.primary.settled switches d.served true_of lives in
       let least = ltb-false (processed (committed c)) (length (received (committed c))) none in
-      let most = processed_few c.vr.log is_true.one in
+      let most = processed_within c.vr.log is_true.one in
       let a = ap processed (decided_is ∙ sym all) in
       let b = ap (λ (l : List Entry). length (received l)) (decided_is ∙ sym all) in
       let a' = ap processed all in

@@ -2,7 +2,7 @@
 use Rattle.std.proofs.Common.{◌≡◌, ◌<◌, ℕ, ◌+◌, ◌/◌, ◌%◌, Bool, true, false, List, [], ◌∷◌, ◌++◌, length, map, drop, refl, sym, ◌∙◌, ap, subst, arith, append-nil, append_assoc, length-append}
 use Rattle.std.specs.Prelude.{nat_eq, nat_le, ◌||◌, None, if◌then◌else◌}
 use Rattle.std.specs.List.{list_any}
-use Rattle.std.proofs.lemmas.Bool.{eq-eqb, ne_eqb, eqb-true, eqb-false, le-leb}
+use Rattle.std.proofs.lemmas.Bool.{eq-eqb, ne_eqb, eqb-true, eqb-false, le-leb, both_ways}
 use Rattle.std.proofs.lemmas.List.{length-map}
 use Rattle.vr_log.specs.declared.message.VrLetter.{VrLetter}
 use Rattle.vr_log.specs.declared.message.VrMessage.TheVariants as message
@@ -20,7 +20,7 @@ use Rattle.closing_laws.specs.Views.{IsMember, log_of, behind}
 use Rattle.closing_laws.proofs.Words.{log_sent}
 use Rattle.closing_laws.proofs.Picked.{IsPicked}
 use Rattle.closing_laws.proofs.Members.{guard_open, sound_here}
-use Rattle.closing_laws.proofs.Numbers.{Once, has_here, has_later, has_append, no_both}
+use Rattle.closing_laws.proofs.Numbers.{Once, has_here, has_later, has_append}
 use Rattle.closing_laws.proofs.Calls.{After, AreChanging, none_after, after_on, after_first, after_is, one_drawn, held}
 use Rattle.closing_laws.proofs.Rounds.{heard_from, all_voted}
 use Rattle.closing_laws.proofs.Starting.{gathering, waits, log_comes}
@@ -160,7 +160,7 @@ module _ (n w : ℕ) (quorum : List ℕ) (start : ℕ → VrState) (ready : (j :
       grown_new : (j : ℕ) → has done j ≡ false → has (c ∷ later) j ≡ true → has (c ∷ later) b ≡ false → has (done ++ b ∷ []) j ≡ false
       grown_new j none there gone =
           has_append done (b ∷ []) j ∙ ap (λ (x : Bool). x || (nat_eq b j || false)) none
-          ∙ ap (λ (x : Bool). x || false) (ne_eqb b j (λ e. no_both (has (c ∷ later) j) there (ap (has (c ∷ later)) (sym e) ∙ gone)))
+          ∙ ap (λ (x : Bool). x || false) (ne_eqb b j (λ e. both_ways (has (c ∷ later) j) (ap (has (c ∷ later)) (sym e) ∙ gone) there))
 
   -- and the last one
   pub collect_last : (count : ℕ) (all : List ℕ) (g : Group) (turns : ℕ) (u : VrState) (ls : List VrLetter) → (b : BeforeLast count all g turns) → check (gathered all) ≡ sends u ls → is_sound (start (w % n)) u ≡ true →

@@ -1,8 +1,8 @@
 -- Of which switches commands are, and of which of their lives.
-use Rattle.std.proofs.Common.{◌≡◌, ◌≤◌, ◌<◌, ◌⊎◌, inl, inr, ℕ, zero, suc, ◌+◌, Bool, true, false, List, [], ◌∷◌, ◌++◌, map, length, take, refl, sym, ◌∙◌, ap, subst, arith, append_assoc}
-use Rattle.std.specs.Prelude.{nat_eq, nat_lt, not, cond, slice_get, slice_index_or, Option, Some, None, option_map, option_to_list, unwrap_or, if◌then◌else◌}
-use Rattle.std.specs.List.{AllByRecursion, range_with_len, list_any}
-use Rattle.std.proofs.lemmas.Bool.{cond_both, ltb-true, not-true}
+use Rattle.std.proofs.Common.{◌≡◌, ◌<◌, inl, inr, ℕ, zero, suc, List, [], ◌∷◌, ◌++◌, length, take, refl, sym, subst, arith, append_assoc}
+use Rattle.std.specs.Prelude.{nat_eq, nat_lt, not, slice_get, slice_index_or, Option, Some, None, option_map, option_to_list}
+use Rattle.std.specs.List.{range_with_len}
+use Rattle.std.proofs.lemmas.Bool.{cond_both, ltb-true, not-false}
 use Rattle.of_types.specs.declared.message.Command.{Command}
 use Rattle.of_types.specs.declared.message.Event.{Event}
 use Rattle.of_types.specs.declared.message.Happening.{Happening}
@@ -14,10 +14,12 @@ use Rattle.lists.specs.Lists.{IsIn}
 use Rattle.lists.proofs.Elements.{in_append, in_map}
 use Rattle.app_core.specs.declared.host.Host.{Host}
 use Rattle.app_core.specs.declared.issued.Issued.{Issued}
-use Rattle.app_core.specs.Chain.{ChainStep, PartStep, chain_next, firewall_step, learning_step, hosts_of, part_next, passes_on, reactions, reactions_from, starting_chain}
+use Rattle.app_core.specs.Chain.{ChainStep, PartStep, chain_next, firewall_step, hosts_of, part_next, reactions, reactions_from, starting_chain}
 use Rattle.app_core.specs.Firewall.{dropping_row, dropping_rows, firewall_commands, first_hit, is_installed, rows_at}
 use Rattle.app_core.specs.Issued.{commands_of, issue, issue_all, issue_each, issues}
 use Rattle.app_core.specs.Learning.{forwarded, hosts_after, learning_commands}
+use Rattle.controller_laws.proofs.Issued.{none_past}
+use Rattle.closing_laws.proofs.Numbering.{of_range}
 
 module _ (setup : Setup) where
   -- commands of switches of the setup
@@ -34,16 +36,11 @@ module _ (setup : Setup) where
   one_named c there x (inl e) = subst (λ (y : Command). y.switch < length setup.ports) (sym e) there
   one_named c there x (inr h) = absurd h
 
-  in_range : (from count k : ℕ) → IsIn k (range_with_len from count) → (from ≤ k) × (k < from + count)
-  in_range from zero k h = absurd h
-  in_range from (suc count) k (inl e) = (omega (arith, e), omega (arith, e))
-  in_range from (suc count) k (inr h) = let r = in_range (from + 1) count k h in let a = r.0 in let b = r.1 in (omega (arith, a), omega (arith, b))
-
   rows_named : (rule : Option Rule) → AreNamed (dropping_rows (length setup.ports) rule)
   rows_named None x h = absurd h
   rows_named (Some rule) x h =
       let r = in_map (dropping_row rule) (range_with_len 0 (length setup.ports)) x h in
-      let low = (in_range 0 (length setup.ports) r.0 r.1).1 in
+      let low = (of_range 0 (length setup.ports) r.0 r.1).1 in
       let there : r.0 < length setup.ports = omega (arith, low) in
       subst (λ (y : Command). y.switch < length setup.ports) (sym r.2) there
 
@@ -77,16 +74,9 @@ module _ (setup : Setup) where
   unfolding part_next
   part_named kind state event =
       cond_both (not (nat_lt event.switch (length setup.ports))) _ _ (λ (y : PartStep). AreNamed y.commands) (λ _. none_named)
-      (λ known. let there = ltb-true event.switch (length setup.ports) (double known) in
+      (λ known. let there = ltb-true event.switch (length setup.ports) (not-false (nat_lt event.switch (length setup.ports)) known) in
       cond_both (nat_eq kind 1) _ _ (λ (y : PartStep). AreNamed y.commands) (λ _. firewall_named state event there)
       (λ _. cond_both (nat_eq kind 2) _ _ (λ (y : PartStep). AreNamed y.commands) (λ _. learning_named (hosts_after (hosts_of state) event.switch event.what) event.switch event.what there) (λ _. none_named)))
-    where
-      double : not (nat_lt event.switch (length setup.ports)) ≡ false → nat_lt event.switch (length setup.ports) ≡ true
-      double e = by_test (nat_lt event.switch (length setup.ports)) e
-        where
-          by_test : (b : Bool) → not b ≡ false → b ≡ true
-          by_test true k = refl
-          by_test false k = cc
 
   chain_named : (kinds : List ℕ) (states : List (List ℕ)) (event : Event) → AreNamed (chain_next kinds setup states event).commands
   chain_named [] states event = none_named
@@ -120,16 +110,8 @@ each_is events before (c ∷ cs) n (inr h) =
 
 all_is : (j : ℕ) (past : List Event) (before : List Issued) (es : List Event) (ls : List (List Command)) (n : Issued) → IsIn n (slice_index_or (issue_all past before es ls) j []) →
     IsOneOf (past ++ take (suc j) es) (slice_index_or ls j []) n
-all_is j past before [] ls n h = absurd (nothing j h)
-  where
-    nothing : (i : ℕ) → IsIn n (slice_index_or [] i []) → ⊥
-    nothing zero k = k
-    nothing (suc i) k = k
-all_is j past before (e ∷ es) [] n h = absurd (nothing j h)
-  where
-    nothing : (i : ℕ) → IsIn n (slice_index_or [] i []) → ⊥
-    nothing zero k = k
-    nothing (suc i) k = k
+all_is j past before [] ls n h = absurd (subst (λ (l : List Issued). IsIn n l) (none_past [] j (omega arith)) h)
+all_is j past before (e ∷ es) [] n h = absurd (subst (λ (l : List Issued). IsIn n l) (none_past [] j (omega arith)) h)
 all_is zero past before (e ∷ es) (l ∷ ls) n h = each_is (past ++ e ∷ []) before l n h
 all_is (suc j) past before (e ∷ es) (l ∷ ls) n h =
     let r = all_is j (past ++ e ∷ []) (before ++ issue_each (past ++ e ∷ []) before l) es ls n h in

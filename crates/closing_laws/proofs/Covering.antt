@@ -1,13 +1,13 @@
 -- Once the members of a quorum have entered a view, what each of them knows as committed begins the best of their logs.
 use Rattle.std.proofs.Common.{◌≡◌, ◌≢◌, ◌≤◌, ◌<◌, inl, inr, ℕ, zero, suc, ◌+◌, ◌*◌, ◌/◌, Bool, true, false, cond, eqb, None, List, [], ◌∷◌, ◌++◌, length, map, take, drop, refl, sym, ap, ◌∙◌, subst, arith, length-append}
 use Rattle.std.specs.Prelude.{nat_eq, nat_lt, if◌then◌else◌}
-use Rattle.std.proofs.lemmas.Bool.{cases_eq, cases_lt, eq-eqb, ne_eqb, eqb-true, ltb-true, cond-true, cond-false, or_left, or_right}
-use Rattle.std.proofs.lemmas.List.{length-map, length-take-le}
+use Rattle.std.proofs.lemmas.Bool.{cases_eq, cases_lt, eq-eqb, ne_eqb, eqb-true, ltb-true, cond-true, cond-false, both_ways}
+use Rattle.std.proofs.lemmas.List.{length-map, length-take-le, take_at}
 use Rattle.of_types.specs.Setups.{IsSetup}
 use Rattle.rv_base.specs.declared.journal.JournalEntry.{JournalEntry}
 use Rattle.rv_base.specs.declared.journal.SaveResult.{SaveResult}
-use Rattle.lists.proofs.Elements.{in_map}
 use Rattle.lists.specs.Lists.{IsIn, IsPrefix}
+use Rattle.lists.proofs.Elements.{in_map}
 use Rattle.agreement.specs.Lists.{AreDistinct, IsAtMost}
 use Rattle.agreement.specs.History.{Group, History, State, Vote, size}
 use Rattle.agreement.specs.Invariant.{Invariant, IsBallot, IsGoodState, IsGoodVote}
@@ -40,7 +40,7 @@ use Rattle.rv_laws.proofs.Events.{events_valid}
 use Rattle.rv_laws.proofs.Laws.{always}
 use Rattle.closing_laws.specs.Quorum.{has}
 use Rattle.closing_laws.specs.Views.{HasBest, IsCovered, in_view, log_of}
-use Rattle.closing_laws.proofs.Numbers.{Once, no_both}
+use Rattle.closing_laws.proofs.Numbers.{Once, in_has}
 
 -- each of the first m posts, so that no input is open
 abbrev posting : {Own E : Type 0} → ℕ → List (journal.Entry Own E)
@@ -73,11 +73,6 @@ module _ {Own A E : Type 0} (r : Rules Own A E) (g : Group E) where
       below : m ≢ j → j < suc m → j < m
       below ne b = elim (cases_lt j m) [ inl l ↦ l | inr l ↦ absurd (ne (omega arith)) ]
 
-in_has : (xs : List ℕ) (y : ℕ) → IsIn y xs → has xs y ≡ true
-in_has [] y h = absurd h
-in_has (x ∷ xs) y (inl e) = or_left (nat_eq x y) (has xs y) (eq-eqb x y (sym e))
-in_has (x ∷ xs) y (inr h) = or_right (nat_eq x y) (has xs y) (in_has xs y h)
-
 -- a better log is at least as far
 better_far : (a b : Collected) → is_better a b ≡ true → IsAtMost b.normal (length_of b) a.normal (length_of a)
 better_far a b h = by_normal (nat_eq a.normal b.normal) refl h
@@ -97,7 +92,7 @@ told start j = vote_of (log_of start j)
 
 distinct_of : (start : ℕ → VrState) (xs : List ℕ) → Once xs → AreDistinct (map (λ (v : Vote Entry). v.from) (map (told start) xs))
 distinct_of start [] once = tt
-distinct_of start (x ∷ xs) once = ((λ y among e. no_both (has xs y) (in_has xs y (as_numbers xs y among)) (ap (has xs) (sym e) ∙ once.0)), distinct_of start xs once.1)
+distinct_of start (x ∷ xs) once = ((λ y among e. both_ways (has xs y) (ap (has xs) (sym e) ∙ once.0) (in_has xs y (as_numbers xs y among))), distinct_of start xs once.1)
   where
     as_numbers : (ys : List ℕ) (y : ℕ) → IsIn y (map (λ (v : Vote Entry). v.from) (map (told start) ys)) → IsIn y ys
     as_numbers [] y h = h
@@ -203,8 +198,4 @@ module _ {B : Type 0} (scene : Scene B) (results : List (List SaveResult)) (setu
     }
       where
         agree : (k : ℕ) (front whole : List Entry) → length front ≡ k → IsPrefix front whole → front ≡ take k whole
-        agree k front whole long p = sym (ap (take k) p.joined ∙ ap (λ (i : ℕ). take i (front ++ p.rest)) (sym long) ∙ take_front front p.rest)
-          where
-            take_front : (xs ys : List Entry) → take (length xs) (xs ++ ys) ≡ xs
-            take_front [] ys = refl
-            take_front (x ∷ xs) ys = ap (λ (l : List Entry). x ∷ l) (take_front xs ys)
+        agree k front whole long p = sym (ap (take k) p.joined ∙ ap (λ (i : ℕ). take i (front ++ p.rest)) (sym long) ∙ take_at front p.rest (length front) refl)

@@ -1,15 +1,15 @@
 -- What stays true while a closing is drained behind the start of its view: the quorum keeps up, each switch is served, and
 -- nothing else is on its way that is drawn.
-use Rattle.std.proofs.Common.{◌≡◌, ◌≤◌, ◌<◌, ◌⊎◌, inl, inr, ℕ, ◌%◌, ◌^◌, Bool, true, false, List, [], ◌∷◌, ◌++◌, map, length, drop, refl, sym, ◌∙◌, ap, subst, arith}
-use Rattle.std.specs.Prelude.{nat_eq, ◌&&◌, Option, Some, None, if◌then◌else◌}
-use Rattle.std.specs.List.{list_any, AllByRecursion}
-use Rattle.std.proofs.lemmas.Bool.{eq-eqb, ne_eqb, eqb-true, eqb-false, true≢false}
+use Rattle.std.proofs.Common.{◌≡◌, ◌<◌, ◌⊎◌, inl, inr, ℕ, ◌%◌, Bool, true, false, List, [], ◌∷◌, ◌++◌, map, length, drop, refl, sym, ◌∙◌, ap, subst, arith, ◌≤◌, ◌+◌}
+use Rattle.std.specs.Prelude.{nat_eq, ◌&&◌, None, if◌then◌else◌}
+use Rattle.std.proofs.lemmas.Bool.{eq-eqb, ne_eqb, true≢false, cases_eq}
 use Rattle.of_types.specs.declared.message.Spoken.{Spoken}
 use Rattle.of_types.specs.declared.setup.Setup.{Setup}
 use Rattle.rv_base.specs.declared.journal.Actor.{Actor}
 use Rattle.rv_base.specs.declared.journal.Actor.TheVariants as actor
 use Rattle.rv_base.specs.declared.journal.Letter.{Letter}
 use Rattle.rv_base.specs.Actors.{same_actor}
+use Rattle.rv_base.proofs.Leaving.{same_actor-true}
 use Rattle.lists.specs.Lists.{IsIn}
 use Rattle.lists.proofs.Elements.{in_append, in_map}
 use Rattle.vr_log.specs.declared.entry.Entry.{Entry}
@@ -25,17 +25,22 @@ use Rattle.of_switch.specs.declared.says.SwitchSays.{SwitchSays}
 use Rattle.of_switch.specs.State.{SwitchState, SwitchTurn}
 use Rattle.of_switch.specs.Rules.{switch_turn}
 use Rattle.group_controller.specs.declared.messages.ControllerSays.{ControllerSays}
-use Rattle.group_controller.specs.State.{ControllerState, to_member, to_members}
+use Rattle.group_controller.specs.declared.messages.ControllerInput.{ControllerInput}
+use Rattle.group_controller.specs.State.{ControllerState, to_members}
 use Rattle.rv_runs.specs.declared.messages.Message.{Message}
 use Rattle.rv_runs.specs.declared.messages.Message.TheVariants as message
-use Rattle.rv_runs.specs.States.{controller_message, switch_message}
+use Rattle.rv_runs.specs.declared.messages.Unsealed.TheVariants as unsealed
+use Rattle.rv_runs.specs.States.{controller_message, switch_message, controller_hears}
 use Rattle.rv_runs.specs.Schedule.{is_drawn}
 use Rattle.closing_laws.specs.Quorum.{has}
 use Rattle.closing_laws.specs.Ways.{Sent, sent_by, goes, between, told_to}
-use Rattle.closing_laws.specs.Following.{ArePrepares, Start, Waits, Follows, KeepsUp, IsAgreed, Leads}
-use Rattle.closing_laws.specs.Serving.{IsSaidBy, Asks, Acknowledges, Commands, Clears, IsServed, IsSettled}
-use Rattle.closing_laws.proofs.Between.{actors_same, between_joined, between_other, between_own, own_actor, posted_other, posted_own}
+use Rattle.closing_laws.specs.Following.{ArePrepares, Start, KeepsUp, IsAgreed, Leads}
+use Rattle.closing_laws.specs.Serving.{IsServed, IsSettled}
+use Rattle.closing_laws.proofs.Between.{between_other, between_own, posted_other, posted_own}
+use Rattle.closing_laws.specs.Measure.{message_worth}
 use Rattle.closing_laws.proofs.Followers.{Hears, hears}
+use Rattle.closing_laws.proofs.MemberMeasure.{member_lowers}
+use Rattle.closing_laws.proofs.Worths.{worths_of}
 
 -- one of many takes another state
 abbrev pub put : {A : Type 0} → (ℕ → A) → ℕ → A → ℕ → A
@@ -47,26 +52,22 @@ put_own at c x = ap (λ (b : Bool). if b then x else at c) (eq-eqb c c refl)
 pub put_other : {A : Type 0} (at : ℕ → A) (c : ℕ) (x : A) (j : ℕ) → (j ≡ c → ⊥) → put at c x j ≡ at j
 put_other at c x j e = ap (λ (b : Bool). if b then x else at j) (ne_eqb j c e)
 
--- a number is another, or it is not
-pub same_or_not : (j c : ℕ) → (j ≡ c) ⊎ (j ≡ c → ⊥)
-same_or_not j c = by_test (nat_eq j c) refl
-  where
-    by_test : (b : Bool) → nat_eq j c ≡ b → (j ≡ c) ⊎ (j ≡ c → ⊥)
-    by_test true e = inl (eqb-true j c e)
-    by_test false e = inr (eqb-false j c e)
-
 controllers_apart : (b p : ℕ) → (b ≡ p → ⊥) → same_actor (actor.Controller b) (actor.Controller p) ≡ false
 controllers_apart b p e = ne_eqb b p e
 
 switches_apart : (b p : ℕ) → (b ≡ p → ⊥) → same_actor (actor.Switch b) (actor.Switch p) ≡ false
 switches_apart b p e = ne_eqb b p e
 
+-- what a controller hears of a message on its way
+abbrev pub heard_of : Sent → ControllerInput
+heard_of m = controller_hears m.from (unsealed.Message m.said)
+
 -- a message that goes another way
 pub way_apart : (from to : Actor) (m : Sent) → (m.from ≡ from → m.to ≡ to → ⊥) → goes from to m ≡ false
 way_apart from to m differ = by_tests (same_actor m.from from) (same_actor m.to to) refl refl
   where
     by_tests : (a b : Bool) → same_actor m.from from ≡ a → same_actor m.to to ≡ b → goes from to m ≡ false
-    by_tests true true f t = absurd (differ (actors_same m.from from f) (actors_same m.to to t))
+    by_tests true true f t = absurd (differ (same_actor-true m.from from f) (same_actor-true m.to to t))
     by_tests true false f t = ap (λ (x : Bool). x && same_actor m.to to) f ∙ t
     by_tests false b f t = ap (λ (x : Bool). x && same_actor m.to to) f
 
@@ -156,14 +157,27 @@ module _ (kinds : List ℕ) (setup : Setup) (w p : ℕ) (quorum : List ℕ) (sta
           between a t (rest ++ map (sent_by controller_message (actor.Controller b)) (to_members step.letters)) ≡ between a t (m ∷ rest)
       own_quiet a t apart differ = posted_other controller_message (actor.Controller b) a t rest (to_members step.letters) apart ∙ sym (elsewhere a t differ)
 
-      heard : Hears start c.vr b (members b) x (to_member_of rest b) (from_member_of rest b)
-      heard =
-          hears start c.vr d.primary.lead
-          (d.primary.me ∙ leader ∙ ap (λ (v : ℕ). v % setup.controllers) (sym d.primary.view) ∙ ap (λ (k : ℕ). c.vr.view % k) (sym d.primary.size))
-          (let me = d.primary.me in let size = d.primary.size in omega (arith, me, size, small)) b (λ e. other (e ∙ d.primary.me)) (members b) x (to_member_of rest b) (from_member_of rest b)
-          (subst (λ (l : List Message). KeepsUp start c.vr b (members b) (message.Vr x ∷ to_member_of rest b) l)
+      leads_here : c.vr.me ≡ c.vr.view % c.vr.controllers
+      leads_here = d.primary.me ∙ leader ∙ ap (λ (v : ℕ). v % setup.controllers) (sym d.primary.view) ∙ ap (λ (k : ℕ). c.vr.view % k) (sym d.primary.size)
+
+      small_here : c.vr.me < c.vr.controllers
+      small_here = let me = d.primary.me in let size = d.primary.size in omega (arith, me, size, small)
+
+      keeps_heard : KeepsUp start c.vr b (members b) (message.Vr x ∷ to_member_of rest b) (from_member_of rest b)
+      keeps_heard =
+          subst (λ (l : List Message). KeepsUp start c.vr b (members b) (message.Vr x ∷ to_member_of rest b) l)
           (elsewhere (actor.Controller b) (actor.Controller p) (λ f g. other (let e : b ≡ p = cc in e)))
-          (subst (λ (y : Message). KeepsUp start c.vr b (members b) (y ∷ to_member_of rest b) (from_member_of (m ∷ rest) b)) said_by.1 keeps))
+          (subst (λ (y : Message). KeepsUp start c.vr b (members b) (y ∷ to_member_of rest b) (from_member_of (m ∷ rest) b)) said_by.1 keeps)
+
+      heard : Hears start c.vr b (members b) x (to_member_of rest b) (from_member_of rest b)
+      heard = hears start c.vr d.primary.lead leads_here small_here b (λ e. other (e ∙ d.primary.me)) (members b) x (to_member_of rest b) (from_member_of rest b) keeps_heard
+
+      -- what it answers is worth less
+      pub answers_less : worths_of quorum controller_message (actor.Controller b) (to_members step.letters) + 1 ≤ message_worth m.said
+      answers_less =
+          subst (λ (y : Message). worths_of quorum controller_message (actor.Controller b) (to_members step.letters) + 1 ≤ message_worth y) (sym said_by.1)
+          (subst (λ (k : ℕ). worths_of quorum controller_message (actor.Controller b) (to_members (vr_step (members b) (vr_input.From k x)).letters) + 1 ≤ message_worth (message.Vr x)) d.primary.me
+          (member_lowers start c.vr d.primary.lead leads_here small_here b (λ e. other (e ∙ d.primary.me)) (members b) x (to_member_of rest b) (from_member_of rest b) keeps_heard quorum))
 
       abbrev letters : List (Letter ControllerSays)
       letters = to_members step.letters
@@ -173,13 +187,6 @@ module _ (kinds : List ℕ) (setup : Setup) (w p : ℕ) (quorum : List ℕ) (sta
 
       abbrev waiting' : List Sent
       waiting' = rest ++ map (sent_by controller_message (actor.Controller b)) letters
-
-      not_leader : (a : Actor) → (a ≡ actor.Controller b → ⊥) → same_actor (actor.Controller b) a ≡ false
-      not_leader a differ = by_test (same_actor (actor.Controller b) a) refl
-        where
-          by_test : (y : Bool) → same_actor (actor.Controller b) a ≡ y → same_actor (actor.Controller b) a ≡ false
-          by_test true e = absurd (differ (sym (actors_same (actor.Controller b) a e)))
-          by_test false e = e
 
       out_stays : to_member_of waiting' b ≡ to_member_of rest b
       out_stays = posted_other controller_message (actor.Controller b) (actor.Controller p) (actor.Controller b) rest letters (controllers_apart b p other)
@@ -218,7 +225,7 @@ module _ (kinds : List ℕ) (setup : Setup) (w p : ℕ) (quorum : List ℕ) (sta
         ap (λ (k : ℕ). (vr_step (members b) (vr_input.From k x)).promise) (sym d.primary.me) ∙ heard.unsaved,
         record {
           primary = d.primary;
-          keeps_up = λ j member not_p. elim (same_or_not j b) [
+          keeps_up = λ j member not_p. elim (cases_eq j b) [
             | inl e ↦ subst (λ (k : ℕ). KeepsUp start c.vr k (members' k) (to_member_of waiting' k) (from_member_of waiting' k)) (sym e) follows_now
             | inr e ↦
                 subst (λ (l : List Message). KeepsUp start c.vr j (members' j) l (from_member_of waiting' j))
@@ -269,7 +276,7 @@ module _ (kinds : List ℕ) (setup : Setup) (w p : ℕ) (quorum : List ℕ) (sta
         keeps_up = λ b chosen other.
             subst (λ (l : List Message). KeepsUp start c.vr b (members b) l (from_member_of after_it b)) (sym (quiet_way (actor.Controller p) (actor.Controller b) refl (λ f g. absurd cc)))
             (subst (λ (l : List Message). KeepsUp start c.vr b (members b) (to_member_of (m ∷ rest) b) l) (sym (quiet_way (actor.Controller b) (actor.Controller p) refl (λ f g. absurd cc))) (d.keeps_up b chosen other));
-        served = λ t there'. elim (same_or_not t s) [
+        served = λ t there'. elim (cases_eq t s) [
           | inl e ↦ subst (λ (k : ℕ). IsServed kinds setup c k (switches' k) (to_switch_of after_it k) (from_switch_of after_it k)) (sym e) own
           | inr e ↦
               subst (λ (l : List Message). IsServed kinds setup c t (switches' t) l (from_switch_of after_it t)) (sym (quiet_way (actor.Controller p) (actor.Switch t) refl (λ f g. e (let h : t ≡ s = cc in h))))

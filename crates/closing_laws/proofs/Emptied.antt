@@ -1,26 +1,25 @@
 -- A closing whose view has started ends only where all is done.
-use Rattle.std.proofs.Common.{◌≡◌, ◌≤◌, ◌<◌, ◌⊎◌, inl, inr, ℕ, ◌%◌, ◌^◌, Bool, true, false, List, [], ◌∷◌, ◌++◌, map, length, refl, sym, ◌∙◌, ap, subst, arith}
-use Rattle.std.specs.Prelude.{nat_eq, Option, Some, None}
+use Rattle.std.proofs.Common.{◌≡◌, ◌≤◌, ◌<◌, ◌⊎◌, inl, inr, ℕ, ◌%◌, true, List, [], ◌∷◌, ◌++◌, map, length, refl, sym, ◌∙◌, ap, subst, ◌+◌, ◌*◌}
+use Rattle.std.specs.Prelude.{None}
 use Rattle.std.specs.List.{AllByRecursion}
+use Rattle.of_types.specs.declared.message.Event.{Event}
 use Rattle.of_types.specs.declared.message.Spoken.{Spoken}
-use Rattle.of_types.specs.declared.setup.Setup.{Setup}
 use Rattle.of_types.specs.Setups.{IsSetup}
 use Rattle.rv_base.specs.declared.journal.Actor.{Actor}
 use Rattle.rv_base.specs.declared.journal.Actor.TheVariants as actor
 use Rattle.rv_base.specs.declared.journal.JournalEntry.{JournalEntry}
 use Rattle.rv_base.specs.declared.journal.Letter.{Letter}
 use Rattle.rv_base.specs.declared.journal.SaveResult.{SaveResult}
-use Rattle.rv_base.specs.Pool.{pool}
 use Rattle.lists.specs.Lists.{IsIn, IsPrefix}
-use Rattle.lists.proofs.Elements.{in_append, in_map}
 use Rattle.vr_log.specs.declared.entry.LogFull.{LogFull}
+use Rattle.vr_log.specs.Log.{received}
 use Rattle.vr_log.specs.declared.state.VrState.{VrState}
 use Rattle.vr_log.specs.Members.{others_below}
 use Rattle.of_switch.specs.declared.says.SwitchInput.TheVariants as switch_input
 use Rattle.of_switch.specs.declared.says.SwitchSays.{SwitchSays}
 use Rattle.of_switch.specs.State.{SwitchState, SwitchTurn, life_of}
 use Rattle.of_switch.specs.Rules.{switch_turn}
-use Rattle.group_controller.specs.State.{ControllerState, Work}
+use Rattle.group_controller.specs.State.{ControllerState}
 use Rattle.group_controller.specs.Rules.{controller_work}
 use Rattle.rv_runs.specs.declared.messages.Message.{Message}
 use Rattle.rv_runs.specs.declared.messages.Message.TheVariants as message
@@ -28,10 +27,10 @@ use Rattle.rv_runs.specs.declared.messages.Unsealed.TheVariants as unsealed
 use Rattle.rv_runs.specs.States.{Scene, IsFaithful, controller_message, switch_hears, switch_message}
 use Rattle.rv_runs.specs.Legal.{IsPossible}
 use Rattle.rv_runs.specs.Committed.{controller_state, switch_state, decided}
-use Rattle.rv_runs.specs.Schedule.{ClosesTo, Met, Done, IsEnd, IsPosted, Phase, next_move}
-use Rattle.rv_laws.proofs.Laws.{always}
+use Rattle.rv_runs.specs.Schedule.{ClosesTo, Met, Done, IsEnd, IsPosted, Phase, next_move, count_turns}
 use Rattle.closing_laws.specs.Ends.{HasRested}
 use Rattle.closing_laws.specs.Following.{Start}
+use Rattle.closing_laws.specs.Measure.{commands_from, left_to_do}
 use Rattle.closing_laws.specs.Quorum.{has}
 use Rattle.closing_laws.specs.Serving.{AreFew, IsSaidBy, Asks, Acknowledges, Commands, Clears, IsServed, IsTrueOf}
 use Rattle.closing_laws.specs.Starts.{FindRoom, IsDraining, SavesSucceed}
@@ -39,12 +38,14 @@ use Rattle.closing_laws.specs.Ways.{Sent, sent_by, between, told_to}
 use Rattle.closing_laws.proofs.Between.{between_own}
 use Rattle.closing_laws.proofs.Closed as closed_by
 use Rattle.closing_laws.proofs.Drained as drained_by
-use Rattle.closing_laws.proofs.Drained.{put, put_own}
-use Rattle.closing_laws.proofs.Emptying.{heard_at, heard_of}
+use Rattle.closing_laws.proofs.Drained.{put, put_own, heard_of}
+use Rattle.closing_laws.proofs.Emptying.{heard_at}
+use Rattle.closing_laws.proofs.DrainingMeasure.{switch_turn_lowers}
 use Rattle.closing_laws.proofs.Emptying as emptying
-use Rattle.closing_laws.proofs.Facts.{begins, facts, named}
+use Rattle.closing_laws.proofs.Facts.{begins, facts, logged, named}
 use Rattle.closing_laws.proofs.Numbers.{below_has, filter_has}
 use Rattle.closing_laws.proofs.Picked.{IsPicked}
+use Rattle.closing_laws.proofs.PrimaryLowers.{member_heard_lowers, place_of, switch_heard_lowers}
 use Rattle.closing_laws.proofs.PrimaryTurns.{leads_alike}
 use Rattle.closing_laws.proofs.PrimaryTurns as primary_by
 use Rattle.closing_laws.proofs.ProperTurns.{IsProper}
@@ -71,6 +72,13 @@ module _ {B : Type 0} (scene : Scene B) (results : List (List SaveResult)) (setu
   abbrev AreTrue : ControllerState → (ℕ → SwitchState) → Type 0
   AreTrue c switches = emptying.AreTrue scene results setup faithful w quorum small before succeed start c switches
 
+  -- what such a turn leaves to do
+  abbrev Less : ControllerState → (ℕ → SwitchState) → Sent → List Sent → Type 0
+  Less c switches m rest =
+      left_to_do scene.kinds scene.setup quorum (controller_work scene.kinds scene.setup c (heard_of m)).state switches
+      (rest ++ map (sent_by controller_message (actor.Controller p)) (controller_work scene.kinds scene.setup c (heard_of m)).letters) + 1 + 3 * commands_from scene.kinds scene.setup c (place_of start) ≤
+      left_to_do scene.kinds scene.setup quorum c switches (m ∷ rest) + 3 * commands_from scene.kinds scene.setup (controller_work scene.kinds scene.setup c (heard_of m)).state (place_of start)
+
   -- a turn of the primary
   by_primary : (c : ControllerState) (members : ℕ → VrState) (switches : ℕ → SwitchState) (m : Sent) (rest : List Sent) → Drains c members switches (m ∷ rest) → m.to ≡ actor.Controller p →
       ((b : ℕ) × (m.from ≡ actor.Controller b) × (has quorum b ≡ true) × (b ≡ p → ⊥)) ⊎ ((s : ℕ) × (m.from ≡ actor.Switch s) × (s < length scene.setup.ports)) →
@@ -80,12 +88,13 @@ module _ {B : Type 0} (scene : Scene B) (results : List (List SaveResult)) (setu
       turn_of : IsProper scene.kinds scene.setup c (controller_work scene.kinds scene.setup c (heard_of m)) →
           (AreTrue c switches → AreTrue (controller_work scene.kinds scene.setup c (heard_of m)).state switches → (controller_work scene.kinds scene.setup c (heard_of m)).state.full ≡ None →
           Drains (controller_work scene.kinds scene.setup c (heard_of m)).state members switches
-          (rest ++ map (sent_by controller_message (actor.Controller p)) (controller_work scene.kinds scene.setup c (heard_of m)).letters)) →
+          (rest ++ map (sent_by controller_message (actor.Controller p)) (controller_work scene.kinds scene.setup c (heard_of m)).letters)) → (AreTrue c switches → AreTrue (controller_work scene.kinds scene.setup c (heard_of m)).state switches → Less c switches m rest) →
           emptying.PrimaryTurn scene results setup faithful w quorum small before succeed start c members switches m rest
-      turn_of right keeps = record {
+      turn_of right keeps lowers = record {
         unsaved = right.unsaved;
         alike = record { leads = leads_alike c.vr _ right.place; view = right.place.view; promise = right.place.promise };
         keeps = keeps;
+        lowers = lowers;
       }
 
       by_from : ((b : ℕ) × (m.from ≡ actor.Controller b) × (has quorum b ≡ true) × (b ≡ p → ⊥)) ⊎ ((s : ℕ) × (m.from ≡ actor.Switch s) × (s < length scene.setup.ports)) →
@@ -93,17 +102,24 @@ module _ {B : Type 0} (scene : Scene B) (results : List (List SaveResult)) (setu
       by_from (inl (b, is, chosen, other)) =
           let h = primary_by.hears_member scene.kinds scene.setup few w p quorum start picked picked.primary refl small c members switches m rest d to true_of b is chosen other in
           turn_of h.0 (λ old now full. h.1 old.primary now.primary now.each full)
+          (λ old now. member_heard_lowers scene.kinds scene.setup few w p quorum start picked picked.primary refl small c members switches m rest d to true_of old.primary b is chosen other)
       by_from (inr (s, is, there)) =
           let h = primary_by.hears_switch scene.kinds scene.setup few w p quorum start picked picked.primary refl small c members switches m rest d to true_of s is there in
           turn_of h.0 (λ old now full. h.1 old.primary now.primary now.each full)
+          (λ old now. switch_heard_lowers scene.kinds scene.setup few w p quorum start picked picked.primary refl small c members switches m rest d to true_of old.primary s is there now.each)
 
   -- a turn of a switch
   by_switch : (c : ControllerState) (members : ℕ → VrState) (switches : ℕ → SwitchState) (m : Sent) (rest : List Sent) (s : ℕ) → s < length scene.setup.ports → m.from ≡ actor.Controller p → m.to ≡ actor.Switch s →
       Drains c members switches (m ∷ rest) → AreTrue c switches → AreTrue c (put switches s (switch_turn (switches s) (heard_at m)).state) →
       Drains c members (put switches s (switch_turn (switches s) (heard_at m)).state) (rest ++ map (sent_by switch_message (actor.Switch s)) (switch_turn (switches s) (heard_at m)).letters)
+      × (left_to_do scene.kinds scene.setup quorum c (put switches s (switch_turn (switches s) (heard_at m)).state) (rest ++ map (sent_by switch_message (actor.Switch s)) (switch_turn (switches s) (heard_at m)).letters) + 1 ≤
+      left_to_do scene.kinds scene.setup quorum c switches (m ∷ rest))
   by_switch c members switches m rest s there from to d old now =
-      subst (λ (x : SwitchTurn). Drains c members (put switches s x.state) (rest ++ map (sent_by switch_message (actor.Switch s)) x.letters)) (sym turn_is)
-      (drained_by.drains_switch scene.kinds scene.setup w p quorum start picked.primary c members switches m rest d s said.0 said.1 from to said.2 there kept only)
+      subst (λ (x : SwitchTurn). Drains c members (put switches s x.state) (rest ++ map (sent_by switch_message (actor.Switch s)) x.letters)
+      × (left_to_do scene.kinds scene.setup quorum c (put switches s x.state) (rest ++ map (sent_by switch_message (actor.Switch s)) x.letters) + 1 ≤ left_to_do scene.kinds scene.setup quorum c switches (m ∷ rest))) (sym turn_is) (
+        drained_by.drains_switch scene.kinds scene.setup w p quorum start picked.primary c members switches m rest d s said.0 said.1 from to said.2 there kept only,
+        switch_turn_lowers scene.kinds scene.setup quorum c switches m rest p s said.0 said.1 _ _ me picked.primary from to said.2 there old.primary.view served (old.each s there),
+      )
     where
       by_kind : (x : Message) → IsSaidBy c.vr.view x → (xid : ℕ) × (y : Spoken) × (x ≡ message.Of xid y)
       by_kind _ Asks = (_, _, refl)
@@ -163,6 +179,34 @@ module _ {B : Type 0} (scene : Scene B) (results : List (List SaveResult)) (setu
       (λ b chosen. subst (λ (v : ℕ). (controller_state scene results b P).vr.promise ≤ v) (sym h.view) (h.promises b chosen)) in
       record { primary = f.0; each = f.1 }
 
+  -- its primary's log begins with what is decided, and it knows no more as committed
+  pub led_by : (P : Past) → IsPossible scene results P → emptying.HavePromised scene results setup faithful w quorum small before succeed start P →
+      IsPrefix (decided scene results P) (controller_state scene results p P).vr.log × ((controller_state scene results p P).vr.commit ≤ length (decided scene results P))
+  led_by P possible h =
+      begins scene results setup faithful P possible p (small p picked.primary) h.leads quorum (subst (λ (v : ℕ). IsPicked n v quorum) (sym h.view) picked)
+      (λ b chosen. subst (λ (v : ℕ). (controller_state scene results b P).vr.promise ≤ v) (sym h.view) (h.promises b chosen))
+
+  -- and of each event there the switch is one of the setup, and its life no later than the present one
+  pub logged_by : (P : Past) → IsPossible scene results P → emptying.HavePromised scene results setup faithful w quorum small before succeed start P →
+      (e : Event) → IsIn e (received (controller_state scene results p P).vr.log) → (e.switch < length scene.setup.ports) × (e.life ≤ life_of (switch_state scene e.switch P))
+  logged_by P possible h =
+      logged scene results setup faithful P possible p (small p picked.primary) h.leads quorum (subst (λ (v : ℕ). IsPicked n v quorum) (sym h.view) picked)
+      (λ b chosen. subst (λ (v : ℕ). (controller_state scene results b P).vr.promise ≤ v) (sym h.view) (h.promises b chosen))
+
+  -- no more turns come than what is left to do, and those for the commands of what is newly committed
+  pub counts : (entries P : Past) (last : Phase) → FindRoom entries → (phase : Phase) → IsDraining w quorum phase → (mode : emptying.Mode scene results setup faithful w quorum small before succeed start P) →
+      ClosesTo scene results phase P entries last → IsPossible scene results (later P entries) →
+      (count_turns entries + 3 * commands_from scene.kinds scene.setup (controller_state scene results p P) (place_of start) ≤
+      emptying.left_in scene results setup faithful w quorum small before succeed start P mode + 3 * commands_from scene.kinds scene.setup (controller_state scene results p (later P entries)) (place_of start))
+      × emptying.HavePromised scene results setup faithful w quorum small before succeed start (later P entries)
+  counts entries P last room phase draining mode closes possible =
+      emptying.counts scene results setup faithful w quorum small before succeed start picked.primary by_primary by_switch truths (named scene results setup faithful) entries P last room phase draining mode closes possible
+
+  -- none comes where a limit was met
+  pub no_turn : (limit : LogFull) (P entries : Past) (last : Phase) → ClosesTo scene results (Met limit) P entries last → count_turns entries ≡ 0
+  no_turn limit P entries last closes =
+      (emptying.no_turn scene results setup faithful w quorum small before succeed start picked.primary by_primary by_switch truths (named scene results setup faithful) limit P entries last closes).0
+
   -- its end
   pub ends : (entries P : Past) (last : Phase) (primary : ℕ) → FindRoom entries → (phase : Phase) → IsDraining w quorum phase → emptying.Mode scene results setup faithful w quorum small before succeed start P →
       ClosesTo scene results phase P entries last → IsPossible scene results (later P entries) → IsPosted scene results (later P entries) → IsEnd (next_move scene results last (later P entries)) (Done primary) →
@@ -186,9 +230,7 @@ module _ {B : Type 0} (scene : Scene B) (results : List (List SaveResult)) (setu
       true_now = emptying.true_of scene results setup faithful w quorum small before succeed start picked.primary by_primary by_switch truths (named scene results setup faithful) Q [] done.stands (truths Q possible promised)
 
       led : IsPrefix (decided scene results Q) (controller_state scene results p Q).vr.log × ((controller_state scene results p Q).vr.commit ≤ length (decided scene results Q))
-      led =
-          begins scene results setup faithful Q possible p (small p picked.primary) promised.leads quorum (subst (λ (v : ℕ). IsPicked n v quorum) (sym promised.view) picked)
-          (λ b chosen. subst (λ (v : ℕ). (controller_state scene results b Q).vr.promise ≤ v) (sym promised.view) (promised.promises b chosen))
+      led = led_by Q possible promised
 
   -- and where the limit was met it is never done
   pub never_done : (limit : LogFull) (P : Past) (entries : Past) (last : Phase) (primary : ℕ) → ClosesTo scene results (Met limit) P entries last → IsEnd (next_move scene results last (later P entries)) (Done primary) → ⊥

@@ -1,9 +1,8 @@
 -- A closing whose view has started goes on, entry by entry, until nothing waits.
-use Rattle.std.proofs.Common.{◌≡◌, ◌≤◌, ◌<◌, ◌⊎◌, inl, inr, ℕ, suc, ◌+◌, ◌%◌, Bool, true, false, List, [], ◌∷◌, ◌++◌, map, length, refl, sym, ◌∙◌, ap, subst, arith, append-nil}
-use Rattle.std.specs.Prelude.{nat_eq, not, ◌&&◌, reverse, Option, Some, None, option_map, if◌then◌else◌}
-use Rattle.std.specs.List.{AllByRecursion, list_any}
-use Rattle.std.proofs.lemmas.Bool.{and_right, eq-eqb, ne_eqb, true≢false}
-use Rattle.of_types.specs.declared.message.Spoken.{Spoken}
+use Rattle.std.proofs.Common.{◌≡◌, ◌≤◌, ◌<◌, ◌⊎◌, inl, inr, ℕ, ◌%◌, Bool, true, false, List, [], ◌∷◌, ◌++◌, map, length, refl, sym, ◌∙◌, ap, subst, arith, append-nil, ◌+◌, ◌*◌}
+use Rattle.std.specs.Prelude.{nat_eq, not, ◌&&◌, Option, Some, None, option_map, if◌then◌else◌}
+use Rattle.std.proofs.lemmas.Bool.{and_right, eq-eqb, ne_eqb, true≢false, and_parts, cases_eq}
+use Rattle.std.proofs.lemmas.List.Sums.{sum_by-cons}
 use Rattle.of_types.specs.declared.setup.Setup.{Setup}
 use Rattle.of_types.specs.Setups.{IsSetup}
 use Rattle.rv_base.specs.declared.journal.Actor.{Actor}
@@ -13,7 +12,7 @@ use Rattle.rv_base.specs.declared.journal.JournalEntry.TheVariants.{Post, Draw, 
 use Rattle.rv_base.specs.declared.journal.Letter.{Letter}
 use Rattle.rv_base.specs.declared.journal.Packet.{Packet}
 use Rattle.rv_base.specs.declared.journal.SaveResult.{SaveResult}
-use Rattle.rv_base.specs.Actors.{same_actor, actor_of}
+use Rattle.rv_base.specs.Actors.{actor_of}
 use Rattle.rv_base.specs.Part.{part, packet_of}
 use Rattle.rv_base.specs.Pool.{pool, numbered, letters_posted, without}
 use Rattle.rv_base.proofs.Pools.{Rising, Rising-pool}
@@ -29,10 +28,8 @@ use Rattle.vr_core.specs.declared.input.VrInput.TheVariants as vr_input
 use Rattle.vr_core.specs.Step.{vr_step}
 use Rattle.of_switch.specs.declared.says.SwitchSays.{SwitchSays}
 use Rattle.of_switch.specs.declared.says.SwitchInput.{SwitchInput}
-use Rattle.of_switch.specs.declared.says.SwitchInput.TheVariants as switch_input
 use Rattle.of_switch.specs.State.{SwitchState, SwitchTurn}
 use Rattle.of_switch.specs.Rules.{switch_turn}
-use Rattle.group_controller.specs.declared.messages.ControllerInput.{ControllerInput}
 use Rattle.group_controller.specs.declared.messages.ControllerInput.TheVariants as controller_input
 use Rattle.group_controller.specs.declared.messages.ControllerSays.{ControllerSays}
 use Rattle.group_controller.specs.State.{ControllerState, Work, stepped, to_members, with_no_met_limit}
@@ -42,25 +39,27 @@ use Rattle.rv_runs.specs.declared.messages.Message.TheVariants as message
 use Rattle.rv_runs.specs.declared.messages.Unsealed.{Unsealed}
 use Rattle.rv_runs.specs.declared.messages.Unsealed.TheVariants as unsealed
 use Rattle.rv_runs.specs.States.{Scene, IsFaithful, ControllerAt, SwitchAt, content, controller_hears, controller_message, sealed_letters, switch_at, switch_hears, switch_message, switch_took}
-use Rattle.rv_runs.specs.Legal.{IsPossible, IsSoundSwitch, results_of}
-use Rattle.rv_runs.specs.Schedule.{Answer, Done, IsEnd, Phase, Losing, Suspecting, Draining, Met, Move, Takes, Ends, ClosesTo, IsInputOf, IsMove, IsPosted, after_member, after_move, drained, is_drawn, met_by, next_drained, next_move, owed_of}
+use Rattle.rv_runs.specs.Legal.{IsPossible, IsSoundSwitch}
+use Rattle.rv_runs.specs.Schedule.{Done, IsEnd, Phase, Losing, Draining, Met, Move, Takes, Ends, ClosesTo, IsInputOf, IsMove, IsPosted, after_member, after_move, drained, is_drawn, met_by, next_drained, next_move, owed_of, is_turn, count_turns}
 use Rattle.rv_runs.proofs.Entries.{Mine, Another, switch_after}
 use Rattle.rv_runs.proofs.Pasts.{possible_before, self_controller, self_switch}
 use Rattle.rv_runs.proofs.Pools.{one_actor}
 use Rattle.rv_agreement.proofs.Pasts.{fits}
 use Rattle.rv_laws.proofs.Laws.{always}
 use Rattle.rv_laws.proofs.Members.{up_leads}
+use Rattle.closing_laws.specs.Measure.{commands_from, left_to_do}
 use Rattle.closing_laws.specs.Quorum.{has}
 use Rattle.closing_laws.specs.Ways.{Sent, sent_by}
 use Rattle.closing_laws.specs.Following.{KeepsUp, Start}
-use Rattle.closing_laws.specs.Serving.{IsServed, IsTrueOf, IsTruePrimary}
+use Rattle.closing_laws.specs.Serving.{IsTrueOf, IsTruePrimary}
 use Rattle.closing_laws.specs.Starts.{FindRoom, IsDraining, Last_suspects, Drains, SavesSucceed}
-use Rattle.closing_laws.proofs.Between.{own_actor}
 use Rattle.closing_laws.proofs.Drained as drained_by
-use Rattle.closing_laws.proofs.Drained.{IsWay, To_member, From_member, To_switch, From_switch, put, put_own, put_other, same_or_not}
-use Rattle.closing_laws.proofs.Carrying.{AllCarry, Carries, HeadOf, IsIdle, Posts, Loses, MaySay, carry_both, controller_draws, controller_rests, controllers_stay, head_of, letters_carry, none_carried, ordered_may, reported_may, sw, switch_draws, switch_rests, switch_steps, switches_stay}
+use Rattle.closing_laws.proofs.Drained.{IsWay, To_member, From_member, To_switch, From_switch, put, put_own, put_other, heard_of}
+use Rattle.closing_laws.proofs.Carrying.{AllCarry, HeadOf, IsIdle, Posts, Loses, carry_both, controller_draws, controller_rests, controllers_stay, head_of, letters_carry, none_carried, ordered_may, reported_may, sw, switch_draws, switch_rests, switch_steps, switches_stay}
 use Rattle.closing_laws.proofs.Taking.{all_fit, at, own_steps, finds_head, leaves_head, member_work, By_message}
-use Rattle.closing_laws.proofs.Walking.{later}
+use Rattle.closing_laws.proofs.Walking.{later, map_none}
+use Rattle.closing_laws.proofs.DrainingMeasure.{left_alike, lost_lowers, member_turn_lowers}
+use Rattle.closing_laws.proofs.PrimaryLowers.{place_of}
 use Rattle.closing_laws.proofs.Walking as walking
 
 -- who is no primary doesn't lead
@@ -72,18 +71,7 @@ following_work : (kinds : List ℕ) (setup : Setup) (c : ControllerState) (step 
 unfolding after_step
 following_work kinds setup c step e = rw e refl
 
-and_right_of : (a b : Bool) → (a && b) ≡ true → b ≡ true
-and_right_of true b e = e
-and_right_of false b e = absurd cc
-
-map_none : {X Y : Type 0} (f : X → Y) (xs : List X) → map f xs ≡ [] → xs ≡ []
-map_none f [] h = refl
-map_none f (x ∷ xs) h = cc
-
--- what a controller hears of a message, and a switch
-abbrev pub heard_of : Sent → ControllerInput
-heard_of m = controller_hears m.from (unsealed.Message m.said)
-
+-- what a switch hears of a message
 abbrev pub heard_at : Sent → SwitchInput
 heard_at m = switch_hears m.from (unsealed.Message m.said)
 
@@ -132,6 +120,21 @@ module _ {B : Type 0} (scene : Scene B) (results : List (List SaveResult)) (setu
     Resting : Rests P → Mode P
     Owing : Owes P → Mode P
 
+  -- what is left to do after a past, with this on its way
+  abbrev pub left_after : Past → List Sent → ℕ
+  left_after P waiting = left_to_do scene.kinds scene.setup quorum (at scene results p P).now (λ s. (sw scene results s P).now) waiting
+
+  abbrev pub left_in : (P : Past) → Mode P → ℕ
+  left_in P (Resting r) = left_after P r.waiting
+  left_in P (Owing o) = left_after P (o.waiting ++ owes (actor_of o.newest) P)
+
+  -- the turns for the commands of what is committed, from what was processed as the view started
+  abbrev pub turns_for : ControllerState → ℕ
+  turns_for c = 3 * commands_from scene.kinds scene.setup c (place_of start)
+
+  abbrev pub turns_known : Past → ℕ
+  turns_known P = turns_for (at scene results p P).now
+
   -- an actor that owes nothing
   none_owed : (a : Actor) (P : Past) → owed_of scene results a P ≡ [] → owes a P ≡ []
   none_owed (actor.Controller c) P h = ap (λ (ls : List (Letter ControllerSays)). map (sent_by controller_message (actor.Controller c)) ls) (map_none (λ (l : Letter ControllerSays). record { to = l.to; body = scene.sealing.sealed (controller_message l.body) }) (at scene results c P).owed h)
@@ -148,6 +151,22 @@ module _ {B : Type 0} (scene : Scene B) (results : List (List SaveResult)) (setu
         stands = subst (λ (ms : List Sent). Stands P ms) (ap (λ (ms : List Sent). o.waiting ++ ms) none ∙ append-nil o.waiting) o.stands;
         posted = posted;
       }
+
+  rested_left : (P : Past) (mode : Mode P) (posted : IsPosted scene results P) → left_after P (rested P mode posted).waiting ≡ left_in P mode
+  unfolding rested
+  rested_left P (Resting r) posted = refl
+  rested_left P (Owing o) posted =
+      let mine = subst (λ (Q : Past). IsPosted scene results Q → owed_of scene results (actor_of o.newest) Q ≡ []) (sym o.is) (λ h. h) posted in
+      sym (ap (λ (ms : List Sent). left_after P (o.waiting ++ ms)) (none_owed (actor_of o.newest) P mine) ∙ ap (left_after P) (append-nil o.waiting))
+
+  -- an entry that changes nobody leaves as much
+  idle_left : (e : JournalEntry B) (P : Past) (waiting : List Sent) → IsIdle scene results e → left_after (e ∷ P) waiting ≡ left_after P waiting
+  idle_left e P waiting idle =
+      ap (λ (c : ControllerState). left_to_do scene.kinds scene.setup quorum c (λ s. (sw scene results s (e ∷ P)).now) waiting) (controllers_stay scene results e P idle p)
+      ∙ left_alike scene.kinds scene.setup quorum (at scene results p P).now (λ s. (sw scene results s (e ∷ P)).now) (λ s. (sw scene results s P).now) waiting (λ k there. switches_stay scene results e P idle k)
+
+  idle_known : (e : JournalEntry B) (P : Past) → IsIdle scene results e → turns_known (e ∷ P) ≡ turns_known P
+  idle_known e P idle = ap turns_for (controllers_stay scene results e P idle p)
 
   -- an entry that changes nobody
   idle_stands : (e : JournalEntry B) (P : Past) (waiting : List Sent) → IsIdle scene results e → Stands P waiting → Stands (e ∷ P) waiting
@@ -195,6 +214,16 @@ module _ {B : Type 0} (scene : Scene B) (results : List (List SaveResult)) (setu
         posted = posted_after a first letters lost P;
       }
 
+  posts_left : (P : Past) (mode : Mode P) (a : Actor) (first : ℕ) (letters : List (Letter B)) (lost : ℕ) (input : IsInputOf a P) (possible : IsPossible scene results (Post a first letters lost ∷ P)) (room : lost ≡ 0) →
+      left_after (Post a first letters lost ∷ P) (posts P mode a first letters lost input possible room).waiting ≡ left_in P mode
+  unfolding posts
+  posts_left P (Resting r) a first letters lost input possible room =
+      absurd (walking.never_posts scene results setup faithful w quorum small before succeed P r.posted a first letters lost input possible)
+  posts_left P (Owing o) a first letters lost input possible room =
+      let it = subst (λ (Q : Past). IsInputOf a Q) o.is input in
+      let whose : actor_of o.newest ≡ a = one_actor (actor_of o.newest) a it.1 in
+      idle_left (Post a first letters lost) P (o.waiting ++ owes a P) (Posts a first letters lost) ∙ ap (λ (b : Actor). left_after P (o.waiting ++ owes b P)) (sym whose)
+
   -- what is true of the primary and its switches, in each past in which it leads
   pub record AreTrue (c : ControllerState) (switches : ℕ → SwitchState) : Type 0 where
     pub primary : IsTruePrimary c
@@ -219,6 +248,10 @@ module _ {B : Type 0} (scene : Scene B) (results : List (List SaveResult)) (setu
     pub keeps : AreTrue c switches → AreTrue (controller_work scene.kinds scene.setup c (heard_of m)).state switches → (controller_work scene.kinds scene.setup c (heard_of m)).state.full ≡ None →
         Drains' (controller_work scene.kinds scene.setup c (heard_of m)).state members switches
         (rest ++ map (sent_by controller_message (actor.Controller p)) (controller_work scene.kinds scene.setup c (heard_of m)).letters)
+    pub lowers : AreTrue c switches → AreTrue (controller_work scene.kinds scene.setup c (heard_of m)).state switches →
+        left_to_do scene.kinds scene.setup quorum (controller_work scene.kinds scene.setup c (heard_of m)).state switches
+        (rest ++ map (sent_by controller_message (actor.Controller p)) (controller_work scene.kinds scene.setup c (heard_of m)).letters) + 1 + turns_for c ≤
+        left_to_do scene.kinds scene.setup quorum c switches (m ∷ rest) + turns_for (controller_work scene.kinds scene.setup c (heard_of m)).state
 
   -- the turns of the primary and of switches, and what is true in each past
   module _ (inside : has quorum p ≡ true)
@@ -227,7 +260,9 @@ module _ {B : Type 0} (scene : Scene B) (results : List (List SaveResult)) (setu
       ((s : ℕ) → s < length scene.setup.ports → IsTrueOf scene.kinds scene.setup c s (switches s)) → PrimaryTurn c members switches m rest)
       (by_switch : (c : ControllerState) (members : ℕ → VrState) (switches : ℕ → SwitchState) (m : Sent) (rest : List Sent) (s : ℕ) → s < length scene.setup.ports → m.from ≡ actor.Controller p → m.to ≡ actor.Switch s → Drains' c members switches (m ∷ rest) →
       AreTrue c switches → AreTrue c (put switches s (switch_turn (switches s) (heard_at m)).state) →
-      Drains' c members (put switches s (switch_turn (switches s) (heard_at m)).state) (rest ++ map (sent_by switch_message (actor.Switch s)) (switch_turn (switches s) (heard_at m)).letters))
+      Drains' c members (put switches s (switch_turn (switches s) (heard_at m)).state) (rest ++ map (sent_by switch_message (actor.Switch s)) (switch_turn (switches s) (heard_at m)).letters)
+      × (left_to_do scene.kinds scene.setup quorum c (put switches s (switch_turn (switches s) (heard_at m)).state) (rest ++ map (sent_by switch_message (actor.Switch s)) (switch_turn (switches s) (heard_at m)).letters) + 1 ≤
+      left_to_do scene.kinds scene.setup quorum c switches (m ∷ rest)))
       (truths : (P : Past) → IsPossible scene results P → HavePromised P → AreTrue (at scene results p P).now (λ s. (sw scene results s P).now))
       (named : (P : Past) → IsPossible scene results P → (q : Packet B) → IsIn q (pool P) → (s : ℕ) → (q.to ≡ actor.Switch s) ⊎ (q.from ≡ actor.Switch s) → s < length scene.setup.ports) where
     small_p : p < n
@@ -250,7 +285,7 @@ module _ {B : Type 0} (scene : Scene B) (results : List (List SaveResult)) (setu
         record {
           leads = leads_now c.vr d.lead.normal (eq-eqb (c.vr.view % c.vr.controllers) c.vr.me (ap (λ (v : ℕ). v % c.vr.controllers) d.view ∙ ap (λ (k : ℕ). w % k) d.size ∙ sym d.me));
           view = d.view;
-          promises = λ b chosen. by_same b chosen (same_or_not b p);
+          promises = λ b chosen. by_same b chosen (cases_eq b p);
         }
       where
         c : ControllerState
@@ -308,6 +343,10 @@ module _ {B : Type 0} (scene : Scene B) (results : List (List SaveResult)) (setu
             switches_are = s.switches_are;
             drains = drained_by.drains_lost scene.kinds scene.setup w p quorum start inside (at scene results p P).now s.members s.switches m rest s.drains lost;
           })
+
+      loss_left : is_drawn quorum m.from m.to ≡ false → left_after (Lose m.to id ∷ P) rest ≡ left_after P (m ∷ rest)
+      loss_left lost =
+          idle_left (Lose m.to id) P rest (Loses m.to id) ∙ lost_lowers scene.kinds scene.setup quorum (at scene results p P).now (λ s. (sw scene results s P).now) m rest lost
 
       -- a member of the quorum draws it
       module _ (s : Stands P (m ∷ rest)) (possible : IsPossible scene results P) (b : ℕ) (from : m.from ≡ actor.Controller p) (to : m.to ≡ actor.Controller b) (chosen : has quorum b ≡ true) (other : b ≡ p → ⊥) where
@@ -376,7 +415,7 @@ module _ {B : Type 0} (scene : Scene B) (results : List (List SaveResult)) (setu
           stands = record {
             members = put s.members b step.state;
             switches = s.switches;
-            members_are = λ j member not_p. elim (same_or_not j b) [
+            members_are = λ j member not_p. elim (cases_eq j b) [
               | inl e ↦ subst (λ (k : ℕ). (at scene results k (draw ∷ P)).now.vr ≡ put s.members b step.state k) (sym e) (ap (λ (x : ControllerState). x.vr) now_is ∙ sym (put_own s.members b step.state))
               | inr e ↦ ap (λ (x : ControllerAt). x.now.vr) (controller_rests scene results draw P j (ne_eqb b j (λ i. e (sym i)))) ∙ s.members_are j member not_p ∙ sym (put_other s.members b step.state j e)
             ];
@@ -388,6 +427,19 @@ module _ {B : Type 0} (scene : Scene B) (results : List (List SaveResult)) (setu
                 (sym (turned.1 ∙ ap (λ (x : Work). x.letters) work_is)) moved.1);
           };
         }
+
+        member_known : turns_known (draw ∷ P) ≡ turns_known P
+        member_known = ap (λ (x : ControllerAt). turns_for x.now) (controller_rests scene results draw P p (ne_eqb b p other))
+
+        member_left : left_after (draw ∷ P) (rest ++ owes (actor.Controller b) (draw ∷ P)) + 1 ≤ left_after P (m ∷ rest)
+        member_left =
+            subst (λ (x : ControllerState). left_to_do scene.kinds scene.setup quorum x (λ k. (sw scene results k P).now) (rest ++ owes (actor.Controller b) (draw ∷ P)) + 1 ≤ left_after P (m ∷ rest))
+            (sym (ap (λ (x : ControllerAt). x.now) (controller_rests scene results draw P p (ne_eqb b p other))))
+            (subst (λ (ls : List (Letter ControllerSays)). left_to_do scene.kinds scene.setup quorum c (λ k. (sw scene results k P).now) (rest ++ map (sent_by controller_message (actor.Controller b)) ls) + 1 ≤ left_after P (m ∷ rest))
+            (sym (turned.1 ∙ ap (λ (x : Work). x.letters) work_is))
+            (member_turn_lowers scene.kinds scene.setup quorum c (λ k. (sw scene results k P).now) m rest b (to_members step.letters)
+            (ap (λ (a : Actor). is_drawn quorum a m.to) from ∙ ap (λ (a : Actor). is_drawn quorum (actor.Controller p) a) to ∙ chosen)
+            (drained_by.answers_less scene.kinds scene.setup w p quorum start inside c s.members s.switches m rest s.drains b from to chosen other refl small_p)))
 
         -- it leaves the phase
         member_stays : (next : Phase) → after_member w (at scene results b (draw ∷ P)).now next ≡ next
@@ -431,7 +483,7 @@ module _ {B : Type 0} (scene : Scene B) (results : List (List SaveResult)) (setu
         switches' = put s.switches k turn.state
 
         each_now : (j : ℕ) → j < length scene.setup.ports → (sw scene results j (switch_draw ∷ P)).now ≡ switches' j
-        each_now j small_j = elim (same_or_not j k) [
+        each_now j small_j = elim (cases_eq j k) [
           | inl e ↦ subst (λ (i : ℕ). (sw scene results i (switch_draw ∷ P)).now ≡ switches' i) (sym e) (switch_now ∙ sym (put_own s.switches k turn.state))
           | inr e ↦ ap (λ (x : SwitchAt). x.now) (switch_rests scene results switch_draw P j (ne_eqb k j (λ i. e (sym i)))) ∙ s.switches_are j small_j ∙ sym (put_other s.switches k turn.state j e)
         ]
@@ -448,6 +500,18 @@ module _ {B : Type 0} (scene : Scene B) (results : List (List SaveResult)) (setu
               each = λ j small_j. subst (λ (x : SwitchState). IsTrueOf scene.kinds scene.setup leader j x) (each_now j small_j) (t.each j small_j);
             }
 
+        by_it : Drains' leader s.members switches' (rest ++ map (sent_by switch_message (actor.Switch k)) turn.letters)
+            × (left_to_do scene.kinds scene.setup quorum leader switches' (rest ++ map (sent_by switch_message (actor.Switch k)) turn.letters) + 1 ≤ left_to_do scene.kinds scene.setup quorum leader s.switches (m ∷ rest))
+        by_it = by_switch leader s.members s.switches m rest k there from to s.drains truths_before truths_after
+
+        switch_left : left_after (switch_draw ∷ P) (rest ++ owes (actor.Switch k) (switch_draw ∷ P)) + 1 ≤ left_after P (m ∷ rest)
+        switch_left =
+            let now = left_alike scene.kinds scene.setup quorum leader (λ j. (sw scene results j (switch_draw ∷ P)).now) switches' (rest ++ owes (actor.Switch k) (switch_draw ∷ P)) each_now in
+            let said = ap (λ (ls : List (Letter SwitchSays)). left_to_do scene.kinds scene.setup quorum leader switches' (rest ++ map (sent_by switch_message (actor.Switch k)) ls)) switch_owed in
+            let was = left_alike scene.kinds scene.setup quorum leader (λ j. (sw scene results j P).now) s.switches (m ∷ rest) s.switches_are in
+            let less = by_it.1 in
+            omega (arith, now, said, was, less)
+
         pub switch_owes : Owes (switch_draw ∷ P)
         switch_owes = record {
           newest = switch_draw;
@@ -462,7 +526,7 @@ module _ {B : Type 0} (scene : Scene B) (results : List (List SaveResult)) (setu
             switches_are = each_now;
             drains =
                 subst (λ (ls : List (Letter SwitchSays)). Drains' leader s.members switches' (rest ++ map (sent_by switch_message (actor.Switch k)) ls)) (sym switch_owed)
-                (by_switch leader s.members s.switches m rest k there from to s.drains truths_before truths_after);
+                by_it.0;
           };
         }
 
@@ -494,7 +558,7 @@ module _ {B : Type 0} (scene : Scene B) (results : List (List SaveResult)) (setu
             record {
               leads = ap (λ (x : ControllerState). leads x.vr) primary_turned.0 ∙ turn_p.alike.leads ∙ had.leads;
               view = ap (λ (x : ControllerState). x.vr.view) primary_turned.0 ∙ turn_p.alike.view ∙ had.view;
-              promises = λ b chosen. by_one b chosen (same_or_not b p) (had.promises b chosen);
+              promises = λ b chosen. by_one b chosen (cases_eq b p) (had.promises b chosen);
             }
           where
             by_one : (b : ℕ) → has quorum b ≡ true → (b ≡ p) ⊎ (b ≡ p → ⊥) → (at scene results b P).now.vr.promise ≤ w → (at scene results b (primary_draw ∷ P)).now.vr.promise ≤ w
@@ -512,6 +576,16 @@ module _ {B : Type 0} (scene : Scene B) (results : List (List SaveResult)) (setu
             let t = truths (primary_draw ∷ P) after had_promised in
             subst (λ (x : ControllerState). AreTrue x s.switches) primary_turned.0
             (record { primary = t.primary; each = λ j small_j. subst (λ (x : SwitchState). IsTrueOf scene.kinds scene.setup (at scene results p (primary_draw ∷ P)).now j x) (s.switches_are j small_j) (t.each j small_j) })
+
+        primary_left : left_after (primary_draw ∷ P) (rest ++ owes (actor.Controller p) (primary_draw ∷ P)) + 1 + turns_known P ≤ left_after P (m ∷ rest) + turns_known (primary_draw ∷ P)
+        primary_left =
+            let now = ap (λ (x : ControllerState). left_to_do scene.kinds scene.setup quorum x (λ k. (sw scene results k P).now) (rest ++ owes (actor.Controller p) (primary_draw ∷ P))) primary_turned.0 in
+            let said = ap (λ (ls : List (Letter ControllerSays)). left_to_do scene.kinds scene.setup quorum work.state (λ k. (sw scene results k P).now) (rest ++ map (sent_by controller_message (actor.Controller p)) ls)) primary_turned.1 in
+            let alike = left_alike scene.kinds scene.setup quorum work.state (λ k. (sw scene results k P).now) s.switches (rest ++ map (sent_by controller_message (actor.Controller p)) work.letters) s.switches_are in
+            let was = left_alike scene.kinds scene.setup quorum old (λ k. (sw scene results k P).now) s.switches (m ∷ rest) s.switches_are in
+            let known = ap turns_for primary_turned.0 in
+            let less = turn_p.lowers true_before true_after in
+            omega (arith, now, said, alike, was, known, less)
 
         -- where it met no limit
         pub primary_owes : work.state.full ≡ None → Owes (primary_draw ∷ P)
@@ -545,17 +619,13 @@ module _ {B : Type 0} (scene : Scene B) (results : List (List SaveResult)) (setu
             ap (λ (x : ControllerState). after_member w x (Draining w quorum)) primary_turned.0
             ∙ ap (λ (b : Bool). if not b then Losing else if nat_eq (w % work.state.vr.controllers) work.state.vr.me then phase_by work.state.full else Draining w quorum) (up_leads work.state.vr now)
             ∙ ap (λ (b : Bool). if b then phase_by work.state.full else Draining w quorum)
-            (ap (λ (v : ℕ). nat_eq (v % work.state.vr.controllers) work.state.vr.me) (sym (turn_p.alike.view ∙ same.view)) ∙ and_right_of (is_normal work.state.vr) (is_primary work.state.vr) now)
+            (ap (λ (v : ℕ). nat_eq (v % work.state.vr.controllers) work.state.vr.me) (sym (turn_p.alike.view ∙ same.view)) ∙ (and_parts (is_normal work.state.vr) (is_primary work.state.vr) now).1)
 
     -- all that comes behind a past in which the closing stands
     pub record Ended (primary : ℕ) (P : Past) : Type 0 where
       pub who : primary ≡ p
       pub empty : pool P ≡ []
       pub stands : Stands P []
-
-    abbrev pub Again : List (JournalEntry B) → Phase → ℕ → Past → Type 0
-    Again rest last primary P = (phase : Phase) → IsDraining w quorum phase → Mode P → ClosesTo scene results phase P rest last → IsPossible scene results (later P rest) → IsPosted scene results (later P rest) →
-        IsEnd (next_move scene results last (later P rest)) (Done primary) → Ended primary (later P rest)
 
     -- where a proposal met the limit, nothing more is done, and the closing ends so
     pub never_done : (limit : LogFull) (P : Past) (rest : List (JournalEntry B)) (last : Phase) (primary : ℕ) → ClosesTo scene results (Met limit) P rest last → IsEnd (next_move scene results last (later P rest)) (Done primary) → ⊥
@@ -575,29 +645,34 @@ module _ {B : Type 0} (scene : Scene B) (results : List (List SaveResult)) (setu
           | Another other is ↦ absurd (true≢false (sym (self_switch k) ∙ other))
         ]
 
+    -- whether an entry is a turn
+    abbrev pub turn_of : JournalEntry B → ℕ
+    turn_of e = if is_turn e then 1 else 0
+
+    -- where an entry leads: the closing goes on, or its primary has met a limit. What was left is lower by its turn, but for the commands
+    -- of what is newly committed
+    pub data Went (e : JournalEntry B) (rest : List (JournalEntry B)) (P : Past) (last : Phase) (left_before : ℕ) : Type 0 where
+      On : (mode : Mode (e ∷ P)) → left_in (e ∷ P) mode + turn_of e + turns_known P ≤ left_before + turns_known (e ∷ P) → ClosesTo scene results (Draining w quorum) (e ∷ P) rest last → Went e rest P last left_before
+      Meets : (limit : LogFull) → turn_of e + turns_known P ≤ left_before + turns_known (e ∷ P) → HavePromised (e ∷ P) → ClosesTo scene results (Met limit) (e ∷ P) rest last → Went e rest P last left_before
+
     -- one entry more
-    module _ (e : JournalEntry B) (rest : List (JournalEntry B)) (P : Past) (last : Phase) (primary : ℕ) (possible : IsPossible scene results (later (e ∷ P) rest)) (posted : IsPosted scene results (later (e ∷ P) rest))
-        (end : IsEnd (next_move scene results last (later (e ∷ P) rest)) (Done primary)) (again : (Q : Past) → Again rest last primary Q) where
-      abbrev under : IsPossible scene results (e ∷ P)
-      under = walking.possible_under scene results setup faithful w quorum small before succeed rest (e ∷ P) possible
-
-      abbrev earlier : IsPossible scene results P
-      earlier = possible_before scene results e P under
-
+    module _ (rest : List (JournalEntry B)) (P : Past) (last : Phase) (earlier : IsPossible scene results P) where
       -- it is this entry
-      module _ (m : Sent) (ms : List Sent) (h : HeadOf scene.sealing (pool P) m ms) (s : Stands P (m ∷ ms)) (posted_here : IsPosted scene results P) where
-        is_lost : is_drawn quorum m.from m.to ≡ false → e ≡ Lose m.to h.packet.id → ClosesTo scene results (after_move scene results e P (Draining w quorum)) (e ∷ P) rest last → Ended primary (later (e ∷ P) rest)
-        is_lost lost is closes =
-            again (e ∷ P) (Draining w quorum) Drains
-            (Resting record {
+      module _ (m : Sent) (ms : List Sent) (h : HeadOf scene.sealing (pool P) m ms) (s : Stands P (m ∷ ms)) where
+        -- what it leads to, where it is possible
+        abbrev Leads_on : JournalEntry B → Type 0
+        Leads_on e = IsPossible scene results (e ∷ P) → ClosesTo scene results (after_move scene results e P (Draining w quorum)) (e ∷ P) rest last → Went e rest P last (left_after P (m ∷ ms))
+
+        is_lost : is_drawn quorum m.from m.to ≡ false → Leads_on (Lose m.to h.packet.id)
+        is_lost lost can closes =
+            let left_now = loss_left P m ms h lost in
+            let known = idle_known (Lose m.to h.packet.id) P (Loses m.to h.packet.id) in
+            On (Resting record {
               waiting = ms;
-              carries = subst (λ (x : JournalEntry B). AllCarry scene.sealing (pool (x ∷ P)) ms) (sym is) (subst (λ (ps : List (Packet B)). AllCarry scene.sealing ps ms) (sym (left P m ms h earlier)) h.others);
-              stands = subst (λ (x : JournalEntry B). Stands (x ∷ P) ms) (sym is) (loss_stands P m ms h s lost);
-              posted = subst (λ (x : JournalEntry B). IsPosted scene results (x ∷ P)) (sym is) (lost_posted m.to h.packet.id P (subst (λ (x : JournalEntry B). IsPossible scene results (x ∷ P)) is under));
-            })
-            (subst (λ (x : JournalEntry B). ClosesTo scene results (after_move scene results x P (Draining w quorum)) (x ∷ P) rest last → ClosesTo scene results (Draining w quorum) (e ∷ P) rest last) (sym is)
-            (subst (λ (x : JournalEntry B). ClosesTo scene results (Draining w quorum) (x ∷ P) rest last → ClosesTo scene results (Draining w quorum) (e ∷ P) rest last) is (λ c. c)) closes)
-            possible posted end
+              carries = subst (λ (ps : List (Packet B)). AllCarry scene.sealing ps ms) (sym (left P m ms h earlier)) h.others;
+              stands = loss_stands P m ms h s lost;
+              posted = lost_posted m.to h.packet.id P can;
+            }) (omega (arith, left_now, known)) closes
           where
             lost_posted : (a : Actor) (packet : ℕ) (Q : Past) → IsPossible scene results (Lose a packet ∷ Q) → owed_of scene results a (Lose a packet ∷ Q) ≡ []
             lost_posted (actor.Controller c) packet Q can =
@@ -608,75 +683,84 @@ module _ {B : Type 0} (scene : Scene B) (results : List (List SaveResult)) (setu
                 ∙ ap (sealed_letters switch_message scene.sealing) (switch_fit k packet Q can)
 
         -- the primary draws it
-        at_primary : m.to ≡ actor.Controller p → ((b : ℕ) × (m.from ≡ actor.Controller b) × (has quorum b ≡ true) × (b ≡ p → ⊥)) ⊎ ((k : ℕ) × (m.from ≡ actor.Switch k) × (k < length scene.setup.ports)) →
-            e ≡ Draw m.to h.packet.id false → ClosesTo scene results (after_move scene results e P (Draining w quorum)) (e ∷ P) rest last → Ended primary (later (e ∷ P) rest)
-        at_primary to from is closes =
-            let it : e ≡ Draw (actor.Controller p) h.packet.id false = is ∙ ap (λ (a : Actor). Draw a h.packet.id false) to in
-            let can = subst (λ (x : JournalEntry B). IsPossible scene results (x ∷ P)) it under in
-            by_full it can (work P m ms h s earlier to from can).state.full refl
-            (subst (λ (f : Phase). ClosesTo scene results f (Draw (actor.Controller p) h.packet.id false ∷ P) rest last) (phase_is P m ms h s earlier to from can)
-            (subst (λ (x : JournalEntry B). ClosesTo scene results (after_move scene results x P (Draining w quorum)) (x ∷ P) rest last) it closes))
+        at_primary : (to : m.to ≡ actor.Controller p) → ((b : ℕ) × (m.from ≡ actor.Controller b) × (has quorum b ≡ true) × (b ≡ p → ⊥)) ⊎ ((k : ℕ) × (m.from ≡ actor.Switch k) × (k < length scene.setup.ports)) →
+            Leads_on (Draw (actor.Controller p) h.packet.id false)
+        unfolding primary_owes
+        at_primary to from can closes =
+            by_full (work P m ms h s earlier to from can).state.full refl
+            (subst (λ (f : Phase). ClosesTo scene results f (Draw (actor.Controller p) h.packet.id false ∷ P) rest last) (phase_is P m ms h s earlier to from can) closes)
           where
-            by_full : (it : e ≡ Draw (actor.Controller p) h.packet.id false) (can : IsPossible scene results (Draw (actor.Controller p) h.packet.id false ∷ P)) (o : Option LogFull) →
-                (work P m ms h s earlier to from can).state.full ≡ o → ClosesTo scene results (met_by o (Draining w quorum)) (Draw (actor.Controller p) h.packet.id false ∷ P) rest last → Ended primary (later (e ∷ P) rest)
-            by_full it can None room goes_on =
-                again (e ∷ P) (Draining w quorum) Drains (Owing (subst (λ (x : JournalEntry B). Owes (x ∷ P)) (sym it) (primary_owes P m ms h s earlier to from can room)))
-                (subst (λ (x : JournalEntry B). ClosesTo scene results (Draining w quorum) (x ∷ P) rest last) (sym it) goes_on) possible posted end
-            by_full it can (Some limit) room goes_on =
-                absurd (never_done limit (Draw (actor.Controller p) h.packet.id false ∷ P) rest last primary goes_on
-                (subst (λ (x : JournalEntry B). IsEnd (next_move scene results last (later (x ∷ P) rest)) (Done primary)) it end))
+            less : left_after (Draw (actor.Controller p) h.packet.id false ∷ P) (ms ++ owes (actor.Controller p) (Draw (actor.Controller p) h.packet.id false ∷ P)) + 1 + turns_known P ≤
+                left_after P (m ∷ ms) + turns_known (Draw (actor.Controller p) h.packet.id false ∷ P)
+            less = primary_left P m ms h s earlier to from can
+
+            by_full : (o : Option LogFull) → (work P m ms h s earlier to from can).state.full ≡ o → ClosesTo scene results (met_by o (Draining w quorum)) (Draw (actor.Controller p) h.packet.id false ∷ P) rest last →
+                Went (Draw (actor.Controller p) h.packet.id false) rest P last (left_after P (m ∷ ms))
+            by_full None room goes_on = On (Owing (primary_owes P m ms h s earlier to from can room)) less goes_on
+            by_full (Some limit) room goes_on = Meets limit (let k = less in omega (arith, k)) (had_promised P m ms h s earlier to from can) goes_on
 
         -- it is drawn
-        by_way : IsWay p quorum m → e ≡ Draw m.to h.packet.id false → ClosesTo scene results (after_move scene results e P (Draining w quorum)) (e ∷ P) rest last → Ended primary (later (e ∷ P) rest)
-        by_way (To_member b from to chosen other) is closes =
-            let it : e ≡ Draw (actor.Controller b) h.packet.id false = is ∙ ap (λ (a : Actor). Draw a h.packet.id false) to in
-            let o = member_owes P m ms h s earlier b from to chosen other in
-            again (e ∷ P) (Draining w quorum) Drains (Owing (subst (λ (x : JournalEntry B). Owes (x ∷ P)) (sym it) o))
-            (subst (λ (x : JournalEntry B). ClosesTo scene results (Draining w quorum) (x ∷ P) rest last) (sym it)
-            (subst (λ (f : Phase). ClosesTo scene results f (Draw (actor.Controller b) h.packet.id false ∷ P) rest last) (member_stays P m ms h s earlier b from to chosen other (Draining w quorum))
-            (subst (λ (x : JournalEntry B). ClosesTo scene results (after_move scene results x P (Draining w quorum)) (x ∷ P) rest last) it closes)))
-            possible posted end
-        by_way (To_switch k from to) is closes =
-            let it : e ≡ Draw (actor.Switch k) h.packet.id false = is ∙ ap (λ (a : Actor). Draw a h.packet.id false) to in
+        by_way : IsWay p quorum m → Leads_on (Draw m.to h.packet.id false)
+        unfolding member_owes switch_owes
+        by_way (To_member b from to chosen other) =
+            subst (λ (a : Actor). Leads_on (Draw a h.packet.id false)) (sym to) (λ can closes.
+            let less = member_left P m ms h s earlier b from to chosen other in
+            let known = member_known P m ms h s earlier b from to chosen other in
+            On (Owing (member_owes P m ms h s earlier b from to chosen other)) (omega (arith, less, known))
+            (subst (λ (f : Phase). ClosesTo scene results f (Draw (actor.Controller b) h.packet.id false ∷ P) rest last) (member_stays P m ms h s earlier b from to chosen other (Draining w quorum)) closes))
+        by_way (To_switch k from to) =
+            subst (λ (a : Actor). Leads_on (Draw a h.packet.id false)) (sym to) (λ can closes.
             let among : IsIn h.packet (pool P) = subst (λ (ps : List (Packet B)). IsIn h.packet ps) (sym h.is) (inl refl) in
             let there = named P earlier h.packet among k (inl (h.carries.to ∙ to)) in
-            let o = switch_owes P m ms h s earlier k there from to (subst (λ (x : JournalEntry B). IsPossible scene results (x ∷ P)) it under) in
-            again (e ∷ P) (Draining w quorum) Drains (Owing (subst (λ (x : JournalEntry B). Owes (x ∷ P)) (sym it) o))
-            (subst (λ (x : JournalEntry B). ClosesTo scene results (Draining w quorum) (x ∷ P) rest last) (sym it)
-            (subst (λ (x : JournalEntry B). ClosesTo scene results (after_move scene results x P (Draining w quorum)) (x ∷ P) rest last) it closes))
-            possible posted end
-        by_way (From_member b from to chosen other) is closes = at_primary to (inl (b, from, chosen, other)) is closes
-        by_way (From_switch k from to) is closes =
+            let less = switch_left P m ms h s earlier k there from to can in
+            On (Owing (switch_owes P m ms h s earlier k there from to can)) (omega (arith, less)) closes)
+        by_way (From_member b from to chosen other) = subst (λ (a : Actor). Leads_on (Draw a h.packet.id false)) (sym to) (at_primary to (inl (b, from, chosen, other)))
+        by_way (From_switch k from to) =
             let among : IsIn h.packet (pool P) = subst (λ (ps : List (Packet B)). IsIn h.packet ps) (sym h.is) (inl refl) in
-            at_primary to (inr (k, from, named P earlier h.packet among k (inr (h.carries.from ∙ from)))) is closes
+            subst (λ (a : Actor). Leads_on (Draw a h.packet.id false)) (sym to) (at_primary to (inr (k, from, named P earlier h.packet among k (inr (h.carries.from ∙ from)))))
 
-        pub one_head : e ≡ drained quorum h.packet → ClosesTo scene results (after_move scene results e P (Draining w quorum)) (e ∷ P) rest last → Ended primary (later (e ∷ P) rest)
-        one_head is closes = by_test (is_drawn quorum m.from m.to) refl
+        pub one_head : Leads_on (drained quorum h.packet)
+        one_head = by_test (is_drawn quorum m.from m.to) refl
           where
-            by_test : (b : Bool) → is_drawn quorum m.from m.to ≡ b → Ended primary (later (e ∷ P) rest)
+            by_test : (b : Bool) → is_drawn quorum m.from m.to ≡ b → Leads_on (drained quorum h.packet)
             by_test true drawn =
-                by_way (s.drains.ways m (inl refl) drawn) (is ∙ drained_is P m ms h ∙ ap (λ (b : Bool). if b then Draw m.to h.packet.id false else Lose m.to h.packet.id) drawn) closes
+                subst Leads_on (sym (drained_is P m ms h ∙ ap (λ (b : Bool). if b then Draw m.to h.packet.id false else Lose m.to h.packet.id) drawn)) (by_way (s.drains.ways m (inl refl) drawn))
             by_test false lost =
-                is_lost lost (is ∙ drained_is P m ms h ∙ ap (λ (b : Bool). if b then Draw m.to h.packet.id false else Lose m.to h.packet.id) lost) closes
+                subst Leads_on (sym (drained_is P m ms h ∙ ap (λ (b : Bool). if b then Draw m.to h.packet.id false else Lose m.to h.packet.id) lost)) (is_lost lost)
 
       -- by what waits
-      pub one_move : (phase : Phase) → IsDraining w quorum phase → Rests P → (next : Phase) → IsMove (next_move scene results phase P) e next →
-          ClosesTo scene results (after_move scene results e P next) (e ∷ P) rest last → Ended primary (later (e ∷ P) rest)
-      one_move phase draining r next move closes = by_waiting r.waiting r.carries r.stands
+      pub one_move : (e : JournalEntry B) → IsPossible scene results (e ∷ P) → (phase : Phase) → IsDraining w quorum phase → (r : Rests P) → (next : Phase) → IsMove (next_move scene results phase P) e next →
+          ClosesTo scene results (after_move scene results e P next) (e ∷ P) rest last → Went e rest P last (left_after P r.waiting)
+      one_move e possible phase draining r next move closes = by_waiting r.waiting r.carries r.stands
         where
           ends_with : (f : Phase) → IsDraining w quorum f → pool P ≡ [] → next_move scene results f P ≡ Ends (Done (w % n))
           ends_with _ Last_suspects none = ap (next_drained n w quorum) none
           ends_with _ Drains none = ap (next_drained n w quorum) none
 
-          by_waiting : (waiting : List Sent) → AllCarry scene.sealing (pool P) waiting → Stands P waiting → Ended primary (later (e ∷ P) rest)
+          by_waiting : (waiting : List Sent) → AllCarry scene.sealing (pool P) waiting → Stands P waiting → Went e rest P last (left_after P waiting)
           by_waiting [] carries stands = absurd (subst (λ (v : Move B). IsMove v e next) (ends_with phase draining (none_carried scene.sealing (pool P) carries)) move)
           by_waiting (m ∷ ms) carries stands =
               let h = head_of scene.sealing (pool P) m ms carries in
               let m' = subst (λ (v : Move B). IsMove v e next) (next_is P m ms h phase draining) move in
-              one_head m ms h stands r.posted m'.0 (subst (λ (f : Phase). ClosesTo scene results (after_move scene results e P f) (e ∷ P) rest last) m'.1 closes)
+              subst (λ (x : JournalEntry B). Leads_on m ms h stands x) (sym m'.0) (one_head m ms h stands) possible
+              (subst (λ (f : Phase). ClosesTo scene results (after_move scene results e P f) (e ∷ P) rest last) m'.1 closes)
+
+    under : (e : JournalEntry B) (rest : List (JournalEntry B)) (P : Past) → IsPossible scene results (later (e ∷ P) rest) → IsPossible scene results (e ∷ P)
+    under e rest P possible = walking.possible_under scene results setup faithful w quorum small before succeed rest (e ∷ P) possible
+
+    move_of : (e : JournalEntry B) (rest : List (JournalEntry B)) (P : Past) (last : Phase) → IsPossible scene results (later (e ∷ P) rest) → (phase : Phase) → IsDraining w quorum phase → (r : Rests P) →
+        (next : Phase) → IsMove (next_move scene results phase P) e next → ClosesTo scene results (after_move scene results e P next) (e ∷ P) rest last → Went e rest P last (left_after P r.waiting)
+    move_of e rest P last possible phase draining r next move closes =
+        one_move rest P last (possible_before scene results e P (under e rest P possible)) e (under e rest P possible) phase draining r next move closes
+
+    ended_by : (e : JournalEntry B) (rest : List (JournalEntry B)) (P : Past) (last : Phase) (primary left_before : ℕ) → Went e rest P last left_before → IsEnd (next_move scene results last (later (e ∷ P) rest)) (Done primary) →
+        (Mode (e ∷ P) → ClosesTo scene results (Draining w quorum) (e ∷ P) rest last → Ended primary (later (e ∷ P) rest)) → Ended primary (later (e ∷ P) rest)
+    ended_by e rest P last primary left_before (On mode less goes_on) end again = again mode goes_on
+    ended_by e rest P last primary left_before (Meets limit less kept goes_on) end again = absurd (never_done limit (e ∷ P) rest last primary goes_on end)
 
     -- all of them
-    pub goes : (entries P : List (JournalEntry B)) (last : Phase) (primary : ℕ) → FindRoom entries → Again entries last primary P
+    pub goes : (entries P : List (JournalEntry B)) (last : Phase) (primary : ℕ) → FindRoom entries → (phase : Phase) → IsDraining w quorum phase → Mode P → ClosesTo scene results phase P entries last →
+        IsPossible scene results (later P entries) → IsPosted scene results (later P entries) → IsEnd (next_move scene results last (later P entries)) (Done primary) → Ended primary (later P entries)
     goes [] P last primary room phase draining mode closes possible posted end = by_waiting r.waiting r.carries r.stands
       where
         r : Rests P
@@ -695,15 +779,90 @@ module _ {B : Type 0} (scene : Scene B) (results : List (List SaveResult)) (setu
             let h = head_of scene.sealing (pool P) m ms carries in
             absurd (subst (λ (v : Move B). IsEnd v (Done primary)) (next_is P m ms h phase draining) (subst (λ (f : Phase). IsEnd (next_move scene results f P) (Done primary)) closes end))
     goes (Post a first letters lost ∷ rest) P last primary room phase draining mode closes possible posted end =
-        let r = posts P mode a first letters lost closes.0 (walking.possible_under scene results setup faithful w quorum small before succeed rest (Post a first letters lost ∷ P) possible) room.0 in
+        let r = posts P mode a first letters lost closes.0 (under (Post a first letters lost) rest P possible) room.0 in
         goes rest (Post a first letters lost ∷ P) last primary room.1 phase draining (Resting r) closes.1 possible posted end
     goes (Draw a packet keep ∷ rest) P last primary room phase draining mode closes possible posted end =
-        one_move (Draw a packet keep) rest P last primary possible posted end (λ Q. goes rest Q last primary room.1) phase draining (rested P mode closes.0) closes.1.0 closes.1.1 closes.1.2
+        ended_by (Draw a packet keep) rest P last primary _ (move_of (Draw a packet keep) rest P last possible phase draining (rested P mode closes.0) closes.1.0 closes.1.1 closes.1.2) end
+        (λ next goes_on. goes rest (Draw a packet keep ∷ P) last primary room.1 (Draining w quorum) Drains next goes_on possible posted end)
     goes (Lose a packet ∷ rest) P last primary room phase draining mode closes possible posted end =
-        one_move (Lose a packet) rest P last primary possible posted end (λ Q. goes rest Q last primary room.1) phase draining (rested P mode closes.0) closes.1.0 closes.1.1 closes.1.2
+        ended_by (Lose a packet) rest P last primary _ (move_of (Lose a packet) rest P last possible phase draining (rested P mode closes.0) closes.1.0 closes.1.1 closes.1.2) end
+        (λ next goes_on. goes rest (Lose a packet ∷ P) last primary room.1 (Draining w quorum) Drains next goes_on possible posted end)
     goes (Local a input ∷ rest) P last primary room phase draining mode closes possible posted end =
-        one_move (Local a input) rest P last primary possible posted end (λ Q. goes rest Q last primary room.1) phase draining (rested P mode closes.0) closes.1.0 closes.1.1 closes.1.2
+        ended_by (Local a input) rest P last primary _ (move_of (Local a input) rest P last possible phase draining (rested P mode closes.0) closes.1.0 closes.1.1 closes.1.2) end
+        (λ next goes_on. goes rest (Local a input ∷ P) last primary room.1 (Draining w quorum) Drains next goes_on possible posted end)
     goes (Idle a ∷ rest) P last primary room phase draining mode closes possible posted end =
-        one_move (Idle a) rest P last primary possible posted end (λ Q. goes rest Q last primary room.1) phase draining (rested P mode closes.0) closes.1.0 closes.1.1 closes.1.2
+        ended_by (Idle a) rest P last primary _ (move_of (Idle a) rest P last possible phase draining (rested P mode closes.0) closes.1.0 closes.1.1 closes.1.2) end
+        (λ next goes_on. goes rest (Idle a ∷ P) last primary room.1 (Draining w quorum) Drains next goes_on possible posted end)
     goes (Refused a ∷ rest) P last primary room phase draining mode closes possible posted end =
-        one_move (Refused a) rest P last primary possible posted end (λ Q. goes rest Q last primary room.1) phase draining (rested P mode closes.0) closes.1.0 closes.1.1 closes.1.2
+        ended_by (Refused a) rest P last primary _ (move_of (Refused a) rest P last possible phase draining (rested P mode closes.0) closes.1.0 closes.1.1 closes.1.2) end
+        (λ next goes_on. goes rest (Refused a ∷ P) last primary room.1 (Draining w quorum) Drains next goes_on possible posted end)
+
+    -- an entry that changes nobody keeps what is promised
+    idle_promised : (e : JournalEntry B) (P : Past) → IsIdle scene results e → HavePromised P → HavePromised (e ∷ P)
+    idle_promised e P idle h = record {
+      leads = ap (λ (c : ControllerState). leads c.vr) (controllers_stay scene results e P idle p) ∙ h.leads;
+      view = ap (λ (c : ControllerState). c.vr.view) (controllers_stay scene results e P idle p) ∙ h.view;
+      promises = λ b chosen. subst (λ (c : ControllerState). c.vr.promise ≤ w) (sym (controllers_stay scene results e P idle b)) (h.promises b chosen);
+    }
+
+    -- where a limit was met, no turn comes
+    pub no_turn : (limit : LogFull) (P : Past) (rest : List (JournalEntry B)) (last : Phase) → ClosesTo scene results (Met limit) P rest last →
+        (count_turns rest ≡ 0) × (turns_known (later P rest) ≡ turns_known P) × (HavePromised P → HavePromised (later P rest))
+    no_turn limit P [] last closes = (refl, refl, λ h. h)
+    no_turn limit P (Post a first letters lost ∷ rest) last closes =
+        let more = no_turn limit (Post a first letters lost ∷ P) rest last closes.1 in
+        let parts = sum_by-cons turn_of (Post a first letters lost) rest in
+        let none = more.0 in
+        (omega (arith, parts, none), more.1 ∙ idle_known (Post a first letters lost) P (Posts a first letters lost), λ h. more.2 (idle_promised (Post a first letters lost) P (Posts a first letters lost) h))
+    no_turn limit P (Draw a packet keep ∷ rest) last closes = absurd closes.1.1
+    no_turn limit P (Lose a packet ∷ rest) last closes = absurd closes.1.1
+    no_turn limit P (Local a input ∷ rest) last closes = absurd closes.1.1
+    no_turn limit P (Idle a ∷ rest) last closes = absurd closes.1.1
+    no_turn limit P (Refused a ∷ rest) last closes = absurd closes.1.1
+
+    abbrev pub Counted : List (JournalEntry B) → Past → ℕ → Type 0
+    Counted entries P left_before = (count_turns entries + turns_known P ≤ left_before + turns_known (later P entries)) × HavePromised (later P entries)
+
+    counted_by : (e : JournalEntry B) (rest : List (JournalEntry B)) (P : Past) (last : Phase) (left_before left_rested : ℕ) → left_rested ≡ left_before → Went e rest P last left_rested →
+        ((mode : Mode (e ∷ P)) → ClosesTo scene results (Draining w quorum) (e ∷ P) rest last → Counted rest (e ∷ P) (left_in (e ∷ P) mode)) → Counted (e ∷ rest) P left_before
+    counted_by e rest P last left_before left_rested same (On mode less goes_on) again =
+        let parts = sum_by-cons turn_of e rest in
+        let more = again mode goes_on in
+        let counted = more.0 in
+        (omega (arith, parts, counted, less, same), more.1)
+    counted_by e rest P last left_before left_rested same (Meets limit less kept goes_on) again =
+        let parts = sum_by-cons turn_of e rest in
+        let more = no_turn limit (e ∷ P) rest last goes_on in
+        let none = more.0 in
+        let known = more.1 in
+        (omega (arith, parts, none, known, less, same), more.2 kept)
+
+    -- no more turns come than what is left to do, and those for the commands of what is newly committed
+    pub counts : (entries P : List (JournalEntry B)) (last : Phase) → FindRoom entries → (phase : Phase) → IsDraining w quorum phase → (mode : Mode P) → ClosesTo scene results phase P entries last →
+        IsPossible scene results (later P entries) → Counted entries P (left_in P mode)
+    counts [] P last room phase draining (Resting r) closes possible = (omega arith, promised P r.waiting r.stands)
+    counts [] P last room phase draining (Owing o) closes possible = (omega arith, promised P (o.waiting ++ owes (actor_of o.newest) P) o.stands)
+    counts (Post a first letters lost ∷ rest) P last room phase draining mode closes possible =
+        let can = under (Post a first letters lost) rest P possible in
+        let r = posts P mode a first letters lost closes.0 can room.0 in
+        let more = counts rest (Post a first letters lost ∷ P) last room.1 phase draining (Resting r) closes.1 possible in
+        let parts = sum_by-cons turn_of (Post a first letters lost) rest in
+        let same = posts_left P mode a first letters lost closes.0 can room.0 in
+        let known = idle_known (Post a first letters lost) P (Posts a first letters lost) in
+        let counted = more.0 in
+        (omega (arith, counted, parts, same, known), more.1)
+    counts (Draw a packet keep ∷ rest) P last room phase draining mode closes possible =
+        counted_by (Draw a packet keep) rest P last (left_in P mode) _ (rested_left P mode closes.0) (move_of (Draw a packet keep) rest P last possible phase draining (rested P mode closes.0) closes.1.0 closes.1.1 closes.1.2)
+        (λ next goes_on. counts rest (Draw a packet keep ∷ P) last room.1 (Draining w quorum) Drains next goes_on possible)
+    counts (Lose a packet ∷ rest) P last room phase draining mode closes possible =
+        counted_by (Lose a packet) rest P last (left_in P mode) _ (rested_left P mode closes.0) (move_of (Lose a packet) rest P last possible phase draining (rested P mode closes.0) closes.1.0 closes.1.1 closes.1.2)
+        (λ next goes_on. counts rest (Lose a packet ∷ P) last room.1 (Draining w quorum) Drains next goes_on possible)
+    counts (Local a input ∷ rest) P last room phase draining mode closes possible =
+        counted_by (Local a input) rest P last (left_in P mode) _ (rested_left P mode closes.0) (move_of (Local a input) rest P last possible phase draining (rested P mode closes.0) closes.1.0 closes.1.1 closes.1.2)
+        (λ next goes_on. counts rest (Local a input ∷ P) last room.1 (Draining w quorum) Drains next goes_on possible)
+    counts (Idle a ∷ rest) P last room phase draining mode closes possible =
+        counted_by (Idle a) rest P last (left_in P mode) _ (rested_left P mode closes.0) (move_of (Idle a) rest P last possible phase draining (rested P mode closes.0) closes.1.0 closes.1.1 closes.1.2)
+        (λ next goes_on. counts rest (Idle a ∷ P) last room.1 (Draining w quorum) Drains next goes_on possible)
+    counts (Refused a ∷ rest) P last room phase draining mode closes possible =
+        counted_by (Refused a) rest P last (left_in P mode) _ (rested_left P mode closes.0) (move_of (Refused a) rest P last possible phase draining (rested P mode closes.0) closes.1.0 closes.1.1 closes.1.2)
+        (λ next goes_on. counts rest (Refused a ∷ P) last room.1 (Draining w quorum) Drains next goes_on possible)

@@ -19,6 +19,7 @@ use Rattle.closing_laws.specs.Serving.{Extends}
 use Rattle.closing_laws.specs.Ways.{told_to}
 use Rattle.closing_laws.proofs.Settled.{AreToSwitches}
 use Rattle.closing_laws.proofs.Telling.{cons_choice, told_to-append}
+use Rattle.closing_laws.proofs.Followers.{prepares_rise, prepares_joined}
 
 -- what a member is told
 abbrev pub tells_member : ℕ → List (Letter ControllerSays) → List Message
@@ -80,22 +81,6 @@ pub to_others_append : (v : VrState) (xs ys : List (Letter ControllerSays)) → 
 to_others_append v xs ys a d b h =
     told_to-append controller_message (actor.Controller b) xs ys ∙ ap (λ (z : List Message). z ++ tells_member b ys) (a b h) ∙ d b h
 
--- entries told, and more behind them
-pub prepares_more : (view most most' place : ℕ) (xs : List Entry) (ms : List Message) → most ≤ most' → ArePrepares view most place xs ms → ArePrepares view most' place xs ms
-prepares_more view most most' place [] [] le h = tt
-prepares_more view most most' place [] (m ∷ ms) le h = h
-prepares_more view most most' place (x ∷ xs) [] le h = h
-prepares_more view most most' place (x ∷ xs) (m ∷ ms) le h = ((h.0.0, omega (arith, le, h.0.1), h.0.2), prepares_more view most most' (place + 1) xs ms le h.1)
-
-pub prepares-append : (view most place : ℕ) (xs ys : List Entry) (ms ns : List Message) → ArePrepares view most place xs ms → ArePrepares view most (place + length xs) ys ns →
-    ArePrepares view most place (xs ++ ys) (ms ++ ns)
-prepares-append view most place [] ys [] ns a b = let none : place + 0 ≡ place = omega arith in subst (λ (n : ℕ). ArePrepares view most n ys ns) none b
-prepares-append view most place [] ys (m ∷ ms) ns a b = absurd a
-prepares-append view most place (x ∷ xs) ys [] ns a b = absurd a
-prepares-append view most place (x ∷ xs) ys (m ∷ ms) ns a b =
-    let next : place + suc (length xs) ≡ (place + 1) + length xs = omega arith in
-    (a.0, prepares-append view most (place + 1) xs ys ms ns a.1 (subst (λ (n : ℕ). ArePrepares view most n ys ns) next b))
-
 -- letters to switches alone leave the log as it is
 pub extends_none : (old new : ControllerState) (letters : List (Letter ControllerSays)) → new.vr ≡ old.vr → AreToSwitches letters → Extends old [] new letters
 extends_none old new letters same to_switches =
@@ -133,8 +118,8 @@ module _ (a b c : ControllerState) (xs ys : List Entry) (ls ms : List (Letter Co
     several = λ h. f.several (subst (λ (n : ℕ). 0 < n) (sym failures) h) ∙ e.several h;
     members = λ j less other.
         subst (λ (z : List Message). ArePrepares a.vr.view c.vr.commit (length a.vr.log) (xs ++ ys) z) (sym (told_to-append controller_message (actor.Controller j) ls ms))
-        (prepares-append a.vr.view c.vr.commit (length a.vr.log) xs ys (tells_member j ls) (tells_member j ms)
-        (prepares_more a.vr.view b.vr.commit c.vr.commit (length a.vr.log) xs (tells_member j ls) no_less (e.members j less other)) (behind j less other));
+        (prepares_joined a.vr.view c.vr.commit (length a.vr.log) xs ys (tells_member j ls) (tells_member j ms)
+        (prepares_rise a.vr.view b.vr.commit c.vr.commit (length a.vr.log) xs (tells_member j ls) no_less (e.members j less other)) (behind j less other));
   }
     where
       behind : (j : ℕ) → j < a.vr.controllers → (j ≡ a.vr.me → ⊥) → ArePrepares a.vr.view c.vr.commit (length a.vr.log + length xs) ys (tells_member j ms)

@@ -18,7 +18,9 @@ use Rattle.lists.specs.Lists.{IsIn, IsPrefix}
 use Rattle.lists.proofs.Elements.{all_of}
 use Rattle.lists.proofs.Prefixes.{front_prefix, prefix_filter}
 use Rattle.vr_log.specs.declared.entry.Entry.{Entry}
-use Rattle.vr_log.specs.Log.{is_log}
+use Rattle.vr_log.specs.declared.entry.Entry.TheVariants.{Received}
+use Rattle.vr_log.specs.Log.{is_log, received}
+use Rattle.two_stage_log.specs.Counts.{processed_of}
 use Rattle.vr_log.specs.Members.{leads}
 use Rattle.of_switch.specs.State.{SwitchState, events_in, life_of}
 use Rattle.group_controller.specs.State.{ControllerState}
@@ -31,6 +33,7 @@ use Rattle.rv_runs.proofs.Pools.{Was, New, pool_after}
 use Rattle.exactly_once.specs.Facts.{PastFacts, facts_of, events_of, executed_of}
 use Rattle.exactly_once.specs.Truths.{IsTrueEntry}
 use Rattle.exactly_once.specs.Invariant.{Holds, IsHonest, IsSound, IsSoundAt, Logged, Own}
+use Rattle.exactly_once.proofs.ControllerTurns.{received_at}
 use Rattle.exactly_once.proofs.Journals.{firm_events, firm_executed}
 use Rattle.rv_agreement.proofs.Groups.{odd_law}
 use Rattle.rv_laws.proofs.Laws.{always, led_law, waits_law}
@@ -43,7 +46,7 @@ use Rattle.closing_laws.proofs.PrimaryTruths.{committed_is, one_ahead, last_is}
 use Rattle.closing_laws.proofs.SwitchLists.{StartUp}
 use Rattle.closing_laws.proofs.SwitchOrder.{KeepsOrder}
 use Rattle.closing_laws.proofs.SwitchPasts.{order_now}
-use Rattle.closing_laws.proofs.SwitchTruths.{processed_received, life_within, logged_within, none_logged, cleared_within, settled_within}
+use Rattle.closing_laws.proofs.SwitchTruths.{processed_received, cleared_decided, event_within, life_within, logged_within, none_logged, cleared_within, settled_within}
 
 -- the first event of a life
 first_up : (events : List Event) (e : Event) → StartUp events → slice_get events 0 ≡ Some e → is_switch_up e.what ≡ true
@@ -135,6 +138,41 @@ module _ {B : Type 0} (scene : Scene B) (results : List (List SaveResult)) (setu
         (honest.ahead (controller_state scene results p P).vr.commit (controller_state scene results p P).vr.log (Own refl refl)).bound,
       )
 
+  -- of each event of the primary's log the switch is one of the setup, and its life no later than the present one
+  logged_are : (P : List (JournalEntry B)) → IsPossible scene results P → (p : ℕ) → p < scene.setup.controllers → leads (controller_state scene results p P).vr ≡ true →
+      (quorum : List ℕ) → IsPicked scene.setup.controllers (controller_state scene results p P).vr.view quorum →
+      ((b : ℕ) → has quorum b ≡ true → (controller_state scene results b P).vr.promise ≤ (controller_state scene results p P).vr.view) →
+      (e : Event) → IsIn e (received (controller_state scene results p P).vr.log) → (e.switch < length scene.setup.ports) × (e.life ≤ life_of (switch_state scene e.switch P))
+  logged_are P possible p there leads_now quorum picked few e among =
+      let holds : Holds scene results P = always scene results setup faithful P possible 0 in
+      let honest = (holds.controllers p there).now in
+      let own = (owned_at scene (results_of results p) p (part (actor.Controller p) P)).now in
+      let c : ControllerState = controller_state scene results p P in
+      let f : PastFacts = facts_of scene results P in
+      let begins = (begins_are P possible p there leads_now quorum picked few).0 in
+      let entries : (i : ℕ) (x : Entry) → slice_get c.vr.log i ≡ Some x → IsTrueEntry scene.kinds scene.setup f i x = λ i x at. honest.entries i x (Logged at) in
+      let at = received_at c.vr.log e among in
+      let here : e.switch < length scene.setup.ports = (entries at.0 (Received e) at.1).there in
+      let w : SwitchAt = switch_at scene e.switch (part (actor.Switch e.switch) P) in
+      let sound : IsSoundAt scene.kinds scene.setup f e.switch w = holds.switches e.switch here in (
+        here,
+        event_within scene.kinds scene.setup f c.vr.log c.vr.commit e.switch w.now own.consistent.follow begins
+            (committed_is f c.vr.log c.vr.commit own.consistent.follow begins (honest.ahead c.vr.commit c.vr.log (Own refl refl))) entries sound.now
+            (λ life. prefix_filter _ (firm_events w w.fresh sound.events)) (λ life. prefix_filter _ (firm_executed w w.fresh sound.executed)) e among refl,
+      )
+
+  -- what left the buffer of a switch was decided as processed, and what a controller knows as committed was decided
+  cleared_are : (P : List (JournalEntry B)) → IsPossible scene results P → (s : ℕ) → s < length scene.setup.ports →
+      (switch_state scene s P).buffer.cleared ≤ processed_of (decided scene results P) s (life_of (switch_state scene s P))
+  cleared_are P possible s there =
+      let holds : Holds scene results P = always scene results setup faithful P possible 0 in
+      cleared_decided scene.kinds scene.setup (facts_of scene results P) s (switch_state scene s P) (holds.switches s there).now
+
+  known_are : (P : List (JournalEntry B)) → IsPossible scene results P → (c : ℕ) → c < scene.setup.controllers → (controller_state scene results c P).vr.commit ≤ length (decided scene results P)
+  known_are P possible c there =
+      let holds : Holds scene results P = always scene results setup faithful P possible 0 in
+      ((holds.controllers c there).now.ahead (controller_state scene results c P).vr.commit (controller_state scene results c P).vr.log (Own refl refl)).bound
+
   -- who has sent what waits is of the setup
   sender_named : (P : List (JournalEntry B)) → IsPossible scene results P → (q : Packet B) → IsIn q (pool P) → IsActor scene.setup q.from
   sender_named [] possible q h = absurd h
@@ -166,6 +204,24 @@ pub begins : {B : Type 0} (scene : Scene B) (results : List (List SaveResult)) �
     ((b : ℕ) → has quorum b ≡ true → (controller_state scene results b P).vr.promise ≤ (controller_state scene results p P).vr.view) →
     IsPrefix (decided scene results P) (controller_state scene results p P).vr.log × ((controller_state scene results p P).vr.commit ≤ length (decided scene results P))
 begins scene results setup faithful P possible p there leads_now quorum picked few = begins_are scene results setup faithful P possible p there leads_now quorum picked few
+
+-- of each event of its log the switch is one of the setup, and its life no later than the present one
+pub logged : {B : Type 0} (scene : Scene B) (results : List (List SaveResult)) → IsSetup scene.setup → IsFaithful scene.sealing → (P : List (JournalEntry B)) → IsPossible scene results P →
+    (p : ℕ) → p < scene.setup.controllers → leads (controller_state scene results p P).vr ≡ true →
+    (quorum : List ℕ) → IsPicked scene.setup.controllers (controller_state scene results p P).vr.view quorum →
+    ((b : ℕ) → has quorum b ≡ true → (controller_state scene results b P).vr.promise ≤ (controller_state scene results p P).vr.view) →
+    (e : Event) → IsIn e (received (controller_state scene results p P).vr.log) → (e.switch < length scene.setup.ports) × (e.life ≤ life_of (switch_state scene e.switch P))
+logged scene results setup faithful P possible p there leads_now quorum picked few e among = logged_are scene results setup faithful P possible p there leads_now quorum picked few e among
+
+-- what left the buffer of a switch was decided as processed
+pub cleared : {B : Type 0} (scene : Scene B) (results : List (List SaveResult)) → IsSetup scene.setup → IsFaithful scene.sealing → (P : List (JournalEntry B)) → IsPossible scene results P →
+    (s : ℕ) → s < length scene.setup.ports → (switch_state scene s P).buffer.cleared ≤ processed_of (decided scene results P) s (life_of (switch_state scene s P))
+cleared scene results setup faithful P possible s there = cleared_are scene results setup faithful P possible s there
+
+-- what a controller knows as committed was decided
+pub known : {B : Type 0} (scene : Scene B) (results : List (List SaveResult)) → IsSetup scene.setup → IsFaithful scene.sealing → (P : List (JournalEntry B)) → IsPossible scene results P →
+    (c : ℕ) → c < scene.setup.controllers → (controller_state scene results c P).vr.commit ≤ length (decided scene results P)
+known scene results setup faithful P possible c there = known_are scene results setup faithful P possible c there
 
 -- a switch that is written to, or has written, is of the setup
 pub named : {B : Type 0} (scene : Scene B) (results : List (List SaveResult)) → IsSetup scene.setup → IsFaithful scene.sealing → (P : List (JournalEntry B)) → IsPossible scene results P →

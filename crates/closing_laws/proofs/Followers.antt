@@ -1,8 +1,8 @@
 -- The others of a quorum keep up with their primary: what each of their turns does, and each of the primary's.
-use Rattle.std.proofs.Common.{◌≡◌, ◌≤◌, ◌<◌, ◌⊎◌, inl, inr, ℕ, zero, suc, ◌+◌, ◌-◌, ◌%◌, ◌/◌, Bool, true, false, List, [], ◌∷◌, ◌++◌, length, map, take, drop, max, min, refl, sym, ◌∙◌, ap, subst, arith, append_assoc}
-use Rattle.std.specs.Prelude.{not, nat_eq, nat_le, nat_lt, ◌&&◌, slice_index, slice_set, filter, count_by, Option, Some, None, if◌then◌else◌}
-use Rattle.std.proofs.lemmas.Bool.{eq-eqb, ne_eqb, le-leb, lt-leb, le-ltb, lt-ltb, ltb-true, ltb-false}
-use Rattle.std.proofs.lemmas.List.{take-append-drop, length-append}
+use Rattle.std.proofs.Common.{◌≡◌, ◌≤◌, ◌<◌, ◌⊎◌, inl, inr, ℕ, zero, suc, ◌+◌, ◌%◌, Bool, true, false, List, [], ◌∷◌, ◌++◌, length, take, drop, refl, sym, ◌∙◌, ap, subst, arith}
+use Rattle.std.specs.Prelude.{nat_eq, nat_le, nat_lt, slice_index, None, if◌then◌else◌}
+use Rattle.std.proofs.lemmas.Bool.{eq-eqb, ne_eqb, lt-leb, lt-ltb, ltb-true, ltb-false}
+use Rattle.std.proofs.lemmas.List.{take-append-drop, length-append, drop-append-le, take-append-le, take_all, length-drop, length-take}
 use Rattle.rv_base.specs.declared.journal.Actor.TheVariants as actor
 use Rattle.vr_log.specs.declared.entry.Entry.{Entry}
 use Rattle.vr_log.specs.declared.message.VrLetter.{VrLetter}
@@ -13,8 +13,7 @@ use Rattle.vr_log.specs.declared.state.Status.TheVariants.{Normal, ViewChange, R
 use Rattle.vr_log.specs.declared.state.VrState.{VrState}
 use Rattle.vr_log.specs.Log.{fits, is_log}
 use Rattle.vr_log.specs.Members.{is_normal}
-use Rattle.vr_log.specs.Steps.{VrStep, letter, quiet, asks, appended, acknowledges}
-use Rattle.vr_normal.specs.Cases.{prepares, asks_later}
+use Rattle.vr_log.specs.Steps.{VrStep, letter, appended, acknowledges}
 use Rattle.vr_core.specs.declared.input.VrInput.TheVariants as vr_input
 use Rattle.vr_core.specs.Step.{vr_step, on_vr}
 use Rattle.controller_laws.proofs.Logs.{fits_at}
@@ -44,28 +43,16 @@ prepares_joined view most place (e ∷ entries) more (m ∷ ms) ns h g =
     let same : place + suc (length entries) ≡ place + 1 + length entries = omega arith in
     (h.0, prepares_joined view most (place + 1) entries more ms ns h.1 (subst (λ (k : ℕ). ArePrepares view most k more ns) same g))
 
+-- nothing is left behind so many
+pub drop_none : {A : Type 0} (n : ℕ) (xs : List A) → drop n xs ≡ [] → length xs ≤ n
+drop_none n xs none = let left = length-drop n xs in let nothing = ap length none in omega (arith, left, nothing)
+
 -- the acknowledgement of one entry more
 pub acked_more : (view known acked len : ℕ) (ms : List Message) → acked ≤ len → AreAcknowledged view known acked len ms →
     AreAcknowledged view known acked (len + 1) (ms ++ message.Vr (vr.PrepareOk view (len + 1)) ∷ [])
 acked_more view known acked len [] le h = (len + 1, refl, omega (arith, le), omega arith, inl refl)
 acked_more view known acked len (m ∷ ms) le h =
     let low = h.3 in (h.0, h.1, h.2, omega (arith, low), acked_more view known h.0 len ms low h.4)
-
-drop_front : (n : ℕ) (xs ys : List Entry) → n ≤ length xs → drop n (xs ++ ys) ≡ drop n xs ++ ys
-drop_front zero xs ys le = refl
-drop_front (suc n) [] ys le = absurd (omega (arith, le))
-drop_front (suc n) (x ∷ xs) ys le = drop_front n xs ys (omega (arith, le))
-
-take_front : (n : ℕ) (xs ys : List Entry) → n ≤ length xs → take n (xs ++ ys) ≡ take n xs
-take_front zero xs ys le = refl
-take_front (suc n) [] ys le = absurd (omega (arith, le))
-take_front (suc n) (x ∷ xs) ys le = ap (λ (l : List Entry). x ∷ l) (take_front n xs ys (omega (arith, le)))
-
-drop_none : (n : ℕ) (xs : List Entry) → drop n xs ≡ [] → length xs ≤ n
-drop_none zero [] h = omega arith
-drop_none zero (x ∷ xs) h = cc
-drop_none (suc n) [] h = omega arith
-drop_none (suc n) (x ∷ xs) h = let low = drop_none n xs h in omega (arith, low)
 
 -- a list is cut before one more of its entries
 abbrev IsCut : ℕ → List Entry → Entry → List Entry → ℕ → Type 0
@@ -93,9 +80,7 @@ prepare_next s from view commit e below other primary normal same joins =
     rw (below, other, primary, normal, same, gap, next, joins) refl
 
 taken_long : (n : ℕ) (xs : List Entry) → length (take n xs) ≡ n → n ≤ length xs
-taken_long zero xs h = omega arith
-taken_long (suc n) [] h = absurd (omega (arith, h))
-taken_long (suc n) (x ∷ xs) h = let low = taken_long n xs (omega (arith, h)) in omega (arith, low)
+taken_long n xs h = let long = length-take n xs in omega (arith, long, h)
 
 module _ (start : Start) (p : VrState) (lead : Leads start p) where
   pub started_within : length start.log ≤ length p.log
@@ -106,16 +91,11 @@ module _ (start : Start) (p : VrState) (lead : Leads start p) where
       (acked : slice_index p'.acked b ≡ slice_index p.acked b) (tells : ArePrepares p.view p'.commit (length p.log) more told) where
     goes_on : (n : ℕ) (ms : List Message) → n ≤ length p.log → ArePrepares p.view p.commit n (drop n p.log) ms → ArePrepares p'.view p'.commit n (drop n p'.log) (ms ++ told)
     goes_on n ms le h =
-        let long : length p.log ≡ n + length (drop n p.log) = drop_length n p.log le in
+        let long : length p.log ≡ n + length (drop n p.log) = (let left = length-drop n p.log in omega (arith, left, le)) in
         let all = prepares_joined p.view p'.commit n (drop n p.log) more ms told (prepares_rise p.view p.commit p'.commit n (drop n p.log) ms commit h)
         (subst (λ (k : ℕ). ArePrepares p.view p'.commit k more told) long tells) in
         subst (λ (v : ℕ). ArePrepares v p'.commit n (drop n p'.log) (ms ++ told)) (sym view)
-        (subst (λ (l : List Entry). ArePrepares p.view p'.commit n l (ms ++ told)) (sym (ap (drop n) log ∙ drop_front n p.log more le)) all)
-      where
-        drop_length : (k : ℕ) (xs : List Entry) → k ≤ length xs → length xs ≡ k + length (drop k xs)
-        drop_length zero xs le = omega arith
-        drop_length (suc k) [] le = absurd (omega (arith, le))
-        drop_length (suc k) (x ∷ xs) le = let rest = drop_length k xs (omega (arith, le)) in omega (arith, rest)
+        (subst (λ (l : List Entry). ArePrepares p.view p'.commit n l (ms ++ told)) (sym (ap (drop n) log ∙ drop-append-le n p.log more le)) all)
 
     pub keeps_up_longer : KeepsUp start p b s out in_ → KeepsUp start p' b s (out ++ told) in_
     keeps_up_longer (inl h) = inl record {
@@ -138,7 +118,7 @@ module _ (start : Start) (p : VrState) (lead : Leads start p) where
       normal = h.normal;
       view = h.view ∙ sym view;
       promise = subst (λ (v : ℕ). s.promise ≤ v) (sym view) h.promise;
-      log = h.log ∙ sym (ap (take (length s.log)) log ∙ take_front (length s.log) p.log more h.most);
+      log = h.log ∙ sym (ap (take (length s.log)) log ∙ take-append-le (length s.log) p.log more h.most);
       least = h.least;
       most = (let long = ap length log ∙ length-append p.log more in let m = h.most in omega (arith, long, m));
       commit = (let c = h.commit in omega (arith, c, commit));
@@ -329,15 +309,11 @@ module _ (start : Start) (p : VrState) (lead : Leads start p) (leader : p.me ≡
       let all : length p.log ≤ length s.log = drop_none (length s.log) p.log (none (drop (length s.log) p.log) h.entries) in
       let most = h.most in
       let same : length s.log ≡ length p.log = omega (arith, all, most) in
-      (h.log ∙ ap (λ (k : ℕ). take k p.log) same ∙ take_all p.log, by_acks h.acks same)
+      (h.log ∙ ap (λ (k : ℕ). take k p.log) same ∙ take_all (length p.log) p.log (omega arith), by_acks h.acks same)
     where
       none : (es : List Entry) → ArePrepares p.view p.commit (length s.log) es [] → es ≡ []
       none [] all = refl
       none (e ∷ es) all = absurd all
-
-      take_all : (xs : List Entry) → take (length xs) xs ≡ xs
-      take_all [] = refl
-      take_all (x ∷ xs) = ap (λ (l : List Entry). x ∷ l) (take_all xs)
 
       by_acks : (slice_index p.acked b ≡ length s.log) ⊎ (length s.log ≡ start.known) → length s.log ≡ length p.log → (slice_index p.acked b ≡ length p.log) ⊎ (length p.log ≡ start.known)
       by_acks (inl e) same = inl (e ∙ same)

@@ -1,15 +1,15 @@
 -- Where a closing may begin, the generation that a switch has accepted is below the closing's view.
 use Rattle.std.proofs.Common.{◌≡◌, ℕ, ◌+◌, ◌*◌, ◌/◌, ◌<◌, ◌≤◌, inl, inr, true, nat_le, List, [], ◌∷◌, ◌++◌, length, refl, sym, ap, subst, arith}
 use Rattle.std.specs.Prelude.{suc, Option, Some, None}
-use Rattle.std.proofs.lemmas.Bool.{cases_lt, leb-true, le-leb}
+use Rattle.std.proofs.lemmas.Bool.{cases_lt, leb-true}
 use Rattle.of_types.specs.Setups.{IsSetup}
 use Rattle.rv_base.specs.declared.journal.Actor.TheVariants as actor
 use Rattle.rv_base.specs.declared.journal.JournalEntry.{JournalEntry}
 use Rattle.rv_base.specs.declared.journal.JournalEntry.TheVariants.{Post}
 use Rattle.rv_base.specs.declared.journal.SaveResult.{SaveResult}
 use Rattle.agreement.specs.Lists.{count_below}
-use Rattle.agreement.proofs.Counts.{count_share, count_some, count_without}
-use Rattle.vr_log.specs.Members.{is_up, leads}
+use Rattle.agreement.proofs.Counts.{count_share, count_some}
+use Rattle.vr_log.specs.Members.{is_up}
 use Rattle.group_controller.specs.State.{ControllerState}
 use Rattle.rv_runs.specs.States.{Scene, IsFaithful}
 use Rattle.rv_runs.specs.Legal.{IsPossible}
@@ -20,12 +20,11 @@ use Rattle.rv_agreement.proofs.Groups.{odd_law}
 use Rattle.rv_agreement.proofs.Reading.{IsReadPast, read_past}
 use Rattle.rv_laws.proofs.Events.{events_valid}
 use Rattle.rv_laws.proofs.Laws.{always}
-use Rattle.rv_laws.proofs.Members.{up_leads}
 use Rattle.closing_laws.specs.Serving.{IsOlder}
 use Rattle.closing_laws.proofs.Asked.{WasLed, all_asked}
-use Rattle.closing_laws.proofs.Backed.{backed_here, backed_now, read_more}
+use Rattle.closing_laws.proofs.Backed.{backed_now, read_more}
 use Rattle.closing_laws.proofs.Begun.{all_range}
-use Rattle.closing_laws.proofs.OnlyOne.{alone_rises, alone_promised}
+use Rattle.closing_laws.proofs.OnlyOne.{alone_rises}
 use Rattle.closing_laws.proofs.Pasts as pasts
 use Rattle.closing_laws.proofs.Promises.{picked_below}
 
@@ -33,24 +32,6 @@ module _ {B : Type 0} (scene : Scene B) (results : List (List SaveResult)) (setu
   -- what members say to each other is read as it was sealed
   pub is_read : IsReadPast scene results past
   is_read = read_past scene results past possible (WhereValid faithful (events_valid scene results past possible (λ i. always scene results setup faithful past possible (suc i))))
-
-  -- f + 1 controllers have promised the view of one that leads a view above 0
-  pub leaders_backed : (most_failures : ℕ) → scene.setup.controllers ≡ 2 * most_failures + 1 → (c : ℕ) → c < scene.setup.controllers → leads (controller_state scene results c past).vr ≡ true →
-      1 ≤ (controller_state scene results c past).vr.view →
-      most_failures < count_below (λ j. nat_le (controller_state scene results c past).vr.view (controller_state scene results j past).vr.promise) scene.setup.controllers
-  leaders_backed most_failures odd c there lead some = elim (cases_lt 0 most_failures) [
-    | inl several ↦ backed_here scene results most_failures odd (omega (arith, several)) past c is_read there lead some
-    | inr only ↦
-        let one : scene.setup.controllers ≡ 1 = omega (arith, only, odd) in
-        let who : c ≡ 0 = omega (arith, there, one) in
-        let view : ℕ = (controller_state scene results c past).vr.view in
-        let up : is_up (controller_state scene results c past).vr ≡ true = up_leads (controller_state scene results c past).vr lead in
-        let promised : view ≤ (controller_state scene results 0 past).vr.promise =
-        subst (λ (i : ℕ). (controller_state scene results i past).vr.view ≤ (controller_state scene results 0 past).vr.promise) (sym who)
-        (alone_promised scene results one past is_read (subst (λ (i : ℕ). is_up (controller_state scene results i past).vr ≡ true) who up)) in
-        let without = count_without (λ j. nat_le view (controller_state scene results j past).vr.promise) 0 scene.setup.controllers (omega (arith, one)) (le-leb view (controller_state scene results 0 past).vr.promise promised) in
-        omega (arith, only, without)
-  ]
 
   module _ (most : majority scene.setup.controllers ≤ count_up scene results past) where
     abbrev n : ℕ

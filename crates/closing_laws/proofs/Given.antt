@@ -1,8 +1,9 @@
 -- The applications give few commands for an event.
-use Rattle.std.proofs.Common.{◌≡◌, ◌≤◌, ◌<◌, ℕ, zero, suc, ◌+◌, Bool, true, false, List, [], ◌∷◌, ◌++◌, length, map, refl, sym, ◌∙◌, ap, subst, arith, length-append}
+use Rattle.std.proofs.Common.{◌≡◌, ◌≤◌, ℕ, zero, suc, ◌+◌, Bool, true, false, List, [], ◌∷◌, ◌++◌, length, refl, sym, ◌∙◌, ap, arith, length-append}
 use Rattle.std.specs.Prelude.{nat_eq, nat_lt, not, Option, Some, None, slice_get, slice_index_or, if◌then◌else◌}
-use Rattle.std.proofs.lemmas.Bool.{cond_both, eq-eqb, eqb-true, true≢false}
 use Rattle.std.specs.List.{AllByRecursion}
+use Rattle.std.proofs.lemmas.Bool.{cond_both, eq-eqb, eqb-true, true≢false}
+use Rattle.std.proofs.lemmas.List.FromFn.{length-map-range_with_len}
 use Rattle.of_types.specs.declared.message.Command.{Command}
 use Rattle.of_types.specs.declared.message.Event.{Event}
 use Rattle.of_types.specs.declared.message.Happening.{Happening}
@@ -10,13 +11,12 @@ use Rattle.of_types.specs.declared.message.Happening.TheVariants as happening
 use Rattle.of_types.specs.declared.setup.Rule.{Rule}
 use Rattle.of_types.specs.declared.setup.Setup.{Setup}
 use Rattle.of_types.specs.Header.{number_at}
-use Rattle.std.proofs.lemmas.List.FromFn.{length-map-range_with_len}
 use Rattle.of_types.specs.Lives.{is_switch_up}
 use Rattle.of_types.specs.Setups.{IsSetup}
 use Rattle.app_core.specs.declared.host.Host.{Host}
 use Rattle.app_core.specs.declared.issued.Issued.{Issued}
-use Rattle.app_core.specs.Chain.{passes_on, PartStep, ChainStep, firewall, learning, firewall_step, learning_step, part_next, chain_next, starting, starting_chain, reactions, reactions_from, hosts_of}
-use Rattle.app_core.specs.Firewall.{IsInstalled, dropping_row, dropping_rows, is_installed, first_hit, firewall_commands, installed_after, rows_at}
+use Rattle.app_core.specs.Chain.{passes_on, PartStep, ChainStep, firewall, learning, firewall_step, learning_step, part_next, chain_next, starting_chain, reactions, reactions_from, hosts_of}
+use Rattle.app_core.specs.Firewall.{IsInstalled, dropping_row, dropping_rows, is_installed, first_hit, firewall_commands, installed_after}
 use Rattle.app_core.specs.Issued.{issue, issue_all, issue_each, issues}
 use Rattle.app_core.specs.Learning.{forwarded, hosts_after, learning_commands, seen_destination}
 use Rattle.app_core.proofs.Installed.{hit_there, installed_few, none_installed, more_installed, rows_few}

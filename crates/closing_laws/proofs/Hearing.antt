@@ -1,27 +1,22 @@
 -- What a leading controller does with a message of a switch, and the switches that have confirmed their role.
 use Rattle.std.proofs.Common.{◌≡◌, ◌<◌, ◌⊎◌, inl, inr, arith, ℕ, Bool, true, false, List, [], ◌∷◌, refl, sym, ◌∙◌, ap, filter}
 use Rattle.std.specs.Prelude.{nat_eq, nat_lt, ◌||◌, if◌then◌else◌}
-use Rattle.std.proofs.lemmas.Bool.{and_parts, cases_order, eq-eqb, le-ltb, lt-ltb, ne_eqb, or_right, true≢false}
+use Rattle.std.proofs.lemmas.Bool.{cases_order, eq-eqb, le-ltb, lt-ltb, ne_eqb, or_right}
 use Rattle.std.proofs.lemmas.List.Folds.{list_any-append}
+use Rattle.std.proofs.Math.Bool.{or_assoc}
 use Rattle.of_types.specs.declared.setup.Setup.{Setup}
 use Rattle.of_types.specs.SmallSets.{with_number}
-use Rattle.vr_log.specs.declared.state.Status.{Status}
-use Rattle.vr_log.specs.declared.state.Status.TheVariants.{Normal, ViewChange, Recovering, Down}
-use Rattle.vr_log.specs.Members.{is_normal, is_primary, leads}
+use Rattle.vr_log.specs.Members.{leads}
 use Rattle.group_controller.specs.declared.messages.ControllerInput.{ControllerInput}
 use Rattle.group_controller.specs.State.{ControllerState, with_no_met_limit}
 use Rattle.group_controller.specs.Rules.{controller_work, is_down, on_input, when_down}
+use Rattle.rv_laws.proofs.Members.{up_leads}
 use Rattle.closing_laws.specs.Quorum.{has}
+use Rattle.closing_laws.proofs.Taking.{up_not_down}
 
 -- one that leads is not down
-up : (status : Status) → (elim status [ Normal ↦ true | ViewChange ↦ false | Recovering ↦ false | Down ↦ false ]) ≡ true → (elim status [ Normal ↦ false | ViewChange ↦ false | Recovering ↦ false | Down ↦ true ]) ≡ false
-up Normal h = refl
-up ViewChange h = refl
-up Recovering h = refl
-up Down h = absurd (true≢false (sym h))
-
 pub leader_up : (c : ControllerState) → leads c.vr ≡ true → is_down c ≡ false
-leader_up c h = up c.vr.status (and_parts (is_normal c.vr) (is_primary c.vr) h).0
+leader_up c lead = up_not_down c (up_leads c.vr lead)
 
 pub leader_input : (kinds : List ℕ) (setup : Setup) (c : ControllerState) (x : ControllerInput) → leads c.vr ≡ true → controller_work kinds setup c x ≡ on_input kinds setup (with_no_met_limit c) x
 unfolding controller_work
@@ -32,10 +27,6 @@ split_same : (c j : ℕ) → nat_eq c j ≡ false → (xs : List ℕ) → (has (
 split_same c j other [] = refl
 split_same c j other (y ∷ ys) = by_order (split_same c j other ys) (cases_order y c)
   where
-    first : (a b e : Bool) → ((a || b) || e) ≡ (a || (b || e))
-    first true b e = refl
-    first false b e = refl
-
     second : (a b e : Bool) → (b || (a || e)) ≡ (a || (b || e))
     second true true e = refl
     second true false e = refl
@@ -46,7 +37,7 @@ split_same c j other (y ∷ ys) = by_order (split_same c j other ys) (cases_orde
     by_order rest (inl e) = rw (le-ltb y c (omega (arith, e)), le-ltb c y (omega (arith, e))) (let off : nat_eq y j ≡ false = ap (λ (k : ℕ). nat_eq k j) e ∙ other in rest ∙ sym (ap (λ (b : Bool). b || has ys j) off))
     by_order rest (inr (inl lt)) =
         rw (lt-ltb y c lt, le-ltb c y (omega (arith, lt)))
-        (first (nat_eq y j) (has (filter (λ m. nat_lt m c) ys) j) (has (filter (λ m. nat_lt c m) ys) j) ∙ ap (λ (b : Bool). nat_eq y j || b) rest)
+        (or_assoc (nat_eq y j) (has (filter (λ m. nat_lt m c) ys) j) (has (filter (λ m. nat_lt c m) ys) j) ∙ ap (λ (b : Bool). nat_eq y j || b) rest)
     by_order rest (inr (inr gt)) =
         rw (le-ltb y c (omega (arith, gt)), lt-ltb c y gt)
         (second (nat_eq y j) (has (filter (λ m. nat_lt m c) ys) j) (has (filter (λ m. nat_lt c m) ys) j) ∙ ap (λ (b : Bool). nat_eq y j || b) rest)

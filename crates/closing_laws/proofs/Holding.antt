@@ -1,13 +1,13 @@
 -- How a switch stays served as the primary tells it more: answers alone, or the commands that are due.
 use Rattle.std.proofs.Common.{◌≡◌, ◌≤◌, ◌<◌, ◌⊎◌, inl, inr, ℕ, ◌+◌, ◌-◌, Bool, true, false, List, [], ◌∷◌, ◌++◌, sym, ◌∙◌, ap, subst, arith, append-nil}
 use Rattle.std.specs.Prelude.{Some, count_by, filter, nat_le, take, drop, if◌then◌else◌}
-use Rattle.of_types.specs.declared.message.Event.{Event}
 use Rattle.std.specs.List.{AllByRecursion, range_with_len}
 use Rattle.std.proofs.lemmas.Bool.{cases_lt}
 use Rattle.std.proofs.lemmas.List.Sums.{sum_by-append}
+use Rattle.of_types.specs.declared.message.Event.{Event}
+use Rattle.of_types.specs.declared.setup.Setup.{Setup}
 use Rattle.lists.specs.Lists.{IsIn}
 use Rattle.lists.proofs.Elements.{in_left, in_right}
-use Rattle.of_types.specs.declared.setup.Setup.{Setup}
 use Rattle.rv_base.proofs.All.{all_append}
 use Rattle.dispatcher.specs.Marks.{has_result, is_confirmed}
 use Rattle.of_switch.specs.State.{SwitchState, events_in, life_of}

@@ -1,8 +1,7 @@
 -- The last attempt of a closing that ends: nothing waits where it begins, and each save in it succeeds.
-use Rattle.std.proofs.Common.{◌≡◌, ◌≤◌, ◌<◌, ◌⊎◌, inl, inr, ℕ, zero, suc, ◌+◌, ◌/◌, ◌%◌, Bool, true, false, List, [], ◌∷◌, ◌++◌, length, refl, sym, ◌∙◌, ap, subst, arith}
+use Rattle.std.proofs.Common.{◌≡◌, ◌≤◌, ◌<◌, inl, inr, ℕ, zero, suc, ◌/◌, ◌%◌, Bool, true, false, List, [], ◌∷◌, ◌++◌, length, refl, ◌∙◌, ap, subst, arith}
 use Rattle.std.specs.Prelude.{nat_lt, reverse, if◌then◌else◌}
-use Rattle.std.specs.List.{AllByRecursion}
-use Rattle.std.proofs.lemmas.Bool.{cases_lt, ltb-false}
+use Rattle.std.proofs.lemmas.Bool.{ltb-false}
 use Rattle.rv_base.specs.declared.journal.JournalEntry.{JournalEntry}
 use Rattle.rv_base.specs.declared.journal.JournalEntry.TheVariants.{Post, Draw, Lose, Local, Idle, Refused}
 use Rattle.rv_base.specs.declared.journal.Packet.{Packet}
@@ -11,19 +10,12 @@ use Rattle.rv_base.specs.Pool.{pool}
 use Rattle.rv_runs.specs.States.{Scene}
 use Rattle.rv_runs.specs.Legal.{IsPossible, results_of}
 use Rattle.rv_runs.specs.Committed.{count_up, members_up, states_of}
-use Rattle.rv_runs.specs.Schedule.{Answer, Done, NoQuorum, IsEnd, Phase, Losing, Move, Takes, Ends, ClosesTo, IsMove, IsPosted, after_move, closing_view, majority, next_lost, next_move, next_suspicion, next_view, quorum_of}
+use Rattle.rv_runs.specs.Schedule.{Done, NoQuorum, IsEnd, Phase, Losing, Ends, ClosesTo, IsMove, IsPosted, after_move, closing_view, majority, next_lost, next_move, next_suspicion, next_view, quorum_of}
 use Rattle.closing_laws.specs.Starts.{FindRoom, IsAttempt}
 use Rattle.closing_laws.proofs.Attempts.{StayUp, Falls, course, succeed}
 use Rattle.closing_laws.proofs.Taking.{at}
 use Rattle.closing_laws.proofs.Walking.{later, later_is}
-
-later_append : {B : Type 0} (P xs ys : List (JournalEntry B)) → later P (xs ++ ys) ≡ later (later P xs) ys
-later_append P [] ys = refl
-later_append P (x ∷ xs) ys = later_append (x ∷ P) xs ys
-
-pub room_behind : {B : Type 0} (xs ys : List (JournalEntry B)) → FindRoom (xs ++ ys) → FindRoom ys
-room_behind [] ys h = h
-room_behind (x ∷ xs) ys h = room_behind xs ys h.1
+use Rattle.closing_laws.proofs.Begun.{later_append, room_behind}
 
 long_append : {A : Type 0} (xs ys : List A) → length ys ≤ length (xs ++ ys)
 long_append [] ys = omega arith

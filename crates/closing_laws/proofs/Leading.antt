@@ -1,15 +1,14 @@
 -- The primary that has started a view: what it leads with, and how the others of its quorum wait for its word.
 use Rattle.std.proofs.Common.{◌≡◌, ◌≤◌, ◌<◌, ◌⊎◌, inl, inr, ℕ, ◌/◌, ◌%◌, min, max, Bool, true, false, List, [], ◌∷◌, ◌++◌, length, map, drop, refl, sym, ◌∙◌, ap, subst, arith, take_all}
-use Rattle.std.specs.Prelude.{nat_eq, not, filter, None, if◌then◌else◌}
-use Rattle.std.proofs.lemmas.Bool.{cases_lt, eq-eqb, ne_eqb, eqb-true, or_cases, true≢false}
-use Rattle.std.proofs.lemmas.List.{length-replicate}
+use Rattle.std.specs.Prelude.{nat_eq, not, None, if◌then◌else◌}
+use Rattle.std.proofs.lemmas.Bool.{cases_lt, eq-eqb, ne_eqb, eqb-true, or_cases, true≢false, cases_eq}
+use Rattle.std.proofs.lemmas.List.{length-replicate, drop_all}
 use Rattle.rv_base.specs.declared.journal.Actor.TheVariants as actor
 use Rattle.vr_log.specs.declared.entry.Entry.{Entry}
 use Rattle.vr_log.specs.declared.message.VrMessage.TheVariants as vr
 use Rattle.vr_log.specs.declared.state.Collected.{Collected}
 use Rattle.vr_log.specs.declared.state.VrState.{VrState}
 use Rattle.vr_log.specs.Choosing.{least_commit, greatest_commit}
-use Rattle.vr_log.specs.Members.{others_below}
 use Rattle.vr_log.specs.Steps.{to_others}
 use Rattle.view_change.specs.Entering.{view_start}
 use Rattle.members.proofs.Checking.{zeros}
@@ -22,8 +21,8 @@ use Rattle.closing_laws.specs.Quorum.{has}
 use Rattle.closing_laws.specs.Following.{ArePrepares, Start, Waits, IsAgreed, Leads}
 use Rattle.closing_laws.specs.Views.{IsCovered, IsMember, in_view, last_first, log_of, started_with, tellers}
 use Rattle.closing_laws.proofs.Extending.{others_told, tells_member}
-use Rattle.closing_laws.proofs.Numbers.{Once, below_once, filter_has, filter_in, filter_once, has_here, others_but_one}
-use Rattle.closing_laws.proofs.Picked.{IsPicked}
+use Rattle.closing_laws.proofs.Numbers.{filter_has, filter_in}
+use Rattle.closing_laws.proofs.Picked.{IsPicked, another}
 use Rattle.closing_laws.proofs.Telling.{told_to-append}
 use Rattle.closing_laws.proofs.Views.{greatest_within, last_has}
 
@@ -50,32 +49,10 @@ greatest_each at (x ∷ xs) k j h = elim (or_cases (nat_eq x j) (has xs j) h) [
   | inr i ↦ greatest_each at xs (max k (at x).commit) j i
 ]
 
--- in a group of several a quorum has another member
-pub another : (n view p : ℕ) (quorum : List ℕ) → IsPicked n view quorum → has quorum p ≡ true → 0 < n / 2 → (b : ℕ) × (has quorum b ≡ true) × (b ≡ p → ⊥)
-another n view p quorum q inside some =
-    let once = subst Once (sym q.ascending) (filter_once (has quorum) (others_below n n) (below_once n n)) in
-    let all = others_but_one p quorum once inside in
-    let count = q.count in
-    first_other (filter (λ j. not (nat_eq p j)) quorum) refl (omega (arith, all, count, some))
-  where
-    not_same : (b : Bool) → not b ≡ true → b ≡ true → ⊥
-    not_same true h e = absurd (true≢false (sym h))
-    not_same false h e = absurd (true≢false (sym e))
-
-    first_other : (xs : List ℕ) → filter (λ j. not (nat_eq p j)) quorum ≡ xs → 0 < length xs → (b : ℕ) × (has quorum b ≡ true) × (b ≡ p → ⊥)
-    first_other [] is long = absurd (omega (arith, long))
-    first_other (x ∷ xs) is long =
-        let among = filter_has (λ j. not (nat_eq p j)) quorum x (ap (λ (l : List ℕ). has l x) is ∙ has_here x xs) in
-        (x, among.0, (λ e. not_same (nat_eq p x) among.1 (eq-eqb p x (sym e))))
-
 -- letters to switches tell no member
 pub roles_told : (b view : ℕ) (ts : List ℕ) → tells_member b (map (role_letter view) ts) ≡ []
 roles_told b view [] = refl
 roles_told b view (t ∷ ts) = roles_told b view ts
-
-nothing_behind : (xs : List Entry) → drop (length xs) xs ≡ []
-nothing_behind [] = refl
-nothing_behind (x ∷ xs) = nothing_behind xs
 
 -- with what a primary starts a view from the logs of a quorum, the best of them one
 abbrev pub start_of : ℕ → List ℕ → (ℕ → VrState) → ℕ → Start
@@ -138,6 +115,13 @@ module _ (n w : ℕ) (quorum : List ℕ) (at : ℕ → VrState) (best : ℕ) (pi
     counts = length-replicate leader.controllers 0;
   }
 
+  -- what each of the quorum knew as committed is known
+  pub knows : (j : ℕ) → has quorum j ≡ true → (at j).commit ≤ start.known
+  knows j member = elim (cases_eq j p) [
+    | inl e ↦ let same = ap (λ (i : ℕ). (at i).commit) e in let high = greatest_high at (tellers p quorum) (at p).commit in omega (arith, same, high)
+    | inr e ↦ greatest_each at (tellers p quorum) (at p).commit j (tells j member e)
+  ]
+
   -- nothing was acknowledged yet
   pub agrees : IsAgreed leader quorum
   agrees op le each = by_size commit_is
@@ -173,7 +157,7 @@ module _ (n w : ℕ) (quorum : List ℕ) (at : ℕ → VrState) (best : ℕ) (pi
     one = covered.agrees b member;
     prepares = [];
     word = told_word b ts member other ∙ ap (λ (k : ℕ). message.Vr (vr.StartView w start.base k (drop start.base start.log)) ∷ []) several;
-    entries = subst (λ (l : List Entry). ArePrepares w leader.commit (length (at best).log) l []) (sym (nothing_behind (at best).log)) tt;
+    entries = subst (λ (l : List Entry). ArePrepares w leader.commit (length (at best).log) l []) (sym (drop_all (length (at best).log) (at best).log (omega arith))) tt;
     silent = refl;
     acked = zeros (at p).controllers b;
   }

@@ -3,13 +3,12 @@ use Rattle.std.proofs.Common.{◌≡◌, ◌≤◌, ◌<◌, inl, inr, ℕ, zero
 use Rattle.std.specs.Prelude.{max, if◌then◌else◌}
 use Rattle.std.proofs.Math.Nat.{div-add-mod, mod-lt, suc-mul, mul_comm}
 use Rattle.std.proofs.lemmas.Nat.{mod-mul-add}
-use Rattle.std.proofs.lemmas.Bool.{cases_lt}
+use Rattle.std.proofs.lemmas.Bool.{cases_lt, both_ways}
 use Rattle.vr_log.specs.Members.{is_up}
 use Rattle.group_controller.specs.State.{ControllerState}
 use Rattle.rv_runs.specs.Committed.{members_up}
 use Rattle.rv_runs.specs.Schedule.{bound_of, first_view, closing_view}
 use Rattle.closing_laws.specs.Quorum.{has, AreBelow, HasTheLeastView}
-use Rattle.closing_laws.proofs.Numbers.{no_both}
 
 -- among as many views as a group has members each member leads one
 moved_on : (b p r j : ℕ) → p + r ≡ b → r ≤ j → b + (j - r) ≡ p + j
@@ -51,7 +50,7 @@ first_meets (suc more) group up view k less there = by_first (has up (view % gro
     by_first false e rest = by_place k less there
       where
         by_place : (i : ℕ) → i < suc more → has up ((view + i) % group) ≡ true → has up (first_view more group up (suc view) % group) ≡ true
-        by_place zero lt h = let same : view + 0 ≡ view = omega arith in absurd (no_both (has up (view % group)) (ap (λ (x : ℕ). has up (x % group)) (sym same) ∙ h) e)
+        by_place zero lt h = let same : view + 0 ≡ view = omega arith in absurd (both_ways (has up (view % group)) e (ap (λ (x : ℕ). has up (x % group)) (sym same) ∙ h))
         by_place (suc i) lt h = let same : suc view + i ≡ view + suc i = omega arith in rest i (omega (arith, lt)) (ap (λ (x : ℕ). has up (x % group)) same ∙ h)
 
 pub first_least : (more group : ℕ) (up : List ℕ) (view other : ℕ) → view ≤ other → has up (other % group) ≡ true → first_view more group up view ≤ other
@@ -62,7 +61,7 @@ first_least (suc more) group up view other le there = by_first (has up (view % g
     by_first true e rest = le
     by_first false e rest = elim (cases_lt view other) [
       | inl lt ↦ rest (omega (arith, lt))
-      | inr ge ↦ let same : other ≡ view = omega (arith, le, ge) in absurd (no_both (has up (view % group)) (ap (λ (x : ℕ). has up (x % group)) (sym same) ∙ there) e)
+      | inr ge ↦ let same : other ≡ view = omega (arith, le, ge) in absurd (both_ways (has up (view % group)) e (ap (λ (x : ℕ). has up (x % group)) (sym same) ∙ there))
     ]
 
 pub first_from : (more group : ℕ) (up : List ℕ) (view : ℕ) → view ≤ first_view more group up view
@@ -85,7 +84,7 @@ below_bound (c ∷ cs) = by_up (is_up c.vr) refl (below_bound cs)
     by_up : (b : Bool) → is_up c.vr ≡ b → AreBelow cs (bound_of cs) →
         AreBelow (c ∷ cs) (if b then max (suc (max c.vr.view c.vr.promise)) (bound_of cs) else bound_of cs)
     by_up true e h = ((λ up. (omega arith, omega arith)), below_more (bound_of cs) (max (suc (max c.vr.view c.vr.promise)) (bound_of cs)) cs (omega arith) h)
-    by_up false e h = ((λ up. absurd (no_both (is_up c.vr) up e)), h)
+    by_up false e h = ((λ up. absurd (both_ways (is_up c.vr) e up)), h)
 
 pub bound_least : (cs : List ControllerState) (v : ℕ) → AreBelow cs v → bound_of cs ≤ v
 bound_least [] v h = omega arith

@@ -2,49 +2,24 @@
 use Rattle.std.proofs.Common.{◌≡◌, ◌≤◌, ◌<◌, inl, inr, ℕ, suc, ◌/◌, ◌%◌, Bool, true, false, List, [], ◌∷◌, ◌++◌, length, map, take, drop, refl, sym, ◌∙◌, ap, arith, append-nil}
 use Rattle.std.specs.Prelude.{not, nat_eq, nat_le, nat_lt, ◌&&◌, ◌||◌, Option, Some, None, if◌then◌else◌}
 use Rattle.std.proofs.lemmas.Bool.{and_right, and_left, and_from, le-leb, lt-leb, le-ltb, lt-ltb, eq-eqb, ne_eqb, cases_lt}
+use Rattle.std.proofs.lemmas.List.{take-append-drop, take-take, length-take-le}
 use Rattle.vr_log.specs.declared.entry.Entry.{Entry}
-use Rattle.vr_log.specs.declared.entry.Entry.TheVariants.{Received, Processed}
 use Rattle.vr_log.specs.declared.message.VrLetter.{VrLetter}
-use Rattle.vr_log.specs.declared.message.VrMessage.{VrMessage}
 use Rattle.vr_log.specs.declared.message.VrMessage.TheVariants as message
 use Rattle.vr_log.specs.declared.state.Collected.{Collected}
 use Rattle.vr_log.specs.declared.state.Supplied.{Supplied}
 use Rattle.vr_log.specs.declared.state.VrState.{VrState}
 use Rattle.vr_log.specs.Log.{is_log}
-use Rattle.vr_log.specs.Same.{same_entries, same_entry, same_happening, same_numbers, same_flag}
 use Rattle.vr_log.specs.Members.{is_up, is_primary, others_below}
 use Rattle.vr_log.specs.Steps.{VrStep, quiet, guarded, is_sound, then_step, to_others, letter, tells, sends}
 use Rattle.vr_log.specs.Choosing.{may_choose, reaches, fetch_letter}
-use Rattle.std.proofs.lemmas.List.{take-append-drop, take-take, length-take-le}
+use Rattle.vr_log.proofs.Equal.{entries_same}
 use Rattle.view_change.specs.Entering.{chooses_from, started, tells_start, view_start, entered, enter, check, votes, chooses, own_log}
 use Rattle.view_change.specs.Cases.{enters}
 use Rattle.vr_core.specs.declared.input.VrInput.TheVariants as vr_input
 use Rattle.vr_core.specs.Step.{vr_step, on_vr}
 use Rattle.of_types.specs.SmallSets.{with_number}
-use Rattle.of_types.specs.declared.message.Happening.{Happening}
-use Rattle.of_types.specs.declared.message.Happening.TheVariants as happening
-use Rattle.closing_laws.specs.Views.{IsMember, in_view, voting}
-
--- entries are the same as themselves
-numbers_same : (xs : List ℕ) → same_numbers xs xs ≡ true
-numbers_same [] = refl
-numbers_same (x ∷ xs) = rw (eq-eqb x x refl, numbers_same xs) refl
-
-flag_same : (b : Bool) → same_flag b b ≡ true
-flag_same true = refl
-flag_same false = refl
-
-happening_same : (h : Happening) → same_happening h h ≡ true
-happening_same (happening.PacketIn p) = rw (eq-eqb p.reason p.reason refl, eq-eqb p.cookie p.cookie refl, eq-eqb p.in_port p.in_port refl, numbers_same p.payload) refl
-happening_same (happening.PortStatus p) = rw (eq-eqb p.reason p.reason refl, eq-eqb p.port p.port refl, flag_same p.up) refl
-
-entry_same : (e : Entry) → same_entry e e ≡ true
-entry_same (Received e) = rw (eq-eqb e.switch e.switch refl, eq-eqb e.life e.life refl, eq-eqb e.number e.number refl, happening_same e.what) refl
-entry_same (Processed j) = eq-eqb j j refl
-
-pub entries_same : (xs : List Entry) → same_entries xs xs ≡ true
-entries_same [] = refl
-entries_same (x ∷ xs) = rw (entry_same x, entries_same xs) refl
+use Rattle.closing_laws.specs.Views.{IsMember, in_view, voting, vote_letters}
 
 -- a case that leaves log and commit number is not dropped
 pub sound_here : (s : VrState) → is_log s.log ≡ true → s.commit ≤ length s.log → (t : VrState) → t.log ≡ s.log → t.commit ≡ s.commit → is_sound s t ≡ true
@@ -61,11 +36,7 @@ pub check_rests : (s : VrState) (first : VrStep) → votes s ≡ first → may_c
     check s ≡ record { state = first.state; promise = first.promise; letters = first.letters ++ [] }
 check_rests s first is none = ap (λ (x : VrStep). then_step x chooses) is ∙ then_rests first none
 
--- no log was collected, or the member is not the primary, or too few logs were
-four_first : (a b c d : Bool) → b ≡ false → (((a && b) && c) && d) ≡ false
-four_first true b c d h = rw h refl
-four_first false b c d h = refl
-
+-- its own log was not collected
 four_third : (a b c d : Bool) → c ≡ false → (((a && b) && c) && d) ≡ false
 four_third a b c d h = and_left ((a && b) && c) d (and_right (a && b) c h)
 
@@ -94,9 +65,6 @@ check_few s w voters less =
     check_rests t (quiet t) first (four_third true (is_primary t) false (nat_lt (s.controllers / 2) 0) refl)
 
 -- where enough did, a member tells the primary its log
-pub log_told : VrState → ℕ → VrMessage
-log_told s w = message.DoViewChange w s.normal s.commit (drop s.commit s.log)
-
 pub check_sends : (s : VrState) (w : ℕ) (voters : List ℕ) → s.controllers / 2 ≤ length voters → nat_eq (w % s.controllers) s.me ≡ false →
     check (in_view s w voters false [] None) ≡
     tells (in_view s w voters true [] None) (w % s.controllers) (message.DoViewChange w s.normal s.commit (drop s.commit s.log))
@@ -138,17 +106,8 @@ few_is s w voters less =
     let none : (nat_eq (w % s.controllers) s.me && false) ≡ false = and_right (nat_eq (w % s.controllers) s.me) false refl in
     rw (few, none) refl
 
--- what a vote has a member say: with the last one, a backup tells its log
-abbrev pub vote_letters : VrState → ℕ → List ℕ → List VrLetter
-vote_letters s w voters =
-    if not (nat_eq (w % s.controllers) s.me) && nat_eq (suc (length voters)) (s.controllers / 2)
-    then letter (message.DoViewChange w s.normal s.commit (drop s.commit s.log)) (w % s.controllers) ∷ [] else []
-
 module _ (s : VrState) (w c : ℕ) (voters : List ℕ) (small : c < s.controllers) (other : c ≡ s.me → ⊥) (commit : s.commit ≤ length s.log) (one : is_log s.log ≡ true)
     (less : length voters < s.controllers / 2) (more : length (with_number c voters) ≡ suc (length voters)) where
-  f : ℕ
-  f = s.controllers / 2
-
   -- by what Check does
   by_check : (step : VrStep) → check (in_view s w (with_number c voters) false [] None) ≡ step → step.state.log ≡ s.log → step.state.commit ≡ s.commit →
       vr_step (voting (s.controllers / 2) w (w % s.controllers) s voters) (vr_input.From c (message.StartViewChange w)) ≡ step
@@ -160,7 +119,7 @@ module _ (s : VrState) (w c : ℕ) (voters : List ℕ) (small : c < s.controller
       ∙ guard_open t step (sound_here t one commit step.state log commits)
 
   pub vote_taken : vr_step (voting (s.controllers / 2) w (w % s.controllers) s voters) (vr_input.From c (message.StartViewChange w)) ≡
-      sends (voting (s.controllers / 2) w (w % s.controllers) s (with_number c voters)) (vote_letters s w voters)
+      sends (voting (s.controllers / 2) w (w % s.controllers) s (with_number c voters)) (vote_letters (s.controllers / 2) w (w % s.controllers) s voters)
   vote_taken = elim (cases_lt (suc (length voters)) (s.controllers / 2)) [
     | inl still ↦
         let short : length (with_number c voters) < s.controllers / 2 = omega (arith, more, still) in
@@ -168,7 +127,7 @@ module _ (s : VrState) (w c : ℕ) (voters : List ℕ) (small : c < s.controller
         let silent : (not (nat_eq (w % s.controllers) s.me) && nat_eq (suc (length voters)) (s.controllers / 2)) ≡ false = and_right (not (nat_eq (w % s.controllers) s.me)) (nat_eq (suc (length voters)) (s.controllers / 2)) not_yet in
         by_check (quiet (in_view s w (with_number c voters) false [] None)) (check_few s w (with_number c voters) short) refl refl
         ∙ ap quiet (sym (few_is s w (with_number c voters) short))
-        ∙ said (voting (s.controllers / 2) w (w % s.controllers) s (with_number c voters)) [] (vote_letters s w voters) (none_of (not (nat_eq (w % s.controllers) s.me) && nat_eq (suc (length voters)) (s.controllers / 2)) silent)
+        ∙ said (voting (s.controllers / 2) w (w % s.controllers) s (with_number c voters)) [] (vote_letters (s.controllers / 2) w (w % s.controllers) s voters) (none_of (not (nat_eq (w % s.controllers) s.me) && nat_eq (suc (length voters)) (s.controllers / 2)) silent)
     | inr all ↦
         let last : nat_eq (suc (length voters)) (s.controllers / 2) ≡ true = eq-eqb (suc (length voters)) (s.controllers / 2) (omega (arith, all, less)) in
         let enough : s.controllers / 2 ≤ length (with_number c voters) = omega (arith, more, all) in
@@ -183,7 +142,7 @@ module _ (s : VrState) (w c : ℕ) (voters : List ℕ) (small : c < s.controller
 
       by_role : nat_eq (suc (length voters)) (s.controllers / 2) ≡ true → s.controllers / 2 ≤ length (with_number c voters) → (b : Bool) → nat_eq (w % s.controllers) s.me ≡ b →
           vr_step (voting (s.controllers / 2) w (w % s.controllers) s voters) (vr_input.From c (message.StartViewChange w)) ≡
-          sends (voting (s.controllers / 2) w (w % s.controllers) s (with_number c voters)) (vote_letters s w voters)
+          sends (voting (s.controllers / 2) w (w % s.controllers) s (with_number c voters)) (vote_letters (s.controllers / 2) w (w % s.controllers) s voters)
       by_role last enough true here =
           let most : nat_le (s.controllers / 2) (length (with_number c voters)) ≡ true = le-leb (s.controllers / 2) (length (with_number c voters)) enough in
           by_check (quiet (in_view s w (with_number c voters) true (own_log s ∷ []) None)) (check_keeps s w (with_number c voters) enough here (omega (arith, less))) refl refl

@@ -1,9 +1,13 @@
 -- Lists of numbers, each once.
 use Rattle.std.proofs.Common.{◌≡◌, ◌≤◌, ◌<◌, ◌⊎◌, inl, inr, ℕ, zero, suc, ◌+◌, Bool, true, false, List, [], ◌∷◌, ◌++◌, length, refl, sym, ◌∙◌, ap, arith}
 use Rattle.std.specs.Prelude.{not, nat_eq, nat_lt, ◌&&◌, ◌||◌, filter, if◌then◌else◌}
-use Rattle.std.proofs.lemmas.Bool.{eq-eqb, ne_eqb, eqb-true, eqb-false, cases_order, lt-ltb, le-ltb, or_parts, or_cases, or_left, or_right, true≢false}
+use Rattle.std.proofs.lemmas.Bool.{eq-eqb, ne_eqb, eqb-true, eqb-false, cases_order, lt-ltb, le-ltb, or_parts, or_cases, or_left, or_right, true≢false, both_ways}
+use Rattle.std.proofs.lemmas.List.{append-nil}
+use Rattle.std.proofs.Math.Bool.{or_assoc}
 use Rattle.vr_log.specs.Members.{others_below}
 use Rattle.of_types.specs.SmallSets.{with_number}
+use Rattle.lists.specs.Lists.{IsIn}
+use Rattle.lists.proofs.Prefixes.{append_filter}
 use Rattle.closing_laws.specs.Quorum.{has}
 
 -- each of these numbers stands once
@@ -11,30 +15,20 @@ abbrev pub Once : List ℕ → Type 0
 Once [] = Unit {0}
 Once (x ∷ xs) = (has xs x ≡ false) × Once xs
 
--- and is among these
-abbrev pub Each : (ℕ → Type 0) → List ℕ → Type 0
-Each P xs = (j : ℕ) → has xs j ≡ true → P j
-
 pub has_here : (x : ℕ) (xs : List ℕ) → has (x ∷ xs) x ≡ true
 has_here x xs = rw (eq-eqb x x refl) refl
 
 pub has_later : (y x : ℕ) (xs : List ℕ) → has xs x ≡ true → has (y ∷ xs) x ≡ true
 has_later y x xs h = or_right (nat_eq y x) (has xs x) h
 
-pub no_both : (b : Bool) → b ≡ true → b ≡ false → ⊥
-no_both true a h = true≢false h
-no_both false a h = true≢false (sym a)
-
-pub has_two : (xs : List ℕ) (x y : ℕ) → has xs x ≡ true → has xs y ≡ false → nat_eq x y ≡ false
-has_two xs x y h k = ne_eqb x y (λ e. no_both (has xs y) (ap (has xs) (sym e) ∙ h) k)
+pub in_has : (xs : List ℕ) (y : ℕ) → IsIn y xs → has xs y ≡ true
+in_has [] y h = absurd h
+in_has (x ∷ xs) y (inl e) = or_left (nat_eq x y) (has xs y) (eq-eqb x y (sym e))
+in_has (x ∷ xs) y (inr h) = or_right (nat_eq x y) (has xs y) (in_has xs y h)
 
 pub has_append : (xs ys : List ℕ) (j : ℕ) → has (xs ++ ys) j ≡ (has xs j || has ys j)
 has_append [] ys j = refl
-has_append (x ∷ xs) ys j = ap (λ b. nat_eq x j || b) (has_append xs ys j) ∙ assoc (nat_eq x j) (has xs j) (has ys j)
-  where
-    assoc : (a b c : Bool) → (a || (b || c)) ≡ ((a || b) || c)
-    assoc true b c = refl
-    assoc false b c = refl
+has_append (x ∷ xs) ys j = ap (λ b. nat_eq x j || b) (has_append xs ys j) ∙ sym (or_assoc (nat_eq x j) (has xs j) (has ys j))
 
 -- what is left of a list
 kept_by : (t : ℕ → Bool) (x j : ℕ) (xs : List ℕ) (b : Bool) → t x ≡ b → has (if b then x ∷ filter t xs else filter t xs) j ≡ true → has (filter t xs) j ≡ true ⊎ ((x ≡ j) × (t x ≡ true))
@@ -54,7 +48,7 @@ filter_in t (x ∷ xs) j h k = by_first (or_cases (nat_eq x j) (has xs j) h) (t 
   where
     by_first : (nat_eq x j ≡ true) ⊎ (has xs j ≡ true) → (b : Bool) → t x ≡ b → (has xs j ≡ true → has (filter t xs) j ≡ true) → has (if b then x ∷ filter t xs else filter t xs) j ≡ true
     by_first (inl e) true is rest = or_left (nat_eq x j) (has (filter t xs) j) e
-    by_first (inl e) false is rest = absurd (no_both (t j) k (ap t (sym (eqb-true x j e)) ∙ is))
+    by_first (inl e) false is rest = absurd (both_ways (t j) (ap t (sym (eqb-true x j e)) ∙ is) k)
     by_first (inr i) true is rest = has_later x j (filter t xs) (rest i)
     by_first (inr i) false is rest = rest i
 
@@ -62,7 +56,7 @@ pub filter_none : (t : ℕ → Bool) (xs : List ℕ) (j : ℕ) → has xs j ≡ 
 filter_none t xs j h = by_value (has (filter t xs) j) refl
   where
     by_value : (b : Bool) → has (filter t xs) j ≡ b → b ≡ false
-    by_value true e = absurd (no_both (has xs j) (filter_has t xs j e).0 h)
+    by_value true e = absurd (both_ways (has xs j) h (filter_has t xs j e).0)
     by_value false e = refl
 
 pub filter_once : (t : ℕ → Bool) (xs : List ℕ) → Once xs → Once (filter t xs)
@@ -71,14 +65,6 @@ filter_once t (x ∷ xs) once = by_test (t x) (filter_once t xs once.1)
   where
     by_test : (b : Bool) → Once (filter t xs) → Once (if b then x ∷ filter t xs else filter t xs)
     by_test true h = (filter_none t xs x once.0, h)
-    by_test false h = h
-
-pub filter_append : (t : ℕ → Bool) (xs ys : List ℕ) → filter t (xs ++ ys) ≡ filter t xs ++ filter t ys
-filter_append t [] ys = refl
-filter_append t (x ∷ xs) ys = by_test (t x) (filter_append t xs ys)
-  where
-    by_test : (b : Bool) → filter t (xs ++ ys) ≡ filter t xs ++ filter t ys → (if b then x ∷ filter t (xs ++ ys) else filter t (xs ++ ys)) ≡ (if b then x ∷ filter t xs else filter t xs) ++ filter t ys
-    by_test true h = ap (λ (l : List ℕ). x ∷ l) h
     by_test false h = h
 
 -- one test after another
@@ -108,7 +94,7 @@ filter_no (x ∷ xs) = filter_no xs
 
 pub others_all : (c : ℕ) (xs : List ℕ) → has xs c ≡ false → filter (λ j. not (nat_eq c j)) xs ≡ xs
 others_all c xs none =
-    filter_on (λ j. not (nat_eq c j)) (λ j. true) xs (λ j h. ap not (ne_eqb c j (λ e. no_both (has xs j) h (ap (has xs) (sym e) ∙ none)))) ∙ filter_all xs
+    filter_on (λ j. not (nat_eq c j)) (λ j. true) xs (λ j h. ap not (ne_eqb c j (λ e. both_ways (has xs j) (ap (has xs) (sym e) ∙ none) h))) ∙ filter_all xs
 
 pub others_but_one : (c : ℕ) (xs : List ℕ) → Once xs → has xs c ≡ true → suc (length (filter (λ j. not (nat_eq c j)) xs)) ≡ length xs
 others_but_one c [] once h = absurd (true≢false (sym h))
@@ -193,11 +179,7 @@ below_others c (suc k) big le =
         (if b then others_below c k else others_below c k ++ k ∷ []) ≡ filter (λ j. not (nat_eq c j)) (if nat_eq k big then others_below big k else others_below big k ++ k ∷ [])
     by_test true e h high =
         let here : nat_eq c k ≡ true = eq-eqb c k (sym (eqb-true k c e)) in
-        rw (high, filter_append (λ j. not (nat_eq c j)) (others_below big k) (k ∷ []), here) (h ∙ sym (nil (filter (λ j. not (nat_eq c j)) (others_below big k))))
-      where
-        nil : (xs : List ℕ) → xs ++ [] ≡ xs
-        nil [] = refl
-        nil (x ∷ xs) = ap (λ (l : List ℕ). x ∷ l) (nil xs)
+        rw (high, append_filter (λ j. not (nat_eq c j)) (others_below big k) (k ∷ []), here) (h ∙ sym (append-nil (filter (λ j. not (nat_eq c j)) (others_below big k))))
     by_test false e h high =
         let there : nat_eq c k ≡ false = ne_eqb c k (λ x. eqb-false k c e (sym x)) in
-        rw (high, filter_append (λ j. not (nat_eq c j)) (others_below big k) (k ∷ []), there) (ap (λ (l : List ℕ). l ++ k ∷ []) h)
+        rw (high, append_filter (λ j. not (nat_eq c j)) (others_below big k) (k ∷ []), there) (ap (λ (l : List ℕ). l ++ k ∷ []) h)

@@ -77,33 +77,7 @@ member_rises x s s' (Appends commit more normal fol brings is) up = let e = ap (
 member_rises x s s' (Commits k normal low high is) up = let e = ap (λ (z : VrState). z.view) is in omega (arith, e)
 member_rises x s s' (Keeps r nonce asks is) up = let e = ap (λ (z : VrState). z.view) is in omega (arith, e)
 
--- and has promised its view
-member_promised : (x : VrInput) (s s' : VrState) → MemberMove x s s' → s.view ≤ s.promise → s'.view ≤ s'.promise
-member_promised x s s' (Enters view l v is) h = subst (λ (z : VrState). z.view ≤ z.promise) (sym is) (le_refl view)
-member_promised x s s' (Tallies votes sent acked is) h = subst (λ (z : VrState). z.view ≤ z.promise) (sym is) h
-member_promised x s s' (Collects c from is) h = subst (λ (z : VrState). z.view ≤ z.promise) (sym is) h
-member_promised x s s' (Stocks from view first log asks l is) h = subst (λ (z : VrState). z.view ≤ z.promise) (sym is) h
-member_promised x s s' (Starts c cs cl may long sound is) h = subst (λ (z : VrState). z.view ≤ z.promise) (sym is) h
-member_promised x s s' (Adopts view first commit log shows newer l sound is) h = subst (λ (z : VrState). z.view ≤ z.promise) (sym is) (omega arith)
-member_promised x s s' (Recovers view r told k v f rec sound is) h = subst (λ (z : VrState). z.view ≤ z.promise) (sym is) (omega arith)
-member_promised x s s' (Appends commit more normal fol brings is) h = subst (λ (z : VrState). z.view ≤ z.promise) (sym is) h
-member_promised x s s' (Commits k normal low high is) h = subst (λ (z : VrState). z.view ≤ z.promise) (sym is) h
-member_promised x s s' (Keeps r nonce asks is) h = subst (λ (z : VrState). z.view ≤ z.promise) (sym is) h
-
 module _ (kinds : List ℕ) (setup : Setup) (x : ControllerInput) where
-  move_promised : (w w' : Work) → Move kinds setup x w w' → w.state.vr.view ≤ w.state.vr.promise → w'.state.vr.view ≤ w'.state.vr.promise
-  move_promised w w' (Steps s m is) h = subst (λ (z : Work). z.state.vr.view ≤ z.state.vr.promise) (sym is) (member_promised (member_input x) w.state.vr s m h)
-  move_promised w w' (Says ls all is) h = subst (λ (z : Work). z.state.vr.view ≤ z.state.vr.promise) (sym is) h
-  move_promised w w' (Saves save is) h = subst (λ (z : Work). z.state.vr.view ≤ z.state.vr.promise) (sym is) h
-  move_promised w w' (Begins l is) h = subst (λ (z : Work). z.state.vr.view ≤ z.state.vr.promise) (sym is) h
-  move_promised w w' (Proposes entry l p room is) h = subst (λ (z : Work). z.state.vr.view ≤ z.state.vr.promise) (sym is) h
-  move_promised w w' (Results s xid life number outcome asks l pending is) h = subst (λ (z : Work). z.state.vr.view ≤ z.state.vr.promise) (sym is) h
-  move_promised w w' (Notes confirmed told full is) h = subst (λ (z : Work). z.state.vr.view ≤ z.state.vr.promise) (sym is) h
-
-  chain_promised : (c : ControllerState) (w : Work) → c.vr.view ≤ c.vr.promise → Chain kinds setup x (beginning c) w → w.state.vr.view ≤ w.state.vr.promise
-  chain_promised c w h Start = h
-  chain_promised c w h (Then mid w2 chain move) = move_promised mid w move (chain_promised c mid h chain)
-
   move_rises : (w w' : Work) → Move kinds setup x w w' → is_up w.state.vr ≡ true → w.state.vr.view ≤ w'.state.vr.view
   move_rises w w' (Steps s m is) up = let e = ap (λ (z : Work). z.state.vr.view) is in let l = member_rises (member_input x) w.state.vr s m up in omega (arith, e, l)
   move_rises w w' (Says ls all is) up = let e = ap (λ (z : Work). z.state.vr.view) is in omega (arith, e)
@@ -120,18 +94,13 @@ module _ (kinds : List ℕ) (setup : Setup) (x : ControllerInput) where
       (move_up kinds setup x mid w move h.0, le_trans h.1 (move_rises mid w move h.0))
 
   -- a turn from one that is up to one that is
-  record Rises (s s' : VrState) : Type 0 where
-    pub view : s.view ≤ s'.view
-    pub promised : s.view ≤ s.promise → s'.view ≤ s'.promise
-
-  turn_rises : (c : ControllerState) → is_up c.vr ≡ true → is_up (controller_work kinds setup c x).state.vr ≡ true → Rises c.vr (controller_work kinds setup c x).state.vr
+  turn_rises : (c : ControllerState) → is_up c.vr ≡ true → is_up (controller_work kinds setup c x).state.vr ≡ true → c.vr.view ≤ (controller_work kinds setup c x).state.vr.view
   turn_rises c up after = by_down (is_down c) refl
     where
-      by_down : (b : Bool) → is_down c ≡ b → Rises c.vr (controller_work kinds setup c x).state.vr
+      by_down : (b : Bool) → is_down c ≡ b → c.vr.view ≤ (controller_work kinds setup c x).state.vr.view
       by_down true off = absurd (not_down c.vr.status up off)
       by_down false on = elim (turn_chain kinds setup x c on) [
-        | inl chain ↦
-            record { view = (chain_rises c (controller_work kinds setup c x) up chain).1; promised = λ h. chain_promised c (controller_work kinds setup c x) h chain }
+        | inl chain ↦ (chain_rises c (controller_work kinds setup c x) up chain).1
         | inr crash ↦ absurd (false≢true (ap (λ (w : Work). is_up w.state.vr) (sym crash.1) ∙ after))
       ]
 
@@ -164,14 +133,12 @@ module _ {B : Type 0} (scene : Scene B) (results : List (List SaveResult)) (n : 
   record WasUp (s s' : VrState) : Type 0 where
     pub up : is_up s ≡ true
     pub view : s.view ≤ s'.view
-    pub promised : s.view ≤ s.promise → s'.view ≤ s'.promise
 
   same_up : (s s' : VrState) → s' ≡ s → is_up s' ≡ true → WasUp s s'
   same_up s s' same up =
       record {
         up = ap (λ (z : VrState). is_up z) (sym same) ∙ up;
         view = (let v = ap (λ (z : VrState). z.view) same in omega (arith, v));
-        promised = λ h. subst (λ (z : VrState). z.view ≤ z.promise) (sym same) h;
       }
 
   module _ (e : JournalEntry B) (past : List (JournalEntry B)) (k : IsReadPast scene results (e ∷ past)) (up : is_up (state (e ∷ past)) ≡ true) where
@@ -182,7 +149,7 @@ module _ {B : Type 0} (scene : Scene B) (results : List (List SaveResult)) (n : 
         let after : is_up (controller_work scene.kinds scene.setup c x).state.vr ≡ true = ap (λ (z : ControllerState). is_up z.vr) (sym now) ∙ up in
         let was = up_before scene.kinds scene.setup x c (member_at scene results 0 whole past (read_before scene results e past k) 0 (omega (arith, n))) after in
         let rises = turn_rises scene.kinds scene.setup x c was after in
-        subst (λ (z : ControllerState). WasUp (state past) z.vr) (sym now) (record { up = was; view = rises.view; promised = rises.promised })
+        subst (λ (z : ControllerState). WasUp (state past) z.vr) (sym now) (record { up = was; view = rises })
     by_goes (Falls c promise life now owed) = absurd (false≢true (ap (λ (z : ControllerState). is_up z.vr) (sym now) ∙ up))
     by_goes (Stays now owed) = same_up (state past) (state (e ∷ past)) (ap (λ (z : ControllerState). z.vr) now) up
 
@@ -198,10 +165,3 @@ module _ {B : Type 0} (scene : Scene B) (results : List (List SaveResult)) (n : 
       let last = one_rises e (more ++ before) k up in
       let first = alone_rises more before (read_before scene results e (more ++ before) k) last.up in
       (first.0, le_trans first.1 last.view)
-
-  -- and has promised its view
-  pub alone_promised : (past : List (JournalEntry B)) → IsReadPast scene results past → is_up (state past) ≡ true → (state past).view ≤ (state past).promise
-  alone_promised [] k up = omega arith
-  alone_promised (e ∷ past) k up =
-      let last = one_rises e past k up in
-      last.promised (alone_promised past (read_before scene results e past k) last.up)

@@ -1,7 +1,7 @@
 -- Where the view of a closing has started, draining begins.
 use Rattle.std.proofs.Common.{◌≡◌, ◌≤◌, ◌<◌, ◌⊎◌, inl, inr, ℕ, ◌%◌, List, ◌++◌, map, length, true, refl, sym, ◌∙◌, ap, subst, arith}
 use Rattle.std.specs.Prelude.{reverse, None}
-use Rattle.std.proofs.lemmas.Bool.{ne_eqb}
+use Rattle.std.proofs.lemmas.Bool.{ne_eqb, cases_eq}
 use Rattle.of_types.specs.Setups.{IsSetup}
 use Rattle.rv_base.specs.declared.journal.Actor.TheVariants as actor
 use Rattle.rv_base.specs.declared.journal.JournalEntry.{JournalEntry}
@@ -16,7 +16,8 @@ use Rattle.rv_runs.specs.States.{Scene, IsFaithful, content, controller_message}
 use Rattle.rv_runs.specs.Legal.{IsPossible}
 use Rattle.rv_runs.specs.Committed.{controller_state, switch_state}
 use Rattle.rv_runs.specs.Schedule.{Phase}
-use Rattle.closing_laws.specs.Following.{Start}
+use Rattle.closing_laws.specs.Following.{Leads, Start}
+use Rattle.closing_laws.specs.Measure.{left_to_do}
 use Rattle.closing_laws.specs.Quorum.{has}
 use Rattle.closing_laws.specs.Serving.{AreFew, IsOlder}
 use Rattle.closing_laws.specs.Starts.{IsAttempt, Starts, members_at, quorum_after, view_after}
@@ -26,10 +27,9 @@ use Rattle.closing_laws.proofs.Begun as begun
 use Rattle.closing_laws.proofs.Begun.{later_append}
 use Rattle.closing_laws.proofs.Carrying.{AllCarry, read_carry, sw}
 use Rattle.closing_laws.proofs.Drained as drained_by
-use Rattle.closing_laws.proofs.Drained.{same_or_not}
 use Rattle.closing_laws.proofs.Emptying as emptying
 use Rattle.closing_laws.proofs.Leading.{start_of}
-use Rattle.closing_laws.proofs.Opens as opens
+use Rattle.closing_laws.proofs.OpeningTurn as opens
 use Rattle.closing_laws.proofs.Picked.{IsPicked, picked_of_quorum}
 use Rattle.closing_laws.proofs.Taking.{at}
 use Rattle.closing_laws.proofs.Walking.{later, later_is}
@@ -62,16 +62,16 @@ module _ {B : Type 0} (scene : Scene B) (results : List (List SaveResult)) (setu
   abbrev pub begin : List (JournalEntry B)
   begin = reverse s.first ++ before
 
-  picked : IsPicked n w quorum
+  pub picked : IsPicked n w quorum
   picked = picked_of_quorum n w quorum (begun.quorum_is scene results before a.most)
 
-  ready : (j : ℕ) → has quorum j ≡ true → IsMember n w j (members j)
+  pub ready : (j : ℕ) → has quorum j ≡ true → IsMember n w j (members j)
   ready = begun.ready scene results before a.most
 
   abbrev switches : ℕ → SwitchState
   switches t = (sw scene results t begin).now
 
-  older_then : (t : ℕ) → t < length scene.setup.ports → IsOlder (switches t).fence.generation w
+  pub older_then : (t : ℕ) → t < length scene.setup.ports → IsOlder (switches t).fence.generation w
   older_then t there = subst (λ (x : SwitchState). IsOlder x.fence.generation w) (sym (s.unchanged t)) (older t there)
 
   pub possible : IsPossible scene results begin
@@ -82,13 +82,13 @@ module _ {B : Type 0} (scene : Scene B) (results : List (List SaveResult)) (setu
       (subst (λ (l : List (JournalEntry B)). IsPossible scene results l) (sym (later_is before entries) ∙ split) a.possible))
 
   -- the turn that starts it
-  abbrev end : Work
+  abbrev pub end : Work
   end = opens.end scene.kinds scene.setup few w quorum members best picked small ready s.covered chosen s.started.voters s.started.promise switches older_then
 
-  end_is : s.started.turn ≡ end
+  pub end_is : s.started.turn ≡ end
   end_is = s.started.turn_is
 
-  now_is : (at scene results p begin).now ≡ end.state
+  pub now_is : (at scene results p begin).now ≡ end.state
   now_is = s.started.primary ∙ ap (λ (x : Work). x.state) end_is
 
   end_view : end.state.vr.view ≡ w
@@ -103,7 +103,7 @@ module _ {B : Type 0} (scene : Scene B) (results : List (List SaveResult)) (setu
     leads = ap (λ (c : ControllerState). leads c.vr) now_is
         ∙ opens.leads_now scene.kinds scene.setup few w quorum members best picked small ready s.covered chosen s.started.voters s.started.promise switches older_then;
     view = ap (λ (c : ControllerState). c.vr.view) now_is ∙ end_view;
-    promises = λ b member. by_same b member (same_or_not b p);
+    promises = λ b member. by_same b member (cases_eq b p);
   }
     where
       by_same : (b : ℕ) → has quorum b ≡ true → (b ≡ p) ⊎ (b ≡ p → ⊥) → (at scene results b begin).now.vr.promise ≤ w
@@ -149,3 +149,12 @@ module _ {B : Type 0} (scene : Scene B) (results : List (List SaveResult)) (setu
 
     pub opened : emptying.Mode scene results setup faithful w quorum small before a.saves start begin
     opened = emptying.Resting (record { waiting = waiting; carries = carries; stands = stands; posted = s.posted })
+
+    -- what is left to do there
+    pub opened_left : emptying.left_in scene results setup faithful w quorum small before a.saves start begin opened ≡
+        left_to_do scene.kinds scene.setup quorum (at scene results p begin).now (λ k. (sw scene results k begin).now) waiting
+    unfolding opened
+    opened_left = refl
+
+    pub lead_now : Leads start (controller_state scene results p begin).vr
+    lead_now = stands.drains.primary.lead

@@ -4,6 +4,7 @@ use Rattle.std.proofs.Common.{◌≡◌, ◌≤◌, ◌<◌, ◌⊎◌, inl, inr
 use Rattle.std.specs.Prelude.{nat_eq, None, if◌then◌else◌}
 use Rattle.std.specs.List.{range_with_len}
 use Rattle.std.proofs.lemmas.Bool.{cases_eq, cases_order, eq-eqb, ne_eqb, true≢false}
+use Rattle.std.proofs.lemmas.List.{drop_all, length-take}
 use Rattle.of_types.specs.declared.setup.Setup.{Setup}
 use Rattle.rv_base.specs.declared.journal.Letter.{Letter}
 use Rattle.vr_log.specs.declared.entry.Entry.{Entry}
@@ -24,11 +25,6 @@ use Rattle.closing_laws.proofs.Proposing.{Standing, commands_vr}
 use Rattle.closing_laws.proofs.Settled.{AreBounded, AreServed, Told, commands_told_step}
 use Rattle.closing_laws.proofs.Telling.{members_told, told, told-append}
 use Rattle.closing_laws.proofs.Turned.{IsSound, behind, bounded_to, ends_above, told_progress}
-
-nothing_behind : (k : ℕ) (log : List Entry) → drop k (take k log) ≡ []
-nothing_behind zero log = refl
-nothing_behind (suc k) [] = refl
-nothing_behind (suc k) (x ∷ log) = nothing_behind k log
 
 -- each switch is asked once
 pub asked_never : (view t first n : ℕ) → t < first → told t (map (role_letter view) (range_with_len first n)) ≡ []
@@ -88,7 +84,7 @@ module _ (kinds : List ℕ) (setup : Setup) (sw : ℕ → SwitchState) (in_ : �
             tells = record {
               letters = r.tells.letters;
               joined = r.tells.joined ∙ ap (λ (z : List (Letter ControllerSays)). z ++ r.tells.letters) (ap (λ (z : List Entry). work.letters ++ flat_map (answers_at kinds setup work.state) (places_processed z))
-                  (ap (λ (n : ℕ). drop k (take n work.state.vr.log)) (sym is) ∙ nothing_behind k work.state.vr.log) ∙ append-nil work.letters);
+                  (ap (λ (n : ℕ). drop k (take n work.state.vr.log)) (sym is) ∙ drop_all k (take k work.state.vr.log) (let long = length-take k work.state.vr.log in omega (arith, long))) ∙ append-nil work.letters);
               save = r.tells.save;
               vr = r.tells.vr;
               marks = r.tells.marks;

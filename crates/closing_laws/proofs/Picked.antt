@@ -1,15 +1,15 @@
 -- A quorum, as those of all members that are in it.
 use Rattle.std.proofs.Common.{◌≡◌, ◌≤◌, ◌<◌, inl, inr, ℕ, zero, suc, ◌+◌, ◌/◌, ◌%◌, Bool, true, false, List, [], ◌∷◌, ◌++◌, length, refl, sym, ◌∙◌, ap, subst, arith}
-use Rattle.std.specs.Prelude.{nat_eq, ◌||◌, filter, slice_index, if◌then◌else◌}
+use Rattle.std.specs.Prelude.{nat_eq, ◌||◌, filter, slice_index, if◌then◌else◌, not}
 use Rattle.std.specs.List.{range_with_len}
 use Rattle.std.specs.List.Sorted.{IsStrictlyIncreasing}
-use Rattle.std.proofs.lemmas.Bool.{ne_eqb, eqb-true, eqb-false, or_cases, true≢false, cases_lt}
+use Rattle.std.proofs.lemmas.Bool.{ne_eqb, eqb-true, eqb-false, or_cases, true≢false, cases_lt, false_from_ne_true, both_ways, not-true, eq-eqb}
 use Rattle.std.proofs.lemmas.List.FromFn.{get_or-range_with_len, length-range_with_len}
 use Rattle.std.proofs.lemmas.List.Kept.{IsStrictlyIncreasing-filter}
 use Rattle.vr_log.specs.Members.{others_below}
 use Rattle.dispatcher.proofs.Telling.{range_more}
 use Rattle.closing_laws.specs.Quorum.{has, IsQuorum}
-use Rattle.closing_laws.proofs.Numbers.{has_here, has_later, filter_has, filter_on, filter_no, below_has}
+use Rattle.closing_laws.proofs.Numbers.{has_here, has_later, filter_has, filter_on, filter_no, below_has, Once, filter_once, below_once, others_but_one}
 
 -- the members of a group, and those of a quorum among them
 pub record IsPicked (n view : ℕ) (quorum : List ℕ) : Type 0 where
@@ -69,13 +69,6 @@ range_low a (suc n) j h = elim (or_cases (nat_eq a j) (has (range_with_len (a + 
   | inr k ↦ let low = range_low (a + 1) n j k in omega (arith, low)
 ]
 
-not_has : (xs : List ℕ) (c : ℕ) → (has xs c ≡ true → ⊥) → has xs c ≡ false
-not_has xs c none = by_value (has xs c) refl
-  where
-    by_value : (b : Bool) → has xs c ≡ b → b ≡ false
-    by_value true e = absurd (none e)
-    by_value false e = refl
-
 -- so it is what a range has of it
 of_range : (a n : ℕ) (xs : List ℕ) → IsStrictlyIncreasing xs → ((c : ℕ) → has xs c ≡ true → (a ≤ c) × (c < a + n)) → xs ≡ filter (has xs) (range_with_len a n)
 of_range a n [] h within = sym (filter_no (range_with_len a n))
@@ -111,7 +104,7 @@ of_range a (suc n) (x ∷ xs) h within =
         ∙ ap (λ (b : Bool). if b || has xs a then a ∷ filter (has (x ∷ xs)) (range_with_len (a + 1) n) else filter (has (x ∷ xs)) (range_with_len (a + 1) n)) (sym e)
     by_first false e here later =
         let other = eqb-false x a e in
-        let none : has (x ∷ xs) a ≡ false = not_has (x ∷ xs) a (λ k. let more = above a k other in omega (arith, more)) in
+        let none : has (x ∷ xs) a ≡ false = false_from_ne_true (has (x ∷ xs) a) (λ k. let more = above a k other in omega (arith, more)) in
         later other ∙ ap (λ (b : Bool). if b then a ∷ filter (has (x ∷ xs)) (range_with_len (a + 1) n) else filter (has (x ∷ xs)) (range_with_len (a + 1) n)) (sym none)
 
 -- and a quorum is picked
@@ -122,3 +115,17 @@ picked_of_quorum n view quorum q =
       count = (let count = q.count in omega (arith, count));
       primary = q.primary;
     }
+
+-- in a group of several a quorum has another member
+pub another : (n view p : ℕ) (quorum : List ℕ) → IsPicked n view quorum → has quorum p ≡ true → 0 < n / 2 → (b : ℕ) × (has quorum b ≡ true) × (b ≡ p → ⊥)
+another n view p quorum q inside some =
+    let once = subst Once (sym q.ascending) (filter_once (has quorum) (others_below n n) (below_once n n)) in
+    let all = others_but_one p quorum once inside in
+    let count = q.count in
+    first_other (filter (λ j. not (nat_eq p j)) quorum) refl (omega (arith, all, count, some))
+  where
+    first_other : (xs : List ℕ) → filter (λ j. not (nat_eq p j)) quorum ≡ xs → 0 < length xs → (b : ℕ) × (has quorum b ≡ true) × (b ≡ p → ⊥)
+    first_other [] is long = absurd (omega (arith, long))
+    first_other (x ∷ xs) is long =
+        let among = filter_has (λ j. not (nat_eq p j)) quorum x (ap (λ (l : List ℕ). has l x) is ∙ has_here x xs) in
+        (x, among.0, (λ e. both_ways (nat_eq p x) (not-true (nat_eq p x) among.1) (eq-eqb p x (sym e))))

@@ -1,14 +1,10 @@
 -- A turn of the primary keeps what is true while a closing is drained.
-use Rattle.std.proofs.Common.{◌≡◌, ◌≤◌, ◌<◌, ◌⊎◌, inl, inr, ℕ, zero, suc, ◌+◌, ◌/◌, ◌%◌, ◌^◌, max, Bool, true, false, List, [], ◌∷◌, ◌++◌, map, length, take, refl, sym, ◌∙◌, ap, subst, arith, length-set}
-use Rattle.std.proofs.lemmas.List.{get_or-set_other, get_or-set_same}
-use Rattle.std.specs.Prelude.{nat_eq, not, ◌&&◌, filter, slice_index, slice_set, Option, Some, None, if◌then◌else◌}
+use Rattle.std.proofs.Common.{◌≡◌, ◌≤◌, ◌<◌, ◌⊎◌, inl, inr, ℕ, ◌+◌, ◌/◌, ◌%◌, max, true, false, List, ◌∷◌, ◌++◌, map, length, take, refl, sym, ◌∙◌, ap, subst, arith, length-set}
+use Rattle.std.specs.Prelude.{nat_eq, ◌&&◌, slice_index, None}
 use Rattle.std.specs.List.{AllByRecursion}
-use Rattle.std.proofs.lemmas.Bool.{cases_lt, cases_order, eq-eqb, ne_eqb, eqb-true, eqb-false, true≢false}
-use Rattle.std.proofs.lemmas.List.{length-append}
-use Rattle.of_types.specs.declared.message.Extension.TheVariants as extension
-use Rattle.of_types.specs.declared.message.OfMessage.TheVariants as plain
+use Rattle.std.proofs.lemmas.List.{get_or-set_other, get_or-set_same, take-append-le, length-append}
+use Rattle.std.proofs.lemmas.Bool.{cases_lt, cases_order, eq-eqb, cases_eq}
 use Rattle.of_types.specs.declared.message.Spoken.{Spoken}
-use Rattle.of_types.specs.declared.message.Spoken.TheVariants as spoken
 use Rattle.of_types.specs.declared.numbers.TheConstants.{MASTER}
 use Rattle.of_types.specs.declared.setup.Setup.{Setup}
 use Rattle.rv_base.specs.declared.journal.Actor.{Actor}
@@ -20,15 +16,15 @@ use Rattle.vr_log.specs.declared.message.VrMessage.TheVariants as vr
 use Rattle.vr_log.specs.declared.state.Status.{Status}
 use Rattle.vr_log.specs.declared.state.Status.TheVariants.{Normal, ViewChange, Recovering, Down}
 use Rattle.vr_log.specs.declared.state.VrState.{VrState}
+use Rattle.vr_log.specs.Members.{is_normal, is_primary, leads, most_failures}
 use Rattle.vr_normal.specs.Cases.{acked_by}
-use Rattle.vr_log.specs.Members.{is_normal, is_primary, leads, most_failures, others_below}
 use Rattle.of_switch.specs.State.{SwitchState, life_of}
 use Rattle.group_controller.specs.declared.messages.ControllerInput.{ControllerInput}
 use Rattle.group_controller.specs.declared.messages.ControllerInput.TheVariants as controller_input
 use Rattle.group_controller.specs.declared.messages.ControllerSays.{ControllerSays}
-use Rattle.dispatcher.specs.Marks.{Marks}
 use Rattle.group_controller.specs.State.{ControllerState, Work}
 use Rattle.group_controller.specs.Rules.{controller_work}
+use Rattle.dispatcher.specs.Marks.{Marks}
 use Rattle.rv_runs.specs.declared.messages.Message.{Message}
 use Rattle.rv_runs.specs.declared.messages.Message.TheVariants as message
 use Rattle.rv_runs.specs.declared.messages.Unsealed.TheVariants as unsealed
@@ -42,19 +38,14 @@ use Rattle.closing_laws.proofs.Agreeing.{agreed_longer, counted_agreed, keeps_up
 use Rattle.closing_laws.proofs.Between.{between_other, between_own}
 use Rattle.closing_laws.proofs.Confirmed as confirmed
 use Rattle.closing_laws.proofs.Drained as drained_by
-use Rattle.closing_laws.proofs.Drained.{same_or_not, way_apart}
+use Rattle.closing_laws.proofs.Drained.{way_apart, heard_of}
 use Rattle.closing_laws.proofs.EventTurns as event_by
 use Rattle.closing_laws.proofs.Followers.{keeps_up_longer, started_within}
-use Rattle.closing_laws.proofs.Numbers.{Once, below_once, filter_has, filter_once, has_here, others_but_one}
-use Rattle.closing_laws.proofs.Picked.{IsPicked}
+use Rattle.closing_laws.proofs.Picked.{IsPicked, another}
 use Rattle.closing_laws.proofs.ProperTurns.{AreForOthers, IsProper, IsSamePlace}
 use Rattle.closing_laws.proofs.ProperTurns as proper
 use Rattle.closing_laws.proofs.Resulted as result_by
 use Rattle.closing_laws.proofs.Turned.{HasTurned}
-
--- what a controller hears of a message on its way
-abbrev heard_of : Sent → ControllerInput
-heard_of m = controller_hears m.from (unsealed.Message m.said)
 
 pub leads_alike : (s s' : VrState) → IsSamePlace s s' → leads s' ≡ leads s
 leads_alike s s' h =
@@ -106,14 +97,9 @@ module _ (kinds : List ℕ) (setup : Setup) (few : AreFew kinds setup) (w p : �
     more_committed : old.commit ≤ new.commit
     more_committed = elim commit_is [ inl a ↦ let k = a.1 in omega (arith, k) | inr b ↦ let k = b.1 in omega (arith, k) ]
 
-    take_begins : (k : ℕ) (xs ys : List Entry) → k ≤ length xs → take k (xs ++ ys) ≡ take k xs
-    take_begins zero xs ys le = refl
-    take_begins (suc k) [] ys le = absurd (omega (arith, le))
-    take_begins (suc k) (x ∷ xs) ys le = ap (λ (l : List Entry). x ∷ l) (take_begins k xs ys (omega (arith, le)))
-
     lead_now : Leads start new
     lead_now = record {
-      begins = ap (take (length start.log)) log_is ∙ take_begins (length start.log) old.log more (started_within start old lead) ∙ lead.begins;
+      begins = ap (take (length start.log)) log_is ∙ take-append-le (length start.log) old.log more (started_within start old lead) ∙ lead.begins;
       started = lead.started;
       within = lead.within;
       known = (let known = lead.known in let up = more_committed in omega (arith, known, up));
@@ -133,24 +119,7 @@ module _ (kinds : List ℕ) (setup : Setup) (few : AreFew kinds setup) (w p : �
         by_state (inr k) = let low = k.acked in let most = k.most in omega (arith, low, most)
 
     some_other : 0 < most_failures old → (b : ℕ) × (has quorum b ≡ true) × (b ≡ p → ⊥)
-    some_other some =
-        let all = others_but_one p quorum (quorum_once picked) inside in
-        let count = picked.count in
-        let half = ap (λ (k : ℕ). k / 2) size in
-        first_other (filter (λ j. not (nat_eq p j)) quorum) refl (omega (arith, all, count, half, some))
-      where
-        quorum_once : IsPicked n w quorum → Once quorum
-        quorum_once q = subst Once (sym q.ascending) (filter_once (has quorum) (others_below n n) (below_once n n))
-
-        not_same : (b : Bool) → not b ≡ true → b ≡ true → ⊥
-        not_same true h e = absurd (true≢false (sym h))
-        not_same false h e = absurd (true≢false (sym e))
-
-        first_other : (xs : List ℕ) → filter (λ j. not (nat_eq p j)) quorum ≡ xs → 0 < length xs → (b : ℕ) × (has quorum b ≡ true) × (b ≡ p → ⊥)
-        first_other [] is long = absurd (omega (arith, long))
-        first_other (x ∷ xs) is long =
-            let among = filter_has (λ j. not (nat_eq p j)) quorum x (ap (λ (l : List ℕ). has l x) is ∙ has_here x xs) in
-            (x, among.0, (λ e. not_same (nat_eq p x) among.1 (eq-eqb p x (sym e))))
+    some_other some = let half = ap (λ (k : ℕ). k / 2) size in another n w p quorum picked inside (omega (arith, half, some))
 
     whole : most_failures old ≡ 0 → old.commit ≡ length old.log
     whole none =
@@ -216,7 +185,7 @@ module _ (kinds : List ℕ) (setup : Setup) (few : AreFew kinds setup) (w p : �
     out_same : (a t : Actor) → (t ≡ actor.Controller p → ⊥) → between a t (m ∷ rest) ≡ between a t rest
     out_same a t other = between_other a t m rest (way_apart a t m (λ f g. other (sym g ∙ to)))
 
-    served : (t : ℕ) → t < length setup.ports → IsServed kinds setup c t (switches t) (out t) (in_before t)
+    pub served : (t : ℕ) → t < length setup.ports → IsServed kinds setup c t (switches t) (out t) (in_before t)
     served t less = subst (λ (l : List Message). IsServed kinds setup c t (switches t) l (in_before t)) (out_same (actor.Controller p) (actor.Switch t) (λ e. absurd cc)) (d.served t less)
 
     -- letters go to switches and to other members
@@ -227,6 +196,17 @@ module _ (kinds : List ℕ) (setup : Setup) (few : AreFew kinds setup) (w p : �
         by_actor (actor.Controller b) is = inl (b, is, (λ e. others l among b is (e ∙ sym d.primary.me)))
         by_actor (actor.Switch t) is = inr (t, is)
 
+    -- alone, all is committed
+    pub whole_p : most_failures c.vr ≡ 0 → c.vr.commit ≡ length c.vr.log
+    whole_p none =
+        let q = d.primary in
+        let size = q.size in
+        let all = q.agreed (length c.vr.log) (omega arith) (λ b chosen other.
+        let low = small b chosen in let low_p = small_p in
+        absurd (other (let same_b : b ≡ p = omega (arith, low, low_p, none, size) in same_b ∙ sym q.me))) in
+        let within = q.lead.commit in
+        omega (arith, all, within)
+
     -- from a switch
     module _ (k : ℕ) (from : m.from ≡ actor.Switch k) (there : k < length setup.ports) where
       own : in_before k ≡ m.said ∷ in_after k
@@ -235,18 +215,8 @@ module _ (kinds : List ℕ) (setup : Setup) (few : AreFew kinds setup) (w p : �
       others : (t : ℕ) → (t ≡ k → ⊥) → in_after t ≡ in_before t
       others t other = sym (between_other (actor.Switch t) (actor.Controller p) m rest (way_apart (actor.Switch t) (actor.Controller p) m (λ f g. other (let e : actor.Switch k ≡ actor.Switch t = sym from ∙ f in let s : k ≡ t = cc in sym s))))
 
-      said_in : IsSaidIn c.vr.view (life_of (switches k)) m.said
+      pub said_in : IsSaidIn c.vr.view (life_of (switches k)) m.said
       said_in = (subst (λ (l : List Message). AllByRecursion (λ x. IsSaidIn c.vr.view (life_of (switches k)) x) l) own (served k there).heard).0
-
-      whole_p : most_failures c.vr ≡ 0 → c.vr.commit ≡ length c.vr.log
-      whole_p none =
-          let q = d.primary in
-          let size = q.size in
-          let all = q.agreed (length c.vr.log) (omega arith) (λ b chosen other.
-          let low = small b chosen in let low_p = small_p in
-          absurd (other (let same_b : b ≡ p = omega (arith, low, low_p, none, size) in same_b ∙ sym q.me))) in
-          let within = q.lead.commit in
-          omega (arith, all, within)
 
       -- what the turn leaves, by what it left of the switches
       leaves : (x : Work) (marks : Marks) → HasTurned kinds setup switches in_after c out marks x → IsTruePrimary x.state → AreForOthers c.vr.me x.letters →
@@ -266,10 +236,10 @@ module _ (kinds : List ℕ) (setup : Setup) (few : AreFew kinds setup) (w p : �
           h.served (apart_letters x apart)
 
       -- what it heard
-      heard_is : (xid : ℕ) (x : Spoken) → m.said ≡ message.Of xid x → heard_of m ≡ controller_input.Of k xid x
+      pub heard_is : (xid : ℕ) (x : Spoken) → m.said ≡ message.Of xid x → heard_of m ≡ controller_input.Of k xid x
       heard_is xid x is = ap (λ (a : Actor). controller_hears a (unsealed.Message m.said)) from ∙ ap (λ (y : Message). controller_hears (actor.Switch k) (unsealed.Message y)) is
 
-      own_is : (x : Message) → m.said ≡ x → in_before k ≡ x ∷ in_after k
+      pub own_is : (x : Message) → m.said ≡ x → in_before k ≡ x ∷ in_after k
       own_is x is = own ∙ ap (λ (y : Message). y ∷ in_after k) is
 
       abbrev Kept : Work → Type 0
@@ -311,7 +281,7 @@ module _ (kinds : List ℕ) (setup : Setup) (few : AreFew kinds setup) (w p : �
           (subst (λ (l : List Message). KeepsUp start c.vr b (members b) l (between (actor.Controller b) (actor.Controller p) (m ∷ rest)))
           (out_same (actor.Controller p) (actor.Controller b) (λ e. apart (let s : b ≡ p = cc in s))) (d.keeps_up b chosen apart))
 
-      said_ok : (op : ℕ) × (m.said ≡ message.Vr (vr.PrepareOk c.vr.view op))
+      pub said_ok : (op : ℕ) × (m.said ≡ message.Vr (vr.PrepareOk c.vr.view op))
       said_ok = by_state keeps_in
         where
           by_state : KeepsUp start c.vr b (members b) (between (actor.Controller p) (actor.Controller b) rest) (m.said ∷ between (actor.Controller b) (actor.Controller p) rest) →
@@ -335,7 +305,7 @@ module _ (kinds : List ℕ) (setup : Setup) (few : AreFew kinds setup) (w p : �
           (subst (λ (x : Message). KeepsUp start c.vr b (members b) (between (actor.Controller p) (actor.Controller b) rest) (x ∷ between (actor.Controller b) (actor.Controller p) rest)) said_ok.1 keeps_in)
 
       all_keep_next : (j : ℕ) → has quorum j ≡ true → (j ≡ p → ⊥) → KeepsUp start next j (members j) (between (actor.Controller p) (actor.Controller j) rest) (between (actor.Controller j) (actor.Controller p) rest)
-      all_keep_next j member other = elim (same_or_not j b) [
+      all_keep_next j member other = elim (cases_eq j b) [
         | inl e ↦ subst (λ (i : ℕ). KeepsUp start next i (members i) (between (actor.Controller p) (actor.Controller i) rest) (between (actor.Controller i) (actor.Controller p) rest)) (sym e) keeps_next.1
         | inr e ↦
             keeps_up_still start c.vr next d.primary.lead refl refl refl (agreed_by.agreed_no_less c.vr b op) j (members j) _ _
@@ -367,7 +337,7 @@ module _ (kinds : List ℕ) (setup : Setup) (few : AreFew kinds setup) (w p : �
       agreed_next =
           counted_agreed (acked_by c.vr b op) w quorum (subst (λ (k : ℕ). IsPicked k w quorum) (sym d.primary.size) picked) (ap (has quorum) d.primary.me ∙ inside)
 
-      heard_ok : heard_of m ≡ controller_input.Vr b (vr.PrepareOk c.vr.view op)
+      pub heard_ok : heard_of m ≡ controller_input.Vr b (vr.PrepareOk c.vr.view op)
       heard_ok =
           ap (λ (a : Actor). controller_hears a (unsealed.Message m.said)) from ∙ ap (λ (y : Message). controller_hears (actor.Controller b) (unsealed.Message y)) said_ok.1
 

@@ -1,8 +1,10 @@
 -- What every turn of a leading primary keeps: its place, its view and its promise, and that it saves nothing and writes to no
 -- controller but others.
-use Rattle.std.proofs.Common.{◌≡◌, ◌≤◌, ◌<◌, ◌⊎◌, inl, inr, ℕ, zero, suc, ◌+◌, Bool, true, false, List, [], ◌∷◌, ◌++◌, map, length, drop, refl, sym, ◌∙◌, ap, subst, arith}
-use Rattle.std.specs.Prelude.{nat_eq, nat_lt, not, ◌&&◌, filter, flat_map, Option, Some, None, option_map, if◌then◌else◌}
-use Rattle.std.proofs.lemmas.Bool.{cond_both, eq-eqb, eqb-true, eqb-false}
+use Rattle.std.proofs.Common.{◌≡◌, inl, inr, ℕ, zero, suc, ◌+◌, Bool, true, List, [], ◌∷◌, ◌++◌, map, length, drop, refl, sym, ◌∙◌, ap, subst}
+use Rattle.std.specs.Prelude.{nat_eq, nat_lt, not, ◌&&◌, filter, flat_map, Option, None, option_map, if◌then◌else◌}
+use Rattle.std.proofs.lemmas.Bool.{cond_both, eq-eqb, eqb-false}
+use Rattle.std.proofs.lemmas.List.{append-nil, append_assoc}
+use Rattle.std.proofs.Math.Bool.{and-false}
 use Rattle.of_types.specs.declared.message.Event.{Event}
 use Rattle.of_types.specs.declared.message.Extension.TheVariants as extension
 use Rattle.of_types.specs.declared.message.Happening.{Happening}
@@ -11,7 +13,6 @@ use Rattle.of_types.specs.declared.message.Outcome.{Outcome}
 use Rattle.of_types.specs.declared.message.Spoken.TheVariants as spoken
 use Rattle.of_types.specs.declared.numbers.TheConstants.{MASTER}
 use Rattle.of_types.specs.declared.setup.Setup.{Setup}
-use Rattle.rv_base.specs.declared.journal.Actor.{Actor}
 use Rattle.rv_base.specs.declared.journal.Actor.TheVariants as actor
 use Rattle.rv_base.specs.declared.journal.Letter.{Letter}
 use Rattle.lists.specs.Lists.{IsIn}
@@ -21,14 +22,13 @@ use Rattle.vr_log.specs.declared.entry.Entry.TheVariants.{Received}
 use Rattle.vr_log.specs.declared.message.VrLetter.{VrLetter}
 use Rattle.vr_log.specs.declared.message.VrMessage.{VrMessage}
 use Rattle.vr_log.specs.declared.message.VrMessage.TheVariants as vr
-use Rattle.vr_log.specs.declared.state.Status.{Status}
 use Rattle.vr_log.specs.declared.state.VrState.{VrState}
 use Rattle.vr_log.specs.Log.{is_past_limits}
-use Rattle.vr_log.specs.Members.{is_here, is_other, is_primary, is_up, leads, others_below}
+use Rattle.vr_log.specs.Members.{is_other, leads, others_below}
 use Rattle.vr_log.specs.Steps.{VrStep, letter, quiet, to_others}
-use Rattle.vr_normal.specs.Cases.{acked_by, counted, is_counted, prepare_ok}
+use Rattle.vr_normal.specs.Cases.{acked_by, counted, is_counted}
 use Rattle.vr_core.specs.Step.{on_vr, vr_step}
-use Rattle.dispatcher.specs.declared.answers.Through.{Through}
+use Rattle.vr_core.specs.declared.input.VrInput.TheVariants as vr_input
 use Rattle.dispatcher.specs.declared.answers.Wish.{Wish}
 use Rattle.dispatcher.specs.declared.answers.Wish.TheVariants.{Propose, Acknowledge, Nothing}
 use Rattle.dispatcher.specs.Folding.{acknowledges_at, clears_at, numbered, places_processed, wish}
@@ -37,17 +37,13 @@ use Rattle.app_core.specs.declared.issued.Issued.{Issued}
 use Rattle.group_controller.specs.declared.messages.ControllerInput.{ControllerInput}
 use Rattle.group_controller.specs.declared.messages.ControllerInput.TheVariants as controller_input
 use Rattle.group_controller.specs.declared.messages.ControllerSays.{ControllerSays}
-use Rattle.group_controller.specs.State.{ControllerState, Work, committed, fresh, leaving, met_limit, posting, resting, stepped, to_member, to_members, with_no_met_limit}
+use Rattle.group_controller.specs.State.{ControllerState, Work, committed, leaving, met_limit, posting, resting, stepped, to_member, to_members, with_no_met_limit}
 use Rattle.group_controller.specs.Settling.{ack_letter, after_finishing, after_proposal, answers_at, clear_letter, command_letter, command_letters, finishing, goes_on, is_alone, is_settled, is_untold, processing, proposing, settling, with_answers, with_commands, with_proposal}
-use Rattle.group_controller.specs.Rules.{after_step, commands_for, controller_work, has_started, is_down, on_event, on_input, on_master, on_result, on_role_reply, on_spoken, on_wish, starting_view}
+use Rattle.group_controller.specs.Rules.{after_step, commands_for, controller_work, on_input, on_master, on_result, on_role_reply, on_spoken, on_wish, starting_view}
 use Rattle.rv_laws.proofs.Members.{up_leads}
-use Rattle.closing_laws.proofs.Numbers.{below_has, has_here, has_later}
-use Rattle.closing_laws.specs.Quorum.{has}
-use Rattle.closing_laws.proofs.Taking.{member_work, up_not_down, By_message}
-use Rattle.vr_core.specs.declared.input.VrInput.TheVariants as vr_input
-
-leader_up : (c : ControllerState) → leads c.vr ≡ true → is_down c ≡ false
-leader_up c lead = up_not_down c (up_leads c.vr lead)
+use Rattle.closing_laws.proofs.Numbers.{below_has, in_has}
+use Rattle.closing_laws.proofs.Taking.{member_work, By_message}
+use Rattle.closing_laws.proofs.Hearing.{leader_up}
 
 -- no letter goes to the sender
 abbrev pub AreForOthers : ℕ → List (Letter ControllerSays) → Type 0
@@ -76,16 +72,8 @@ pub record Proceeds (old new : Work) : Type 0 where
   pub joined : new.letters ≡ old.letters ++ letters
   pub others : AreForOthers old.state.vr.me letters
 
-none_append : {A : Type 0} (xs : List A) → xs ++ [] ≡ xs
-none_append [] = refl
-none_append {A} (x ∷ xs) = ap (λ (l : List A). x ∷ l) (none_append xs)
-
-append_three : {A : Type 0} (xs ys zs : List A) → (xs ++ ys) ++ zs ≡ xs ++ (ys ++ zs)
-append_three [] ys zs = refl
-append_three {A} (x ∷ xs) ys zs = ap (λ (l : List A). x ∷ l) (append_three xs ys zs)
-
 stays : (work : Work) → Proceeds work work
-stays work = record { place = same_place work.state.vr; save = refl; letters = []; joined = sym (none_append work.letters); others = λ l h. absurd h }
+stays work = record { place = same_place work.state.vr; save = refl; letters = []; joined = sym (append-nil work.letters); others = λ l h. absurd h }
 
 and_then : (a b c : Work) → Proceeds a b → Proceeds b c → Proceeds a c
 and_then a b c p q =
@@ -93,7 +81,7 @@ and_then a b c p q =
       place = place_then a.state.vr b.state.vr c.state.vr p.place q.place;
       save = q.save ∙ p.save;
       letters = p.letters ++ q.letters;
-      joined = q.joined ∙ ap (λ (l : List (Letter ControllerSays)). l ++ q.letters) p.joined ∙ append_three a.letters p.letters q.letters;
+      joined = q.joined ∙ ap (λ (l : List (Letter ControllerSays)). l ++ q.letters) p.joined ∙ append_assoc a.letters p.letters q.letters;
       others = λ l h k to is. elim (in_append l p.letters q.letters h) [
         | inl m ↦ p.others l m k to is
         | inr m ↦ q.others l m k to (is ∙ sym p.place.me)
@@ -116,20 +104,12 @@ commands_go : (kinds : List ℕ) (setup : Setup) (c : ControllerState) (xs : Lis
 commands_go kinds setup c xs me = to_switches me (command_letters kinds setup c xs) (λ l h.
     let y = in_map (λ x. command_letter c.vr.view (numbered kinds setup (committed c) x)) xs l h in (y.0.switch, ap (λ (x : Letter ControllerSays). x.to) y.2))
 
-in_others : (me n b : ℕ) → IsIn b (others_below me n) → has (others_below me n) b ≡ true
-in_others me n b h = among (others_below me n) h
-  where
-    among : (xs : List ℕ) → IsIn b xs → has xs b ≡ true
-    among [] k = absurd k
-    among (x ∷ xs) (inl e) = subst (λ (k : ℕ). has (x ∷ xs) k ≡ true) (sym e) (has_here x xs)
-    among (x ∷ xs) (inr k) = has_later x b xs (among xs k)
-
 pub others_get : (s : VrState) (m : VrMessage) → AreForOthers s.me (to_members (to_others s m))
 others_get s m l h b to is =
     let y = in_map to_member (to_others s m) l h in
     let z = in_map (letter m) (others_below s.me s.controllers) y.0 y.1 in
     let same : z.0 ≡ b = (let e : actor.Controller z.0 ≡ actor.Controller b = sym (ap (λ (x : Letter ControllerSays). x.to) y.2 ∙ ap (λ (x : VrLetter). actor.Controller x.to) z.2) ∙ to in cc) in
-    let apart = (below_has s.me s.controllers z.0 (in_others s.me s.controllers z.0 z.1)).1 in
+    let apart = (below_has s.me s.controllers z.0 (in_has (others_below s.me s.controllers) z.0 z.1)).1 in
     eqb-false s.me z.0 apart (sym (same ∙ is))
 
 -- one that led before has not started its view by a step that leaves it there
@@ -141,11 +121,7 @@ not_started kinds setup c lead step same =
     let view : nat_eq c.vr.view step.state.view ≡ true = eq-eqb c.vr.view step.state.view (sym same.view) in
     ap (λ (b : Bool). if b then starting_view kinds setup (stepped (with_no_met_limit c) step)
     else if leads step.state && nat_lt c.vr.commit step.state.commit then settling kinds setup c.vr.commit (stepped (with_no_met_limit c) step) else stepped (with_no_met_limit c) step)
-    (ap (λ (b : Bool). leads step.state && not (b && nat_eq c.vr.view step.state.view)) lead ∙ ap (λ (b : Bool). leads step.state && not b) view ∙ and_none (leads step.state))
-  where
-    and_none : (b : Bool) → (b && false) ≡ false
-    and_none true = refl
-    and_none false = refl
+    (ap (λ (b : Bool). leads step.state && not (b && nat_eq c.vr.view step.state.view)) lead ∙ ap (λ (b : Bool). leads step.state && not b) view ∙ and-false (leads step.state))
 
 module _ (kinds : List ℕ) (setup : Setup) where
   answers_proceed : (before : ℕ) (work : Work) → Proceeds work (with_answers kinds setup before work)
@@ -179,7 +155,7 @@ module _ (kinds : List ℕ) (setup : Setup) where
   }
 
   limit_proceeds : (work : Work) (entry : Entry) → Proceeds work (leaving work (met_limit work.state entry))
-  limit_proceeds work entry = record { place = same_place work.state.vr; save = refl; letters = []; joined = sym (none_append work.letters); others = λ l h. absurd h }
+  limit_proceeds work entry = record { place = same_place work.state.vr; save = refl; letters = []; joined = sym (append-nil work.letters); others = λ l h. absurd h }
 
   pub after_proceeds : (work : Work) (entry : Entry) → Proceeds work (after_proposal kinds setup work entry)
   after_proceeds work entry =

@@ -1,6 +1,6 @@
 -- A closing goes on with those that take part, as long as each save succeeds.
-use Rattle.std.proofs.Common.{◌≡◌, ◌≤◌, ◌<◌, ◌⊎◌, inl, inr, ℕ, zero, suc, ◌+◌, ◌/◌, ◌%◌, Bool, true, false, List, [], ◌∷◌, ◌++◌, length, map, refl, sym, ◌∙◌, ap, subst, arith}
-use Rattle.std.specs.Prelude.{nat_eq, nat_lt, not, Option, Some, None, reverse, slice_index_or, if◌then◌else◌}
+use Rattle.std.proofs.Common.{◌≡◌, ◌≤◌, ◌<◌, inl, inr, ℕ, zero, suc, ◌+◌, ◌%◌, Bool, true, false, List, [], ◌∷◌, length, map, refl, sym, ◌∙◌, ap, subst, arith}
+use Rattle.std.specs.Prelude.{nat_eq, not, Option, Some, None, slice_index_or, if◌then◌else◌}
 use Rattle.std.specs.List.{AllByRecursion, range_with_len}
 use Rattle.std.proofs.lemmas.Bool.{cond_both, true≢false, le-ltb}
 use Rattle.of_types.specs.declared.setup.Setup.{Setup}
@@ -8,18 +8,17 @@ use Rattle.rv_base.specs.declared.journal.Actor.{Actor}
 use Rattle.rv_base.specs.declared.journal.Actor.TheVariants as actor
 use Rattle.rv_base.specs.declared.journal.JournalEntry.{JournalEntry}
 use Rattle.rv_base.specs.declared.journal.JournalEntry.TheVariants.{Post, Draw, Lose, Local, Idle, Refused}
-use Rattle.rv_base.specs.declared.journal.Local.{Local as LocalInput}
 use Rattle.rv_base.specs.declared.journal.Local.TheVariants as local
 use Rattle.rv_base.specs.declared.journal.Packet.{Packet}
 use Rattle.rv_base.specs.declared.journal.SaveResult.{SaveResult}
 use Rattle.rv_base.specs.declared.journal.SaveResult.TheVariants.{Saved}
+use Rattle.rv_base.proofs.Leaving.{same_actor-true}
 use Rattle.rv_base.specs.Actors.{same_actor, actor_of}
 use Rattle.rv_base.specs.Part.{drawn}
 use Rattle.rv_base.specs.Pool.{pool}
 use Rattle.vr_log.specs.declared.entry.LogFull.{LogFull}
 use Rattle.vr_log.specs.declared.state.Status.{Status}
 use Rattle.vr_log.specs.declared.state.Status.TheVariants.{Normal, ViewChange, Recovering, Down}
-use Rattle.vr_log.specs.declared.state.VrState.{VrState}
 use Rattle.vr_log.specs.Members.{is_up}
 use Rattle.group_controller.specs.declared.messages.ControllerInput.{ControllerInput}
 use Rattle.group_controller.specs.declared.messages.ControllerInput.TheVariants as controller_input
@@ -28,20 +27,18 @@ use Rattle.group_controller.specs.Rules.{controller_work, is_down}
 use Rattle.controller_laws.proofs.Reached.{turn_chain}
 use Rattle.controller_laws.specs.Moves.{Chain, Start, Then}
 use Rattle.controller_laws.specs.Turns.{beginning}
-use Rattle.rv_runs.specs.declared.messages.Message.{Message}
 use Rattle.rv_runs.specs.declared.messages.Message.TheVariants as message
 use Rattle.rv_runs.specs.declared.messages.Unsealed.{Unsealed}
 use Rattle.rv_runs.specs.declared.messages.Unsealed.TheVariants as unsealed
 use Rattle.rv_runs.specs.States.{Scene, ControllerAt, content, controller_hears, controller_step}
 use Rattle.rv_runs.specs.Legal.{results_of}
 use Rattle.rv_runs.specs.Committed.{controller_state, count_up, members_up, states_of}
-use Rattle.rv_runs.specs.Schedule.{Answer, Done, NoQuorum, Overfull, IsEnd, Phase, Losing, Suspecting, Draining, Met, Move, Takes, Ends, Closes, ClosesTo, IsMove, after_member, after_move, after_turn, drained, is_drawn, majority, met_by, next_drained, next_lost, next_move, next_suspicion, next_view}
+use Rattle.rv_runs.specs.Schedule.{Answer, NoQuorum, IsEnd, Phase, Losing, Suspecting, Draining, Met, Move, Takes, Ends, ClosesTo, IsMove, after_member, after_move, after_turn, is_drawn, majority, met_by, next_drained, next_lost, next_move, next_suspicion, next_view}
 use Rattle.rv_laws.proofs.Members.{move_up}
 use Rattle.closing_laws.specs.Quorum.{has}
 use Rattle.closing_laws.specs.Starts.{SavesSucceed, view_after, quorum_after}
 use Rattle.closing_laws.specs.Stops.{ClosingsFindAQuorum}
 use Rattle.closing_laws.proofs.Begun as begun
-use Rattle.closing_laws.proofs.Between.{actors_same}
 use Rattle.closing_laws.proofs.Carrying.{controller_rests}
 use Rattle.closing_laws.proofs.Numbers.{has_here, has_later}
 use Rattle.closing_laws.proofs.Taking.{at, own_steps, took_saved}
@@ -140,7 +137,7 @@ module _ {B : Type 0} (scene : Scene B) (results : List (List SaveResult)) where
           (is_up (at scene results c P).now.vr ≡ true → is_up (at scene results c (e ∷ P)).now.vr ≡ true) × ((at scene results c P).saves ≤ (at scene results c (e ∷ P)).saves)
       by_actor true mine =
           subst (λ (t : ControllerAt). (is_up (at scene results c P).now.vr ≡ true → is_up t.now.vr ≡ true) × ((at scene results c P).saves ≤ t.saves))
-          (sym (own_steps scene results c e P (actors_same (actor_of e) (actor.Controller c) mine)))
+          (sym (own_steps scene results c e P (same_actor-true (actor_of e) (actor.Controller c) mine)))
           (own c e P calm (drawn e P) (λ i low. succeed c i there low))
       by_actor false other =
           subst (λ (t : ControllerAt). (is_up (at scene results c P).now.vr ≡ true → is_up t.now.vr ≡ true) × ((at scene results c P).saves ≤ t.saves))

@@ -1,34 +1,32 @@
 -- Where nothing is on its way once a view has started, all is done: what the primary has is committed, each event that it has is
 -- processed, and each switch holds nothing.
-use Rattle.std.proofs.Common.{◌≡◌, ◌≤◌, ◌<◌, ◌⊎◌, inl, inr, ℕ, zero, suc, ◌+◌, ◌-◌, ◌%◌, min, Bool, true, false, List, [], ◌∷◌, ◌++◌, map, length, take, drop, refl, sym, ◌∙◌, ap, subst, arith}
-use Rattle.std.specs.Prelude.{nat_eq, nat_le, nat_lt, not, ◌&&◌, filter, count_by, slice_get, slice_index, Option, Some, None, if◌then◌else◌}
-use Rattle.std.proofs.lemmas.Bool.{cases_lt, eq-eqb, le-leb, lt-ltb, le-ltb, ltb-true, ltb-false, not-true, true≢false}
+use Rattle.std.proofs.Common.{◌≡◌, ◌≤◌, ◌<◌, ◌⊎◌, inl, inr, ℕ, zero, suc, ◌+◌, ◌-◌, ◌%◌, Bool, true, false, List, [], ◌∷◌, length, take, drop, refl, sym, ◌∙◌, ap, subst, arith}
+use Rattle.std.specs.Prelude.{nat_eq, nat_le, not, ◌&&◌, slice_index, if◌then◌else◌}
+use Rattle.std.proofs.lemmas.Bool.{cases_lt, eq-eqb, le-leb, lt-ltb, ltb-false, true≢false, not-true, and_parts}
+use Rattle.std.proofs.lemmas.List.{take_all, nil_from_length}
 use Rattle.of_types.specs.declared.message.Event.{Event}
 use Rattle.of_types.specs.declared.message.Order.{Order}
 use Rattle.of_types.specs.declared.setup.Setup.{Setup}
 use Rattle.of_types.specs.Lives.{count_in, has_ended, life_in}
 use Rattle.lists.specs.Lists.{IsIn}
 use Rattle.lists.proofs.Elements.{in_filter, filter_passes, in_take}
-use Rattle.vr_log.specs.declared.entry.Entry.{Entry}
 use Rattle.vr_log.specs.declared.state.VrState.{VrState}
 use Rattle.vr_log.specs.Log.{received, processed}
-use Rattle.two_stage_log.specs.Counts.{has_unprocessed, processed_of}
+use Rattle.two_stage_log.specs.Counts.{has_unprocessed}
 use Rattle.app_core.specs.declared.issued.Issued.{Issued}
 use Rattle.app_core.specs.Chain.{concat}
 use Rattle.app_core.specs.Issued.{commands_of, count_issued, issued, issues}
-use Rattle.controller_laws.proofs.Issued.{IsBetween, command_between, count-orders, issued-take}
+use Rattle.controller_laws.proofs.Issued.{command_between, count-orders, issued-take}
 use Rattle.controller_laws.proofs.Logs.{ended_by}
 use Rattle.event_buffer.specs.Buffer.{next_number}
 use Rattle.of_switch.specs.State.{SwitchState, events_in, life_of}
 use Rattle.dispatcher.specs.Marks.{has_result, is_confirmed, is_finished, is_wanted, settled_commands, wanted}
 use Rattle.group_controller.specs.State.{ControllerState, committed}
-use Rattle.group_controller.specs.Settling.{is_settled, is_untold}
-use Rattle.rv_runs.specs.declared.messages.Message.{Message}
 use Rattle.closing_laws.specs.Quorum.{has}
 use Rattle.closing_laws.specs.Following.{Start, KeepsUp, IsAgreed, Leads}
-use Rattle.closing_laws.specs.Serving.{IsServed, IsSettled, IsTrueOf, IsUnasked, IsAsked, AreTold, AreCommanded, events_told, logged_of, processed_by, sent_of, settled_by, told_by, told_through}
-use Rattle.closing_laws.proofs.CommandsNamed.{IsNamed, command_named}
-use Rattle.closing_laws.proofs.Followers.{rests}
+use Rattle.closing_laws.specs.Serving.{IsServed, IsSettled, IsTrueOf, IsAsked, AreTold, events_told, logged_of, processed_by, sent_of, settled_by, told_by, told_through}
+use Rattle.closing_laws.proofs.CommandsNamed.{command_named}
+use Rattle.closing_laws.proofs.Followers.{rests, drop_none}
 
 -- all of the primary's log is committed
 pub all_committed : (start : Start) (p : VrState) → Leads start p → p.me ≡ p.view % p.controllers → p.me < p.controllers → (quorum : List ℕ) → IsAgreed p quorum → (members : ℕ → VrState) →
@@ -50,25 +48,6 @@ take_some : {A : Type 0} (n : ℕ) (xs : List A) → 0 < n → take n xs ≡ [] 
 take_some zero xs some h = absurd (omega (arith, some))
 take_some (suc n) [] some h = refl
 take_some (suc n) (x ∷ xs) some h = cc
-
-drop_past : {A : Type 0} (n : ℕ) (xs : List A) → drop n xs ≡ [] → length xs ≤ n
-drop_past n [] h = omega arith
-drop_past zero (x ∷ xs) h = cc
-drop_past (suc n) (x ∷ xs) h = let low = drop_past n xs h in omega (arith, low)
-
-get_first : {A : Type 0} (xs : List A) → 0 < length xs → (x : A) × (slice_get xs 0 ≡ Some x)
-get_first [] some = absurd (omega (arith, some))
-get_first (x ∷ xs) some = (x, refl)
-
-not_both : (b : Bool) → not b ≡ true → b ≡ false
-not_both true e = cc
-not_both false e = refl
-
-take_all : {A : Type 0} (n : ℕ) (xs : List A) → length xs ≤ n → take n xs ≡ xs
-take_all zero [] le = refl
-take_all zero (x ∷ xs) le = absurd (omega (arith, le))
-take_all (suc n) [] le = refl
-take_all (suc n) (x ∷ xs) le = ap (λ (l : List _). x ∷ l) (take_all n xs (omega (arith, le)))
 
 module _ (kinds : List ℕ) (setup : Setup) (c : ControllerState) (all : committed c ≡ c.vr.log) (settled : IsSettled kinds setup c) where
   -- what is issued to a life for the first events
@@ -95,7 +74,7 @@ module _ (kinds : List ℕ) (setup : Setup) (c : ControllerState) (all : committ
       | inl more ↦
           let n : ℕ = sent_of sw - logged_of c s sw in
           let none = take_some n (drop (logged_of c s sw) (events_in sw (life_of sw))) (omega (arith, more)) (sym asked.1.coming) in
-          let past = drop_past (logged_of c s sw) (events_in sw (life_of sw)) none in
+          let past = drop_none (logged_of c s sw) (events_in sw (life_of sw)) none in
           let next = t.next in
           omega (arith, past, next, more)
     ]
@@ -140,8 +119,8 @@ module _ (kinds : List ℕ) (setup : Setup) (c : ControllerState) (all : committ
         let of_event = in_filter (is_wanted (committed c) c.marks) (commands_of kinds setup es place) x among in
         let at = command_between kinds setup es place x of_event in
         let named = command_named kinds setup es place x of_event in
-        let parts = and_both (not (has_result c.marks x.switch x.life x.number)) (not (has_ended x.switch x.life es)) chosen in
-        let goes_on = not_both (has_ended x.switch x.life es) parts.1 in
+        let parts = and_parts (not (has_result c.marks x.switch x.life x.number)) (not (has_ended x.switch x.life es)) chosen in
+        let goes_on = not-true (has_ended x.switch x.life es) parts.1 in
         let there = named.there in
         let now : life_in x.switch es ≡ life_of (switches x.switch) = ap (life_in x.switch) same_events ∙ present x.switch (switches x.switch) (served x.switch there) (true_of x.switch there) in
         let least : life_of (switches x.switch) ≤ x.life = (let low = ltb-false x.life (life_in x.switch es) goes_on in omega (arith, low, now)) in
@@ -149,13 +128,8 @@ module _ (kinds : List ℕ) (setup : Setup) (c : ControllerState) (all : committ
         let own : x.life ≡ life_of (switches x.switch) = omega (arith, least, most) in
         let marked = all_marked x.switch (switches x.switch) (served x.switch there) (true_of x.switch there) x.number
         (from_settled x own at.least) (to_told x own at.most) in
-        true≢false (sym marked ∙ ap (λ (l : ℕ). has_result c.marks x.switch l x.number) (sym own) ∙ not_both (has_result c.marks x.switch x.life x.number) parts.0)
+        true≢false (sym marked ∙ ap (λ (l : ℕ). has_result c.marks x.switch l x.number) (sym own) ∙ not-true (has_result c.marks x.switch x.life x.number) parts.0)
       where
-        and_both : (a b : Bool) → (a && b) ≡ true → (a ≡ true) × (b ≡ true)
-        and_both true true e = (refl, refl)
-        and_both true false e = cc
-        and_both false b e = cc
-
         at_most : (x : Issued) (front : List Event) → x.life ≡ life_in x.switch front → x.switch < length setup.ports → ((e : Event) → IsIn e front → e.switch ≡ x.switch → e.life ≤ life_of (switches x.switch)) → x.life ≤ life_of (switches x.switch)
         at_most x front is there each = elim (cases_lt (life_of (switches x.switch)) (life_in x.switch front)) [
           | inr le ↦ omega (arith, is, le)
@@ -220,11 +194,7 @@ module _ (kinds : List ℕ) (setup : Setup) (c : ControllerState) (all : committ
           omega (arith, left, same, sent, low)
 
       pub held_none : sw.buffer.held ≡ []
-      held_none = none_held sw.buffer.held (let same = cleared_is in omega (arith, same))
-        where
-          none_held : (es : List Event) → length es ≡ 0 → es ≡ []
-          none_held [] e = refl
-          none_held (x ∷ es) e = absurd (omega (arith, e))
+      held_none = nil_from_length sw.buffer.held (let same = cleared_is in omega (arith, same))
 
       pub dirty_none : sw.buffer.dirty ≡ []
       dirty_none = none_dirty sw.buffer.dirty t.remembered

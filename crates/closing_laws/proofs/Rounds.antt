@@ -1,7 +1,9 @@
 -- All that the members of a quorum said as they suspected is drained.
 use Rattle.std.proofs.Common.{◌≡◌, ◌≤◌, ◌<◌, inl, inr, ℕ, zero, suc, ◌+◌, ◌/◌, ◌%◌, Bool, true, false, List, [], ◌∷◌, ◌++◌, length, map, refl, sym, ◌∙◌, ap, subst, arith, append-nil, append_assoc}
 use Rattle.std.specs.Prelude.{not, nat_eq, ◌&&◌, ◌||◌, filter, if◌then◌else◌}
-use Rattle.std.proofs.lemmas.Bool.{eq-eqb, ne_eqb, eqb-true, eqb-false, or_parts, or_cases, or_left, or_right, true≢false, cases_lt}
+use Rattle.std.proofs.lemmas.Bool.{eq-eqb, ne_eqb, eqb-true, eqb-false, or_parts, or_cases, or_left, or_right, true≢false, cases_lt, both_ways}
+use Rattle.std.proofs.lemmas.List.{map-append}
+use Rattle.std.proofs.Math.Bool.{and-true}
 use Rattle.vr_log.specs.declared.state.VrState.{VrState}
 use Rattle.vr_log.specs.Members.{others_below}
 use Rattle.of_types.specs.SmallSets.{with_number}
@@ -10,8 +12,8 @@ use Rattle.closing_laws.specs.Draining.{Flight, Group}
 use Rattle.closing_laws.specs.Views.{IsMember, behind, last_first}
 use Rattle.closing_laws.proofs.Words.{call, log_sent, all_calls, all_packets, times}
 use Rattle.closing_laws.proofs.Picked.{IsPicked}
-use Rattle.closing_laws.proofs.Numbers.{Once, has_here, has_later, has_append, no_both, filter_once, filter_twice, filter_on, filter_no, others_all, others_but_one, with_none, with_length, below_has, below_once, below_others}
-use Rattle.closing_laws.proofs.Calls.{After, after_on, after_is, after_count, held, held_same, told, tells_now, calls_drained, map_append}
+use Rattle.closing_laws.proofs.Numbers.{Once, has_here, has_later, has_append, filter_once, filter_twice, filter_on, filter_no, others_all, others_but_one, with_none, with_length, below_has, below_once, below_others}
+use Rattle.closing_laws.proofs.Calls.{After, after_on, after_is, after_count, held, held_same, told, tells_now, calls_drained, one_more}
 
 -- turned lists
 pub behind_has : (turned xs : List ℕ) (j : ℕ) → has (behind turned xs) j ≡ (has turned j || has xs j)
@@ -31,7 +33,7 @@ behind_back (c ∷ turned) xs once = (behind_back turned (c ∷ xs) once).1
 pub behind_apart : (turned xs : List ℕ) (c : ℕ) → Once (behind turned xs) → has turned c ≡ true → has xs c ≡ true → ⊥
 behind_apart [] xs c once h k = true≢false (sym h)
 behind_apart (d ∷ turned) xs c once h k = elim (or_cases (nat_eq d c) (has turned c) h) [
-  | inl e ↦ no_both (has xs d) (ap (has xs) (eqb-true d c e) ∙ k) (behind_back turned (d ∷ xs) once).0
+  | inl e ↦ both_ways (has xs d) (behind_back turned (d ∷ xs) once).0 (ap (has xs) (eqb-true d c e) ∙ k)
   | inr i ↦ behind_apart turned (d ∷ xs) c once i (has_later d c xs k)
 ]
 
@@ -59,7 +61,7 @@ pub behind_is_once : (turned xs : List ℕ) → Once turned → Once xs → ((j 
 behind_is_once [] xs a b apart = b
 behind_is_once (c ∷ turned) xs a b apart =
     behind_is_once turned (c ∷ xs) a.1 (apart c (has_here c turned), b)
-    (λ j h. let k = apart j (has_later c j turned h) in let other : nat_eq c j ≡ false = ne_eqb c j (λ e. no_both (has turned j) h (ap (has turned) (sym e) ∙ a.0)) in rw (other, k) refl)
+    (λ j h. let k = apart j (has_later c j turned h) in let other : nat_eq c j ≡ false = ne_eqb c j (λ e. both_ways (has turned j) (ap (has turned) (sym e) ∙ a.0) h) in rw (other, k) refl)
 
 pub below_in : (me n j : ℕ) → j < n → nat_eq me j ≡ false → has (others_below me n) j ≡ true
 below_in me zero j less other = absurd (omega (arith, less))
@@ -127,15 +129,11 @@ module _ (n w : ℕ) (quorum : List ℕ) (start : ℕ → VrState) (ready : (j :
   others_count c member =
       let m = ready c member in
       let same : filter (has quorum) (others_below c n) ≡ filter (λ j. not (nat_eq c j)) quorum =
-      filter_on (has quorum) (λ j. has quorum j && true) (others_below c n) (λ j h. plain (has quorum j)) ∙ others_in c (λ j. true) m.small
-      ∙ filter_on (λ j. not (nat_eq c j) && true) (λ j. not (nat_eq c j)) quorum (λ j h. sym (plain (not (nat_eq c j)))) in
+      filter_on (has quorum) (λ j. has quorum j && true) (others_below c n) (λ j h. sym (and-true (has quorum j))) ∙ others_in c (λ j. true) m.small
+      ∙ filter_on (λ j. not (nat_eq c j) && true) (λ j. not (nat_eq c j)) quorum (λ j h. and-true (not (nat_eq c j))) in
       let count = others_but_one c quorum quorum_once member in
       let whole = q.count in
       ap length same ∙ omega (arith, count, whole)
-    where
-      plain : (b : Bool) → b ≡ (b && true)
-      plain true = refl
-      plain false = refl
 
   -- the members told while one caller is heard
   abbrev told_by_call : List ℕ → ℕ → ℕ → Bool
@@ -207,7 +205,7 @@ module _ (n w : ℕ) (quorum : List ℕ) (start : ℕ → VrState) (ready : (j :
           rw (none, same) refl
         where
           not_here : (b : Bool) → has (others_below c n) j ≡ b → b ≡ false
-          not_here true h = absurd (no_both (nat_eq c j) e (below_has c n j h).1)
+          not_here true h = absurd (both_ways (nat_eq c j) (below_has c n j h).1 e)
           not_here false h = refl
       voted_one j false e small =
           let there : has (others_below c n) j ≡ true = below_in c n j small e in
@@ -247,11 +245,11 @@ module _ (n w : ℕ) (quorum : List ℕ) (start : ℕ → VrState) (ready : (j :
       silent (not (nat_eq c j)) (not (nat_eq (w % n) j)) (nat_eq (suc (length (heard_from callers j))) (n / 2)) (ne_eqb (suc (length (heard_from callers j))) (n / 2) (λ e. omega (arith, votes, long, whole, e))))
       ∙ filter_no callers in
       let caller : told_by_call callers c c ≡ false = ap (λ b. not b && (not (nat_eq (w % n) c) && nat_eq (suc (length (heard_from callers c))) (n / 2))) (eq-eqb c c refl) in
-      let apart : nat_eq c l ≡ false = ne_eqb c l (λ e. no_both (has (l ∷ []) c) (ap (has (l ∷ [])) e ∙ has_here l []) back.0) in
+      let apart : nat_eq c l ≡ false = ne_eqb c l (λ e. both_ways (has (l ∷ []) c) back.0 (ap (has (l ∷ [])) e ∙ has_here l [])) in
       let unheard : has callers l ≡ false = absent (has callers l) refl whole_once in
       let votes = heard_all callers l once unheard in
       let all : nat_eq (suc (length (heard_from callers l))) (n / 2) ≡ true = eq-eqb (suc (length (heard_from callers l))) (n / 2) (omega (arith, votes, long, whole)) in
-      let last : told_by_call callers c l ≡ not (nat_eq (w % n) l) = rw (apart, all) (sym (plain (not (nat_eq (w % n) l)))) in
+      let last : told_by_call callers c l ≡ not (nat_eq (w % n) l) = rw (apart, all) (and-true (not (nat_eq (w % n) l))) in
       ap (filter (told_by_call callers c)) split ∙ behind_filter (told_by_call callers c) callers (c ∷ (l ∷ []))
       ∙ ap (λ (xs : List ℕ). behind xs (filter (told_by_call callers c) (c ∷ (l ∷ [])))) first
       ∙ ap (λ (b : Bool). if b then c ∷ filter (told_by_call callers c) (l ∷ []) else filter (told_by_call callers c) (l ∷ [])) caller
@@ -261,10 +259,6 @@ module _ (n w : ℕ) (quorum : List ℕ) (start : ℕ → VrState) (ready : (j :
       silent true true d h = h
       silent true false d h = refl
       silent false b d h = refl
-
-      plain : (b : Bool) → b ≡ (b && true)
-      plain true = refl
-      plain false = refl
 
       absent : (b : Bool) → has callers l ≡ b → Once (behind callers (c ∷ (l ∷ []))) → b ≡ false
       absent true e once = absurd (behind_apart callers (c ∷ (l ∷ [])) l once e (has_later c l (l ∷ []) (has_here l [])))
@@ -282,15 +276,11 @@ module _ (n w : ℕ) (quorum : List ℕ) (start : ℕ → VrState) (ready : (j :
       let votes = heard_others callers j once h in
       let apart : nat_eq c j ≡ false = ne_eqb c j (λ e. behind_apart callers (c ∷ []) j whole_once h (ap (λ x. has (x ∷ []) j) e ∙ has_here j [])) in
       let all : nat_eq (suc (length (heard_from callers j))) (n / 2) ≡ true = eq-eqb (suc (length (heard_from callers j))) (n / 2) (omega (arith, votes, long, whole)) in
-      rw (apart, all) (sym (plain (not (nat_eq (w % n) j))))) in
+      rw (apart, all) (and-true (not (nat_eq (w % n) j)))) in
       let caller : told_by_call callers c c ≡ false = ap (λ b. not b && (not (nat_eq (w % n) c) && nat_eq (suc (length (heard_from callers c))) (n / 2))) (eq-eqb c c refl) in
       ap (filter (told_by_call callers c)) split ∙ behind_filter (told_by_call callers c) callers (c ∷ [])
       ∙ ap (λ (xs : List ℕ). behind xs (filter (told_by_call callers c) (c ∷ []))) first
       ∙ ap (λ (b : Bool). behind (filter (λ j. not (nat_eq (w % n) j)) callers) (if b then c ∷ [] else [])) caller
-    where
-      plain : (b : Bool) → b ≡ (b && true)
-      plain true = refl
-      plain false = refl
 
   -- all of them, one caller after another
   pub all_rounds : (todo callers : List ℕ) (at : ℕ → VrState) (turns : ℕ) → quorum ≡ behind callers todo → 1 < length todo →
@@ -313,8 +303,8 @@ module _ (n w : ℕ) (quorum : List ℕ) (start : ℕ → VrState) (ready : (j :
       (append_assoc calls_l [] (map told_it (filter (told_by_call callers c) quorum)) ∙ ap (λ (xs : List ℕ). calls_l ++ map told_it xs) (second_last callers c l split)) refl in
       let joined : rest ++ map told_it (filter (told_by_call (c ∷ callers) l) quorum) ≡ final =
       ap (λ (xs : List ℕ). rest ++ map told_it xs) (very_last (c ∷ callers) l split ∙ sym (behind_filter test (c ∷ callers) []))
-      ∙ sym (map_append told_it (filter test (l ∷ [])) (filter test (behind (c ∷ callers) [])))
-      ∙ ap (map told_it) (one_first (test l) l (filter test (behind (c ∷ callers) []))) in
+      ∙ sym (map-append told_it (filter test (l ∷ [])) (filter test (behind (c ∷ callers) [])))
+      ∙ ap (map told_it) (one_more (test l) l (filter test (behind (c ∷ callers) []))) in
       after_count (length (others_below c n) + length (others_below l n)) (all_packets n (c ∷ (l ∷ []))) quorum (record { at = at; pool = all_calls n w (c ∷ (l ∷ [])); turns = turns })
       (held n w quorum start ready (heard_from (l ∷ (c ∷ callers)))) final (turns + times (n / 2) (c ∷ (l ∷ []))) (omega arith)
       (after_on (length (others_below c n)) (length (others_below l n)) quorum (record { at = at; pool = all_calls n w (c ∷ (l ∷ [])); turns = turns })
@@ -323,10 +313,6 @@ module _ (n w : ℕ) (quorum : List ℕ) (start : ℕ → VrState) (ready : (j :
       (held n w quorum start ready (heard_from (l ∷ (c ∷ callers)))) (held n w quorum start ready (heard_from (l ∷ (c ∷ callers))))
       (rest ++ map told_it (filter (told_by_call (c ∷ callers) l) quorum)) final (k + n / 2) (turns + times (n / 2) (c ∷ (l ∷ [])))
       (one_round (c ∷ callers) [] l found rest k split is) (λ j. refl) joined (omega arith)))
-    where
-      one_first : (b : Bool) (x : ℕ) (xs : List ℕ) → (if b then x ∷ [] else []) ++ xs ≡ (if b then x ∷ xs else xs)
-      one_first true x xs = refl
-      one_first false x xs = refl
   all_rounds (c ∷ (d ∷ (e ∷ later))) callers at turns split more each =
       let told_it : ℕ → Flight = log_sent start w (w % n) in
       let todo : List ℕ = d ∷ (e ∷ later) in

@@ -1,6 +1,6 @@
--- Laws of what messages say: which events, commands, results and replies are among them, and what letters tell an actor.
-use Rattle.std.proofs.Common.{◌≡◌, ℕ, ◌+◌, Bool, true, false, List, [], ◌∷◌, ◌++◌, map, refl, sym, ap, subst, arith, inl, inr}
-use Rattle.std.specs.Prelude.{nat_eq, count_by, if◌then◌else◌}
+-- Laws of what messages say: which events, results and replies are among them, and what letters of switches tell an actor.
+use Rattle.std.proofs.Common.{◌≡◌, ℕ, ◌+◌, Bool, false, List, [], ◌∷◌, ◌++◌, map, refl, sym, ap, subst, arith, inl, inr}
+use Rattle.std.specs.Prelude.{count_by, if◌then◌else◌}
 use Rattle.std.specs.List.{AllByRecursion}
 use Rattle.std.proofs.lemmas.Bool.{eq-eqb}
 use Rattle.std.proofs.lemmas.List.Sums.{sum_by-append, sum_by-cons}
@@ -18,14 +18,10 @@ use Rattle.of_switch.specs.Events.{event_letter}
 use Rattle.rv_runs.specs.declared.messages.Message.{Message}
 use Rattle.rv_runs.specs.declared.messages.Message.TheVariants as message
 use Rattle.rv_runs.specs.States.{switch_message}
-use Rattle.closing_laws.specs.Serving.{IsSaidIn, Tells, commands_said, events_said, is_reply, results_said}
+use Rattle.closing_laws.specs.Serving.{IsSaidIn, Tells, events_said, is_reply, results_said}
 use Rattle.closing_laws.specs.Ways.{told_to}
 
 -- ---- lists one behind the other
-
-pub all_append : {A : Type 0} (P : A → Type 0) (xs ys : List A) → AllByRecursion P xs → AllByRecursion P ys → AllByRecursion P (xs ++ ys)
-all_append P [] ys hx hy = hy
-all_append P (x ∷ xs) ys hx hy = (hx.0, all_append P xs ys hx.1 hy)
 
 pub count_append : {A : Type 0} (p : A → Bool) (xs ys : List A) → count_by p (xs ++ ys) ≡ count_by p xs + count_by p ys
 count_append p xs ys = sum_by-append (λ x. if p x then 1 else 0) xs ys
@@ -43,25 +39,6 @@ pub results_append : (xs ys : List Message) → results_said (xs ++ ys) ≡ resu
 results_append [] ys = refl
 results_append (message.Of xid (spoken.Ravana (extension.CmdAck life number result)) ∷ xs) ys = ap (λ (l : List ℕ). number ∷ l) (results_append xs ys)
 results_append (_ ∷ xs) ys = results_append xs ys
-
-pub commands_append : (life : ℕ) (xs ys : List Message) → commands_said life (xs ++ ys) ≡ commands_said life xs ++ commands_said life ys
-commands_append life [] ys = refl
-commands_append life (message.Of xid (spoken.Ravana (extension.Command l generation number settled what)) ∷ xs) ys = by_test (nat_eq l life) (commands_append life xs ys)
-  where
-    by_test : (b : Bool) → commands_said life (xs ++ ys) ≡ commands_said life xs ++ commands_said life ys →
-        (if b then number ∷ commands_said life (xs ++ ys) else commands_said life (xs ++ ys)) ≡ (if b then number ∷ commands_said life xs else commands_said life xs) ++ commands_said life ys
-    by_test true h = ap (λ (l : List ℕ). number ∷ l) h
-    by_test false h = h
-commands_append life (_ ∷ xs) ys = commands_append life xs ys
-
-pub told_append : {A : Type 0} (says : A → Message) (to : Actor) (xs ys : List (Letter A)) → told_to says to (xs ++ ys) ≡ told_to says to xs ++ told_to says to ys
-told_append says to [] ys = refl
-told_append says to (l ∷ xs) ys = by_test (same_actor l.to to) (told_append says to xs ys)
-  where
-    by_test : (b : Bool) → told_to says to (xs ++ ys) ≡ told_to says to xs ++ told_to says to ys →
-        (if b then says l.body ∷ told_to says to (xs ++ ys) else told_to says to (xs ++ ys)) ≡ (if b then says l.body ∷ told_to says to xs else told_to says to xs) ++ told_to says to ys
-    by_test true h = ap (λ (ms : List Message). says l.body ∷ ms) h
-    by_test false h = h
 
 -- ---- letters of switches
 

@@ -14,8 +14,9 @@ use Rattle.role_fence.specs.Fence.{Fence}
 use Rattle.of_switch.specs.State.{SwitchState, life_of}
 use Rattle.rv_runs.specs.declared.messages.Message.{Message}
 use Rattle.rv_runs.specs.declared.messages.Message.TheVariants as message
+use Rattle.rv_base.proofs.All.{all_append}
 use Rattle.closing_laws.specs.Serving.{AreCommanded, AreTold, AreUntold, IsAsked, IsSaidIn, IsServed, IsUnasked, acknowledges_events, commands_said, events_said, is_reply, is_request, logged_of, processed_by, results_said, told_through}
-use Rattle.closing_laws.proofs.Saying.{all_append, count_cons, events_append, results_append}
+use Rattle.closing_laws.proofs.Saying.{count_cons, events_append, results_append}
 
 -- a switch draws a message that is no command of its life, and tells no result
 pub record Draws (c : ControllerState) (sw sw' : SwitchState) (m : Message) (out told : List Message) : Type 0 where

@@ -11,6 +11,7 @@ use Rattle.rv_base.specs.declared.journal.Actor.{Actor}
 use Rattle.rv_base.specs.declared.journal.Actor.TheVariants as actor
 use Rattle.rv_base.specs.declared.journal.Letter.{Letter}
 use Rattle.rv_base.specs.Actors.{same_actor}
+use Rattle.rv_base.proofs.All.{all_append}
 use Rattle.lists.specs.Lists.{IsIn}
 use Rattle.lists.proofs.Elements.{in_append, in_left, in_right}
 use Rattle.role_fence.specs.Fence.{Fence}
@@ -26,8 +27,9 @@ use Rattle.rv_runs.specs.States.{switch_message}
 use Rattle.closing_laws.specs.Serving.{AreCommanded, IsSaidIn, IsServed, Results, commands_said, events_said, is_reply, is_request, results_said, told_by, told_through}
 use Rattle.closing_laws.specs.Ways.{told_to}
 use Rattle.closing_laws.proofs.CommandTurns.{AfterCommand}
-use Rattle.closing_laws.proofs.Saying.{all_append, count_append, count_cons, results_append, told_append, told_none}
+use Rattle.closing_laws.proofs.Saying.{count_append, count_cons, results_append, told_none}
 use Rattle.closing_laws.proofs.Served.{told_stays}
+use Rattle.closing_laws.proofs.Telling.{told_to-append}
 
 -- the first of numbers in a row
 first_waits : (n next len : ℕ) (rest : List ℕ) → n ∷ rest ≡ range_with_len next len → (n ≡ next) × (0 < len) × (rest ≡ range_with_len (next + 1) (len - 1))
@@ -77,7 +79,7 @@ module _ (kinds : List ℕ) (setup : Setup) (c : ControllerState) (s : ℕ) (sw 
     told_is : told ≡ answer ∷ []
     told_is =
         ap (λ (ls : List (Letter SwitchSays)). told_to switch_message (actor.Controller c.vr.me) ls) after.letters
-        ∙ told_append switch_message (actor.Controller c.vr.me) after.before (letter_of_result c.vr.me (life_of sw) number after.result ∷ [])
+        ∙ told_to-append switch_message (actor.Controller c.vr.me) after.before (letter_of_result c.vr.me (life_of sw) number after.result ∷ [])
         ∙ ap (λ (ms : List Message). ms ++ told_to switch_message (actor.Controller c.vr.me) (letter_of_result c.vr.me (life_of sw) number after.result ∷ []))
         (told_none switch_message (actor.Controller c.vr.me) after.before (λ l among. let to = after.frames l among in ap (λ (a : Actor). same_actor a (actor.Controller c.vr.me)) to.1))
         ∙ ap (λ (b : Bool). if b then answer ∷ [] else []) (eq-eqb c.vr.me c.vr.me refl)

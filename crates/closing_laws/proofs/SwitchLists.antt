@@ -1,8 +1,8 @@
 -- What a switch holds of its present life fits the events that it made: the buffer holds the last of them, and a later life
 -- begins with the event that tells so.
-use Rattle.std.proofs.Common.{◌≡◌, ◌≤◌, ◌<◌, inl, inr, ℕ, ◌+◌, ◌-◌, Bool, true, false, not, List, [], ◌∷◌, ◌++◌, length, drop, refl, sym, ◌∙◌, ap, subst, arith, length-append}
+use Rattle.std.proofs.Common.{◌≡◌, ◌≤◌, ◌<◌, inl, inr, ℕ, ◌+◌, ◌-◌, true, not, List, [], ◌∷◌, ◌++◌, length, drop, refl, sym, ◌∙◌, ap, subst, arith, length-append}
 use Rattle.std.specs.Prelude.{nat_eq, min, max}
-use Rattle.std.proofs.lemmas.Bool.{eq-eqb, ne_eqb, leb-true, leb-false}
+use Rattle.std.proofs.lemmas.Bool.{eq-eqb, ne_eqb, leb-true, both_ways, not-true}
 use Rattle.std.proofs.lemmas.List.{drop-append-le, drop-drop, length-drop}
 use Rattle.of_types.specs.declared.message.Event.{Event}
 use Rattle.of_types.specs.Lives.{is_switch_up}
@@ -84,21 +84,14 @@ ascend_few low high (n ∷ ns) room h = let least = h.0 in let most = h.1 in let
 pub dirty_less : (port : ℕ) (ports dirty : List ℕ) → ((d : ℕ) → IsIn d dirty → IsIn d (port ∷ ports)) → (d : ℕ) → IsIn d (without_number port dirty) → IsIn d ports
 dirty_less port ports dirty h d k =
     elim (h d (in_filter (λ (m : ℕ). not (nat_eq m port)) dirty d k)) [
-      | inl same ↦ absurd (other (nat_eq d port) (eq-eqb d port same) (filter_passes (λ (m : ℕ). not (nat_eq m port)) dirty d k))
+      | inl same ↦ absurd (both_ways (nat_eq d port) (not-true (nat_eq d port) (filter_passes (λ (m : ℕ). not (nat_eq m port)) dirty d k)) (eq-eqb d port same))
       | inr r ↦ r
     ]
-  where
-    other : (b : Bool) → b ≡ true → not b ≡ true → ⊥
-    other true e n = let x : false ≡ true = n in cc
-    other false e n = cc
 
 pub none_dirty : (dirty : List ℕ) → ((d : ℕ) → IsIn d dirty → IsIn d []) → length dirty ≡ 0
 none_dirty [] h = refl
 none_dirty (d ∷ dirty) h = absurd (h d (inl refl))
 
--- a buffer that has room, and one that has none
-pub has_room : (b : Buffer) → is_full b ≡ false → length b.held < most_held
-has_room b h = leb-false most_held (length b.held) h
-
+-- a buffer that has no room
 pub has_none : (b : Buffer) → length b.held ≤ most_held → is_full b ≡ true → length b.held ≡ most_held
 has_none b room h = let all = leb-true most_held (length b.held) h in omega (arith, room, all)

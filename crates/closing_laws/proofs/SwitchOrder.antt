@@ -28,6 +28,7 @@ use Rattle.role_fence.specs.declared.fence.RoleAnswer.{RoleAnswer}
 use Rattle.role_fence.specs.declared.fence.RoleAnswer.TheVariants.{Reply, Stale, BadRole}
 use Rattle.role_fence.specs.Fence.{may_execute, RoleStep, role_step}
 use Rattle.event_buffer.specs.Buffer.{Buffer, cleared_to, highest_port, is_full, most_held, next_event, without_dirty}
+use Rattle.event_buffer.proofs.Numbers.{has_room}
 use Rattle.command_buffer.specs.declared.buffer.Offer.{Offer}
 use Rattle.command_buffer.specs.declared.buffer.Offer.TheVariants.{Execute, Repeat, Ahead, Full}
 use Rattle.command_buffer.specs.Results.{Results, first_kept, offer_of}
@@ -39,7 +40,7 @@ use Rattle.of_switch.specs.Events.{raised, packet_raised, is_down, port_status, 
 use Rattle.of_switch.specs.Forwarding.{is_frame, is_up, targets, sends_to, puts_out, puts_all, packet_in, through_row, fields_at, on_frame}
 use Rattle.of_switch.specs.Commands.{done_as, counted, result_of, on_offer, settled, on_command}
 use Rattle.of_switch.specs.Rules.{on_local, on_role, on_plain, on_own_life, life_said, switch_turn}
-use Rattle.closing_laws.proofs.SwitchLists.{AreHeld, held_more, held_first, held_less, ascend_few, dirty_less, none_dirty, has_room, has_none}
+use Rattle.closing_laws.proofs.SwitchLists.{AreHeld, held_more, held_first, held_less, ascend_few, dirty_less, none_dirty, has_none}
 
 -- lists of a switch, which has few ports
 pub record AreInOrder (b : Buffer) (r : Results) (events : List Event) (ports : ℕ) (down : List ℕ) : Type 0 where

@@ -1,9 +1,9 @@
 -- What a primary's log tells of a switch, where what is decided begins the log: events of the switch stand there in their order,
 -- none of a later life, what left its buffer is among them, and what is settled it has carried out.
 use Rattle.std.proofs.Common.{◌≡◌, ◌≤◌, ◌<◌, inl, inr, ℕ, zero, suc, ◌+◌, true, List, [], ◌∷◌, ◌++◌, length, take, drop, refl, sym, ◌∙◌, ap, subst, arith, take-append-drop}
-use Rattle.std.specs.Prelude.{slice_get, slice_index, Some}
+use Rattle.std.specs.Prelude.{slice_get, Some}
 use Rattle.std.proofs.lemmas.Bool.{cases_lt}
-use Rattle.std.proofs.lemmas.List.{length-take}
+use Rattle.std.proofs.lemmas.List.{length-take, get_or_push}
 use Rattle.std.proofs.lemmas.List.Sums.{length-filter}
 use Rattle.of_types.specs.declared.message.Event.{Event}
 use Rattle.of_types.specs.declared.setup.Setup.{Setup}
@@ -30,13 +30,6 @@ use Rattle.exactly_once.specs.Invariant.{IsSound}
 use Rattle.exactly_once.proofs.ControllerTurns.{life_comes, received_at}
 use Rattle.exactly_once.proofs.Growing.{take_same}
 
--- the last number of a list
-last_at : (xs : List ℕ) (y k : ℕ) → length xs ≡ k → slice_index (xs ++ y ∷ []) k ≡ y
-last_at [] y zero e = refl
-last_at [] y (suc k) e = absurd (omega (arith, e))
-last_at (x ∷ xs) y zero e = absurd (omega (arith, e))
-last_at (x ∷ xs) y (suc k) e = last_at xs y k (omega (arith, e))
-
 -- where a log begins with another, what stands before an entry of it
 seam : {A : Type 0} (xs ys : List A) (y : A) → slice_get (xs ++ y ∷ ys) (length xs) ≡ Some y
 seam [] ys y = refl
@@ -45,6 +38,13 @@ seam (x ∷ xs) ys y = seam xs ys y
 -- no more are processed of a life than are received
 pub processed_received : (log : List Entry) (s l : ℕ) → processed_of log s l ≤ count_in s l (received log)
 processed_received log s l = count_prefix s l (front_prefix (processed log) (received log))
+
+-- what left the buffer of a switch was decided as processed
+pub cleared_decided : (kinds : List ℕ) (setup : Setup) (f : PastFacts) (s : ℕ) (state : SwitchState) → IsSound kinds setup f s state → state.buffer.cleared ≤ processed_of f.decided s (life_of state)
+cleared_decided kinds setup f s state sound =
+    let at = get_or_push state.ended state.buffer.cleared 0 (life_of state) sound.well.lives in
+    let few = sound.dropped (life_of state) in
+    omega (arith, at, few)
 
 module _ (kinds : List ℕ) (setup : Setup) (f : PastFacts) (log : List Entry) (k s : ℕ) (state : SwitchState)
     (valid : is_log log ≡ true)
@@ -64,6 +64,10 @@ module _ (kinds : List ℕ) (setup : Setup) (f : PastFacts) (log : List Entry) (
         let stands = subst (λ (j : ℕ). slice_get (events_of e.life (f.events j)) e.number ≡ Some e) own g.stands in
         let w = (sound.well.made e.life e.number e (get_prefix e.number e (events e.life) stands)).0 in
         omega (arith, w, later)
+
+    -- so a logged one is of the switch's present life, or an earlier one
+    pub event_within : (e : Event) → IsIn e (received log) → e.switch ≡ s → e.life ≤ life_of state
+    event_within e h own = elim (cases_lt (life_of state) e.life) [ inl later ↦ absurd (not_later e (genuine e h) own later) | inr few ↦ few ]
 
     pub life_within : life_in s (received log) ≤ life_of state
     life_within = elim (cases_lt (life_of state) (life_in s (received log))) [
@@ -92,11 +96,10 @@ module _ (kinds : List ℕ) (setup : Setup) (f : PastFacts) (log : List Entry) (
 
     pub cleared_within : state.buffer.cleared ≤ count_in s (life_of state) (received log)
     cleared_within =
-        let at = last_at state.ended state.buffer.cleared (life_of state) sound.well.lives in
-        let few = sound.dropped (life_of state) in
+        let few = cleared_decided kinds setup f s state sound in
         let more = processed_count s (life_of state) begins in
         let all = processed_received log s (life_of state) in
-        omega (arith, at, few, more, all)
+        omega (arith, few, more, all)
 
     -- what is committed is a log, and begins what is decided
     front_valid : is_log (take k log) ≡ true

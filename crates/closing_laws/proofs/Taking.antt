@@ -1,8 +1,9 @@
 -- What one entry of a closing does to the controllers and to what waits.
-use Rattle.std.proofs.Common.{◌≡◌, ◌≤◌, ℕ, ◌+◌, ◌-◌, Bool, true, false, List, [], ◌∷◌, ◌++◌, length, map, take, zero, suc, refl, sym, ◌∙◌, ap, subst, arith}
+use Rattle.std.proofs.Common.{◌≡◌, ◌≤◌, ℕ, ◌+◌, ◌-◌, Bool, true, false, List, [], ◌∷◌, ◌++◌, length, map, suc, refl, sym, ◌∙◌, ap, subst, arith}
 use Rattle.std.specs.Prelude.{nat_eq, ◌&&◌, slice_index_or, Option, Some, None, if◌then◌else◌}
 use Rattle.std.specs.List.{AllByRecursion}
 use Rattle.std.proofs.lemmas.Bool.{and_right, eq-eqb}
+use Rattle.std.proofs.lemmas.List.{take_all}
 use Rattle.of_types.specs.declared.setup.Setup.{Setup}
 use Rattle.rv_base.specs.declared.journal.Actor.{Actor}
 use Rattle.rv_base.specs.declared.journal.Actor.TheVariants as actor
@@ -39,6 +40,7 @@ use Rattle.rv_runs.specs.States.{Scene, IsFaithful, ControllerAt, content, contr
 use Rattle.rv_runs.specs.Legal.{results_of}
 use Rattle.rv_runs.proofs.Pasts.{self_controller}
 use Rattle.closing_laws.specs.Draining.{Flight, flown}
+use Rattle.closing_laws.proofs.Paired.{ArePaired, paired_append}
 
 -- what a member is
 pub changing_up : (s : VrState) → is_changing s ≡ true → is_up s ≡ true
@@ -162,16 +164,10 @@ module _ {B : Type 0} (scene : Scene B) (results : List (List SaveResult)) where
     pub says : content scene.sealing p ≡ unsealed.Message (message.Vr f.message)
 
   abbrev pub AllCarry : List (Packet B) → List Flight → Type 0
-  AllCarry [] [] = Unit {0}
-  AllCarry [] (f ∷ fs) = ⊥
-  AllCarry (p ∷ ps) [] = ⊥
-  AllCarry (p ∷ ps) (f ∷ fs) = Carries p f × AllCarry ps fs
+  AllCarry ps fs = ArePaired Carries ps fs
 
   pub carry_both : (ps qs : List (Packet B)) (fs gs : List Flight) → AllCarry ps fs → AllCarry qs gs → AllCarry (ps ++ qs) (fs ++ gs)
-  carry_both [] qs [] gs a b = b
-  carry_both [] qs (f ∷ fs) gs a b = absurd a
-  carry_both (p ∷ ps) qs [] gs a b = absurd a
-  carry_both (p ∷ ps) qs (f ∷ fs) gs a b = (a.0, carry_both ps qs fs gs a.1 b)
+  carry_both = paired_append Carries
 
   pub record HeadOf (ps : List (Packet B)) (f : Flight) (waiting : List Flight) : Type 0 where
     pub packet : Packet B
@@ -198,16 +194,10 @@ finds_head p rest = rw (eq-eqb p.id p.id refl) refl
 pub leaves_head : {B : Type 0} {high : ℕ} (p : Packet B) (rest : List (Packet B)) {low : ℕ} → Rising high low (p ∷ rest) → without p.id (p ∷ rest) ≡ rest
 leaves_head p rest rises = without-at (p ∷ rest) 0 p rises refl
 
-take_whole : {X : Type 0} (xs : List X) (k : ℕ) → length xs ≤ k → take k xs ≡ xs
-take_whole [] zero le = refl
-take_whole [] (suc k) le = refl
-take_whole (x ∷ xs) zero le = absurd (omega (arith, le))
-take_whole (x ∷ xs) (suc k) le = ap (λ (l : List _). x ∷ l) (take_whole xs k (omega (arith, le)))
-
 length-numbered : {B : Type 0} (n : ℕ) (a : Actor) (letters : List (Letter B)) → length (numbered n a letters) ≡ length letters
 length-numbered n a [] = refl
 length-numbered n a (l ∷ letters) = ap suc (length-numbered (n + 1) a letters)
 
 -- a post that finds room
 pub all_fit : {B : Type 0} (first : ℕ) (a : Actor) (letters : List (Letter B)) (lost : ℕ) → lost ≡ 0 → fitting first a letters lost ≡ numbered first a letters
-all_fit first a letters lost none = take_whole (numbered first a letters) (length letters - lost) (let long = length-numbered first a letters in omega (arith, none, long))
+all_fit first a letters lost none = take_all (length letters - lost) (numbered first a letters) (let long = length-numbered first a letters in omega (arith, none, long))

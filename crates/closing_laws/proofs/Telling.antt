@@ -8,11 +8,11 @@ use Rattle.lists.specs.Lists.{IsIn}
 use Rattle.of_types.specs.declared.message.Extension.TheVariants as extension
 use Rattle.of_types.specs.declared.message.Spoken.TheVariants as spoken
 use Rattle.of_types.specs.declared.setup.Setup.{Setup}
-use Rattle.rv_base.proofs.All.{all_append}
 use Rattle.rv_base.specs.declared.journal.Actor.{Actor}
 use Rattle.rv_base.specs.declared.journal.Actor.TheVariants as actor
 use Rattle.rv_base.specs.declared.journal.Letter.{Letter}
 use Rattle.rv_base.specs.Actors.{same_actor}
+use Rattle.rv_base.proofs.All.{all_append}
 use Rattle.vr_log.specs.declared.entry.Entry.{Entry}
 use Rattle.vr_log.specs.declared.message.VrLetter.{VrLetter}
 use Rattle.app_core.specs.declared.issued.Issued.{Issued}
@@ -100,12 +100,6 @@ members_told t (l ∷ ls) = members_told t ls
 abbrev pub numbers_in : ℕ → ℕ → List Issued → List ℕ
 numbers_in s life [] = []
 numbers_in s life (x ∷ xs) = if nat_eq x.switch s && nat_eq x.life life then x.number ∷ numbers_in s life xs else numbers_in s life xs
-
-pub numbers_in-append : (s life : ℕ) (xs ys : List Issued) → numbers_in s life (xs ++ ys) ≡ numbers_in s life xs ++ numbers_in s life ys
-numbers_in-append s life [] ys = refl
-numbers_in-append s life (x ∷ xs) ys =
-    ap (λ (z : List ℕ). if nat_eq x.switch s && nat_eq x.life life then x.number ∷ z else z) (numbers_in-append s life xs ys)
-    ∙ cons_choice (nat_eq x.switch s && nat_eq x.life life) x.number (numbers_in s life xs) (numbers_in s life ys)
 
 -- a test keeps none or all of these for a life of a switch
 pub numbers_none : (s life : ℕ) (p : Issued → Bool) (xs : List Issued) → ((x : Issued) → IsIn x xs → x.switch ≡ s → x.life ≡ life → p x ≡ false) → numbers_in s life (filter p xs) ≡ []

@@ -1,8 +1,9 @@
 -- The members of a quorum suspect a view, and it starts.
 use Rattle.std.proofs.Common.{◌≡◌, ◌≤◌, ◌<◌, ◌⊎◌, inl, inr, ℕ, ◌+◌, ◌/◌, ◌%◌, Bool, true, false, List, [], ◌∷◌, ◌++◌, length, map, take, drop, refl, sym, ◌∙◌, ap, subst, arith, append-nil, append_assoc}
 use Rattle.std.specs.Prelude.{not, nat_eq, nat_le, ◌&&◌, ◌||◌, max, Some, None, if◌then◌else◌}
-use Rattle.std.proofs.lemmas.Bool.{eq-eqb, ne_eqb, eqb-true, eqb-false, le-leb, lt-leb, ltb-true, ltb-false, or_left, or_right, or_cases, or_parts, and_right, true≢false, cases_lt}
+use Rattle.std.proofs.lemmas.Bool.{eq-eqb, ne_eqb, eqb-true, eqb-false, le-leb, lt-leb, ltb-true, ltb-false, or_left, or_right, or_cases, or_parts, and_right, true≢false, cases_lt, both_ways, not-true}
 use Rattle.std.proofs.lemmas.List.{length-map, length-take-le, length-drop}
+use Rattle.std.proofs.Math.Bool.{or-false, or-true, or_assoc}
 use Rattle.vr_log.specs.declared.entry.Entry.{Entry}
 use Rattle.vr_log.specs.declared.message.VrLetter.{VrLetter}
 use Rattle.vr_log.specs.declared.message.VrMessage.{VrMessage}
@@ -12,6 +13,7 @@ use Rattle.vr_log.specs.declared.state.VrState.{VrState}
 use Rattle.vr_log.specs.Members.{is_up, is_changing, others_below}
 use Rattle.vr_log.specs.Steps.{VrStep, guarded, is_sound, sends, letter, to_others}
 use Rattle.vr_log.specs.Choosing.{best_of, least_commit, greatest_commit, is_better}
+use Rattle.vr_log.proofs.Equal.{entries_same}
 use Rattle.view_change.specs.Entering.{check, own_log, started, view_start}
 use Rattle.vr_core.specs.declared.input.VrInput.TheVariants as vr_input
 use Rattle.vr_core.specs.Step.{vr_step}
@@ -20,8 +22,8 @@ use Rattle.closing_laws.specs.Draining.{Flight, Group, flown, put, took, drains,
 use Rattle.closing_laws.specs.Views.{IsMember, in_view, voting, log_of, behind, last_first, tellers, lacks, HasBest, HasStarted, IsCovered}
 use Rattle.closing_laws.proofs.Words.{call, all_calls, all_packets, times, log_sent, IsChosen}
 use Rattle.closing_laws.proofs.Picked.{IsPicked, picked_of_quorum}
-use Rattle.closing_laws.proofs.Members.{suspects, guard_open, sound_here, entries_same}
-use Rattle.closing_laws.proofs.Numbers.{Once, has_here, has_later, no_both, filter_has, filter_in, filter_once, others_but_one}
+use Rattle.closing_laws.proofs.Members.{suspects, guard_open, sound_here}
+use Rattle.closing_laws.proofs.Numbers.{Once, has_here, has_later, filter_has, filter_in, filter_once, others_but_one}
 use Rattle.closing_laws.proofs.Calls.{After, AreChanging, after_on, after_first, one_drawn, held}
 use Rattle.closing_laws.proofs.Turns.{turns_are}
 use Rattle.closing_laws.proofs.Paths.{IsLast, Path, Suspects, of_drains}
@@ -93,11 +95,7 @@ module _ (n w : ℕ) (quorum : List ℕ) (start : ℕ → VrState) (ready : (j :
   bs_member : (j : ℕ) → has bs j ≡ true → (has quorum j ≡ true) × (nat_eq (w % n) j ≡ false)
   bs_member j h =
       let r = filter_has (λ x. not (nat_eq (w % n) x)) (last_first [] quorum) j h in
-      (sym (last_has [] quorum j) ∙ r.0, not_true (nat_eq (w % n) j) r.1)
-    where
-      not_true : (b : Bool) → not b ≡ true → b ≡ false
-      not_true true e = absurd (true≢false (sym e))
-      not_true false e = refl
+      (sym (last_has [] quorum j) ∙ r.0, not-true (nat_eq (w % n) j) r.1)
 
   bs_count : length bs ≡ n / 2
   bs_count =
@@ -350,12 +348,8 @@ module _ (n w : ℕ) (quorum : List ℕ) (start : ℕ → VrState) (ready : (j :
       record {
         found = at;
         is = ap (λ (l : List Flight). record { at = at; pool = l; turns = turns }) (sym (append-nil pool)) ∙ ap (λ (k : ℕ). record { at = at; pool = pool ++ []; turns = k }) (omega arith);
-        each = λ j. each j ∙ ap (λ (b : Bool). if b then in_view (start j) w [] false [] None else start j) (or_nothing (seen j));
+        each = λ j. each j ∙ ap (λ (b : Bool). if b then in_view (start j) w [] false [] None else start j) (sym (or-false (seen j)));
       }
-    where
-      or_nothing : (b : Bool) → b ≡ (b || false)
-      or_nothing true = refl
-      or_nothing false = refl
   all_suspect (c ∷ cs) seen at pool turns each once fresh =
       let f = fresh c (has_here c cs) in
       let m = ready c f.1 in
@@ -372,35 +366,23 @@ module _ (n w : ℕ) (quorum : List ℕ) (start : ℕ → VrState) (ready : (j :
       ∙ ap (λ (l : List Flight). record { at = put at c (in_view s w [] false [] None); pool = pool ++ l; turns = turns + 1 }) said in
       let rest = all_suspect cs (λ j. seen j || nat_eq c j) (put at c (in_view s w [] false [] None)) (pool ++ map (call w c) (others_below c n)) (turns + 1)
       (λ j. placed j (nat_eq j c) refl) once.1
-      (λ j h. let r = fresh j (has_later c j cs h) in (ap (λ (b : Bool). b || nat_eq c j) r.0 ∙ ne_eqb c j (λ e. no_both (has cs j) h (ap (has cs) (sym e) ∙ once.0)), r.1)) in
+      (λ j h. let r = fresh j (has_later c j cs h) in (ap (λ (b : Bool). b || nat_eq c j) r.0 ∙ ne_eqb c j (λ e. both_ways (has cs j) (ap (has cs) (sym e) ∙ once.0) h), r.1)) in
       record {
         found = rest.found;
         is = ap (λ (g : Group). all_suspected g w cs) next ∙ rest.is
             ∙ ap (λ (l : List Flight). record { at = rest.found; pool = l; turns = turns + 1 + length cs }) (append_assoc pool (map (call w c) (others_below c n)) (all_calls n w cs))
             ∙ ap (λ (k : ℕ). record { at = rest.found; pool = pool ++ all_calls n w (c ∷ cs); turns = k }) (omega arith);
-        each = λ j. rest.each j ∙ ap (λ (b : Bool). if b then in_view (start j) w [] false [] None else start j) (or_on (seen j) (nat_eq c j) (has cs j));
+        each = λ j. rest.each j ∙ ap (λ (b : Bool). if b then in_view (start j) w [] false [] None else start j) (or_assoc (seen j) (nat_eq c j) (has cs j));
       }
     where
-      or_on : (a b d : Bool) → ((a || b) || d) ≡ (a || (b || d))
-      or_on true b d = refl
-      or_on false b d = refl
-
-      or_true : (b : Bool) → (b || true) ≡ true
-      or_true true = refl
-      or_true false = refl
-
-      or_false : (b : Bool) → b ≡ (b || false)
-      or_false true = refl
-      or_false false = refl
-
       placed : (j : ℕ) (b : Bool) → nat_eq j c ≡ b → (if b then in_view (start c) w [] false [] None else at j) ≡ entering (λ x. seen x || nat_eq c x) j
       placed j true e =
           let same : j ≡ c = eqb-true j c e in
           subst (λ (k : ℕ). in_view (start c) w [] false [] None ≡ entering (λ x. seen x || nat_eq c x) k) (sym same)
-          (ap (λ (b : Bool). if b then in_view (start c) w [] false [] None else start c) (sym (ap (λ (b : Bool). seen c || b) (eq-eqb c c refl) ∙ or_true (seen c))))
+          (ap (λ (b : Bool). if b then in_view (start c) w [] false [] None else start c) (sym (ap (λ (b : Bool). seen c || b) (eq-eqb c c refl) ∙ or-true (seen c))))
       placed j false e =
           each j ∙ ap (λ (b : Bool). if b then in_view (start j) w [] false [] None else start j)
-          (or_false (seen j) ∙ ap (λ (b : Bool). seen j || b) (sym (ne_eqb c j (λ i. eqb-false j c e (sym i)))))
+          (sym (or-false (seen j)) ∙ ap (λ (b : Bool). seen j || b) (sym (ne_eqb c j (λ i. eqb-false j c e (sym i)))))
 
   -- a member that has entered has no votes yet
   none_yet : (j : ℕ) → entering (has quorum) j ≡ held n w quorum start ready (heard_from []) j
@@ -448,7 +430,7 @@ module _ (n w : ℕ) (quorum : List ℕ) (start : ℕ → VrState) (ready : (j :
       )
     where
       not_leader : (j : ℕ) → has quorum j ≡ false → nat_eq j (w % n) ≡ false
-      not_leader j out = ne_eqb j (w % n) (λ e. no_both (has quorum (w % n)) q.primary (ap (has quorum) (sym e) ∙ out))
+      not_leader j out = ne_eqb j (w % n) (λ e. both_ways (has quorum (w % n)) (ap (has quorum) (sym e) ∙ out) q.primary)
 
   -- how the members come there, once they have entered the view
   pub path : (z : Group) × Path w quorum z [] (all_suspected (resting start) w quorum) × IsLast n w quorum start best z
@@ -480,7 +462,7 @@ module _ (n w : ℕ) (quorum : List ℕ) (start : ℕ → VrState) (ready : (j :
       )
     where
       no_leader : (j : ℕ) → has quorum j ≡ false → nat_eq j (w % n) ≡ false
-      no_leader j out = ne_eqb j (w % n) (λ e. no_both (has quorum (w % n)) q.primary (ap (has quorum) (sym e) ∙ out))
+      no_leader j out = ne_eqb j (w % n) (λ e. both_ways (has quorum (w % n)) (ap (has quorum) (sym e) ∙ out) q.primary)
 
       each_before : (k : ℕ) (g : Group) (t : ℕ) → (e : Ending k g t) → (i : ℕ) → i ≤ k → AreChanging quorum (drains i quorum g).at
       each_before k g t e i le = elim (cases_lt i k) [
@@ -502,7 +484,7 @@ module _ (n w : ℕ) (quorum : List ℕ) (start : ℕ → VrState) (ready : (j :
   still_fresh : (c : ℕ) (cs : List ℕ) (g : Group) → Once (c ∷ cs) → Fresh (c ∷ cs) g → Fresh cs (suspected g w c)
   still_fresh c cs g once fresh j h =
       let r = fresh j (has_later c j cs h) in
-      (ap (λ (b : Bool). if b then (vr_step (g.at c) (vr_input.Suspect w)).state else g.at j) (ne_eqb j c (λ e. no_both (has cs j) h (ap (has cs) e ∙ once.0))) ∙ r.0, r.1)
+      (ap (λ (b : Bool). if b then (vr_step (g.at c) (vr_input.Suspect w)).state else g.at j) (ne_eqb j c (λ e. both_ways (has cs j) (ap (has cs) e ∙ once.0) h)) ∙ r.0, r.1)
 
   pub suspects_path : (z : Group) (cs : List ℕ) (g : Group) → Once cs → Fresh cs g → Path w quorum z [] (all_suspected g w cs) → Path w quorum z cs g
   suspects_path z [] g once fresh rest = rest
@@ -532,7 +514,7 @@ module _ (n w : ℕ) (quorum : List ℕ) (start : ℕ → VrState) (ready : (j :
           (untouched cs (suspected g w c) c once.0
           ∙ ap (λ (b : Bool). if b then (vr_step (g.at c) (vr_input.Suspect w)).state else g.at c) (eq-eqb c c refl)
           ∙ ap (λ (s : VrState). (vr_step s (vr_input.Suspect w)).state) f.0 ∙ ap (λ (x : VrStep). x.state) (does_enter c f.1))
-      by_first false e rest = rest (elim (or_cases (nat_eq c j) (has cs j) h) [ inl i ↦ absurd (no_both (nat_eq c j) i e) | inr k ↦ k ])
+      by_first false e rest = rest (elim (or_cases (nat_eq c j) (has cs j) h) [ inl i ↦ absurd (both_ways (nat_eq c j) e i) | inr k ↦ k ])
 
 pub suspicion_turns : (w : ℕ) (cs : List ℕ) (g : Group) → (all_suspected g w cs).turns ≡ g.turns + length cs
 suspicion_turns w [] g = omega arith

@@ -52,7 +52,8 @@ use Rattle.closing_laws.specs.Views.{IsMember, log_of, started_with, tellers}
 use Rattle.closing_laws.specs.Starts.{FindRoom, HasStartedIn, SavesSucceed, starting_turn}
 use Rattle.closing_laws.proofs.Carrying.{letters_read, ordered_may}
 use Rattle.closing_laws.proofs.Paths.{IsLast, Path, Arrives, Suspects, Draws, Loses, hears, path_turns}
-use Rattle.closing_laws.proofs.Taking.{AllCarry, By_message, By_suspicion, HeadOf, TurnOf, all_fit, at, carry_both, changing_leads_not, changing_up, finds_head, head_of, leaves_head, member_work, others_stay, own_steps, posts_carry, quiet_work, starting_work, turn_draw, turn_local}
+use Rattle.closing_laws.proofs.Taking.{AllCarry, By_message, By_suspicion, HeadOf, TurnOf, all_fit, at, carry_both, changing_leads_not, changing_up, finds_head, head_of, leaves_head, member_work, others_stay, own_steps, posts_carry, quiet_work, starting_work, turn_draw, turn_local, Carries}
+use Rattle.closing_laws.proofs.Paired.{paired_none}
 
 -- a past with entries behind it, the oldest first
 abbrev pub later : {B : Type 0} → List (JournalEntry B) → List (JournalEntry B) → List (JournalEntry B)
@@ -63,7 +64,7 @@ pub later_is : {B : Type 0} (P entries : List (JournalEntry B)) → later P entr
 later_is P [] = refl
 later_is P (e ∷ rest) = later_is (e ∷ P) rest ∙ sym (ap (λ (l : List (JournalEntry _)). l ++ P) (reverse-append (e ∷ []) rest) ∙ append_assoc (reverse rest) (e ∷ []) P)
 
-map_none : {X Y : Type 0} (f : X → Y) (xs : List X) → map f xs ≡ [] → xs ≡ []
+pub map_none : {X Y : Type 0} (f : X → Y) (xs : List X) → map f xs ≡ [] → xs ≡ []
 map_none f [] h = refl
 map_none f (x ∷ xs) h = cc
 
@@ -80,9 +81,6 @@ stays w c next up full =
 
 module _ {B : Type 0} (scene : Scene B) (results : List (List SaveResult)) (setup : IsSetup scene.setup) (faithful : IsFaithful scene.sealing) (w : ℕ) (quorum : List ℕ)
     (small : (c : ℕ) → has quorum c ≡ true → c < scene.setup.controllers) (before : List (JournalEntry B)) (succeed : SavesSucceed scene results before) where
-  Past : Type 0
-  Past = List (JournalEntry B)
-
   pub possible_under : (entries P : List (JournalEntry B)) → IsPossible scene results (later P entries) → IsPossible scene results P
   possible_under [] P h = h
   possible_under (e ∷ rest) P h = possible_before scene results e P (possible_under rest (e ∷ P) h)
@@ -549,10 +547,6 @@ module _ {B : Type 0} (scene : Scene B) (results : List (List SaveResult)) (setu
     abbrev last_flight : Flight
     last_flight = record { from = ends.sender; to = w % m; message = ends.message }
 
-    none_carried : (ps : List (Packet B)) → AllCarry scene results ps [] → ps ≡ []
-    none_carried [] h = refl
-    none_carried (p ∷ ps) h = absurd h
-
     -- the first entries bring the view to its start
     pub record Begun (P : List (JournalEntry B)) (entries : List (JournalEntry B)) (last : Phase) : Type 0 where
       pub first : List (JournalEntry B)
@@ -608,7 +602,7 @@ module _ {B : Type 0} (scene : Scene B) (results : List (List SaveResult)) (setu
       }
 
       pool_empty : IsPossible scene results P → pool (start_draw ∷ P) ≡ []
-      pool_empty possible = left_head z last_flight [] P h possible ∙ none_carried h.rest h.others
+      pool_empty possible = left_head z last_flight [] P h possible ∙ paired_none (Carries scene results) h.rest h.others
 
       abbrev phase_then : Phase
       phase_then = after_member w (at scene results (w % m) (start_draw ∷ P)).now (Draining w quorum)

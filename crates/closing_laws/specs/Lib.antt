@@ -6,6 +6,7 @@ pub mod Ways
 pub mod Following
 pub mod Serving
 pub mod Ends
+pub mod Quick
 pub mod Measure
 pub mod Given
 pub mod Stops

@@ -20,7 +20,8 @@ ghost use Rattle.closing_laws.specs.Quorum.{HasAQuorum, HasTheLeastView, IsQuoru
 ghost use Rattle.closing_laws.specs.Draining.{all_suspected, drains, resting};
 ghost use Rattle.closing_laws.specs.Starts.{ViewsStartInTime};
 ghost use Rattle.closing_laws.specs.Ends.{ClosingsRest};
-ghost use Rattle.closing_laws.specs.Stops.{ClosingsFindAQuorum};
+ghost use Rattle.closing_laws.specs.Stops.{ClosingsFindAQuorum, ClosingsMeetLimits};
+ghost use Rattle.closing_laws.specs.Quick.{ClosingsAreQuick};
 ghost use Rattle.closing_laws.specs.Views.{HasBest, HasStarted, IsCovered, IsMember, gathering, in_started, in_view, started_with, vote_letters, voting};
 
 /// Where a majority of a group takes part, the members that a closing takes are a quorum: f + 1 of those that take part,
@@ -122,4 +123,15 @@ pub fn closings_rest<B>()
 /// is its answer only where it began with too few, or a save failed.
 pub fn closings_find_a_quorum<B>()
     ensures { ClosingsFindAQuorum B }
+{}
+
+/// A closing that ends for want of room in a log tells of a controller of its group, whose log is as it tells, and which an
+/// entry more would take past the limits of a log.
+pub fn closings_meet_limits<B>()
+    ensures { ClosingsMeetLimits B }
+{}
+
+/// An attempt of a closing takes no more turns than the bound says, at each moment of it.
+pub fn closings_are_quick<B>()
+    ensures { ClosingsAreQuick B }
 {}

@@ -39,9 +39,12 @@ use Rattle.closing.specs.declared.closed.Closed.TheVariants as closed
 use Rattle.closing.specs.Closing.{HasMajority, answer_of, up_in}
 use Rattle.closing.proofs.Lists.{map_range}
 use Rattle.closing.proofs.Parts.{few_members}
+use Rattle.vr_log.specs.declared.entry.LogFull.{LogFull}
 use Rattle.closing_laws.specs.Ends.{HasRested}
 use Rattle.closing_laws.specs.Given.{given_by}
 use Rattle.closing_laws.specs.Starts.{FindRoom}
+use Rattle.closing_laws.specs.Stops.{IsAtLimit}
+use Rattle.closing_laws.proofs.Limits.{limits_law}
 use Rattle.closing_laws.proofs.Quorate.{quorum_law}
 use Rattle.closing_laws.proofs.Rested.{rest_law}
 use Rattle.dispatcher.specs.Ledger.{most_commands}
@@ -58,7 +61,7 @@ use Rattle.ravana_run.specs.Play.{AreFresh, IfDone, IfReport, StopsAs, ending_by
 use Rattle.ravana_run.proofs.Recorded.{one_record, told_writable}
 use Rattle.ravana_run.specs.declared.ending.Ending.{Ending}
 use Rattle.ravana_run.specs.Ending.{EndsRun}
-use Rattle.ravana_run.specs.Runs.{AreSaved, HasRun, IsCutShort, IsDone, IsLawful, IsLeft, IsRun, IsTheOne, IsUnposted, StableTells, StablesTell, scene_for}
+use Rattle.ravana_run.specs.Runs.{AreSaved, HasRun, IsCutShort, IsDone, IsLawful, IsLeft, IsOverfull, IsRun, IsTheOne, IsUnposted, StableTells, StablesTell, scene_for}
 use Rattle.ravana_run.proofs.Playing.{rest_is, within_journal}
 
 -- of the first stables
@@ -243,6 +246,18 @@ module _ {A W : Type 0} (controls : Controlling A → List ℕ → Type 0) (pair
     ];
   }
 
+  pub is_overfull : (count : ℕ) (limit : LogFull) (played : HasPlayed (scene_in byte_bodies start kinds) scenario.steps count (schedule.Overfull limit) w) → IsOverfull kinds (StablesTell pair faults stables stables_after) scenario limit
+  unfolding has_run
+  is_overfull count limit played =
+      let at = limits_law OfRun Results (past played.front) played.rest limit (subst (λ (l : List (JournalEntry (List ℕ))). IsPossible OfRun Results l) (whole count (schedule.Overfull limit) played) runs.legal.possible)
+      (closes count (schedule.Overfull limit) played) in
+      record {
+        ran = has_run count (schedule.Overfull limit) played;
+        primary = at.0;
+        entry = at.1;
+        full = subst (λ (l : List (JournalEntry (List ℕ))). IsAtLimit OfRun Results l limit at.0 at.1) (sym (whole count (schedule.Overfull limit) played)) at.2;
+      }
+
   pub is_unposted : (bytes letters : ℕ) → IsBegun (scene_in byte_bodies start kinds) Results scenario.steps bytes letters (past w.journal) → IsUnposted kinds (StablesTell pair faults stables stables_after) scenario bytes letters
   is_unposted bytes letters begun = record {
     results = Results;
@@ -272,7 +287,7 @@ module _ {A W : Type 0} (controls : Controlling A → List ℕ → Type 0) (pair
   one_ending (closed.Done primary) count output k played up fits =
       is_done controls pair faults scenario kinds start stables w stables_after begins holds pairs k within count primary output (told_by w (length scenario.steps) count) (told_text output (told_by w (length scenario.steps) count)) played up refl refl fits
   one_ending (closed.NoQuorum up needed) count output k played most fits = is_left controls pair faults scenario kinds start stables w stables_after begins holds pairs k within count up needed played
-  one_ending (closed.Overfull limit) count output k played most fits = has_run controls pair faults scenario kinds start stables w stables_after begins holds pairs k within count (schedule.Overfull limit) played
+  one_ending (closed.Overfull limit) count output k played most fits = is_overfull controls pair faults scenario kinds start stables w stables_after begins holds pairs k within count limit played
 
   ok_ending : {X : Type 0} (closed : Closed) (count : ℕ) (output : Output) (steps : ℕ) (ended : Result Ending X) → steps ≡ length scenario.steps → Kept → HasPlayed (scene_in byte_bodies start kinds) taken count (answer_of closed) w →
       HasMajority closed start.setup.controllers (up_in w.controllers) → IfOk ended (λ e. e ≡ ending_by closed (told_text output (told_by w steps count))) → IfOk ended (λ _. IfDone closed (IfReport output (FitsRecord (told_by w steps count)))) → IfOk ended (λ e. Ends output e)

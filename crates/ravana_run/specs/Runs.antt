@@ -7,6 +7,7 @@ use Rattle.rv_base.specs.declared.journal.SaveResult.TheVariants.{Saved}
 use Rattle.rv_base.specs.declared.journal.Turn.{Turn}
 use Rattle.rv_base.specs.Pool.{past}
 use Rattle.rv_base.specs.Turns.{IsWithinLimits}
+use Rattle.vr_log.specs.declared.entry.Entry.{Entry}
 use Rattle.vr_log.specs.declared.entry.LogFull.{LogFull}
 use Rattle.group_controller.specs.Turns.{pair_in}
 use Rattle.rv_runs.specs.Committed.{controller_state, count_up}
@@ -20,6 +21,7 @@ use Rattle.rv_runs.specs.States.{Scene}
 use Rattle.closing_laws.specs.Ends.{HasRested}
 use Rattle.closing_laws.specs.Given.{given_by}
 use Rattle.closing_laws.specs.Starts.{FindRoom}
+use Rattle.closing_laws.specs.Stops.{IsAtLimit}
 use Rattle.dispatcher.specs.Ledger.{most_commands}
 use Rattle.rv_world.specs.World.{is_failed}
 use Rattle.scenario.specs.declared.scenario.Scenario.{Scenario}
@@ -118,9 +120,13 @@ pub record IsLeft (kinds : List ℕ) (saves : Telling) (scenario : Scenario) (up
   pub ran : HasRun kinds saves scenario (schedule.NoQuorum up needed)
   pub few : AreSaved scenario.setup.controllers ran.results → count_up (scene_for kinds scenario) ran.results (past ran.script) < majority scenario.setup.controllers
 
--- a run that ended since a proposal in the closing found no room in the log
-abbrev pub IsOverfull : List ℕ → Telling → Scenario → LogFull → Type 0
-IsOverfull kinds saves scenario limit = HasRun kinds saves scenario (schedule.Overfull limit)
+-- a run that ended since a proposal in the closing found no room in the log: the log of a controller is as the limit tells, and an
+-- entry more would take it past the limits of a log
+pub record IsOverfull (kinds : List ℕ) (saves : Telling) (scenario : Scenario) (limit : LogFull) : Type 0 where
+  pub ran : HasRun kinds saves scenario (schedule.Overfull limit)
+  pub primary : ℕ
+  pub entry : Entry
+  pub full : IsAtLimit (scene_for kinds scenario) ran.results (past ran.journal) limit primary entry
 
 -- a run that was cut short since an outbox found no room in the journal
 pub record IsUnposted (kinds : List ℕ) (saves : Telling) (scenario : Scenario) (bytes letters : ℕ) : Type 0 where

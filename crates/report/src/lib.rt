@@ -25,5 +25,5 @@ pub use laws::{record_law, report_law};
 pub use reading::read_report;
 pub use record::{Record, Shown, Told};
 pub use report_text::{last_line, text};
-pub use words::{write_newline, write_number, write_word};
+pub use words::{write_actor, write_digits, write_newline, write_number, write_word};
 pub use writing::{WriteFault, write_all, write_report};

@@ -9,7 +9,7 @@ use rv_base::Actor;
 use std::alloc::AllocError;
 
 /// Writes the digits of a number.
-fn write_digits<N: Integer>(out: &mut Octets, n: N) -> Result<(), AllocError>
+pub fn write_digits<N: Integer>(out: &mut Octets, n: N) -> Result<(), AllocError>
     ensures { OnOk result (out.new ≡ out.old ++ N.text n) }
 {
     out.append(Buffer::new().format(n).as_bytes())
@@ -42,6 +42,7 @@ pub fn write_newline(out: &mut Octets) -> Result<(), AllocError>
     out.append(b"\n")
 }
 
+/// Writes a space and the name of an actor: `c` or `s`, and its number.
 #[tactic(auto, unfolding(crate::specs::Report::word, crate::specs::Report::actor_word))]
 pub fn write_actor(out: &mut Octets, actor: Actor) -> Result<(), AllocError>
     ensures { OnOk result (out.new ≡ out.old ++ word (actor_word actor)) }

@@ -1,7 +1,6 @@
 -- In how many turns a closing comes to rest, by what it finds where it begins.
-use Rattle.std.specs.Prelude.{◌≤◌, ℕ, ◌+◌, ◌-◌, ◌*◌, ◌/◌, ◌%◌, max, nat_eq, List, [], ◌∷◌, ◌++◌, length, take, drop, filter, map, sum_by, reverse}
+use Rattle.std.specs.Prelude.{◌≤◌, ℕ, ◌+◌, ◌-◌, ◌*◌, ◌/◌, ◌%◌, max, nat_eq, nat_lt, List, [], ◌∷◌, ◌++◌, length, take, drop, filter, map, sum_by, reverse}
 use Rattle.std.specs.List.{list_any, range_with_len}
-use Rattle.of_types.specs.Lives.{has_ended}
 use Rattle.rv_base.specs.declared.journal.JournalEntry.{JournalEntry}
 use Rattle.rv_base.specs.declared.journal.SaveResult.{SaveResult}
 use Rattle.vr_log.specs.declared.entry.Entry.{Entry}
@@ -9,7 +8,7 @@ use Rattle.vr_log.specs.Log.{received, processed}
 use Rattle.app_core.specs.Chain.{concat}
 use Rattle.app_core.specs.Issued.{issues}
 use Rattle.group_controller.specs.State.{ControllerState}
-use Rattle.of_switch.specs.State.{SwitchState}
+use Rattle.of_switch.specs.State.{SwitchState, life_of}
 use Rattle.rv_runs.specs.States.{Scene}
 use Rattle.rv_runs.specs.Committed.{decided, states_of, switch_state, members_up}
 use Rattle.rv_runs.specs.Schedule.{closing_view, quorum_of, count_turns}
@@ -18,14 +17,15 @@ use Rattle.rv_runs.specs.Schedule.{closing_view, quorum_of, count_turns}
 abbrev pub waiting_at : SwitchState → ℕ
 waiting_at s = length s.buffer.held + length s.buffer.dirty
 
--- the events of lives that are over, received and not processed
-abbrev pub ended_waiting : List Entry → ℕ
-ended_waiting log = length (filter (λ e. has_ended e.switch e.life (received log)) (drop (processed log) (received log)))
+-- the events of lives that are over, received and not processed. A switch may have begun a life that no log tells of yet
+abbrev pub ended_waiting : {B : Type 0} → Scene B → List (JournalEntry B) → List Entry → ℕ
+ended_waiting scene before log =
+    length (filter (λ e. nat_lt e.life (life_of (switch_state scene e.switch before))) (drop (processed log) (received log)))
 
 -- what is still to be logged, or processed
 abbrev pub events_left : {B : Type 0} → Scene B → List (List SaveResult) → List (JournalEntry B) → ℕ
 events_left scene results before =
-    sum_by (λ s. waiting_at (switch_state scene s before)) (range_with_len 0 (length scene.setup.ports)) + ended_waiting (decided scene results before)
+    sum_by (λ s. waiting_at (switch_state scene s before)) (range_with_len 0 (length scene.setup.ports)) + ended_waiting scene before (decided scene results before)
 
 -- the members that close
 abbrev pub closing_members : {B : Type 0} → Scene B → List (List SaveResult) → List (JournalEntry B) → List ControllerState

@@ -1,4 +1,4 @@
-use Rattle.closing_laws.proofs.Bests.{has_best}
+use Rattle.closing_laws.proofs.BestLogs.{has_best}
 use Rattle.closing_laws.proofs.one_log_is_best.Goals as goal
 
 pub returns : goal.returns

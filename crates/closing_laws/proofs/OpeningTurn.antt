@@ -140,13 +140,13 @@ module _ (kinds : List ℕ) (setup : Setup) (few : AreFew kinds setup) (w : ℕ)
   within : leader.commit ≤ length leader.log
   within = (leading.leads_with n w quorum at best picked small ready covered chosen voters).commit
 
-  grown : Grows leader end.state.vr
+  pub grown : Grows leader end.state.vr
   unfolding settling
   grown =
       subst (λ (v : VrState). Grows v (after_finishing kinds setup settled_from).state.vr) kept
       (finishing_grows kinds setup (length (received settled_from.state.vr.log)) settled_from (subst (λ (v : VrState). v.commit ≤ length v.log) (sym kept) within))
 
-  same_commit : 0 < n / 2 → end.state.vr.commit ≡ leader.commit
+  pub same_commit : 0 < n / 2 → end.state.vr.commit ≡ leader.commit
   unfolding settling
   same_commit some =
       several_commit kinds setup (length (received settled_from.state.vr.log)) settled_from

@@ -1,0 +1,303 @@
+//! A drawing as SVG. A number stands behind a space, which the forms of SVG that are used here allow.
+ghost use Rattle.std.specs.Prelude.{◌≤◌, ◌^◌};
+
+use crate::captions::{caption, named};
+use crate::shapes::{Arrow, Band, Carried, Drawing, End, Note};
+use of_types::Octets;
+use report::{write_actor, write_digits, write_number};
+use rv_base::Actor;
+use std::alloc::{AllocError, Global};
+
+/// Where the first lifeline stands, how far apart two of them are, and the room behind the last one.
+const LEFT: u128 = 350;
+
+const SPACING: u128 = 180;
+
+const RIGHT: u128 = 60;
+
+/// How far from its lifeline an arrow turns into the row where it ends.
+const KNEE: u128 = 16;
+
+/// Where the first entry stands, how far apart two entries are, and the room below the last one.
+const TOP: u128 = 100;
+
+const ROW: u128 = 20;
+
+const BOTTOM: u128 = 40;
+
+/// After how many entries the names of the actors are written again.
+const NAMES: usize = 40;
+
+const STYLE: &[u8] = b"\" xmlns=\"http://www.w3.org/2000/svg\">
+<style>
+text{font:11px sans-serif;fill:#222;stroke:#fff;stroke-width:3px;stroke-linejoin:round;paint-order:stroke}
+path{fill:none}.title{font-size:15px}.name{font-weight:bold}.number,.before{text-anchor:end}.number{fill:#888}.note{fill:#a0380c}
+.life{stroke:#bbb}.spoken{stroke:#1f5fa8}.member{stroke:#2e7d32}.frame{stroke:#8a6d00}.unread{stroke:#555}
+.kept{stroke-dasharray:7 3}.lost{stroke-dasharray:2 3;marker-end:url(#cross)}.drawn,.kept{marker-end:url(#head)}
+.cross{stroke:#c00;stroke-width:2}.dot{fill:#222}.even{fill:#f3f6fb}.odd{fill:#fdf3e3}
+</style>
+<defs>
+<marker id=\"head\" viewBox=\"0 0 8 8\" refX=\"8\" refY=\"4\" markerWidth=\"7\" markerHeight=\"7\" orient=\"auto\"><path class=\"dot\" d=\"M0 0 8 4 0 8z\"/></marker>
+<marker id=\"cross\" viewBox=\"-6 -6 12 12\" markerWidth=\"12\" markerHeight=\"12\"><path class=\"cross\" d=\"M-5 -5 5 5M-5 5 5 -5\"/></marker>
+</defs>
+<text class=\"title\" transform=\"translate(20 26)\">entries";
+
+const LEGEND: &[u8] =
+    b"<g transform=\"translate(20 50)\"><path class=\"spoken\" d=\"M0 0H30\"/><text x=\"36\" y=\"4\">OpenFlow</text>
+<path class=\"member\" d=\"M110 0H140\"/><text x=\"146\" y=\"4\">between controllers</text>
+<path class=\"frame\" d=\"M270 0H300\"/><text x=\"306\" y=\"4\">on a link</text>
+<path class=\"kept unread\" d=\"M370 0H400\"/><text x=\"406\" y=\"4\">drawn and stays</text>
+<path class=\"lost unread\" d=\"M510 0H540\"/><text x=\"552\" y=\"4\">lost</text></g>
+";
+
+/// How many lifelines there are.
+fn lifelines(drawing: &Drawing) -> u16 {
+    u16::from(drawing.controllers) + u16::from(drawing.switches)
+}
+
+/// Where an actor's lifeline stands.
+fn column(drawing: &Drawing, actor: Actor) -> u128
+    ensures least { LEFT ≤ result }
+    ensures most { result ≤ 2 ^ 20 }
+{
+    let number = match actor {
+        Actor::Controller(c) => u128::from(c),
+        Actor::Switch(s) => u128::from(drawing.controllers) + u128::from(s),
+    };
+    LEFT + SPACING * number
+}
+
+/// Where an entry stands.
+fn row(place: usize) -> u128
+    ensures least { TOP ≤ result }
+    ensures most { result ≤ 2 ^ 70 }
+{
+    TOP + ROW * place as u128
+}
+
+/// Writes a text of a class up to its words.
+fn begin_text(svg: &mut Octets, class: &[u8], x: u128, y: u128) -> Result<(), AllocError> {
+    svg.append(b"<text class=\"")?;
+    svg.append(class)?;
+    svg.append(b"\" transform=\"translate(")?;
+    write_number(svg, x)?;
+    write_number(svg, y)?;
+    svg.append(b")\">")
+}
+
+fn end_text(svg: &mut Octets) -> Result<(), AllocError> {
+    svg.append(b"</text>\n")
+}
+
+/// Writes the beginning of a path of classes, from a point on.
+fn begin_path(
+    svg: &mut Octets,
+    class: &[u8],
+    style: &[u8],
+    x: u128,
+    y: u128,
+) -> Result<(), AllocError> {
+    svg.append(b"<path class=\"")?;
+    svg.append(class)?;
+    svg.append(style)?;
+    svg.append(b"\" d=\"M")?;
+    write_number(svg, x)?;
+    write_number(svg, y)
+}
+
+/// Writes a step of a path.
+fn step(svg: &mut Octets, kind: &[u8], to: u128) -> Result<(), AllocError> {
+    svg.append(kind)?;
+    write_number(svg, to)
+}
+
+fn end_path(svg: &mut Octets) -> Result<(), AllocError> {
+    svg.append(b"\"/>\n")
+}
+
+fn colour(carried: &Carried) -> &'static [u8] {
+    match carried {
+        Carried::Spoken(_) => b"spoken",
+        Carried::Member(_) => b"member",
+        Carried::Frame { .. } => b"frame",
+        Carried::Unread { .. } => b"unread",
+    }
+}
+
+fn style(end: End) -> &'static [u8] {
+    match end {
+        End::Drawn => b" drawn",
+        End::Kept => b" kept",
+        End::Lost => b" lost",
+    }
+}
+
+/// Writes the line of an arrow: from its post into the row where it ends, and along that to its receiver.
+fn write_line(svg: &mut Octets, drawing: &Drawing, arrow: &Arrow) -> Result<(), AllocError> {
+    let (from, to) = (
+        column(drawing, arrow.sender),
+        column(drawing, arrow.receiver),
+    );
+    let knee = if from < to { from + KNEE } else { from - KNEE };
+    begin_path(
+        svg,
+        colour(&arrow.carried),
+        style(arrow.end),
+        from,
+        row(arrow.posted),
+    )?;
+    step(svg, b"L", knee)?;
+    write_number(svg, row(arrow.ended))?;
+    step(svg, b"H", to)?;
+    end_path(svg)
+}
+
+/// Writes what an arrow carries, behind its end.
+fn write_caption(svg: &mut Octets, drawing: &Drawing, arrow: &Arrow) -> Result<(), AllocError> {
+    let (from, to) = (
+        column(drawing, arrow.sender),
+        column(drawing, arrow.receiver),
+    );
+    if from < to {
+        begin_text(svg, b"behind", to + 9, row(arrow.ended) + 4)?;
+    } else {
+        begin_text(svg, b"before", to - 9, row(arrow.ended) + 4)?;
+    }
+    caption(svg, &arrow.carried)?;
+    end_text(svg)
+}
+
+fn write_note(svg: &mut Octets, drawing: &Drawing, note: &Note) -> Result<(), AllocError> {
+    let (x, y) = (column(drawing, note.actor), row(note.place));
+    begin_path(svg, b"dot", b"", x - 3, y - 3)?;
+    svg.append(b"h6v6h-6z")?;
+    end_path(svg)?;
+    begin_text(svg, b"note", x + 9, y + 4)?;
+    svg.append(note.text.as_slice())?;
+    end_text(svg)
+}
+
+/// Writes the name of an actor beside its lifeline.
+fn write_name(
+    svg: &mut Octets,
+    drawing: &Drawing,
+    actor: Actor,
+    y: u128,
+) -> Result<(), AllocError> {
+    begin_text(svg, b"name", column(drawing, actor) + 2, y)?;
+    write_actor(svg, actor)?;
+    end_text(svg)
+}
+
+fn write_names(svg: &mut Octets, drawing: &Drawing, y: u128) -> Result<(), AllocError> {
+    for number in 0..drawing.controllers {
+        write_name(svg, drawing, Actor::Controller(number), y)?;
+    }
+    for number in 0..drawing.switches {
+        write_name(svg, drawing, Actor::Switch(number), y)?;
+    }
+    Ok(())
+}
+
+/// Writes which entries are shown, counted from 1, and how many are left out.
+fn write_title(svg: &mut Octets, drawing: &Drawing) -> Result<(), AllocError> {
+    let last = drawing.before.saturating_add(drawing.shown);
+    let behind = drawing.entries.saturating_sub(last);
+    write_number(svg, drawing.before as u128 + 1)?;
+    named(svg, b" to", last as u64)?;
+    named(svg, b" of", drawing.entries as u64)?;
+    named(svg, b"; left out: before these", drawing.before as u64)?;
+    named(svg, b", behind them", behind as u64)
+}
+
+/// Writes the beginning: the size, the title and what the lines mean.
+fn write_head(
+    svg: &mut Octets,
+    drawing: &Drawing,
+    width: u128,
+    height: u128,
+) -> Result<(), AllocError> {
+    svg.append(b"<svg width=\"")?;
+    write_digits(svg, width)?;
+    svg.append(b"\" height=\"")?;
+    write_digits(svg, height)?;
+    svg.append(STYLE)?;
+    write_title(svg, drawing)?;
+    end_text(svg)?;
+    svg.append(LEGEND)
+}
+
+/// Writes a band down to the bottom, with its view and the controller that leads it. The next band covers what is below its beginning.
+fn write_band(
+    svg: &mut Octets,
+    drawing: &Drawing,
+    band: &Band,
+    class: &[u8],
+    width: u128,
+) -> Result<(), AllocError> {
+    let y = row(band.place) - ROW / 2;
+    begin_path(svg, class, b"", 0, y)?;
+    step(svg, b"H", width)?;
+    step(svg, b"V", row(drawing.shown) + BOTTOM)?;
+    svg.append(b"H 0z")?;
+    end_path(svg)?;
+    begin_text(svg, b"name", 8, y + 14)?;
+    named(svg, b"view", u64::from(band.view))?;
+    svg.append(b", primary")?;
+    let primary = band.view % u32::from(drawing.controllers).max(1);
+    write_actor(svg, Actor::Controller(primary as u8))?;
+    end_text(svg)
+}
+
+/// Writes the bands and the lifelines.
+fn write_grid(svg: &mut Octets, drawing: &Drawing, width: u128) -> Result<(), AllocError> {
+    for (index, band) in drawing.bands.iter().enumerate() {
+        let class: &[u8] = if index % 2 == 0 { b"even" } else { b"odd" };
+        write_band(svg, drawing, band, class, width)?;
+    }
+    for number in 0..lifelines(drawing) {
+        begin_path(
+            svg,
+            b"life",
+            b"",
+            LEFT + SPACING * u128::from(number),
+            TOP - ROW,
+        )?;
+        step(svg, b"V", row(drawing.shown))?;
+        end_path(svg)?;
+    }
+    Ok(())
+}
+
+/// Writes the number of each entry, counted from 1, and now and then the names of the actors.
+fn write_rows(svg: &mut Octets, drawing: &Drawing) -> Result<(), AllocError> {
+    for place in 0..drawing.shown {
+        begin_text(svg, b"number", 130, row(place) + 4)?;
+        write_number(svg, drawing.before as u128 + place as u128 + 1)?;
+        end_text(svg)?;
+        if place % NAMES == 0 {
+            write_names(svg, drawing, row(place) - 8)?;
+        }
+    }
+    Ok(())
+}
+
+/// The text of a drawing as SVG.
+pub fn svg(alloc: Global, drawing: &Drawing) -> Result<Octets, AllocError> {
+    let mut svg = Octets::new(alloc);
+    let width = LEFT + SPACING * u128::from(lifelines(drawing)) + RIGHT;
+    write_head(&mut svg, drawing, width, row(drawing.shown) + BOTTOM)?;
+    write_grid(&mut svg, drawing, width)?;
+    for arrow in drawing.arrows.as_slice() {
+        write_line(&mut svg, drawing, arrow)?;
+    }
+    write_rows(&mut svg, drawing)?;
+    for arrow in drawing.arrows.as_slice() {
+        write_caption(&mut svg, drawing, arrow)?;
+    }
+    for note in &drawing.notes {
+        write_note(&mut svg, drawing, note)?;
+    }
+    svg.append(b"</svg>\n")?;
+    Ok(svg)
+}

@@ -1,0 +1,328 @@
+-- An attempt of a closing takes no more turns than the bound says.
+use Rattle.std.proofs.Common.{◌≡◌, ◌≤◌, ◌<◌, inl, inr, ℕ, zero, suc, ◌+◌, ◌-◌, ◌*◌, ◌/◌, ◌%◌, Bool, true, false, List, [], ◌∷◌, ◌++◌, map, length, take, drop, filter, refl, sym, ◌∙◌, ap, subst, arith}
+use Rattle.std.specs.Prelude.{nat_lt, reverse, sum_by, slice_index_or, Option, Some, None}
+use Rattle.std.specs.List.{range_with_len}
+use Rattle.std.proofs.Math.Seq.{drop-append_seam}
+use Rattle.std.proofs.lemmas.Bool.{cases_lt}
+use Rattle.lists.specs.Lists.{IsIn, IsPrefix}
+use Rattle.lists.proofs.Prefixes.{front_prefix, prefix_trans}
+use Rattle.of_types.specs.declared.message.Event.{Event}
+use Rattle.of_types.specs.Lives.{count_in}
+use Rattle.of_types.specs.Setups.{IsSetup}
+use Rattle.rv_base.specs.declared.journal.JournalEntry.{JournalEntry}
+use Rattle.rv_base.specs.declared.journal.SaveResult.{SaveResult}
+use Rattle.vr_log.specs.declared.entry.Entry.{Entry}
+use Rattle.vr_log.specs.declared.entry.LogFull.{LogFull}
+use Rattle.vr_log.specs.declared.state.VrState.{VrState}
+use Rattle.vr_log.specs.Log.{processed, received}
+use Rattle.controller_laws.proofs.Logs.{processed_prefix}
+use Rattle.event_buffer.specs.Buffer.{next_number}
+use Rattle.two_stage_log.specs.Counts.{processed_of}
+use Rattle.exactly_once.proofs.Growing.{take_prefix, take_same}
+use Rattle.of_switch.specs.State.{SwitchState, life_of}
+use Rattle.group_controller.specs.State.{ControllerState, committed}
+use Rattle.rv_runs.specs.Bound.{closing_members, commands_left, entries_left, greatest_of, place_known, turns_bound, waiting_at}
+use Rattle.rv_runs.specs.States.{Scene, IsFaithful}
+use Rattle.rv_runs.specs.Legal.{IsPossible}
+use Rattle.rv_runs.specs.Committed.{controller_state, decided, switch_state}
+use Rattle.rv_runs.specs.Schedule.{Phase, ClosesTo, count_turns, met_by}
+use Rattle.rv_agreement.proofs.Groups.{odd_law}
+use Rattle.rv_laws.proofs.Laws.{lasting_law}
+use Rattle.closing_laws.specs.Following.{Leads, Start}
+use Rattle.closing_laws.specs.Measure.{commands_from}
+use Rattle.closing_laws.specs.Quick.{ClosingsAreQuick}
+use Rattle.closing_laws.specs.Quorum.{has}
+use Rattle.closing_laws.specs.Serving.{AreFew, IsOlder}
+use Rattle.closing_laws.specs.Starts.{FindRoom, IsAttempt, Starts, members_at, quorum_after, turns_after, view_after}
+use Rattle.closing_laws.specs.Views.{HasBest, turns_to_start}
+use Rattle.closing_laws.proofs.AloneLogs.{decided_before}
+use Rattle.closing_laws.proofs.Begun as begun
+use Rattle.closing_laws.proofs.Begun.{counts_append, room_behind}
+use Rattle.closing_laws.proofs.Behind as behind
+use Rattle.closing_laws.proofs.BestLogs.{has_best}
+use Rattle.closing_laws.proofs.DrainingMeasure.{sum_alike}
+use Rattle.closing_laws.proofs.Emptied as emptied
+use Rattle.closing_laws.proofs.Emptying as emptying
+use Rattle.closing_laws.proofs.Facts.{cleared, known}
+use Rattle.closing_laws.proofs.Generations.{generations_older}
+use Rattle.closing_laws.proofs.Given.{are_few}
+use Rattle.closing_laws.proofs.InTime.{in_time_law}
+use Rattle.closing_laws.proofs.KnownEntries.{commands_within, longest_within, place_below}
+use Rattle.closing_laws.proofs.LeftEvents.{unprocessed_left}
+use Rattle.closing_laws.proofs.Opened as opened_by
+use Rattle.closing_laws.proofs.OpenedMeasure.{both_kinds, processed_beyond}
+use Rattle.closing_laws.proofs.OpenedMeasure as measure
+use Rattle.closing_laws.proofs.Picked.{IsPicked, picked_of_quorum}
+use Rattle.closing_laws.proofs.PrimaryLowers.{known_of, place_of}
+use Rattle.closing_laws.proofs.Walking.{later}
+
+-- the bound in a group of this size, by what the parts are within: the turns to the start, those behind it, and of these the events that
+-- do not stand as processed, and those that do beyond what is known
+abbrev IsBounded : ℕ → Type 0
+IsBounded n = (switches waiting over entries commands first rest events beyond : ℕ) → first ≤ (n / 2) * (n / 2) + 3 * (n / 2) + 3 →
+    rest ≤ 2 * (n / 2) + 2 * switches + (2 * (n / 2) + 1) * events + beyond + (4 * (n / 2) + 3) * waiting + 3 * commands → events ≤ waiting + over + entries + 2 → beyond ≤ entries →
+    first + rest ≤ turns_bound n switches (waiting + over) entries commands
+
+bounded_of : (n k : ℕ) → k < 4 → slice_index_or (1 ∷ 3 ∷ 5 ∷ 7 ∷ []) k n ≡ n → IsBounded n
+bounded_of n zero l e = subst IsBounded e (λ switches waiting over entries commands first rest events beyond a b c d. omega (arith, a, b, c, d))
+bounded_of n (suc zero) l e = subst IsBounded e (λ switches waiting over entries commands first rest events beyond a b c d. omega (arith, a, b, c, d))
+bounded_of n (suc (suc zero)) l e = subst IsBounded e (λ switches waiting over entries commands first rest events beyond a b c d. omega (arith, a, b, c, d))
+bounded_of n (suc (suc (suc zero))) l e = subst IsBounded e (λ switches waiting over entries commands first rest events beyond a b c d. omega (arith, a, b, c, d))
+bounded_of n (suc (suc (suc (suc k)))) l e = absurd (omega (arith, l))
+
+soon : (f : ℕ) (b : Bool) → turns_to_start f b ≤ f * f + 3 * f + 3
+soon f true = omega arith
+soon f false = omega arith
+
+-- what was decided begins what is
+decided_grows : {B : Type 0} (scene : Scene B) (results : List (List SaveResult)) → IsSetup scene.setup → IsFaithful scene.sealing → (more P : List (JournalEntry B)) → IsPossible scene results (more ++ P) →
+    IsPrefix (decided scene results P) (decided scene results (more ++ P))
+decided_grows {B = B} scene results setup faithful more P possible =
+    let all : length more + 0 ≡ length more = omega arith in
+    let back : drop (length more + 0) (more ++ P) ≡ P = ap (λ (k : ℕ). drop k (more ++ P)) all ∙ drop-append_seam more P in
+    subst (λ (l : List (JournalEntry B)). IsPrefix (decided scene results l) (decided scene results (more ++ P))) back (lasting_law scene results (more ++ P) setup faithful possible (length more) 0)
+
+-- switches that took no turn hold what they held
+waiting_same : {B : Type 0} (scene : Scene B) (P Q : List (JournalEntry B)) (k : ℕ) → ((t : ℕ) → switch_state scene t P ≡ switch_state scene t Q) →
+    sum_by (λ t. waiting_at (switch_state scene t P)) (range_with_len 0 k) ≡ sum_by (λ t. waiting_at (switch_state scene t Q)) (range_with_len 0 k)
+waiting_same scene P Q k same = sum_alike (λ t (x : SwitchState). waiting_at x) (λ t. switch_state scene t P) (λ t. switch_state scene t Q) 0 k k (omega arith) (λ t there. same t)
+
+module _ {B : Type 0} (scene : Scene B) (results : List (List SaveResult)) (setup : IsSetup scene.setup) (faithful : IsFaithful scene.sealing) (few : AreFew scene.kinds scene.setup)
+    (before entries : List (JournalEntry B)) (last : Phase) (a : IsAttempt scene results before entries last) where
+  abbrev n : ℕ
+  n = scene.setup.controllers
+
+  abbrev w : ℕ
+  w = view_after scene results before
+
+  abbrev p : ℕ
+  p = w % n
+
+  abbrev quorum : List ℕ
+  quorum = quorum_after scene results before
+
+  abbrev members : ℕ → VrState
+  members = members_at scene results before
+
+  abbrev switches : ℕ → SwitchState
+  switches s = switch_state scene s before
+
+  abbrev was : List Entry
+  was = decided scene results before
+
+  -- what is counted: the events that switches hold with the ports that they remember, the open events of lives that are over, and more
+  abbrev pub waiting : ℕ
+  waiting = sum_by (λ s. waiting_at (switches s)) (range_with_len 0 (length scene.setup.ports))
+
+  abbrev pub over : ℕ
+  over = length (filter (λ e. nat_lt e.life (life_of (switches e.switch))) (drop (processed was) (received was)))
+
+  abbrev more : ℕ
+  more = entries_left (closing_members scene results before)
+
+  abbrev commands : ℕ
+  commands = commands_left scene (decided scene results (reverse entries ++ before)) (place_known (closing_members scene results before))
+
+  abbrev pub Bounded : Type 0
+  Bounded = count_turns entries ≤ turns_bound n (length scene.setup.ports) (waiting + over) more commands
+
+  bounded : IsBounded n
+  bounded = let g = setup.group in bounded_of n g.0 g.1 g.2
+
+  -- where nothing comes behind the start
+  bounded_first : (first : ℕ) (best : ℕ) → first ≤ turns_after scene results before best → first ≤ turns_bound n (length scene.setup.ports) (waiting + over) more commands
+  bounded_first first best few_turns =
+      let early = soon (n / 2) (nat_lt (members p).commit (members best).commit) in
+      let all = bounded (length scene.setup.ports) waiting over more commands first 0 0 0 (omega (arith, few_turns, early)) (omega arith) (omega arith) (omega arith) in
+      omega (arith, all)
+
+  module _ (best : ℕ) (is_best : HasBest quorum members best) (starts : Starts scene results before entries last best) where
+    abbrev begins : List (JournalEntry B)
+    begins = behind.begins scene results setup faithful few before entries last a best is_best starts
+
+    abbrev c : ControllerState
+    c = behind.c scene results setup faithful few before entries last a best is_best starts
+
+    abbrev start : Start
+    start = behind.start scene results setup faithful few before entries last a best is_best starts
+
+    abbrev small : (k : ℕ) → has quorum k ≡ true → k < n
+    small = behind.small scene results setup faithful few before entries last a best is_best starts
+
+    abbrev closing : IsPicked n w quorum
+    closing = behind.picked scene results setup faithful few before entries last a best is_best starts
+
+    possible_first : IsPossible scene results before
+    possible_first = behind.possible_first scene results setup faithful few before entries last a best is_best starts
+
+    abbrev older : (t : ℕ) → t < length scene.setup.ports → IsOlder (switch_state scene t before).fence.generation w
+    older = generations_older scene results setup faithful before (behind.possible_first scene results setup faithful few before entries last a best is_best starts) a.most
+
+    abbrev Promised : List (JournalEntry B) → Type 0
+    Promised P = emptying.HavePromised scene results setup faithful w quorum small before a.saves start P
+
+    possible_begin : IsPossible scene results begins
+    possible_begin = opened_by.possible scene results setup faithful few before entries last best a starts is_best.member small older
+
+    promised : Promised begins
+    promised = opened_by.promised scene results setup faithful few before entries last best a starts is_best.member small older
+
+    truth : emptying.AreTrue scene results setup faithful w quorum small before a.saves start c (λ s. switch_state scene s begins)
+    truth = emptied.truths scene results setup faithful few w quorum closing before a.saves start begins possible_begin promised
+
+    abbrev leader : VrState
+    leader = measure.leader scene results setup faithful few before entries last best a starts is_best.member small older
+
+    events_same : received c.vr.log ≡ received leader.log
+    events_same = measure.events_same scene results setup faithful few before entries last best a starts is_best.member small older
+
+    longer : IsPrefix leader.log c.vr.log
+    longer = measure.longer scene results setup faithful few before entries last best a starts is_best.member small older
+
+    -- what the members knew as committed was decided
+    place_decided : place_known (closing_members scene results before) ≤ length was
+    place_decided = place_below scene results before a.most (length was) (λ j member. known scene results setup faithful before possible_first j (small j member))
+
+    place_low : place_known (closing_members scene results before) ≤ start.known
+    place_low = place_below scene results before a.most start.known (measure.knows scene results setup faithful few before entries last best a starts is_best.member small older)
+
+    known_there : start.known ≤ leader.commit
+    known_there = measure.known_within scene results setup faithful few before entries last best a starts is_best.member small older
+
+    longest : length leader.log ≤ greatest_of (map (λ x. length x.vr.log) (closing_members scene results before))
+    longest = longest_within scene results before a.most best is_best.member
+
+    was_begins : IsPrefix was c.vr.log
+    was_begins =
+        prefix_trans (decided_grows scene results setup faithful (reverse starts.first) before possible_begin)
+        (emptied.led_by scene results setup faithful few w quorum closing before a.saves start begins possible_begin promised).0
+
+    genuine : (e : Event) → IsIn e (received c.vr.log) → (e.switch < length scene.setup.ports) × (e.life ≤ life_of (switches e.switch))
+    genuine e among =
+        let g = emptied.logged_by scene results setup faithful few w quorum closing before a.saves start begins possible_begin promised e among in
+        (g.0, subst (λ (x : SwitchState). e.life ≤ life_of x) (starts.unchanged e.switch) g.1)
+
+    logged : (s : ℕ) → s < length scene.setup.ports → count_in s (life_of (switches s)) (received c.vr.log) ≤ next_number (switches s).buffer
+    logged s there = subst (λ (x : SwitchState). count_in s (life_of x) (received c.vr.log) ≤ next_number x.buffer) (starts.unchanged s) (truth.each s there).logged
+
+    gone : (s : ℕ) → s < length scene.setup.ports → (switches s).buffer.cleared ≤ processed_of was s (life_of (switches s))
+    gone s there = cleared scene results setup faithful before possible_first s there
+
+    -- the events of the log that do not stand there as processed
+    abbrev events : ℕ
+    events = length (received leader.log) - processed leader.log
+
+    in_several : 0 < n / 2 → events ≤ waiting + over + more + 2
+    in_several some =
+        let some_left = unprocessed_left (length scene.setup.ports) switches c.vr.log was was_begins genuine logged gone in
+        let same = ap (λ (es : List Event). length es) events_same in
+        let committed_is : committed c ≡ take leader.commit leader.log =
+        ap (λ (k : ℕ). take k c.vr.log) (measure.same_commit scene results setup faithful few before entries last best a starts is_best.member small older some)
+        ∙ take_same leader.commit (measure.within scene results setup faithful few before entries last best a starts is_best.member small older) longer in
+        let one = truth.primary.ahead in
+        let count = ap processed committed_is in
+        let front = processed_prefix (front_prefix leader.commit leader.log) in
+        let x = both_kinds c.vr.log in
+        let y = both_kinds leader.log in
+        let far = longest in
+        let place = place_decided in
+        omega (arith, some_left, same, one, count, front, x, y, far, place)
+
+    in_one : n / 2 ≤ 0 → events ≤ waiting + over + more + 2
+    in_one none =
+        let odd = odd_law scene.setup setup in
+        let size = odd.1 in
+        let front = decided_before scene results setup faithful (omega (arith, size, none)) before possible_first best (small best is_best.member) (begun.ready scene results before a.most best is_best.member).up in
+        let some_left = unprocessed_left (length scene.setup.ports) switches leader.log was front
+        (λ e among. genuine e (subst (λ (es : List Event). IsIn e es) (sym events_same) among))
+        (λ s there. subst (λ (es : List Event). count_in s (life_of (switches s)) es ≤ next_number (switches s).buffer) events_same (logged s there)) gone in
+        let far = longest in
+        let place = place_decided in
+        omega (arith, some_left, far, place)
+
+    events_few : events ≤ waiting + over + more + 2
+    events_few = elim (cases_lt 0 (n / 2)) [ inl some ↦ in_several some | inr none ↦ in_one none ]
+
+    beyond_few : processed leader.log - processed (take leader.commit leader.log) ≤ more
+    beyond_few =
+        let beyond = processed_beyond leader.commit leader.log in
+        let far = longest in
+        let place = place_low in
+        let there = known_there in
+        omega (arith, beyond, far, place, there)
+
+    -- the commands of what is committed behind it
+    abbrev ends : List (JournalEntry B)
+    ends = later begins starts.rest
+
+    whole : reverse entries ++ before ≡ ends
+    whole = behind.whole scene results setup faithful few before entries last a best is_best starts
+
+    possible_end : IsPossible scene results ends
+    possible_end = behind.possible scene results setup faithful few before entries last a best is_best starts
+
+    commands_few : c.full ≡ None → Promised ends → commands_from scene.kinds scene.setup (controller_state scene results p ends) (place_of start) ≤ commands
+    commands_few room kept =
+        let now : ControllerState = controller_state scene results p ends in
+        let led = emptied.led_by scene results setup faithful few w quorum closing before a.saves start ends possible_end kept in
+        let is : decided scene results (reverse entries ++ before) ≡ decided scene results ends = ap (decided scene results) whole in
+        let front : IsPrefix (committed now) (decided scene results ends) =
+        subst (λ (l : List Entry). IsPrefix l (decided scene results ends)) (sym (take_same now.vr.commit led.1 led.0)) (front_prefix now.vr.commit (decided scene results ends)) in
+        let lead : Leads start c.vr = (opened_by.lead_now scene results setup faithful few before entries last best a starts is_best.member small older
+        (emptied.truths scene results setup faithful few w quorum closing before a.saves start) room) in
+        let place = place_known (closing_members scene results before) in
+        let later_is : take place (decided scene results (reverse entries ++ before)) ≡ take place was =
+        take_same place place_decided (decided_grows scene results setup faithful (reverse entries) before a.possible) in
+        let known_is = known_of start c.vr lead in
+        let early = processed_prefix (take_prefix place start.known place_low was_begins) in
+        let a1 = ap processed later_is in
+        let a2 = ap processed known_is in
+        commands_within scene.kinds scene.setup now (decided scene results (reverse entries ++ before)) (place_of start) (processed (take place (decided scene results (reverse entries ++ before))))
+        (subst (λ (l : List Entry). IsPrefix (committed now) l) (sym is) front) (omega (arith, early, a1, a2))
+
+    first_counted : count_turns entries ≡ turns_after scene results before best + count_turns starts.rest
+    first_counted =
+        let parts = ap (λ (l : List (JournalEntry B)). count_turns l) starts.joined ∙ counts_append starts.first starts.rest in
+        let first = starts.turns in
+        omega (arith, parts, first)
+
+    goes_on : ClosesTo scene results (met_by c.full starts.phase) begins starts.rest last
+    goes_on = behind.goes_on scene results setup faithful few before entries last a best is_best starts
+
+    by_full : (o : Option LogFull) → c.full ≡ o → Bounded
+    by_full None is =
+        let counted = emptied.counts scene results setup faithful few w quorum closing before a.saves start starts.rest begins last (room_behind starts.first starts.rest (subst FindRoom starts.joined a.room)) starts.phase starts.drains
+        (behind.opened scene results setup faithful few before entries last a best is_best starts is) (subst (λ (o : Option LogFull). ClosesTo scene results (met_by o starts.phase) begins starts.rest last) is goes_on) possible_end in
+        let turns = counted.0 in
+        let left = behind.opened_left scene results setup faithful few before entries last a best is_best starts is in
+        let value = measure.start_left scene results setup faithful few before entries last best a starts is_best.member small older (λ t there. (truth.each t there).cleared) in
+        let unchanged = ap (λ (k : ℕ). (4 * (n / 2) + 3) * k) (waiting_same scene begins before (length scene.setup.ports) starts.unchanged) in
+        let more_commands = commands_few is counted.1 in
+        let early = soon (n / 2) (nat_lt (members p).commit (members best).commit) in
+        let first = first_counted in
+        let all = bounded (length scene.setup.ports) waiting over more commands (turns_after scene results before best) (count_turns starts.rest) events (processed leader.log - processed (take leader.commit leader.log)) early
+        (omega (arith, turns, left, value, unchanged, more_commands)) events_few beyond_few in
+        omega (arith, first, all)
+    by_full (Some limit) is =
+        let none = emptied.no_turn scene results setup faithful few w quorum closing before a.saves start limit begins starts.rest last
+        (subst (λ (o : Option LogFull). ClosesTo scene results (met_by o starts.phase) begins starts.rest last) is goes_on) in
+        let first = first_counted in
+        bounded_first (count_turns entries) best (omega (arith, first, none))
+
+    pub started_quick : Bounded
+    started_quick = by_full c.full refl
+
+  picked : IsPicked n w quorum
+  picked = picked_of_quorum n w quorum (begun.quorum_is scene results before a.most)
+
+  pub attempt_turns : Bounded
+  attempt_turns =
+      let b = has_best members quorum (let count = picked.count in omega (arith, count)) in
+      let s = in_time_law scene results before entries last b.0 setup faithful a b.1 in
+      elim (cases_lt (count_turns entries) (turns_after scene results before b.0)) [
+        | inl less ↦ bounded_first (count_turns entries) b.0 (omega (arith, less))
+        | inr enough ↦ started_quick b.0 b.1 (s.starts enough)
+      ]
+
+pub quick_law : {B : Type 0} → ClosingsAreQuick B
+quick_law scene results before entries last setup faithful given a = attempt_turns scene results setup faithful (are_few scene.setup setup scene.kinds given) before entries last a

@@ -253,7 +253,7 @@ module _ {A W : Type 0} (controls : Controlling A → List ℕ → Type 0) (pair
       (closes count (schedule.Overfull limit) played) in
       record {
         ran = has_run count (schedule.Overfull limit) played;
-        primary = at.0;
+        controller = at.0;
         entry = at.1;
         full = subst (λ (l : List (JournalEntry (List ℕ))). IsAtLimit OfRun Results l limit at.0 at.1) (sym (whole count (schedule.Overfull limit) played)) at.2;
       }

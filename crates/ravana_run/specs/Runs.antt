@@ -124,9 +124,9 @@ pub record IsLeft (kinds : List ℕ) (saves : Telling) (scenario : Scenario) (up
 -- entry more would take it past the limits of a log
 pub record IsOverfull (kinds : List ℕ) (saves : Telling) (scenario : Scenario) (limit : LogFull) : Type 0 where
   pub ran : HasRun kinds saves scenario (schedule.Overfull limit)
-  pub primary : ℕ
+  pub controller : ℕ
   pub entry : Entry
-  pub full : IsAtLimit (scene_for kinds scenario) ran.results (past ran.journal) limit primary entry
+  pub full : IsAtLimit (scene_for kinds scenario) ran.results (past ran.journal) limit controller entry
 
 -- a run that was cut short since an outbox found no room in the journal
 pub record IsUnposted (kinds : List ℕ) (saves : Telling) (scenario : Scenario) (bytes letters : ℕ) : Type 0 where

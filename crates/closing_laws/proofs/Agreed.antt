@@ -109,7 +109,7 @@ module _ (kinds : List ℕ) (setup : Setup) (few : AreFew kinds setup) (sw : ℕ
       ap (λ (x : Bool). if x then starting_view kinds setup mid else if leads v && nat_lt c.vr.commit v.commit then settling kinds setup c.vr.commit mid else mid) old
       ∙ ap (λ (x : Bool). if x && nat_lt c.vr.commit v.commit then settling kinds setup c.vr.commit mid else mid) p.leads
 
-  end_is : end ≡ (if nat_lt c.vr.commit v.commit then settling kinds setup c.vr.commit mid else mid)
+  pub end_is : end ≡ (if nat_lt c.vr.commit v.commit then settling kinds setup c.vr.commit mid else mid)
   end_is =
       leader_input kinds setup c (controller_input.Vr b (vr.PrepareOk c.vr.view op)) p.leads
       ∙ ap (after_step kinds setup (with_no_met_limit c)) (counts_it c.vr b op p.leads less other most) ∙ goes_on

@@ -1,8 +1,8 @@
 -- What the others of a quorum have acknowledged is committed.
-use Rattle.std.proofs.Common.{◌≡◌, ◌≤◌, ◌⊎◌, inl, inr, ℕ, suc, ◌+◌, ◌/◌, Bool, true, false, List, [], ◌∷◌, ◌++◌, length, take, drop, max, refl, sym, ◌∙◌, ap, subst, arith, append-nil}
-use Rattle.std.specs.Prelude.{not, nat_eq, nat_le, ◌&&◌, slice_index, filter, count_by, cond, if◌then◌else◌}
+use Rattle.std.proofs.Common.{◌≡◌, ◌≤◌, ◌⊎◌, inl, inr, ℕ, ◌/◌, Bool, true, false, List, [], ◌∷◌, ◌++◌, length, take, drop, max, refl, sym, ◌∙◌, ap, subst, arith, append-nil}
+use Rattle.std.specs.Prelude.{not, nat_eq, nat_le, ◌&&◌, slice_index, filter}
 use Rattle.std.proofs.lemmas.Bool.{eqb-false, eqb-true, le-leb}
-use Rattle.std.proofs.lemmas.List.Sums.{sum_by-cons}
+use Rattle.std.proofs.lemmas.List.Sums.{length-filter}
 use Rattle.std.proofs.Math.Bool.{and_comm}
 use Rattle.vr_log.specs.declared.entry.Entry.{Entry}
 use Rattle.vr_log.specs.declared.message.VrMessage.TheVariants as vr
@@ -14,24 +14,10 @@ use Rattle.rv_runs.specs.declared.messages.Message.{Message}
 use Rattle.rv_runs.specs.declared.messages.Message.TheVariants as message
 use Rattle.closing_laws.specs.Quorum.{has}
 use Rattle.closing_laws.specs.Following.{ArePrepares, AreAcknowledged, Start, KeepsUp, IsAgreed, Leads}
-use Rattle.closing_laws.proofs.Numbers.{Once, below_has, below_once, below_others, filter_on, filter_once, filter_twice, others_but_one}
-use Rattle.closing_laws.proofs.Numbers as numbers
+use Rattle.closing_laws.proofs.Numbers.{Once, below_has, below_once, below_others, filter_on, filter_once, filter_twice, in_has, others_but_one}
 use Rattle.closing_laws.proofs.Picked.{IsPicked}
 use Rattle.closing_laws.proofs.Followers.{keeps_up_longer, prepares_rise}
-
--- as many as are among these pass a weaker test
-count_more : (p q : ℕ → Bool) (xs : List ℕ) → ((x : ℕ) → has xs x ≡ true → q x ≡ true → p x ≡ true) → length (filter q xs) ≤ count_by p xs
-count_more p q [] h = omega arith
-count_more p q (x ∷ xs) h = by_first (q x) refl (count_more p q xs (λ y m. h y (numbers.has_later x y xs m))) (sum_by-cons (λ (y : ℕ). cond (p y) 1 0) x xs)
-  where
-    by_first : (b : Bool) → q x ≡ b → length (filter q xs) ≤ count_by p xs → count_by p (x ∷ xs) ≡ cond (p x) 1 0 + count_by p xs → length (filter q (x ∷ xs)) ≤ count_by p (x ∷ xs)
-    by_first true e low all =
-        let passes : ◌≡◌ {A = ℕ} (cond (p x) 1 0) 1 = ap (λ (c : Bool). cond c 1 0) (h x (numbers.has_here x xs) e) in
-        let more : length (filter q (x ∷ xs)) ≡ suc (length (filter q xs)) = ap (λ (c : Bool). length (if c then x ∷ filter q xs else filter q xs)) e in
-        omega (arith, low, all, passes, more)
-    by_first false e low all =
-        let more : length (filter q (x ∷ xs)) ≡ length (filter q xs) = ap (λ (c : Bool). length (if c then x ∷ filter q xs else filter q xs)) e in
-        omega (arith, low, all, more)
+use Rattle.closing_laws.proofs.TestCounts.{count_less}
 
 module _ (p : VrState) (view : ℕ) (quorum : List ℕ) (picked : IsPicked p.controllers view quorum) (mine : has quorum p.me ≡ true) where
   abbrev n : ℕ
@@ -57,10 +43,11 @@ module _ (p : VrState) (view : ℕ) (quorum : List ℕ) (picked : IsPicked p.con
 
   pub all_agree : (op : ℕ) → ((b : ℕ) → has quorum b ≡ true → (b ≡ p.me → ⊥) → op ≤ slice_index p.acked b) → is_agreed p op ≡ true
   all_agree op each =
-      let most = count_more (λ j. nat_le op (slice_index p.acked j)) (has quorum) (others_below p.me n)
-      (λ j there chosen. le-leb op (slice_index p.acked j) (each j chosen (λ e. eqb-false p.me j (below_has p.me n j there).1 (sym e)))) in
+      let less = count_less (has quorum) (λ j. nat_le op (slice_index p.acked j)) (others_below p.me n)
+      (λ j among chosen. le-leb op (slice_index p.acked j) (each j chosen (λ e. eqb-false p.me j (below_has p.me n j (in_has (others_below p.me n) j among)).1 (sym e)))) in
+      let same = length-filter (has quorum) (others_below p.me n) in
       let count = enough in
-      le-leb (most_failures p) (acks p op) (omega (arith, most, count))
+      le-leb (most_failures p) (acks p op) (omega (arith, less, same, count))
 
   -- so it is committed
   pub counted_agreed : IsAgreed (counted p) quorum

@@ -1,6 +1,6 @@
 -- A controller alone in its group starts the view of a closing as it suspects it.
-use Rattle.std.proofs.Common.{◌≡◌, ◌≤◌, ◌<◌, ℕ, ◌/◌, ◌%◌, true, false, List, [], ◌∷◌, ◌++◌, length, map, take, refl, sym, ◌∙◌, ap, subst, arith}
-use Rattle.std.specs.Prelude.{nat_eq, reverse, Some, None}
+use Rattle.std.proofs.Common.{◌≡◌, ◌≤◌, ◌<◌, ℕ, ◌/◌, ◌%◌, Bool, true, false, List, [], ◌∷◌, ◌++◌, length, map, take, refl, sym, ◌∙◌, ap, subst, arith}
+use Rattle.std.specs.Prelude.{nat_eq, reverse, Some, None, if◌then◌else◌}
 use Rattle.std.proofs.lemmas.Bool.{eq-eqb, ne_eqb, eqb-false, le-ltb, both_ways}
 use Rattle.of_types.specs.Setups.{IsSetup}
 use Rattle.rv_base.specs.declared.journal.Actor.{Actor}
@@ -12,9 +12,10 @@ use Rattle.rv_base.specs.declared.journal.Local.TheVariants as local
 use Rattle.rv_base.specs.declared.journal.Packet.{Packet}
 use Rattle.rv_base.specs.declared.journal.SaveResult.{SaveResult}
 use Rattle.rv_base.specs.Pool.{numbered, pool}
+use Rattle.rv_base.specs.Turns.{IsWithinLimits}
 use Rattle.vr_log.specs.declared.message.VrLetter.{VrLetter}
 use Rattle.vr_log.specs.declared.state.VrState.{VrState}
-use Rattle.vr_log.specs.Members.{leads, others_below}
+use Rattle.vr_log.specs.Members.{leads, most_failures, others_below}
 use Rattle.vr_log.specs.Steps.{VrStep, letter, to_others}
 use Rattle.view_change.specs.Entering.{started, view_start}
 use Rattle.vr_core.specs.declared.input.VrInput.TheVariants as vr_input
@@ -26,15 +27,19 @@ use Rattle.rv_runs.specs.declared.messages.Unsealed.TheVariants as unsealed
 use Rattle.rv_runs.specs.States.{Scene, IsFaithful, content, controller_message, sealed_letters}
 use Rattle.rv_runs.specs.Legal.{IsPossible}
 use Rattle.rv_runs.specs.Committed.{controller_state, states_of, members_up}
+use Rattle.rv_runs.proofs.Pasts.{self_controller}
+use Rattle.rv_agreement.proofs.Pasts.{fits}
 use Rattle.rv_runs.specs.Schedule.{Phase, Losing, Suspecting, Move, Takes, ClosesTo, IsEnd, IsMove, IsPosted, after_member, after_move, count_turns, majority, next_move, next_suspicion}
 use Rattle.closing_laws.specs.Quorum.{has}
 use Rattle.closing_laws.specs.Views.{HasBest, IsCovered, IsMember, gathering, lacks, log_of, started_with, tellers, turns_to_start}
-use Rattle.closing_laws.specs.Starts.{FindRoom, HasStartedIn, IsAttempt, Starts, StartsInTime, Last_suspects, members_at, quorum_after, starting_turn, turns_after, view_after}
+use Rattle.closing_laws.specs.Starts.{HasStartedIn, IsAttempt, Starts, StartsInTime, Last_suspects, members_at, quorum_after, starting_turn, turns_after, view_after}
 use Rattle.closing_laws.proofs.Begun as begun
 use Rattle.closing_laws.proofs.Numbers.{has_here}
+use Rattle.closing_laws.proofs.Room.{finds_room}
+use Rattle.closing_laws.proofs.StartingLetters.{starting_few}
 use Rattle.closing_laws.proofs.Steps as steps
 use Rattle.closing_laws.proofs.Taking.{By_suspicion, TurnOf, at, member_work, starting_later, turn_local}
-use Rattle.closing_laws.proofs.Walking.{later, later_is}
+use Rattle.closing_laws.proofs.Walking.{later, later_is, sealed_length, within_under}
 use Rattle.closing_laws.proofs.Walking as walking
 
 first_number : (xs : List ℕ) → length xs ≡ 1 → ((j : ℕ) → has xs j ≡ true → j < 1) → xs ≡ 0 ∷ []
@@ -159,6 +164,22 @@ module _ {B : Type 0} (scene : Scene B) (results : List (List SaveResult)) (befo
       subst (λ (c : ControllerState). ClosesTo scene results (after_member w c (Suspecting w quorum [])) Q rest last)
       (sym (ap (λ (k : ℕ). controller_state scene results k Q) first ∙ same)) closes
 
+  -- all that it says in that turn finds room
+  start_fits : (number : ℕ) (letters : List (Letter B)) (lost : ℕ) → IsPossible scene results (Post (actor.Controller 0) number letters lost ∷ (suspicion ∷ before)) →
+      IsWithinLimits scene.sealing.size (Post (actor.Controller 0) number letters lost ∷ (suspicion ∷ before)) → lost ≡ 0
+  start_fits number letters lost possible within =
+      let empty = ap (λ (l : List (Packet B)). length l) a.empty in
+      let same = (fits scene results (Post (actor.Controller 0) number letters lost) (suspicion ∷ before) possible 0 (self_controller 0)).0 in
+      let said = ap (λ (l : List (Letter B)). length l) same in
+      let sealed = sealed_length controller_message scene.sealing (at scene results 0 (suspicion ∷ before)).owed in
+      let owed = ap (λ (l : List (Letter ControllerSays)). length l) turn.owed in
+      let few = starting_few scene.kinds scene.setup setup.few (Some w) begins_as (record {
+        small = (let is = member.size in omega (arith, is));
+        one = member.is_one;
+        whole = λ none. ap (λ (b : Bool). if b then length (start 0).log else (start 0).commit) (eq-eqb (most_failures begins_as) 0 none);
+      }) in
+      finds_room scene.sealing.size (actor.Controller 0) number letters lost (suspicion ∷ before) possible.orderly within (omega (arith, empty, said, sealed, owed, few))
+
   -- what comes behind the suspicion
   starts_now : (rest : List (JournalEntry B)) (phase : Phase) → entries ≡ suspicion ∷ rest → phase ≡ after_member w (at scene results 0 (suspicion ∷ before)).now (Suspecting w quorum []) →
       ClosesTo scene results phase (suspicion ∷ before) rest last → Starts scene results before entries last best
@@ -170,8 +191,8 @@ module _ {B : Type 0} (scene : Scene B) (results : List (List SaveResult)) (befo
       done : IsPosted scene results (later (suspicion ∷ before) rest)
       done = subst (λ (l : List (JournalEntry B)). IsPosted scene results (later before l)) is (subst (λ (l : List (JournalEntry B)). IsPosted scene results l) (sym (later_is before entries)) a.posted)
 
-      room : FindRoom rest
-      room = (subst (λ (l : List (JournalEntry B)). FindRoom l) is a.room).1
+      room : IsWithinLimits scene.sealing.size (later (suspicion ∷ before) rest)
+      room = subst (λ (l : List (JournalEntry B)). IsWithinLimits scene.sealing.size (later before l)) is (subst (λ (l : List (JournalEntry B)). IsWithinLimits scene.sealing.size l) (sym (later_is before entries)) a.within)
 
       by_next : walking.Next scene results setup faithful w quorum small before a.saves (suspicion ∷ before) rest → Starts scene results before entries last best
       by_next (walking.Done nothing) =
@@ -197,7 +218,8 @@ module _ {B : Type 0} (scene : Scene B) (results : List (List SaveResult)) (befo
           let it : JournalEntry B = Post (actor.Controller 0) number letters lost in
           let after : IsPossible scene results (it ∷ (suspicion ∷ before)) =
           walking.possible_under scene results setup faithful w quorum small before a.saves more (it ∷ (suspicion ∷ before)) (subst (λ (l : List (JournalEntry B)). IsPossible scene results (later (suspicion ∷ before) l)) split can) in
-          let fit : lost ≡ 0 = (subst (λ (l : List (JournalEntry B)). FindRoom l) split room).0 in
+          let fit : lost ≡ 0 =
+          start_fits number letters lost after (within_under scene.sealing.size more (it ∷ (suspicion ∷ before)) (subst (λ (l : List (JournalEntry B)). IsWithinLimits scene.sealing.size (later (suspicion ∷ before) l)) split room)) in
           let all = one_turn in
           record {
             first = suspicion ∷ (it ∷ []);

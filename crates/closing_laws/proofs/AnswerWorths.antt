@@ -74,7 +74,7 @@ clears_few kinds setup log commands =
     let few = switches_few (λ x. not (has_ended x.switch x.life (received log))) commands 0 (length setup.ports) in
     omega (arith, same, few)
 
-acknowledges_few : (log : List Entry) (o : Option Event) → length (acknowledges log o) ≤ 1
+pub acknowledges_few : (log : List Entry) (o : Option Event) → length (acknowledges log o) ≤ 1
 acknowledges_few log None = omega arith
 acknowledges_few log (Some event) = cond_both (has_ended event.switch event.life (received log)) [] (acknowledgement log event.switch event.life ∷ []) (λ (l : List Through). length l ≤ 1) (λ e. omega arith) (λ e. omega arith)
 

@@ -14,6 +14,7 @@ use Rattle.rv_base.specs.declared.journal.Packet.{Packet}
 use Rattle.rv_base.specs.declared.journal.SaveResult.{SaveResult}
 use Rattle.rv_base.specs.Part.{part}
 use Rattle.rv_base.specs.Pool.{pool}
+use Rattle.rv_base.specs.Turns.{IsWithinLimits}
 use Rattle.vr_log.specs.declared.state.VrState.{VrState}
 use Rattle.vr_log.specs.Members.{is_up, others_below}
 use Rattle.group_controller.specs.State.{ControllerState}
@@ -25,7 +26,7 @@ use Rattle.rv_laws.proofs.Members.{owned_at}
 use Rattle.closing_laws.specs.Quorum.{has, IsQuorum}
 use Rattle.closing_laws.specs.Draining.{Group, all_suspected, resting}
 use Rattle.closing_laws.specs.Views.{HasBest, IsCovered, IsMember, in_view, lacks, turns_to_start}
-use Rattle.closing_laws.specs.Starts.{FindRoom, HasStartedIn, IsAttempt, StartsInTime, Drains, members_at, quorum_after, turns_after, view_after}
+use Rattle.closing_laws.specs.Starts.{HasStartedIn, IsAttempt, StartsInTime, Drains, members_at, quorum_after, turns_after, view_after}
 use Rattle.closing_laws.proofs.Numbers.{Once, filter_has}
 use Rattle.closing_laws.proofs.Covering.{covered}
 use Rattle.closing_laws.proofs.Pasts as pasts
@@ -52,14 +53,22 @@ pub later_append : {B : Type 0} (P first rest : List (JournalEntry B)) → later
 later_append P [] rest = refl
 later_append P (e ∷ first) rest = later_append (e ∷ P) first rest
 
-pub room_behind : {B : Type 0} (first rest : List (JournalEntry B)) → FindRoom (first ++ rest) → FindRoom rest
-room_behind [] rest room = room
-room_behind (e ∷ first) rest room = room_behind first rest room.1
-
 -- more turns than suspicions
 long : (f : ℕ) (b : Bool) → 0 < f → f + 1 < turns_to_start f b
 long f true some = omega (arith, some)
 long f false some = omega (arith, some)
+
+-- seven members take few turns
+few_turns : (f : ℕ) (fetches : Bool) → f ≤ 3 → turns_to_start f fetches ≤ 64
+few_turns zero true less = omega arith
+few_turns zero false less = omega arith
+few_turns (suc zero) true less = omega arith
+few_turns (suc zero) false less = omega arith
+few_turns (suc (suc zero)) true less = omega arith
+few_turns (suc (suc zero)) false less = omega arith
+few_turns (suc (suc (suc zero))) true less = omega arith
+few_turns (suc (suc (suc zero))) false less = omega arith
+few_turns (suc (suc (suc (suc k)))) fetches less = absurd (omega (arith, less))
 
 pub turns_first : {B : Type 0} (first rest : List (JournalEntry B)) → count_turns first ≤ count_turns (first ++ rest)
 turns_first {B = B} first rest = let all = sum_by-append (λ (x : JournalEntry B). cond (is_turn x) 1 0) first rest in omega (arith, all)
@@ -140,7 +149,7 @@ module _ {B : Type 0} (scene : Scene B) (results : List (List SaveResult)) (befo
 
     start_stands : walking.Stands scene results setup faithful w quorum quorum_is.members before a.saves before (resting start)
     start_stands = record {
-      holds = record { members = λ c lt. refl; saves = λ c. omega arith; switches = λ t. refl };
+      holds = record { members = λ c lt. refl; saves = λ c. omega arith; switches = λ t. refl; few = omega arith };
       carries = subst (λ (ps : List (Packet B)). AllCarry scene results ps []) (sym a.empty) tt;
       posted = a.rests;
     }
@@ -150,6 +159,12 @@ module _ {B : Type 0} (scene : Scene B) (results : List (List SaveResult)) (befo
 
     done : IsPosted scene results (later before entries)
     done = subst (λ (l : List (JournalEntry B)). IsPosted scene results l) (sym (later_is before entries)) a.posted
+
+    room : IsWithinLimits scene.sealing.size (later before entries)
+    room = subst (λ (l : List (JournalEntry B)). IsWithinLimits scene.sealing.size l) (sym (later_is before entries)) a.within
+
+    half : n / 2 ≤ 3
+    half = let seven = walking.seven_at_most n setup.group in omega (arith, seven)
 
     suspicions : Path w quorum entered_group quorum (resting start)
     suspicions = views.suspects_path n w quorum start ready several entered_group quorum (resting start) once (λ j h. (refl, h)) (Arrives entered_group refl)
@@ -172,8 +187,8 @@ module _ {B : Type 0} (scene : Scene B) (results : List (List SaveResult)) (befo
       done1 : IsPosted scene results (later P1 rest)
       done1 = subst (λ (l : List (JournalEntry B)). IsPosted scene results l) split done
 
-      room1 : FindRoom rest
-      room1 = room_behind first rest (subst (λ (l : List (JournalEntry B)). FindRoom l) is a.room)
+      room1 : IsWithinLimits scene.sealing.size (later P1 rest)
+      room1 = subst (λ (l : List (JournalEntry B)). IsWithinLimits scene.sealing.size l) split room
 
       possible1 : IsPossible scene results P1
       possible1 = walking.possible_under scene results setup faithful w quorum quorum_is.members before a.saves rest P1 can1
@@ -242,7 +257,7 @@ module _ {B : Type 0} (scene : Scene B) (results : List (List SaveResult)) (befo
         split2 = ap (later P1) rest_is ∙ later_append P1 second more
 
         last_part : (((answer : Answer) → IsEnd (next_move scene results x (later P2 more)) answer → ⊥) × (more ≡ [])) ⊎
-            walking.Begun scene results setup faithful w quorum quorum_is.members before a.saves z start best way.2 (ready (w % n) quorum_is.primary) quorum_is.primary P2 more x → StartsInTime scene results before entries x best
+            walking.Begun scene results setup faithful w quorum quorum_is.members before a.saves z start best way.2 (ready (w % n) quorum_is.primary) quorum_is.primary (ready best b.member).is_one P2 more x → StartsInTime scene results before entries x best
         last_part (inl none) =
             let parts = ap (λ (l : List (JournalEntry B)). count_turns l) rest_is ∙ counts_append second more in
             let empty : count_turns more ≡ 0 = ap (λ (l : List (JournalEntry B)). count_turns l) none.1 in
@@ -261,16 +276,18 @@ module _ {B : Type 0} (scene : Scene B) (results : List (List SaveResult)) (befo
 
         at_last : StartsInTime scene results before entries x best
         at_last =
-            last_part (walking.begins scene results setup faithful w quorum quorum_is.members before a.saves z start best way.2 (ready (w % n) quorum_is.primary) quorum_is.primary P2 there more x now at_then
-            (room_behind second more (subst (λ (l : List (JournalEntry B)). FindRoom l) rest_is room1)) goes_then
-            (subst (λ (l : List (JournalEntry B)). IsPossible scene results l) split2 can1) (subst (λ (l : List (JournalEntry B)). IsPosted scene results l) split2 done1))
+            last_part (walking.begins scene results setup faithful w quorum quorum_is.members before a.saves z start best way.2 (ready (w % n) quorum_is.primary) quorum_is.primary (ready best b.member).is_one P2 there more x now at_then goes_then
+            (subst (λ (l : List (JournalEntry B)). IsPossible scene results l) split2 can1) (subst (λ (l : List (JournalEntry B)). IsPosted scene results l) split2 done1)
+            (subst (λ (l : List (JournalEntry B)). IsWithinLimits scene.sealing.size l) split2 room1))
 
       second_part : walking.Outcome scene results setup faithful w quorum quorum_is.members before a.saves z P1 entered_group rest x → StartsInTime scene results before entries x best
       second_part (walking.Goes never few) = let all = all_counted in not_yet (omega (arith, all, few)) never
       second_part (walking.Reaches second more now rest_is so_far at_then there goes_then) = at_last second more now rest_is so_far at_then there goes_then
 
       behind_suspicions : StartsInTime scene results before entries x best
-      behind_suspicions = second_part (walking.goes scene results setup faithful w quorum quorum_is.members before a.saves z rest P1 x room1 phase [] entered_group at_phase (walking.Rests stands) way.1 closes can1 done1)
+      behind_suspicions =
+          second_part (walking.goes scene results setup faithful w quorum quorum_is.members before a.saves z
+          (let all = turns_are in let few = few_turns (n / 2) (lacks (w % n) start best) half in omega (arith, all, few)) rest P1 x phase [] entered_group at_phase (walking.Rests stands) way.1 closes can1 done1 room1)
 
     first_part : (x : Phase) → walking.Outcome scene results setup faithful w quorum quorum_is.members before a.saves entered_group before (resting start) entries x → StartsInTime scene results before entries x best
     first_part x (walking.Goes never few) =
@@ -284,7 +301,8 @@ module _ {B : Type 0} (scene : Scene B) (results : List (List SaveResult)) (befo
 
     from_suspicions : (x : Phase) → ClosesTo scene results (Suspecting w quorum quorum) before entries x → StartsInTime scene results before entries x best
     from_suspicions x closes =
-        first_part x (walking.goes scene results setup faithful w quorum quorum_is.members before a.saves entered_group entries before x a.room (Suspecting w quorum quorum) quorum (resting start) (walking.Still quorum) (walking.Rests start_stands) suspicions closes can done)
+        first_part x (walking.goes scene results setup faithful w quorum quorum_is.members before a.saves entered_group (let count = suspicions_count in let few = half in omega (arith, count, few)) entries before x
+        (Suspecting w quorum quorum) quorum (resting start) (walking.Still quorum) (walking.Rests start_stands) suspicions closes can done room)
 
     pub in_time : StartsInTime scene results before entries last best
     in_time = by_entries entries refl

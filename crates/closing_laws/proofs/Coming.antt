@@ -50,7 +50,7 @@ module _ (kinds : List ℕ) (setup : Setup) (c : ControllerState) (s : ℕ) (sw 
   abbrev n : ℕ
   n = logged_of c s sw
 
-  parts : (slice_get (events_in sw (life_of sw)) n ≡ Some e) × (0 < sent_of sw - n) × (filter (λ x. nat_le n x.number) rest ≡ take (sent_of sw - n - 1) (drop (n + 1) (events_in sw (life_of sw))))
+  pub parts : (slice_get (events_in sw (life_of sw)) n ≡ Some e) × (0 < sent_of sw - n) × (filter (λ x. nat_le n x.number) rest ≡ take (sent_of sw - n - 1) (drop (n + 1) (events_in sw (life_of sw))))
   parts =
       next_of n (events_in sw (life_of sw)) (sent_of sw - n) e (filter (λ x. nat_le n x.number) rest)
       (sym (ap (λ (b : Bool). if b then e ∷ filter (λ x. nat_le n x.number) rest else filter (λ x. nat_le n x.number) rest) (le-leb n e.number late)) ∙ coming)

@@ -24,9 +24,13 @@ use Rattle.of_switch.specs.State.{SwitchState, SwitchTurn, life_of, number_of, q
 use Rattle.of_switch.specs.Commands.{done_as, executes, letter_of_result, on_command, on_offer, result_of, settled}
 use Rattle.of_switch.specs.Forwarding.{over_link, over_links, puts_all, puts_out, sends_to, targets}
 
+-- a frame that goes to a port of a switch
+abbrev pub IsFrame : Letter SwitchSays → Type 0
+IsFrame l = (t : ℕ) × (l.to ≡ actor.Switch t) × (port : ℕ) × (bytes : List ℕ) × (l.body ≡ switch_says.Frame port bytes)
+
 -- letters to other switches
 abbrev pub AreFrames : List (Letter SwitchSays) → Type 0
-AreFrames letters = (l : Letter SwitchSays) → IsIn l letters → (t : ℕ) × (l.to ≡ actor.Switch t)
+AreFrames letters = (l : Letter SwitchSays) → IsIn l letters → IsFrame l
 
 -- a turn that only sends frames, and changes what it may change
 record Frames (s : SwitchState) (t : SwitchTurn) : Type 0 where
@@ -36,13 +40,13 @@ record Frames (s : SwitchState) (t : SwitchTurn) : Type 0 where
   pub results : t.state.results ≡ s.results
   pub frames : AreFrames t.letters
 
-one_link : (frame : List ℕ) (switch port : ℕ) (k : Link) (l : Letter SwitchSays) → IsIn l (over_link frame switch port k) → (t : ℕ) × (l.to ≡ actor.Switch t)
+one_link : (frame : List ℕ) (switch port : ℕ) (k : Link) (l : Letter SwitchSays) → IsIn l (over_link frame switch port k) → IsFrame l
 one_link frame switch port k l = by_tests (nat_eq k.switch switch && nat_eq k.port port) (nat_eq k.peer switch && nat_eq k.peer_port port)
   where
-    by_tests : (a b : Bool) → IsIn l (if a then record { to = actor.Switch k.peer; body = switch_says.Frame k.peer_port frame } ∷ [] else if b then record { to = actor.Switch k.switch; body = switch_says.Frame k.port frame } ∷ [] else []) → (t : ℕ) × (l.to ≡ actor.Switch t)
-    by_tests true b (inl is) = (k.peer, ap (λ (x : Letter SwitchSays). x.to) is)
+    by_tests : (a b : Bool) → IsIn l (if a then record { to = actor.Switch k.peer; body = switch_says.Frame k.peer_port frame } ∷ [] else if b then record { to = actor.Switch k.switch; body = switch_says.Frame k.port frame } ∷ [] else []) → IsFrame l
+    by_tests true b (inl is) = (k.peer, ap (λ (x : Letter SwitchSays). x.to) is, k.peer_port, frame, ap (λ (x : Letter SwitchSays). x.body) is)
     by_tests true b (inr none) = absurd none
-    by_tests false true (inl is) = (k.switch, ap (λ (x : Letter SwitchSays). x.to) is)
+    by_tests false true (inl is) = (k.switch, ap (λ (x : Letter SwitchSays). x.to) is, k.port, frame, ap (λ (x : Letter SwitchSays). x.body) is)
     by_tests false true (inr none) = absurd none
     by_tests false false none = absurd none
 

@@ -100,15 +100,16 @@ pub record IsOneOf (events : List Event) (commands : List Command) (n : Issued) 
   pub among : IsIn command commands
   pub switch_is : n.switch ≡ command.switch
   pub life_is : n.life ≡ life_in n.switch events
+  pub order_is : n.order ≡ command.order
 
 each_is : (events : List Event) (before : List Issued) (cs : List Command) (n : Issued) → IsIn n (issue_each events before cs) → IsOneOf events cs n
 each_is events before [] n h = absurd h
 each_is events before (c ∷ cs) n (inl e) =
-    subst (λ (y : Issued). IsOneOf events (c ∷ cs) y) (sym e) (record { command = c; among = inl refl; switch_is = refl; life_is = refl })
+    subst (λ (y : Issued). IsOneOf events (c ∷ cs) y) (sym e) (record { command = c; among = inl refl; switch_is = refl; life_is = refl; order_is = refl })
 each_is events before (c ∷ cs) n (inr h) =
-    let r = each_is events (before ++ issue events before c ∷ []) cs n h in record { command = r.command; among = inr r.among; switch_is = r.switch_is; life_is = r.life_is }
+    let r = each_is events (before ++ issue events before c ∷ []) cs n h in record { command = r.command; among = inr r.among; switch_is = r.switch_is; life_is = r.life_is; order_is = r.order_is }
 
-all_is : (j : ℕ) (past : List Event) (before : List Issued) (es : List Event) (ls : List (List Command)) (n : Issued) → IsIn n (slice_index_or (issue_all past before es ls) j []) →
+pub all_is : (j : ℕ) (past : List Event) (before : List Issued) (es : List Event) (ls : List (List Command)) (n : Issued) → IsIn n (slice_index_or (issue_all past before es ls) j []) →
     IsOneOf (past ++ take (suc j) es) (slice_index_or ls j []) n
 all_is j past before [] ls n h = absurd (subst (λ (l : List Issued). IsIn n l) (none_past [] j (omega arith)) h)
 all_is j past before (e ∷ es) [] n h = absurd (subst (λ (l : List Issued). IsIn n l) (none_past [] j (omega arith)) h)

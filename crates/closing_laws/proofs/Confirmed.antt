@@ -17,9 +17,7 @@ use Rattle.vr_log.specs.Log.{received}
 use Rattle.vr_log.specs.Members.{most_failures}
 use Rattle.two_stage_log.specs.Counts.{has_unprocessed}
 use Rattle.app_core.specs.declared.issued.Issued.{Issued}
-use Rattle.app_core.specs.Issued.{count_issued, issues}
-use Rattle.app_core.proofs.Issuing.{length-issues}
-use Rattle.controller_laws.proofs.Issued.{none_past}
+use Rattle.app_core.specs.Issued.{count_issued}
 use Rattle.dispatcher.specs.Marks.{confirmed_by, is_confirmed, is_wanted}
 use Rattle.of_switch.specs.State.{SwitchState, life_of}
 use Rattle.group_controller.specs.declared.messages.ControllerInput.TheVariants as controller_input
@@ -38,6 +36,7 @@ use Rattle.closing_laws.proofs.Numbering.{counted, counted_next, in_range}
 use Rattle.closing_laws.proofs.Settled.{AreServed, bounded_by, commands_to_switches}
 use Rattle.closing_laws.proofs.Telling.{AreQuiet, commands_are_said, commands_said-append, commands_told, no_requests_told, numbers_all, numbers_in, numbers_none, told}
 use Rattle.closing_laws.proofs.Turned.{HasTurned, sound_of, stands}
+use Rattle.closing_laws.proofs.WantedCommands.{due_past}
 
 abbrev pub reply_of : ℕ → ℕ → Message
 reply_of xid view = message.Of xid (spoken.Plain (plain.RoleReply MASTER view))
@@ -60,10 +59,7 @@ module _ (kinds : List ℕ) (setup : Setup) (c : ControllerState) where
       ∙ sym (settled_is kinds setup c s sw)
 
   pub due_none : has_unprocessed (committed c) ≡ false → due kinds setup c ≡ []
-  due_none none =
-      let past = ltb-false (first kinds setup c) (length (received (committed c))) none in
-      let long = length-issues kinds setup (received (committed c)) in
-      none_past (issues kinds setup (received (committed c))) (first kinds setup c) (omega (arith, past, long))
+  due_none none = due_past kinds setup (committed c) none
 
 module _ (kinds : List ℕ) (setup : Setup) (few : AreFew kinds setup) (c : ControllerState) (s : ℕ) where
   abbrev pub now : ControllerState

@@ -169,7 +169,7 @@ module _ (kinds : List ℕ) (setup : Setup) (w p : ℕ) (quorum : List ℕ) (sta
           (elsewhere (actor.Controller b) (actor.Controller p) (λ f g. other (let e : b ≡ p = cc in e)))
           (subst (λ (y : Message). KeepsUp start c.vr b (members b) (y ∷ to_member_of rest b) (from_member_of (m ∷ rest) b)) said_by.1 keeps)
 
-      heard : Hears start c.vr b (members b) x (to_member_of rest b) (from_member_of rest b)
+      pub heard : Hears start c.vr b (members b) x (to_member_of rest b) (from_member_of rest b)
       heard = hears start c.vr d.primary.lead leads_here small_here b (λ e. other (e ∙ d.primary.me)) (members b) x (to_member_of rest b) (from_member_of rest b) keeps_heard
 
       -- what it answers is worth less

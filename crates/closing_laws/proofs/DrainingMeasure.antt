@@ -37,9 +37,9 @@ module _ {X : Type 0} (g : ℕ → X → ℕ) (at : ℕ → X) (s : ℕ) (x : X)
       let rest = above (a + 1) n (omega (arith, less)) in
       omega (arith, p, q, here, rest)
 
-  sum_put : (a n d e : ℕ) → a ≤ s → s < a + n → d + g s x ≤ e + g s (at s) → d + sum_by (λ j. g j (put at s x j)) (range_with_len a n) ≤ e + sum_by (λ j. g j (at j)) (range_with_len a n)
-  sum_put a zero d e low high lower = absurd (omega (arith, low, high))
-  sum_put a (suc n) d e low high lower =
+  pub sum_changes : (a n : ℕ) → a ≤ s → s < a + n → sum_by (λ j. g j (put at s x j)) (range_with_len a n) + g s (at s) ≡ sum_by (λ j. g j (at j)) (range_with_len a n) + g s x
+  sum_changes a zero low high = absurd (omega (arith, low, high))
+  sum_changes a (suc n) low high =
       let p = sum_by-cons (λ j. g j (put at s x j)) a (range_with_len (a + 1) n) in
       let q = sum_by-cons (λ j. g j (at j)) a (range_with_len (a + 1) n) in
       elim (cases_eq a s) [
@@ -47,15 +47,15 @@ module _ {X : Type 0} (g : ℕ → X → ℕ) (at : ℕ → X) (s : ℕ) (x : X)
             let here = ap (λ (k : ℕ). g k (put at s x k)) same ∙ ap (g s) (put_own at s x) in
             let there = ap (λ (k : ℕ). g k (at k)) same in
             let rest = above (a + 1) n (omega (arith, same)) in
-            omega (arith, p, q, here, there, rest, lower)
+            omega (arith, p, q, here, there, rest)
         | inr other ↦
             let here = ap (g a) (put_other at s x a other) in
-            let rest = sum_put (a + 1) n d e (omega (arith, low, other)) (omega (arith, high)) lower in
+            let rest = sum_changes (a + 1) n (omega (arith, low, other)) (omega (arith, high)) in
             omega (arith, p, q, here, rest)
       ]
 
 -- only the switches of the setup count
-pub sum_alike : {X : Type 0} (g : ℕ → X → ℕ) (at to : ℕ → X) (a n m : ℕ) → a + n ≡ m → ((s : ℕ) → s < m → at s ≡ to s) → sum_by (λ j. g j (at j)) (range_with_len a n) ≡ sum_by (λ j. g j (to j)) (range_with_len a n)
+sum_alike : {X : Type 0} (g : ℕ → X → ℕ) (at to : ℕ → X) (a n m : ℕ) → a + n ≡ m → ((s : ℕ) → s < m → at s ≡ to s) → sum_by (λ j. g j (at j)) (range_with_len a n) ≡ sum_by (λ j. g j (to j)) (range_with_len a n)
 sum_alike g at to a zero m whole same = refl
 sum_alike g at to a (suc n) m whole same =
     let p = sum_by-cons (λ j. g j (at j)) a (range_with_len (a + 1) n) in
@@ -119,6 +119,5 @@ module _ (kinds : List ℕ) (setup : Setup) (quorum : List ℕ) (c : ControllerS
           let first = drawn_first (ap (λ (a : Actor). is_drawn quorum a m.to) from ∙ ap (λ (a : Actor). is_drawn quorum (actor.Controller p) a) to) ∙ ap (λ (x : Message). message_worth x + worths quorum rest) is in
           let parts = sum_by-append (worth quorum) rest (map (sent_by switch_message (actor.Switch s)) turn.letters) in
           let one = switch_lowers kinds setup c s (switches s) xid said out in_ small served is_true quorum mine (setup.controllers / 2) in
-          let sums = sum_put (λ (j : ℕ) (x : SwitchState). left_at (setup.controllers / 2) c j x) switches s turn.state 0 (length setup.ports)
-          (worths_of quorum switch_message (actor.Switch s) turn.letters + 1) (message_worth (message.Of xid said)) (omega arith) (omega (arith, there)) (omega (arith, one)) in
-          omega (arith, first, parts, sums)
+          let sums = sum_changes (λ (j : ℕ) (x : SwitchState). left_at (setup.controllers / 2) c j x) switches s turn.state 0 (length setup.ports) (omega arith) (omega (arith, there)) in
+          omega (arith, first, parts, sums, one)

@@ -10,6 +10,8 @@ use Rattle.rv_base.specs.declared.journal.Actor.TheVariants as actor
 use Rattle.rv_base.specs.declared.journal.JournalEntry.{JournalEntry}
 use Rattle.rv_base.specs.declared.journal.Letter.{Letter}
 use Rattle.rv_base.specs.declared.journal.SaveResult.{SaveResult}
+use Rattle.rv_base.specs.Limits.{pool_packets}
+use Rattle.rv_base.specs.Turns.{IsWithinLimits}
 use Rattle.lists.specs.Lists.{IsIn, IsPrefix}
 use Rattle.vr_log.specs.declared.entry.LogFull.{LogFull}
 use Rattle.vr_log.specs.Log.{received}
@@ -33,7 +35,7 @@ use Rattle.closing_laws.specs.Following.{Start}
 use Rattle.closing_laws.specs.Measure.{commands_from, left_to_do}
 use Rattle.closing_laws.specs.Quorum.{has}
 use Rattle.closing_laws.specs.Serving.{AreFew, IsSaidBy, Asks, Acknowledges, Commands, Clears, IsServed, IsTrueOf}
-use Rattle.closing_laws.specs.Starts.{FindRoom, IsDraining, SavesSucceed}
+use Rattle.closing_laws.specs.Starts.{IsDraining, SavesSucceed}
 use Rattle.closing_laws.specs.Ways.{Sent, sent_by, between, told_to}
 use Rattle.closing_laws.proofs.Between.{between_own}
 use Rattle.closing_laws.proofs.Closed as closed_by
@@ -45,7 +47,10 @@ use Rattle.closing_laws.proofs.Emptying as emptying
 use Rattle.closing_laws.proofs.Facts.{begins, facts, logged, named}
 use Rattle.closing_laws.proofs.Numbers.{below_has, filter_has}
 use Rattle.closing_laws.proofs.Picked.{IsPicked}
-use Rattle.closing_laws.proofs.PrimaryLowers.{member_heard_lowers, place_of, switch_heard_lowers}
+use Rattle.closing_laws.proofs.Roomy.{IsRoomy}
+use Rattle.closing_laws.proofs.Roomy as roomy_by
+use Rattle.closing_laws.proofs.Rooms.{Keeps, NothingBeside}
+use Rattle.closing_laws.proofs.PrimaryLowers.{heard_lowers, place_of}
 use Rattle.closing_laws.proofs.PrimaryTurns.{leads_alike}
 use Rattle.closing_laws.proofs.PrimaryTurns as primary_by
 use Rattle.closing_laws.proofs.ProperTurns.{IsProper}
@@ -102,11 +107,11 @@ module _ {B : Type 0} (scene : Scene B) (results : List (List SaveResult)) (setu
       by_from (inl (b, is, chosen, other)) =
           let h = primary_by.hears_member scene.kinds scene.setup few w p quorum start picked picked.primary refl small c members switches m rest d to true_of b is chosen other in
           turn_of h.0 (λ old now full. h.1 old.primary now.primary now.each full)
-          (λ old now. member_heard_lowers scene.kinds scene.setup few w p quorum start picked picked.primary refl small c members switches m rest d to true_of old.primary b is chosen other)
+          (λ old now. heard_lowers scene.kinds scene.setup few w p quorum start picked picked.primary refl small c members switches m rest d to true_of old.primary (inl (b, is, chosen, other)) now.each)
       by_from (inr (s, is, there)) =
           let h = primary_by.hears_switch scene.kinds scene.setup few w p quorum start picked picked.primary refl small c members switches m rest d to true_of s is there in
           turn_of h.0 (λ old now full. h.1 old.primary now.primary now.each full)
-          (λ old now. switch_heard_lowers scene.kinds scene.setup few w p quorum start picked picked.primary refl small c members switches m rest d to true_of old.primary s is there now.each)
+          (λ old now. heard_lowers scene.kinds scene.setup few w p quorum start picked picked.primary refl small c members switches m rest d to true_of old.primary (inr (s, is, there)) now.each)
 
   -- a turn of a switch
   by_switch : (c : ControllerState) (members : ℕ → VrState) (switches : ℕ → SwitchState) (m : Sent) (rest : List Sent) (s : ℕ) → s < length scene.setup.ports → m.from ≡ actor.Controller p → m.to ≡ actor.Switch s →
@@ -193,22 +198,34 @@ module _ {B : Type 0} (scene : Scene B) (results : List (List SaveResult)) (setu
       logged scene results setup faithful P possible p (small p picked.primary) h.leads quorum (subst (λ (v : ℕ). IsPicked n v quorum) (sym h.view) picked)
       (λ b chosen. subst (λ (v : ℕ). (controller_state scene results b P).vr.promise ≤ v) (sym h.view) (h.promises b chosen))
 
+  switches_logged : (P : Past) → IsPossible scene results P → emptying.HavePromised scene results setup faithful w quorum small before succeed start P →
+      (e : Event) → IsIn e (received (controller_state scene results p P).vr.log) → e.switch < length scene.setup.ports
+  switches_logged P possible h e among = (logged_by P possible h e among).0
+
+  -- what is on its way finds room
+  keeps_room : Keeps scene.kinds scene.setup w p quorum start NothingBeside (λ c members switches waiting. IsRoomy scene.kinds scene.setup w p quorum start c members switches waiting)
+  keeps_room = roomy_by.roomy_kept scene.kinds scene.setup few w p quorum start picked picked.primary refl small setup
+
+  has_room : (c : ControllerState) (members : ℕ → VrState) (switches : ℕ → SwitchState) (waiting : List Sent) → Drains c members switches waiting → AreTrue c switches →
+      ((e : Event) → IsIn e (received c.vr.log) → e.switch < length scene.setup.ports) → IsRoomy scene.kinds scene.setup w p quorum start c members switches waiting → length waiting ≤ pool_packets
+  has_room = roomy_by.has_room scene.kinds scene.setup few w p quorum start picked picked.primary refl small setup
+
   -- no more turns come than what is left to do, and those for the commands of what is newly committed
-  pub counts : (entries P : Past) (last : Phase) → FindRoom entries → (phase : Phase) → IsDraining w quorum phase → (mode : emptying.Mode scene results setup faithful w quorum small before succeed start P) →
+  pub counts : (entries P : Past) (last : Phase) → IsWithinLimits scene.sealing.size (later P entries) → (phase : Phase) → IsDraining w quorum phase → (mode : emptying.Mode scene results setup faithful w quorum small before succeed start P) →
       ClosesTo scene results phase P entries last → IsPossible scene results (later P entries) →
       (count_turns entries + 3 * commands_from scene.kinds scene.setup (controller_state scene results p P) (place_of start) ≤
       emptying.left_in scene results setup faithful w quorum small before succeed start P mode + 3 * commands_from scene.kinds scene.setup (controller_state scene results p (later P entries)) (place_of start))
       × emptying.HavePromised scene results setup faithful w quorum small before succeed start (later P entries)
   counts entries P last room phase draining mode closes possible =
-      emptying.counts scene results setup faithful w quorum small before succeed start picked.primary by_primary by_switch truths (named scene results setup faithful) entries P last room phase draining mode closes possible
+      emptying.counts scene results setup faithful w quorum small before succeed start picked.primary by_primary by_switch truths (named scene results setup faithful) switches_logged keeps_room has_room entries P last room phase draining mode closes possible
 
   -- none comes where a limit was met
   pub no_turn : (limit : LogFull) (P entries : Past) (last : Phase) → ClosesTo scene results (Met limit) P entries last → count_turns entries ≡ 0
   no_turn limit P entries last closes =
-      (emptying.no_turn scene results setup faithful w quorum small before succeed start picked.primary by_primary by_switch truths (named scene results setup faithful) limit P entries last closes).0
+      (emptying.no_turn scene results setup faithful w quorum small before succeed start picked.primary by_primary by_switch truths (named scene results setup faithful) switches_logged keeps_room has_room limit P entries last closes).0
 
   -- its end
-  pub ends : (entries P : Past) (last : Phase) (primary : ℕ) → FindRoom entries → (phase : Phase) → IsDraining w quorum phase → emptying.Mode scene results setup faithful w quorum small before succeed start P →
+  pub ends : (entries P : Past) (last : Phase) (primary : ℕ) → IsWithinLimits scene.sealing.size (later P entries) → (phase : Phase) → IsDraining w quorum phase → emptying.Mode scene results setup faithful w quorum small before succeed start P →
       ClosesTo scene results phase P entries last → IsPossible scene results (later P entries) → IsPosted scene results (later P entries) → IsEnd (next_move scene results last (later P entries)) (Done primary) →
       HasRested scene results primary (later P entries)
   ends entries P last primary room phase draining mode closes possible posted end =
@@ -219,15 +236,15 @@ module _ {B : Type 0} (scene : Scene B) (results : List (List SaveResult)) (setu
       Q : Past
       Q = later P entries
 
-      done : emptying.Ended scene results setup faithful w quorum small before succeed start picked.primary by_primary by_switch truths (named scene results setup faithful) primary Q
+      done : emptying.Ended scene results setup faithful w quorum small before succeed start picked.primary by_primary by_switch truths (named scene results setup faithful) switches_logged keeps_room has_room primary Q
       done =
-          emptying.goes scene results setup faithful w quorum small before succeed start picked.primary by_primary by_switch truths (named scene results setup faithful) entries P last primary room phase draining mode closes possible posted end
+          emptying.goes scene results setup faithful w quorum small before succeed start picked.primary by_primary by_switch truths (named scene results setup faithful) switches_logged keeps_room has_room entries P last primary room phase draining mode closes possible posted end
 
       promised : emptying.HavePromised scene results setup faithful w quorum small before succeed start Q
-      promised = emptying.promised scene results setup faithful w quorum small before succeed start picked.primary by_primary by_switch truths (named scene results setup faithful) Q [] done.stands
+      promised = emptying.promised scene results setup faithful w quorum small before succeed start picked.primary by_primary by_switch truths (named scene results setup faithful) switches_logged keeps_room has_room Q [] done.stands
 
       true_now : AreTrue (controller_state scene results p Q) done.stands.switches
-      true_now = emptying.true_of scene results setup faithful w quorum small before succeed start picked.primary by_primary by_switch truths (named scene results setup faithful) Q [] done.stands (truths Q possible promised)
+      true_now = emptying.true_of scene results setup faithful w quorum small before succeed start picked.primary by_primary by_switch truths (named scene results setup faithful) switches_logged keeps_room has_room Q [] done.stands (truths Q possible promised)
 
       led : IsPrefix (decided scene results Q) (controller_state scene results p Q).vr.log × ((controller_state scene results p Q).vr.commit ≤ length (decided scene results Q))
       led = led_by Q possible promised
@@ -235,4 +252,4 @@ module _ {B : Type 0} (scene : Scene B) (results : List (List SaveResult)) (setu
   -- and where the limit was met it is never done
   pub never_done : (limit : LogFull) (P : Past) (entries : Past) (last : Phase) (primary : ℕ) → ClosesTo scene results (Met limit) P entries last → IsEnd (next_move scene results last (later P entries)) (Done primary) → ⊥
   never_done limit P entries last primary closes end =
-      emptying.never_done scene results setup faithful w quorum small before succeed start picked.primary by_primary by_switch truths (named scene results setup faithful) limit P entries last primary closes end
+      emptying.never_done scene results setup faithful w quorum small before succeed start picked.primary by_primary by_switch truths (named scene results setup faithful) switches_logged keeps_room has_room limit P entries last primary closes end

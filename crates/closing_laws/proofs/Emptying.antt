@@ -2,7 +2,9 @@
 use Rattle.std.proofs.Common.{◌≡◌, ◌≤◌, ◌<◌, ◌⊎◌, inl, inr, ℕ, ◌%◌, Bool, true, false, List, [], ◌∷◌, ◌++◌, map, length, refl, sym, ◌∙◌, ap, subst, arith, append-nil, ◌+◌, ◌*◌}
 use Rattle.std.specs.Prelude.{nat_eq, not, ◌&&◌, Option, Some, None, option_map, if◌then◌else◌}
 use Rattle.std.proofs.lemmas.Bool.{and_right, eq-eqb, ne_eqb, true≢false, and_parts, cases_eq}
+use Rattle.std.proofs.lemmas.List.{length-append}
 use Rattle.std.proofs.lemmas.List.Sums.{sum_by-cons}
+use Rattle.of_types.specs.declared.message.Event.{Event}
 use Rattle.of_types.specs.declared.setup.Setup.{Setup}
 use Rattle.of_types.specs.Setups.{IsSetup}
 use Rattle.rv_base.specs.declared.journal.Actor.{Actor}
@@ -14,7 +16,9 @@ use Rattle.rv_base.specs.declared.journal.Packet.{Packet}
 use Rattle.rv_base.specs.declared.journal.SaveResult.{SaveResult}
 use Rattle.rv_base.specs.Actors.{actor_of}
 use Rattle.rv_base.specs.Part.{part, packet_of}
+use Rattle.rv_base.specs.Limits.{pool_packets}
 use Rattle.rv_base.specs.Pool.{pool, numbered, letters_posted, without}
+use Rattle.rv_base.specs.Turns.{IsWithinLimits}
 use Rattle.rv_base.proofs.Pools.{Rising, Rising-pool}
 use Rattle.lists.specs.Lists.{IsIn}
 use Rattle.vr_log.specs.declared.entry.LogFull.{LogFull}
@@ -22,6 +26,7 @@ use Rattle.vr_log.specs.declared.message.VrMessage.{VrMessage}
 use Rattle.vr_log.specs.declared.state.Status.{Status}
 use Rattle.vr_log.specs.declared.state.Status.TheVariants.{Normal, ViewChange, Recovering, Down}
 use Rattle.vr_log.specs.declared.state.VrState.{VrState}
+use Rattle.vr_log.specs.Log.{received}
 use Rattle.vr_log.specs.Members.{is_normal, is_primary, is_up, leads}
 use Rattle.vr_log.specs.Steps.{VrStep}
 use Rattle.vr_core.specs.declared.input.VrInput.TheVariants as vr_input
@@ -51,13 +56,18 @@ use Rattle.closing_laws.specs.Measure.{commands_from, left_to_do}
 use Rattle.closing_laws.specs.Quorum.{has}
 use Rattle.closing_laws.specs.Ways.{Sent, sent_by}
 use Rattle.closing_laws.specs.Following.{KeepsUp, Start}
-use Rattle.closing_laws.specs.Serving.{IsTrueOf, IsTruePrimary}
-use Rattle.closing_laws.specs.Starts.{FindRoom, IsDraining, Last_suspects, Drains, SavesSucceed}
+use Rattle.closing_laws.specs.Serving.{IsTrueOf}
+use Rattle.closing_laws.specs.Starts.{IsDraining, Last_suspects, Drains, SavesSucceed}
 use Rattle.closing_laws.proofs.Drained as drained_by
 use Rattle.closing_laws.proofs.Drained.{IsWay, To_member, From_member, To_switch, From_switch, put, put_own, put_other, heard_of}
-use Rattle.closing_laws.proofs.Carrying.{AllCarry, HeadOf, IsIdle, Posts, Loses, carry_both, controller_draws, controller_rests, controllers_stay, head_of, letters_carry, none_carried, ordered_may, reported_may, sw, switch_draws, switch_rests, switch_steps, switches_stay}
-use Rattle.closing_laws.proofs.Taking.{all_fit, at, own_steps, finds_head, leaves_head, member_work, By_message}
-use Rattle.closing_laws.proofs.Walking.{later, map_none}
+use Rattle.closing_laws.proofs.Carrying.{AllCarry, Carries, HeadOf, IsIdle, Posts, Loses, carry_both, controller_draws, controller_rests, controllers_stay, head_of, letters_carry, none_carried, ordered_may, reported_may, sw, switch_draws, switch_rests, switch_steps, switches_stay}
+use Rattle.closing_laws.proofs.Taking.{all_fit, at, length-numbered, own_steps, finds_head, leaves_head, member_work, By_message}
+use Rattle.closing_laws.proofs.Paired.{paired_length}
+use Rattle.closing_laws.proofs.Room.{finds_room}
+use Rattle.closing_laws.proofs.Roomy.{IsRoomy}
+use Rattle.closing_laws.proofs.Rooms.{Keeps, NothingBeside}
+use Rattle.closing_laws.proofs.Rooms as rooms
+use Rattle.closing_laws.proofs.Walking.{later, map_none, within_under}
 use Rattle.closing_laws.proofs.DrainingMeasure.{left_alike, lost_lowers, member_turn_lowers}
 use Rattle.closing_laws.proofs.PrimaryLowers.{place_of}
 use Rattle.closing_laws.proofs.Walking as walking
@@ -89,6 +99,9 @@ module _ {B : Type 0} (scene : Scene B) (results : List (List SaveResult)) (setu
   abbrev Drains' : ControllerState → (ℕ → VrState) → (ℕ → SwitchState) → List Sent → Type 0
   Drains' c members switches waiting = drained_by.Drains scene.kinds scene.setup w p quorum start c members switches waiting
 
+  abbrev IsRoomy' : ControllerState → (ℕ → VrState) → (ℕ → SwitchState) → List Sent → Type 0
+  IsRoomy' c members switches waiting = IsRoomy scene.kinds scene.setup w p quorum start c members switches waiting
+
   -- what the actors hold after a past, beside what is on its way
   pub record Stands (P : Past) (waiting : List Sent) : Type 0 where
     pub members : ℕ → VrState
@@ -96,6 +109,7 @@ module _ {B : Type 0} (scene : Scene B) (results : List (List SaveResult)) (setu
     pub members_are : (b : ℕ) → has quorum b ≡ true → (b ≡ p → ⊥) → (at scene results b P).now.vr ≡ members b
     pub switches_are : (s : ℕ) → s < length scene.setup.ports → (sw scene results s P).now ≡ switches s
     pub drains : Drains' (at scene results p P).now members switches waiting
+    pub roomy : IsRoomy' (at scene results p P).now members switches waiting
 
   -- what an actor owes, as messages on their way
   abbrev owes : Actor → Past → List Sent
@@ -176,6 +190,7 @@ module _ {B : Type 0} (scene : Scene B) (results : List (List SaveResult)) (setu
     members_are = λ b chosen other. ap (λ (c : ControllerState). c.vr) (controllers_stay scene results e P idle b) ∙ s.members_are b chosen other;
     switches_are = λ k there. switches_stay scene results e P idle k ∙ s.switches_are k there;
     drains = subst (λ (c : ControllerState). Drains' c s.members s.switches waiting) (sym (controllers_stay scene results e P idle p)) s.drains;
+    roomy = subst (λ (c : ControllerState). IsRoomy' c s.members s.switches waiting) (sym (controllers_stay scene results e P idle p)) s.roomy;
   }
 
   -- what an actor owes can be said
@@ -224,10 +239,8 @@ module _ {B : Type 0} (scene : Scene B) (results : List (List SaveResult)) (setu
       let whose : actor_of o.newest ≡ a = one_actor (actor_of o.newest) a it.1 in
       idle_left (Post a first letters lost) P (o.waiting ++ owes a P) (Posts a first letters lost) ∙ ap (λ (b : Actor). left_after P (o.waiting ++ owes b P)) (sym whose)
 
-  -- what is true of the primary and its switches, in each past in which it leads
-  pub record AreTrue (c : ControllerState) (switches : ℕ → SwitchState) : Type 0 where
-    pub primary : IsTruePrimary c
-    pub each : (s : ℕ) → s < length scene.setup.ports → IsTrueOf scene.kinds scene.setup c s (switches s)
+  abbrev pub AreTrue : ControllerState → (ℕ → SwitchState) → Type 0
+  AreTrue c switches = rooms.AreTrue scene.kinds scene.setup c switches
 
   -- the members of the quorum have promised no later view
   pub record HavePromised (P : Past) : Type 0 where
@@ -264,7 +277,11 @@ module _ {B : Type 0} (scene : Scene B) (results : List (List SaveResult)) (setu
       × (left_to_do scene.kinds scene.setup quorum c (put switches s (switch_turn (switches s) (heard_at m)).state) (rest ++ map (sent_by switch_message (actor.Switch s)) (switch_turn (switches s) (heard_at m)).letters) + 1 ≤
       left_to_do scene.kinds scene.setup quorum c switches (m ∷ rest)))
       (truths : (P : Past) → IsPossible scene results P → HavePromised P → AreTrue (at scene results p P).now (λ s. (sw scene results s P).now))
-      (named : (P : Past) → IsPossible scene results P → (q : Packet B) → IsIn q (pool P) → (s : ℕ) → (q.to ≡ actor.Switch s) ⊎ (q.from ≡ actor.Switch s) → s < length scene.setup.ports) where
+      (named : (P : Past) → IsPossible scene results P → (q : Packet B) → IsIn q (pool P) → (s : ℕ) → (q.to ≡ actor.Switch s) ⊎ (q.from ≡ actor.Switch s) → s < length scene.setup.ports)
+      (logged : (P : Past) → IsPossible scene results P → HavePromised P → (e : Event) → IsIn e (received (at scene results p P).now.vr.log) → e.switch < length scene.setup.ports)
+      (keeps_room : Keeps scene.kinds scene.setup w p quorum start NothingBeside IsRoomy')
+      (has_room : (c : ControllerState) (members : ℕ → VrState) (switches : ℕ → SwitchState) (waiting : List Sent) → Drains' c members switches waiting → AreTrue c switches →
+      ((e : Event) → IsIn e (received c.vr.log) → e.switch < length scene.setup.ports) → IsRoomy' c members switches waiting → length waiting ≤ pool_packets) where
     small_p : p < n
     small_p = small p inside
 
@@ -307,6 +324,24 @@ module _ {B : Type 0} (scene : Scene B) (results : List (List SaveResult)) (setu
             let same = ap (λ (y : VrState). y.promise) (s.members_are b chosen e) in
             omega (arith, low, view, same)
 
+    -- what is owed finds room
+    finds : (P : Past) (mode : Mode P) (a : Actor) (first : ℕ) (letters : List (Letter B)) (lost : ℕ) → IsInputOf a P → IsPossible scene results (Post a first letters lost ∷ P) →
+        IsWithinLimits scene.sealing.size (Post a first letters lost ∷ P) → lost ≡ 0
+    finds P (Resting r) a first letters lost input possible within =
+        absurd (walking.never_posts scene results setup faithful w quorum small before succeed P r.posted a first letters lost input possible)
+    finds P (Owing o) a first letters lost input possible within =
+        let it = subst (λ (Q : Past). IsInputOf a Q) o.is input in
+        let whose : actor_of o.newest ≡ a = one_actor (actor_of o.newest) a it.1 in
+        let stands = subst (λ (b : Actor). Stands P (o.waiting ++ owes b P)) whose o.stands in
+        let old = possible_before scene results _ P possible in
+        let had = promised P (o.waiting ++ owes a P) stands in
+        let few = has_room (at scene results p P).now stands.members stands.switches (o.waiting ++ owes a P) stands.drains (true_of P (o.waiting ++ owes a P) stands (truths P old had)) (logged P old had) stands.roomy in
+        let both = length-append o.waiting (owes a P) in
+        let waits = paired_length (Carries scene.sealing) (pool P) o.waiting o.carries in
+        let said = paired_length (Carries scene.sealing) (numbered first a letters) (owes a P) (post_carries a first letters lost P possible) in
+        let same = length-numbered first a letters in
+        finds_room scene.sealing.size a first letters lost P possible.orderly within (omega (arith, few, both, waits, said, same))
+
     -- the first packet that waits
     module _ (P : Past) (m : Sent) (rest : List Sent) (h : HeadOf scene.sealing (pool P) m rest) where
       abbrev id : ℕ
@@ -342,6 +377,7 @@ module _ {B : Type 0} (scene : Scene B) (results : List (List SaveResult)) (setu
             members_are = s.members_are;
             switches_are = s.switches_are;
             drains = drained_by.drains_lost scene.kinds scene.setup w p quorum start inside (at scene results p P).now s.members s.switches m rest s.drains lost;
+            roomy = keeps_room.lost (at scene results p P).now s.members s.switches m rest s.drains lost tt tt s.roomy;
           })
 
       loss_left : is_drawn quorum m.from m.to ≡ false → left_after (Lose m.to id ∷ P) rest ≡ left_after P (m ∷ rest)
@@ -425,6 +461,11 @@ module _ {B : Type 0} (scene : Scene B) (results : List (List SaveResult)) (setu
                 (sym (ap (λ (x : ControllerAt). x.now) (controller_rests scene results draw P p (ne_eqb b p other))))
                 (subst (λ (ls : List (Letter ControllerSays)). Drains' c (put s.members b step.state) s.switches (rest ++ map (sent_by controller_message (actor.Controller b)) ls))
                 (sym (turned.1 ∙ ap (λ (x : Work). x.letters) work_is)) moved.1);
+            roomy =
+                subst (λ (x : ControllerState). IsRoomy' x (put s.members b step.state) s.switches (rest ++ map (sent_by controller_message (actor.Controller b)) (at scene results b (draw ∷ P)).owed))
+                (sym (ap (λ (x : ControllerAt). x.now) (controller_rests scene results draw P p (ne_eqb b p other))))
+                (subst (λ (ls : List (Letter ControllerSays)). IsRoomy' c (put s.members b step.state) s.switches (rest ++ map (sent_by controller_message (actor.Controller b)) ls))
+                (sym (turned.1 ∙ ap (λ (x : Work). x.letters) work_is)) (keeps_room.member c s.members s.switches m rest b said.0 s.drains from to chosen other said.1 moved.1 tt tt s.roomy));
           };
         }
 
@@ -527,6 +568,9 @@ module _ {B : Type 0} (scene : Scene B) (results : List (List SaveResult)) (setu
             drains =
                 subst (λ (ls : List (Letter SwitchSays)). Drains' leader s.members switches' (rest ++ map (sent_by switch_message (actor.Switch k)) ls)) (sym switch_owed)
                 by_it.0;
+            roomy =
+                subst (λ (ls : List (Letter SwitchSays)). IsRoomy' leader s.members switches' (rest ++ map (sent_by switch_message (actor.Switch k)) ls)) (sym switch_owed)
+                (keeps_room.switch leader s.members s.switches m rest k there s.drains from to truths_before truths_after by_it.0 tt tt s.roomy);
           };
         }
 
@@ -604,6 +648,10 @@ module _ {B : Type 0} (scene : Scene B) (results : List (List SaveResult)) (setu
                 subst (λ (x : ControllerState). Drains' x s.members s.switches (rest ++ map (sent_by controller_message (actor.Controller p)) (at scene results p (primary_draw ∷ P)).owed)) (sym primary_turned.0)
                 (subst (λ (ls : List (Letter ControllerSays)). Drains' work.state s.members s.switches (rest ++ map (sent_by controller_message (actor.Controller p)) ls)) (sym primary_turned.1)
                 (turn_p.keeps true_before true_after room));
+            roomy =
+                subst (λ (x : ControllerState). IsRoomy' x s.members s.switches (rest ++ map (sent_by controller_message (actor.Controller p)) (at scene results p (primary_draw ∷ P)).owed)) (sym primary_turned.0)
+                (subst (λ (ls : List (Letter ControllerSays)). IsRoomy' work.state s.members s.switches (rest ++ map (sent_by controller_message (actor.Controller p)) ls)) (sym primary_turned.1)
+                (keeps_room.primary old s.members s.switches m rest s.drains to from true_before true_after room (turn_p.keeps true_before true_after room) tt tt s.roomy));
           };
         }
 
@@ -759,7 +807,7 @@ module _ {B : Type 0} (scene : Scene B) (results : List (List SaveResult)) (setu
     ended_by e rest P last primary left_before (Meets limit less kept goes_on) end again = absurd (never_done limit (e ∷ P) rest last primary goes_on end)
 
     -- all of them
-    pub goes : (entries P : List (JournalEntry B)) (last : Phase) (primary : ℕ) → FindRoom entries → (phase : Phase) → IsDraining w quorum phase → Mode P → ClosesTo scene results phase P entries last →
+    pub goes : (entries P : List (JournalEntry B)) (last : Phase) (primary : ℕ) → IsWithinLimits scene.sealing.size (later P entries) → (phase : Phase) → IsDraining w quorum phase → Mode P → ClosesTo scene results phase P entries last →
         IsPossible scene results (later P entries) → IsPosted scene results (later P entries) → IsEnd (next_move scene results last (later P entries)) (Done primary) → Ended primary (later P entries)
     goes [] P last primary room phase draining mode closes possible posted end = by_waiting r.waiting r.carries r.stands
       where
@@ -779,23 +827,25 @@ module _ {B : Type 0} (scene : Scene B) (results : List (List SaveResult)) (setu
             let h = head_of scene.sealing (pool P) m ms carries in
             absurd (subst (λ (v : Move B). IsEnd v (Done primary)) (next_is P m ms h phase draining) (subst (λ (f : Phase). IsEnd (next_move scene results f P) (Done primary)) closes end))
     goes (Post a first letters lost ∷ rest) P last primary room phase draining mode closes possible posted end =
-        let r = posts P mode a first letters lost closes.0 (under (Post a first letters lost) rest P possible) room.0 in
-        goes rest (Post a first letters lost ∷ P) last primary room.1 phase draining (Resting r) closes.1 possible posted end
+        let can = under (Post a first letters lost) rest P possible in
+        let fit = finds P mode a first letters lost closes.0 can (within_under scene.sealing.size rest (Post a first letters lost ∷ P) room) in
+        let r = posts P mode a first letters lost closes.0 can fit in
+        goes rest (Post a first letters lost ∷ P) last primary room phase draining (Resting r) closes.1 possible posted end
     goes (Draw a packet keep ∷ rest) P last primary room phase draining mode closes possible posted end =
         ended_by (Draw a packet keep) rest P last primary _ (move_of (Draw a packet keep) rest P last possible phase draining (rested P mode closes.0) closes.1.0 closes.1.1 closes.1.2) end
-        (λ next goes_on. goes rest (Draw a packet keep ∷ P) last primary room.1 (Draining w quorum) Drains next goes_on possible posted end)
+        (λ next goes_on. goes rest (Draw a packet keep ∷ P) last primary room (Draining w quorum) Drains next goes_on possible posted end)
     goes (Lose a packet ∷ rest) P last primary room phase draining mode closes possible posted end =
         ended_by (Lose a packet) rest P last primary _ (move_of (Lose a packet) rest P last possible phase draining (rested P mode closes.0) closes.1.0 closes.1.1 closes.1.2) end
-        (λ next goes_on. goes rest (Lose a packet ∷ P) last primary room.1 (Draining w quorum) Drains next goes_on possible posted end)
+        (λ next goes_on. goes rest (Lose a packet ∷ P) last primary room (Draining w quorum) Drains next goes_on possible posted end)
     goes (Local a input ∷ rest) P last primary room phase draining mode closes possible posted end =
         ended_by (Local a input) rest P last primary _ (move_of (Local a input) rest P last possible phase draining (rested P mode closes.0) closes.1.0 closes.1.1 closes.1.2) end
-        (λ next goes_on. goes rest (Local a input ∷ P) last primary room.1 (Draining w quorum) Drains next goes_on possible posted end)
+        (λ next goes_on. goes rest (Local a input ∷ P) last primary room (Draining w quorum) Drains next goes_on possible posted end)
     goes (Idle a ∷ rest) P last primary room phase draining mode closes possible posted end =
         ended_by (Idle a) rest P last primary _ (move_of (Idle a) rest P last possible phase draining (rested P mode closes.0) closes.1.0 closes.1.1 closes.1.2) end
-        (λ next goes_on. goes rest (Idle a ∷ P) last primary room.1 (Draining w quorum) Drains next goes_on possible posted end)
+        (λ next goes_on. goes rest (Idle a ∷ P) last primary room (Draining w quorum) Drains next goes_on possible posted end)
     goes (Refused a ∷ rest) P last primary room phase draining mode closes possible posted end =
         ended_by (Refused a) rest P last primary _ (move_of (Refused a) rest P last possible phase draining (rested P mode closes.0) closes.1.0 closes.1.1 closes.1.2) end
-        (λ next goes_on. goes rest (Refused a ∷ P) last primary room.1 (Draining w quorum) Drains next goes_on possible posted end)
+        (λ next goes_on. goes rest (Refused a ∷ P) last primary room (Draining w quorum) Drains next goes_on possible posted end)
 
     -- an entry that changes nobody keeps what is promised
     idle_promised : (e : JournalEntry B) (P : Past) → IsIdle scene results e → HavePromised P → HavePromised (e ∷ P)
@@ -838,31 +888,32 @@ module _ {B : Type 0} (scene : Scene B) (results : List (List SaveResult)) (setu
         (omega (arith, parts, none, known, less, same), more.2 kept)
 
     -- no more turns come than what is left to do, and those for the commands of what is newly committed
-    pub counts : (entries P : List (JournalEntry B)) (last : Phase) → FindRoom entries → (phase : Phase) → IsDraining w quorum phase → (mode : Mode P) → ClosesTo scene results phase P entries last →
+    pub counts : (entries P : List (JournalEntry B)) (last : Phase) → IsWithinLimits scene.sealing.size (later P entries) → (phase : Phase) → IsDraining w quorum phase → (mode : Mode P) → ClosesTo scene results phase P entries last →
         IsPossible scene results (later P entries) → Counted entries P (left_in P mode)
     counts [] P last room phase draining (Resting r) closes possible = (omega arith, promised P r.waiting r.stands)
     counts [] P last room phase draining (Owing o) closes possible = (omega arith, promised P (o.waiting ++ owes (actor_of o.newest) P) o.stands)
     counts (Post a first letters lost ∷ rest) P last room phase draining mode closes possible =
         let can = under (Post a first letters lost) rest P possible in
-        let r = posts P mode a first letters lost closes.0 can room.0 in
-        let more = counts rest (Post a first letters lost ∷ P) last room.1 phase draining (Resting r) closes.1 possible in
+        let fit = finds P mode a first letters lost closes.0 can (within_under scene.sealing.size rest (Post a first letters lost ∷ P) room) in
+        let r = posts P mode a first letters lost closes.0 can fit in
+        let more = counts rest (Post a first letters lost ∷ P) last room phase draining (Resting r) closes.1 possible in
         let parts = sum_by-cons turn_of (Post a first letters lost) rest in
-        let same = posts_left P mode a first letters lost closes.0 can room.0 in
+        let same = posts_left P mode a first letters lost closes.0 can fit in
         let known = idle_known (Post a first letters lost) P (Posts a first letters lost) in
         let counted = more.0 in
         (omega (arith, counted, parts, same, known), more.1)
     counts (Draw a packet keep ∷ rest) P last room phase draining mode closes possible =
         counted_by (Draw a packet keep) rest P last (left_in P mode) _ (rested_left P mode closes.0) (move_of (Draw a packet keep) rest P last possible phase draining (rested P mode closes.0) closes.1.0 closes.1.1 closes.1.2)
-        (λ next goes_on. counts rest (Draw a packet keep ∷ P) last room.1 (Draining w quorum) Drains next goes_on possible)
+        (λ next goes_on. counts rest (Draw a packet keep ∷ P) last room (Draining w quorum) Drains next goes_on possible)
     counts (Lose a packet ∷ rest) P last room phase draining mode closes possible =
         counted_by (Lose a packet) rest P last (left_in P mode) _ (rested_left P mode closes.0) (move_of (Lose a packet) rest P last possible phase draining (rested P mode closes.0) closes.1.0 closes.1.1 closes.1.2)
-        (λ next goes_on. counts rest (Lose a packet ∷ P) last room.1 (Draining w quorum) Drains next goes_on possible)
+        (λ next goes_on. counts rest (Lose a packet ∷ P) last room (Draining w quorum) Drains next goes_on possible)
     counts (Local a input ∷ rest) P last room phase draining mode closes possible =
         counted_by (Local a input) rest P last (left_in P mode) _ (rested_left P mode closes.0) (move_of (Local a input) rest P last possible phase draining (rested P mode closes.0) closes.1.0 closes.1.1 closes.1.2)
-        (λ next goes_on. counts rest (Local a input ∷ P) last room.1 (Draining w quorum) Drains next goes_on possible)
+        (λ next goes_on. counts rest (Local a input ∷ P) last room (Draining w quorum) Drains next goes_on possible)
     counts (Idle a ∷ rest) P last room phase draining mode closes possible =
         counted_by (Idle a) rest P last (left_in P mode) _ (rested_left P mode closes.0) (move_of (Idle a) rest P last possible phase draining (rested P mode closes.0) closes.1.0 closes.1.1 closes.1.2)
-        (λ next goes_on. counts rest (Idle a ∷ P) last room.1 (Draining w quorum) Drains next goes_on possible)
+        (λ next goes_on. counts rest (Idle a ∷ P) last room (Draining w quorum) Drains next goes_on possible)
     counts (Refused a ∷ rest) P last room phase draining mode closes possible =
         counted_by (Refused a) rest P last (left_in P mode) _ (rested_left P mode closes.0) (move_of (Refused a) rest P last possible phase draining (rested P mode closes.0) closes.1.0 closes.1.1 closes.1.2)
-        (λ next goes_on. counts rest (Refused a ∷ P) last room.1 (Draining w quorum) Drains next goes_on possible)
+        (λ next goes_on. counts rest (Refused a ∷ P) last room (Draining w quorum) Drains next goes_on possible)

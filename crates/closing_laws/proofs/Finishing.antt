@@ -1,5 +1,5 @@
 -- The third step of Settle: the first unprocessed event is proposed as processed where it is finished, and alone again and again.
-use Rattle.std.proofs.Common.{◌≡◌, ◌≤◌, ℕ, ◌+◌, zero, suc, Bool, true, false, List, [], ◌∷◌, ◌++◌, length, take, refl, sym, ◌∙◌, ap, subst, arith, append-nil, length-append, take_all}
+use Rattle.std.proofs.Common.{◌≡◌, ◌≤◌, ℕ, ◌+◌, zero, suc, Bool, true, false, List, [], ◌∷◌, ◌++◌, length, take, refl, sym, ◌∙◌, ap, subst, arith, append-nil, length-append}
 use Rattle.std.specs.Prelude.{nat_eq, nat_lt, nat_le, not, ◌&&◌, None, if◌then◌else◌}
 use Rattle.std.proofs.lemmas.Bool.{and_from, and_left, and_parts, and_right, eq-eqb, le-ltb, leb-true, lt-leb, lt-ltb, ltb-true, true≢false}
 use Rattle.std.proofs.lemmas.Option.{none-some}
@@ -22,7 +22,7 @@ use Rattle.rv_runs.specs.declared.messages.Message.{Message}
 use Rattle.closing_laws.specs.Serving.{AreFew, IsServed}
 use Rattle.closing_laws.proofs.Committing.{CommitsMore, more_committed}
 use Rattle.closing_laws.proofs.Growth.{log_prefix, log_pushed}
-use Rattle.closing_laws.proofs.Proposing.{Progress, Standing, commands_vr, committed_same, progress_none, progress_then, proposal_step, proposed_as, pushed}
+use Rattle.closing_laws.proofs.Proposing.{Progress, Standing, commands_vr, committed_same, progress_none, progress_then, proposal_step, proposed_as, pushed, pushed_all}
 use Rattle.closing_laws.proofs.Settled.{AreBounded, AreServed}
 use Rattle.closing_laws.proofs.Telling.{told}
 
@@ -167,10 +167,8 @@ module _ (kinds : List ℕ) (setup : Setup) (sw : ℕ → SwitchState) (in_ : �
         length (received (after_proposal kinds setup work entry).state.vr.log) ≤ processed (committed (after_proposal kinds setup work entry).state) + m
     fewer m short alone enough =
         let is = proposal_is kinds setup work entry short ∙ ap (λ (a : Bool). (pushed work.state entry (if a then length work.state.vr.log + 1 else work.state.vr.commit)).vr) alone in
-        let long = length-append work.state.vr.log (entry ∷ []) in
-        let whole : take (length work.state.vr.log + 1) (work.state.vr.log ++ entry ∷ []) ≡ work.state.vr.log ++ entry ∷ [] = take_all (length work.state.vr.log + 1) (work.state.vr.log ++ entry ∷ []) (omega (arith, long)) in
         let a = ap (λ (v : VrState). length (received v.log)) is ∙ ap length events in
-        let b = ap (λ (v : VrState). processed (take v.commit v.log)) is ∙ ap processed whole ∙ count in
+        let b = ap (λ (v : VrState). processed (take v.commit v.log)) is ∙ ap processed (pushed_all work.state entry) ∙ count in
         omega (arith, a, b, enough)
 
     -- in a group of several it is proposed now

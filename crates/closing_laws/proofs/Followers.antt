@@ -302,6 +302,18 @@ module _ (start : Start) (p : VrState) (lead : Leads start p) (leader : p.me ≡
   hears s m out in_ (inl h) = hears_start s m out in_ h
   hears s m out in_ (inr h) = hears_entry s m out in_ h
 
+  -- what it answers acknowledges no less than the log with which the view has started
+  pub answers_late : (s : VrState) (m : VrMessage) (out in_ : List Message) → KeepsUp start p b s (message.Vr m ∷ out) in_ →
+      ((vr_step s (vr_input.From p.me m)).letters ≡ []) ⊎ ((op : ℕ) × ((vr_step s (vr_input.From p.me m)).letters ≡ letter (vr.PrepareOk p.view op) p.me ∷ []) × (length start.log ≤ op))
+  answers_late s m out in_ (inl h) = by_news (nat_lt start.known (length start.log)) (ap (λ (x : VrStep). x.letters) (turn s m out in_ h))
+    where
+      by_news : (c : Bool) → (vr_step s (vr_input.From p.me m)).letters ≡ (if c then letter (vr.PrepareOk p.view (length start.log)) p.me ∷ [] else []) →
+          ((vr_step s (vr_input.From p.me m)).letters ≡ []) ⊎ ((op : ℕ) × ((vr_step s (vr_input.From p.me m)).letters ≡ letter (vr.PrepareOk p.view op) p.me ∷ []) × (length start.log ≤ op))
+      by_news true is = inr (length start.log, is, omega arith)
+      by_news false is = inl is
+  answers_late s m out in_ (inr h) =
+      inr (length s.log + 1, ap (λ (x : VrStep). x.letters) (prepares_turn s m out in_ h) ∙ letters_are s m out in_ h, (let least = h.least in omega (arith, least)))
+
   -- where nothing is on its way, it has all of the log, and has acknowledged it, or all was known as the view started
   pub rests : (s : VrState) → KeepsUp start p b s [] [] → (s.log ≡ p.log) × ((slice_index p.acked b ≡ length p.log) ⊎ (length p.log ≡ start.known))
   rests s (inl h) = absurd (let e = h.word in cc)

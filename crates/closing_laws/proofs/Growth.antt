@@ -1,5 +1,5 @@
 -- A log that grows: the lives of switches, what is processed, and what is issued for its events.
-use Rattle.std.proofs.Common.{◌≡◌, ◌≤◌, ◌<◌, ◌⊎◌, inl, inr, ℕ, ◌+◌, suc, Bool, true, false, List, [], ◌∷◌, ◌++◌, length, take, take_all, refl, sym, ◌∙◌, ap, subst, arith, append-nil, append_assoc, length-append}
+use Rattle.std.proofs.Common.{◌≡◌, ◌≤◌, ◌<◌, ◌⊎◌, inl, inr, ℕ, ◌+◌, ◌-◌, suc, Bool, true, false, List, [], ◌∷◌, ◌++◌, length, take, drop, take_all, take-append-drop, length-drop, refl, sym, ◌∙◌, ap, subst, arith, append-nil, append_assoc, length-append}
 use Rattle.std.specs.Prelude.{nat_eq, nat_lt, not, ◌&&◌, Option, Some, None, IfSome, if◌then◌else◌}
 use Rattle.std.specs.List.{range_with_len}
 use Rattle.std.proofs.lemmas.Bool.{and_from, cases_lt, not_from_false, eqb-true, ne_eqb, lt-ltb, le-ltb, ltb-true, true≢false}
@@ -14,10 +14,10 @@ use Rattle.of_types.proofs.Counts.{life_in-append}
 use Rattle.vr_log.specs.declared.entry.Entry.{Entry}
 use Rattle.vr_log.specs.declared.entry.Entry.TheVariants.{Received, Processed}
 use Rattle.vr_log.specs.Log.{follows, is_log, is_past_limits, is_processed, may_follow, processed, received}
-use Rattle.vr_log.proofs.Logs.{follows-append, follows_front, follows_one, no_earlier, received-append}
+use Rattle.vr_log.proofs.Logs.{follows-append, follows_front, follows_one, length_is, no_earlier, received-append}
 use Rattle.dispatcher.specs.Folding.{places_processed}
 use Rattle.controller_laws.proofs.Issued.{count-orders, issued_prefix}
-use Rattle.controller_laws.proofs.Logs.{may_follow_at, processed_at}
+use Rattle.controller_laws.proofs.Logs.{may_follow_at, processed_at, processed-append}
 use Rattle.app_core.specs.Chain.{concat}
 use Rattle.app_core.specs.Issued.{issues}
 use Rattle.group_controller.specs.Settling.{is_some_of}
@@ -83,6 +83,14 @@ processed_behind front (e ∷ back) less h =
 
 pub processed_within : (log : List Entry) → is_log log ≡ true → processed log ≤ length (received log)
 processed_within log h = processed_behind [] log (omega arith) h
+
+-- no more stand as processed beyond a place than entries do
+pub processed_beyond : (k : ℕ) (log : List Entry) → processed log - processed (take k log) ≤ length log - k
+processed_beyond k log =
+    let parts = ap processed (sym (take-append-drop k log)) ∙ processed-append (take k log) (drop k log) in
+    let kinds = length_is (drop k log) in
+    let long = length-drop k log in
+    omega (arith, parts, kinds, long)
 
 -- the events that entries have as processed, one after another
 pub places_are : (front back : List Entry) → is_log (front ++ back) ≡ true → places_processed back ≡ range_with_len (processed front) (processed back)

@@ -7,15 +7,16 @@ use Rattle.rv_base.specs.declared.journal.JournalEntry.TheVariants.{Post, Draw, 
 use Rattle.rv_base.specs.declared.journal.Packet.{Packet}
 use Rattle.rv_base.specs.declared.journal.SaveResult.{SaveResult}
 use Rattle.rv_base.specs.Pool.{pool}
+use Rattle.rv_base.specs.Turns.{IsWithinLimits}
 use Rattle.rv_runs.specs.States.{Scene}
 use Rattle.rv_runs.specs.Legal.{IsPossible, results_of}
 use Rattle.rv_runs.specs.Committed.{count_up, members_up, states_of}
 use Rattle.rv_runs.specs.Schedule.{Done, NoQuorum, IsEnd, Phase, Losing, Ends, ClosesTo, IsMove, IsPosted, after_move, closing_view, majority, next_lost, next_move, next_suspicion, next_view, quorum_of}
-use Rattle.closing_laws.specs.Starts.{FindRoom, IsAttempt}
+use Rattle.closing_laws.specs.Starts.{IsAttempt}
 use Rattle.closing_laws.proofs.Attempts.{StayUp, Falls, course, succeed}
 use Rattle.closing_laws.proofs.Taking.{at}
 use Rattle.closing_laws.proofs.Walking.{later, later_is}
-use Rattle.closing_laws.proofs.Begun.{later_append, room_behind}
+use Rattle.closing_laws.proofs.Begun.{later_append}
 
 long_append : {A : Type 0} (xs ys : List A) → length ys ≤ length (xs ++ ys)
 long_append [] ys = omega arith
@@ -32,7 +33,7 @@ module _ {B : Type 0} (scene : Scene B) (results : List (List SaveResult)) where
     pub attempt : IsAttempt scene results before rest last
 
   -- where a closing that loses what waits goes on to members, a majority takes part
-  most_up : (P : Past) (e : JournalEntry B) (next : Phase) → pool P ≡ [] → IsMove (next_move scene results Losing P) e next → majority scene.setup.controllers ≤ count_up scene results P
+  pub most_up : (P : Past) (e : JournalEntry B) (next : Phase) → pool P ≡ [] → IsMove (next_move scene results Losing P) e next → majority scene.setup.controllers ≤ count_up scene results P
   most_up P e next none move = by_test (nat_lt (length (members_up (states_of scene results P))) (majority scene.setup.controllers)) refl
       (subst (λ (ps : List (Packet B)). IsMove (next_lost scene.setup.controllers (states_of scene results P) ps) e next) none move)
     where
@@ -74,7 +75,7 @@ module _ {B : Type 0} (scene : Scene B) (results : List (List SaveResult)) where
       pub closes : ClosesTo scene results Losing P entries last
       pub possible : IsPossible scene results (later P entries)
       pub posted : IsPosted scene results (later P entries)
-      pub room : FindRoom entries
+      pub within : IsWithinLimits scene.sealing.size (later P entries)
       pub ends : IsEnd (next_move scene results last (later P entries)) (Done primary)
       pub exact : (c : ℕ) → c < scene.setup.controllers → length (results_of results c) ≤ (at scene results c (later P entries)).saves
 
@@ -91,13 +92,13 @@ module _ {B : Type 0} (scene : Scene B) (results : List (List SaveResult)) where
         closes = g.closes;
         posted = subst (λ (l : Past). IsPosted scene results l) (later_is P entries) g.posted;
         saves = succeed scene results entries P Losing last g.closes ups g.exact;
-        room = g.room;
+        within = subst (λ (l : Past). IsWithinLimits scene.sealing.size l) (later_is P entries) g.within;
       };
     }
 
     -- behind one entry
     behind_one : (P : Past) (e : JournalEntry B) (rest : Past) → Goes P (e ∷ rest) → ClosesTo scene results Losing (e ∷ P) rest last → Goes (e ∷ P) rest
-    behind_one P e rest g closes = record { closes = closes; possible = g.possible; posted = g.posted; room = g.room.1; ends = g.ends; exact = g.exact }
+    behind_one P e rest g closes = record { closes = closes; possible = g.possible; posted = g.posted; within = g.within; ends = g.ends; exact = g.exact }
 
     -- behind a fall
     behind_fall : (P entries : Past) → Goes P entries → (f : Falls scene results P entries last) → Goes (later (f.first ∷ P) f.front) f.rest × (later P entries ≡ later (later (f.first ∷ P) f.front) f.rest)
@@ -107,7 +108,7 @@ module _ {B : Type 0} (scene : Scene B) (results : List (List SaveResult)) where
             closes = f.again;
             possible = subst (λ (l : Past). IsPossible scene results l) same g.possible;
             posted = subst (λ (l : Past). IsPosted scene results l) same g.posted;
-            room = room_behind (f.first ∷ f.front) f.rest (subst (λ (l : Past). FindRoom l) f.joined g.room);
+            within = subst (λ (l : Past). IsWithinLimits scene.sealing.size l) same g.within;
             ends = subst (λ (l : Past). IsEnd (next_move scene results last l) (Done primary)) same g.ends;
             exact = λ c there. subst (λ (l : Past). length (results_of results c) ≤ (at scene results c l).saves) same (g.exact c there);
           },

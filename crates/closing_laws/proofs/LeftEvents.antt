@@ -1,6 +1,6 @@
 -- The events of a log that do not stand there as processed: each of them is held by its switch, or is of a life that is over, or stands
 -- beyond what was decided.
-use Rattle.std.proofs.Common.{◌≡◌, ◌≤◌, ◌<◌, ◌⊎◌, inl, inr, ℕ, zero, suc, ◌+◌, ◌-◌, Bool, List, [], ◌∷◌, length, drop, filter, refl, sym, ◌∙◌, ap, subst, arith, length-append, length-drop}
+use Rattle.std.proofs.Common.{◌≡◌, ◌≤◌, ◌<◌, ◌⊎◌, inl, inr, ℕ, ◌+◌, ◌-◌, Bool, List, [], ◌∷◌, length, drop, filter, refl, sym, ◌∙◌, ap, subst, arith, length-append, length-drop}
 use Rattle.std.specs.Prelude.{nat_eq, nat_lt, ◌&&◌, sum_by, if◌then◌else◌}
 use Rattle.std.specs.List.{range_with_len}
 use Rattle.std.proofs.lemmas.Bool.{and_from, cases_Bool, eq-eqb, ltb-false}
@@ -10,25 +10,19 @@ use Rattle.lists.proofs.Elements.{in_drop, in_left}
 use Rattle.of_types.specs.declared.message.Event.{Event}
 use Rattle.of_types.specs.Lives.{count_in}
 use Rattle.vr_log.specs.declared.entry.Entry.{Entry}
-use Rattle.vr_log.specs.declared.entry.Entry.TheVariants.{Received, Processed}
 use Rattle.vr_log.specs.Log.{processed, received}
-use Rattle.vr_log.proofs.Logs.{received-append}
+use Rattle.vr_log.proofs.Logs.{length_is, received-append}
 use Rattle.controller_laws.proofs.Logs.{count_prefix, processed_prefix, received_prefix}
 use Rattle.event_buffer.specs.Buffer.{next_number}
 use Rattle.of_switch.specs.State.{SwitchState, life_of}
 use Rattle.two_stage_log.specs.Counts.{processed_of}
 use Rattle.rv_runs.specs.Bound.{waiting_at}
-use Rattle.closing_laws.proofs.LoggedMeasure.{sum_lower}
-use Rattle.closing_laws.proofs.Numbering.{in_range}
-
-received_few : (xs : List Entry) → length (received xs) ≤ length xs
-received_few [] = omega arith
-received_few (Received e ∷ xs) = let rest = received_few xs in omega (arith, rest)
-received_few (Processed j ∷ xs) = let rest = received_few xs in omega (arith, rest)
+use Rattle.closing_laws.proofs.Numbering.{in_range, of_range}
+use Rattle.closing_laws.proofs.Sums.{sum_lower, sum_most}
 
 -- events of few switches, by their lives
 module _ (k : ℕ) (present : ℕ → ℕ) where
-  one_more : (e : Event) (es : List Event) → e.switch < k → (d : ℕ) → (d ≡ 0) ⊎ ((d ≡ 1) × (e.life ≡ present e.switch)) →
+  pub one_more : (e : Event) (es : List Event) → e.switch < k → (d : ℕ) → (d ≡ 0) ⊎ ((d ≡ 1) × (e.life ≡ present e.switch)) →
       sum_by (λ s. count_in s (present s) es) (range_with_len 0 k) + d ≤ sum_by (λ s. count_in s (present s) (e ∷ es)) (range_with_len 0 k)
   one_more e es there d how =
       sum_lower (λ s. count_in s (present s) es) (λ s. count_in s (present s) (e ∷ es)) (range_with_len 0 k) e.switch d (in_range 0 k e.switch (omega arith) (omega (arith, there)))
@@ -65,15 +59,6 @@ module _ (k : ℕ) (present : ℕ → ℕ) where
             omega (arith, rest, more, sums)
       ]
 
-sums_no_more : (g h : ℕ → ℕ) (a n m : ℕ) → a + n ≡ m → ((s : ℕ) → s < m → g s ≤ h s) → sum_by g (range_with_len a n) ≤ sum_by h (range_with_len a n)
-sums_no_more g h a zero m whole each = omega arith
-sums_no_more g h a (suc n) m whole each =
-    let p = sum_by-cons g a (range_with_len (a + 1) n) in
-    let q = sum_by-cons h a (range_with_len (a + 1) n) in
-    let first = each a (omega (arith, whole)) in
-    let rest = sums_no_more g h (a + 1) n m (omega (arith, whole)) each in
-    omega (arith, p, q, first, rest)
-
 -- a log that goes on from what was decided
 module _ (k : ℕ) (sw : ℕ → SwitchState) (log was : List Entry) (front : IsPrefix was log)
     (genuine : (e : Event) → IsIn e (received log) → (e.switch < k) × (e.life ≤ life_of (sw e.switch)))
@@ -95,10 +80,13 @@ module _ (k : ℕ) (sw : ℕ → SwitchState) (log was : List Entry) (front : Is
       sum_by (λ s. waiting_at (sw s)) (range_with_len 0 k) + length (filter (λ e. nat_lt e.life (life_of (sw e.switch))) open_events) + (length log - length was)
   unprocessed_left =
       let lives = by_lives k (λ s. life_of (sw s)) open_events (λ e among. genuine e (subst (λ (l : List Event). IsIn e l) (sym (received_prefix front).joined) (in_left e (received was) (received_prefix front).rest (in_drop (processed was) (received was) e among)))) in
-      let held = sums_no_more (λ s. count_in s (life_of (sw s)) open_events) (λ s. waiting_at (sw s)) 0 k k (omega arith) held_here in
+      let held = sum_most 1 0 (λ s. count_in s (life_of (sw s)) open_events) (λ s. waiting_at (sw s)) (range_with_len 0 k) (λ s among.
+      let less = (of_range 0 k s among).1 in
+      let here = held_here s (omega (arith, less)) in
+      omega (arith, here)) in
       let all = ap (λ (l : List Entry). length (received l)) front.joined ∙ ap (λ (l : List Event). length l) (received-append was front.rest) ∙ length-append (received was) (received front.rest) in
       let long = ap (λ (l : List Entry). length l) front.joined ∙ length-append was front.rest in
-      let few = received_few front.rest in
+      let few = length_is front.rest in
       let more = processed_prefix front in
       let rest = length-drop (processed was) (received was) in
       omega (arith, lives, held, all, long, few, more, rest)

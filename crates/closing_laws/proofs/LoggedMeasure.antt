@@ -1,9 +1,9 @@
 -- What is left to do at switches, as the primary's log grows; and the whole of what is left, by what a turn of the primary does.
-use Rattle.std.proofs.Common.{◌≡◌, ◌≤◌, ◌<◌, inl, inr, ℕ, ◌+◌, ◌-◌, ◌*◌, true, List, [], ◌∷◌, ◌++◌, length, ◌∙◌, ap, subst, arith, mul-add, mul-one, mul-le-mul_left}
+use Rattle.std.proofs.Common.{◌≡◌, ◌≤◌, ◌<◌, ℕ, ◌+◌, ◌-◌, ◌*◌, true, List, [], ◌∷◌, ◌++◌, length, ◌∙◌, ap, subst, arith, mul-add, mul-one, mul-le-mul_left}
 use Rattle.std.specs.Prelude.{nat_eq, ◌&&◌, sum_by, if◌then◌else◌}
 use Rattle.std.specs.List.{range_with_len}
-use Rattle.std.proofs.lemmas.List.Sums.{sum_by-append, sum_by-cons}
-use Rattle.lists.specs.Lists.{IsIn, IsPrefix}
+use Rattle.std.proofs.lemmas.List.Sums.{sum_by-append}
+use Rattle.lists.specs.Lists.{IsPrefix}
 use Rattle.lists.proofs.Prefixes.{front_prefix}
 use Rattle.of_types.specs.declared.message.Event.{Event}
 use Rattle.of_types.specs.declared.setup.Setup.{Setup}
@@ -23,26 +23,7 @@ use Rattle.closing_laws.proofs.CommandCounts.{before_stays, from_all, open_done,
 use Rattle.closing_laws.proofs.Growth.{log_prefix}
 use Rattle.closing_laws.proofs.Numbering.{in_range}
 use Rattle.closing_laws.proofs.PieceMeasure.{Falls}
-
--- a sum of which one part is lower, and no part is higher
-pub sum_lower : (g h : ℕ → ℕ) (xs : List ℕ) (s d : ℕ) → IsIn s xs → ((x : ℕ) → g x ≤ h x) → g s + d ≤ h s → sum_by g xs + d ≤ sum_by h xs
-sum_lower g h [] s d among each lower = absurd among
-sum_lower g h (x ∷ xs) s d (inl here) each lower =
-    let a = sum_by-cons g x xs in
-    let b = sum_by-cons h x xs in
-    let first = subst (λ (k : ℕ). g k + d ≤ h k) here lower in
-    let rest = no_higher xs in
-    omega (arith, a, b, first, rest)
-  where
-    no_higher : (ys : List ℕ) → sum_by g ys ≤ sum_by h ys
-    no_higher [] = omega arith
-    no_higher (y ∷ ys) = let a = sum_by-cons g y ys in let b = sum_by-cons h y ys in let one = each y in let rest = no_higher ys in omega (arith, a, b, one, rest)
-sum_lower g h (x ∷ xs) s d (inr later) each lower =
-    let a = sum_by-cons g x xs in
-    let b = sum_by-cons h x xs in
-    let one = each x in
-    let rest = sum_lower g h xs s d later each lower in
-    omega (arith, a, b, one, rest)
+use Rattle.closing_laws.proofs.Sums.{sum_lower}
 
 module _ (setup : Setup) (f : ℕ) (sw : ℕ → SwitchState) (c c' : ControllerState) (view : c'.vr.view ≡ c.vr.view) where
   same_unsent : (s : ℕ) → unsent c' (sw s) ≡ unsent c (sw s)

@@ -23,7 +23,7 @@ use Rattle.closing_laws.proofs.Followers.{Hears, hears}
 use Rattle.closing_laws.proofs.Worths.{worths-cons, worths_of}
 
 -- what acknowledges ends with an acknowledgement
-last_acknowledges : (view known acked len : ℕ) (ms : List Message) (m : Message) → AreAcknowledged view known acked len (ms ++ m ∷ []) → (op : ℕ) × (m ≡ message.Vr (vr.PrepareOk view op))
+pub last_acknowledges : (view known acked len : ℕ) (ms : List Message) (m : Message) → AreAcknowledged view known acked len (ms ++ m ∷ []) → (op : ℕ) × (m ≡ message.Vr (vr.PrepareOk view op))
 last_acknowledges view known acked len [] m h = (h.0, h.1)
 last_acknowledges view known acked len (x ∷ ms) m h = last_acknowledges view known h.0 len ms m h.4
 

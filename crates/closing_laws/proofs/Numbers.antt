@@ -26,6 +26,10 @@ in_has [] y h = absurd h
 in_has (x ∷ xs) y (inl e) = or_left (nat_eq x y) (has xs y) (eq-eqb x y (sym e))
 in_has (x ∷ xs) y (inr h) = or_right (nat_eq x y) (has xs y) (in_has xs y h)
 
+pub has_in : (xs : List ℕ) (y : ℕ) → has xs y ≡ true → IsIn y xs
+has_in [] y there = absurd (true≢false (sym there))
+has_in (x ∷ xs) y there = elim (or_cases (nat_eq x y) (has xs y) there) [ inl here ↦ inl (sym (eqb-true x y here)) | inr later ↦ inr (has_in xs y later) ]
+
 pub has_append : (xs ys : List ℕ) (j : ℕ) → has (xs ++ ys) j ≡ (has xs j || has ys j)
 has_append [] ys j = refl
 has_append (x ∷ xs) ys j = ap (λ b. nat_eq x j || b) (has_append xs ys j) ∙ sym (or_assoc (nat_eq x j) (has xs j) (has ys j))

@@ -31,9 +31,11 @@ use Rattle.closing_laws.proofs.Emptying as emptying
 use Rattle.closing_laws.proofs.Leading.{start_of}
 use Rattle.closing_laws.proofs.OpeningTurn as opens
 use Rattle.closing_laws.proofs.Picked.{IsPicked, picked_of_quorum}
+use Rattle.closing_laws.proofs.Roomy as roomy_by
 use Rattle.closing_laws.proofs.Taking.{at}
 use Rattle.closing_laws.proofs.Walking.{later, later_is}
 use Rattle.closing_laws.proofs.Walking as walking
+use Rattle.closing_laws.proofs.Wires.{wired_always}
 
 module _ {B : Type 0} (scene : Scene B) (results : List (List SaveResult)) (setup : IsSetup scene.setup) (faithful : IsFaithful scene.sealing) (few : AreFew scene.kinds scene.setup)
     (before entries : List (JournalEntry B)) (last : Phase) (best : ℕ) (a : IsAttempt scene results before entries last) (s : Starts scene results before entries last best)
@@ -134,6 +136,9 @@ module _ {B : Type 0} (scene : Scene B) (results : List (List SaveResult)) (setu
     abbrev Drains : ControllerState → List Sent → Type 0
     Drains c ms = drained_by.Drains scene.kinds scene.setup w p quorum start c (λ b. (at scene results b begin).now.vr) switches ms
 
+    abbrev Roomy : ControllerState → List Sent → Type 0
+    Roomy c ms = roomy_by.IsRoomy scene.kinds scene.setup w p quorum start c (λ b. (at scene results b begin).now.vr) switches ms
+
     pub stands : emptying.Stands scene results setup faithful w quorum small before a.saves start begin waiting
     stands = record {
       members = λ b. (at scene results b begin).now.vr;
@@ -145,6 +150,11 @@ module _ {B : Type 0} (scene : Scene B) (results : List (List SaveResult)) (setu
           (subst (λ (x : Work). Drains end.state (map (sent_by controller_message (actor.Controller p)) x.letters)) (sym end_is)
           (opens.drains scene.kinds scene.setup few w quorum members best picked small ready s.covered chosen s.started.voters s.started.promise switches older_then
           truth.primary truth.each (sym (ap (λ (c : ControllerState). c.full) now_is) ∙ room) (λ b. (at scene results b begin).now.vr) (λ b member other. s.started.others b member (ne_eqb b p other))));
+      roomy =
+          subst (λ (c : ControllerState). Roomy c waiting) (sym now_is)
+          (subst (λ (x : Work). Roomy end.state (map (sent_by controller_message (actor.Controller p)) x.letters)) (sym end_is)
+          (roomy_by.roomy_starts scene.kinds scene.setup few w quorum members best picked small ready s.covered chosen s.started.voters s.started.promise switches older_then
+          truth (λ t there. wired_always scene setup begin t there) (λ b. (at scene results b begin).now.vr)));
     }
 
     pub opened : emptying.Mode scene results setup faithful w quorum small before a.saves start begin

@@ -1,9 +1,7 @@
 -- What is left to do where a closing's view has started.
-use Rattle.std.proofs.Common.{◌≡◌, ◌≤◌, ◌<◌, ◌⊎◌, inl, inr, ℕ, ◌+◌, ◌-◌, ◌*◌, ◌/◌, ◌%◌, true, false, List, [], ◌∷◌, map, length, take, drop, filter, refl, sym, ◌∙◌, ap, subst, arith, length-drop, take-append-drop}
-use Rattle.std.specs.Prelude.{sum_by, Option, Some, None, if◌then◌else◌}
+use Rattle.std.proofs.Common.{◌≡◌, ◌≤◌, ◌<◌, ◌⊎◌, inl, inr, ℕ, ◌+◌, ◌-◌, ◌*◌, ◌/◌, ◌%◌, true, List, map, length, take, filter, refl, sym, ◌∙◌, ap, subst, arith}
+use Rattle.std.specs.Prelude.{sum_by}
 use Rattle.std.specs.List.{range_with_len}
-use Rattle.std.proofs.lemmas.Bool.{ne_eqb}
-use Rattle.std.proofs.lemmas.List.Sums.{sum_by-cons}
 use Rattle.lists.specs.Lists.{IsPrefix}
 use Rattle.of_types.specs.declared.message.Event.{Event}
 use Rattle.of_types.specs.Lives.{count_in}
@@ -11,15 +9,11 @@ use Rattle.of_types.specs.Setups.{IsSetup}
 use Rattle.rv_base.specs.declared.journal.Actor.TheVariants as actor
 use Rattle.rv_base.specs.declared.journal.JournalEntry.{JournalEntry}
 use Rattle.rv_base.specs.declared.journal.SaveResult.{SaveResult}
-use Rattle.vr_log.specs.declared.entry.Entry.{Entry}
-use Rattle.vr_log.specs.declared.entry.Entry.TheVariants.{Received, Processed}
 use Rattle.vr_log.specs.declared.state.VrState.{VrState}
-use Rattle.vr_log.specs.Log.{is_processed, processed, received}
+use Rattle.vr_log.specs.Log.{processed, received}
 use Rattle.vr_log.specs.Members.{most_failures, others, others_below}
 use Rattle.view_change.specs.Entering.{tells_start, view_start}
-use Rattle.controller_laws.proofs.Logs.{processed-append}
 use Rattle.of_switch.specs.State.{SwitchState, life_of}
-use Rattle.group_controller.specs.Settling.{is_some_of}
 use Rattle.group_controller.specs.State.{ControllerState, Work, fresh, stepped}
 use Rattle.rv_runs.specs.Bound.{waiting_at}
 use Rattle.rv_runs.specs.States.{Scene, IsFaithful, controller_message}
@@ -37,35 +31,11 @@ use Rattle.closing_laws.proofs.Carrying.{sw}
 use Rattle.closing_laws.proofs.Leading as leading
 use Rattle.closing_laws.proofs.Opened as opened_by
 use Rattle.closing_laws.proofs.OpeningTurn as opens
+use Rattle.closing_laws.proofs.SwitchAsked.{older_other}
 use Rattle.closing_laws.proofs.Picked.{IsPicked}
 use Rattle.closing_laws.proofs.PrimaryLowers.{place_known, place_of}
 use Rattle.closing_laws.proofs.StartMeasure as measure
 use Rattle.closing_laws.proofs.Taking.{at}
-
--- a log has the events that were received, and those that were processed
-pub both_kinds : (log : List Entry) → length log ≡ length (received log) + processed log
-both_kinds [] = refl
-both_kinds (Received e ∷ log) =
-    let rest = both_kinds log in
-    let parts = sum_by-cons (λ (x : Entry). if is_processed x then 1 else 0) (Received e) log in
-    omega (arith, rest, parts)
-both_kinds (Processed j ∷ log) =
-    let rest = both_kinds log in
-    let parts = sum_by-cons (λ (x : Entry). if is_processed x then 1 else 0) (Processed j) log in
-    omega (arith, rest, parts)
-
--- no more stand as processed beyond a place than entries do
-pub processed_beyond : (k : ℕ) (log : List Entry) → processed log - processed (take k log) ≤ length log - k
-processed_beyond k log =
-    let parts = ap processed (sym (take-append-drop k log)) ∙ processed-append (take k log) (drop k log) in
-    let kinds = both_kinds (drop k log) in
-    let long = length-drop k log in
-    omega (arith, parts, kinds, long)
-
--- a generation that is older is not this one
-older_other : (view : ℕ) (o : Option ℕ) → IsOlder o view → is_some_of view o ≡ false
-older_other view None h = refl
-older_other view (Some g) h = ne_eqb g view (λ e. omega (arith, e, h))
 
 module _ {B : Type 0} (scene : Scene B) (results : List (List SaveResult)) (setup : IsSetup scene.setup) (faithful : IsFaithful scene.sealing) (few : AreFew scene.kinds scene.setup)
     (before entries : List (JournalEntry B)) (last : Phase) (best : ℕ) (a : IsAttempt scene results before entries last) (s : Starts scene results before entries last best)

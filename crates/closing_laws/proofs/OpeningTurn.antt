@@ -59,7 +59,7 @@ proposed_commit kinds setup work e several = by_limits (is_past_limits work.stat
     by_limits false true h = absurd cc
     by_limits false false h = refl
 
-several_commit : (kinds : List ℕ) (setup : Setup) (m : ℕ) (work : Work) → is_alone work.state ≡ false → (finishing m kinds setup work).state.vr.commit ≡ work.state.vr.commit
+pub several_commit : (kinds : List ℕ) (setup : Setup) (m : ℕ) (work : Work) → is_alone work.state ≡ false → (finishing m kinds setup work).state.vr.commit ≡ work.state.vr.commit
 unfolding finishing
 several_commit kinds setup zero work several = refl
 several_commit kinds setup (suc m) work several =
@@ -88,37 +88,37 @@ way_of_letter p quorum letters others m among drawn =
 module _ (kinds : List ℕ) (setup : Setup) (few : AreFew kinds setup) (w : ℕ) (quorum : List ℕ) (at : ℕ → VrState) (best : ℕ) (picked : IsPicked setup.controllers w quorum)
     (small : (b : ℕ) → has quorum b ≡ true → b < setup.controllers) (ready : (j : ℕ) → has quorum j ≡ true → IsMember setup.controllers w j (at j)) (covered : IsCovered quorum at best) (chosen : has quorum best ≡ true)
     (voters : ℕ → List ℕ) (promise : Option ℕ) (sw : ℕ → SwitchState) (older : (t : ℕ) → t < length setup.ports → IsOlder (sw t).fence.generation w) where
-  abbrev n : ℕ
+  abbrev pub n : ℕ
   n = setup.controllers
 
-  abbrev p : ℕ
+  abbrev pub p : ℕ
   p = w % n
 
-  abbrev start : Start
+  abbrev pub start : Start
   start = start_of p quorum at best
 
-  abbrev leader : VrState
+  abbrev pub leader : VrState
   leader = leading.leader n w quorum at best picked small ready covered chosen voters
 
-  abbrev words : List VrLetter
+  abbrev pub words : List VrLetter
   words = to_others leader (view_start leader)
 
-  abbrev first : Work
+  abbrev pub first : Work
   first = stepped (fresh leader) (record (tells_start leader) { promise = promise })
 
-  abbrev opened : ControllerState
+  abbrev pub opened : ControllerState
   opened = opening.opened kinds setup sw few first words refl older
 
-  abbrev asking : Work
+  abbrev pub asking : Work
   asking = opening.asking kinds setup sw few first words refl older
 
   abbrev pub end : Work
   end = starting_view kinds setup first
 
-  me : leader.me ≡ p
+  pub me : leader.me ≡ p
   me = leading.me n w quorum at best picked small ready covered chosen voters
 
-  size : leader.controllers ≡ n
+  pub size : leader.controllers ≡ n
   size = leading.size n w quorum at best picked small ready covered chosen voters
 
   goes_on : Proceeds asking end
@@ -137,7 +137,7 @@ module _ (kinds : List ℕ) (setup : Setup) (few : AreFew kinds setup) (w : ℕ)
   kept : settled_from.state.vr ≡ leader
   kept = commands_vr kinds setup (with_answers kinds setup leader.commit asking)
 
-  within : leader.commit ≤ length leader.log
+  pub within : leader.commit ≤ length leader.log
   within = (leading.leads_with n w quorum at best picked small ready covered chosen voters).commit
 
   pub grown : Grows leader end.state.vr
@@ -153,6 +153,13 @@ module _ (kinds : List ℕ) (setup : Setup) (few : AreFew kinds setup) (w : ℕ)
       (ap (λ (v : VrState). nat_eq (v.controllers / 2) 0) kept ∙ ap (λ (k : ℕ). nat_eq (k / 2) 0) size ∙ ne_eqb (n / 2) 0 (λ e. omega (arith, e, some)))
       ∙ ap (λ (v : VrState). v.commit) kept
 
+  -- alone all is committed
+  pub whole : most_failures leader ≡ 0 → leader.commit ≡ length leader.log
+  whole none = elim (leading.commit_is n w quorum at best picked small ready covered chosen voters) [
+    | inl a ↦ a.1
+    | inr b ↦ (let some = b.0 in let half = ap (λ (k : ℕ). k / 2) size in absurd (omega (arith, some, half, none)))
+  ]
+
   -- what the end of the turn tells of its begin
   module _ (now : IsTruePrimary end.state) (each : (t : ℕ) → t < length setup.ports → IsTrueOf kinds setup end.state t (sw t)) (room : end.state.full ≡ None) where
     committed_is : 0 < n / 2 → committed end.state ≡ take leader.commit leader.log
@@ -161,12 +168,6 @@ module _ (kinds : List ℕ) (setup : Setup) (few : AreFew kinds setup) (w : ℕ)
     sound : IsSound opened
     sound = by_size (leading.commit_is n w quorum at best picked small ready covered chosen voters)
       where
-        whole : most_failures leader ≡ 0 → leader.commit ≡ length leader.log
-        whole none = elim (leading.commit_is n w quorum at best picked small ready covered chosen voters) [
-          | inl a ↦ a.1
-          | inr b ↦ (let some = b.0 in let half = ap (λ (k : ℕ). k / 2) size in absurd (omega (arith, some, half, none)))
-        ]
-
         below : leader.me < leader.controllers
         below = let less = small p picked.primary in let a = me in let b = size in omega (arith, less, a, b)
 
@@ -202,7 +203,7 @@ module _ (kinds : List ℕ) (setup : Setup) (few : AreFew kinds setup) (w : ℕ)
     abbrev work : Work
     work = record end { letters = has_opened.letters }
 
-    abbrev waited : ℕ → VrState
+    abbrev pub waited : ℕ → VrState
     waited b = in_view (at b) w (voters b) true [] None
 
     abbrev word : ℕ → List Message

@@ -1,46 +1,32 @@
 -- Each turn of a closing's primary lowers what is left to do by one at least, but for the commands of events that are newly committed.
-use Rattle.std.proofs.Common.{◌≡◌, ◌≤◌, ◌<◌, ◌⊎◌, inl, inr, ℕ, ◌+◌, ◌*◌, ◌/◌, Bool, true, false, List, [], ◌∷◌, length, take, filter, refl, sym, ◌∙◌, ap, subst, arith, append-nil}
-use Rattle.std.specs.Prelude.{nat_eq, nat_lt, not, ◌&&◌, ◌||◌, if◌then◌else◌}
+use Rattle.std.proofs.Common.{◌≡◌, ◌≤◌, ◌<◌, inl, inr, ℕ, ◌+◌, ◌*◌, Bool, true, false, List, [], ◌∷◌, length, take, filter, refl, sym, ◌∙◌, ap, subst, arith, append-nil}
+use Rattle.std.specs.Prelude.{nat_eq, not, ◌&&◌, ◌||◌, if◌then◌else◌}
 use Rattle.std.specs.List.{list_any}
-use Rattle.std.proofs.lemmas.Bool.{and_from, and_right, cases_Bool, cases_eq, cond_both, eq-eqb, eqb-true, ltb-false, not_from_true, true≢false}
+use Rattle.std.proofs.lemmas.Bool.{cases_Bool, cases_eq, cond_both, eqb-true, true≢false}
 use Rattle.std.proofs.lemmas.List.{length-take-le}
 use Rattle.lists.specs.Lists.{IsPrefix}
 use Rattle.lists.proofs.Prefixes.{front_prefix, prefix_is, prefix_refl, prefix_trans, takes_prefix}
 use Rattle.of_types.specs.declared.message.Event.{Event}
-use Rattle.of_types.specs.declared.message.Extension.TheVariants as extension
-use Rattle.of_types.specs.declared.message.Happening.{Happening}
-use Rattle.of_types.specs.declared.message.OfMessage.TheVariants as plain
-use Rattle.of_types.specs.declared.message.Outcome.{Outcome}
-use Rattle.of_types.specs.declared.message.Spoken.TheVariants as spoken
-use Rattle.of_types.specs.declared.numbers.TheConstants.{MASTER}
 use Rattle.of_types.specs.declared.setup.Setup.{Setup}
 use Rattle.rv_base.specs.declared.journal.Letter.{Letter}
-use Rattle.vr_log.specs.declared.entry.Entry.{Entry}
 use Rattle.vr_log.specs.declared.entry.Entry.TheVariants.{Received}
-use Rattle.vr_log.specs.declared.message.VrMessage.TheVariants as vr
 use Rattle.vr_log.specs.declared.state.VrState.{VrState}
 use Rattle.vr_log.specs.Log.{is_log, is_past_limits, processed, received}
-use Rattle.vr_log.specs.Members.{is_other, leads, most_failures, others_below}
-use Rattle.vr_log.specs.Steps.{VrStep, quiet}
-use Rattle.vr_normal.specs.Cases.{acked_by, counted, is_counted}
-use Rattle.vr_core.specs.declared.input.VrInput.TheVariants as vr_input
-use Rattle.vr_core.specs.Step.{on_vr, vr_step}
+use Rattle.vr_log.specs.Members.{most_failures, others_below}
+use Rattle.vr_log.specs.Steps.{quiet}
 use Rattle.two_stage_log.specs.Counts.{has_unprocessed}
 use Rattle.app_core.specs.declared.issued.Issued.{Issued}
 use Rattle.controller_laws.proofs.Logs.{processed_prefix}
 use Rattle.dispatcher.specs.declared.answers.Wish.{Wish}
 use Rattle.dispatcher.specs.declared.answers.Wish.TheVariants.{Propose, Acknowledge, Nothing}
-use Rattle.dispatcher.specs.Folding.{wish}
 use Rattle.dispatcher.specs.Marks.{Marks, confirmed_by, has_result, is_confirmed, is_pending, is_wanted, outstanding, with_mark, with_result}
 use Rattle.of_switch.specs.State.{SwitchState, life_of}
 use Rattle.event_buffer.specs.Buffer.{next_number}
-use Rattle.group_controller.specs.declared.messages.ControllerInput.TheVariants as controller_input
 use Rattle.group_controller.specs.declared.messages.ControllerSays.{ControllerSays}
 use Rattle.group_controller.specs.State.{ControllerState, Work, committed, posting, resting, stepped, with_no_met_limit}
 use Rattle.group_controller.specs.Settling.{ack_letter, after_finishing, after_proposal, is_alone, is_untold, proposing, settling}
-use Rattle.group_controller.specs.Rules.{after_step, commands_for, controller_work, on_master, on_spoken, on_wish, starting_view}
-use Rattle.rv_runs.specs.declared.messages.Message.TheVariants as message
-use Rattle.closing_laws.specs.Measure.{commands_from, commands_sent, left_at_switches, left_to_process, message_worth}
+use Rattle.group_controller.specs.Rules.{commands_for, on_master, on_wish, on_result}
+use Rattle.closing_laws.specs.Measure.{commands_from, commands_sent, left_at_switches, left_to_process}
 use Rattle.closing_laws.specs.Quorum.{has}
 use Rattle.closing_laws.specs.Serving.{IsTruePrimary, logged_of}
 use Rattle.closing_laws.proofs.Agreed.{agreed_no_less, agreed_within, marked}
@@ -48,7 +34,7 @@ use Rattle.closing_laws.proofs.AnswerWorths.{acks_worth, commands_worth, primary
 use Rattle.closing_laws.proofs.CommandCounts.{due_of}
 use Rattle.closing_laws.proofs.Confirmed.{due_none}
 use Rattle.closing_laws.proofs.Growth.{log_prefix}
-use Rattle.closing_laws.proofs.Hearing.{joins, joins_others, leader_input}
+use Rattle.closing_laws.proofs.Hearing.{joins, joins_others}
 use Rattle.closing_laws.proofs.LoggedMeasure.{logged_left, same_left, whole_falls}
 use Rattle.closing_laws.proofs.PieceMeasure.{Falls, falls_none, falls_then, received_falls}
 use Rattle.closing_laws.proofs.Proposing.{proposal, pushed}
@@ -161,20 +147,12 @@ module _ (kinds : List ℕ) (setup : Setup) (quorum : List ℕ) (f : ℕ) (sw : 
           omega (arith, before, h)
     ]
 
-    master_lowers : Lowers (on_master kinds setup d s) 1
+    pub master_lowers : Lowers (on_master kinds setup d s) 1
     master_lowers place early =
         let said = commands_worth quorum c.vr.me kinds setup now_confirmed its in
         let more = sent_more in
         whole_falls kinds setup quorum c.vr.me f sw c now_confirmed (commands_for kinds setup now_confirmed s) 0 1 place (omega (arith, said, more)) (prefix_refl (committed c)) p.one early
         (let kept = same_left setup f sw c now_confirmed refl refl in omega (arith, kept))
-
-    pub reply_lowers : (xid role generation : ℕ) →
-        Lowers (controller_work kinds setup c (controller_input.Of s xid (spoken.Plain (plain.RoleReply role generation)))) (message_worth (message.Of xid (spoken.Plain (plain.RoleReply role generation))))
-    reply_lowers xid role generation =
-        subst (λ (y : Work). Lowers y 1)
-        (sym (leader_input kinds setup c (controller_input.Of s xid (spoken.Plain (plain.RoleReply role generation))) p.leads
-        ∙ ap (λ (b : Bool). if b then on_spoken kinds setup d s (spoken.Plain (plain.RoleReply role generation)) else resting d) p.leads))
-        (cond_both (nat_eq role MASTER && nat_eq generation c.vr.view) (on_master kinds setup d s) (resting d) (λ (y : Work). Lowers y 1) (λ _. master_lowers) (λ _. lowers_rest 1 (omega arith)))
 
   -- ---- a result comes
 
@@ -183,16 +161,12 @@ module _ (kinds : List ℕ) (setup : Setup) (quorum : List ℕ) (f : ℕ) (sw : 
       cond_both (is_pending kinds setup (committed c) s life number) (with_mark c.marks s life number) c.marks (λ (m : Marks). m.confirmed ≡ c.marks.confirmed)
       (λ _. cond_both (has_result c.marks s life number) c.marks _ (λ (m : Marks). m.confirmed ≡ c.marks.confirmed) (λ _. refl) (λ _. refl)) (λ _. refl)
 
-  pub result_lowers : (s xid life number : ℕ) (result : Outcome) →
-      Lowers (controller_work kinds setup c (controller_input.Of s xid (spoken.Ravana (extension.CmdAck life number result)))) (message_worth (message.Of xid (spoken.Ravana (extension.CmdAck life number result))))
-  result_lowers s xid life number result =
-      subst (λ (y : Work). Lowers y 1)
-      (sym (leader_input kinds setup c (controller_input.Of s xid (spoken.Ravana (extension.CmdAck life number result))) p.leads
-      ∙ ap (λ (b : Bool). if b then on_spoken kinds setup d s (spoken.Ravana (extension.CmdAck life number result)) else resting d) p.leads))
-      (cond_both (is_pending kinds setup (committed c) s life number) (after_finishing kinds setup (resting now)) (resting d) (λ (y : Work). Lowers y 1)
+  pub result_lowers : (s life number : ℕ) → Lowers (on_result kinds setup d s life number) 1
+  result_lowers s life number =
+      cond_both (is_pending kinds setup (committed c) s life number) (after_finishing kinds setup (resting now)) (resting d) (λ (y : Work). Lowers y 1)
       (λ _. lowers_still now refl sent (after_finishing kinds setup (resting now)) 1
       (finished_descends kinds setup quorum c.vr.me f c.vr.controllers enough (resting now) (ready now refl)) (omega arith))
-      (λ _. lowers_rest 1 (omega arith)))
+      (λ _. lowers_rest 1 (omega arith))
     where
       now : ControllerState
       now = record d { marks = with_result kinds setup (committed c) c.marks s life number }
@@ -251,85 +225,49 @@ module _ (kinds : List ℕ) (setup : Setup) (quorum : List ℕ) (f : ℕ) (sw : 
           whole_falls kinds setup quorum c.vr.me f sw c d (through_letter through ∷ []) 1 2 place (omega (arith, said)) (prefix_refl (committed c)) p.one early
           (let kept = same_left setup f sw c d refl refl in omega (arith, kept))
 
-      wish_lowers : (w : Wish) → logged_of (on_wish kinds setup d e w).state s (sw s) ≤ next_number (sw s).buffer → Lowers (on_wish kinds setup d e w) 2
+      pub wish_lowers : (w : Wish) → logged_of (on_wish kinds setup d e w).state s (sw s) ≤ next_number (sw s).buffer → Lowers (on_wish kinds setup d e w) 2
       wish_lowers Propose within = proposing_lowers within
       wish_lowers (Acknowledge through) within = acknowledged_lowers through
       wish_lowers Nothing within = lowers_rest 2 (omega arith)
 
-  pub event_lowers : (s xid number : ℕ) (what : Happening) → s < length setup.ports →
-      let end = controller_work kinds setup c (controller_input.Of s xid (spoken.Ravana (extension.Event (life_of (sw s)) number what))) in
-      logged_of end.state s (sw s) ≤ next_number (sw s).buffer → Lowers end (message_worth (message.Of xid (spoken.Ravana (extension.Event (life_of (sw s)) number what))))
-  event_lowers s xid number what there within =
-      subst (λ (y : Work). Lowers y 2) (sym is)
-      (wish_lowers e s there refl refl (wish c.vr.log (committed c) e) (subst (λ (y : Work). logged_of y.state s (sw s) ≤ next_number (sw s).buffer) is within))
-    where
-      e : Event
-      e = record { switch = s; life = life_of (sw s); number = number; what = what }
-
-      is : controller_work kinds setup c (controller_input.Of s xid (spoken.Ravana (extension.Event (life_of (sw s)) number what))) ≡ on_wish kinds setup d e (wish c.vr.log (committed c) e)
-      is = leader_input kinds setup c (controller_input.Of s xid (spoken.Ravana (extension.Event (life_of (sw s)) number what))) p.leads
-          ∙ ap (λ (b : Bool). if b then on_spoken kinds setup d s (spoken.Ravana (extension.Event (life_of (sw s)) number what)) else resting d) p.leads
-
   -- ---- a member acknowledges
 
-  -- a member that leads as before, with as much committed at least
-  module _ (w : VrState) (log : w.log ≡ c.vr.log) (low : c.vr.commit ≤ w.commit) (high : w.commit ≤ length w.log) (lead : leads w ≡ true)
-      (me_is : w.me ≡ c.vr.me) (size_is : w.controllers ≡ c.vr.controllers) (view_is : w.view ≡ c.vr.view) where
+  module _ (from op : ℕ) where
+    abbrev w : VrState
+    w = marked c.vr from op
+
     abbrev mid : Work
     mid = stepped d (quiet w)
 
-    goes_so : after_step kinds setup d (quiet w) ≡ (if nat_lt c.vr.commit w.commit then settling kinds setup c.vr.commit mid else mid)
-    unfolding after_step
-    goes_so =
-        let old = and_right (leads w) (not (leads c.vr && nat_eq c.vr.view w.view)) (not_from_true (leads c.vr && nat_eq c.vr.view w.view) (and_from (leads c.vr) (nat_eq c.vr.view w.view) p.leads (eq-eqb c.vr.view w.view (sym view_is)))) in
-        ap (λ (x : Bool). if x then starting_view kinds setup mid else if leads w && nat_lt c.vr.commit w.commit then settling kinds setup c.vr.commit mid else mid) old
-        ∙ ap (λ (x : Bool). if x && nat_lt c.vr.commit w.commit then settling kinds setup c.vr.commit mid else mid) lead
+    low : c.vr.commit ≤ w.commit
+    low = agreed_no_less c.vr from op
+
+    high : w.commit ≤ length c.vr.log
+    high = agreed_within c.vr from op p.commit
 
     front : IsPrefix (committed c) (committed mid.state)
-    front = subst (λ (l : List Entry). IsPrefix (committed c) (take w.commit l)) (sym log) (takes_prefix c.vr.commit w.commit c.vr.log low)
+    front = takes_prefix c.vr.commit w.commit c.vr.log low
 
     one : is_log (committed mid.state) ≡ true
-    one = log_prefix (front_prefix w.commit w.log) (ap is_log log ∙ p.one)
+    one = log_prefix (front_prefix w.commit c.vr.log) p.one
 
     most : processed (committed mid.state) ≤ processed (committed c) + 1
-    most = let a = p.ahead in let b = processed_prefix (front_prefix w.commit w.log) in let e = ap processed log in omega (arith, a, b, e)
+    most = let a = p.ahead in let b = processed_prefix (front_prefix w.commit c.vr.log) in omega (arith, a, b)
 
     mid_ready : IsReady' mid.state
     mid_ready = record {
-      mine = me_is;
-      size = size_is;
+      mine = refl;
+      size = refl;
       within = high;
-      whole = λ h. let all = whole (sym (ap (λ (k : ℕ). k / 2) size_is) ∙ eqb-true (most_failures w) 0 h) in let same = ap (λ (l : List Entry). length l) log in omega (arith, all, same, low, high);
+      whole = λ h. let all = whole (eqb-true (most_failures w) 0 h) in let up = low in let top = high in omega (arith, all, up, top);
     }
 
-    ok_lowers : Lowers (after_step kinds setup d (quiet w)) 1
-    ok_lowers =
-        subst (λ (y : Work). Lowers y 1) (sym goes_so)
-        (cond_both (nat_lt c.vr.commit w.commit) (settling kinds setup c.vr.commit mid) mid (λ (y : Work). Lowers y 1)
-        (λ _. lowers_still d refl refl (settling kinds setup c.vr.commit mid) 1
-        (settling_descends kinds setup quorum c.vr.me f c.vr.controllers enough d mid log refl refl me_is size_is view_is front one most c.vr.commit (sym (length-take-le c.vr.commit c.vr.log p.commit)) mid_ready) (omega arith))
-        (λ h. lowers_still d refl refl mid 1
-        (silent_descends kinds setup quorum c.vr.me f c.vr.controllers enough d mid log refl refl me_is size_is view_is front one most (same h)) (omega arith)))
-      where
-        same : nat_lt c.vr.commit w.commit ≡ false → processed (committed mid.state) ≡ processed (committed c)
-        same h =
-            let few = ltb-false c.vr.commit w.commit h in
-            let k : w.commit ≡ c.vr.commit = omega (arith, few, low) in
-            ap (λ (l : List Entry). processed (take w.commit l)) log ∙ ap (λ (n : ℕ). processed (take n c.vr.log)) k
+    pub agreed_lowers : Lowers (settling kinds setup c.vr.commit mid) 1
+    agreed_lowers =
+        lowers_still d refl refl (settling kinds setup c.vr.commit mid) 1
+        (settling_descends kinds setup quorum c.vr.me f c.vr.controllers enough d mid refl refl refl refl refl refl front one most c.vr.commit (sym (length-take-le c.vr.commit c.vr.log p.commit)) mid_ready) (omega arith)
 
-  ok_step : (from view op : ℕ) → (vr_step c.vr (vr_input.From from (vr.PrepareOk view op)) ≡ quiet (marked c.vr from op)) ⊎ (vr_step c.vr (vr_input.From from (vr.PrepareOk view op)) ≡ quiet c.vr)
-  unfolding on_vr
-  ok_step from view op =
-      cond_both (is_other c.vr from) _ _ (λ (y : VrStep). (y ≡ quiet (marked c.vr from op)) ⊎ (y ≡ quiet c.vr))
-      (λ _. cond_both (is_counted c.vr view op) (quiet (counted (acked_by c.vr from op))) (quiet c.vr) (λ (y : VrStep). (y ≡ quiet (marked c.vr from op)) ⊎ (y ≡ quiet c.vr))
-      (λ _. inl refl) (λ _. inr refl))
-      (λ _. inr refl)
-
-  pub ack_lowers : (from view op : ℕ) → Lowers (controller_work kinds setup c (controller_input.Vr from (vr.PrepareOk view op))) (message_worth (message.Vr (vr.PrepareOk view op)))
-  ack_lowers from view op =
-      subst (λ (y : Work). Lowers y 1) (sym (leader_input kinds setup c (controller_input.Vr from (vr.PrepareOk view op)) p.leads))
-      (elim (ok_step from view op) [
-        | inl is ↦ subst (λ (y : VrStep). Lowers (after_step kinds setup d y) 1) (sym is)
-            (ok_lowers (marked c.vr from op) refl (agreed_no_less c.vr from op) (agreed_within c.vr from op p.commit) p.leads refl refl refl)
-        | inr is ↦ subst (λ (y : VrStep). Lowers (after_step kinds setup d y) 1) (sym is) (ok_lowers c.vr refl (omega arith) p.commit p.leads refl refl refl)
-      ])
+    pub counted_lowers : w.commit ≡ c.vr.commit → Lowers mid 1
+    counted_lowers same =
+        lowers_still d refl refl mid 1
+        (silent_descends kinds setup quorum c.vr.me f c.vr.controllers enough d mid refl refl refl refl refl refl front one most (ap (λ (n : ℕ). processed (take n c.vr.log)) same)) (omega arith)

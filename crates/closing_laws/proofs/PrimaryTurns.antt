@@ -295,10 +295,10 @@ module _ (kinds : List ℕ) (setup : Setup) (few : AreFew kinds setup) (w p : �
       abbrev next : VrState
       next = agreed_by.marked c.vr b op
 
-      small_b : b < c.vr.controllers
+      pub small_b : b < c.vr.controllers
       small_b = let low = small b chosen in let size = d.primary.size in omega (arith, low, size)
 
-      keeps_next : (op ≤ length c.vr.log) × KeepsUp start next b (members b) (between (actor.Controller p) (actor.Controller b) rest) (between (actor.Controller b) (actor.Controller p) rest)
+      pub keeps_next : (op ≤ length c.vr.log) × KeepsUp start next b (members b) (between (actor.Controller p) (actor.Controller b) rest) (between (actor.Controller b) (actor.Controller p) rest)
       keeps_next =
           keeps_up_acked start c.vr next d.primary.lead refl refl refl (agreed_by.agreed_no_less c.vr b op) b op (members b) (between (actor.Controller p) (actor.Controller b) rest) (between (actor.Controller b) (actor.Controller p) rest)
           (get_or-set_same c.vr.acked b (max op (slice_index c.vr.acked b)) 0 (let counts = d.primary.lead.counts in let low = small_b in omega (arith, counts, low)))
@@ -341,7 +341,7 @@ module _ (kinds : List ℕ) (setup : Setup) (few : AreFew kinds setup) (w p : �
       heard_ok =
           ap (λ (a : Actor). controller_hears a (unsealed.Message m.said)) from ∙ ap (λ (y : Message). controller_hears (actor.Controller b) (unsealed.Message y)) said_ok.1
 
-      several : 0 < most_failures c.vr
+      pub several : 0 < most_failures c.vr
       several =
           let low = small b chosen in
           let low_p = small_p in

@@ -113,7 +113,7 @@ others_get s m l h b to is =
     eqb-false s.me z.0 apart (sym (same ∙ is))
 
 -- one that led before has not started its view by a step that leaves it there
-not_started : (kinds : List ℕ) (setup : Setup) (c : ControllerState) → leads c.vr ≡ true → (step : VrStep) → IsSamePlace c.vr step.state →
+pub not_started : (kinds : List ℕ) (setup : Setup) (c : ControllerState) → leads c.vr ≡ true → (step : VrStep) → IsSamePlace c.vr step.state →
     after_step kinds setup (with_no_met_limit c) step ≡
     (if leads step.state && nat_lt c.vr.commit step.state.commit then settling kinds setup c.vr.commit (stepped (with_no_met_limit c) step) else stepped (with_no_met_limit c) step)
 unfolding after_step

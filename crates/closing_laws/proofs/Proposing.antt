@@ -1,6 +1,7 @@
 -- A primary proposes an entry: in a group of several the others are told, and alone it commits the entry and settles again.
-use Rattle.std.proofs.Common.{◌≡◌, ◌≤◌, ◌<◌, ◌⊎◌, inl, inr, ℕ, ◌+◌, Bool, true, false, List, [], ◌∷◌, ◌++◌, length, take, refl, sym, ◌∙◌, ap, subst, arith, append-nil, append_assoc, length-append, take_all}
+use Rattle.std.proofs.Common.{◌≡◌, ◌≤◌, ◌<◌, ◌⊎◌, inl, inr, ℕ, ◌+◌, Bool, true, false, List, [], ◌∷◌, ◌++◌, length, take, refl, sym, ◌∙◌, ap, subst, arith, append-nil, append_assoc, length-append, take_all, drop}
 use Rattle.std.specs.Prelude.{not, ◌&&◌, Option, Some, IfSome, if◌then◌else◌}
+use Rattle.std.proofs.Math.Seq.{drop-append_seam}
 use Rattle.std.proofs.lemmas.Bool.{eqb-true, eqb-false, true≢false}
 use Rattle.std.proofs.lemmas.List.{take-append-le, length-take-le}
 use Rattle.of_types.specs.declared.setup.Setup.{Setup}
@@ -64,6 +65,14 @@ proposed_as alone work entry =
 
 pub committed_same : (c : ControllerState) (entry : Entry) → c.vr.commit ≤ length c.vr.log → committed (pushed c entry c.vr.commit) ≡ committed c
 committed_same c entry within = take-append-le c.vr.commit c.vr.log (entry ∷ []) within
+
+-- an entry that is committed at once
+pub pushed_all : (c : ControllerState) (entry : Entry) → committed (pushed c entry (length c.vr.log + 1)) ≡ c.vr.log ++ entry ∷ []
+pushed_all c entry = let long = length-append c.vr.log (entry ∷ []) in take_all (length c.vr.log + 1) (c.vr.log ++ entry ∷ []) (omega (arith, long))
+
+pub pushed_behind : (c : ControllerState) (entry : Entry) → c.vr.commit ≡ length c.vr.log → drop c.vr.commit (committed (pushed c entry (length c.vr.log + 1))) ≡ entry ∷ []
+pushed_behind c entry whole =
+    ap (λ (k : ℕ). drop k (committed (pushed c entry (length c.vr.log + 1)))) whole ∙ ap (drop (length c.vr.log)) (pushed_all c entry) ∙ drop-append_seam c.vr.log (entry ∷ [])
 
 -- what is untold depends on what is committed alone
 pub untold_same : (c c' : ControllerState) → committed c' ≡ committed c → c'.last_told ≡ c.last_told → is_untold c' ≡ is_untold c
@@ -173,9 +182,6 @@ module _ (kinds : List ℕ) (setup : Setup) (sw : ℕ → SwitchState) (in_ : �
     abbrev alone_work : Work
     alone_work = with_commands kinds setup (with_answers kinds setup work.state.vr.commit (proposed_as true work entry))
 
-    whole_now : committed (pushed work.state entry (length work.state.vr.log + 1)) ≡ work.state.vr.log ++ entry ∷ []
-    whole_now = let long = length-append work.state.vr.log (entry ∷ []) in take_all (length work.state.vr.log + 1) (work.state.vr.log ++ entry ∷ []) (omega (arith, long))
-
     committed_now : is_alone work.state ≡ true → CommitsMore (pushed work.state entry work.state.vr.commit) (pushed work.state entry (length work.state.vr.log + 1))
     committed_now alone = record {
       view = refl;
@@ -184,10 +190,10 @@ module _ (kinds : List ℕ) (setup : Setup) (sw : ℕ → SwitchState) (in_ : �
       last_told = refl;
       events = refl;
       more = entry ∷ [];
-      committed_is = whole_now ∙ ap (λ (l : List Entry). l ++ entry ∷ []) (sym (same ∙ take_all work.state.vr.commit work.state.vr.log (let full = s.whole (eqb-true (most_failures work.state.vr) 0 alone) in omega (arith, full))));
-      one = ap is_log whole_now ∙ one;
-      most = let p = ap processed whole_now in let q = ap processed same in omega (arith, p, q, ahead);
-      unfinished = λ h. ap has_unprocessed same ∙ unfinished (let p = ap processed whole_now in let q = ap processed same in omega (arith, p, q, h));
+      committed_is = pushed_all work.state entry ∙ ap (λ (l : List Entry). l ++ entry ∷ []) (sym (same ∙ take_all work.state.vr.commit work.state.vr.log (let full = s.whole (eqb-true (most_failures work.state.vr) 0 alone) in omega (arith, full))));
+      one = ap is_log (pushed_all work.state entry) ∙ one;
+      most = let p = ap processed (pushed_all work.state entry) in let q = ap processed same in omega (arith, p, q, ahead);
+      unfinished = λ h. ap has_unprocessed same ∙ unfinished (let p = ap processed (pushed_all work.state entry) in let q = ap processed same in omega (arith, p, q, h));
     }
       where
         same : committed (pushed work.state entry work.state.vr.commit) ≡ committed work.state
@@ -246,7 +252,7 @@ module _ (kinds : List ℕ) (setup : Setup) (sw : ℕ → SwitchState) (in_ : �
             commit_is = ap (λ (v : VrState). v.commit) r.tells.vr
 
             committed_is : committed alone_work.state ≡ work.state.vr.log ++ entry ∷ []
-            committed_is = ap (λ (v : VrState). take v.commit v.log) r.tells.vr ∙ whole_now
+            committed_is = ap (λ (v : VrState). take v.commit v.log) r.tells.vr ∙ pushed_all work.state entry
 
             log_long : length alone_work.state.vr.log ≡ length work.state.vr.log + 1
             log_long = ap (λ (v : VrState). length v.log) r.tells.vr ∙ length-append work.state.vr.log (entry ∷ [])

@@ -2,6 +2,7 @@
 use Rattle.std.proofs.Common.{◌≡◌, ◌≤◌, ◌<◌, inl, inr, ℕ, zero, suc, ◌+◌, ◌-◌, ◌*◌, ◌/◌, ◌%◌, Bool, true, false, List, [], ◌∷◌, ◌++◌, map, length, take, drop, filter, refl, sym, ◌∙◌, ap, subst, arith}
 use Rattle.std.specs.Prelude.{nat_lt, reverse, sum_by, slice_index_or, Option, Some, None}
 use Rattle.std.specs.List.{range_with_len}
+use Rattle.std.proofs.Math.Path.{fun_ext}
 use Rattle.std.proofs.Math.Seq.{drop-append_seam}
 use Rattle.std.proofs.lemmas.Bool.{cases_lt}
 use Rattle.lists.specs.Lists.{IsIn, IsPrefix}
@@ -11,6 +12,7 @@ use Rattle.of_types.specs.Lives.{count_in}
 use Rattle.of_types.specs.Setups.{IsSetup}
 use Rattle.rv_base.specs.declared.journal.JournalEntry.{JournalEntry}
 use Rattle.rv_base.specs.declared.journal.SaveResult.{SaveResult}
+use Rattle.rv_base.specs.Turns.{IsWithinLimits}
 use Rattle.vr_log.specs.declared.entry.Entry.{Entry}
 use Rattle.vr_log.specs.declared.entry.LogFull.{LogFull}
 use Rattle.vr_log.specs.declared.state.VrState.{VrState}
@@ -30,31 +32,29 @@ use Rattle.rv_agreement.proofs.Groups.{odd_law}
 use Rattle.rv_laws.proofs.Laws.{lasting_law}
 use Rattle.closing_laws.specs.Following.{Leads, Start}
 use Rattle.closing_laws.specs.Measure.{commands_from}
-use Rattle.closing_laws.specs.Quick.{ClosingsAreQuick}
 use Rattle.closing_laws.specs.Quorum.{has}
 use Rattle.closing_laws.specs.Serving.{AreFew, IsOlder}
-use Rattle.closing_laws.specs.Starts.{FindRoom, IsAttempt, Starts, members_at, quorum_after, turns_after, view_after}
+use Rattle.closing_laws.specs.Starts.{IsAttempt, Starts, members_at, quorum_after, turns_after, view_after}
 use Rattle.closing_laws.specs.Views.{HasBest, turns_to_start}
 use Rattle.closing_laws.proofs.AloneLogs.{decided_before}
 use Rattle.closing_laws.proofs.Begun as begun
-use Rattle.closing_laws.proofs.Begun.{counts_append, room_behind}
+use Rattle.closing_laws.proofs.Begun.{counts_append}
 use Rattle.closing_laws.proofs.Behind as behind
 use Rattle.closing_laws.proofs.BestLogs.{has_best}
-use Rattle.closing_laws.proofs.DrainingMeasure.{sum_alike}
 use Rattle.closing_laws.proofs.Emptied as emptied
 use Rattle.closing_laws.proofs.Emptying as emptying
 use Rattle.closing_laws.proofs.Facts.{cleared, known}
 use Rattle.closing_laws.proofs.Generations.{generations_older}
-use Rattle.closing_laws.proofs.Given.{are_few}
 use Rattle.closing_laws.proofs.InTime.{in_time_law}
 use Rattle.closing_laws.proofs.KnownEntries.{commands_within, longest_within, place_below}
 use Rattle.closing_laws.proofs.LeftEvents.{unprocessed_left}
 use Rattle.closing_laws.proofs.Opened as opened_by
-use Rattle.closing_laws.proofs.OpenedMeasure.{both_kinds, processed_beyond}
+use Rattle.closing_laws.proofs.Growth.{processed_beyond}
 use Rattle.closing_laws.proofs.OpenedMeasure as measure
 use Rattle.closing_laws.proofs.Picked.{IsPicked, picked_of_quorum}
 use Rattle.closing_laws.proofs.PrimaryLowers.{known_of, place_of}
 use Rattle.closing_laws.proofs.Walking.{later}
+use Rattle.vr_log.proofs.Logs.{length_is}
 
 -- the bound in a group of this size, by what the parts are within: the turns to the start, those behind it, and of these the events that
 -- do not stand as processed, and those that do beyond what is known
@@ -83,9 +83,9 @@ decided_grows {B = B} scene results setup faithful more P possible =
     subst (λ (l : List (JournalEntry B)). IsPrefix (decided scene results l) (decided scene results (more ++ P))) back (lasting_law scene results (more ++ P) setup faithful possible (length more) 0)
 
 -- switches that took no turn hold what they held
-waiting_same : {B : Type 0} (scene : Scene B) (P Q : List (JournalEntry B)) (k : ℕ) → ((t : ℕ) → switch_state scene t P ≡ switch_state scene t Q) →
+pub waiting_same : {B : Type 0} (scene : Scene B) (P Q : List (JournalEntry B)) (k : ℕ) → ((t : ℕ) → switch_state scene t P ≡ switch_state scene t Q) →
     sum_by (λ t. waiting_at (switch_state scene t P)) (range_with_len 0 k) ≡ sum_by (λ t. waiting_at (switch_state scene t Q)) (range_with_len 0 k)
-waiting_same scene P Q k same = sum_alike (λ t (x : SwitchState). waiting_at x) (λ t. switch_state scene t P) (λ t. switch_state scene t Q) 0 k k (omega arith) (λ t there. same t)
+waiting_same scene P Q k same = ap (λ (sw : ℕ → SwitchState). sum_by (λ t. waiting_at (sw t)) (range_with_len 0 k)) (fun_ext same)
 
 module _ {B : Type 0} (scene : Scene B) (results : List (List SaveResult)) (setup : IsSetup scene.setup) (faithful : IsFaithful scene.sealing) (few : AreFew scene.kinds scene.setup)
     (before entries : List (JournalEntry B)) (last : Phase) (a : IsAttempt scene results before entries last) where
@@ -222,8 +222,8 @@ module _ {B : Type 0} (scene : Scene B) (results : List (List SaveResult)) (setu
         let one = truth.primary.ahead in
         let count = ap processed committed_is in
         let front = processed_prefix (front_prefix leader.commit leader.log) in
-        let x = both_kinds c.vr.log in
-        let y = both_kinds leader.log in
+        let x = length_is c.vr.log in
+        let y = length_is leader.log in
         let far = longest in
         let place = place_decided in
         omega (arith, some_left, same, one, count, front, x, y, far, place)
@@ -261,6 +261,9 @@ module _ {B : Type 0} (scene : Scene B) (results : List (List SaveResult)) (setu
     possible_end : IsPossible scene results ends
     possible_end = behind.possible scene results setup faithful few before entries last a best is_best starts
 
+    within_then : IsWithinLimits scene.sealing.size ends
+    within_then = subst (λ (l : List (JournalEntry B)). IsWithinLimits scene.sealing.size l) whole a.within
+
     commands_few : c.full ≡ None → Promised ends → commands_from scene.kinds scene.setup (controller_state scene results p ends) (place_of start) ≤ commands
     commands_few room kept =
         let now : ControllerState = controller_state scene results p ends in
@@ -291,7 +294,7 @@ module _ {B : Type 0} (scene : Scene B) (results : List (List SaveResult)) (setu
 
     by_full : (o : Option LogFull) → c.full ≡ o → Bounded
     by_full None is =
-        let counted = emptied.counts scene results setup faithful few w quorum closing before a.saves start starts.rest begins last (room_behind starts.first starts.rest (subst FindRoom starts.joined a.room)) starts.phase starts.drains
+        let counted = emptied.counts scene results setup faithful few w quorum closing before a.saves start starts.rest begins last within_then starts.phase starts.drains
         (behind.opened scene results setup faithful few before entries last a best is_best starts is) (subst (λ (o : Option LogFull). ClosesTo scene results (met_by o starts.phase) begins starts.rest last) is goes_on) possible_end in
         let turns = counted.0 in
         let left = behind.opened_left scene results setup faithful few before entries last a best is_best starts is in
@@ -323,6 +326,3 @@ module _ {B : Type 0} (scene : Scene B) (results : List (List SaveResult)) (setu
         | inl less ↦ bounded_first (count_turns entries) b.0 (omega (arith, less))
         | inr enough ↦ started_quick b.0 b.1 (s.starts enough)
       ]
-
-pub quick_law : {B : Type 0} → ClosingsAreQuick B
-quick_law scene results before entries last setup faithful given a = attempt_turns scene results setup faithful (are_few scene.setup setup scene.kinds given) before entries last a

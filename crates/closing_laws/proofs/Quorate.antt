@@ -105,7 +105,7 @@ module _ {B : Type 0} (scene : Scene B) (results : List (List SaveResult)) where
   Up P m = (m < n) × (is_up (at scene results m P).now.vr ≡ true)
 
   -- an entry of a closing: a post, a loss, a draw, or a suspicion
-  abbrev IsCalm : JournalEntry B → Type 0
+  abbrev pub IsCalm : JournalEntry B → Type 0
   IsCalm (Refused a) = ⊥
   IsCalm (Local a input) = input ≡ local.Crash → ⊥
   IsCalm _ = Unit {0}
@@ -148,9 +148,12 @@ module _ {B : Type 0} (scene : Scene B) (results : List (List SaveResult)) where
     pub succeed : SavesSucceed scene results P
     pub most : majority n ≤ count_up scene results P
 
+  pub succeed_behind : (e : JournalEntry B) (P : Past) → IsCalm e → SavesSucceed scene results P → SavesSucceed scene results (e ∷ P)
+  succeed_behind e P calm succeed = λ c i there low. let more = (one c there e P calm succeed).1 in succeed c i there (omega (arith, more, low))
+
   goes_behind : (e : JournalEntry B) (P : Past) → IsCalm e → Goes P → Goes (e ∷ P)
   goes_behind e P calm g = record {
-    succeed = λ c i there low. let more = (one c there e P calm g.succeed).1 in g.succeed c i there (omega (arith, more, low));
+    succeed = succeed_behind e P calm g.succeed;
     most =
         (let more = ups_kept (λ c. controller_state scene results c P) (λ c. controller_state scene results c (e ∷ P)) (range_with_len 0 n)
         (range_all (λ c. is_up (controller_state scene results c P).vr ≡ true → is_up (controller_state scene results c (e ∷ P)).vr ≡ true) 0 n (λ c less. (one c (omega (arith, less)) e P calm g.succeed).0)) in

@@ -1,10 +1,11 @@
 -- A closing that ends has left nothing undone: its last attempt starts a view, and that drains all.
-use Rattle.std.proofs.Common.{◌≡◌, ◌≤◌, inl, inr, ℕ, ◌%◌, List, [], ◌++◌, length, refl, sym, ◌∙◌, subst, arith}
+use Rattle.std.proofs.Common.{◌≡◌, ◌≤◌, inl, inr, ℕ, List, [], ◌++◌, length, refl, sym, ◌∙◌, subst, arith}
 use Rattle.std.specs.Prelude.{reverse, Option, Some, None}
 use Rattle.std.proofs.lemmas.Bool.{cases_lt}
 use Rattle.of_types.specs.Setups.{IsSetup}
 use Rattle.rv_base.specs.declared.journal.JournalEntry.{JournalEntry}
 use Rattle.rv_base.specs.declared.journal.SaveResult.{SaveResult}
+use Rattle.rv_base.specs.Turns.{IsWithinLimits}
 use Rattle.vr_log.specs.declared.entry.LogFull.{LogFull}
 use Rattle.group_controller.specs.State.{ControllerState}
 use Rattle.rv_runs.specs.States.{Scene, IsFaithful}
@@ -13,7 +14,7 @@ use Rattle.rv_runs.specs.Schedule.{IsPosted, count_turns, ClosesTo, Done, IsEnd,
 use Rattle.closing_laws.specs.Ends.{ClosingsRest, HasRested}
 use Rattle.closing_laws.specs.Following.{Start}
 use Rattle.closing_laws.specs.Serving.{AreFew}
-use Rattle.closing_laws.specs.Starts.{FindRoom, IsAttempt, Starts, members_at, quorum_after, turns_after, view_after}
+use Rattle.closing_laws.specs.Starts.{IsAttempt, Starts, members_at, quorum_after, turns_after, view_after}
 use Rattle.closing_laws.specs.Views.{HasBest}
 use Rattle.closing_laws.proofs.Begun as begun
 use Rattle.closing_laws.proofs.BestLogs.{has_best}
@@ -26,7 +27,6 @@ use Rattle.closing_laws.proofs.LastAttempts as attempts
 use Rattle.closing_laws.proofs.Picked.{IsPicked, picked_of_quorum}
 use Rattle.closing_laws.proofs.Taking.{at}
 use Rattle.closing_laws.proofs.Walking.{later, later_is}
-use Rattle.closing_laws.proofs.Begun.{room_behind}
 
 module _ {B : Type 0} (scene : Scene B) (results : List (List SaveResult)) (setup : IsSetup scene.setup) (faithful : IsFaithful scene.sealing) (few : AreFew scene.kinds scene.setup)
     (before entries : List (JournalEntry B)) (last : Phase) (primary : ℕ) (a : IsAttempt scene results before entries last) (end : IsEnd (next_move scene results last (reverse entries ++ before)) (Done primary)) where
@@ -35,9 +35,6 @@ module _ {B : Type 0} (scene : Scene B) (results : List (List SaveResult)) (setu
 
   abbrev w : ℕ
   w = view_after scene results before
-
-  abbrev p : ℕ
-  p = w % n
 
   abbrev quorum : List ℕ
   quorum = quorum_after scene results before
@@ -77,6 +74,9 @@ module _ {B : Type 0} (scene : Scene B) (results : List (List SaveResult)) (setu
   possible : IsPossible scene results (later begins starts.rest)
   possible = behind.possible scene results setup faithful few before entries last a best best_is.1 starts
 
+  within : IsWithinLimits scene.sealing.size (later begins starts.rest)
+  within = subst (λ (l : List (JournalEntry B)). IsWithinLimits scene.sealing.size l) whole a.within
+
   posted : IsPosted scene results (later begins starts.rest)
   posted = subst (λ (l : List (JournalEntry B)). IsPosted scene results l) whole a.posted
 
@@ -89,7 +89,7 @@ module _ {B : Type 0} (scene : Scene B) (results : List (List SaveResult)) (setu
   -- what the primary holds there, if it may go on
   by_full : (o : Option LogFull) → c.full ≡ o → HasRested scene results primary (later begins starts.rest)
   by_full None is =
-      emptied.ends scene results setup faithful few w quorum closing before a.saves start starts.rest begins last primary (room_behind starts.first starts.rest (subst FindRoom starts.joined a.room)) starts.phase starts.drains
+      emptied.ends scene results setup faithful few w quorum closing before a.saves start starts.rest begins last primary within starts.phase starts.drains
       (behind.opened scene results setup faithful few before entries last a best best_is.1 starts is) (subst (λ (o : Option LogFull). ClosesTo scene results (met_by o starts.phase) begins starts.rest last) is goes_on) possible posted ends_there
   by_full (Some limit) is =
       absurd (emptied.never_done scene results setup faithful few w quorum closing before a.saves anything limit begins starts.rest last primary
@@ -102,12 +102,12 @@ module _ {B : Type 0} (scene : Scene B) (results : List (List SaveResult)) (setu
   attempt_rests = subst (λ (l : List (JournalEntry B)). HasRested scene results primary l) (sym whole) (by_full c.full refl)
 
 pub rest_law : {B : Type 0} → ClosingsRest B
-rest_law {B = B} scene results before entries primary setup faithful given legal closes room =
+rest_law {B = B} scene results before entries primary setup faithful given legal closes within =
     let l = attempts.last_attempt scene results closes.last primary (length entries) before entries (omega arith) (record {
       closes = closes.steps;
       possible = subst (λ (l : List (JournalEntry B)). IsPossible scene results l) (sym (later_is before entries)) legal.possible;
       posted = subst (λ (l : List (JournalEntry B)). IsPosted scene results l) (sym (later_is before entries)) closes.posted;
-      room = room;
+      within = subst (λ (l : List (JournalEntry B)). IsWithinLimits scene.sealing.size l) (sym (later_is before entries)) within;
       ends = subst (λ (l : List (JournalEntry B)). IsEnd (next_move scene results closes.last l) (Done primary)) (sym (later_is before entries)) closes.ends;
       exact = λ c there. subst (λ (l : List (JournalEntry B)). length (results_of results c) ≤ (at scene results c l).saves) (sym (later_is before entries)) (let same = legal.saves c there in omega (arith, same));
     }) in

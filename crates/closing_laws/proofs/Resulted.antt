@@ -56,10 +56,10 @@ module _ (marks : Marks) (s life number : ℕ) where
           list_any-append (λ x. nat_eq x.0 t && nat_eq x.1 l && nat_eq x.2 i) marks.acked ((s, life, number) ∷ [])
           ∙ or_left (has_result marks t l i) ((nat_eq s t && nat_eq life l && nat_eq number i) || false) h
 
-  pub mark_only : (t l i : ℕ) → has_result (with_mark marks s life number) t l i ≡ true → (has_result marks t l i ≡ true) ⊎ ((s ≡ t) × (number ≡ i))
-  mark_only t l i h = by_old (has_result marks s life number) h
+  pub mark_new : (t l i : ℕ) → has_result (with_mark marks s life number) t l i ≡ true → (has_result marks t l i ≡ true) ⊎ ((s ≡ t) × (life ≡ l) × (number ≡ i))
+  mark_new t l i h = by_old (has_result marks s life number) h
     where
-      by_old : (b : Bool) → has_result (if b then marks else record marks { acked = marks.acked ++ (s, life, number) ∷ [] }) t l i ≡ true → (has_result marks t l i ≡ true) ⊎ ((s ≡ t) × (number ≡ i))
+      by_old : (b : Bool) → has_result (if b then marks else record marks { acked = marks.acked ++ (s, life, number) ∷ [] }) t l i ≡ true → (has_result marks t l i ≡ true) ⊎ ((s ≡ t) × (life ≡ l) × (number ≡ i))
       by_old true k = inl k
       by_old false k = elim (or_cases (has_result marks t l i) ((nat_eq s t && nat_eq life l && nat_eq number i) || false) (sym (list_any-append (λ x. nat_eq x.0 t && nat_eq x.1 l && nat_eq x.2 i) marks.acked ((s, life, number) ∷ [])) ∙ k)) [
         | inl old ↦ inl old
@@ -67,7 +67,7 @@ module _ (marks : Marks) (s life number : ℕ) where
           | inl is ↦
               let a = and_parts (nat_eq s t && nat_eq life l) (nat_eq number i) is in
               let b = and_parts (nat_eq s t) (nat_eq life l) a.0 in
-              inr (eqb-true s t b.0, eqb-true number i a.1)
+              inr (eqb-true s t b.0, eqb-true life l b.1, eqb-true number i a.1)
           | inr none ↦ absurd (true≢false (sym none))
         ]
       ]
@@ -87,7 +87,7 @@ module _ (marks : Marks) (s life number : ℕ) where
       by_new true new true old = refl
       by_new false new false old = refl
       by_new false new true old = absurd (true≢false (sym (mark_kept t l i old) ∙ new))
-      by_new true new false old = elim (mark_only t l i new) [
+      by_new true new false old = elim (mark_new t l i new) [
         | inl h ↦ absurd (true≢false (sym h ∙ old))
         | inr w ↦ absurd (other (sym w.0))
       ]
@@ -187,7 +187,7 @@ module _ (kinds : List ℕ) (setup : Setup) (few : AreFew kinds setup) (sw : ℕ
   marked_served =
       each_by now
       (result_taken kinds setup c s (sw s) xid number result (out s) (in' s) was now (mark_confirmed c.marks s (life_of (sw s)) number s) (λ i h. mark_kept c.marks s (life_of (sw s)) number s (life_of (sw s)) i h)
-      (λ i h. elim (mark_only c.marks s (life_of (sw s)) number s (life_of (sw s)) i h) [ inl k ↦ inl k | inr w ↦ inr w.1 ]) (λ low. mark_there c.marks s (life_of (sw s)) number))
+      (λ i h. elim (mark_new c.marks s (life_of (sw s)) number s (life_of (sw s)) i h) [ inl k ↦ inl k | inr w ↦ inr w.2 ]) (λ low. mark_there c.marks s (life_of (sw s)) number))
       (λ t. mark_confirmed c.marks s (life_of (sw s)) number t) (λ t i other. mark_others c.marks s (life_of (sw s)) number t (life_of (sw t)) i other)
 
   -- it does not

@@ -29,6 +29,14 @@ count_append p xs ys = sum_by-append (λ x. if p x then 1 else 0) xs ys
 pub count_cons : {A : Type 0} (p : A → Bool) (x : A) (xs : List A) → count_by p (x ∷ xs) ≡ (if p x then 1 else 0) + count_by p xs
 count_cons p x xs = sum_by-cons (λ y. if p y then 1 else 0) x xs
 
+pub count_none : {A : Type 0} (p : A → Bool) (xs : List A) → ((x : A) → IsIn x xs → p x ≡ false) → count_by p xs ≡ 0
+count_none p [] each = refl
+count_none p (x ∷ xs) each =
+    let first = ap {B = ℕ} (λ (b : Bool). if b then 1 else 0) (each x (inl refl)) in
+    let parts = count_cons p x xs in
+    let rest = count_none p xs (λ y among. each y (inr among)) in
+    omega (arith, first, parts, rest)
+
 pub events_append : (s : ℕ) (xs ys : List Message) → events_said s (xs ++ ys) ≡ events_said s xs ++ events_said s ys
 events_append s [] ys = refl
 events_append s (message.Of xid (spoken.Ravana (extension.Event life number what)) ∷ xs) ys =

@@ -1,9 +1,8 @@
 -- What is left to do as a view starts, by what its primary begins with.
-use Rattle.std.proofs.Common.{◌≡◌, ◌≤◌, ◌<◌, ℕ, zero, suc, ◌+◌, ◌*◌, Bool, true, false, List, [], ◌∷◌, length, drop, filter, map, refl, sym, ◌∙◌, ap, arith, append-nil, mul-add, mul-le-mul_left, add-mul, length-take-le}
+use Rattle.std.proofs.Common.{◌≡◌, ◌≤◌, ◌<◌, ℕ, zero, suc, ◌+◌, ◌*◌, Bool, true, false, List, [], ◌∷◌, length, drop, filter, map, refl, sym, ◌∙◌, ap, arith, append-nil, mul-le-mul_left, add-mul, length-take-le}
 use Rattle.std.specs.Prelude.{sum_by, None, if◌then◌else◌}
 use Rattle.std.specs.List.{range_with_len}
 use Rattle.std.proofs.lemmas.List.FromFn.{length-range_with_len}
-use Rattle.std.proofs.lemmas.List.Sums.{sum_by-cons}
 use Rattle.std.proofs.lemmas.Bool.{eqb-true}
 use Rattle.lists.proofs.Prefixes.{front_prefix, prefix_refl}
 use Rattle.of_types.specs.declared.setup.Setup.{Setup}
@@ -29,6 +28,8 @@ use Rattle.closing_laws.proofs.AnswerWorths.{letters-append, primary_worths}
 use Rattle.closing_laws.proofs.CommandCounts.{sent_open, split_count}
 use Rattle.closing_laws.proofs.Growth.{log_prefix}
 use Rattle.closing_laws.proofs.LoggedMeasure.{same_left, whole_falls}
+use Rattle.closing_laws.proofs.Numbering.{of_range}
+use Rattle.closing_laws.proofs.Sums.{sum_most}
 use Rattle.closing_laws.proofs.WorkMeasure.{Descends, settling_descends}
 use Rattle.closing_laws.proofs.Worths.{worths_two}
 
@@ -39,16 +40,6 @@ drop_fewer [] (suc i) zero le = absurd (omega (arith, le))
 drop_fewer [] (suc i) (suc j) le = omega arith
 drop_fewer (x ∷ xs) (suc i) zero le = absurd (omega (arith, le))
 drop_fewer (x ∷ xs) (suc i) (suc j) le = drop_fewer xs i j (omega (arith, le))
-
--- a sum over switches, where each part is at most so many times another
-sum_times : (d : ℕ) (g h : ℕ → ℕ) (a n m : ℕ) → a + n ≡ m → ((s : ℕ) → s < m → g s ≤ d * h s) → sum_by g (range_with_len a n) ≤ d * sum_by h (range_with_len a n)
-sum_times d g h a zero m whole each = omega arith
-sum_times d g h a (suc n) m whole each =
-    let p = sum_by-cons g a (range_with_len (a + 1) n) in
-    let q = ap (λ (k : ℕ). d * k) (sum_by-cons h a (range_with_len (a + 1) n)) ∙ mul-add d (h a) (sum_by h (range_with_len (a + 1) n)) in
-    let first = each a (omega (arith, whole)) in
-    let rest = sum_times d g h (a + 1) n m (omega (arith, whole)) each in
-    omega (arith, p, q, first, rest)
 
 module _ (kinds : List ℕ) (setup : Setup) (quorum : List ℕ) (f place : ℕ) (sw : ℕ → SwitchState) (work : Work) where
   abbrev v : VrState
@@ -118,5 +109,9 @@ module _ (kinds : List ℕ) (setup : Setup) (quorum : List ℕ) (f place : ℕ) 
   pub all_left : ((s : ℕ) → s < length setup.ports → (is_some_of v.view (sw s).fence.generation ≡ false) × ((sw s).buffer.cleared ≤ logged_of begun s (sw s))) →
       left_at_switches setup f begun sw ≤ (4 * f + 3) * sum_by (λ s. waiting_at (sw s)) (range_with_len 0 (length setup.ports))
   all_left each =
-      sum_times (4 * f + 3) (λ s. left_at f begun s (sw s)) (λ s. waiting_at (sw s)) 0 (length setup.ports) (length setup.ports) (omega arith)
-      (λ s there. unasked_left s (each s there).0 (each s there).1)
+      let all = sum_most (4 * f + 3) 0 (λ s. left_at f begun s (sw s)) (λ s. waiting_at (sw s)) (range_with_len 0 (length setup.ports)) (λ s among.
+      let less = (of_range 0 (length setup.ports) s among).1 in
+      let own = each s (omega (arith, less)) in
+      let few = unasked_left s own.0 own.1 in
+      omega (arith, few)) in
+      omega (arith, all)

@@ -2,7 +2,7 @@
 use Rattle.std.proofs.Common.{◌≡◌, ◌<◌, ℕ, ◌+◌, ◌-◌, ◌^◌, ◌%◌, Bool, false, List, ◌∷◌, ◌++◌, map, filter, take, drop, refl, sym, ◌∙◌, ap, subst, arith, inr}
 use Rattle.std.specs.Prelude.{nat_le, slice_get, count_by, Option, Some, None, if◌then◌else◌}
 use Rattle.std.specs.List.{AllByRecursion}
-use Rattle.std.proofs.lemmas.Bool.{eq-eqb, lt-leb}
+use Rattle.std.proofs.lemmas.Bool.{eq-eqb, lt-leb, ne_eqb}
 use Rattle.std.proofs.lemmas.List.{drop-take}
 use Rattle.of_types.specs.declared.message.Event.{Event}
 use Rattle.of_types.specs.declared.message.OfMessage.TheVariants as plain
@@ -17,6 +17,7 @@ use Rattle.exactly_once.specs.Truths.{IsMade}
 use Rattle.role_fence.specs.Fence.{as_master, is_stale}
 use Rattle.dispatcher.specs.Marks.{is_confirmed}
 use Rattle.group_controller.specs.State.{ControllerState}
+use Rattle.group_controller.specs.Settling.{is_some_of}
 use Rattle.of_switch.specs.declared.says.SwitchSays.{SwitchSays}
 use Rattle.of_switch.specs.State.{SwitchState, events_in, life_of, to_controller}
 use Rattle.of_switch.specs.Events.{event_letter, first_held, window}
@@ -31,6 +32,11 @@ use Rattle.closing_laws.proofs.Sending.{StandFrom, coming_first, first_held_is, 
 use Rattle.closing_laws.proofs.Served.{draws_keep}
 
 -- an older generation is not stale
+-- a generation that is older is not this one
+pub older_other : (view : ℕ) (o : Option ℕ) → IsOlder o view → is_some_of view o ≡ false
+older_other view None h = refl
+older_other view (Some g) h = ne_eqb g view (λ e. omega (arith, e, h))
+
 fresh : (view : ℕ) (generation : Option ℕ) → view < 2 ^ 32 → IsOlder generation view → is_stale generation view ≡ false
 fresh view None small older = refl
 fresh view (Some seen) small older = lt-leb (2 ^ 63) ((view + 2 ^ 64 - seen) % 2 ^ 64) (omega (arith, small, older))

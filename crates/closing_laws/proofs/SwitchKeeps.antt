@@ -1,5 +1,5 @@
 -- A turn of a switch that draws what its primary said next: it is served as before.
-use Rattle.std.proofs.Common.{◌≡◌, ◌<◌, ◌⊎◌, ℕ, ◌+◌, ◌^◌, Bool, List, [], ◌∷◌, ◌++◌, filter, refl, sym, ◌∙◌, ap, subst, arith, inl, inr, append-nil}
+use Rattle.std.proofs.Common.{◌≡◌, ◌≤◌, ◌<◌, ◌⊎◌, ℕ, ◌+◌, ◌^◌, Bool, List, [], ◌∷◌, ◌++◌, filter, refl, sym, ◌∙◌, ap, subst, arith, inl, inr, append-nil}
 use Rattle.std.specs.Prelude.{nat_eq, if◌then◌else◌}
 use Rattle.std.proofs.lemmas.Bool.{cond_both, eqb-false, eqb-true}
 use Rattle.of_types.specs.declared.message.Event.{Event}
@@ -44,6 +44,7 @@ GoesOut c letters = (l : Letter SwitchSays) → IsIn l letters → (l.to ≡ act
 pub record Leaves (kinds : List ℕ) (setup : Setup) (c : ControllerState) (s : ℕ) (sw : SwitchState) (out in_ : List Message) (turn : SwitchTurn) : Type 0 where
   pub life : life_of turn.state ≡ life_of sw
   pub number : number_of turn.state ≡ number_of sw
+  pub cleared : sw.buffer.cleared ≤ turn.state.buffer.cleared
   pub more : List Event
   pub events : events_in turn.state (life_of sw) ≡ events_in sw (life_of sw) ++ more
   pub served : IsServed kinds setup c s turn.state out (in_ ++ told_to switch_message (actor.Controller c.vr.me) turn.letters)
@@ -64,6 +65,7 @@ module _ (kinds : List ℕ) (setup : Setup) (c : ControllerState) (s : ℕ) (sw 
         (record {
           life = refl;
           number = refl;
+          cleared = omega arith;
           more = [];
           events = sym (append-nil (events_in sw (life_of sw)));
           served = asked_keeps kinds setup c s sw small is_true out in_ served unasked;
@@ -84,6 +86,7 @@ module _ (kinds : List ℕ) (setup : Setup) (c : ControllerState) (s : ℕ) (sw 
       record {
         life = ap (λ (b : Buffer). b.life) buffer;
         number = ap (λ (b : Buffer). b.switch) buffer;
+        cleared = (let same = ap (λ (b : Buffer). b.cleared) buffer in omega (arith, same));
         more = [];
         events = ap (λ (es : List Event). filter (λ e. nat_eq e.life (life_of sw)) es) events ∙ sym (append-nil (events_in sw (life_of sw)));
         served = silent_keeps kinds setup c s sw state said out in_ buffer events fence executed other commands served;
@@ -103,6 +106,7 @@ module _ (kinds : List ℕ) (setup : Setup) (c : ControllerState) (s : ℕ) (sw 
             record {
               life = after.life;
               number = after.number;
+              cleared = (let gone = after.gone in omega (arith, gone));
               more = after.more;
               events = after.events;
               served = acked_keeps kinds setup c s sw through (on_event_ack sw through) after is_true true_after out in_ served';
@@ -128,12 +132,13 @@ module _ (kinds : List ℕ) (setup : Setup) (c : ControllerState) (s : ℕ) (sw 
             record {
               life = ap (λ (b : Buffer). b.life) after.buffer;
               number = ap (λ (b : Buffer). b.switch) after.buffer;
+              cleared = (let same = ap (λ (b : Buffer). b.cleared) after.buffer in omega (arith, same));
               more = [];
               events = ap (λ (es : List Event). filter (λ e. nat_eq e.life (life_of sw)) es) after.events ∙ sym (append-nil (events_in sw (life_of sw)));
               served = commanded_keeps kinds setup c s sw number through what (on_command sw c.vr.me 0 c.vr.view number through what) after out in_ served';
               letters = λ l among.
                   elim (in_append l after.before (letter_of_result c.vr.me (life_of sw) number after.result ∷ []) (subst (λ (ls : List (Letter SwitchSays)). IsIn l ls) after.letters among)) [
-                    | inl frame ↦ inr (after.frames l frame)
+                    | inl frame ↦ let to = after.frames l frame in inr (to.0, to.1)
                     | inr (inl is) ↦ inl (ap (λ (x : Letter SwitchSays). x.to) is)
                     | inr (inr none) ↦ absurd none
                   ];

@@ -40,6 +40,7 @@ use Rattle.closing_laws.specs.Measure.{left_at, message_worth, unlogged, unsent}
 use Rattle.closing_laws.specs.Serving.{Acknowledges, Asks, Clears, Commands, IsOlder, IsSaidBy, IsServed, IsTrueOf, acknowledges_events, asks_role, is_request, sent_of}
 use Rattle.closing_laws.proofs.AckTurns.{AfterAck, acked}
 use Rattle.closing_laws.proofs.CommandTurns.{commanded}
+use Rattle.closing_laws.proofs.Numbers.{filter_all}
 use Rattle.closing_laws.proofs.Saying.{count_cons}
 use Rattle.closing_laws.proofs.SwitchAsked.{asked_is}
 use Rattle.closing_laws.proofs.SwitchCommanded.{is_commanded, late}
@@ -85,10 +86,6 @@ others_left p (port ∷ ports) rest =
     first false true is = refl
     first a false is = absurd cc
 
-all_kept : (xs : List ℕ) → filter (λ x. true) xs ≡ xs
-all_kept [] = refl
-all_kept (x ∷ xs) = ap (λ (l : List ℕ). x ∷ l) (all_kept xs)
-
 ports_raised : (s : SwitchState) (ports : List ℕ) (d : Draft) → length (with_ports s ports d).raised ≡ length d.raised + length ports
 ports_raised s [] d = omega arith
 ports_raised s (port ∷ ports) d =
@@ -119,7 +116,7 @@ dirty_less sw through =
         let made = ports_raised sw ports d in
         let all = length-append (forgets ports left.buffer).held (with_ports sw ports d).raised in
         let parts : filter (λ x. true) ports ++ drop (most_held - d.held) sw.buffer.dirty ≡ sw.buffer.dirty =
-        ap (λ (l : List ℕ). l ++ drop (most_held - d.held) sw.buffer.dirty) (all_kept ports) ∙ take-append-drop (most_held - d.held) sw.buffer.dirty in
+        ap (λ (l : List ℕ). l ++ drop (most_held - d.held) sw.buffer.dirty) (filter_all ports) ∙ take-append-drop (most_held - d.held) sw.buffer.dirty in
         let forgotten = ap (λ (l : List ℕ). length l) (forgets_dirty ports left.buffer) in
         let same = ap (λ (l : List ℕ). length (without_all ports l)) parts in
         let few = others_left (λ x. true) ports (drop (most_held - d.held) sw.buffer.dirty) in
@@ -263,7 +260,7 @@ module _ (quorum : List ℕ) (me : ℕ) (drawn : has quorum me ≡ true) (s : �
         let said : Spoken = spoken.Ravana (extension.CmdAck (life_of sw) number after.result) in
         let all = ap (λ (ls : List (Letter SwitchSays)). says_worth ls) after.letters in
         let parts = worths-append quorum switch_message (actor.Switch s) after.before (letter_of_result c.vr.me (life_of sw) number after.result ∷ []) in
-        let frames = frames_worth after.before after.frames in
+        let frames = frames_worth after.before (λ l among. let to = after.frames l among in (to.0, to.1)) in
         let same = ap (λ (n : ℕ). says_worth (letter_of_result n (life_of sw) number after.result ∷ [])) own in
         let one = one_worth said in
         stays 2 (on_command sw c.vr.me 0 c.vr.view number through what) after.buffer after.fence (omega (arith, all, parts, frames, same, one))

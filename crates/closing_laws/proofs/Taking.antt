@@ -194,7 +194,7 @@ finds_head p rest = rw (eq-eqb p.id p.id refl) refl
 pub leaves_head : {B : Type 0} {high : ℕ} (p : Packet B) (rest : List (Packet B)) {low : ℕ} → Rising high low (p ∷ rest) → without p.id (p ∷ rest) ≡ rest
 leaves_head p rest rises = without-at (p ∷ rest) 0 p rises refl
 
-length-numbered : {B : Type 0} (n : ℕ) (a : Actor) (letters : List (Letter B)) → length (numbered n a letters) ≡ length letters
+pub length-numbered : {B : Type 0} (n : ℕ) (a : Actor) (letters : List (Letter B)) → length (numbered n a letters) ≡ length letters
 length-numbered n a [] = refl
 length-numbered n a (l ∷ letters) = ap suc (length-numbered (n + 1) a letters)
 

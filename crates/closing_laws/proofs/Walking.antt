@@ -1,9 +1,9 @@
 -- A closing goes the way of its members, entry by entry, until its view starts.
-use Rattle.std.proofs.Common.{◌≡◌, ◌≤◌, ◌<◌, ◌⊎◌, inl, inr, ℕ, ◌+◌, ◌%◌, Bool, true, false, List, [], ◌∷◌, ◌++◌, map, suc, refl, sym, ◌∙◌, ap, subst, arith, append_assoc}
+use Rattle.std.proofs.Common.{◌≡◌, ◌≤◌, ◌<◌, ◌⊎◌, inl, inr, ℕ, zero, ◌+◌, ◌*◌, ◌%◌, Bool, true, false, List, [], ◌∷◌, ◌++◌, map, suc, length, Contains, refl, sym, ◌∙◌, ap, subst, arith, append_assoc}
 use Rattle.std.specs.Prelude.{nat_eq, not, cond, reverse, slice_index_or, Option, Some, None, if◌then◌else◌}
 use Rattle.std.specs.List.{AllByRecursion}
 use Rattle.std.proofs.lemmas.Bool.{eq-eqb, eqb-true, eqb-false, ne_eqb}
-use Rattle.std.proofs.lemmas.List.{reverse-append}
+use Rattle.std.proofs.lemmas.List.{length-append, length-map, reverse-append}
 use Rattle.std.proofs.lemmas.List.Sums.{sum_by-cons}
 use Rattle.of_types.specs.Setups.{IsSetup}
 use Rattle.rv_base.specs.declared.journal.Actor.{Actor}
@@ -18,25 +18,31 @@ use Rattle.rv_base.specs.declared.journal.SaveResult.TheVariants.{Saved}
 use Rattle.rv_base.specs.Actors.{actor_of, same_actor}
 use Rattle.rv_base.specs.Part.{drawn, packet_of, part}
 use Rattle.rv_base.specs.Pool.{pool, numbered, letters_posted, without}
+use Rattle.rv_base.specs.Turns.{IsWithinLimits}
 use Rattle.rv_base.proofs.Pools.{Rising, Rising-pool}
 use Rattle.vr_log.specs.declared.message.VrLetter.{VrLetter}
+use Rattle.vr_log.specs.declared.message.VrMessage.{VrMessage}
 use Rattle.vr_log.specs.declared.state.VrState.{VrState}
-use Rattle.vr_log.specs.Members.{is_up, is_changing, leads}
+use Rattle.vr_log.specs.Choosing.{greatest_commit}
+use Rattle.vr_log.specs.Log.{is_log}
+use Rattle.vr_log.specs.Members.{is_up, is_changing, leads, most_failures}
 use Rattle.vr_log.specs.Steps.{VrStep}
 use Rattle.view_change.specs.Entering.{tells_start}
+use Rattle.vr_core.specs.declared.input.VrInput.{VrInput}
 use Rattle.vr_core.specs.declared.input.VrInput.TheVariants as vr_input
 use Rattle.vr_core.specs.Step.{vr_step}
 use Rattle.controllers.specs.Spelling.{IsValidTo}
 use Rattle.group_controller.specs.declared.messages.ControllerInput.{ControllerInput}
 use Rattle.group_controller.specs.declared.messages.ControllerInput.TheVariants as controller_input
 use Rattle.group_controller.specs.declared.messages.ControllerSays.{ControllerSays}
-use Rattle.group_controller.specs.State.{ControllerState, Work, stepped, to_members, with_no_met_limit}
+use Rattle.group_controller.specs.State.{ControllerState, Work, stepped, to_member, to_members, with_no_met_limit}
 use Rattle.group_controller.specs.Rules.{after_step, controller_work}
+use Rattle.rv_runs.specs.declared.messages.Message.{Message}
 use Rattle.rv_runs.specs.declared.messages.Unsealed.{Unsealed}
 use Rattle.rv_runs.specs.declared.messages.Unsealed.TheVariants as unsealed
 use Rattle.rv_runs.specs.Committed.{switch_state}
 use Rattle.rv_runs.specs.Messages.{FitsMessage}
-use Rattle.rv_runs.specs.States.{Scene, IsFaithful, ControllerAt, content, controller_hears, controller_message, sealed_letters, switch_at, switch_message}
+use Rattle.rv_runs.specs.States.{Scene, Sealing, IsFaithful, ControllerAt, content, controller_hears, controller_message, sealed_letters, switch_at, switch_message}
 use Rattle.rv_runs.specs.Legal.{Fits, IsPossible, IsSoundSwitch, results_of}
 use Rattle.rv_runs.specs.Schedule.{Answer, IsEnd, Phase, Suspecting, Draining, Losing, Move, Takes, ClosesTo, IsInputOf, IsMove, IsPosted, after_member, after_move, count_turns, drained, is_drawn, is_turn, met_by, next_drained, next_move, owed_of}
 use Rattle.rv_runs.proofs.Entries.{Mine, Another, switch_after}
@@ -46,14 +52,18 @@ use Rattle.rv_agreement.proofs.Pasts.{fits}
 use Rattle.rv_agreement.proofs.Spelling.{all_spelled}
 use Rattle.rv_laws.proofs.Events.{events_valid}
 use Rattle.rv_laws.proofs.Laws.{always}
+use Rattle.rv_laws.proofs.Members.{owned_at}
 use Rattle.closing_laws.specs.Quorum.{has}
 use Rattle.closing_laws.specs.Draining.{Flight, Group, flown, suspected, took}
 use Rattle.closing_laws.specs.Views.{IsMember, log_of, started_with, tellers}
-use Rattle.closing_laws.specs.Starts.{FindRoom, HasStartedIn, SavesSucceed, starting_turn}
+use Rattle.closing_laws.specs.Starts.{HasStartedIn, SavesSucceed, starting_turn}
 use Rattle.closing_laws.proofs.Carrying.{letters_read, ordered_may}
 use Rattle.closing_laws.proofs.Paths.{IsLast, Path, Arrives, Suspects, Draws, Loses, hears, path_turns}
 use Rattle.closing_laws.proofs.Taking.{AllCarry, By_message, By_suspicion, HeadOf, TurnOf, all_fit, at, carry_both, changing_leads_not, changing_up, finds_head, head_of, leaves_head, member_work, others_stay, own_steps, posts_carry, quiet_work, starting_work, turn_draw, turn_local, Carries}
-use Rattle.closing_laws.proofs.Paired.{paired_none}
+use Rattle.closing_laws.proofs.FewLetters.{hears_few, suspects_few}
+use Rattle.closing_laws.proofs.Paired.{paired_length, paired_none}
+use Rattle.closing_laws.proofs.Room.{finds_room, within_before}
+use Rattle.closing_laws.proofs.StartingLetters.{IsSized, starting_few}
 
 -- a past with entries behind it, the oldest first
 abbrev pub later : {B : Type 0} → List (JournalEntry B) → List (JournalEntry B) → List (JournalEntry B)
@@ -79,6 +89,33 @@ stays w c next up full =
     ∙ ap (λ (o : Option _). if nat_eq (w % c.vr.controllers) c.vr.me then met_by o next else next) full
     ∙ both_same (nat_eq (w % c.vr.controllers) c.vr.me) next
 
+-- and its parts are within the limits
+pub within_under : {B : Type 0} (size : B → ℕ) (entries P : List (JournalEntry B)) → IsWithinLimits size (later P entries) → IsWithinLimits size P
+within_under size [] P h = h
+within_under size (e ∷ rest) P h = within_before size e P (within_under size rest (e ∷ P) h)
+
+-- sealing keeps the number of letters
+pub sealed_length : {A B : Type 0} (says : A → Message) (sealing : Sealing B) (letters : List (Letter A)) → length (sealed_letters says sealing letters) ≡ length letters
+sealed_length says sealing [] = refl
+sealed_length says sealing (l ∷ letters) = ap suc (sealed_length says sealing letters)
+
+-- a group has at most seven members
+pub seven_at_most : (n : ℕ) → Contains (1 ∷ 3 ∷ 5 ∷ 7 ∷ []) n → n ≤ 7
+seven_at_most n (zero, less, e) = rw (sym e) (omega arith)
+seven_at_most n (suc zero, less, e) = rw (sym e) (omega arith)
+seven_at_most n (suc (suc zero), less, e) = rw (sym e) (omega arith)
+seven_at_most n (suc (suc (suc zero)), less, e) = rw (sym e) (omega arith)
+seven_at_most n (suc (suc (suc (suc k))), less, e) = absurd (omega (arith, less))
+
+-- a message from a member, or a suspicion
+pub data IsHeard : VrInput → Type 0 where
+  Hears_of : (from : ℕ) (said : VrMessage) → IsHeard (vr_input.From from said)
+  Suspects_it : (view : ℕ) → IsHeard (vr_input.Suspect view)
+
+-- no member says more in one turn
+abbrev pub most_said : ℕ
+most_said = 16
+
 module _ {B : Type 0} (scene : Scene B) (results : List (List SaveResult)) (setup : IsSetup scene.setup) (faithful : IsFaithful scene.sealing) (w : ℕ) (quorum : List ℕ)
     (small : (c : ℕ) → has quorum c ≡ true → c < scene.setup.controllers) (before : List (JournalEntry B)) (succeed : SavesSucceed scene results before) where
   pub possible_under : (entries P : List (JournalEntry B)) → IsPossible scene results (later P entries) → IsPossible scene results P
@@ -95,6 +132,7 @@ module _ {B : Type 0} (scene : Scene B) (results : List (List SaveResult)) (setu
     pub members : (c : ℕ) → c < scene.setup.controllers → (at scene results c P).now.vr ≡ g.at c
     pub saves : (c : ℕ) → (at scene results c before).saves ≤ (at scene results c P).saves
     pub switches : (t : ℕ) → switch_state scene t P ≡ switch_state scene t before
+    pub few : length g.pool ≤ most_said * g.turns
 
   -- and what waits is what waits between them. All was posted
   pub record Stands (P : List (JournalEntry B)) (g : Group) : Type 0 where
@@ -207,6 +245,7 @@ module _ {B : Type 0} (scene : Scene B) (results : List (List SaveResult)) (setu
               members = λ c lt. ap (λ (x : ControllerState). x.vr) (posted_holds c).0 ∙ holds.members c lt;
               saves = λ c. let same = (posted_holds c).1 in let low = holds.saves c in omega (arith, same, low);
               switches = λ t. switches_stay m post P refl t ∙ holds.switches t;
+              few = holds.few;
             };
             carries = subst (λ (ps : List (Packet B)). AllCarry scene results ps g.pool) (sym grown) (subst (λ (fs : List Flight). AllCarry scene results (pool P ++ numbered first (actor.Controller m) (sealed_letters controller_message scene.sealing (to_members vs))) fs) (sym is) all);
             posted = posted_all;
@@ -245,11 +284,16 @@ module _ {B : Type 0} (scene : Scene B) (results : List (List SaveResult)) (setu
   -- a turn behind which the view still changes
   module _ (m : ℕ) (e : JournalEntry B) (P : List (JournalEntry B)) (g : Group) (step : VrStep) (there : m < scene.setup.controllers) (whose : actor_of e ≡ actor.Controller m) (holds : Holds P g)
       (turn : TurnOf scene results m e P (stepped (with_no_met_limit (at scene results m P).now) step)) where
-    took_holds : (waiting : List Flight) → Holds (e ∷ P) (took g m step waiting)
-    took_holds waiting = record {
+    took_holds : (waiting : List Flight) → length waiting ≤ length g.pool → length step.letters ≤ most_said → Holds (e ∷ P) (took g m step waiting)
+    took_holds waiting shorter said = record {
       members = λ c lt. member c (nat_eq c m) refl (holds.members c lt);
       saves = λ c. saved c (nat_eq c m) refl (holds.saves c);
       switches = λ t. switches_stay m e P whose t ∙ holds.switches t;
+      few =
+          let all = length-append waiting (map (flown m) step.letters) in
+          let same = length-map step.letters (flown m) in
+          let old = holds.few in
+          omega (arith, all, same, old, shorter, said);
     }
       where
         member : (c : ℕ) (b : Bool) → nat_eq c m ≡ b → (at scene results c P).now.vr ≡ g.at c → (at scene results c (e ∷ P)).now.vr ≡ (if b then step.state else g.at c)
@@ -265,8 +309,8 @@ module _ {B : Type 0} (scene : Scene B) (results : List (List SaveResult)) (setu
             let same = ap (λ (x : ControllerAt). x.saves) (others_stay scene results m e P whose c (ne_eqb m c (λ i. eqb-false c m is (sym i)))) in
             omega (arith, old, same)
 
-    pub took_owes : (waiting : List Flight) → AllCarry scene results (pool (e ∷ P)) waiting → Owes (e ∷ P) (took g m step waiting)
-    took_owes waiting carries = record {
+    pub took_owes : (waiting : List Flight) → length waiting ≤ length g.pool → length step.letters ≤ most_said → AllCarry scene results (pool (e ∷ P)) waiting → Owes (e ∷ P) (took g m step waiting)
+    took_owes waiting shorter said carries = record {
       member = m;
       there = there;
       newest = e;
@@ -278,12 +322,23 @@ module _ {B : Type 0} (scene : Scene B) (results : List (List SaveResult)) (setu
       owed = turn.owed;
       carries = carries;
       pool_is = refl;
-      holds = took_holds waiting;
+      holds = took_holds waiting shorter said;
     }
 
     pub took_stays : (next : Phase) → is_changing step.state ≡ true → after_member w (at scene results m (e ∷ P)).now next ≡ next
     took_stays next changes = stays w (at scene results m (e ∷ P)).now next
         (ap (λ (x : ControllerState). is_up x.vr) turn.now ∙ changing_up step.state changes) (ap (λ (x : ControllerState). x.full) turn.now)
+
+  -- what a member says in one turn
+  says_little : (P : List (JournalEntry B)) (g : Group) → Holds P g → (m : ℕ) → m < scene.setup.controllers → (input : VrInput) → IsHeard input → length (vr_step (g.at m) input).letters ≤ most_said
+  says_little P g holds m there input heard = by_input input heard
+    where
+      size : (g.at m).controllers ≡ scene.setup.controllers
+      size = ap (λ (s : VrState). s.controllers) (sym (holds.members m there)) ∙ (owned_at scene (results_of results m) m (part (actor.Controller m) P)).now.all
+
+      by_input : (i : VrInput) → IsHeard i → length (vr_step (g.at m) i).letters ≤ most_said
+      by_input _ (Hears_of from said) = let few = hears_few (g.at m) from said in let is = size in let seven = seven_at_most scene.setup.controllers setup.group in omega (arith, few, is, seven)
+      by_input _ (Suspects_it view) = let few = suspects_few (g.at m) view in let is = size in let seven = seven_at_most scene.setup.controllers setup.group in omega (arith, few, is, seven)
 
   -- which saves succeed
   pub still_succeed : (P : List (JournalEntry B)) (g : Group) → Holds P g → (m : ℕ) → m < scene.setup.controllers → (i : ℕ) → (at scene results m P).saves ≤ i → slice_index_or (results_of results m) i Saved ≡ Saved
@@ -296,7 +351,8 @@ module _ {B : Type 0} (scene : Scene B) (results : List (List SaveResult)) (setu
 
   -- what is known of an entry that comes next
   abbrev Here : (rest : List (JournalEntry B)) (P : List (JournalEntry B)) (last : Phase) → JournalEntry B → Phase → Type 0
-  Here rest P last e next = ClosesTo scene results (after_move scene results e P next) (e ∷ P) rest last × IsPossible scene results (later (e ∷ P) rest) × IsPosted scene results (later (e ∷ P) rest)
+  Here rest P last e next =
+      ClosesTo scene results (after_move scene results e P next) (e ∷ P) rest last × IsPossible scene results (later (e ∷ P) rest) × IsPosted scene results (later (e ∷ P) rest) × IsWithinLimits scene.sealing.size (later (e ∷ P) rest)
 
   here_is : (rest P : List (JournalEntry B)) (last : Phase) (e e' : JournalEntry B) (next next' : Phase) → e ≡ e' → next ≡ next' → Here rest P last e next → Here rest P last e' next'
   here_is rest P last e e' next next' is goes h = subst (λ (x : JournalEntry B). Here rest P last x next') is (subst (λ (y : Phase). Here rest P last e y) goes h)
@@ -338,7 +394,7 @@ module _ {B : Type 0} (scene : Scene B) (results : List (List SaveResult)) (setu
     -- and then the rest
     abbrev Again : List (JournalEntry B) → Phase → List (JournalEntry B) → Type 0
     Again rest last P = (phase : Phase) (ms : List ℕ) (g : Group) → PhaseOf phase ms → Mode P g → Path w quorum z ms g → ClosesTo scene results phase P rest last →
-        IsPossible scene results (later P rest) → IsPosted scene results (later P rest) → Outcome P g rest last
+        IsPossible scene results (later P rest) → IsPosted scene results (later P rest) → IsWithinLimits scene.sealing.size (later P rest) → Outcome P g rest last
 
     -- a suspicion
     module _ (m : ℕ) (ms : List ℕ) (g : Group) (P rest : List (JournalEntry B)) (last : Phase) (member : has quorum m ≡ true) (up : is_up (g.at m) ≡ true)
@@ -366,8 +422,8 @@ module _ {B : Type 0} (scene : Scene B) (results : List (List SaveResult)) (setu
           let same = took_stays m suspicion P g step_of_it (small m member) refl stands.holds suspicion_turn (Suspecting w quorum ms) changes in
           behind_one suspicion P g (suspected g w m) rest last refl
           (again (suspicion ∷ P) (Suspecting w quorum ms) ms (suspected g w m) (Still ms)
-          (Owing (took_owes m suspicion P g step_of_it (small m member) refl stands.holds suspicion_turn g.pool stands.carries)) path
-          (subst (λ (x : Phase). ClosesTo scene results x (suspicion ∷ P) rest last) same here.0) here.1 here.2)
+          (Owing (took_owes m suspicion P g step_of_it (small m member) refl stands.holds suspicion_turn g.pool (omega arith) (says_little P g stands.holds m (small m member) (vr_input.Suspect w) (Suspects_it w)) stands.carries)) path
+          (subst (λ (x : Phase). ClosesTo scene results x (suspicion ∷ P) rest last) same here.0) here.1 here.2 here.3)
 
     -- the first packet of the pool
     module _ (f : Flight) (waiting : List Flight) (P : List (JournalEntry B)) (h : HeadOf scene results (pool P) f waiting) where
@@ -417,9 +473,10 @@ module _ {B : Type 0} (scene : Scene B) (results : List (List SaveResult)) (setu
           member_work scene.kinds scene.setup c (controller_input.Vr f.from f.message) (vr_input.From f.from f.message) (By_message f.from f.message) (ap is_up is ∙ changing_up (g.at f.to) changing)
           ∙ ap (λ (s : VrState). after_step scene.kinds scene.setup (with_no_met_limit c) (vr_step s (vr_input.From f.from f.message))) is
 
-      draws_goes : (g : Group) (rest : List (JournalEntry B)) (last : Phase) → Stands P g → has quorum f.to ≡ true → is_changing (g.at f.to) ≡ true → is_changing (hears g f).state ≡ true →
+      draws_goes : (g : Group) (rest : List (JournalEntry B)) (last : Phase) → g.pool ≡ f ∷ waiting → Stands P g → has quorum f.to ≡ true → is_changing (g.at f.to) ≡ true → is_changing (hears g f).state ≡ true →
           Path w quorum z [] (took g f.to (hears g f) waiting) → Here rest P last draw (Draining w quorum) → ((P' : List (JournalEntry B)) → Again rest last P') → Outcome P g (draw ∷ rest) last
-      draws_goes g rest last stands member changing changes path here again =
+      draws_goes g rest last waits stands member changing changes path here again =
+          let behind = ap (λ (l : List Flight). length l) waits in
           let c = (at scene results f.to P).now in
           let turn : TurnOf scene results f.to draw P (stepped (with_no_met_limit c) (hears g f)) =
           subst (λ (x : Work). TurnOf scene results f.to draw P x)
@@ -429,16 +486,16 @@ module _ {B : Type 0} (scene : Scene B) (results : List (List SaveResult)) (setu
           let carries : AllCarry scene results (pool (draw ∷ P)) waiting = subst (λ (ps : List (Packet B)). AllCarry scene results ps waiting) (sym (left_head possible)) h.others in
           behind_one draw P g (took g f.to (hears g f) waiting) rest last refl
           (again (draw ∷ P) (Draining w quorum) [] (took g f.to (hears g f) waiting) Now
-          (Owing (took_owes f.to draw P g (hears g f) (small f.to member) refl stands.holds turn waiting carries)) path
-          (subst (λ (x : Phase). ClosesTo scene results x (draw ∷ P) rest last) same here.0) here.1 here.2)
+          (Owing (took_owes f.to draw P g (hears g f) (small f.to member) refl stands.holds turn waiting (omega (arith, behind)) (says_little P g stands.holds f.to (small f.to member) (vr_input.From f.from f.message) (Hears_of f.from f.message)) carries)) path
+          (subst (λ (x : Phase). ClosesTo scene results x (draw ∷ P) rest last) same here.0) here.1 here.2 here.3)
 
       -- or lost
       abbrev loss : JournalEntry B
       loss = Lose (actor.Controller f.to) h.packet.id
 
-      loses_goes : (g : Group) (rest : List (JournalEntry B)) (last : Phase) → Stands P g → Path w quorum z [] (record g { pool = waiting }) → Here rest P last loss (Draining w quorum) →
+      loses_goes : (g : Group) (rest : List (JournalEntry B)) (last : Phase) → g.pool ≡ f ∷ waiting → Stands P g → Path w quorum z [] (record g { pool = waiting }) → Here rest P last loss (Draining w quorum) →
           ((P' : List (JournalEntry B)) → Again rest last P') → Outcome P g (loss ∷ rest) last
-      loses_goes g rest last stands path here again =
+      loses_goes g rest last waits stands path here again =
           let after = possible_under rest (loss ∷ P) here.1 in
           let possible = possible_before scene results loss P after in
           let own : at scene results f.to (loss ∷ P) ≡ record (at scene results f.to P) { fresh = false } = own_steps scene results f.to loss P refl in
@@ -448,12 +505,13 @@ module _ {B : Type 0} (scene : Scene B) (results : List (List SaveResult)) (setu
               members = λ c lt. member c (nat_eq f.to c) refl own (stands.holds.members c lt);
               saves = λ c. saved c (nat_eq f.to c) refl own (stands.holds.saves c);
               switches = λ t. switches_stay f.to loss P refl t ∙ stands.holds.switches t;
+              few = (let behind = ap (λ (l : List Flight). length l) waits in let old = stands.holds.few in omega (arith, behind, old));
             };
             carries = subst (λ (ps : List (Packet B)). AllCarry scene results ps waiting) (sym (left_head possible)) h.others;
             posted = ap (λ (x : ControllerAt). sealed_letters controller_message scene.sealing x.owed) own ∙ ap (sealed_letters controller_message scene.sealing) owed;
           } in
           behind_one loss P g (record g { pool = waiting }) rest last (omega arith)
-          (again (loss ∷ P) (Draining w quorum) [] (record g { pool = waiting }) Now (Rests lost) path here.0 here.1 here.2)
+          (again (loss ∷ P) (Draining w quorum) [] (record g { pool = waiting }) Now (Rests lost) path here.0 here.1 here.2 here.3)
         where
           member : (c : ℕ) (b : Bool) → nat_eq f.to c ≡ b → at scene results f.to (loss ∷ P) ≡ record (at scene results f.to P) { fresh = false } →
               (at scene results c P).now.vr ≡ g.at c → (at scene results c (loss ∷ P)).now.vr ≡ g.at c
@@ -482,13 +540,13 @@ module _ {B : Type 0} (scene : Scene B) (results : List (List SaveResult)) (setu
         let m' = subst (λ (v : Move B). IsMove v e next) (next_is f waiting P h phase at_phase) move in
         let e_is = m'.0 ∙ drawn_entry f waiting P h member in
         subst (λ (x : JournalEntry B). Outcome P g (x ∷ rest) last) (sym e_is)
-        (draws_goes f waiting P h g rest last stands member changing changes path (here_is rest P last e (Draw (actor.Controller f.to) h.packet.id false) next (Draining w quorum) e_is m'.1 here) again)
+        (draws_goes f waiting P h g rest last waits stands member changing changes path (here_is rest P last e (Draw (actor.Controller f.to) h.packet.id false) next (Draining w quorum) e_is m'.1 here) again)
     moves e rest P last phase whole _ _ at_phase stands (Loses g f waiting waits other path) next move here again =
         let h = head_of scene results (pool P) f waiting (subst (λ (fs : List Flight). AllCarry scene results (pool P) fs) waits stands.carries) in
         let m' = subst (λ (v : Move B). IsMove v e next) (next_is f waiting P h phase at_phase) move in
         let e_is = m'.0 ∙ lost_entry f waiting P h other in
         subst (λ (x : JournalEntry B). Outcome P g (x ∷ rest) last) (sym e_is)
-        (loses_goes f waiting P h g rest last stands path (here_is rest P last e (Lose (actor.Controller f.to) h.packet.id) next (Draining w quorum) e_is m'.1 here) again)
+        (loses_goes f waiting P h g rest last waits stands path (here_is rest P last e (Lose (actor.Controller f.to) h.packet.id) next (Draining w quorum) e_is m'.1 here) again)
     moves e rest P last phase whole _ _ at_phase stands (Arrives g is) next move here again =
         let same = ap (λ (x : Group). x.turns) is in
         Reaches [] (e ∷ rest) phase refl (omega (arith, same)) at_phase (subst (λ (x : Group). Stands P x) is stands) whole
@@ -513,33 +571,61 @@ module _ {B : Type 0} (scene : Scene B) (results : List (List SaveResult)) (setu
         let same = ap (λ (x : Group). x.turns) is in
         Reaches [] [] phase refl (omega (arith, same)) at_phase (subst (λ (x : Group). Stands P x) is stands) refl
 
+    -- what is owed finds room
+    found : (P : List (JournalEntry B)) (g : Group) → Mode P g → g.turns ≤ 64 → (a : Actor) (first : ℕ) (letters : List (Letter B)) (lost : ℕ) → IsInputOf a P → IsPossible scene results (Post a first letters lost ∷ P) →
+        IsWithinLimits scene.sealing.size (Post a first letters lost ∷ P) → lost ≡ 0
+    found P g (Rests s) short a first letters lost input possible within = absurd (never_posts P s.posted a first letters lost input possible)
+    found P g (Owing o) short a first letters lost input possible within =
+        let whose = poster P o.older o.newest o.member a o.is o.whose input in
+        let same = (fits scene results (Post (actor.Controller o.member) first letters lost) P (subst (λ (b : Actor). IsPossible scene results (Post b first letters lost ∷ P)) whose possible) o.member (self_controller o.member)).0 in
+        let said = ap (λ (l : List (Letter B)). length l) same in
+        let sealed = sealed_length controller_message scene.sealing (at scene results o.member P).owed in
+        let owed = ap (λ (l : List (Letter ControllerSays)). length l) o.owed in
+        let members = length-map o.letters to_member in
+        let waits = paired_length (Carries scene results) (pool P) o.waiting o.carries in
+        let all = ap (λ (l : List Flight). length l) o.pool_is in
+        let parts = length-append o.waiting (map (flown o.member) o.letters) in
+        let flown_same = length-map o.letters (flown o.member) in
+        let few = o.holds.few in
+        finds_room scene.sealing.size a first letters lost P possible.orderly within (omega (arith, said, sealed, owed, members, waits, all, parts, flown_same, few, short))
+
     -- all of them
-    pub goes : (entries P : List (JournalEntry B)) (last : Phase) → FindRoom entries → Again entries last P
-    goes [] P last room phase ms g at_phase mode path closes possible posted =
+    pub goes : z.turns ≤ 64 → (entries P : List (JournalEntry B)) (last : Phase) → Again entries last P
+    goes short [] P last phase ms g at_phase mode path closes possible posted within =
         subst (λ (x : Phase). Outcome P g [] x) (sym closes) (ends_here P phase ms g at_phase (rested P g mode posted) path)
-    goes (Post a first letters lost ∷ rest) P last room phase ms g at_phase mode path closes possible posted =
-        let stands = posts P g mode a first letters lost closes.0 (possible_under rest (Post a first letters lost ∷ P) possible) room.0 in
+    goes short (Post a first letters lost ∷ rest) P last phase ms g at_phase mode path closes possible posted within =
+        let can = possible_under rest (Post a first letters lost ∷ P) possible in
+        let few = path_turns w quorum z ms g path in
+        let fit = found P g mode (omega (arith, few, short)) a first letters lost closes.0 can (within_under scene.sealing.size rest (Post a first letters lost ∷ P) within) in
+        let stands = posts P g mode a first letters lost closes.0 can fit in
         behind_one (Post a first letters lost) P g g rest last (omega arith)
-        (goes rest (Post a first letters lost ∷ P) last room.1 phase ms g at_phase (Rests stands) path closes.1 possible posted)
-    goes (Draw a id keep ∷ rest) P last room phase ms g at_phase mode path closes possible posted =
-        moves (Draw a id keep) rest P last phase closes ms g at_phase (rested P g mode closes.0) path closes.1.0 closes.1.1 (closes.1.2, possible, posted) (λ P'. goes rest P' last room.1)
-    goes (Lose a id ∷ rest) P last room phase ms g at_phase mode path closes possible posted =
-        moves (Lose a id) rest P last phase closes ms g at_phase (rested P g mode closes.0) path closes.1.0 closes.1.1 (closes.1.2, possible, posted) (λ P'. goes rest P' last room.1)
-    goes (Local a input ∷ rest) P last room phase ms g at_phase mode path closes possible posted =
-        moves (Local a input) rest P last phase closes ms g at_phase (rested P g mode closes.0) path closes.1.0 closes.1.1 (closes.1.2, possible, posted) (λ P'. goes rest P' last room.1)
-    goes (Idle a ∷ rest) P last room phase ms g at_phase mode path closes possible posted =
-        moves (Idle a) rest P last phase closes ms g at_phase (rested P g mode closes.0) path closes.1.0 closes.1.1 (closes.1.2, possible, posted) (λ P'. goes rest P' last room.1)
-    goes (Refused a ∷ rest) P last room phase ms g at_phase mode path closes possible posted =
-        moves (Refused a) rest P last phase closes ms g at_phase (rested P g mode closes.0) path closes.1.0 closes.1.1 (closes.1.2, possible, posted) (λ P'. goes rest P' last room.1)
+        (goes short rest (Post a first letters lost ∷ P) last phase ms g at_phase (Rests stands) path closes.1 possible posted within)
+    goes short (Draw a id keep ∷ rest) P last phase ms g at_phase mode path closes possible posted within =
+        moves (Draw a id keep) rest P last phase closes ms g at_phase (rested P g mode closes.0) path closes.1.0 closes.1.1 (closes.1.2, possible, posted, within) (λ P'. goes short rest P' last)
+    goes short (Lose a id ∷ rest) P last phase ms g at_phase mode path closes possible posted within =
+        moves (Lose a id) rest P last phase closes ms g at_phase (rested P g mode closes.0) path closes.1.0 closes.1.1 (closes.1.2, possible, posted, within) (λ P'. goes short rest P' last)
+    goes short (Local a input ∷ rest) P last phase ms g at_phase mode path closes possible posted within =
+        moves (Local a input) rest P last phase closes ms g at_phase (rested P g mode closes.0) path closes.1.0 closes.1.1 (closes.1.2, possible, posted, within) (λ P'. goes short rest P' last)
+    goes short (Idle a ∷ rest) P last phase ms g at_phase mode path closes possible posted within =
+        moves (Idle a) rest P last phase closes ms g at_phase (rested P g mode closes.0) path closes.1.0 closes.1.1 (closes.1.2, possible, posted, within) (λ P'. goes short rest P' last)
+    goes short (Refused a ∷ rest) P last phase ms g at_phase mode path closes possible posted within =
+        moves (Refused a) rest P last phase closes ms g at_phase (rested P g mode closes.0) path closes.1.0 closes.1.1 (closes.1.2, possible, posted, within) (λ P'. goes short rest P' last)
 
   module _ (z : Group) (start : ℕ → VrState) (best : ℕ) (ends : IsLast scene.setup.controllers w quorum start best z) (leader : IsMember scene.setup.controllers w (w % scene.setup.controllers) (start (w % scene.setup.controllers)))
-      (leads_it : has quorum (w % scene.setup.controllers) ≡ true) where
+      (leads_it : has quorum (w % scene.setup.controllers) ≡ true) (one_log : is_log (start best).log ≡ true) where
     abbrev m : ℕ
     m = scene.setup.controllers
 
     -- the turn that starts the view
     abbrev started_member : VrState
     started_member = started_with (start (w % m)) w (ends.voters (w % m)) (map (log_of start) (tellers (w % m) quorum)) (start best).log
+
+    sized : IsSized started_member
+    sized = record {
+      small = (let is = leader.size in let seven = seven_at_most m setup.group in omega (arith, is, seven));
+      one = one_log;
+      whole = λ none. ap (λ (b : Bool). if b then length (start best).log else greatest_commit (start (w % m)).commit (map (log_of start) (tellers (w % m) quorum))) (eq-eqb (most_failures started_member) 0 none);
+    }
 
     abbrev turn_work : Work
     turn_work = starting_turn scene.kinds scene.setup None started_member
@@ -604,12 +690,25 @@ module _ {B : Type 0} (scene : Scene B) (results : List (List SaveResult)) (setu
       pool_empty : IsPossible scene results P → pool (start_draw ∷ P) ≡ []
       pool_empty possible = left_head z last_flight [] P h possible ∙ paired_none (Carries scene results) h.rest h.others
 
+      -- all that it says in that turn finds room
+      start_fits : (first : ℕ) (letters : List (Letter B)) (lost : ℕ) → IsPossible scene results (Post (actor.Controller (w % m)) first letters lost ∷ (start_draw ∷ P)) →
+          IsWithinLimits scene.sealing.size (Post (actor.Controller (w % m)) first letters lost ∷ (start_draw ∷ P)) → lost ≡ 0
+      start_fits first letters lost possible within =
+          let was = possible_before scene results _ (start_draw ∷ P) possible in
+          let empty = ap (λ (l : List (Packet B)). length l) (pool_empty (possible_before scene results start_draw P was)) in
+          let same = (fits scene results (Post (actor.Controller (w % m)) first letters lost) (start_draw ∷ P) possible (w % m) (self_controller (w % m))).0 in
+          let said = ap (λ (l : List (Letter B)). length l) same in
+          let sealed = sealed_length controller_message scene.sealing (at scene results (w % m) (start_draw ∷ P)).owed in
+          let owed = ap (λ (l : List (Letter ControllerSays)). length l) turn_is.owed in
+          let few = starting_few scene.kinds scene.setup setup.few None started_member sized in
+          finds_room scene.sealing.size (actor.Controller (w % m)) first letters lost (start_draw ∷ P) possible.orderly within (omega (arith, empty, said, sealed, owed, few))
+
       abbrev phase_then : Phase
       phase_then = after_member w (at scene results (w % m) (start_draw ∷ P)).now (Draining w quorum)
 
-      starts_goes : (rest : List (JournalEntry B)) (last : Phase) → FindRoom rest → ClosesTo scene results phase_then (start_draw ∷ P) rest last → IsPossible scene results (later (start_draw ∷ P) rest) →
-          IsPosted scene results (later (start_draw ∷ P) rest) → Begun P (start_draw ∷ rest) last
-      starts_goes rest last room closes possible posted = by_next (next_of phase_then (start_draw ∷ P) rest last closes posted)
+      starts_goes : (rest : List (JournalEntry B)) (last : Phase) → ClosesTo scene results phase_then (start_draw ∷ P) rest last → IsPossible scene results (later (start_draw ∷ P) rest) →
+          IsPosted scene results (later (start_draw ∷ P) rest) → IsWithinLimits scene.sealing.size (later (start_draw ∷ P) rest) → Begun P (start_draw ∷ rest) last
+      starts_goes rest last closes possible posted within = by_next (next_of phase_then (start_draw ∷ P) rest last closes posted)
         where
           was : IsPossible scene results (start_draw ∷ P)
           was = possible_under rest (start_draw ∷ P) possible
@@ -636,7 +735,8 @@ module _ {B : Type 0} (scene : Scene B) (results : List (List SaveResult)) (setu
               let split : rest ≡ Post (actor.Controller (w % m)) first letters lost ∷ more = is ∙ ap (λ (b : Actor). Post b first letters lost ∷ more) whose in
               let it : JournalEntry B = Post (actor.Controller (w % m)) first letters lost in
               let after : IsPossible scene results (it ∷ (start_draw ∷ P)) = possible_under more (it ∷ (start_draw ∷ P)) (subst (λ (l : List (JournalEntry B)). IsPossible scene results (later (start_draw ∷ P) l)) split possible) in
-              let fit : lost ≡ 0 = (subst (λ (l : List (JournalEntry B)). FindRoom l) split room).0 in
+              let fit : lost ≡ 0 =
+              start_fits first letters lost after (within_under scene.sealing.size more (it ∷ (start_draw ∷ P)) (subst (λ (l : List (JournalEntry B)). IsWithinLimits scene.sealing.size (later (start_draw ∷ P) l)) split within)) in
               record {
                 first = start_draw ∷ (it ∷ []);
                 rest = more;
@@ -662,24 +762,25 @@ module _ {B : Type 0} (scene : Scene B) (results : List (List SaveResult)) (setu
       head_here : HeadOf scene results (pool P) last_flight []
       head_here = head_of scene results (pool P) last_flight [] (subst (λ (fs : List Flight). AllCarry scene results (pool P) fs) ends.waits stands.carries)
 
-      pub last_turn : (e : JournalEntry B) (rest : List (JournalEntry B)) (last phase : Phase) → PhaseOf phase [] → FindRoom rest → (next : Phase) → IsMove (next_move scene results phase P) e next → Here rest P last e next → Begun P (e ∷ rest) last
-      last_turn e rest last phase at_phase room next move here =
+      pub last_turn : (e : JournalEntry B) (rest : List (JournalEntry B)) (last phase : Phase) → PhaseOf phase [] → (next : Phase) → IsMove (next_move scene results phase P) e next → Here rest P last e next → Begun P (e ∷ rest) last
+      last_turn e rest last phase at_phase next move here =
           let h = head_here in
           let m' = subst (λ (v : Move B). IsMove v e next) (next_is z last_flight [] P h phase at_phase) move in
           let e_is = m'.0 ∙ drawn_entry z last_flight [] P h leads_it in
           let here' = here_is rest P last e (Draw (actor.Controller (w % m)) h.packet.id false) next (Draining w quorum) e_is m'.1 here in
-          subst (λ (x : JournalEntry B). Begun P (x ∷ rest) last) (sym e_is) (starts_goes P h stands rest last room here'.0 here'.1 here'.2)
+          subst (λ (x : JournalEntry B). Begun P (x ∷ rest) last) (sym e_is) (starts_goes P h stands rest last here'.0 here'.1 here'.2 here'.3)
 
       pub no_end : (phase : Phase) → PhaseOf phase [] → (answer : Answer) → IsEnd (next_move scene results phase P) answer → ⊥
       no_end phase at_phase answer end = let h = head_here in never_ends z P phase (drained quorum h.packet) (Draining w quorum) answer (next_is z last_flight [] P h phase at_phase) end
 
-      pub begins : (entries : List (JournalEntry B)) (last phase : Phase) → PhaseOf phase [] → FindRoom entries → ClosesTo scene results phase P entries last → IsPossible scene results (later P entries) → IsPosted scene results (later P entries) →
+      pub begins : (entries : List (JournalEntry B)) (last phase : Phase) → PhaseOf phase [] → ClosesTo scene results phase P entries last → IsPossible scene results (later P entries) → IsPosted scene results (later P entries) →
+          IsWithinLimits scene.sealing.size (later P entries) →
           (((answer : Answer) → IsEnd (next_move scene results last (later P entries)) answer → ⊥) × (entries ≡ [])) ⊎ Begun P entries last
-      begins [] last phase at_phase room closes possible posted = inl ((λ answer end. no_end phase at_phase answer (subst (λ (x : Phase). IsEnd (next_move scene results x P) answer) closes end)), refl)
-      begins (Post a first letters lost ∷ rest) last phase at_phase room closes possible posted =
+      begins [] last phase at_phase closes possible posted within = inl ((λ answer end. no_end phase at_phase answer (subst (λ (x : Phase). IsEnd (next_move scene results x P) answer) closes end)), refl)
+      begins (Post a first letters lost ∷ rest) last phase at_phase closes possible posted within =
           absurd (never_posts P stands.posted a first letters lost closes.0 (possible_under rest (Post a first letters lost ∷ P) possible))
-      begins (Draw a id keep ∷ rest) last phase at_phase room closes possible posted = inr (last_turn (Draw a id keep) rest last phase at_phase room.1 closes.1.0 closes.1.1 (closes.1.2, possible, posted))
-      begins (Lose a id ∷ rest) last phase at_phase room closes possible posted = inr (last_turn (Lose a id) rest last phase at_phase room.1 closes.1.0 closes.1.1 (closes.1.2, possible, posted))
-      begins (Local a input ∷ rest) last phase at_phase room closes possible posted = inr (last_turn (Local a input) rest last phase at_phase room.1 closes.1.0 closes.1.1 (closes.1.2, possible, posted))
-      begins (Idle a ∷ rest) last phase at_phase room closes possible posted = inr (last_turn (Idle a) rest last phase at_phase room.1 closes.1.0 closes.1.1 (closes.1.2, possible, posted))
-      begins (Refused a ∷ rest) last phase at_phase room closes possible posted = inr (last_turn (Refused a) rest last phase at_phase room.1 closes.1.0 closes.1.1 (closes.1.2, possible, posted))
+      begins (Draw a id keep ∷ rest) last phase at_phase closes possible posted within = inr (last_turn (Draw a id keep) rest last phase at_phase closes.1.0 closes.1.1 (closes.1.2, possible, posted, within))
+      begins (Lose a id ∷ rest) last phase at_phase closes possible posted within = inr (last_turn (Lose a id) rest last phase at_phase closes.1.0 closes.1.1 (closes.1.2, possible, posted, within))
+      begins (Local a input ∷ rest) last phase at_phase closes possible posted within = inr (last_turn (Local a input) rest last phase at_phase closes.1.0 closes.1.1 (closes.1.2, possible, posted, within))
+      begins (Idle a ∷ rest) last phase at_phase closes possible posted within = inr (last_turn (Idle a) rest last phase at_phase closes.1.0 closes.1.1 (closes.1.2, possible, posted, within))
+      begins (Refused a ∷ rest) last phase at_phase closes possible posted within = inr (last_turn (Refused a) rest last phase at_phase closes.1.0 closes.1.1 (closes.1.2, possible, posted, within))

@@ -25,7 +25,7 @@ use Rattle.closing_laws.specs.Quorum.{has}
 use Rattle.closing_laws.proofs.Growth.{places_are}
 use Rattle.closing_laws.proofs.Finishing.{proposal_is}
 use Rattle.closing_laws.proofs.PieceMeasure.{Falls, IsAnswer, answered_falls, commands_fall, falls_none, falls_then, none_answered, processed_falls}
-use Rattle.closing_laws.proofs.Proposing.{commands_vr, committed_same, proposal, proposed_as, pushed}
+use Rattle.closing_laws.proofs.Proposing.{commands_vr, committed_same, proposal, proposed_as, pushed, pushed_all, pushed_behind}
 
 module _ (kinds : List ℕ) (setup : Setup) (quorum : List ℕ) (me f n : ℕ) (enough : length (filter (has quorum) (others_below me n)) ≡ f) where
   -- a work goes on from another: it logs these events, and what it says is worth no more than what it does and this
@@ -141,24 +141,18 @@ module _ (kinds : List ℕ) (setup : Setup) (quorum : List ℕ) (me f n : ℕ) (
       all : committed c ≡ c.vr.log
       all = take_all c.vr.commit c.vr.log (let w = whole in omega (arith, w))
 
-      all_now : committed c2 ≡ c.vr.log ++ entry ∷ []
-      all_now = let long = length-append c.vr.log (entry ∷ []) in take_all (length c.vr.log + 1) (c.vr.log ++ entry ∷ []) (omega (arith, long))
-
       one : committed c1 ≡ c.vr.log
       one = committed_same c entry ready.within ∙ all
 
       front : IsPrefix (committed c1) (committed c2)
-      front = record { rest = entry ∷ []; joined = all_now ∙ ap (λ (l : List Entry). l ++ entry ∷ []) (sym one) }
+      front = record { rest = entry ∷ []; joined = pushed_all c entry ∙ ap (λ (l : List Entry). l ++ entry ∷ []) (sym one) }
 
       count : processed (committed c2) ≡ processed (committed c1) + (if is_processed entry then 1 else 0)
       count =
           let h = sum_by-append (λ (x : Entry). if is_processed x then 1 else 0) c.vr.log (entry ∷ []) in
-          let a = ap processed all_now in
+          let a = ap processed (pushed_all c entry) in
           let b = ap processed one in
           omega (arith, h, a, b)
-
-      behind : drop c.vr.commit (committed c2) ≡ entry ∷ []
-      behind = ap (λ (k : ℕ). drop k (committed c2)) whole ∙ ap (drop (length c.vr.log)) all_now ∙ drop-append_seam c.vr.log (entry ∷ [])
 
       is_answer : IsPlain c entry ⊎ IsNext c entry → IsAnswer kinds setup quorum me f c1 c2 refl refl refl front (places_processed (entry ∷ []))
       is_answer (inl h) = let k = count in let z = ap {B = ℕ} (λ (b : Bool). if b then 1 else 0) h.1 in inl (h.0, omega (arith, k, z))
@@ -172,7 +166,7 @@ module _ (kinds : List ℕ) (setup : Setup) (quorum : List ℕ) (me f n : ℕ) (
 
       answers_fall : Falls kinds setup quorum me f c1 c2 answers 0
       answers_fall =
-          subst (λ (l : List Entry). Falls kinds setup quorum me f c1 c2 (flat_map (answers_at kinds setup c2) (places_processed l)) 0) (sym behind)
+          subst (λ (l : List Entry). Falls kinds setup quorum me f c1 c2 (flat_map (answers_at kinds setup c2) (places_processed l)) 0) (sym (pushed_behind c entry whole))
           (answered_falls kinds setup quorum me f c1 c2 refl refl refl front (places_processed (entry ∷ [])) (is_answer answer))
 
       answered_descends : Descends work (with_answers kinds setup c.vr.commit (proposed_as true work entry)) (received (entry ∷ [])) extra

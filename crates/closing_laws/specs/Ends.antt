@@ -3,6 +3,7 @@ use Rattle.std.specs.Prelude.{◌≡◌, ◌≤◌, ℕ, List, ◌++◌, reverse
 use Rattle.of_types.specs.Setups.{IsSetup}
 use Rattle.rv_base.specs.declared.journal.JournalEntry.{JournalEntry}
 use Rattle.rv_base.specs.declared.journal.SaveResult.{SaveResult}
+use Rattle.rv_base.specs.Turns.{IsWithinLimits}
 use Rattle.rv_runs.specs.States.{Scene, IsFaithful}
 use Rattle.rv_runs.specs.Legal.{IsLegalPast}
 use Rattle.rv_runs.specs.Committed.{decided, kept}
@@ -10,18 +11,17 @@ use Rattle.rv_runs.specs.Laws.{IsClosed}
 use Rattle.rv_runs.specs.Schedule.{Closes, Done}
 use Rattle.dispatcher.specs.Ledger.{most_commands}
 use Rattle.closing_laws.specs.Given.{given_by}
-use Rattle.closing_laws.specs.Starts.{FindRoom}
 
 -- all is done, and what the primary that closed has committed is what is decided
 pub record HasRested {B : Type 0} (scene : Scene B) (results : List (List SaveResult)) (primary : ℕ) (entries : List (JournalEntry B)) : Type 0 where
   pub closed : IsClosed scene results entries
   pub kept : kept scene results primary entries ≡ decided scene results entries
 
--- A closing that ends has left nothing undone, where each of its letters found room, and the applications give no more
--- commands for an event than a ledger holds.
+-- A closing that ends has left nothing undone, where its journal is within the limits, and the applications give no more commands for
+-- an event than a ledger holds.
 abbrev pub ClosingsRest : Type 0 → Type 0
 ClosingsRest B =
     (scene : Scene B) (results : List (List SaveResult)) (before entries : List (JournalEntry B)) (primary : ℕ) →
     IsSetup scene.setup → IsFaithful scene.sealing → given_by scene.kinds ≤ most_commands →
-    IsLegalPast scene results (reverse entries ++ before) → Closes scene results before entries (Done primary) → FindRoom entries →
+    IsLegalPast scene results (reverse entries ++ before) → Closes scene results before entries (Done primary) → IsWithinLimits scene.sealing.size (reverse entries ++ before) →
     HasRested scene results primary (reverse entries ++ before)

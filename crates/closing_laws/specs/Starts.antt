@@ -1,14 +1,13 @@
 -- How the view of a closing starts, told of its journal.
 use Rattle.std.specs.Prelude.{◌≡◌, ◌≤◌, ◌<◌, ℕ, ◌/◌, ◌%◌, true, false, nat_eq, List, [], ◌++◌, map, reverse, slice_index_or, Option, None}
-use Rattle.std.specs.List.{AllByRecursion}
 use Rattle.of_types.specs.Setups.{IsSetup}
 use Rattle.rv_base.specs.declared.journal.Actor.TheVariants as actor
 use Rattle.rv_base.specs.declared.journal.JournalEntry.{JournalEntry}
-use Rattle.rv_base.specs.declared.journal.JournalEntry.TheVariants.{Post}
 use Rattle.rv_base.specs.declared.journal.SaveResult.{SaveResult}
 use Rattle.rv_base.specs.declared.journal.SaveResult.TheVariants.{Saved}
 use Rattle.rv_base.specs.Part.{part}
 use Rattle.rv_base.specs.Pool.{numbered, pool}
+use Rattle.rv_base.specs.Turns.{IsWithinLimits}
 use Rattle.of_types.specs.declared.setup.Setup.{Setup}
 use Rattle.vr_log.specs.declared.state.VrState.{VrState}
 use Rattle.view_change.specs.Entering.{tells_start}
@@ -21,14 +20,6 @@ use Rattle.rv_runs.specs.Committed.{controller_state, switch_state, states_of, c
 use Rattle.rv_runs.specs.Schedule.{Phase, Losing, Suspecting, Draining, Answer, ClosesTo, IsPosted, IsEnd, after_member, closing_view, count_turns, majority, next_move}
 use Rattle.closing_laws.specs.Quorum.{has, members_that_close}
 use Rattle.closing_laws.specs.Views.{HasBest, IsCovered, in_view, lacks, log_of, started_with, tellers, turns_to_start}
-
--- the letters of a post found room in the pool
-abbrev pub FindsRoom : {B : Type 0} → JournalEntry B → Type 0
-FindsRoom (Post a first letters lost) = lost ≡ 0
-FindsRoom _ = Unit {0}
-
-abbrev pub FindRoom : {B : Type 0} → List (JournalEntry B) → Type 0
-FindRoom entries = AllByRecursion (λ e. FindsRoom e) entries
 
 -- each save of a controller after a past succeeds
 abbrev pub SavesSucceed : {B : Type 0} → Scene B → List (List SaveResult) → List (JournalEntry B) → Type 0
@@ -63,7 +54,7 @@ pub record HasStartedIn {B : Type 0} (scene : Scene B) (results : List (List Sav
   pub says : map (content scene.sealing) (pool entries) ≡ map (λ l. unsealed.Message (controller_message l.body)) turn.letters
 
 -- A closing over a past in which nothing waits or is owed, where a majority takes part, up to some phase of it. Each save
--- succeeds, and each letter finds room
+-- succeeds, and the journal stays within its limits
 pub record IsAttempt {B : Type 0} (scene : Scene B) (results : List (List SaveResult)) (before entries : List (JournalEntry B)) (last : Phase) : Type 0 where
   pub possible : IsPossible scene results (reverse entries ++ before)
   pub rests : IsPosted scene results before
@@ -72,7 +63,7 @@ pub record IsAttempt {B : Type 0} (scene : Scene B) (results : List (List SaveRe
   pub closes : ClosesTo scene results Losing before entries last
   pub posted : IsPosted scene results (reverse entries ++ before)
   pub saves : SavesSucceed scene results before
-  pub room : FindRoom entries
+  pub within : IsWithinLimits scene.sealing.size (reverse entries ++ before)
 
 -- the view that it takes, and its quorum
 abbrev pub view_after : {B : Type 0} → Scene B → List (List SaveResult) → List (JournalEntry B) → ℕ

@@ -107,14 +107,14 @@ pub fn view_starts()
 
 /// So it is in every run: a closing over a past in which nothing waits or is owed starts its view from the best log of its
 /// quorum, with exactly f * f + 3 * f + 1 turns, and two more where its primary has to fetch, and doesn't end before. Each
-/// save has to succeed, and each letter to find room.
+/// save has to succeed, and the journal is within its limits.
 pub fn views_start_in_time<B>()
     ensures { ViewsStartInTime B }
 {}
 
 /// A closing that ends has left nothing undone, whatever it began behind, and however often a failed save made it begin again:
 /// nothing waits, each switch is at rest, each event is processed, and what the primary that closed has committed is what is
-/// decided. Each letter of it has to find room, and the applications may give at most 128 commands for an event, by their kinds.
+/// decided. The applications may give at most 128 commands for an event, by their kinds, and the journal is within its limits.
 pub fn closings_rest<B>()
     ensures { ClosingsRest B }
 {}
@@ -125,13 +125,15 @@ pub fn closings_find_a_quorum<B>()
     ensures { ClosingsFindAQuorum B }
 {}
 
-/// A closing that ends for want of room in a log tells of a controller of its group, whose log is as it tells, and which an
-/// entry more would take past the limits of a log.
+/// A closing that ends for want of room in a log tells of a controller of its group that leads, whose log is as it tells, and
+/// which an entry more would take past the limits of a log. Then the events that the switches have made don't fit a log, each
+/// with the entries that it was received and that it is processed.
 pub fn closings_meet_limits<B>()
     ensures { ClosingsMeetLimits B }
 {}
 
-/// An attempt of a closing takes no more turns than the bound says, at each moment of it.
+/// A closing takes no more turns than the bound says, at each moment of it at which all is posted, where each save in it
+/// succeeds, its journal is within the limits, and the applications give at most 128 commands for an event.
 pub fn closings_are_quick<B>()
     ensures { ClosingsAreQuick B }
 {}

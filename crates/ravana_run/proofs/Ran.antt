@@ -18,6 +18,7 @@ use Rattle.of_switch.specs.State.{SwitchState}
 use Rattle.of_types.specs.Setups.{IsSetup}
 use Rattle.rv_laws.proofs.Told.{told_law}
 use Rattle.rv_laws.proofs.Laws.{agreement_law, lasting_law, once_law, fence_law}
+use Rattle.rv_runs.specs.Bound.{IsQuick}
 use Rattle.rv_runs.specs.Committed.{controller_state, count_up, decided, members_up, switch_state}
 use Rattle.rv_runs.specs.Legal.{IsLegalPast, IsPossible, results_of}
 use Rattle.rv_runs.specs.Schedule.{Answer, Closes, FollowsInOrder, IsBegun, count_turns, majority}
@@ -42,9 +43,9 @@ use Rattle.closing.proofs.Parts.{few_members}
 use Rattle.vr_log.specs.declared.entry.LogFull.{LogFull}
 use Rattle.closing_laws.specs.Ends.{HasRested}
 use Rattle.closing_laws.specs.Given.{given_by}
-use Rattle.closing_laws.specs.Starts.{FindRoom}
 use Rattle.closing_laws.specs.Stops.{IsAtLimit}
 use Rattle.closing_laws.proofs.Limits.{limits_law}
+use Rattle.closing_laws.proofs.QuickClosings.{quick_law}
 use Rattle.closing_laws.proofs.Quorate.{quorum_law}
 use Rattle.closing_laws.proofs.Rested.{rest_law}
 use Rattle.dispatcher.specs.Ledger.{most_commands}
@@ -142,6 +143,12 @@ module _ {A W : Type 0} (controls : Controlling A → List ℕ → Type 0) (pair
         pair_is = ap pair (from_some t.1 last.0 (sym t.3 ∙ last.1)) ∙ last.2 ∙ ap (λ x. pair_in (state_of x)) (from_some t.0 n.member (sym t.2 ∙ n.stands)) ∙ ap pair_in n.state;
       }
 
+  -- each save is made, so each succeeds
+  each_saved : (rs : List SaveResult) → AllByRecursion (λ r. r ≡ Saved) rs → (i : ℕ) → slice_index_or rs i Saved ≡ Saved
+  each_saved [] all i = refl
+  each_saved (r ∷ rs) all zero = all.0
+  each_saved (r ∷ rs) all (suc i) = each_saved rs all.1 i
+
   module _ (count : ℕ) (answer : Answer) (played : HasPlayed (scene_in byte_bodies start kinds) scenario.steps count answer w) where
     same_scene : (P : Scene (List ℕ) → Type 0) → P (scene_in byte_bodies start kinds) → P OfRun
     same_scene P h = subst (λ (s : Setup). P (record { setup = s; kinds = kinds; sealing = byte_bodies })) begins.setup_is h
@@ -170,6 +177,12 @@ module _ {A W : Type 0} (controls : Controlling A → List ℕ → Type 0) (pair
         }) in
         record { most = found.0; plays_it = found.1 ∙ ap (λ l. record { entries = l; answer = Some answer }) (sym whole) }
 
+    -- its closing is quick
+    quick : given_by kinds ≤ most_commands → AreSaved scenario.setup.controllers Results → IsQuick OfRun Results (past played.front) played.rest
+    quick given saved =
+        quick_law OfRun Results (past played.front) played.rest closes.last runs.setup bytes_again given (subst (λ l. IsPossible OfRun Results l) whole runs.legal.possible)
+        (λ c i there low. each_saved (results_of Results c) (saved c there) i) (subst (λ l. IsWithinLimits byte_bodies.size l) whole within) closes.steps closes.posted
+
     pub has_run : HasRun kinds (StablesTell pair faults stables stables_after) scenario answer
     has_run = record {
       results = Results;
@@ -179,14 +192,15 @@ module _ {A W : Type 0} (controls : Controlling A → List ℕ → Type 0) (pair
       run = record { joined = played.joined; legal = runs.legal; within = within; follows = follows; closes = closes; lawful = lawful };
       saved = stables_tell;
       one = one;
+      quick = quick;
     }
 
     -- nothing is left undone
-    rested : (primary : ℕ) → answer ≡ schedule.Done primary → given_by kinds ≤ most_commands → FindRoom played.rest → HasRested OfRun Results primary (past w.journal)
-    rested primary is given room =
+    rested : (primary : ℕ) → answer ≡ schedule.Done primary → given_by kinds ≤ most_commands → HasRested OfRun Results primary (past w.journal)
+    rested primary is given =
         subst (λ (l : List (JournalEntry (List ℕ))). HasRested OfRun Results primary l) (sym whole)
         (rest_law OfRun Results (past played.front) played.rest primary runs.setup bytes_again given (subst (λ (l : List (JournalEntry (List ℕ))). IsLegalPast OfRun Results l) whole runs.legal)
-        (subst (λ (x : Answer). Closes OfRun Results (past played.front) played.rest x) is closes) room)
+        (subst (λ (x : Answer). Closes OfRun Results (past played.front) played.rest x) is closes) (subst (λ l. IsWithinLimits byte_bodies.size l) whole within))
 
     -- what is told of it
     shows : (told : Record) → told ≡ told_by w (length scenario.steps) count → Shows OfRun Results (length scenario.steps) played.rest w.journal told
@@ -229,12 +243,6 @@ module _ {A W : Type 0} (controls : Controlling A → List ℕ → Type 0) (pair
             (told_law OfRun Results (past w.journal) runs.setup bytes_again runs.legal.possible) (length scenario.steps) count));
       }
 
-  -- each save is made, so each succeeds
-  each_saved : (rs : List SaveResult) → AllByRecursion (λ r. r ≡ Saved) rs → (i : ℕ) → slice_index_or rs i Saved ≡ Saved
-  each_saved [] all i = refl
-  each_saved (r ∷ rs) all zero = all.0
-  each_saved (r ∷ rs) all (suc i) = each_saved rs all.1 i
-
   pub is_left : (count up needed : ℕ) (played : HasPlayed (scene_in byte_bodies start kinds) scenario.steps count (schedule.NoQuorum up needed) w) → IsLeft kinds (StablesTell pair faults stables stables_after) scenario up needed
   unfolding has_run
   is_left count up needed played = record {
@@ -249,7 +257,7 @@ module _ {A W : Type 0} (controls : Controlling A → List ℕ → Type 0) (pair
   pub is_overfull : (count : ℕ) (limit : LogFull) (played : HasPlayed (scene_in byte_bodies start kinds) scenario.steps count (schedule.Overfull limit) w) → IsOverfull kinds (StablesTell pair faults stables stables_after) scenario limit
   unfolding has_run
   is_overfull count limit played =
-      let at = limits_law OfRun Results (past played.front) played.rest limit (subst (λ (l : List (JournalEntry (List ℕ))). IsPossible OfRun Results l) (whole count (schedule.Overfull limit) played) runs.legal.possible)
+      let at = limits_law OfRun Results (past played.front) played.rest limit runs.setup bytes_again (subst (λ (l : List (JournalEntry (List ℕ))). IsPossible OfRun Results l) (whole count (schedule.Overfull limit) played) runs.legal.possible)
       (closes count (schedule.Overfull limit) played) in
       record {
         ran = has_run count (schedule.Overfull limit) played;

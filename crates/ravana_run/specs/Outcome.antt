@@ -15,7 +15,7 @@ use Rattle.audit.specs.Audit.{differs}
 use Rattle.ravana_run.specs.declared.service.Service.{Service}
 use Rattle.ravana_run.specs.Audited.{report_limit, too_large}
 use Rattle.ravana_run.specs.Service.{service_of}
-use Rattle.ravana_run.specs.Runs.{IsDone, IsLeft, IsOverfull, IsUnposted, Telling}
+use Rattle.ravana_run.specs.Runs.{IsDone, IsInLimits, IsLeft, IsOverfull, IsUnposted, Telling}
 
 -- a claim on what is read and written, where both ends tell it: what the source had left at first, what
 -- it has left at the end, and what the sink took
@@ -97,6 +97,13 @@ statuses_of_audit = 0 ∷ 3 ∷ 4 ∷ 5 ∷ 6 ∷ 8 ∷ []
 abbrev pub audit_status : List ℕ → List ℕ → ℕ
 audit_status kinds input = if nat_lt report_limit (length input) then 3 else elim (differs kinds input) [ None ↦ 0 | Some n ↦ 8 ]
 
--- an audit in which nothing failed ends by that, or finds no memory
-pub record IsComplete (kinds : List ℕ) (words : List (List ℕ)) (input : List ℕ) (unread unwritten : Type 0) (status : ℕ) : Type 0 where
+-- words ask to play this scenario: of the bytes that are read, or of four numbers
+pub data AsksFor (words : List (List ℕ)) (input : List ℕ) : Scenario → Type 0 where
+  Its_bytes : {scenario : Scenario} → job_of words ≡ Some Sim → scenario_of input ≡ Ok scenario → AsksFor words input scenario
+  Its_numbers : (number controllers switches frames : ℕ) → job_of words ≡ Some (Gen number controllers switches frames) → AsksFor words input (generated number controllers switches frames)
+
+-- An audit in which nothing failed ends by that, or finds no memory. A scenario that keeps within the limits comes to rest, where
+-- nothing failed and the stable pairs are calm, or finds no memory.
+pub record IsComplete (kinds : List ℕ) (words : List (List ℕ)) (input : List ℕ) (unread unwritten calm : Type 0) (status : ℕ) : Type 0 where
   pub ends : IsAudit words → (unread → ⊥) → (unwritten → ⊥) → Contains (audit_status kinds input ∷ 6 ∷ []) status
+  pub rests : (scenario : Scenario) → AsksFor words input scenario → IsInLimits kinds scenario → calm → (unread → ⊥) → (unwritten → ⊥) → Contains (0 ∷ 6 ∷ []) status

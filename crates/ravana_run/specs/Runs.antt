@@ -10,6 +10,7 @@ use Rattle.rv_base.specs.Turns.{IsWithinLimits}
 use Rattle.vr_log.specs.declared.entry.Entry.{Entry}
 use Rattle.vr_log.specs.declared.entry.LogFull.{LogFull}
 use Rattle.group_controller.specs.Turns.{pair_in}
+use Rattle.rv_runs.specs.Bound.{IsQuick}
 use Rattle.rv_runs.specs.Committed.{controller_state, count_up}
 use Rattle.rv_laws.specs.Laws.{AreAgreed}
 use Rattle.rv_runs.specs.Laws.{IsExactlyOnce, IsFenced, IsLasting}
@@ -20,8 +21,7 @@ use Rattle.rv_runs.specs.Schedule as schedule
 use Rattle.rv_runs.specs.States.{Scene}
 use Rattle.closing_laws.specs.Ends.{HasRested}
 use Rattle.closing_laws.specs.Given.{given_by}
-use Rattle.closing_laws.specs.Starts.{FindRoom}
-use Rattle.closing_laws.specs.Stops.{IsAtLimit}
+use Rattle.closing_laws.specs.Stops.{FitALog, IsAtLimit, events_made}
 use Rattle.dispatcher.specs.Ledger.{most_commands}
 use Rattle.rv_world.specs.World.{is_failed}
 use Rattle.scenario.specs.declared.scenario.Scenario.{Scenario}
@@ -88,7 +88,8 @@ pub record IsTheOne (scene : Scene (List ℕ)) (steps : List Turn) (journal : Li
 abbrev pub Telling : Type 1
 Telling = Scene (List ℕ) → List (List SaveResult) → List (JournalEntry (List ℕ)) → Type 0
 
--- a run up to this answer, and what its stable pairs tell
+-- A run up to this answer, and what its stable pairs tell. Its closing takes no more turns than the bound says, where each save was made
+-- and the applications give no more commands for an event than a ledger holds.
 pub record HasRun (kinds : List ℕ) (saves : Telling) (scenario : Scenario) (answer : Answer) : Type 0 where
   pub results : List (List SaveResult)
   pub script : List (JournalEntry (List ℕ))
@@ -97,19 +98,19 @@ pub record HasRun (kinds : List ℕ) (saves : Telling) (scenario : Scenario) (an
   pub run : IsRun kinds scenario results script closing journal answer
   pub saved : saves (scene_for kinds scenario) results journal
   pub one : AreSaved scenario.setup.controllers results → IsTheOne (scene_for kinds scenario) scenario.steps journal answer
+  pub quick : given_by kinds ≤ most_commands → AreSaved scenario.setup.controllers results → IsQuick (scene_for kinds scenario) results (past script) closing
 
 -- what is told as a report is a record, and no other record has the text that was written
 abbrev pub IsOneRecord : Output → Record → List ℕ → Type 0
 IsOneRecord output told written = IfReport output (IsRecord told × ((other : Record) → IsRecord other → text other ≡ written → other ≡ told))
 
 -- A run to its end and what is told of it. At least f + 1 of the 2 f + 1 controllers take part in the end. Nothing is left
--- undone, where each letter of the closing found room, and the applications give no more commands for an event than a
--- ledger holds.
+-- undone, where the applications give no more commands for an event than a ledger holds.
 pub record IsDone (kinds : List ℕ) (saves : Telling) (scenario : Scenario) (output : Output) (written : List ℕ) : Type 0 where
   pub primary : ℕ
   pub ran : HasRun kinds saves scenario (schedule.Done primary)
   pub up : majority scenario.setup.controllers ≤ count_up (scene_for kinds scenario) ran.results (past ran.journal)
-  pub rested : given_by kinds ≤ most_commands → FindRoom ran.closing → HasRested (scene_for kinds scenario) ran.results primary (past ran.journal)
+  pub rested : given_by kinds ≤ most_commands → HasRested (scene_for kinds scenario) ran.results primary (past ran.journal)
   pub told : Record
   pub shows : Shows (scene_for kinds scenario) ran.results (length scenario.steps) ran.closing ran.journal told
   pub wrote : written ≡ told_text output told
@@ -120,8 +121,8 @@ pub record IsLeft (kinds : List ℕ) (saves : Telling) (scenario : Scenario) (up
   pub ran : HasRun kinds saves scenario (schedule.NoQuorum up needed)
   pub few : AreSaved scenario.setup.controllers ran.results → count_up (scene_for kinds scenario) ran.results (past ran.script) < majority scenario.setup.controllers
 
--- a run that ended since a proposal in the closing found no room in the log: the log of a controller is as the limit tells, and an
--- entry more would take it past the limits of a log
+-- a run that ended since a proposal in the closing found no room in the log: the log of a controller that leads is as the limit tells, an
+-- entry more would take it past the limits of a log, and the events that the switches have made don't fit a log
 pub record IsOverfull (kinds : List ℕ) (saves : Telling) (scenario : Scenario) (limit : LogFull) : Type 0 where
   pub ran : HasRun kinds saves scenario (schedule.Overfull limit)
   pub controller : ℕ
@@ -134,3 +135,18 @@ pub record IsUnposted (kinds : List ℕ) (saves : Telling) (scenario : Scenario)
   pub journal : List (JournalEntry (List ℕ))
   pub run : IsCutShort kinds scenario results bytes letters journal
   pub saved : saves (scene_for kinds scenario) results journal
+
+-- A scenario keeps within the limits, where each save is made: f + 1 of its controllers take part behind its script, its letters are
+-- within those of a journal, and the events that its switches make fit a log.
+pub record IsInLimits (kinds : List ℕ) (scenario : Scenario) : Type 0 where
+  pub up : (results : List (List SaveResult)) (script closing journal : List (JournalEntry (List ℕ))) (answer : Answer) →
+      IsRun kinds scenario results script closing journal answer → AreSaved scenario.setup.controllers results → majority scenario.setup.controllers ≤ count_up (scene_for kinds scenario) results (past script)
+  pub posted : (results : List (List SaveResult)) (bytes letters : ℕ) (journal : List (JournalEntry (List ℕ))) →
+      IsCutShort kinds scenario results bytes letters journal → AreSaved scenario.setup.controllers results → ⊥
+  pub logged : (results : List (List SaveResult)) (script closing journal : List (JournalEntry (List ℕ))) (answer : Answer) →
+      IsRun kinds scenario results script closing journal answer → AreSaved scenario.setup.controllers results → FitALog (events_made (scene_for kinds scenario) (past journal))
+
+-- no count of the faults of stable pairs rose, nor stands at the greatest number
+abbrev pub AreCalm : {W : Type 0} → (W → ℕ) → List W → List W → Type 0
+AreCalm {W = W} faults stables stables_after =
+    (c : ℕ) (old new : W) → slice_get stables c ≡ Some old → slice_get stables_after c ≡ Some new → (faults new ≡ faults old) × (faults new < 2 ^ 64 - 1)

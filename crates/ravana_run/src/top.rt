@@ -7,7 +7,7 @@ ghost use Rattle.ravana_run.specs.Outcome.{Answers, IsTold, IsUnserved, IsAudit,
 ghost use Rattle.ravana_run.specs.Ending.{EndsRead, EndsScenario, EndsRun};
 ghost use Rattle.ravana_run.specs.Cause.{HasEndingCause, Tells};
 ghost use Rattle.ravana_run.specs.Play.{AreChains, AreFresh};
-ghost use Rattle.ravana_run.specs.Runs.{StablesTell};
+ghost use Rattle.ravana_run.specs.Runs.{AreCalm, StablesTell};
 
 use crate::auditing::audited;
 use crate::ending::Ending;
@@ -150,7 +150,7 @@ pub fn ravana<A: App, S: Source, K: Sink, W: Stable>(
     ensures usage { result ≡ 2 → IsUnserved (map string_bytes words.now) }
     ensures words { IsUnserved (map string_bytes words.now) → Contains statuses_of_usage result }
     ensures audit { IsAudit (map string_bytes words.now) → Contains statuses_of_audit result }
-    ensures complete { (kinds : List ℕ) → AreChains A.kinds A.most kinds chains.items → IsTold (S.left source.old) (S.left source.new) (K.taken sink.old) (K.taken sink.new) (λ input rest written. IsComplete kinds (map string_bytes words.now) input (Rose (S.faults source.old) (S.faults source.new)) (Rose (K.faults sink.old) (K.faults sink.new)) result) }
+    ensures complete { (kinds : List ℕ) → AreChains A.kinds A.most kinds chains.items → IsTold (S.left source.old) (S.left source.new) (K.taken sink.old) (K.taken sink.new) (λ input rest written. IsComplete kinds (map string_bytes words.now) input (Rose (S.faults source.old) (S.faults source.new)) (Rose (K.faults sink.old) (K.faults sink.new)) (AreCalm W.faults stables.old stables.new) result) }
     ensures unread { result ≡ 4 → Rose (S.faults source.old) (S.faults source.new) }
     ensures unwritten { result ≡ 5 → Rose (K.faults sink.old) (K.faults sink.new) }
     ensures range { Contains statuses result }

@@ -1,5 +1,5 @@
 use Rattle.closing_laws.proofs.closings_are_quick.Goals as goal
-use Rattle.closing_laws.proofs.Quickly.{quick_law}
+use Rattle.closing_laws.proofs.QuickClosings.{quick_law}
 
 pub returns : goal.returns
 returns g c = quick_law

@@ -1,5 +1,5 @@
 use Rattle.std.proofs.Common.{sym, ◌∙◌, refl, arith}
-use Rattle.ravana_run.proofs.Complete.{complete}
+use Rattle.ravana_run.proofs.Complete.{calm_saves, complete}
 use Rattle.ravana_run.proofs.Endings.{in_range}
 use Rattle.ravana_run.proofs.Tellings.{served, cut, nothing}
 use Rattle.ravana_run.specs.Runs.{StablesTell}
@@ -15,7 +15,7 @@ pub returns-in_default-clause-complete : goal.returns-in_default-clause-complete
 returns-in_default-clause-complete g c =
     λ kinds chains.
     let saves = StablesTell g.W.Stable.pair g.W.Stable.faults c.args.stables.now c.outcome.new.stables in
-    complete kinds saves _ _ _ _ _ _ _ _ (nothing kinds saves _ _ _ _ _ _)
+    complete kinds saves _ _ _ _ (calm_saves g.W.Stable.pair g.W.Stable.faults c.args.stables.now c.outcome.new.stables) _ _ _ _ _ (nothing kinds saves _ _ _ _ _ _)
 
 pub returns-in_default-clause-range : goal.returns-in_default-clause-range
 returns-in_default-clause-range g c = (5, omega arith, refl)
@@ -30,7 +30,7 @@ pub returns-in_default-into_text-clause-complete : goal.returns-in_default-into_
 returns-in_default-into_text-clause-complete g c =
     λ kinds chains.
     let saves = StablesTell g.W.Stable.pair g.W.Stable.faults c.args.stables.now c.outcome.new.stables in
-    complete kinds saves _ _ _ _ _ _ _ _ (nothing kinds saves _ _ _ _ _ _)
+    complete kinds saves _ _ _ _ (calm_saves g.W.Stable.pair g.W.Stable.faults c.args.stables.now c.outcome.new.stables) _ _ _ _ _ (nothing kinds saves _ _ _ _ _ _)
 
 pub returns-in_default-into_text-clause-range : goal.returns-in_default-into_text-clause-range
 returns-in_default-into_text-clause-range g c = (5, omega arith, refl)
@@ -44,7 +44,7 @@ pub returns-in-Ok-write_all-clause-complete : goal.returns-in-Ok-write_all-claus
 returns-in-Ok-write_all-clause-complete g c =
     λ kinds chains.
     let saves = StablesTell g.W.Stable.pair g.W.Stable.faults c.args.stables.now c.outcome.new.stables in
-    rw c.status-status.ensures (complete kinds saves _ _ _ _ _ _ _ _ (served kinds saves _ _ _ _ _ _ _ c.in-Ok.ending _ (c.in-Ok.ensures.cause kinds chains) (c.as_slice.ensures ∙ c.in-Ok-into_text.ensures.ok) c.in-Ok-write_all.ensures.ok))
+    rw c.status-status.ensures (complete kinds saves _ _ _ _ (calm_saves g.W.Stable.pair g.W.Stable.faults c.args.stables.now c.outcome.new.stables) _ _ _ _ _ (served kinds saves _ _ _ _ _ _ _ c.in-Ok.ending _ (c.in-Ok.ensures.cause kinds chains) (c.as_slice.ensures ∙ c.in-Ok-into_text.ensures.ok) c.in-Ok-write_all.ensures.ok))
 
 pub returns-in-Ok-write_all-clause-audit : goal.returns-in-Ok-write_all-clause-audit
 returns-in-Ok-write_all-clause-audit g c = λ is. rw c.status-status.ensures (c.in-Ok.ensures.told.audit is)
@@ -70,7 +70,7 @@ pub returns-clause-complete : goal.returns-clause-complete
 returns-clause-complete g c =
     λ kinds chains.
     let saves = StablesTell g.W.Stable.pair g.W.Stable.faults c.args.stables.now c.outcome.new.stables in
-    complete kinds saves _ _ _ _ _ _ _ _ (cut kinds saves _ _ _ _ _ _ _ c.in-Ok.ending _ (c.in-Ok.ensures.cause kinds chains) (c.as_slice.ensures ∙ c.in-Ok-into_text.ensures.ok) c.in-Err.ensures.cause.failed c.in-Err.ensures.err)
+    complete kinds saves _ _ _ _ (calm_saves g.W.Stable.pair g.W.Stable.faults c.args.stables.now c.outcome.new.stables) _ _ _ _ _ (cut kinds saves _ _ _ _ _ _ _ c.in-Ok.ending _ (c.in-Ok.ensures.cause kinds chains) (c.as_slice.ensures ∙ c.in-Ok-into_text.ensures.ok) c.in-Err.ensures.cause.failed c.in-Err.ensures.err)
 
 pub returns-clause-audit : goal.returns-clause-audit
 returns-clause-audit g c = λ _. (3, omega arith, refl)

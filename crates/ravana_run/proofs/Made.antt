@@ -1,11 +1,11 @@
 -- The numbers that words give the generator are within its bounds.
-use Rattle.std.proofs.Common.{◌≡◌, ◌≤◌, ◌<◌, ◌⊎◌, inl, inr, ℕ, Bool, true, false, List, [], ◌∷◌, Some, None, refl, sym, ◌∙◌, ap, subst, arith}
+use Rattle.std.proofs.Common.{◌≡◌, ◌≤◌, inl, inr, ℕ, Bool, true, false, List, [], ◌∷◌, Some, None, refl, sym, ◌∙◌, ap, subst, arith}
 use Rattle.std.specs.Prelude.{Option, option_and_then, Contains, nat_le, ◌&&◌, ◌||◌, ◌==◌, codes, if◌then◌else◌}
 use Rattle.std.specs.Str.{bytes_eq}
 use Rattle.std.proofs.lemmas.Bool.{cases_Bool, leb-true, eqb-true}
 use Rattle.numerals.specs.Numerals.{numeral}
 use Rattle.words.specs.declared.Job.{Job}
-use Rattle.words.specs.declared.Job.TheVariants.{Sim, Run, Audit, Gen}
+use Rattle.words.specs.declared.Job.TheVariants.{Gen}
 use Rattle.words.specs.Words.{generator_of, group_of, job_of, number_within, plain_job}
 
 -- what the generator asks of them

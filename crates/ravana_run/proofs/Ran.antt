@@ -1,5 +1,5 @@
 -- What the run of a scenario is, once it was played.
-use Rattle.std.proofs.Common.{◌≡◌, ◌≤◌, ◌<◌, ◌⊎◌, inl, inr, ℕ, zero, suc, ◌+◌, List, [], ◌∷◌, ◌++◌, length, map, drop, refl, sym, ◌∙◌, ap, subst, arith}
+use Rattle.std.proofs.Common.{◌≡◌, ◌≤◌, ◌<◌, ◌⊎◌, inl, inr, ℕ, zero, suc, ◌+◌, List, [], ◌∷◌, ◌++◌, length, map, refl, sym, ◌∙◌, ap, subst, arith}
 use Rattle.std.specs.Prelude.{◌-◌, ◌^◌, count_by, reverse, slice_get, slice_index_or, Some, IfOk, IfErr, Result, Ok, Err}
 use Rattle.std.specs.List.{AllByRecursion, range_with_len}
 use Rattle.std.proofs.lemmas.Bool.{cases_lt}
@@ -19,7 +19,7 @@ use Rattle.of_types.specs.Setups.{IsSetup}
 use Rattle.rv_laws.proofs.Told.{told_law}
 use Rattle.rv_laws.proofs.Laws.{agreement_law, lasting_law, once_law, fence_law}
 use Rattle.rv_runs.specs.Bound.{IsQuick}
-use Rattle.rv_runs.specs.Committed.{controller_state, count_up, decided, members_up, switch_state}
+use Rattle.rv_runs.specs.Committed.{count_up, decided, members_up, switch_state}
 use Rattle.rv_runs.specs.Legal.{IsLegalPast, IsPossible, results_of}
 use Rattle.rv_runs.specs.Schedule.{Answer, Closes, FollowsInOrder, IsBegun, count_turns, majority}
 use Rattle.rv_runs.specs.Schedule as schedule
@@ -29,7 +29,7 @@ use Rattle.rv_base.specs.Part.{part}
 use Rattle.rv_runs.specs.Bodies.{byte_bodies}
 use Rattle.rv_runs.proofs.Bodies.{bytes_again}
 use Rattle.rv_runs.proofs.Pasts.{from_some}
-use Rattle.rv_runs.proofs.Playing.{AllSaved, all_saved, the_one_journal}
+use Rattle.rv_runs.proofs.Playing.{all_saved, the_one_journal}
 use Rattle.rv_base.specs.declared.wire.Stop.{Stop}
 use Rattle.rv_base.specs.declared.wire.Stop.TheVariants.{OutOfMemory, JournalFull}
 use Rattle.rv_world.specs.World.{AreMore, Holds, IfMemory, Keeps, PairsStand, StartsAs, Worlding, is_failed, results_in, scene_in}
@@ -62,7 +62,7 @@ use Rattle.ravana_run.specs.Play.{AreFresh, IfDone, IfReport, StopsAs, ending_by
 use Rattle.ravana_run.proofs.Recorded.{one_record, told_writable}
 use Rattle.ravana_run.specs.declared.ending.Ending.{Ending}
 use Rattle.ravana_run.specs.Ending.{EndsRun}
-use Rattle.ravana_run.specs.Runs.{AreSaved, HasRun, IsCutShort, IsDone, IsLawful, IsLeft, IsOverfull, IsRun, IsTheOne, IsUnposted, StableTells, StablesTell, scene_for}
+use Rattle.ravana_run.specs.Runs.{AreSaved, HasRun, IsDone, IsLawful, IsLeft, IsOverfull, IsTheOne, IsUnposted, StablesTell, scene_for}
 use Rattle.ravana_run.proofs.Playing.{rest_is, within_journal}
 
 -- of the first stables

@@ -1,7 +1,7 @@
 -- What is told of a run is a record, and no other record has its text.
-use Rattle.std.proofs.Common.{◌≡◌, ◌≤◌, ◌<◌, ℕ, zero, suc, ◌+◌, Bool, true, false, List, [], ◌∷◌, ◌++◌, length, map, reverse, refl, sym, ◌∙◌, ap, subst, arith}
-use Rattle.std.specs.Prelude.{◌/◌, ◌%◌, nat_eq, nat_lt, slice_get, Some, if◌then◌else◌}
-use Rattle.std.specs.List.{AllByRecursion, list_any}
+use Rattle.std.proofs.Common.{◌≡◌, ◌≤◌, ◌<◌, ℕ, suc, ◌+◌, Bool, true, false, List, [], ◌∷◌, ◌++◌, length, map, reverse, refl, sym, ◌∙◌, ap, subst, arith}
+use Rattle.std.specs.Prelude.{◌/◌, ◌%◌, nat_lt, slice_get, Some, if◌then◌else◌}
+use Rattle.std.specs.List.{AllByRecursion}
 use Rattle.std.proofs.lemmas.List.{length-map, reverse-append, reverse-reverse}
 use Rattle.std.proofs.lemmas.Option.{slice_get_within}
 use Rattle.of_types.specs.declared.message.Event.{Event}
@@ -35,10 +35,7 @@ use Rattle.rv_runs.proofs.Pasts.{from_some}
 use Rattle.rv_laws.specs.Told.{IsSpellable, IsSpellableEntry, IsSpellableEvent, IsSpellableOrder, IsSpellableRow, IsSpellableRun, IsSpellableSwitch}
 use Rattle.rv_world.specs.World.{Worlding}
 use Rattle.report.specs.declared.record.Record.{Record}
-use Rattle.report.specs.declared.record.Shown.{Shown}
 use Rattle.report.specs.Fits.{FitsRecord}
-use Rattle.report.specs.Records.{IsRecord}
-use Rattle.report.specs.Report.{text}
 use Rattle.report.specs.Writable.{AreWritable, HasLine, IsWritable, IsWritableEvent, IsWritableExecuted, IsWritableRow, IsWritableTold}
 use Rattle.report.proofs.Writable.{is_record}
 use Rattle.report.proofs.RecordAgain.{one_record as one_text}

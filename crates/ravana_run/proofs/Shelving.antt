@@ -1,10 +1,8 @@
 -- The applications of controllers, life by life.
-use Rattle.std.proofs.Common.{◌≡◌, ◌≤◌, ◌<◌, ◌⊎◌, inl, inr, ℕ, ◌+◌, ◌*◌, List, [], ◌∷◌, ◌++◌, length, refl, sym, ◌∙◌, ap, subst, arith, length-append}
-use Rattle.std.specs.List.{AllByRecursion}
+use Rattle.std.proofs.Common.{◌≡◌, ◌≤◌, ◌<◌, ◌⊎◌, inl, inr, ℕ, ◌+◌, ◌*◌, List, [], ◌∷◌, ◌++◌, length, sym, ◌∙◌, ap, subst, arith, length-append}
 use Rattle.std.proofs.lemmas.Bool.{cases_lt}
 use Rattle.rv_base.proofs.All.{all_append}
 use Rattle.group_controller.specs.Turns.{AreAlike}
-use Rattle.rv_world.specs.World.{IsStocked}
 
 -- so many shelves are full, so many applications stand on the next one, and so many are left
 pub record IsFilled (controllers shelves shelf rest : ℕ) : Type 0 where

@@ -1,4 +1,4 @@
-use Rattle.std.proofs.Common.{Some, List, ℕ, map, refl, ap, subst, sym, ◌∙◌, Err, IfOk}
+use Rattle.std.proofs.Common.{Some, map, refl, ap, subst, sym, ◌∙◌, Err, IfOk}
 use Rattle.std.specs.Prelude.{Option, string_bytes}
 use Rattle.ravana_run.specs.declared.sim.Output.TheVariants.{LastLine}
 use Rattle.ravana_run.specs.declared.service.Service.{Service}

@@ -1,16 +1,16 @@
 -- What a log that was followed tells of its next line.
-use Rattle.std.proofs.Common.{inl, inr, ◌≡◌, ◌<◌, ℕ, ◌+◌, Bool, true, false, ◌&&◌, ◌||◌, List, ◌∷◌, [], ◌++◌, length, get_or, refl, sym, ap, subst, ◌∙◌, arith, append-nil, length-append}
-use Rattle.std.specs.Prelude.{nat_eq, nat_lt, if◌then◌else◌}
+use Rattle.std.proofs.Common.{inl, inr, ◌≡◌, ◌<◌, ℕ, ◌+◌, Bool, true, false, ◌||◌, List, ◌∷◌, [], ◌++◌, length, get_or, refl, sym, ap, subst, ◌∙◌, arith, append-nil, length-append}
+use Rattle.std.specs.Prelude.{nat_eq, if◌then◌else◌}
 use Rattle.std.specs.List.{list_any}
-use Rattle.std.proofs.lemmas.Bool.{and_parts, eqb-true, eq-eqb, ne_eqb, ltb-true, cases_eq}
+use Rattle.std.proofs.lemmas.Bool.{eq-eqb, ne_eqb, cases_eq}
 use Rattle.std.proofs.lemmas.List.Folds.{list_any-append}
 use Rattle.of_types.specs.declared.message.Event.{Event}
-use Rattle.of_types.specs.Lives.{life_in, count_in, is_switch_up}
+use Rattle.of_types.specs.Lives.{life_in, count_in}
 use Rattle.of_types.proofs.Counts.{NoneAfter, none_after-append, life_in-append, count_in-append, count_here, count_there}
 use Rattle.vr_log.specs.declared.entry.Entry.{Entry}
 use Rattle.vr_log.specs.declared.entry.Entry.TheVariants.{Received, Processed}
 use Rattle.vr_log.specs.Log.{received, may_be_received, may_follow}
-use Rattle.vr_log.proofs.Logs.{received-append, processed_push, no_earlier}
+use Rattle.vr_log.proofs.Logs.{received-append, processed_push, no_earlier, number_is}
 use Rattle.audit.specs.declared.following.Following.{Following}
 use Rattle.audit.specs.Following.{IsStart, IsFollowed, may_join, Joined, Joins}
 use Rattle.audit.specs.Names.{Name, same_name, name_of}
@@ -35,19 +35,7 @@ pub record IsSound (events : List Event) : Type 0 where
 pub nothing_sound : IsSound []
 nothing_sound = record { none_after = λ s life less. refl; counted = tt; apart = tt }
 
--- an event that may be received has the next number of its life
-number_is : (e : Event) (events : List Event) → NoneAfter events → may_be_received e events ≡ true → e.number ≡ count_in e.switch e.life events
-number_is e events none h = chosen (nat_eq e.life (life_in e.switch events)) refl h
-  where
-    chosen : (b : Bool) → nat_eq e.life (life_in e.switch events) ≡ b →
-        (if b then nat_eq e.number (count_in e.switch (life_in e.switch events) events) else nat_lt (life_in e.switch events) e.life && nat_eq e.number 0 && is_switch_up e.what) ≡ true → e.number ≡ count_in e.switch e.life events
-    chosen true is k = eqb-true _ _ k ∙ ap (λ (life : ℕ). count_in e.switch life events) (sym (eqb-true e.life (life_in e.switch events) is))
-    chosen false is k =
-        let p = and_parts (nat_lt (life_in e.switch events) e.life && nat_eq e.number 0) (is_switch_up e.what) k in
-        let q = and_parts (nat_lt (life_in e.switch events) e.life) (nat_eq e.number 0) p.0 in
-        eqb-true _ _ q.1 ∙ sym (none e.switch e.life (ltb-true _ _ q.0))
-
--- so its name is a new one
+-- the name of an event that may be received is a new one
 fresh_step : (e f : Event) (all : List Event) (rest : Bool) → e.number ≡ count_in e.switch e.life all → f.number < count_in f.switch f.life all → rest ≡ false → (b : Bool) → same_name (name_of f) (name_of e) ≡ b → (b || rest) ≡ false
 fresh_step e f all rest number low none false is = none
 fresh_step e f all rest number low none true is =

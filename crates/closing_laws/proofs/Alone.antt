@@ -31,7 +31,7 @@ use Rattle.rv_runs.proofs.Pasts.{self_controller}
 use Rattle.rv_agreement.proofs.Pasts.{fits}
 use Rattle.rv_runs.specs.Schedule.{Phase, Losing, Suspecting, Move, Takes, ClosesTo, IsEnd, IsMove, IsPosted, after_member, after_move, count_turns, majority, next_move, next_suspicion}
 use Rattle.closing_laws.specs.Quorum.{has}
-use Rattle.closing_laws.specs.Views.{HasBest, IsCovered, IsMember, gathering, lacks, log_of, started_with, tellers, turns_to_start}
+use Rattle.closing_laws.specs.Views.{HasBest, IsCovered, IsReadyMember, gathering, lacks, log_of, started_with, tellers, turns_to_start}
 use Rattle.closing_laws.specs.Starts.{HasStartedIn, IsAttempt, Starts, StartsInTime, Last_suspects, members_at, quorum_after, starting_turn, turns_after, view_after}
 use Rattle.closing_laws.proofs.Begun as begun
 use Rattle.closing_laws.proofs.Numbers.{has_here}
@@ -39,8 +39,7 @@ use Rattle.closing_laws.proofs.Room.{finds_room}
 use Rattle.closing_laws.proofs.StartingLetters.{starting_few}
 use Rattle.closing_laws.proofs.Steps as steps
 use Rattle.closing_laws.proofs.Taking.{By_suspicion, TurnOf, at, member_work, starting_later, turn_local}
-use Rattle.closing_laws.proofs.Walking.{later, later_is, sealed_length, within_under}
-use Rattle.closing_laws.proofs.Walking as walking
+use Rattle.closing_laws.proofs.Posting.{Done, Next, Posting, later, later_is, never_posts, next_of, owes_nothing, pool_grows, possible_under, posted_all, posted_holds, poster, says_posted, sealed_length, switches_stay, within_under}
 
 first_number : (xs : List ℕ) → length xs ≡ 1 → ((j : ℕ) → has xs j ≡ true → j < 1) → xs ≡ 0 ∷ []
 first_number [] count small = absurd (omega (arith, count))
@@ -79,8 +78,8 @@ module _ {B : Type 0} (scene : Scene B) (results : List (List SaveResult)) (befo
   is_best : best ≡ 0
   is_best = let less = small best b.member in omega (arith, less, single)
 
-  member : IsMember 1 w 0 (start 0)
-  member = subst (λ (k : ℕ). IsMember k w 0 (start 0)) single (begun.ready scene results before most 0 there)
+  member : IsReadyMember 1 w 0 (start 0)
+  member = subst (λ (k : ℕ). IsReadyMember k w 0 (start 0)) single (begun.ready scene results before most 0 there)
 
   -- the one log covers itself
   own_covered : IsCovered quorum start best
@@ -183,7 +182,7 @@ module _ {B : Type 0} (scene : Scene B) (results : List (List SaveResult)) (befo
   -- what comes behind the suspicion
   starts_now : (rest : List (JournalEntry B)) (phase : Phase) → entries ≡ suspicion ∷ rest → phase ≡ after_member w (at scene results 0 (suspicion ∷ before)).now (Suspecting w quorum []) →
       ClosesTo scene results phase (suspicion ∷ before) rest last → Starts scene results before entries last best
-  starts_now rest phase is phase_is closes = by_next (walking.next_of scene results setup faithful w quorum small before a.saves phase (suspicion ∷ before) rest last closes done)
+  starts_now rest phase is phase_is closes = by_next (next_of scene results phase (suspicion ∷ before) rest last closes done)
     where
       can : IsPossible scene results (later (suspicion ∷ before) rest)
       can = subst (λ (l : List (JournalEntry B)). IsPossible scene results (later before l)) is (subst (λ (l : List (JournalEntry B)). IsPossible scene results l) (sym (later_is before entries)) a.possible)
@@ -194,9 +193,9 @@ module _ {B : Type 0} (scene : Scene B) (results : List (List SaveResult)) (befo
       room : IsWithinLimits scene.sealing.size (later (suspicion ∷ before) rest)
       room = subst (λ (l : List (JournalEntry B)). IsWithinLimits scene.sealing.size (later before l)) is (subst (λ (l : List (JournalEntry B)). IsWithinLimits scene.sealing.size l) (sym (later_is before entries)) a.within)
 
-      by_next : walking.Next scene results setup faithful w quorum small before a.saves (suspicion ∷ before) rest → Starts scene results before entries last best
-      by_next (walking.Done nothing) =
-          let none : turn_work.letters ≡ [] = sym turn.owed ∙ walking.owes_nothing scene results setup faithful w quorum small before a.saves (suspicion ∷ before) before suspicion 0 refl refl nothing in
+      by_next : Next scene results (suspicion ∷ before) rest → Starts scene results before entries last best
+      by_next (Done nothing) =
+          let none : turn_work.letters ≡ [] = sym turn.owed ∙ owes_nothing scene results (suspicion ∷ before) before suspicion 0 refl refl nothing in
           let all = one_turn in
           record {
             first = suspicion ∷ [];
@@ -206,18 +205,18 @@ module _ {B : Type 0} (scene : Scene B) (results : List (List SaveResult)) (befo
             started = begun_in (suspicion ∷ before) refl 0 (a.empty ∙ ap (λ (ls : List (Letter ControllerSays)). numbered 0 (actor.Controller 0) (sealed_letters controller_message scene.sealing ls)) (sym none))
                 (ap (map (content scene.sealing)) a.empty ∙ ap (map (λ (l : Letter ControllerSays). unsealed.Message (controller_message l.body))) (sym none));
             covered = own_covered;
-            unchanged = λ t. walking.switches_stay scene results setup faithful w quorum small before a.saves 0 suspicion before refl t;
+            unchanged = λ t. switches_stay scene results 0 suspicion before refl t;
             posted = nothing;
             phase = Suspecting w quorum [];
             drains = Last_suspects;
             goes_on = goes_behind (suspicion ∷ before) rest refl (subst (λ (x : Phase). ClosesTo scene results x (suspicion ∷ before) rest last) phase_is closes);
           }
-      by_next (walking.Posting whose number letters lost more rest_is input) =
-          let own : whose ≡ actor.Controller 0 = walking.poster scene results setup faithful w quorum small before a.saves (suspicion ∷ before) before suspicion 0 whose refl refl input in
+      by_next (Posting whose number letters lost more rest_is input) =
+          let own : whose ≡ actor.Controller 0 = poster scene results (suspicion ∷ before) before suspicion 0 whose refl refl input in
           let split : rest ≡ Post (actor.Controller 0) number letters lost ∷ more = rest_is ∙ ap (λ (x : Actor). Post x number letters lost ∷ more) own in
           let it : JournalEntry B = Post (actor.Controller 0) number letters lost in
           let after : IsPossible scene results (it ∷ (suspicion ∷ before)) =
-          walking.possible_under scene results setup faithful w quorum small before a.saves more (it ∷ (suspicion ∷ before)) (subst (λ (l : List (JournalEntry B)). IsPossible scene results (later (suspicion ∷ before) l)) split can) in
+          possible_under scene results more (it ∷ (suspicion ∷ before)) (subst (λ (l : List (JournalEntry B)). IsPossible scene results (later (suspicion ∷ before) l)) split can) in
           let fit : lost ≡ 0 =
           start_fits number letters lost after (within_under scene.sealing.size more (it ∷ (suspicion ∷ before)) (subst (λ (l : List (JournalEntry B)). IsWithinLimits scene.sealing.size (later (suspicion ∷ before) l)) split room)) in
           let all = one_turn in
@@ -226,19 +225,19 @@ module _ {B : Type 0} (scene : Scene B) (results : List (List SaveResult)) (befo
             rest = more;
             joined = is ∙ ap (λ (l : List (JournalEntry B)). suspicion ∷ l) split;
             turns = sym all;
-            started = begun_in (it ∷ (suspicion ∷ before)) (walking.posted_holds scene results setup faithful w quorum small before a.saves 0 number letters lost (suspicion ∷ before) 0).0 number
-                (walking.pool_grows scene results setup faithful w quorum small before a.saves 0 number letters lost (suspicion ∷ before) after fit
+            started = begun_in (it ∷ (suspicion ∷ before)) (posted_holds scene results 0 number letters lost (suspicion ∷ before) 0).0 number
+                (pool_grows scene results 0 number letters lost (suspicion ∷ before) after fit
                 ∙ ap (λ (ps : List (Packet B)). ps ++ numbered number (actor.Controller 0) (sealed_letters controller_message scene.sealing (at scene results 0 (suspicion ∷ before)).owed)) a.empty
                 ∙ ap (λ (ls : List (Letter ControllerSays)). numbered number (actor.Controller 0) (sealed_letters controller_message scene.sealing ls)) turn.owed)
-                (walking.says_posted scene results setup faithful w quorum small before a.saves 0 number letters lost (suspicion ∷ before) after fit a.empty
+                (says_posted scene results 0 number letters lost (suspicion ∷ before) after fit setup faithful a.empty
                 ∙ ap (map (λ (l : Letter ControllerSays). unsealed.Message (controller_message l.body))) turn.owed);
             covered = own_covered;
-            unchanged = λ t. walking.switches_stay scene results setup faithful w quorum small before a.saves 0 it (suspicion ∷ before) refl t
-                ∙ walking.switches_stay scene results setup faithful w quorum small before a.saves 0 suspicion before refl t;
-            posted = walking.posted_all scene results setup faithful w quorum small before a.saves 0 number letters lost (suspicion ∷ before);
+            unchanged = λ t. switches_stay scene results 0 it (suspicion ∷ before) refl t
+                ∙ switches_stay scene results 0 suspicion before refl t;
+            posted = posted_all scene results 0 number letters lost (suspicion ∷ before);
             phase = Suspecting w quorum [];
             drains = Last_suspects;
-            goes_on = goes_behind (it ∷ (suspicion ∷ before)) more (walking.posted_holds scene results setup faithful w quorum small before a.saves 0 number letters lost (suspicion ∷ before) 0).0
+            goes_on = goes_behind (it ∷ (suspicion ∷ before)) more (posted_holds scene results 0 number letters lost (suspicion ∷ before) 0).0
                 (subst (λ (l : List (JournalEntry B)). ClosesTo scene results (after_member w (at scene results 0 (suspicion ∷ before)).now (Suspecting w quorum [])) (suspicion ∷ before) l last) split
                 (subst (λ (x : Phase). ClosesTo scene results x (suspicion ∷ before) rest last) phase_is closes)).1;
           }
@@ -269,8 +268,8 @@ module _ {B : Type 0} (scene : Scene B) (results : List (List SaveResult)) (befo
       from_suspicions : (e : JournalEntry B) (rest : List (JournalEntry B)) → entries ≡ e ∷ rest → ClosesTo scene results (Suspecting w quorum quorum) before (e ∷ rest) last
       from_suspicions e rest is =
           subst (λ (l : List (JournalEntry B)). ClosesTo scene results (Suspecting w quorum quorum) before l last) is
-          (begun.closes_from scene results before most entries last a.empty e rest is a.rests can (walking.never_posts scene results setup faithful w quorum small before a.saves before a.rests)
-          (λ h. walking.possible_under scene results setup faithful w quorum small before a.saves rest (e ∷ before) (subst (λ (l : List (JournalEntry B)). IsPossible scene results (later before l)) is h)) a.closes)
+          (begun.closes_from scene results before most entries last a.empty e rest is a.rests can (never_posts scene results before a.rests)
+          (λ h. possible_under scene results rest (e ∷ before) (subst (λ (l : List (JournalEntry B)). IsPossible scene results (later before l)) is h)) a.closes)
 
       by_entries : (l : List (JournalEntry B)) → entries ≡ l → StartsInTime scene results before entries last best
       by_entries [] is =
@@ -286,8 +285,8 @@ module _ {B : Type 0} (scene : Scene B) (results : List (List SaveResult)) (befo
           }
       by_entries (Post whose number letters lost ∷ rest) is =
           let c = from_suspicions (Post whose number letters lost) rest is in
-          absurd (walking.never_posts scene results setup faithful w quorum small before a.saves before a.rests whose number letters lost c.0
-          (walking.possible_under scene results setup faithful w quorum small before a.saves rest (Post whose number letters lost ∷ before) (subst (λ (l : List (JournalEntry B)). IsPossible scene results (later before l)) is can)))
+          absurd (never_posts scene results before a.rests whose number letters lost c.0
+          (possible_under scene results rest (Post whose number letters lost ∷ before) (subst (λ (l : List (JournalEntry B)). IsPossible scene results (later before l)) is can)))
       by_entries (Draw whose id keep ∷ rest) is = let c = from_suspicions (Draw whose id keep) rest is in one_move (Draw whose id keep) rest is c.1.0 c.1.1 c.1.2
       by_entries (Lose whose id ∷ rest) is = let c = from_suspicions (Lose whose id) rest is in one_move (Lose whose id) rest is c.1.0 c.1.1 c.1.2
       by_entries (Local whose input ∷ rest) is = let c = from_suspicions (Local whose input) rest is in one_move (Local whose input) rest is c.1.0 c.1.1 c.1.2

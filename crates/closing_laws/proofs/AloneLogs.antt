@@ -9,7 +9,7 @@ use Rattle.lists.proofs.Prefixes.{front_prefix, prefix_nil, prefix_trans}
 use Rattle.agreement.specs.History.{Group, State}
 use Rattle.agreement.specs.Invariant as agreed
 use Rattle.agreement.specs.Journals as journal
-use Rattle.agreement.specs.Journals.{Held, Rules, GoesOn, held, settled}
+use Rattle.agreement.specs.Journals.{Rules, GoesOn, settled}
 use Rattle.agreement.proofs.Alone.{journal_goes}
 use Rattle.agreement.proofs.Standing.{folds_law}
 use Rattle.vr_log.specs.declared.entry.Entry.{Entry}

@@ -25,7 +25,7 @@ use Rattle.closing_laws.proofs.Taking.{at, own_steps}
 use Rattle.closing_laws.specs.Starts.{SavesSucceed}
 use Rattle.closing_laws.proofs.Taking.{at, own_steps}
 use Rattle.closing_laws.proofs.Carrying.{controller_rests}
-use Rattle.closing_laws.proofs.Walking.{later}
+use Rattle.closing_laws.proofs.Posting.{later}
 
 module _ {B : Type 0} (scene : Scene B) (results : List (List SaveResult)) where
   abbrev Past : Type 0

@@ -12,7 +12,7 @@ use Rattle.agreement.specs.History as core
 use Rattle.agreement.specs.History.{Group, History, size, primary_of}
 use Rattle.agreement.specs.Invariant.{Invariant, IsGroup}
 use Rattle.agreement.specs.Journals as journal
-use Rattle.agreement.specs.Journals.{Rules, Follows, history, held, settled, settled_by}
+use Rattle.agreement.specs.Journals.{Rules, Follows, history, held, settled}
 use Rattle.agreement.specs.Laws.{Run, still, then}
 use Rattle.agreement.proofs.Agreeing as agreeing
 use Rattle.agreement.proofs.Backing.{backed_law}

@@ -24,8 +24,8 @@ use Rattle.rv_runs.specs.Committed.{controller_state, switch_state, states_of, m
 use Rattle.rv_runs.specs.Schedule.{Answer, Phase, Losing, Suspecting, Draining, Move, Ends, NoQuorum, ClosesTo, IsEnd, IsInputOf, IsMove, IsPosted, after_member, count_turns, is_turn, majority, next_move, next_lost, next_suspicion}
 use Rattle.rv_laws.proofs.Members.{owned_at}
 use Rattle.closing_laws.specs.Quorum.{has, IsQuorum}
-use Rattle.closing_laws.specs.Draining.{Group, all_suspected, resting}
-use Rattle.closing_laws.specs.Views.{HasBest, IsCovered, IsMember, in_view, lacks, turns_to_start}
+use Rattle.closing_laws.specs.Draining.{GroupState, all_suspected, resting}
+use Rattle.closing_laws.specs.Views.{HasBest, IsCovered, IsReadyMember, in_view, lacks, turns_to_start}
 use Rattle.closing_laws.specs.Starts.{HasStartedIn, IsAttempt, StartsInTime, Drains, members_at, quorum_after, turns_after, view_after}
 use Rattle.closing_laws.proofs.Numbers.{Once, filter_has}
 use Rattle.closing_laws.proofs.Covering.{covered}
@@ -35,7 +35,7 @@ use Rattle.closing_laws.proofs.Rounds.{quorum_once}
 use Rattle.closing_laws.proofs.Picked.{picked_of_quorum}
 use Rattle.closing_laws.proofs.Taking.{AllCarry}
 use Rattle.closing_laws.proofs.Views as views
-use Rattle.closing_laws.proofs.Walking.{later, later_is}
+use Rattle.closing_laws.proofs.Posting.{later, later_is, never_posts, possible_under}
 use Rattle.closing_laws.proofs.Walking as walking
 
 -- what holds of all that a range gives
@@ -90,7 +90,7 @@ module _ {B : Type 0} (scene : Scene B) (results : List (List SaveResult)) (befo
   quorum_is = (pasts.closes scene results before most).quorum_is
 
   -- a member of the quorum is ready
-  pub ready : (j : ℕ) → has quorum j ≡ true → IsMember n w j (start j)
+  pub ready : (j : ℕ) → has quorum j ≡ true → IsReadyMember n w j (start j)
   ready j member =
       let o = (owned_at scene (results_of results j) j (part (actor.Controller j) before)).now in
       let among = (pasts.closes scene results before most).are_up j member in
@@ -141,7 +141,7 @@ module _ {B : Type 0} (scene : Scene B) (results : List (List SaveResult)) (befo
     once : Once quorum
     once = quorum_once n w quorum start ready (picked_of_quorum n w quorum quorum_is)
 
-    abbrev entered_group : Group
+    abbrev entered_group : GroupState
     entered_group = all_suspected (resting start) w quorum
 
     abbrev turns : ℕ
@@ -191,7 +191,7 @@ module _ {B : Type 0} (scene : Scene B) (results : List (List SaveResult)) (befo
       room1 = subst (λ (l : List (JournalEntry B)). IsWithinLimits scene.sealing.size l) split room
 
       possible1 : IsPossible scene results P1
-      possible1 = walking.possible_under scene results setup faithful w quorum quorum_is.members before a.saves rest P1 can1
+      possible1 = possible_under scene results rest P1 can1
 
       entered : (j : ℕ) → has quorum j ≡ true → (controller_state scene results j P1).vr ≡ in_view (start j) w [] false [] None
       entered j member = stands.holds.members j (quorum_is.members j member) ∙ views.entered_all n w quorum start ready several quorum (resting start) once (λ i h. (refl, h)) j member
@@ -199,11 +199,11 @@ module _ {B : Type 0} (scene : Scene B) (results : List (List SaveResult)) (befo
       is_covered : IsCovered quorum start best
       is_covered = covered scene results setup faithful P1 possible1 w quorum start once (let count = quorum_is.count in omega (arith, count)) quorum_is.members several entered best b
 
-      way : (z : Group) × Path w quorum z [] entered_group × IsLast n w quorum start best z
+      way : (z : GroupState) × Path w quorum z [] entered_group × IsLast n w quorum start best z
       way = views.path n w quorum start ready (picked_of_quorum n w quorum quorum_is) several best
           (record { member = b.member; better = b.better; agrees = is_covered.agrees; covers = is_covered.covers })
 
-      abbrev z : Group
+      abbrev z : GroupState
       z = way.0
 
       turns_are : z.turns + 1 ≡ turns
@@ -310,8 +310,8 @@ module _ {B : Type 0} (scene : Scene B) (results : List (List SaveResult)) (befo
         by_entries : (l : List (JournalEntry B)) → entries ≡ l → StartsInTime scene results before entries last best
         by_entries (e ∷ rest) is =
             from_suspicions last
-            (closes_from entries last a.empty e rest is a.rests can (walking.never_posts scene results setup faithful w quorum quorum_is.members before a.saves before a.rests)
-            (λ h. walking.possible_under scene results setup faithful w quorum quorum_is.members before a.saves rest (e ∷ before) (subst (λ (l : List (JournalEntry B)). IsPossible scene results (later before l)) is h)) a.closes)
+            (closes_from entries last a.empty e rest is a.rests can (never_posts scene results before a.rests)
+            (λ h. possible_under scene results rest (e ∷ before) (subst (λ (l : List (JournalEntry B)). IsPossible scene results (later before l)) is h)) a.closes)
         by_entries [] is =
             let still : last ≡ Losing = subst (λ (l : List (JournalEntry B)). ClosesTo scene results Losing before l last) is a.closes in
             let r = from_suspicions (Suspecting w quorum quorum) (subst (λ (l : List (JournalEntry B)). ClosesTo scene results (Suspecting w quorum quorum) before l (Suspecting w quorum quorum)) (sym is) refl) in

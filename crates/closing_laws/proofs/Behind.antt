@@ -28,15 +28,14 @@ use Rattle.closing_laws.specs.Views.{HasBest, log_of, started_with, tellers}
 use Rattle.closing_laws.proofs.Begun as begun
 use Rattle.closing_laws.proofs.Carrying.{sw}
 use Rattle.closing_laws.proofs.Emptied as emptied
-use Rattle.closing_laws.proofs.Emptying as emptying
+use Rattle.closing_laws.proofs.Standing as standing
 use Rattle.closing_laws.proofs.Generations.{generations_older}
 use Rattle.closing_laws.proofs.Leading.{start_of}
 use Rattle.closing_laws.proofs.Opened as opened_by
 use Rattle.closing_laws.proofs.Picked.{IsPicked, picked_of_quorum}
 use Rattle.closing_laws.proofs.ProperTurns.{IsSamePlace, settling_proceeds}
 use Rattle.closing_laws.proofs.Taking.{at}
-use Rattle.closing_laws.proofs.Walking.{later, later_is}
-use Rattle.closing_laws.proofs.Walking as walking
+use Rattle.closing_laws.proofs.Posting.{later, later_is, possible_under}
 
 module _ {B : Type 0} (scene : Scene B) (results : List (List SaveResult)) (setup : IsSetup scene.setup) (faithful : IsFaithful scene.sealing) (few : AreFew scene.kinds scene.setup)
     (before entries : List (JournalEntry B)) (last : Phase) (a : IsAttempt scene results before entries last) (best : ℕ) (is_best : HasBest (quorum_after scene results before) (members_at scene results before) best)
@@ -109,15 +108,15 @@ module _ {B : Type 0} (scene : Scene B) (results : List (List SaveResult)) (setu
   small = emptied.small scene results setup faithful few w quorum picked before a.saves start
 
   pub possible_first : IsPossible scene results before
-  possible_first = walking.possible_under scene results setup faithful w quorum small before a.saves entries before (subst (λ (l : List (JournalEntry B)). IsPossible scene results l) (sym (later_is before entries)) a.possible)
+  possible_first = possible_under scene results entries before (subst (λ (l : List (JournalEntry B)). IsPossible scene results l) (sym (later_is before entries)) a.possible)
 
-  pub opened : c.full ≡ None → emptying.Mode scene results setup faithful w quorum small before a.saves start begins
+  pub opened : c.full ≡ None → standing.Mode scene results w quorum start begins
   opened room =
       opened_by.opened scene results setup faithful few before entries last best a starts is_best.member small
       (generations_older scene results setup faithful before possible_first a.most) (emptied.truths scene results setup faithful few w quorum picked before a.saves start) room
 
   -- what is left to do there
-  pub opened_left : (room : c.full ≡ None) → emptying.left_in scene results setup faithful w quorum small before a.saves start begins (opened room) ≡
+  pub opened_left : (room : c.full ≡ None) → standing.left_in scene results w quorum start begins (opened room) ≡
       left_to_do scene.kinds scene.setup quorum (at scene results p begins).now (λ k. (sw scene results k begins).now)
       (opened_by.waiting scene results setup faithful few before entries last best a starts is_best.member small (generations_older scene results setup faithful before possible_first a.most))
   unfolding opened

@@ -13,8 +13,8 @@ use Rattle.vr_core.specs.declared.input.VrInput.TheVariants as vr_input
 use Rattle.vr_core.specs.Step.{vr_step}
 use Rattle.of_types.specs.SmallSets.{with_number}
 use Rattle.closing_laws.specs.Quorum.{has}
-use Rattle.closing_laws.specs.Draining.{Flight, Group, flown, put, drained, drains}
-use Rattle.closing_laws.specs.Views.{IsMember, vote_letters, voting}
+use Rattle.closing_laws.specs.Draining.{Flight, GroupState, flown, put, drained, drains}
+use Rattle.closing_laws.specs.Views.{IsReadyMember, vote_letters, voting}
 use Rattle.closing_laws.proofs.Words.{call, log_sent}
 use Rattle.closing_laws.proofs.Members.{vote_taken}
 use Rattle.closing_laws.proofs.Numbers.{Once, has_here, has_later, with_length}
@@ -24,13 +24,13 @@ abbrev pub AreChanging : List ℕ → (ℕ → VrState) → Type 0
 AreChanging quorum at = (j : ℕ) → has quorum j ≡ true → is_changing (at j) ≡ true
 
 -- after so many drains the members are these, and this waits. Before each of them those of the quorum change view
-pub record After (n : ℕ) (quorum : List ℕ) (g : Group) (at : ℕ → VrState) (pool : List Flight) (turns : ℕ) : Type 0 where
+pub record After (n : ℕ) (quorum : List ℕ) (g : GroupState) (at : ℕ → VrState) (pool : List Flight) (turns : ℕ) : Type 0 where
   pub found : ℕ → VrState
   pub drained_to : drains n quorum g ≡ record { at = found; pool = pool; turns = turns }
   pub each : (j : ℕ) → found j ≡ at j
   pub changing : (i : ℕ) → i < n → AreChanging quorum (drains i quorum g).at
 
-pub drains_add : (n m : ℕ) (quorum : List ℕ) (g : Group) → drains (n + m) quorum g ≡ drains m quorum (drains n quorum g)
+pub drains_add : (n m : ℕ) (quorum : List ℕ) (g : GroupState) → drains (n + m) quorum g ≡ drains m quorum (drains n quorum g)
 unfolding drains
 drains_add zero m quorum g = let same : 0 + m ≡ m = omega arith in ap (λ (k : ℕ). drains k quorum g) same
 drains_add (suc n) m quorum g =
@@ -48,7 +48,7 @@ none_after quorum at at' pool pool' turns turns' each p t =
       changing = λ i less. absurd (omega (arith, less));
     }
 
-changing_on : (n m : ℕ) (quorum : List ℕ) (g : Group) (found : ℕ → VrState) (pool : List Flight) (turns : ℕ) → drains n quorum g ≡ record { at = found; pool = pool; turns = turns } →
+changing_on : (n m : ℕ) (quorum : List ℕ) (g : GroupState) (found : ℕ → VrState) (pool : List Flight) (turns : ℕ) → drains n quorum g ≡ record { at = found; pool = pool; turns = turns } →
     ((i : ℕ) → i < n → AreChanging quorum (drains i quorum g).at) → ((i : ℕ) → i < m → AreChanging quorum (drains i quorum (record { at = found; pool = pool; turns = turns })).at) →
     (i : ℕ) → i < n + m → AreChanging quorum (drains i quorum g).at
 changing_on n m quorum g found pool turns reached first rest i less = elim (cases_lt i n) [
@@ -56,11 +56,11 @@ changing_on n m quorum g found pool turns reached first rest i less = elim (case
   | inr from ↦
       let later : n + (i - n) ≡ i = omega (arith, from) in
       subst (λ (k : ℕ). AreChanging quorum (drains k quorum g).at) later
-      (subst (λ (x : Group). AreChanging quorum x.at) (sym (drains_add n (i - n) quorum g ∙ ap (drains (i - n) quorum) reached))
+      (subst (λ (x : GroupState). AreChanging quorum x.at) (sym (drains_add n (i - n) quorum g ∙ ap (drains (i - n) quorum) reached))
       (rest (i - n) (omega (arith, from, less))))
 ]
 
-pub after_on : (n m : ℕ) (quorum : List ℕ) (g : Group) (at at' : ℕ → VrState) (pool pool' : List Flight) (turns turns' : ℕ) → After n quorum g at pool turns →
+pub after_on : (n m : ℕ) (quorum : List ℕ) (g : GroupState) (at at' : ℕ → VrState) (pool pool' : List Flight) (turns turns' : ℕ) → After n quorum g at pool turns →
     ((found : ℕ → VrState) → ((j : ℕ) → found j ≡ at j) → After m quorum (record { at = found; pool = pool; turns = turns }) at' pool' turns') →
     After (n + m) quorum g at' pool' turns'
 after_on n m quorum g at at' pool pool' turns turns' first further =
@@ -73,7 +73,7 @@ after_on n m quorum g at at' pool pool' turns turns' first further =
     }
 
 -- where what follows is known of the members as they were found
-pub after_first : (n m k : ℕ) (quorum : List ℕ) (g : Group) (at at' : ℕ → VrState) (pool pool' : List Flight) (turns turns' turns'' : ℕ) → (first : After n quorum g at pool turns) →
+pub after_first : (n m k : ℕ) (quorum : List ℕ) (g : GroupState) (at at' : ℕ → VrState) (pool pool' : List Flight) (turns turns' turns'' : ℕ) → (first : After n quorum g at pool turns) →
     After m quorum (record { at = first.found; pool = pool; turns = turns }) at' pool' turns' → n + m ≡ k → turns' ≡ turns'' → After k quorum g at' pool' turns''
 after_first n m k quorum g at at' pool pool' turns turns' turns'' first rest count same =
     subst (λ (i : ℕ). After i quorum g at' pool' turns'') count (record {
@@ -83,7 +83,7 @@ after_first n m k quorum g at at' pool pool' turns turns' turns'' first rest cou
       changing = λ i less. changing_on n m quorum g first.found pool turns first.drained_to first.changing rest.changing i less;
     })
 
-pub after_is : (n : ℕ) (quorum : List ℕ) (g : Group) (at at' : ℕ → VrState) (pool pool' : List Flight) (turns turns' : ℕ) → After n quorum g at pool turns →
+pub after_is : (n : ℕ) (quorum : List ℕ) (g : GroupState) (at at' : ℕ → VrState) (pool pool' : List Flight) (turns turns' : ℕ) → After n quorum g at pool turns →
     ((j : ℕ) → at j ≡ at' j) → pool ≡ pool' → turns ≡ turns' → After n quorum g at' pool' turns'
 after_is n quorum g at at' pool pool' turns turns' h each p t =
     record {
@@ -93,7 +93,7 @@ after_is n quorum g at at' pool pool' turns turns' h each p t =
       changing = h.changing;
     }
 
-pub after_count : (n m : ℕ) (quorum : List ℕ) (g : Group) (at : ℕ → VrState) (pool : List Flight) (turns : ℕ) → n ≡ m → After n quorum g at pool turns → After m quorum g at pool turns
+pub after_count : (n m : ℕ) (quorum : List ℕ) (g : GroupState) (at : ℕ → VrState) (pool : List Flight) (turns : ℕ) → n ≡ m → After n quorum g at pool turns → After m quorum g at pool turns
 after_count n m quorum g at pool turns same h = subst (λ (k : ℕ). After k quorum g at pool turns) same h
 
 pub one_more : (b : Bool) (j : ℕ) (xs : List ℕ) → (if b then j ∷ [] else []) ++ xs ≡ (if b then j ∷ xs else xs)
@@ -101,7 +101,7 @@ one_more true j xs = refl
 one_more false j xs = refl
 
 -- before the first drain
-first_changing : (quorum : List ℕ) (g : Group) → AreChanging quorum g.at → (i : ℕ) → i < 1 → AreChanging quorum (drains i quorum g).at
+first_changing : (quorum : List ℕ) (g : GroupState) → AreChanging quorum g.at → (i : ℕ) → i < 1 → AreChanging quorum (drains i quorum g).at
 unfolding drains
 first_changing quorum g still zero less = still
 first_changing quorum g still (suc i) less = absurd (omega (arith, less))
@@ -140,7 +140,7 @@ VoteOf n w c j s voters =
     (if not (nat_eq (w % n) j) && nat_eq (suc (length voters)) (n / 2)
     then letter (message.DoViewChange w s.normal s.commit (drop s.commit s.log)) (w % n) ∷ [] else [])
 
-pub vote_of : (n w c j : ℕ) (s : VrState) (voters : List ℕ) → IsMember n w j s → c < n → (c ≡ j → ⊥) → has voters c ≡ false → length voters < n / 2 → VoteOf n w c j s voters
+pub vote_of : (n w c j : ℕ) (s : VrState) (voters : List ℕ) → IsReadyMember n w j s → c < n → (c ≡ j → ⊥) → has voters c ≡ false → length voters < n / 2 → VoteOf n w c j s voters
 vote_of n w c j s voters m small other none less =
     subst (λ (k : ℕ). VoteOf k w c j s voters) m.size
     (subst (λ (k : ℕ). VoteOf s.controllers w c k s voters) m.me
@@ -148,7 +148,7 @@ vote_of n w c j s voters m small other none less =
     (subst (λ (k : ℕ). length voters < k / 2) (sym m.size) less) (with_length c voters none)))
 
 -- as the law says it, by the member's own number
-pub vote_told : (n w c j : ℕ) (s : VrState) (voters : List ℕ) → IsMember n w j s → c < n → (c ≡ j → ⊥) → has voters c ≡ false → length voters < n / 2 →
+pub vote_told : (n w c j : ℕ) (s : VrState) (voters : List ℕ) → IsReadyMember n w j s → c < n → (c ≡ j → ⊥) → has voters c ≡ false → length voters < n / 2 →
     vr_step (voting (n / 2) w (w % n) s voters) (vr_input.From c (message.StartViewChange w)) ≡
     sends (voting (n / 2) w (w % n) s (with_number c voters)) (vote_letters (n / 2) w (w % n) s voters)
 vote_told n w c j s voters m small other none less =
@@ -156,7 +156,7 @@ vote_told n w c j s voters m small other none less =
     ∙ ap (λ (k : ℕ). sends (voting (n / 2) w (w % n) s (with_number c voters))
     (if not (nat_eq (w % n) k) && nat_eq (suc (length voters)) (n / 2) then letter (message.DoViewChange w s.normal s.commit (drop s.commit s.log)) (w % n) ∷ [] else [])) (sym m.me)
 
-module _ (n w : ℕ) (quorum : List ℕ) (start : ℕ → VrState) (ready : (j : ℕ) → has quorum j ≡ true → IsMember n w j (start j)) where
+module _ (n w : ℕ) (quorum : List ℕ) (start : ℕ → VrState) (ready : (j : ℕ) → has quorum j ≡ true → IsReadyMember n w j (start j)) where
   -- the members, where those of the quorum have these votes
   abbrev pub held : (ℕ → List ℕ) → ℕ → VrState
   held voters j = if has quorum j then voting (n / 2) w (w % n) (start j) (voters j) else start j

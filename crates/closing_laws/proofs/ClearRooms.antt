@@ -46,7 +46,7 @@ use Rattle.closing_laws.proofs.ClearingWorks as works
 use Rattle.closing_laws.proofs.ClearingWorks.{None_processed, One_processed}
 use Rattle.closing_laws.proofs.Committing.{told_is}
 use Rattle.closing_laws.proofs.Drained as drained_by
-use Rattle.closing_laws.proofs.Drained.{heard_of, put, put_other, put_own}
+use Rattle.closing_laws.proofs.Drained.{heard_of, put}
 use Rattle.closing_laws.proofs.Finishing.{Grows, finishing_grows, grows_committed}
 use Rattle.closing_laws.proofs.Followers.{started_within}
 use Rattle.closing_laws.proofs.Growth.{counted_grows, life_grows, log_prefix, places_are}

@@ -32,7 +32,7 @@ use Rattle.rv_runs.specs.States.{controller_message, switch_message}
 use Rattle.closing_laws.specs.Quorum.{has}
 use Rattle.closing_laws.specs.Following.{Start}
 use Rattle.closing_laws.specs.Serving.{AreFew, IsOlder, IsTrueOf, acknowledges_events}
-use Rattle.closing_laws.specs.Views.{IsCovered, IsMember}
+use Rattle.closing_laws.specs.Views.{IsCovered, IsReadyMember}
 use Rattle.closing_laws.specs.Ways.{Sent, between, goes, sent_by, told_to}
 use Rattle.closing_laws.proofs.Between.{between_own, between_sent, posted_other, posted_own}
 use Rattle.closing_laws.proofs.Drained.{heard_of, put, put_other, put_own}
@@ -176,7 +176,7 @@ module _ (kinds : List ℕ) (setup : Setup) (few : AreFew kinds setup) (w p : �
 -- ---- where the view starts
 
 module _ (kinds : List ℕ) (setup : Setup) (few : AreFew kinds setup) (w : ℕ) (quorum : List ℕ) (at : ℕ → VrState) (best : ℕ) (picked : IsPicked setup.controllers w quorum)
-    (small : (b : ℕ) → has quorum b ≡ true → b < setup.controllers) (ready : (j : ℕ) → has quorum j ≡ true → IsMember setup.controllers w j (at j)) (covered : IsCovered quorum at best) (chosen : has quorum best ≡ true)
+    (small : (b : ℕ) → has quorum b ≡ true → b < setup.controllers) (ready : (j : ℕ) → has quorum j ≡ true → IsReadyMember setup.controllers w j (at j)) (covered : IsCovered quorum at best) (chosen : has quorum best ≡ true)
     (voters : ℕ → List ℕ) (promise : Option ℕ) (sw : ℕ → SwitchState) (older : (t : ℕ) → t < length setup.ports → IsOlder (sw t).fence.generation w) where
   abbrev p : ℕ
   p = opens.p kinds setup few w quorum at best picked small ready covered chosen voters promise sw older

@@ -15,8 +15,8 @@ use Rattle.view_change.specs.Entering.{check}
 use Rattle.vr_core.specs.declared.input.VrInput.TheVariants as vr_input
 use Rattle.vr_core.specs.Step.{vr_step}
 use Rattle.closing_laws.specs.Quorum.{has}
-use Rattle.closing_laws.specs.Draining.{Group, Flight, flown}
-use Rattle.closing_laws.specs.Views.{IsMember, log_of, behind}
+use Rattle.closing_laws.specs.Draining.{GroupState, Flight, flown}
+use Rattle.closing_laws.specs.Views.{IsReadyMember, log_of, behind}
 use Rattle.closing_laws.proofs.Words.{log_sent}
 use Rattle.closing_laws.proofs.Picked.{IsPicked}
 use Rattle.closing_laws.proofs.Members.{guard_open, sound_here}
@@ -30,12 +30,12 @@ pub collected_has : (start : ℕ → VrState) (done : List ℕ) (j : ℕ) → li
 collected_has start [] j = refl
 collected_has start (d ∷ done) j = ap (λ (b : Bool). nat_eq d j || b) (collected_has start done j)
 
-module _ (n w : ℕ) (quorum : List ℕ) (start : ℕ → VrState) (ready : (j : ℕ) → has quorum j ≡ true → IsMember n w j (start j)) (q : IsPicked n w quorum) (group : 0 < n / 2) where
+module _ (n w : ℕ) (quorum : List ℕ) (start : ℕ → VrState) (ready : (j : ℕ) → has quorum j ≡ true → IsReadyMember n w j (start j)) (q : IsPicked n w quorum) (group : 0 < n / 2) where
   -- the votes of each
   abbrev pub votes_of : ℕ → List ℕ
   votes_of j = heard_from (behind quorum []) j
 
-  pub leader : IsMember n w (w % n) (start (w % n))
+  pub leader : IsReadyMember n w (w % n) (start (w % n))
   leader = ready (w % n) q.primary
 
   pub its_turn : nat_eq (w % (start (w % n)).controllers) (start (w % n)).me ≡ true
@@ -106,7 +106,7 @@ module _ (n w : ℕ) (quorum : List ℕ) (start : ℕ → VrState) (ready : (j :
       placed j false is = is
 
   -- all but the last of them: this log of one more waits
-  pub record BeforeLast (count : ℕ) (all : List ℕ) (g : Group) (turns : ℕ) : Type 0 where
+  pub record BeforeLast (count : ℕ) (all : List ℕ) (g : GroupState) (turns : ℕ) : Type 0 where
     pub front : List ℕ
     pub last : ℕ
     pub joined : front ++ last ∷ [] ≡ all
@@ -139,7 +139,7 @@ module _ (n w : ℕ) (quorum : List ℕ) (start : ℕ → VrState) (ready : (j :
       subst (λ (k : ℕ). length (map (log_of start) grown) < k / 2) (sym leader.size) (omega (arith, long, parts, now, mapped))) in
       let still : check (gathered grown) ≡ sends (gathered grown) [] = waits sp w (votes_of (w % n)) its_turn its_group (map (log_of start) grown) None short in
       let waiting : List Flight = map (log_sent start w (w % n)) (c ∷ later) in
-      let g : Group = record { at = at; pool = map (log_sent start w (w % n)) (b ∷ (c ∷ later)); turns = turns } in
+      let g : GroupState = record { at = at; pool = map (log_sent start w (w % n)) (b ∷ (c ∷ later)); turns = turns } in
       let first : After 1 quorum g (led (gathered grown)) waiting (turns + 1) =
       after_is 1 quorum g (led (gathered grown)) (led (gathered grown)) (waiting ++ []) waiting (turns + 1) (turns + 1)
       (collect_one done b at waiting turns (gathered grown) [] each m.0 m.1 (new b (has_here b (c ∷ later))) still
@@ -163,7 +163,7 @@ module _ (n w : ℕ) (quorum : List ℕ) (start : ℕ → VrState) (ready : (j :
           ∙ ap (λ (x : Bool). x || false) (ne_eqb b j (λ e. both_ways (has (c ∷ later) j) (ap (has (c ∷ later)) (sym e) ∙ gone) there))
 
   -- and the last one
-  pub collect_last : (count : ℕ) (all : List ℕ) (g : Group) (turns : ℕ) (u : VrState) (ls : List VrLetter) → (b : BeforeLast count all g turns) → check (gathered all) ≡ sends u ls → is_sound (start (w % n)) u ≡ true →
+  pub collect_last : (count : ℕ) (all : List ℕ) (g : GroupState) (turns : ℕ) (u : VrState) (ls : List VrLetter) → (b : BeforeLast count all g turns) → check (gathered all) ≡ sends u ls → is_sound (start (w % n)) u ≡ true →
       After (count + 1) quorum g (led u) (map (flown (w % n)) ls) (turns + count + 1)
   collect_last count all g turns u ls b decided sound =
       after_on count 1 quorum g (led (gathered b.front)) (led u) (log_sent start w (w % n) b.last ∷ []) (map (flown (w % n)) ls) (turns + count) (turns + count + 1) b.reached

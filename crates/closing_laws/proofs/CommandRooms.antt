@@ -51,7 +51,7 @@ use Rattle.rv_runs.specs.States.{controller_message, switch_message}
 use Rattle.closing_laws.specs.Following.{Start}
 use Rattle.closing_laws.specs.Quorum.{has}
 use Rattle.closing_laws.specs.Serving.{AreFew, IsOlder}
-use Rattle.closing_laws.specs.Views.{IsCovered, IsMember}
+use Rattle.closing_laws.specs.Views.{IsCovered, IsReadyMember}
 use Rattle.closing_laws.specs.Ways.{Sent, sent_by}
 use Rattle.closing_laws.proofs.Agreed.{agreed_no_less, agreed_within, marked}
 use Rattle.closing_laws.proofs.CommandPosts.{IsOfCommands, Pays, acks_post, after_pays, master_pays, members_post, proposing_pays, roles_post, settling_pays}
@@ -498,7 +498,7 @@ module _ (kinds : List ℕ) (setup : Setup) (few : AreFew kinds setup) (start : 
 -- ---- as the view starts
 
 module _ (kinds : List ℕ) (setup : Setup) (few : AreFew kinds setup) (w : ℕ) (quorum : List ℕ) (at : ℕ → VrState) (best : ℕ) (picked : IsPicked setup.controllers w quorum)
-    (small : (b : ℕ) → has quorum b ≡ true → b < setup.controllers) (ready : (j : ℕ) → has quorum j ≡ true → IsMember setup.controllers w j (at j))
+    (small : (b : ℕ) → has quorum b ≡ true → b < setup.controllers) (ready : (j : ℕ) → has quorum j ≡ true → IsReadyMember setup.controllers w j (at j))
     (covered : IsCovered quorum at best) (chosen : has quorum best ≡ true)
     (voters : ℕ → List ℕ) (promise : Option ℕ) (sw : ℕ → SwitchState) (older : (t : ℕ) → t < length setup.ports → IsOlder (sw t).fence.generation w) where
   abbrev first : Start

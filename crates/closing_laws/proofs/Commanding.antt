@@ -21,7 +21,7 @@ use Rattle.group_controller.specs.State.{ControllerState, committed}
 use Rattle.group_controller.specs.Settling.{command_letters, is_some_of, is_untold}
 use Rattle.rv_base.specs.declared.journal.Letter.{Letter}
 use Rattle.rv_runs.specs.declared.messages.Message.{Message}
-use Rattle.closing_laws.specs.Serving.{AreFew, IsServed, IsToldLast, settled_by, told_by}
+use Rattle.closing_laws.specs.Serving.{AreFew, IsAttended, IsToldLast, settled_by, told_by}
 use Rattle.closing_laws.proofs.Committing.{settled_is, told_is}
 use Rattle.closing_laws.proofs.Holding.{commanded}
 use Rattle.closing_laws.proofs.Numbering.{command_within, commands_numbered, counted, counted_next}
@@ -114,7 +114,7 @@ module _ (kinds : List ℕ) (setup : Setup) (c : ControllerState) where
     abbrev letters : List (Letter ControllerSays)
     letters = command_letters kinds setup c wanting
 
-    pub now_served : (out in_ : List Message) → IsServed kinds setup c s sw out in_ → IsServed kinds setup now_told s sw (out ++ told s letters) in_
+    pub now_served : (out in_ : List Message) → IsAttended kinds setup c s sw out in_ → IsAttended kinds setup now_told s sw (out ++ told s letters) in_
     now_served out in_ was =
         let there = (and_parts (has_unprocessed (committed c)) (not (is_some_of first c.last_told)) untold).0 in
         let before = told_before untold s sw in

@@ -1,11 +1,11 @@
 -- More of the primary's log is committed, with at most one event more as processed: what was told of commands stays as it is, and
 -- the switch of that event is told so.
-use Rattle.std.proofs.Common.{◌≡◌, ◌≤◌, ◌<◌, ◌⊎◌, inl, inr, ℕ, ◌+◌, zero, suc, Bool, true, false, List, [], ◌∷◌, ◌++◌, length, map, take, flat_map, refl, sym, ◌∙◌, ap, subst, arith}
+use Rattle.std.proofs.Common.{◌≡◌, ◌≤◌, ◌<◌, ◌⊎◌, inl, inr, ℕ, ◌+◌, Bool, true, false, List, [], ◌∷◌, ◌++◌, length, map, take, flat_map, refl, sym, ◌∙◌, ap, subst, arith}
 use Rattle.std.specs.Prelude.{nat_eq, not, ◌&&◌, slice_get, Option, Some, IfSome, if◌then◌else◌}
 use Rattle.std.specs.List.{range_with_len}
 use Rattle.std.proofs.lemmas.Bool.{and_parts, cases_lt, eq-eqb, eqb-true, le-ltb, lt-ltb, ltb-true}
 use Rattle.std.proofs.lemmas.List.Sums.{sum_by-append}
-use Rattle.std.proofs.lemmas.Option.{IfSome_then, none-some, same_Some, slice_get_cases}
+use Rattle.std.proofs.lemmas.Option.{IfSome_then, slice_get_cases}
 use Rattle.lists.specs.Lists.{IsIn, IsPrefix}
 use Rattle.lists.proofs.Elements.{in_left}
 use Rattle.lists.proofs.Prefixes.{prefix_length, prefix_take, take_prefix}
@@ -22,13 +22,13 @@ use Rattle.dispatcher.specs.Folding.{acknowledgement, acknowledges, acknowledges
 use Rattle.dispatcher.specs.Marks.{Marks, has_result, is_confirmed}
 use Rattle.of_switch.specs.State.{SwitchState, life_of}
 use Rattle.controller_laws.proofs.Issued.{issues-take}
-use Rattle.controller_laws.proofs.Logs.{processed_prefix, received_prefix}
+use Rattle.controller_laws.proofs.Logs.{processed_prefix, received_prefix, take_next}
 use Rattle.group_controller.specs.declared.messages.ControllerSays.{ControllerSays}
 use Rattle.group_controller.specs.State.{ControllerState, committed}
 use Rattle.group_controller.specs.Settling.{ack_letter, answers_at, clear_letter, is_some_of, is_untold}
 use Rattle.rv_base.specs.declared.journal.Letter.{Letter}
 use Rattle.rv_runs.specs.declared.messages.Message.{Message}
-use Rattle.closing_laws.specs.Serving.{IsServed, IsToldLast, acknowledges_events, events_told, processed_by, settled_by, told_by}
+use Rattle.closing_laws.specs.Serving.{IsAttended, IsToldLast, acknowledges_events, events_told, processed_by, settled_by, told_by}
 use Rattle.closing_laws.proofs.Growth.{counted_grows, log_front, places_are, processed_within, same_told}
 use Rattle.closing_laws.proofs.Holding.{IsAcknowledged, answered}
 use Rattle.closing_laws.proofs.Numbering.{counted}
@@ -67,12 +67,6 @@ quiet_answers kinds setup c view t (j ∷ places) =
     (subst (λ (z : List Message). AreQuiet view z) (sym (told-append t acks clears))
     (quiet_append view (told t acks) (told t clears) (quiet_acks view t (acknowledges_at (committed c) j)) (quiet_clears view t (clears_at kinds setup (committed c) j))))
     (quiet_answers kinds setup c view t places))
-
--- one element more
-take_next : (es : List Event) (j : ℕ) (e : Event) → slice_get es j ≡ Some e → take (j + 1) es ≡ take j es ++ e ∷ []
-take_next [] j e is = absurd (none-some e is)
-take_next (x ∷ es) zero e is = ap (λ (y : Event). y ∷ []) (same_Some x e is)
-take_next (x ∷ es) (suc j) e is = let k : suc j + 1 ≡ suc (j + 1) = omega arith in ap (λ (n : ℕ). take n (x ∷ es)) k ∙ ap (λ (l : List Event). x ∷ l) (take_next es j e is)
 
 module _ (kinds : List ℕ) (setup : Setup) (c c' : ControllerState) (m : CommitsMore c c') where
   abbrev K : List Entry
@@ -183,8 +177,8 @@ module _ (kinds : List ℕ) (setup : Setup) (c c' : ControllerState) (m : Commit
                     (subst (λ (z : List Message). IsIn here z) (sym (told-append s (answers_at kinds setup c' (processed K)) []))
                     (in_left here (told s (answers_at kinds setup c' (processed K))) [] (is_answered (processed K) e is (eqb-true e.switch s both.0) (eqb-true e.life (life_of sw) both.1) young))))
 
-    pub more_committed : is_untold c ≡ false → IsToldLast c → life_in s (received K') ≤ life_of sw → (out in_ : List Message) → IsServed kinds setup c s sw out in_ →
-        IsServed kinds setup c' s sw (out ++ told s answers) in_
+    pub more_committed : is_untold c ≡ false → IsToldLast c → life_in s (received K') ≤ life_of sw → (out in_ : List Message) → IsAttended kinds setup c s sw out in_ →
+        IsAttended kinds setup c' s sw (out ++ told s answers) in_
     more_committed untold last young out in_ was =
         answered kinds setup c c' s sw
         (record {

@@ -26,7 +26,7 @@ use Rattle.group_controller.specs.Rules.{commands_for, controller_work}
 use Rattle.group_controller.specs.Settling.{is_untold}
 use Rattle.rv_runs.specs.declared.messages.Message.{Message}
 use Rattle.rv_runs.specs.declared.messages.Message.TheVariants as message
-use Rattle.closing_laws.specs.Serving.{AreFew, AreTold, AreUntold, IsAsked, IsSaidBy, IsServed, IsSettled, IsTrueOf, IsTruePrimary, acknowledges_events, commands_said, is_reply, is_request, processed_by, settled_by, told_by}
+use Rattle.closing_laws.specs.Serving.{AreFew, AreEventsTold, AreUntold, IsMastered, IsSaidBy, IsAttended, IsSettled, IsTrueOf, IsTruePrimary, acknowledges_events, commands_said, is_reply, is_request, processed_by, settled_by, told_by}
 use Rattle.closing_laws.proofs.Commanding.{among_due, due, few_beyond, first, numbers_due, wanting}
 use Rattle.closing_laws.proofs.Committing.{settled_is, told_is}
 use Rattle.closing_laws.proofs.Extending.{extends_none}
@@ -84,17 +84,17 @@ module _ (kinds : List ℕ) (setup : Setup) (few : AreFew kinds setup) (c : Cont
     no_requests = no_requests_told kinds setup (committed c) c.vr.view t its;
   }
 
-  pub others_served : (t : ℕ) (sw : SwitchState) (out in_ : List Message) → (t ≡ s → ⊥) → IsServed kinds setup c t sw out in_ → IsServed kinds setup now t sw (out ++ told t (commands_for kinds setup now s)) in_
+  pub others_served : (t : ℕ) (sw : SwitchState) (out in_ : List Message) → (t ≡ s → ⊥) → IsAttended kinds setup c t sw out in_ → IsAttended kinds setup now t sw (out ++ told t (commands_for kinds setup now s)) in_
   others_served t sw out in_ other was =
       answered kinds setup c now t sw (record { view = refl; me = refl; confirmed = joins_others s t c.marks.confirmed other; marks = λ i. refl; logged = refl }) out in_ (told t (commands_for kinds setup now s)) was (inl refl) (omega arith)
       (quiet_others t other) refl
 
   module _ (sw : SwitchState) (xid : ℕ) (out rest : List Message) (untold : is_untold c ≡ false) (young : life_in s (received (committed c)) ≤ life_of sw)
-      (done : settled_by kinds setup c s sw ≤ sw.results.executed) (was : IsServed kinds setup c s sw out (reply_of xid c.vr.view ∷ rest)) where
+      (done : settled_by kinds setup c s sw ≤ sw.results.executed) (was : IsAttended kinds setup c s sw out (reply_of xid c.vr.view ∷ rest)) where
     abbrev it : List Message
     it = told s (commands_for kinds setup now s)
 
-    asked : IsAsked c s sw out (reply_of xid c.vr.view ∷ rest) × AreTold c s sw out (reply_of xid c.vr.view ∷ rest)
+    asked : IsMastered c s sw out (reply_of xid c.vr.view ∷ rest) × AreEventsTold c s sw out (reply_of xid c.vr.view ∷ rest)
     asked = elim was.role [ inl u ↦ absurd (some u.silent) | inr a ↦ a ]
       where
         some : (reply_of xid c.vr.view ∷ rest) ≡ [] → ⊥
@@ -133,7 +133,7 @@ module _ (kinds : List ℕ) (setup : Setup) (few : AreFew kinds setup) (c : Cont
             ap (λ (xs : List Issued). numbers_in s (life_of sw) (filter (λ x. is_confirmed now.marks x.switch) (filter (is_wanted (committed c) now.marks) xs))) (due_none kinds setup c none)
             ∙ sym (ap (range_with_len (settled_by kinds setup c s sw)) zero_left)
 
-    pub own_served : IsServed kinds setup now s sw (out ++ it) rest
+    pub own_served : IsAttended kinds setup now s sw (out ++ it) rest
     own_served = record {
       said = all_append (λ m. IsSaidBy c.vr.view m) out it was.said (its_said s);
       heard = was.heard.1;
@@ -179,19 +179,19 @@ module _ (kinds : List ℕ) (setup : Setup) (few : AreFew kinds setup) (sw : ℕ
       let leading = p.leads in
       leader_input kinds setup c (controller_input.Of s xid (spoken.Plain (plain.RoleReply MASTER c.vr.view))) leading ∙ rw (leading, same) refl
 
-  own_at : s < length setup.ports → IsServed kinds setup work.state s (sw s) (out s ++ told s work.letters) (in' s)
+  own_at : s < length setup.ports → IsAttended kinds setup work.state s (sw s) (out s ++ told s work.letters) (in' s)
   own_at less =
       let b = bounded_by kinds setup c s (sw s) (committed c) (true_of s less) p.one (prefix_refl (committed c)) in
-      own_served kinds setup few c s (sw s) xid (out s) (in' s) settled.told b.young b.done (subst (λ (z : List Message). IsServed kinds setup c s (sw s) (out s) z) own (served s less))
+      own_served kinds setup few c s (sw s) xid (out s) (in' s) settled.told b.young b.done (subst (λ (z : List Message). IsAttended kinds setup c s (sw s) (out s) z) own (served s less))
 
   each_served : AreServed kinds setup sw in' work.state (λ t. out t ++ told t work.letters)
   each_served t less = by_switch (cases_eq t s)
     where
-      by_switch : (t ≡ s) ⊎ (t ≡ s → ⊥) → IsServed kinds setup work.state t (sw t) (out t ++ told t work.letters) (in' t)
+      by_switch : (t ≡ s) ⊎ (t ≡ s → ⊥) → IsAttended kinds setup work.state t (sw t) (out t ++ told t work.letters) (in' t)
       by_switch (inr other) =
-          subst (λ (z : List Message). IsServed kinds setup work.state t (sw t) (out t ++ told t work.letters) z) (sym (others t other))
+          subst (λ (z : List Message). IsAttended kinds setup work.state t (sw t) (out t ++ told t work.letters) z) (sym (others t other))
           (others_served kinds setup few c s t (sw t) (out t) (in_ t) other (served t less))
-      by_switch (inl e) = subst (λ (k : ℕ). IsServed kinds setup work.state k (sw k) (out k ++ told k work.letters) (in' k)) (sym e) (own_at (subst (λ (k : ℕ). k < length setup.ports) e less))
+      by_switch (inl e) = subst (λ (k : ℕ). IsAttended kinds setup work.state k (sw k) (out k ++ told k work.letters) (in' k)) (sym e) (own_at (subst (λ (k : ℕ). k < length setup.ports) e less))
 
   pub role_comes : HasTurned kinds setup sw in' c out (confirmed_by c.marks s) (controller_work kinds setup c (controller_input.Of s xid (spoken.Plain (plain.RoleReply MASTER c.vr.view))))
   role_comes = subst (λ (x : Work). HasTurned kinds setup sw in' c out (confirmed_by c.marks s) x) (sym work_is) (record {

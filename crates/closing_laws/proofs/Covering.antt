@@ -1,7 +1,7 @@
 -- Once the members of a quorum have entered a view, what each of them knows as committed begins the best of their logs.
-use Rattle.std.proofs.Common.{◌≡◌, ◌≢◌, ◌≤◌, ◌<◌, inl, inr, ℕ, zero, suc, ◌+◌, ◌*◌, ◌/◌, Bool, true, false, cond, eqb, None, List, [], ◌∷◌, ◌++◌, length, map, take, drop, refl, sym, ap, ◌∙◌, subst, arith, length-append}
+use Rattle.std.proofs.Common.{◌≡◌, ◌≤◌, ◌<◌, inl, inr, ℕ, suc, ◌+◌, ◌*◌, ◌/◌, Bool, true, false, None, List, [], ◌∷◌, ◌++◌, length, map, take, drop, refl, sym, ap, ◌∙◌, subst, arith, length-append}
 use Rattle.std.specs.Prelude.{nat_eq, nat_lt, if◌then◌else◌}
-use Rattle.std.proofs.lemmas.Bool.{cases_eq, cases_lt, eq-eqb, ne_eqb, eqb-true, ltb-true, cond-true, cond-false, both_ways}
+use Rattle.std.proofs.lemmas.Bool.{eqb-true, ltb-true, both_ways}
 use Rattle.std.proofs.lemmas.List.{length-map, length-take-le, take_at}
 use Rattle.of_types.specs.Setups.{IsSetup}
 use Rattle.rv_base.specs.declared.journal.JournalEntry.{JournalEntry}
@@ -12,7 +12,7 @@ use Rattle.agreement.specs.Lists.{AreDistinct, IsAtMost}
 use Rattle.agreement.specs.History.{Group, History, State, Vote, size}
 use Rattle.agreement.specs.Invariant.{Invariant, IsBallot, IsGoodState, IsGoodVote}
 use Rattle.agreement.specs.Journals as journal
-use Rattle.agreement.specs.Journals.{Held, Rules, held, settled, settled_by}
+use Rattle.agreement.specs.Journals.{Held, Rules}
 use Rattle.agreement.specs.Moves.{IsBest}
 use Rattle.agreement.specs.Quorums.{IsSafe, IsVote}
 use Rattle.agreement.proofs.Agreeing.{journal_good}
@@ -38,40 +38,10 @@ use Rattle.rv_agreement.proofs.Reading.{IsReadPast, read_past}
 use Rattle.rv_agreement.proofs.Standing.{stands_alike}
 use Rattle.rv_laws.proofs.Events.{events_valid}
 use Rattle.rv_laws.proofs.Laws.{always}
+use Rattle.rv_agreement.proofs.Leading.{posting, posting_held, posting_legal}
 use Rattle.closing_laws.specs.Quorum.{has}
 use Rattle.closing_laws.specs.Views.{HasBest, IsCovered, in_view, log_of}
 use Rattle.closing_laws.proofs.Numbers.{Once, in_has}
-
--- each of the first m posts, so that no input is open
-abbrev posting : {Own E : Type 0} → ℕ → List (journal.Entry Own E)
-posting zero = []
-posting (suc m) = journal.Posts m ∷ posting m
-
-module _ {Own A E : Type 0} (r : Rules Own A E) (g : Group E) where
-  posting_legal : (m : ℕ) (past : List (journal.Entry Own E)) → m ≤ size g → journal.IsLegal r g past → journal.IsLegal r g (posting m ++ past)
-  posting_legal zero past b k = k
-  posting_legal (suc m) past b k = (omega arith, posting_legal m past (omega arith) k)
-
-  posting_settled : (m j : ℕ) (past : List (journal.Entry Own E)) → settled r j (posting m ++ past) ≡ settled r j past
-  posting_settled zero j past = refl
-  posting_settled (suc m) j past = by_own (eqb m j) ∙ posting_settled m j past
-    where
-      by_own : (t : Bool)
-          → (let w = held r j (posting m ++ past) in
-          let v = cond t (record { now = settled_by r j w.now w.open_input; open_input = None }) w in
-          settled_by r j v.now v.open_input ≡ settled_by r j w.now w.open_input)
-      by_own true = refl
-      by_own false = refl
-
-  posting_held : (m j : ℕ) (past : List (journal.Entry Own E)) → j < m → held r j (posting m ++ past) ≡ record { now = settled r j past; open_input = None }
-  posting_held zero j past b = absurd (omega arith)
-  posting_held (suc m) j past b = elim (cases_eq m j) [
-    | inl e ↦ cond-true (eqb m j) _ _ (eq-eqb m j e) ∙ ap (λ (a : A). record { now = a; open_input = None }) (posting_settled m j past)
-    | inr ne ↦ cond-false (eqb m j) _ _ (ne_eqb m j ne) ∙ posting_held m j past (below ne b)
-  ]
-    where
-      below : m ≢ j → j < suc m → j < m
-      below ne b = elim (cases_lt j m) [ inl l ↦ l | inr l ↦ absurd (ne (omega arith)) ]
 
 -- a better log is at least as far
 better_far : (a b : Collected) → is_better a b ≡ true → IsAtMost b.normal (length_of b) a.normal (length_of a)

@@ -20,6 +20,7 @@ use Rattle.vr_log.specs.declared.state.VrState.{VrState}
 use Rattle.vr_log.specs.Steps.{VrStep, letter}
 use Rattle.vr_core.specs.declared.input.VrInput.TheVariants as vr_input
 use Rattle.vr_core.specs.Step.{vr_step}
+use Rattle.of_switch.specs.declared.says.SwitchInput.{SwitchInput}
 use Rattle.of_switch.specs.declared.says.SwitchInput.TheVariants as switch_input
 use Rattle.of_switch.specs.declared.says.SwitchSays.{SwitchSays}
 use Rattle.of_switch.specs.State.{SwitchState, SwitchTurn}
@@ -30,12 +31,12 @@ use Rattle.group_controller.specs.State.{ControllerState, to_members}
 use Rattle.rv_runs.specs.declared.messages.Message.{Message}
 use Rattle.rv_runs.specs.declared.messages.Message.TheVariants as message
 use Rattle.rv_runs.specs.declared.messages.Unsealed.TheVariants as unsealed
-use Rattle.rv_runs.specs.States.{controller_message, switch_message, controller_hears}
+use Rattle.rv_runs.specs.States.{controller_hears, controller_message, switch_hears, switch_message}
 use Rattle.rv_runs.specs.Schedule.{is_drawn}
 use Rattle.closing_laws.specs.Quorum.{has}
 use Rattle.closing_laws.specs.Ways.{Sent, sent_by, goes, between, told_to}
 use Rattle.closing_laws.specs.Following.{ArePrepares, Start, KeepsUp, IsAgreed, Leads}
-use Rattle.closing_laws.specs.Serving.{IsServed, IsSettled}
+use Rattle.closing_laws.specs.Serving.{IsAttended, IsSettled}
 use Rattle.closing_laws.proofs.Between.{between_other, between_own, posted_other, posted_own}
 use Rattle.closing_laws.specs.Measure.{message_worth}
 use Rattle.closing_laws.proofs.Followers.{Hears, hears}
@@ -61,6 +62,10 @@ switches_apart b p e = ne_eqb b p e
 -- what a controller hears of a message on its way
 abbrev pub heard_of : Sent → ControllerInput
 heard_of m = controller_hears m.from (unsealed.Message m.said)
+
+-- and a switch
+abbrev pub heard_at : Sent → SwitchInput
+heard_at m = switch_hears m.from (unsealed.Message m.said)
 
 -- a message that goes another way
 pub way_apart : (from to : Actor) (m : Sent) → (m.from ≡ from → m.to ≡ to → ⊥) → goes from to m ≡ false
@@ -104,7 +109,7 @@ module _ (kinds : List ℕ) (setup : Setup) (w p : ℕ) (quorum : List ℕ) (sta
   pub record Drains (c : ControllerState) (members : ℕ → VrState) (switches : ℕ → SwitchState) (waiting : List Sent) : Type 0 where
     pub primary : IsDraining c
     pub keeps_up : (b : ℕ) → has quorum b ≡ true → (b ≡ p → ⊥) → KeepsUp start c.vr b (members b) (to_member_of waiting b) (from_member_of waiting b)
-    pub served : (s : ℕ) → s < length setup.ports → IsServed kinds setup c s (switches s) (to_switch_of waiting s) (from_switch_of waiting s)
+    pub served : (s : ℕ) → s < length setup.ports → IsAttended kinds setup c s (switches s) (to_switch_of waiting s) (from_switch_of waiting s)
     pub ways : (m : Sent) → IsIn m waiting → is_drawn quorum m.from m.to ≡ true → IsWay p quorum m
 
   -- a message that is lost
@@ -116,8 +121,8 @@ module _ (kinds : List ℕ) (setup : Setup) (w p : ℕ) (quorum : List ℕ) (sta
           subst (λ (l : List Message). KeepsUp start c.vr b (members b) l (from_member_of rest b)) (same (actor.Controller p) (actor.Controller b) chosen)
           (subst (λ (l : List Message). KeepsUp start c.vr b (members b) (to_member_of (m ∷ rest) b) l) (same (actor.Controller b) (actor.Controller p) inside) (d.keeps_up b chosen other));
       served = λ s there.
-          subst (λ (l : List Message). IsServed kinds setup c s (switches s) l (from_switch_of rest s)) (same (actor.Controller p) (actor.Switch s) refl)
-          (subst (λ (l : List Message). IsServed kinds setup c s (switches s) (to_switch_of (m ∷ rest) s) l) (same (actor.Switch s) (actor.Controller p) inside) (d.served s there));
+          subst (λ (l : List Message). IsAttended kinds setup c s (switches s) l (from_switch_of rest s)) (same (actor.Controller p) (actor.Switch s) refl)
+          (subst (λ (l : List Message). IsAttended kinds setup c s (switches s) (to_switch_of (m ∷ rest) s) l) (same (actor.Switch s) (actor.Controller p) inside) (d.served s there));
       ways = λ x among. d.ways x (inr among);
     }
       where
@@ -235,8 +240,8 @@ module _ (kinds : List ℕ) (setup : Setup) (w p : ℕ) (quorum : List ℕ) (sta
                 (subst (λ (s : VrState). KeepsUp start c.vr j s (to_member_of (m ∷ rest) j) (from_member_of (m ∷ rest) j)) (sym (put_other members b step.state j e)) (d.keeps_up j member not_p)))
           ];
           served = λ s there.
-              subst (λ (l : List Message). IsServed kinds setup c s (switches s) l (from_switch_of waiting' s)) (sym (own_quiet (actor.Controller p) (actor.Switch s) (controllers_apart b p other) (λ f g. absurd cc)))
-              (subst (λ (l : List Message). IsServed kinds setup c s (switches s) (to_switch_of (m ∷ rest) s) l) (sym (own_quiet (actor.Switch s) (actor.Controller p) refl (λ f g. absurd cc))) (d.served s there));
+              subst (λ (l : List Message). IsAttended kinds setup c s (switches s) l (from_switch_of waiting' s)) (sym (own_quiet (actor.Controller p) (actor.Switch s) (controllers_apart b p other) (λ f g. absurd cc)))
+              (subst (λ (l : List Message). IsAttended kinds setup c s (switches s) (to_switch_of (m ∷ rest) s) l) (sym (own_quiet (actor.Switch s) (actor.Controller p) refl (λ f g. absurd cc))) (d.served s there));
           ways = λ y among drawn. elim (in_append y rest (map (sent_by controller_message (actor.Controller b)) letters) among) [
             | inl old ↦ d.ways y (inr old) drawn
             | inr new ↦ new_ways y new
@@ -264,12 +269,12 @@ module _ (kinds : List ℕ) (setup : Setup) (w p : ℕ) (quorum : List ℕ) (sta
       quiet_way : (a t : Actor) → same_actor (actor.Switch s) a ≡ false → (a ≡ actor.Controller p → t ≡ actor.Switch s → ⊥) → between a t after_it ≡ between a t (m ∷ rest)
       quiet_way a t other differ = posted_other switch_message (actor.Switch s) a t rest turn.letters other ∙ sym (apart_from a t differ)
 
-      pub served_before : s < length setup.ports → IsServed kinds setup c s (switches s) (message.Of xid said ∷ to_switch_of rest s) (from_switch_of rest s)
+      pub served_before : s < length setup.ports → IsAttended kinds setup c s (switches s) (message.Of xid said ∷ to_switch_of rest s) (from_switch_of rest s)
       served_before there =
-          subst (λ (l : List Message). IsServed kinds setup c s (switches s) l (from_switch_of rest s)) here_at
-          (subst (λ (l : List Message). IsServed kinds setup c s (switches s) (to_switch_of (m ∷ rest) s) l) (apart_from (actor.Switch s) (actor.Controller p) (λ f g. absurd cc)) (d.served s there))
+          subst (λ (l : List Message). IsAttended kinds setup c s (switches s) l (from_switch_of rest s)) here_at
+          (subst (λ (l : List Message). IsAttended kinds setup c s (switches s) (to_switch_of (m ∷ rest) s) l) (apart_from (actor.Switch s) (actor.Controller p) (λ f g. absurd cc)) (d.served s there))
 
-      pub drains_switch : s < length setup.ports → IsServed kinds setup c s turn.state (to_switch_of rest s) (from_switch_of rest s ++ told_to switch_message (actor.Controller p) turn.letters) →
+      pub drains_switch : s < length setup.ports → IsAttended kinds setup c s turn.state (to_switch_of rest s) (from_switch_of rest s ++ told_to switch_message (actor.Controller p) turn.letters) →
           ((l : Letter SwitchSays) → IsIn l turn.letters → (l.to ≡ actor.Controller p) ⊎ ((t : ℕ) × (l.to ≡ actor.Switch t))) → Drains c members switches' after_it
       drains_switch there kept only = record {
         primary = d.primary;
@@ -277,12 +282,12 @@ module _ (kinds : List ℕ) (setup : Setup) (w p : ℕ) (quorum : List ℕ) (sta
             subst (λ (l : List Message). KeepsUp start c.vr b (members b) l (from_member_of after_it b)) (sym (quiet_way (actor.Controller p) (actor.Controller b) refl (λ f g. absurd cc)))
             (subst (λ (l : List Message). KeepsUp start c.vr b (members b) (to_member_of (m ∷ rest) b) l) (sym (quiet_way (actor.Controller b) (actor.Controller p) refl (λ f g. absurd cc))) (d.keeps_up b chosen other));
         served = λ t there'. elim (cases_eq t s) [
-          | inl e ↦ subst (λ (k : ℕ). IsServed kinds setup c k (switches' k) (to_switch_of after_it k) (from_switch_of after_it k)) (sym e) own
+          | inl e ↦ subst (λ (k : ℕ). IsAttended kinds setup c k (switches' k) (to_switch_of after_it k) (from_switch_of after_it k)) (sym e) own
           | inr e ↦
-              subst (λ (l : List Message). IsServed kinds setup c t (switches' t) l (from_switch_of after_it t)) (sym (quiet_way (actor.Controller p) (actor.Switch t) refl (λ f g. e (let h : t ≡ s = cc in h))))
-              (subst (λ (l : List Message). IsServed kinds setup c t (switches' t) (to_switch_of (m ∷ rest) t) l)
+              subst (λ (l : List Message). IsAttended kinds setup c t (switches' t) l (from_switch_of after_it t)) (sym (quiet_way (actor.Controller p) (actor.Switch t) refl (λ f g. e (let h : t ≡ s = cc in h))))
+              (subst (λ (l : List Message). IsAttended kinds setup c t (switches' t) (to_switch_of (m ∷ rest) t) l)
               (sym (quiet_way (actor.Switch t) (actor.Controller p) (switches_apart s t (λ i. e (sym i))) (λ f g. absurd cc)))
-              (subst (λ (x : SwitchState). IsServed kinds setup c t x (to_switch_of (m ∷ rest) t) (from_switch_of (m ∷ rest) t)) (sym (put_other switches s turn.state t e)) (d.served t there')))
+              (subst (λ (x : SwitchState). IsAttended kinds setup c t x (to_switch_of (m ∷ rest) t) (from_switch_of (m ∷ rest) t)) (sym (put_other switches s turn.state t e)) (d.served t there')))
         ];
         ways = λ y among drawn. elim (in_append y rest (map (sent_by switch_message (actor.Switch s)) turn.letters) among) [
           | inl old ↦ d.ways y (inr old) drawn
@@ -290,11 +295,11 @@ module _ (kinds : List ℕ) (setup : Setup) (w p : ℕ) (quorum : List ℕ) (sta
         ];
       }
         where
-          own : IsServed kinds setup c s (switches' s) (to_switch_of after_it s) (from_switch_of after_it s)
+          own : IsAttended kinds setup c s (switches' s) (to_switch_of after_it s) (from_switch_of after_it s)
           own =
-              subst (λ (l : List Message). IsServed kinds setup c s (switches' s) l (from_switch_of after_it s)) (sym (posted_other switch_message (actor.Switch s) (actor.Controller p) (actor.Switch s) rest turn.letters refl))
-              (subst (λ (l : List Message). IsServed kinds setup c s (switches' s) (to_switch_of rest s) l) (sym (posted_own switch_message (actor.Switch s) (actor.Controller p) rest turn.letters))
-              (subst (λ (x : SwitchState). IsServed kinds setup c s x (to_switch_of rest s) (from_switch_of rest s ++ told_to switch_message (actor.Controller p) turn.letters)) (sym (put_own switches s turn.state)) kept))
+              subst (λ (l : List Message). IsAttended kinds setup c s (switches' s) l (from_switch_of after_it s)) (sym (posted_other switch_message (actor.Switch s) (actor.Controller p) (actor.Switch s) rest turn.letters refl))
+              (subst (λ (l : List Message). IsAttended kinds setup c s (switches' s) (to_switch_of rest s) l) (sym (posted_own switch_message (actor.Switch s) (actor.Controller p) rest turn.letters))
+              (subst (λ (x : SwitchState). IsAttended kinds setup c s x (to_switch_of rest s) (from_switch_of rest s ++ told_to switch_message (actor.Controller p) turn.letters)) (sym (put_own switches s turn.state)) kept))
 
           way_of_letter : (y : Sent) (l : Letter SwitchSays) → y ≡ sent_by switch_message (actor.Switch s) l → (l.to ≡ actor.Controller p) ⊎ ((t : ℕ) × (l.to ≡ actor.Switch t)) → is_drawn quorum y.from y.to ≡ true → IsWay p quorum y
           way_of_letter y l is (inl to_p) drawn = From_switch s (ap (λ (z : Sent). z.from) is) (ap (λ (z : Sent). z.to) is ∙ to_p)
@@ -308,7 +313,7 @@ module _ (kinds : List ℕ) (setup : Setup) (w p : ℕ) (quorum : List ℕ) (sta
 
     pub drains_primary : IsDraining c' →
         ((b : ℕ) → has quorum b ≡ true → (b ≡ p → ⊥) → KeepsUp start c'.vr b (members b) (to_member_of rest b ++ told_to controller_message (actor.Controller b) letters) (from_member_of rest b)) →
-        ((s : ℕ) → s < length setup.ports → IsServed kinds setup c' s (switches s) (to_switch_of rest s ++ told_to controller_message (actor.Switch s) letters) (from_switch_of rest s)) →
+        ((s : ℕ) → s < length setup.ports → IsAttended kinds setup c' s (switches s) (to_switch_of rest s ++ told_to controller_message (actor.Switch s) letters) (from_switch_of rest s)) →
         ((l : Letter ControllerSays) → IsIn l letters → ((b : ℕ) × (l.to ≡ actor.Controller b) × (b ≡ p → ⊥)) ⊎ ((t : ℕ) × (l.to ≡ actor.Switch t))) → Drains c' members switches after_turn
     drains_primary now keeps serves only = record {
       primary = now;
@@ -317,8 +322,8 @@ module _ (kinds : List ℕ) (setup : Setup) (w p : ℕ) (quorum : List ℕ) (sta
           (subst (λ (l : List Message). KeepsUp start c'.vr b (members b) (to_member_of rest b ++ told_to controller_message (actor.Controller b) letters) l)
           (sym (posted_other controller_message (actor.Controller p) (actor.Controller b) (actor.Controller p) rest letters (controllers_apart p b (λ e. other (sym e))))) (keeps b chosen other));
       served = λ s there.
-          subst (λ (l : List Message). IsServed kinds setup c' s (switches s) l (from_switch_of after_turn s)) (sym (posted_own controller_message (actor.Controller p) (actor.Switch s) rest letters))
-          (subst (λ (l : List Message). IsServed kinds setup c' s (switches s) (to_switch_of rest s ++ told_to controller_message (actor.Switch s) letters) l)
+          subst (λ (l : List Message). IsAttended kinds setup c' s (switches s) l (from_switch_of after_turn s)) (sym (posted_own controller_message (actor.Controller p) (actor.Switch s) rest letters))
+          (subst (λ (l : List Message). IsAttended kinds setup c' s (switches s) (to_switch_of rest s ++ told_to controller_message (actor.Switch s) letters) l)
           (sym (posted_other controller_message (actor.Controller p) (actor.Switch s) (actor.Controller p) rest letters refl)) (serves s there));
       ways = λ y among drawn. elim (in_append y rest (map (sent_by controller_message (actor.Controller p)) letters) among) [
         | inl old ↦ d.ways y (inr old) drawn

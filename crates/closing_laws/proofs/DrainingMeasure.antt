@@ -20,7 +20,7 @@ use Rattle.rv_runs.specs.Schedule.{is_drawn}
 use Rattle.rv_runs.specs.States.{controller_message, switch_message}
 use Rattle.closing_laws.specs.Measure.{commands_from, left_at, left_at_switches, left_to_do, left_to_process, message_worth, worth, worths}
 use Rattle.closing_laws.specs.Quorum.{has}
-use Rattle.closing_laws.specs.Serving.{IsServed, IsTrueOf}
+use Rattle.closing_laws.specs.Serving.{IsAttended, IsTrueOf}
 use Rattle.closing_laws.specs.Ways.{Sent, sent_by}
 use Rattle.closing_laws.proofs.Drained.{put, put_other, put_own}
 use Rattle.closing_laws.proofs.SwitchMeasure.{switch_lowers}
@@ -104,7 +104,7 @@ module _ (kinds : List ℕ) (setup : Setup) (quorum : List ℕ) (c : ControllerS
 
   -- a switch draws one
   pub switch_turn_lowers : (p s xid : ℕ) (said : Spoken) (out in_ : List Message) → c.vr.me ≡ p → has quorum p ≡ true → m.from ≡ actor.Controller p → m.to ≡ actor.Switch s → m.said ≡ message.Of xid said →
-      s < length setup.ports → c.vr.view < 2 ^ 32 → IsServed kinds setup c s (switches s) (message.Of xid said ∷ out) in_ → IsTrueOf kinds setup c s (switches s) →
+      s < length setup.ports → c.vr.view < 2 ^ 32 → IsAttended kinds setup c s (switches s) (message.Of xid said ∷ out) in_ → IsTrueOf kinds setup c s (switches s) →
       let turn = switch_turn (switches s) (switch_input.Of p xid said) in
       left_to_do kinds setup quorum c (put switches s turn.state) (rest ++ map (sent_by switch_message (actor.Switch s)) turn.letters) + 1 ≤ left_to_do kinds setup quorum c switches (m ∷ rest)
   switch_turn_lowers p s xid said out in_ own inside from to is there small served is_true =

@@ -34,16 +34,18 @@ use Rattle.closing_laws.specs.Ends.{HasRested}
 use Rattle.closing_laws.specs.Following.{Start}
 use Rattle.closing_laws.specs.Measure.{commands_from, left_to_do}
 use Rattle.closing_laws.specs.Quorum.{has}
-use Rattle.closing_laws.specs.Serving.{AreFew, IsSaidBy, Asks, Acknowledges, Commands, Clears, IsServed, IsTrueOf}
+use Rattle.closing_laws.specs.Serving.{AreFew, IsSaidBy, Asks, Acknowledges, Commands, Clears, IsAttended, IsTrueOf}
 use Rattle.closing_laws.specs.Starts.{IsDraining, SavesSucceed}
 use Rattle.closing_laws.specs.Ways.{Sent, sent_by, between, told_to}
 use Rattle.closing_laws.proofs.Between.{between_own}
 use Rattle.closing_laws.proofs.Closed as closed_by
 use Rattle.closing_laws.proofs.Drained as drained_by
-use Rattle.closing_laws.proofs.Drained.{put, put_own, heard_of}
-use Rattle.closing_laws.proofs.Emptying.{heard_at}
+use Rattle.closing_laws.proofs.Drained.{heard_at, heard_of, put, put_own}
 use Rattle.closing_laws.proofs.DrainingMeasure.{switch_turn_lowers}
 use Rattle.closing_laws.proofs.Emptying as emptying
+use Rattle.closing_laws.proofs.Rooms as rooms
+use Rattle.closing_laws.proofs.Standing as standing
+use Rattle.closing_laws.proofs.Standing.{HoldsThroughout}
 use Rattle.closing_laws.proofs.Facts.{begins, facts, logged, named}
 use Rattle.closing_laws.proofs.Numbers.{below_has, filter_has}
 use Rattle.closing_laws.proofs.Picked.{IsPicked}
@@ -55,7 +57,7 @@ use Rattle.closing_laws.proofs.PrimaryTurns.{leads_alike}
 use Rattle.closing_laws.proofs.PrimaryTurns as primary_by
 use Rattle.closing_laws.proofs.ProperTurns.{IsProper}
 use Rattle.closing_laws.proofs.SwitchKeeps.{switch_keeps, switch_says}
-use Rattle.closing_laws.proofs.Walking.{later}
+use Rattle.closing_laws.proofs.Posting.{later}
 
 module _ {B : Type 0} (scene : Scene B) (results : List (List SaveResult)) (setup : IsSetup scene.setup) (faithful : IsFaithful scene.sealing) (few : AreFew scene.kinds scene.setup) (w : ℕ) (quorum : List ℕ)
     (picked : IsPicked scene.setup.controllers w quorum) (before : List (JournalEntry B)) (succeed : SavesSucceed scene results before) (start : Start) where
@@ -75,7 +77,7 @@ module _ {B : Type 0} (scene : Scene B) (results : List (List SaveResult)) (setu
   Drains c members switches waiting = drained_by.Drains scene.kinds scene.setup w p quorum start c members switches waiting
 
   abbrev AreTrue : ControllerState → (ℕ → SwitchState) → Type 0
-  AreTrue c switches = emptying.AreTrue scene results setup faithful w quorum small before succeed start c switches
+  AreTrue c switches = rooms.AreTrue scene.kinds scene.setup c switches
 
   -- what such a turn leaves to do
   abbrev Less : ControllerState → (ℕ → SwitchState) → Sent → List Sent → Type 0
@@ -87,14 +89,14 @@ module _ {B : Type 0} (scene : Scene B) (results : List (List SaveResult)) (setu
   -- a turn of the primary
   by_primary : (c : ControllerState) (members : ℕ → VrState) (switches : ℕ → SwitchState) (m : Sent) (rest : List Sent) → Drains c members switches (m ∷ rest) → m.to ≡ actor.Controller p →
       ((b : ℕ) × (m.from ≡ actor.Controller b) × (has quorum b ≡ true) × (b ≡ p → ⊥)) ⊎ ((s : ℕ) × (m.from ≡ actor.Switch s) × (s < length scene.setup.ports)) →
-      ((s : ℕ) → s < length scene.setup.ports → IsTrueOf scene.kinds scene.setup c s (switches s)) → emptying.PrimaryTurn scene results setup faithful w quorum small before succeed start c members switches m rest
+      ((s : ℕ) → s < length scene.setup.ports → IsTrueOf scene.kinds scene.setup c s (switches s)) → standing.PrimaryTurn scene results w quorum start c members switches m rest
   by_primary c members switches m rest d to from true_of = by_from from
     where
       turn_of : IsProper scene.kinds scene.setup c (controller_work scene.kinds scene.setup c (heard_of m)) →
           (AreTrue c switches → AreTrue (controller_work scene.kinds scene.setup c (heard_of m)).state switches → (controller_work scene.kinds scene.setup c (heard_of m)).state.full ≡ None →
           Drains (controller_work scene.kinds scene.setup c (heard_of m)).state members switches
           (rest ++ map (sent_by controller_message (actor.Controller p)) (controller_work scene.kinds scene.setup c (heard_of m)).letters)) → (AreTrue c switches → AreTrue (controller_work scene.kinds scene.setup c (heard_of m)).state switches → Less c switches m rest) →
-          emptying.PrimaryTurn scene results setup faithful w quorum small before succeed start c members switches m rest
+          standing.PrimaryTurn scene results w quorum start c members switches m rest
       turn_of right keeps lowers = record {
         unsaved = right.unsaved;
         alike = record { leads = leads_alike c.vr _ right.place; view = right.place.view; promise = right.place.promise };
@@ -103,7 +105,7 @@ module _ {B : Type 0} (scene : Scene B) (results : List (List SaveResult)) (setu
       }
 
       by_from : ((b : ℕ) × (m.from ≡ actor.Controller b) × (has quorum b ≡ true) × (b ≡ p → ⊥)) ⊎ ((s : ℕ) × (m.from ≡ actor.Switch s) × (s < length scene.setup.ports)) →
-          emptying.PrimaryTurn scene results setup faithful w quorum small before succeed start c members switches m rest
+          standing.PrimaryTurn scene results w quorum start c members switches m rest
       by_from (inl (b, is, chosen, other)) =
           let h = primary_by.hears_member scene.kinds scene.setup few w p quorum start picked picked.primary refl small c members switches m rest d to true_of b is chosen other in
           turn_of h.0 (λ old now full. h.1 old.primary now.primary now.each full)
@@ -157,15 +159,15 @@ module _ {B : Type 0} (scene : Scene B) (results : List (List SaveResult)) (setu
       now_by : IsTrueOf scene.kinds scene.setup c s (switch_turn (switches s) (switch_input.Of c.vr.me said.0 said.1)).state
       now_by = subst (λ (x : SwitchTurn). IsTrueOf scene.kinds scene.setup c s x.state) (sym turn_by) now_true
 
-      served : IsServed scene.kinds scene.setup c s (switches s) (message.Of said.0 said.1 ∷ between (actor.Controller p) (actor.Switch s) rest) (between (actor.Switch s) (actor.Controller p) rest)
+      served : IsAttended scene.kinds scene.setup c s (switches s) (message.Of said.0 said.1 ∷ between (actor.Controller p) (actor.Switch s) rest) (between (actor.Switch s) (actor.Controller p) rest)
       served = drained_by.served_before scene.kinds scene.setup w p quorum start picked.primary c members switches m rest d s said.0 said.1 from to said.2 there
 
-      kept : IsServed scene.kinds scene.setup c s turn.state (between (actor.Controller p) (actor.Switch s) rest)
+      kept : IsAttended scene.kinds scene.setup c s turn.state (between (actor.Controller p) (actor.Switch s) rest)
           (between (actor.Switch s) (actor.Controller p) rest ++ told_to switch_message (actor.Controller p) turn.letters)
       kept =
-          subst (λ (k : ℕ). IsServed scene.kinds scene.setup c s turn.state (between (actor.Controller p) (actor.Switch s) rest)
+          subst (λ (k : ℕ). IsAttended scene.kinds scene.setup c s turn.state (between (actor.Controller p) (actor.Switch s) rest)
           (between (actor.Switch s) (actor.Controller p) rest ++ told_to switch_message (actor.Controller k) turn.letters)) me
-          (subst (λ (x : SwitchTurn). IsServed scene.kinds scene.setup c s x.state (between (actor.Controller p) (actor.Switch s) rest)
+          (subst (λ (x : SwitchTurn). IsAttended scene.kinds scene.setup c s x.state (between (actor.Controller p) (actor.Switch s) rest)
           (between (actor.Switch s) (actor.Controller p) rest ++ told_to switch_message (actor.Controller c.vr.me) x.letters)) turn_by
           (switch_keeps scene.kinds scene.setup c s (switches s) said.0 said.1 _ _ old.primary.view served (old.each s there) now_by))
 
@@ -176,7 +178,7 @@ module _ {B : Type 0} (scene : Scene B) (results : List (List SaveResult)) (setu
           (subst (λ (x : SwitchTurn). IsIn l x.letters) (sym turn_by) among))
 
   -- what is true in each past in which the quorum follows
-  pub truths : (P : Past) → IsPossible scene results P → emptying.HavePromised scene results setup faithful w quorum small before succeed start P →
+  pub truths : (P : Past) → IsPossible scene results P → standing.HavePromised scene results w quorum start P →
       AreTrue (controller_state scene results p P) (λ s. switch_state scene s P)
   truths P possible h =
       let f = facts scene results setup faithful P possible p (small p picked.primary) h.leads quorum
@@ -185,20 +187,20 @@ module _ {B : Type 0} (scene : Scene B) (results : List (List SaveResult)) (setu
       record { primary = f.0; each = f.1 }
 
   -- its primary's log begins with what is decided, and it knows no more as committed
-  pub led_by : (P : Past) → IsPossible scene results P → emptying.HavePromised scene results setup faithful w quorum small before succeed start P →
+  pub led_by : (P : Past) → IsPossible scene results P → standing.HavePromised scene results w quorum start P →
       IsPrefix (decided scene results P) (controller_state scene results p P).vr.log × ((controller_state scene results p P).vr.commit ≤ length (decided scene results P))
   led_by P possible h =
       begins scene results setup faithful P possible p (small p picked.primary) h.leads quorum (subst (λ (v : ℕ). IsPicked n v quorum) (sym h.view) picked)
       (λ b chosen. subst (λ (v : ℕ). (controller_state scene results b P).vr.promise ≤ v) (sym h.view) (h.promises b chosen))
 
   -- and of each event there the switch is one of the setup, and its life no later than the present one
-  pub logged_by : (P : Past) → IsPossible scene results P → emptying.HavePromised scene results setup faithful w quorum small before succeed start P →
+  pub logged_by : (P : Past) → IsPossible scene results P → standing.HavePromised scene results w quorum start P →
       (e : Event) → IsIn e (received (controller_state scene results p P).vr.log) → (e.switch < length scene.setup.ports) × (e.life ≤ life_of (switch_state scene e.switch P))
   logged_by P possible h =
       logged scene results setup faithful P possible p (small p picked.primary) h.leads quorum (subst (λ (v : ℕ). IsPicked n v quorum) (sym h.view) picked)
       (λ b chosen. subst (λ (v : ℕ). (controller_state scene results b P).vr.promise ≤ v) (sym h.view) (h.promises b chosen))
 
-  switches_logged : (P : Past) → IsPossible scene results P → emptying.HavePromised scene results setup faithful w quorum small before succeed start P →
+  switches_logged : (P : Past) → IsPossible scene results P → standing.HavePromised scene results w quorum start P →
       (e : Event) → IsIn e (received (controller_state scene results p P).vr.log) → e.switch < length scene.setup.ports
   switches_logged P possible h e among = (logged_by P possible h e among).0
 
@@ -210,22 +212,32 @@ module _ {B : Type 0} (scene : Scene B) (results : List (List SaveResult)) (setu
       ((e : Event) → IsIn e (received c.vr.log) → e.switch < length scene.setup.ports) → IsRoomy scene.kinds scene.setup w p quorum start c members switches waiting → length waiting ≤ pool_packets
   has_room = roomy_by.has_room scene.kinds scene.setup few w p quorum start picked picked.primary refl small setup
 
-  -- no more turns come than what is left to do, and those for the commands of what is newly committed
-  pub counts : (entries P : Past) (last : Phase) → IsWithinLimits scene.sealing.size (later P entries) → (phase : Phase) → IsDraining w quorum phase → (mode : emptying.Mode scene results setup faithful w quorum small before succeed start P) →
+  pub holds : HoldsThroughout scene results w quorum start
+  holds = record {
+    inside = picked.primary;
+    small = small p picked.primary;
+    by_primary = by_primary;
+    by_switch = by_switch;
+    truths = truths;
+    named = named scene results setup faithful;
+    logged = switches_logged;
+    keeps_room = keeps_room;
+    has_room = has_room;
+  }
+
+  -- what comes of the rest of a closing
+  pub goes : (entries P : Past) (last : Phase) → IsWithinLimits scene.sealing.size (later P entries) → (phase : Phase) → IsDraining w quorum phase → (mode : standing.Mode scene results w quorum start P) →
       ClosesTo scene results phase P entries last → IsPossible scene results (later P entries) →
-      (count_turns entries + 3 * commands_from scene.kinds scene.setup (controller_state scene results p P) (place_of start) ≤
-      emptying.left_in scene results setup faithful w quorum small before succeed start P mode + 3 * commands_from scene.kinds scene.setup (controller_state scene results p (later P entries)) (place_of start))
-      × emptying.HavePromised scene results setup faithful w quorum small before succeed start (later P entries)
-  counts entries P last room phase draining mode closes possible =
-      emptying.counts scene results setup faithful w quorum small before succeed start picked.primary by_primary by_switch truths (named scene results setup faithful) switches_logged keeps_room has_room entries P last room phase draining mode closes possible
+      emptying.Goes scene results setup faithful w quorum start holds entries P last (standing.left_in scene results w quorum start P mode)
+  goes = emptying.goes scene results setup faithful w quorum start holds
 
   -- none comes where a limit was met
   pub no_turn : (limit : LogFull) (P entries : Past) (last : Phase) → ClosesTo scene results (Met limit) P entries last → count_turns entries ≡ 0
   no_turn limit P entries last closes =
-      (emptying.no_turn scene results setup faithful w quorum small before succeed start picked.primary by_primary by_switch truths (named scene results setup faithful) switches_logged keeps_room has_room limit P entries last closes).0
+      (emptying.no_turn scene results setup faithful w quorum start holds limit P entries last closes).0
 
   -- its end
-  pub ends : (entries P : Past) (last : Phase) (primary : ℕ) → IsWithinLimits scene.sealing.size (later P entries) → (phase : Phase) → IsDraining w quorum phase → emptying.Mode scene results setup faithful w quorum small before succeed start P →
+  pub ends : (entries P : Past) (last : Phase) (primary : ℕ) → IsWithinLimits scene.sealing.size (later P entries) → (phase : Phase) → IsDraining w quorum phase → standing.Mode scene results w quorum start P →
       ClosesTo scene results phase P entries last → IsPossible scene results (later P entries) → IsPosted scene results (later P entries) → IsEnd (next_move scene results last (later P entries)) (Done primary) →
       HasRested scene results primary (later P entries)
   ends entries P last primary room phase draining mode closes possible posted end =
@@ -236,15 +248,15 @@ module _ {B : Type 0} (scene : Scene B) (results : List (List SaveResult)) (setu
       Q : Past
       Q = later P entries
 
-      done : emptying.Ended scene results setup faithful w quorum small before succeed start picked.primary by_primary by_switch truths (named scene results setup faithful) switches_logged keeps_room has_room primary Q
+      done : emptying.Ended scene results setup faithful w quorum start holds primary Q
       done =
-          emptying.goes scene results setup faithful w quorum small before succeed start picked.primary by_primary by_switch truths (named scene results setup faithful) switches_logged keeps_room has_room entries P last primary room phase draining mode closes possible posted end
+          (goes entries P last room phase draining mode closes possible).ends primary posted end
 
-      promised : emptying.HavePromised scene results setup faithful w quorum small before succeed start Q
-      promised = emptying.promised scene results setup faithful w quorum small before succeed start picked.primary by_primary by_switch truths (named scene results setup faithful) switches_logged keeps_room has_room Q [] done.stands
+      promised : standing.HavePromised scene results w quorum start Q
+      promised = standing.promised scene results w quorum start Q [] done.stands
 
       true_now : AreTrue (controller_state scene results p Q) done.stands.switches
-      true_now = emptying.true_of scene results setup faithful w quorum small before succeed start picked.primary by_primary by_switch truths (named scene results setup faithful) switches_logged keeps_room has_room Q [] done.stands (truths Q possible promised)
+      true_now = standing.true_of scene results w quorum start Q [] done.stands (truths Q possible promised)
 
       led : IsPrefix (decided scene results Q) (controller_state scene results p Q).vr.log × ((controller_state scene results p Q).vr.commit ≤ length (decided scene results Q))
       led = led_by Q possible promised
@@ -252,4 +264,4 @@ module _ {B : Type 0} (scene : Scene B) (results : List (List SaveResult)) (setu
   -- and where the limit was met it is never done
   pub never_done : (limit : LogFull) (P : Past) (entries : Past) (last : Phase) (primary : ℕ) → ClosesTo scene results (Met limit) P entries last → IsEnd (next_move scene results last (later P entries)) (Done primary) → ⊥
   never_done limit P entries last primary closes end =
-      emptying.never_done scene results setup faithful w quorum small before succeed start picked.primary by_primary by_switch truths (named scene results setup faithful) switches_logged keeps_room has_room limit P entries last primary closes end
+      emptying.never_done scene results setup faithful w quorum start holds limit P entries last primary closes end

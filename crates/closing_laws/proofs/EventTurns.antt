@@ -28,7 +28,7 @@ use Rattle.group_controller.specs.State.{ControllerState, Work, committed, posti
 use Rattle.group_controller.specs.Rules.{controller_work, on_wish}
 use Rattle.group_controller.specs.Settling.{ack_letter, after_finishing, after_proposal, is_alone, is_settled, proposing}
 use Rattle.rv_runs.specs.declared.messages.Message.{Message}
-use Rattle.closing_laws.specs.Serving.{AreFew, IsServed, IsSettled, IsTrueOf, IsTruePrimary, acknowledges_events, events_said, logged_of, processed_by}
+use Rattle.closing_laws.specs.Serving.{AreFew, IsAttended, IsSettled, IsTrueOf, IsTruePrimary, acknowledges_events, events_said, logged_of, processed_by}
 use Rattle.closing_laws.proofs.Coming.{may_come, may_not}
 use Rattle.closing_laws.proofs.Extending.{extends_none}
 use Rattle.closing_laws.proofs.Finishing.{AreBoundedTo, Finished, Grows, finishing_grows, grows_committed, limit_told, proposal_grows, proposal_is}
@@ -58,8 +58,8 @@ module _ (kinds : List ℕ) (setup : Setup) (few : AreFew kinds setup) (sw : ℕ
   abbrev c1 : ControllerState
   c1 = with_no_met_limit c
 
-  was : IsServed kinds setup c s (sw s) (out s) (tells_event xid (life_of (sw s)) number what ∷ in' s)
-  was = subst (λ (z : List Message). IsServed kinds setup c s (sw s) (out s) z) own (served s there)
+  was : IsAttended kinds setup c s (sw s) (out s) (tells_event xid (life_of (sw s)) number what ∷ in' s)
+  was = subst (λ (z : List Message). IsAttended kinds setup c s (sw s) (out s) z) own (served s there)
 
   sound : IsSound c1
   sound = let a = sound_of c p whole in record { one = a.one; commit = a.commit; ahead = a.ahead; unfinished = a.unfinished; whole = a.whole; me = a.me }
@@ -70,16 +70,16 @@ module _ (kinds : List ℕ) (setup : Setup) (few : AreFew kinds setup) (sw : ℕ
   -- a state with this log and as much committed serves the others, where they are told answers
   other_served : (log : List Entry) (letters : List Message) (t : ℕ) → t < length setup.ports → (t ≡ s → ⊥) → take c.vr.commit log ≡ committed c →
       count_in t (life_of (sw t)) (received log) ≡ count_in t (life_of (sw t)) (received c.vr.log) → AreQuiet c.vr.view letters →
-      IsServed kinds setup (with_log c log) t (sw t) (out t ++ letters) (in' t)
+      IsAttended kinds setup (with_log c log) t (sw t) (out t ++ letters) (in' t)
   other_served log letters t less other same count quiet =
-      subst (λ (z : List Message). IsServed kinds setup (with_log c log) t (sw t) (out t ++ letters) z) (sym (others t other))
+      subst (λ (z : List Message). IsAttended kinds setup (with_log c log) t (sw t) (out t ++ letters) z) (sym (others t other))
       (answered kinds setup c (with_log c log) t (sw t) (record { view = refl; me = refl; confirmed = refl; marks = λ i. refl; logged = count }) (out t) (in_ t) letters (served t less)
       (inl (processed_same kinds setup c (with_log c log) same refl t (sw t))) (let k = settled_same kinds setup c (with_log c log) same refl t (sw t) in omega (arith, k)) quiet (told_same kinds setup c (with_log c log) same refl t (sw t)))
 
-  each_by : (now : ControllerState) (letters : ℕ → List Message) → IsServed kinds setup now s (sw s) (out s ++ letters s) (in' s) →
-      ((t : ℕ) → t < length setup.ports → (t ≡ s → ⊥) → IsServed kinds setup now t (sw t) (out t ++ letters t) (in' t)) → AreServed kinds setup sw in' now (λ t. out t ++ letters t)
+  each_by : (now : ControllerState) (letters : ℕ → List Message) → IsAttended kinds setup now s (sw s) (out s ++ letters s) (in' s) →
+      ((t : ℕ) → t < length setup.ports → (t ≡ s → ⊥) → IsAttended kinds setup now t (sw t) (out t ++ letters t) (in' t)) → AreServed kinds setup sw in' now (λ t. out t ++ letters t)
   each_by now letters own_one rest t less = elim (cases_eq t s) [
-    | inl same ↦ subst (λ (k : ℕ). IsServed kinds setup now k (sw k) (out k ++ letters k) (in' k)) (sym same) own_one
+    | inl same ↦ subst (λ (k : ℕ). IsAttended kinds setup now k (sw k) (out k ++ letters k) (in' k)) (sym same) own_one
     | inr other ↦ rest t less other
   ]
 
@@ -89,7 +89,7 @@ module _ (kinds : List ℕ) (setup : Setup) (few : AreFew kinds setup) (sw : ℕ
   -- the event joins the log
   logged_served : logged_of c s (sw s) ≤ number → AreServed kinds setup sw in' (pushed c1 (Received e) c.vr.commit) out
   logged_served late t less =
-      subst (λ (z : List Message). IsServed kinds setup (pushed c1 (Received e) c.vr.commit) t (sw t) z (in' t)) (append-nil (out t))
+      subst (λ (z : List Message). IsAttended kinds setup (pushed c1 (Received e) c.vr.commit) t (sw t) z (in' t)) (append-nil (out t))
       (each_by (pushed c1 (Received e) c.vr.commit) (λ k. [])
       (event_taken kinds setup c s (sw s) xid number what (out s) (in' s) was (c.vr.log ++ Received e ∷ []) [] same_log (quiet_nil c.vr.view)
       (told_logged kinds setup c s (sw s) xid number what (out s) (in' s) was (true_of s there) late same_log))
@@ -185,7 +185,7 @@ module _ (kinds : List ℕ) (setup : Setup) (few : AreFew kinds setup) (sw : ℕ
             HasTurned kinds setup sw in' c out c.marks (on_wish kinds setup c1 e (if b then Acknowledge (processed_by c s (sw s)) else Nothing))
         by_place true less = rests (posting (resting c1) (ack_letter through ∷ [])) refl refl (λ b. refl)
             (each_by c1 (λ t. told t (ack_letter through ∷ []))
-            (subst (λ (z : List Message). IsServed kinds setup c1 s (sw s) (out s ++ z) (in' s)) (sym own_told)
+            (subst (λ (z : List Message). IsAttended kinds setup c1 s (sw s) (out s ++ z) (in' s)) (sym own_told)
             (event_taken kinds setup c s (sw s) xid number what (out s) (in' s) was c.vr.log (acknowledges_events (life_of (sw s)) (processed_by c s (sw s)) ∷ []) refl
             (subst (λ (z : List Message). AreQuiet c.vr.view z) own_told (quiet_acks c.vr.view s (through ∷ []))) (told_again kinds setup c s (sw s) xid number what (out s) (in' s) was before)))
             (λ t below other. other_served c.vr.log (told t (ack_letter through ∷ [])) t below other refl refl (quiet_acks c.vr.view t (through ∷ []))))

@@ -19,7 +19,7 @@ use Rattle.controller_laws.proofs.Logs.{processed_prefix, received_prefix}
 use Rattle.group_controller.specs.State.{ControllerState, Work, committed, leaving, met_limit}
 use Rattle.group_controller.specs.Settling.{after_proposal, finishing, is_alone, is_settled, processing, with_answers, with_commands}
 use Rattle.rv_runs.specs.declared.messages.Message.{Message}
-use Rattle.closing_laws.specs.Serving.{AreFew, IsServed}
+use Rattle.closing_laws.specs.Serving.{AreFew, IsAttended}
 use Rattle.closing_laws.proofs.Committing.{CommitsMore, more_committed}
 use Rattle.closing_laws.proofs.Growth.{log_prefix, log_pushed}
 use Rattle.closing_laws.proofs.Proposing.{Progress, Standing, commands_vr, committed_same, progress_none, progress_then, proposal_step, proposed_as, pushed, pushed_all}
@@ -152,7 +152,7 @@ module _ (kinds : List ℕ) (setup : Setup) (sw : ℕ → SwitchState) (in_ : �
 
     proposed_served : (out : ℕ → List Message) → AreBounded kinds setup sw in_ (committed work.state) → AreServed kinds setup sw in_ work.state out → AreServed kinds setup sw in_ (pushed work.state entry work.state.vr.commit) out
     proposed_served out bounds served t less =
-        subst (λ (z : List Message). IsServed kinds setup (pushed work.state entry work.state.vr.commit) t (sw t) z (in_ t)) (append-nil (out t))
+        subst (λ (z : List Message). IsAttended kinds setup (pushed work.state entry work.state.vr.commit) t (sw t) z (in_ t)) (append-nil (out t))
         (more_committed kinds setup work.state (pushed work.state entry work.state.vr.commit) still t (sw t) s.told_all s.last
         (subst (λ (K : List Entry). life_in t (received K) ≤ life_of (sw t)) (sym (committed_same work.state entry s.commit)) (bounds t less).young) (out t) (in_ t) (served t less))
 

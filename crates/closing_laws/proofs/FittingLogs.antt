@@ -1,33 +1,21 @@
 -- A log whose events are those that switches have made, each once, has room for what comes next, where these events fit a log.
 use Rattle.std.proofs.Common.{◌≡◌, ◌≤◌, ◌<◌, ◌⊎◌, inl, inr, ℕ, ◌+◌, ◌*◌, Bool, true, false, not, ◌&&◌, List, [], ◌∷◌, ◌++◌, length, refl, sym, ◌∙◌, ap, subst, arith, append-nil, append_assoc}
-use Rattle.std.specs.Prelude.{nat_eq, nat_le, nat_lt, flat_map, sum_by, if◌then◌else◌}
+use Rattle.std.specs.Prelude.{nat_le, nat_lt, flat_map, sum_by, if◌then◌else◌}
 use Rattle.std.specs.List.{range_with_len}
-use Rattle.std.proofs.lemmas.Bool.{and_parts, cases_lt, cond_both, eqb-true, le-leb, le-ltb, lt-ltb, ltb-true}
+use Rattle.std.proofs.lemmas.Bool.{and_parts, cases_lt, cond_both, le-leb, le-ltb, lt-ltb}
 use Rattle.std.proofs.lemmas.List.Sums.{sum_by-append, sum_by-cons, sum_by-le-sum_by}
 use Rattle.of_types.specs.declared.message.Event.{Event}
-use Rattle.of_types.specs.Lives.{count_in, is_switch_up, life_in}
+use Rattle.of_types.specs.Lives.{count_in}
 use Rattle.of_types.proofs.Counts.{NoneAfter, count_here, count_in-append, none_after-append}
 use Rattle.lists.specs.Lists.{IsIn}
 use Rattle.vr_log.specs.declared.entry.Entry.{Entry}
 use Rattle.vr_log.specs.declared.entry.Entry.TheVariants.{Received, Processed}
 use Rattle.vr_log.specs.Log.{entry_size, fits, follows, is_log, is_past_limits, is_processed, log_bytes, log_entries, log_size, may_be_received, processed, received}
-use Rattle.vr_log.proofs.Logs.{length_is, no_earlier, none_after, received-append}
+use Rattle.vr_log.proofs.Logs.{length_is, no_earlier, none_after, number_is, received-append}
 use Rattle.closing_laws.specs.Stops.{FitALog, bytes_logged}
 use Rattle.closing_laws.proofs.Growth.{processed_within}
 use Rattle.closing_laws.proofs.Numbering.{in_range}
 use Rattle.closing_laws.proofs.Sums.{sum_lower}
-
--- an event that may be received has the next number of its life
-number_is : (e : Event) (events : List Event) → NoneAfter events → may_be_received e events ≡ true → e.number ≡ count_in e.switch e.life events
-number_is e events none h = chosen (nat_eq e.life (life_in e.switch events)) refl h
-  where
-    chosen : (b : Bool) → nat_eq e.life (life_in e.switch events) ≡ b →
-        (if b then nat_eq e.number (count_in e.switch (life_in e.switch events) events) else nat_lt (life_in e.switch events) e.life && nat_eq e.number 0 && is_switch_up e.what) ≡ true → e.number ≡ count_in e.switch e.life events
-    chosen true is k = eqb-true _ _ k ∙ ap (λ (life : ℕ). count_in e.switch life events) (sym (eqb-true e.life (life_in e.switch events) is))
-    chosen false is k =
-        let p = and_parts (nat_lt (life_in e.switch events) e.life && nat_eq e.number 0) (is_switch_up e.what) k in
-        let q = and_parts (nat_lt (life_in e.switch events) e.life) (nat_eq e.number 0) p.0 in
-        eqb-true _ _ q.1 ∙ sym (none e.switch e.life (ltb-true _ _ q.0))
 
 module _ (f : Event → ℕ) (made : ℕ → List Event) (k : ℕ) where
   -- what stands for an event that is not logged, by its number

@@ -21,9 +21,9 @@ use Rattle.group_controller.specs.State.{to_members}
 use Rattle.rv_runs.specs.declared.messages.Message.{Message}
 use Rattle.rv_runs.specs.declared.messages.Message.TheVariants as message
 use Rattle.rv_runs.specs.States.{controller_message}
-use Rattle.closing_laws.specs.Views.{IsMember, in_started, in_view}
+use Rattle.closing_laws.specs.Views.{IsReadyMember, in_started, in_view}
 use Rattle.closing_laws.specs.Ways.{told_to}
-use Rattle.closing_laws.specs.Following.{ArePrepares, AreAcknowledged, Start, Waits, Follows, KeepsUp, Leads}
+use Rattle.closing_laws.specs.Following.{ArePrepares, AreAcknowledged, Start, Waits, IsFollowing, KeepsUp, Leads}
 use Rattle.closing_laws.proofs.Adopted.{log_adopted}
 
 -- what members are told of entries
@@ -101,7 +101,7 @@ module _ (start : Start) (p : VrState) (lead : Leads start p) where
     keeps_up_longer (inl h) = inl record {
       had = h.had;
       voters = h.voters;
-      is_member = subst (λ (n : ℕ). IsMember n p'.view b h.had) (sym size) (subst (λ (v : ℕ). IsMember p.controllers v b h.had) (sym view) h.is_member);
+      is_member = subst (λ (n : ℕ). IsReadyMember n p'.view b h.had) (sym size) (subst (λ (v : ℕ). IsReadyMember p.controllers v b h.had) (sym view) h.is_member);
       state_is = h.state_is ∙ ap (λ (v : ℕ). in_view h.had v h.voters true [] None) (sym view);
       base = h.base;
       commit = h.commit;
@@ -138,7 +138,7 @@ pub record Hears (start : Start) (p : VrState) (b : ℕ) (s : VrState) (m : VrMe
   pub answers : List VrLetter
   pub letters : (vr_step s (vr_input.From p.me m)).letters ≡ answers
   pub only : answers ≡ [] ⊎ ((said : VrMessage) × (answers ≡ letter said p.me ∷ []))
-  pub follows : Follows start p b (vr_step s (vr_input.From p.me m)).state out (in_ ++ told_to controller_message (actor.Controller p.me) (to_members answers))
+  pub follows : IsFollowing start p b (vr_step s (vr_input.From p.me m)).state out (in_ ++ told_to controller_message (actor.Controller p.me) (to_members answers))
 
 -- what a member says as it takes the log of a view
 module _ (start : Start) (p : VrState) (lead : Leads start p) (leader : p.me ≡ p.view % p.controllers) (small : p.me < p.controllers) (b : ℕ) (apart : b ≡ p.me → ⊥) where
@@ -193,7 +193,7 @@ module _ (start : Start) (p : VrState) (lead : Leads start p) (leader : p.me ≡
       answers = answer;
       letters = ap (λ (x : VrStep). x.letters) turn;
       only = only_as (nat_lt start.known (length start.log));
-      follows = subst (λ (x : VrState). Follows start p b x out (in_ ++ told_to controller_message (actor.Controller p.me) (to_members answer))) (sym (ap (λ (x : VrStep). x.state) turn)) record {
+      follows = subst (λ (x : VrState). IsFollowing start p b x out (in_ ++ told_to controller_message (actor.Controller p.me) (to_members answer))) (sym (ap (λ (x : VrStep). x.state) turn)) record {
         me = h.is_member.me;
         size = h.is_member.size;
         normal = refl;
@@ -211,7 +211,7 @@ module _ (start : Start) (p : VrState) (lead : Leads start p) (leader : p.me ≡
     }
 
   -- the next entry
-  module _ (s : VrState) (m : VrMessage) (out in_ : List Message) (h : Follows start p b s (message.Vr m ∷ out) in_) where
+  module _ (s : VrState) (m : VrMessage) (out in_ : List Message) (h : IsFollowing start p b s (message.Vr m ∷ out) in_) where
     pub record NextEntry : Type 0 where
       pub entry : Entry
       pub rest : List Entry
@@ -279,7 +279,7 @@ module _ (start : Start) (p : VrState) (lead : Leads start p) (leader : p.me ≡
       answers = ok ∷ [];
       letters = ap (λ (x : VrStep). x.letters) prepares_turn ∙ letters_are;
       only = inr (vr.PrepareOk p.view (length s.log + 1), refl);
-      follows = subst (λ (x : VrState). Follows start p b x out (in_ ++ told_to controller_message (actor.Controller p.me) (to_members (ok ∷ [])))) (sym (ap (λ (x : VrStep). x.state) prepares_turn)) record {
+      follows = subst (λ (x : VrState). IsFollowing start p b x out (in_ ++ told_to controller_message (actor.Controller p.me) (to_members (ok ∷ [])))) (sym (ap (λ (x : VrStep). x.state) prepares_turn)) record {
         me = h.me;
         size = h.size;
         normal = h.normal;

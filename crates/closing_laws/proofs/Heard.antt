@@ -27,7 +27,7 @@ use Rattle.group_controller.specs.State.{ControllerState, committed}
 use Rattle.group_controller.specs.Settling.{is_some_of}
 use Rattle.rv_runs.specs.declared.messages.Message.{Message}
 use Rattle.rv_runs.specs.declared.messages.Message.TheVariants as message
-use Rattle.closing_laws.specs.Serving.{AreCommanded, AreTold, IsAsked, IsSaidBy, IsServed, IsTrueOf, acknowledges_events, commands_said, events_said, is_reply, is_request, logged_of, processed_by, sent_of, settled_by, told_by}
+use Rattle.closing_laws.specs.Serving.{AreCommanded, AreEventsTold, IsMastered, IsSaidBy, IsAttended, IsTrueOf, acknowledges_events, commands_said, events_said, is_reply, is_request, logged_of, processed_by, sent_of, settled_by, told_by}
 use Rattle.closing_laws.proofs.Coming.{coming_next}
 use Rattle.closing_laws.proofs.Telling.{AreQuiet, commands_said-append}
 
@@ -55,19 +55,19 @@ abbrev pub with_log : ControllerState → List Entry → ControllerState
 with_log c log = record c { vr = record c.vr { log = log }; full = None }
 
 module _ (kinds : List ℕ) (setup : Setup) (c : ControllerState) (s : ℕ) (sw : SwitchState) (xid number : ℕ) (what : Happening) (out rest : List Message)
-    (was : IsServed kinds setup c s sw out (tells_event xid (life_of sw) number what ∷ rest)) where
+    (was : IsAttended kinds setup c s sw out (tells_event xid (life_of sw) number what ∷ rest)) where
   abbrev pub e : Event
   e = event_of s (life_of sw) number what
 
-  pub asked : IsAsked c s sw out (tells_event xid (life_of sw) number what ∷ rest) × AreTold c s sw out (tells_event xid (life_of sw) number what ∷ rest)
+  pub asked : IsMastered c s sw out (tells_event xid (life_of sw) number what ∷ rest) × AreEventsTold c s sw out (tells_event xid (life_of sw) number what ∷ rest)
   asked = elim was.role [ inl u ↦ absurd (some u.silent) | inr a ↦ a ]
     where
       some : (tells_event xid (life_of sw) number what ∷ rest) ≡ [] → ⊥
       some x = absurd cc
 
   -- the message is taken, and the switch is told answers
-  pub event_taken : (log : List Entry) (letters : List Message) → take c.vr.commit log ≡ committed c → AreQuiet c.vr.view letters → AreTold (with_log c log) s sw (out ++ letters) rest →
-      IsServed kinds setup (with_log c log) s sw (out ++ letters) rest
+  pub event_taken : (log : List Entry) (letters : List Message) → take c.vr.commit log ≡ committed c → AreQuiet c.vr.view letters → AreEventsTold (with_log c log) s sw (out ++ letters) rest →
+      IsAttended kinds setup (with_log c log) s sw (out ++ letters) rest
   event_taken log letters same quiet tells = record {
     said = all_append (λ m. IsSaidBy c.vr.view m) out letters was.said quiet.said;
     heard = was.heard.1;
@@ -112,7 +112,7 @@ module _ (kinds : List ℕ) (setup : Setup) (c : ControllerState) (s : ℕ) (sw 
     logged_now : logged_of (with_log c (c.vr.log ++ Received e ∷ [])) s sw ≡ logged_of c s sw + 1
     logged_now = ap (count_in s (life_of sw)) (received-append c.vr.log (Received e ∷ [])) ∙ count_here (received c.vr.log) e
 
-    pub told_logged : take c.vr.commit (c.vr.log ++ Received e ∷ []) ≡ committed c → AreTold (with_log c (c.vr.log ++ Received e ∷ [])) s sw (out ++ []) rest
+    pub told_logged : take c.vr.commit (c.vr.log ++ Received e ∷ []) ≡ committed c → AreEventsTold (with_log c (c.vr.log ++ Received e ∷ [])) s sw (out ++ []) rest
     told_logged same = record {
       coming = subst (λ (n : ℕ). filter (λ x. nat_le n x.number) (events_said s rest) ≡ take (sent_of sw - n) (drop n (events_in sw (life_of sw)))) (sym logged_now)
           (coming_next kinds setup c s sw true_of e (events_said s rest) asked.1.coming late);
@@ -143,14 +143,14 @@ module _ (kinds : List ℕ) (setup : Setup) (c : ControllerState) (s : ℕ) (sw 
         let past : nat_le (logged_of c s sw) number ≡ false = lt-leb (logged_of c s sw) number before in
         sym (ap (λ (b : Bool). if b then e ∷ filter (λ x. nat_le (logged_of c s sw) x.number) (events_said s rest) else filter (λ x. nat_le (logged_of c s sw) x.number) (events_said s rest)) past) ∙ asked.1.coming
 
-    pub told_again : AreTold (with_log c c.vr.log) s sw (out ++ acknowledges_events (life_of sw) (processed_by c s sw) ∷ []) rest
+    pub told_again : AreEventsTold (with_log c c.vr.log) s sw (out ++ acknowledges_events (life_of sw) (processed_by c s sw) ∷ []) rest
     told_again = record {
       coming = still_coming;
       stands = λ x h. asked.1.stands x (inr h);
       acknowledged = λ less. inl (in_right (acknowledges_events (life_of sw) (processed_by c s sw)) out (acknowledges_events (life_of sw) (processed_by c s sw) ∷ []) (inl refl));
     }
 
-    pub told_nothing : processed_by c s sw ≤ number → AreTold (with_log c c.vr.log) s sw (out ++ []) rest
+    pub told_nothing : processed_by c s sw ≤ number → AreEventsTold (with_log c c.vr.log) s sw (out ++ []) rest
     told_nothing high = record {
       coming = still_coming;
       stands = λ x h. asked.1.stands x (inr h);

@@ -13,7 +13,7 @@ use Rattle.dispatcher.specs.Marks.{has_result, is_confirmed}
 use Rattle.of_switch.specs.State.{SwitchState, events_in, life_of}
 use Rattle.group_controller.specs.State.{ControllerState}
 use Rattle.rv_runs.specs.declared.messages.Message.{Message}
-use Rattle.closing_laws.specs.Serving.{AreCommanded, AreTold, AreUntold, IsAsked, IsOlder, IsSaidBy, IsSaidIn, IsServed, IsUnasked, acknowledges_events, asks_role, commands_said, events_said, is_reply, is_request, logged_of, processed_by, sent_of, settled_by, told_by}
+use Rattle.closing_laws.specs.Serving.{AreCommanded, AreEventsTold, AreUntold, IsMastered, IsOlder, IsSaidBy, IsSaidIn, IsAttended, IsUnasked, acknowledges_events, asks_role, commands_said, events_said, is_reply, is_request, logged_of, processed_by, sent_of, settled_by, told_by}
 use Rattle.closing_laws.proofs.Numbering.{in_range, range_joined}
 use Rattle.closing_laws.proofs.Telling.{AreQuiet, commands_said-append}
 
@@ -35,7 +35,7 @@ module _ (kinds : List ℕ) (setup : Setup) (c c' : ControllerState) (s : ℕ) (
     no_more none xs h = let whole = sum_by-append (λ (m : Message). if is_request m then 1 else 0) xs letters in omega (arith, whole, none, h)
 
     abbrev IsRole : ControllerState → List Message → Type 0
-    IsRole now waiting = IsUnasked now s sw waiting in_ ⊎ (IsAsked now s sw waiting in_ × AreTold now s sw waiting in_)
+    IsRole now waiting = IsUnasked now s sw waiting in_ ⊎ (IsMastered now s sw waiting in_ × AreEventsTold now s sw waiting in_)
 
     unasked_more : count_by is_request letters ≡ 0 → IsUnasked c s sw out in_ → IsUnasked c' s sw (out ++ letters) in_
     unasked_more none u = record {
@@ -47,7 +47,7 @@ module _ (kinds : List ℕ) (setup : Setup) (c c' : ControllerState) (s : ℕ) (
       unconfirmed = k.confirmed ∙ u.unconfirmed;
     }
 
-    asked_more : count_by is_request letters ≡ 0 → IsAsked c s sw out in_ → IsAsked c' s sw (out ++ letters) in_
+    asked_more : count_by is_request letters ≡ 0 → IsMastered c s sw out in_ → IsMastered c' s sw (out ++ letters) in_
     asked_more none a = record {
       generation = a.generation ∙ ap (λ (v : ℕ). Some v) (sym k.view);
       master = a.master ∙ ap (λ (v : ℕ). Some v) (sym k.me);
@@ -55,7 +55,7 @@ module _ (kinds : List ℕ) (setup : Setup) (c c' : ControllerState) (s : ℕ) (
       replies = subst (λ (b : Bool). count_by is_reply in_ + (if b then 1 else 0) ≡ 1) (sym k.confirmed) a.replies;
     }
 
-    events_more : IsAcknowledged letters → AreTold c s sw out in_ → AreTold c' s sw (out ++ letters) in_
+    events_more : IsAcknowledged letters → AreEventsTold c s sw out in_ → AreEventsTold c' s sw (out ++ letters) in_
     events_more acks t = record {
       coming = subst (λ (n : ℕ). filter (λ e. nat_le n e.number) (events_said s in_) ≡ take (sent_of sw - n) (drop n (events_in sw (life_of sw)))) (sym k.logged) t.coming;
       stands = t.stands;
@@ -80,9 +80,9 @@ module _ (kinds : List ℕ) (setup : Setup) (c c' : ControllerState) (s : ℕ) (
     heard_still : AllByRecursion (λ m. IsSaidIn c.vr.view (life_of sw) m) in_ → AllByRecursion (λ m. IsSaidIn c'.vr.view (life_of sw) m) in_
     heard_still h = subst (λ (v : ℕ). AllByRecursion (λ m. IsSaidIn v (life_of sw) m) in_) (sym k.view) h
 
-    module _ (was : IsServed kinds setup c s sw out in_) (acks : IsAcknowledged letters) (settled : settled_by kinds setup c s sw ≤ settled_by kinds setup c' s sw) where
+    module _ (was : IsAttended kinds setup c s sw out in_) (acks : IsAcknowledged letters) (settled : settled_by kinds setup c s sw ≤ settled_by kinds setup c' s sw) where
       -- it is told answers
-      pub answered : AreQuiet c.vr.view letters → told_by kinds setup c' s sw ≡ told_by kinds setup c s sw → IsServed kinds setup c' s sw (out ++ letters) in_
+      pub answered : AreQuiet c.vr.view letters → told_by kinds setup c' s sw ≡ told_by kinds setup c s sw → IsAttended kinds setup c' s sw (out ++ letters) in_
       answered quiet told = record {
         said = said_more quiet.said was.said;
         heard = heard_still was.heard;
@@ -115,7 +115,7 @@ module _ (kinds : List ℕ) (setup : Setup) (c c' : ControllerState) (s : ℕ) (
       pub commanded : AllByRecursion (λ m. IsSaidBy c.vr.view m) letters → count_by is_request letters ≡ 0 →
           told_by kinds setup c s sw ≡ settled_by kinds setup c' s sw → settled_by kinds setup c' s sw ≤ told_by kinds setup c' s sw → settled_by kinds setup c' s sw ≤ sw.results.executed →
           (is_confirmed c.marks s ≡ true → commands_said (life_of sw) letters ≡ range_with_len (settled_by kinds setup c' s sw) (told_by kinds setup c' s sw - settled_by kinds setup c' s sw)) →
-          (is_confirmed c.marks s ≡ false → commands_said (life_of sw) letters ≡ []) → IsServed kinds setup c' s sw (out ++ letters) in_
+          (is_confirmed c.marks s ≡ false → commands_said (life_of sw) letters ≡ []) → IsAttended kinds setup c' s sw (out ++ letters) in_
       commanded said none due least done mine none_of = record {
         said = said_more said was.said;
         heard = heard_still was.heard;

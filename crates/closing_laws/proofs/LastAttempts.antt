@@ -15,7 +15,7 @@ use Rattle.rv_runs.specs.Schedule.{Done, NoQuorum, IsEnd, Phase, Losing, Ends, C
 use Rattle.closing_laws.specs.Starts.{IsAttempt}
 use Rattle.closing_laws.proofs.Attempts.{StayUp, Falls, course, succeed}
 use Rattle.closing_laws.proofs.Taking.{at}
-use Rattle.closing_laws.proofs.Walking.{later, later_is}
+use Rattle.closing_laws.proofs.Posting.{later, later_is}
 use Rattle.closing_laws.proofs.Begun.{later_append}
 
 long_append : {A : Type 0} (xs ys : List A) → length ys ≤ length (xs ++ ys)

@@ -19,7 +19,7 @@ use Rattle.rv_runs.specs.declared.messages.Message.TheVariants as message
 use Rattle.rv_runs.specs.States.{controller_message}
 use Rattle.closing_laws.specs.Quorum.{has}
 use Rattle.closing_laws.specs.Following.{ArePrepares, Start, Waits, IsAgreed, Leads}
-use Rattle.closing_laws.specs.Views.{IsCovered, IsMember, in_view, last_first, log_of, started_with, tellers}
+use Rattle.closing_laws.specs.Views.{IsCovered, IsReadyMember, in_view, last_first, log_of, started_with, tellers}
 use Rattle.closing_laws.proofs.Extending.{others_told, tells_member}
 use Rattle.closing_laws.proofs.Numbers.{filter_has, filter_in}
 use Rattle.closing_laws.proofs.Picked.{IsPicked, another}
@@ -61,7 +61,7 @@ start_of primary quorum at best =
     record { log = (at best).log; base = least_commit (at primary).commit logs; known = greatest_commit (at primary).commit logs }
 
 module _ (n w : ℕ) (quorum : List ℕ) (at : ℕ → VrState) (best : ℕ) (picked : IsPicked n w quorum) (small : (b : ℕ) → has quorum b ≡ true → b < n)
-    (ready : (j : ℕ) → has quorum j ≡ true → IsMember n w j (at j)) (covered : IsCovered quorum at best) (chosen : has quorum best ≡ true) (voters : ℕ → List ℕ) where
+    (ready : (j : ℕ) → has quorum j ≡ true → IsReadyMember n w j (at j)) (covered : IsCovered quorum at best) (chosen : has quorum best ≡ true) (voters : ℕ → List ℕ) where
   abbrev p : ℕ
   p = w % n
 
@@ -150,7 +150,7 @@ module _ (n w : ℕ) (quorum : List ℕ) (at : ℕ → VrState) (best : ℕ) (pi
   waits b ts member other = record {
     had = at b;
     voters = voters b;
-    is_member = subst (λ (k : ℕ). IsMember k w b (at b)) (sym size) (ready b member);
+    is_member = subst (λ (k : ℕ). IsReadyMember k w b (at b)) (sym size) (ready b member);
     state_is = refl;
     base = least_each at (tellers p quorum) (at p).commit b (tells b member other);
     commit = greatest_each at (tellers p quorum) (at p).commit b (tells b member other);

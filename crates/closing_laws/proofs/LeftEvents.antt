@@ -1,5 +1,5 @@
--- The events of a log that do not stand there as processed: each of them is held by its switch, or is of a life that is over, or stands
--- beyond what was decided.
+-- The events of a log that were not decided as processed: each of them is held by its switch, or is of a life that is over, or was not
+-- decided as received.
 use Rattle.std.proofs.Common.{◌≡◌, ◌≤◌, ◌<◌, ◌⊎◌, inl, inr, ℕ, ◌+◌, ◌-◌, Bool, List, [], ◌∷◌, length, drop, filter, refl, sym, ◌∙◌, ap, subst, arith, length-append, length-drop}
 use Rattle.std.specs.Prelude.{nat_eq, nat_lt, ◌&&◌, sum_by, if◌then◌else◌}
 use Rattle.std.specs.List.{range_with_len}
@@ -11,12 +11,11 @@ use Rattle.of_types.specs.declared.message.Event.{Event}
 use Rattle.of_types.specs.Lives.{count_in}
 use Rattle.vr_log.specs.declared.entry.Entry.{Entry}
 use Rattle.vr_log.specs.Log.{processed, received}
-use Rattle.vr_log.proofs.Logs.{length_is, received-append}
-use Rattle.controller_laws.proofs.Logs.{count_prefix, processed_prefix, received_prefix}
-use Rattle.event_buffer.specs.Buffer.{next_number}
+use Rattle.vr_log.proofs.Logs.{received-append}
+use Rattle.controller_laws.proofs.Logs.{count_prefix, received_prefix}
 use Rattle.of_switch.specs.State.{SwitchState, life_of}
 use Rattle.two_stage_log.specs.Counts.{processed_of}
-use Rattle.rv_runs.specs.Bound.{waiting_at}
+use Rattle.closing_laws.specs.Measure.{logged_held}
 use Rattle.closing_laws.proofs.Numbering.{in_range, of_range}
 use Rattle.closing_laws.proofs.Sums.{sum_lower, sum_most}
 
@@ -62,31 +61,26 @@ module _ (k : ℕ) (present : ℕ → ℕ) where
 -- a log that goes on from what was decided
 module _ (k : ℕ) (sw : ℕ → SwitchState) (log was : List Entry) (front : IsPrefix was log)
     (genuine : (e : Event) → IsIn e (received log) → (e.switch < k) × (e.life ≤ life_of (sw e.switch)))
-    (logged : (s : ℕ) → s < k → count_in s (life_of (sw s)) (received log) ≤ next_number (sw s).buffer)
     (cleared : (s : ℕ) → s < k → (sw s).buffer.cleared ≤ processed_of was s (life_of (sw s))) where
   -- the events that were decided, and were not processed
   abbrev open_events : List Event
   open_events = drop (processed was) (received was)
 
-  held_here : (s : ℕ) → s < k → count_in s (life_of (sw s)) open_events ≤ waiting_at (sw s)
+  held_here : (s : ℕ) → s < k → count_in s (life_of (sw s)) open_events ≤ logged_held log s (sw s)
   held_here s there =
       let parts = sum_by-take-drop (λ (e : Event). if nat_eq e.switch s && nat_eq e.life (life_of (sw s)) then 1 else 0) (received was) (processed was) in
       let some = count_prefix s (life_of (sw s)) (received_prefix front) in
-      let few = logged s there in
       let gone = cleared s there in
-      omega (arith, parts, some, few, gone)
+      omega (arith, parts, some, gone)
 
-  pub unprocessed_left : length (received log) - processed log ≤
-      sum_by (λ s. waiting_at (sw s)) (range_with_len 0 k) + length (filter (λ e. nat_lt e.life (life_of (sw e.switch))) open_events) + (length log - length was)
+  pub unprocessed_left : length (received log) - processed was ≤
+      sum_by (λ s. logged_held log s (sw s)) (range_with_len 0 k) + length (filter (λ e. nat_lt e.life (life_of (sw e.switch))) open_events) + (length (received log) - length (received was))
   unprocessed_left =
       let lives = by_lives k (λ s. life_of (sw s)) open_events (λ e among. genuine e (subst (λ (l : List Event). IsIn e l) (sym (received_prefix front).joined) (in_left e (received was) (received_prefix front).rest (in_drop (processed was) (received was) e among)))) in
-      let held = sum_most 1 0 (λ s. count_in s (life_of (sw s)) open_events) (λ s. waiting_at (sw s)) (range_with_len 0 k) (λ s among.
+      let held = sum_most 1 0 (λ s. count_in s (life_of (sw s)) open_events) (λ s. logged_held log s (sw s)) (range_with_len 0 k) (λ s among.
       let less = (of_range 0 k s among).1 in
       let here = held_here s (omega (arith, less)) in
       omega (arith, here)) in
       let all = ap (λ (l : List Entry). length (received l)) front.joined ∙ ap (λ (l : List Event). length l) (received-append was front.rest) ∙ length-append (received was) (received front.rest) in
-      let long = ap (λ (l : List Entry). length l) front.joined ∙ length-append was front.rest in
-      let few = length_is front.rest in
-      let more = processed_prefix front in
       let rest = length-drop (processed was) (received was) in
-      omega (arith, lives, held, all, long, few, more, rest)
+      omega (arith, lives, held, all, rest)

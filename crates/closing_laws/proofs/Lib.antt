@@ -17,6 +17,7 @@ pub mod Adopted
 pub mod Steps
 pub mod Paired
 pub mod Taking
+pub mod Posting
 pub mod Walking
 pub mod Covering
 pub mod Begun
@@ -27,6 +28,11 @@ pub mod Agreeing
 pub mod Between
 pub mod Drained
 pub mod Carrying
+pub mod Standing
+pub mod FirstWaiting
+pub mod MemberDraws
+pub mod SwitchDraws
+pub mod PrimaryDraws
 pub mod Emptying
 pub mod Saying
 pub mod Sending

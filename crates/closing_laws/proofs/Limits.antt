@@ -75,7 +75,7 @@ use Rattle.closing_laws.proofs.Carrying.{IsIdle, Posts, controllers_stay, switch
 use Rattle.closing_laws.proofs.FittingLogs.{Comes, IsNext, Is_done, has_room}
 use Rattle.closing_laws.proofs.Proposing.{commands_vr}
 use Rattle.closing_laws.proofs.Taking.{at, own_steps}
-use Rattle.closing_laws.proofs.Walking.{later, later_is}
+use Rattle.closing_laws.proofs.Posting.{later, later_is}
 
 -- of events of which something is known
 module _ (IsKnown : Event → Type 0) where

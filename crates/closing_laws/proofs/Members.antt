@@ -19,7 +19,7 @@ use Rattle.view_change.specs.Cases.{enters}
 use Rattle.vr_core.specs.declared.input.VrInput.TheVariants as vr_input
 use Rattle.vr_core.specs.Step.{vr_step, on_vr}
 use Rattle.of_types.specs.SmallSets.{with_number}
-use Rattle.closing_laws.specs.Views.{IsMember, in_view, voting, vote_letters}
+use Rattle.closing_laws.specs.Views.{IsReadyMember, in_view, voting, vote_letters}
 
 -- a case that leaves log and commit number is not dropped
 pub sound_here : (s : VrState) → is_log s.log ≡ true → s.commit ≤ length s.log → (t : VrState) → t.log ≡ s.log → t.commit ≡ s.commit → is_sound s t ≡ true
@@ -41,7 +41,7 @@ four_third : (a b c d : Bool) → c ≡ false → (((a && b) && c) && d) ≡ fal
 four_third a b c d h = and_left ((a && b) && c) d (and_right (a && b) c h)
 
 -- a member that suspects enters the view, and tells the others
-pub suspects : (n w j : ℕ) (s : VrState) → IsMember n w j s → 0 < s.controllers / 2 →
+pub suspects : (n w j : ℕ) (s : VrState) → IsReadyMember n w j s → 0 < s.controllers / 2 →
     vr_step s (vr_input.Suspect w) ≡ record { state = in_view s w [] false [] None; promise = Some w; letters = to_others s (message.StartViewChange w) }
 suspects n w j s m group =
     let later : (is_up s && nat_lt s.view w) ≡ true = and_from (is_up s) (nat_lt s.view w) m.up (lt-ltb s.view w m.below) in

@@ -1,5 +1,5 @@
 -- The numbers of the commands of one event: for a life of a switch they go on from those before, one after another.
-use Rattle.std.proofs.Common.{◌≡◌, ◌≤◌, ◌<◌, ℕ, ◌+◌, ◌-◌, zero, suc, Bool, true, false, ◌&&◌, List, [], ◌∷◌, ◌++◌, length, take, refl, sym, ◌∙◌, ap, inl, inr, arith, append-nil, append_assoc}
+use Rattle.std.proofs.Common.{◌≡◌, ◌≤◌, ◌<◌, ℕ, ◌+◌, ◌-◌, zero, suc, Bool, true, false, List, [], ◌∷◌, ◌++◌, length, take, refl, sym, ◌∙◌, ap, inl, inr, arith, append-nil, append_assoc}
 use Rattle.std.specs.Prelude.{nat_eq, slice_index_or, if◌then◌else◌}
 use Rattle.std.specs.List.{range_with_len}
 use Rattle.std.proofs.lemmas.Bool.{and_parts, cases_lt, eqb-true}
@@ -12,7 +12,7 @@ use Rattle.app_core.specs.Chain.{concat, reactions}
 use Rattle.app_core.specs.declared.issued.Issued.{Issued}
 use Rattle.app_core.specs.Issued.{count_issued, commands_of, issue, issue_all, issue_each, issues}
 use Rattle.app_core.proofs.Issuing.{length-issues}
-use Rattle.controller_laws.proofs.Issued.{command_between, count-orders, issues-take, next_list}
+use Rattle.controller_laws.proofs.Issued.{command_between, count-orders, is_of, issues-take, next_list}
 use Rattle.closing_laws.proofs.Telling.{numbers_in}
 
 -- ranges
@@ -41,9 +41,6 @@ range_joined a m n low high =
     let e : a + (m - a) ≡ m = omega (arith, low) in
     let f : (m - a) + (n - m) ≡ n - a = omega (arith, low, high) in
     ap (λ (k : ℕ). range_with_len a (m - a) ++ range_with_len k (n - m)) (sym e) ∙ range-append a (m - a) (n - m) ∙ ap (range_with_len a) f
-
-abbrev is_of : ℕ → ℕ → Issued → Bool
-is_of s l x = nat_eq x.switch s && nat_eq x.life l
 
 -- one command before others
 step_number : (b : Bool) (number first count before : ℕ) (numbers : List ℕ) → (b ≡ true → number ≡ before) → first ≡ (if b then 1 else 0) + count →

@@ -21,20 +21,20 @@ use Rattle.closing_laws.specs.Measure.{left_to_do}
 use Rattle.closing_laws.specs.Quorum.{has}
 use Rattle.closing_laws.specs.Serving.{AreFew, IsOlder}
 use Rattle.closing_laws.specs.Starts.{IsAttempt, Starts, members_at, quorum_after, view_after}
-use Rattle.closing_laws.specs.Views.{IsMember}
+use Rattle.closing_laws.specs.Views.{IsReadyMember}
 use Rattle.closing_laws.specs.Ways.{Sent, sent_by}
 use Rattle.closing_laws.proofs.Begun as begun
 use Rattle.closing_laws.proofs.Begun.{later_append}
 use Rattle.closing_laws.proofs.Carrying.{AllCarry, read_carry, sw}
 use Rattle.closing_laws.proofs.Drained as drained_by
-use Rattle.closing_laws.proofs.Emptying as emptying
+use Rattle.closing_laws.proofs.Rooms as rooms
+use Rattle.closing_laws.proofs.Standing as standing
 use Rattle.closing_laws.proofs.Leading.{start_of}
 use Rattle.closing_laws.proofs.OpeningTurn as opens
 use Rattle.closing_laws.proofs.Picked.{IsPicked, picked_of_quorum}
 use Rattle.closing_laws.proofs.Roomy as roomy_by
 use Rattle.closing_laws.proofs.Taking.{at}
-use Rattle.closing_laws.proofs.Walking.{later, later_is}
-use Rattle.closing_laws.proofs.Walking as walking
+use Rattle.closing_laws.proofs.Posting.{later, later_is, possible_under}
 use Rattle.closing_laws.proofs.Wires.{wired_always}
 
 module _ {B : Type 0} (scene : Scene B) (results : List (List SaveResult)) (setup : IsSetup scene.setup) (faithful : IsFaithful scene.sealing) (few : AreFew scene.kinds scene.setup)
@@ -67,7 +67,7 @@ module _ {B : Type 0} (scene : Scene B) (results : List (List SaveResult)) (setu
   pub picked : IsPicked n w quorum
   picked = picked_of_quorum n w quorum (begun.quorum_is scene results before a.most)
 
-  pub ready : (j : ℕ) → has quorum j ≡ true → IsMember n w j (members j)
+  pub ready : (j : ℕ) → has quorum j ≡ true → IsReadyMember n w j (members j)
   ready = begun.ready scene results before a.most
 
   abbrev switches : ℕ → SwitchState
@@ -80,7 +80,7 @@ module _ {B : Type 0} (scene : Scene B) (results : List (List SaveResult)) (setu
   possible =
       let split : later before entries ≡ later (later before s.first) s.rest = ap (later before) s.joined ∙ later_append before s.first s.rest in
       subst (λ (l : List (JournalEntry B)). IsPossible scene results l) (later_is before s.first)
-      (walking.possible_under scene results setup faithful w quorum small before a.saves s.rest (later before s.first)
+      (possible_under scene results s.rest (later before s.first)
       (subst (λ (l : List (JournalEntry B)). IsPossible scene results l) (sym (later_is before entries) ∙ split) a.possible))
 
   -- the turn that starts it
@@ -100,7 +100,7 @@ module _ {B : Type 0} (scene : Scene B) (results : List (List SaveResult)) (setu
   end_promise = (opens.same scene.kinds scene.setup few w quorum members best picked small ready s.covered chosen s.started.voters s.started.promise switches older_then).promise
 
   -- no member of the quorum has promised a later view
-  pub promised : emptying.HavePromised scene results setup faithful w quorum small before a.saves start begin
+  pub promised : standing.HavePromised scene results w quorum start begin
   promised = record {
     leads = ap (λ (c : ControllerState). leads c.vr) now_is
         ∙ opens.leads_now scene.kinds scene.setup few w quorum members best picked small ready s.covered chosen s.started.voters s.started.promise switches older_then;
@@ -125,12 +125,12 @@ module _ {B : Type 0} (scene : Scene B) (results : List (List SaveResult)) (setu
       (read_carry scene.sealing controller_message (actor.Controller p) s.started.number s.started.turn.letters (ap (map (content scene.sealing)) (sym s.started.waits) ∙ s.started.says))
 
   -- where what is true of a primary that leads is true of it, and its log has met no limit
-  module _ (truths : (P : List (JournalEntry B)) → IsPossible scene results P → emptying.HavePromised scene results setup faithful w quorum small before a.saves start P →
-      emptying.AreTrue scene results setup faithful w quorum small before a.saves start (at scene results p P).now (λ k. (sw scene results k P).now))
+  module _ (truths : (P : List (JournalEntry B)) → IsPossible scene results P → standing.HavePromised scene results w quorum start P →
+      rooms.AreTrue scene.kinds scene.setup (at scene results p P).now (λ k. (sw scene results k P).now))
       (room : (controller_state scene results p begin).full ≡ None) where
-    truth : emptying.AreTrue scene results setup faithful w quorum small before a.saves start end.state switches
+    truth : rooms.AreTrue scene.kinds scene.setup end.state switches
     truth =
-        subst (λ (c : ControllerState). emptying.AreTrue scene results setup faithful w quorum small before a.saves start c switches) now_is
+        subst (λ (c : ControllerState). rooms.AreTrue scene.kinds scene.setup c switches) now_is
         (truths begin possible promised)
 
     abbrev Drains : ControllerState → List Sent → Type 0
@@ -139,7 +139,7 @@ module _ {B : Type 0} (scene : Scene B) (results : List (List SaveResult)) (setu
     abbrev Roomy : ControllerState → List Sent → Type 0
     Roomy c ms = roomy_by.IsRoomy scene.kinds scene.setup w p quorum start c (λ b. (at scene results b begin).now.vr) switches ms
 
-    pub stands : emptying.Stands scene results setup faithful w quorum small before a.saves start begin waiting
+    pub stands : standing.Stands scene results w quorum start begin waiting
     stands = record {
       members = λ b. (at scene results b begin).now.vr;
       switches = switches;
@@ -157,11 +157,11 @@ module _ {B : Type 0} (scene : Scene B) (results : List (List SaveResult)) (setu
           truth (λ t there. wired_always scene setup begin t there) (λ b. (at scene results b begin).now.vr)));
     }
 
-    pub opened : emptying.Mode scene results setup faithful w quorum small before a.saves start begin
-    opened = emptying.Resting (record { waiting = waiting; carries = carries; stands = stands; posted = s.posted })
+    pub opened : standing.Mode scene results w quorum start begin
+    opened = standing.Resting (record { waiting = waiting; carries = carries; stands = stands; posted = s.posted })
 
     -- what is left to do there
-    pub opened_left : emptying.left_in scene results setup faithful w quorum small before a.saves start begin opened ≡
+    pub opened_left : standing.left_in scene results w quorum start begin opened ≡
         left_to_do scene.kinds scene.setup quorum (at scene results p begin).now (λ k. (sw scene results k begin).now) waiting
     unfolding opened
     opened_left = refl

@@ -13,6 +13,7 @@ use Rattle.vr_log.specs.declared.state.VrState.{VrState}
 use Rattle.vr_log.specs.Log.{processed, received}
 use Rattle.vr_log.specs.Members.{most_failures, others, others_below}
 use Rattle.view_change.specs.Entering.{tells_start, view_start}
+use Rattle.event_buffer.specs.Buffer.{next_number}
 use Rattle.of_switch.specs.State.{SwitchState, life_of}
 use Rattle.group_controller.specs.State.{ControllerState, Work, fresh, stepped}
 use Rattle.rv_runs.specs.Bound.{waiting_at}
@@ -20,7 +21,7 @@ use Rattle.rv_runs.specs.States.{Scene, IsFaithful, controller_message}
 use Rattle.rv_runs.specs.Committed.{controller_state, switch_state}
 use Rattle.rv_runs.specs.Schedule.{Phase}
 use Rattle.closing_laws.specs.Following.{Leads, Start}
-use Rattle.closing_laws.specs.Measure.{commands_from, left_at_switches, left_to_do, left_to_process}
+use Rattle.closing_laws.specs.Measure.{commands_from, left_at_switches, left_to_do, left_to_process, logged_held}
 use Rattle.closing_laws.specs.Quorum.{has}
 use Rattle.closing_laws.specs.Serving.{AreFew, IsOlder, logged_of}
 use Rattle.closing_laws.specs.Starts.{IsAttempt, Starts, members_at, quorum_after, view_after}
@@ -169,8 +170,10 @@ module _ {B : Type 0} (scene : Scene B) (results : List (List SaveResult)) (setu
       ∙ ap (λ (k : ℕ). primary_worths quorum k end.letters + left_at_switches scene.setup f end.state switches + left_to_process scene.kinds scene.setup f end.state) (sym me)
 
   -- where what left the buffers of the switches was logged
-  module _ (cleared : (t : ℕ) → t < length scene.setup.ports → (switches t).buffer.cleared ≤ logged_of (controller_state scene results p begin) t (switches t)) where
-    pub start_left : left_to_do scene.kinds scene.setup quorum (at scene results p begin).now switches (opened_by.waiting scene results setup faithful few before entries last best a s chosen small older) ≤
+  module _ (cleared : (t : ℕ) → t < length scene.setup.ports → (switches t).buffer.cleared ≤ logged_of (controller_state scene results p begin) t (switches t))
+      (logged : (t : ℕ) → t < length scene.setup.ports → logged_of (controller_state scene results p begin) t (switches t) ≤ next_number (switches t).buffer) where
+    pub start_left : left_to_do scene.kinds scene.setup quorum (at scene results p begin).now switches (opened_by.waiting scene results setup faithful few before entries last best a s chosen small older)
+        + (4 * f + 1) * sum_by (λ t. logged_held leader.log t (switches t)) (range_with_len 0 (length scene.setup.ports)) ≤
         2 * f + 2 * length scene.setup.ports + (2 * f + 1) * (length (received leader.log) - processed leader.log) + (processed leader.log - processed (take leader.commit leader.log))
         + (4 * f + 3) * sum_by (λ t. waiting_at (switches t)) (range_with_len 0 (length scene.setup.ports)) + 3 * commands_from scene.kinds scene.setup (controller_state scene results p begin) (place_of start)
     start_left =
@@ -178,6 +181,7 @@ module _ {B : Type 0} (scene : Scene B) (results : List (List SaveResult)) (setu
         let at_switches = measure.all_left scene.kinds scene.setup quorum f (place_of start) switches work (λ t there. (
           older_other w (switches t).fence.generation (opened_by.older_then scene results setup faithful few before entries last best a s chosen small older t there),
           (let low = cleared t there in let same = ap (λ (es : List Event). count_in t (life_of (switches t)) es) events_same in omega (arith, low, same)),
+          (let high = logged t there in let same = ap (λ (es : List Event). count_in t (life_of (switches t)) es) events_same in omega (arith, high, same)),
         )) in
         let all = all_said in
         let first = said_first in

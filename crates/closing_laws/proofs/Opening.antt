@@ -18,7 +18,7 @@ use Rattle.group_controller.specs.State.{ControllerState, Work, committed, leavi
 use Rattle.group_controller.specs.Rules.{starting_view, switches}
 use Rattle.group_controller.specs.Settling.{answers_at, role_letter, settling, with_answers, with_commands}
 use Rattle.rv_runs.specs.declared.messages.Message.{Message}
-use Rattle.closing_laws.specs.Serving.{Asks, AreFew, Extends, IsOlder, IsServed, IsSettled, IsToldLast, IsTrueOf, IsTruePrimary, asks_role}
+use Rattle.closing_laws.specs.Serving.{Asks, AreFew, Extends, IsOlder, IsAttended, IsSettled, IsToldLast, IsTrueOf, IsTruePrimary, asks_role}
 use Rattle.closing_laws.proofs.Extending.{AreToOthers}
 use Rattle.closing_laws.proofs.Finishing.{AreBoundedTo, Finished}
 use Rattle.closing_laws.proofs.Proposing.{Standing, commands_vr}
@@ -48,7 +48,7 @@ asked_once view t first (suc n) low high = by_here (λ below. asked_once view t 
         ∙ later (elim (cases_order first t) [ inl e ↦ absurd (other e) | inr (inl less) ↦ omega (arith, less) | inr (inr more) ↦ absurd (omega (arith, more, low)) ])
 
 -- a switch that waits for this is served
-pub asked_served : (kinds : List ℕ) (setup : Setup) (c : ControllerState) (t : ℕ) (sw : SwitchState) → c.marks ≡ no_marks → IsOlder sw.fence.generation c.vr.view → IsServed kinds setup c t sw (asks_role c.vr.view ∷ []) []
+pub asked_served : (kinds : List ℕ) (setup : Setup) (c : ControllerState) (t : ℕ) (sw : SwitchState) → c.marks ≡ no_marks → IsOlder sw.fence.generation c.vr.view → IsAttended kinds setup c t sw (asks_role c.vr.view ∷ []) []
 asked_served kinds setup c t sw none older = record {
   said = (Asks, tt);
   heard = tt;
@@ -127,7 +127,7 @@ module _ (kinds : List ℕ) (setup : Setup) (sw : ℕ → SwitchState) (few : Ar
 
   asked_all : AreServed kinds setup sw (λ t. []) opened (λ t. told t (start.letters ++ roles))
   asked_all t less =
-      subst (λ (z : List Message). IsServed kinds setup opened t (sw t) z [])
+      subst (λ (z : List Message). IsAttended kinds setup opened t (sw t) z [])
       (sym (told-append t start.letters roles
       ∙ ap (λ (z : List Message). z ++ told t roles) (ap (told t) only ∙ members_told t ls)
       ∙ asked_once start.state.vr.view t 0 (length setup.ports) (omega arith) (omega (arith, less))))
@@ -148,6 +148,6 @@ module _ (kinds : List ℕ) (setup : Setup) (sw : ℕ → SwitchState) (few : Ar
         marks = f.progress.marks;
         settled = record { told = f.progress.standing.told_all; proposed = f.settled; last = f.progress.standing.last };
         standing = f.progress.standing;
-        served = λ t less. subst (λ (z : List Message). IsServed kinds setup end.state t (sw t) z [])
+        served = λ t less. subst (λ (z : List Message). IsAttended kinds setup end.state t (sw t) z [])
             (sym (ap (told t) f.progress.joined ∙ told-append t (start.letters ++ roles) f.progress.letters)) (f.progress.served t less);
       }

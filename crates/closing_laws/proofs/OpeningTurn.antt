@@ -30,8 +30,8 @@ use Rattle.rv_runs.specs.States.{controller_message}
 use Rattle.rv_runs.specs.Schedule.{is_drawn}
 use Rattle.closing_laws.specs.Quorum.{has}
 use Rattle.closing_laws.specs.Following.{Start, KeepsUp}
-use Rattle.closing_laws.specs.Serving.{AreFew, IsOlder, IsServed, IsTrueOf, IsTruePrimary}
-use Rattle.closing_laws.specs.Views.{IsCovered, IsMember, in_view}
+use Rattle.closing_laws.specs.Serving.{AreFew, IsOlder, IsAttended, IsTrueOf, IsTruePrimary}
+use Rattle.closing_laws.specs.Views.{IsCovered, IsReadyMember, in_view}
 use Rattle.closing_laws.specs.Ways.{Sent, sent_by, between, told_to}
 use Rattle.closing_laws.proofs.Between.{between_sent, between_sent_by}
 use Rattle.closing_laws.proofs.Drained as drained_by
@@ -86,7 +86,7 @@ way_of_letter p quorum letters others m among drawn =
     by_actor l there is (actor.Switch t) to_t = To_switch t (ap (λ (z : Sent). z.from) is) (ap (λ (z : Sent). z.to) is ∙ to_t)
 
 module _ (kinds : List ℕ) (setup : Setup) (few : AreFew kinds setup) (w : ℕ) (quorum : List ℕ) (at : ℕ → VrState) (best : ℕ) (picked : IsPicked setup.controllers w quorum)
-    (small : (b : ℕ) → has quorum b ≡ true → b < setup.controllers) (ready : (j : ℕ) → has quorum j ≡ true → IsMember setup.controllers w j (at j)) (covered : IsCovered quorum at best) (chosen : has quorum best ≡ true)
+    (small : (b : ℕ) → has quorum b ≡ true → b < setup.controllers) (ready : (j : ℕ) → has quorum j ≡ true → IsReadyMember setup.controllers w j (at j)) (covered : IsCovered quorum at best) (chosen : has quorum best ≡ true)
     (voters : ℕ → List ℕ) (promise : Option ℕ) (sw : ℕ → SwitchState) (older : (t : ℕ) → t < length setup.ports → IsOlder (sw t).fence.generation w) where
   abbrev pub n : ℕ
   n = setup.controllers
@@ -253,8 +253,8 @@ module _ (kinds : List ℕ) (setup : Setup) (few : AreFew kinds setup) (w : ℕ)
           (sym (between_sent_by controller_message (actor.Controller p) (actor.Controller b) (actor.Controller p) end.letters (apart b other)))
           (subst (λ (x : VrState). KeepsUp start end.state.vr b x (told_to controller_message (actor.Controller b) end.letters) []) (sym (members_are b member other)) (keep_up b member other)));
       served = λ t there.
-          subst (λ (l : List Message). IsServed kinds setup end.state t (sw t) l (between (actor.Switch t) (actor.Controller p) sent)) (sym (between_sent controller_message (actor.Controller p) (actor.Switch t) end.letters))
-          (subst (λ (l : List Message). IsServed kinds setup end.state t (sw t) (told_to controller_message (actor.Switch t) end.letters) l)
+          subst (λ (l : List Message). IsAttended kinds setup end.state t (sw t) l (between (actor.Switch t) (actor.Controller p) sent)) (sym (between_sent controller_message (actor.Controller p) (actor.Switch t) end.letters))
+          (subst (λ (l : List Message). IsAttended kinds setup end.state t (sw t) (told_to controller_message (actor.Switch t) end.letters) l)
           (sym (between_sent_by controller_message (actor.Controller p) (actor.Switch t) (actor.Controller p) end.letters refl)) (has_opened.served t there));
       ways = way_of_letter p quorum end.letters for_others;
     }

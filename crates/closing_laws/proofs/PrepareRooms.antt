@@ -43,7 +43,7 @@ use Rattle.rv_runs.specs.States.{controller_message, switch_hears, switch_messag
 use Rattle.closing_laws.specs.Quorum.{has}
 use Rattle.closing_laws.specs.Ways.{Sent, sent_by, between}
 use Rattle.closing_laws.specs.Following.{IsAgreed, Leads, Start}
-use Rattle.closing_laws.specs.Serving.{AreFew, IsServed, IsTrueOf, events_said, logged_of}
+use Rattle.closing_laws.specs.Serving.{AreFew, IsAttended, IsTrueOf, events_said, logged_of}
 use Rattle.closing_laws.proofs.Agreed.{marked}
 use Rattle.closing_laws.proofs.Agreeing as agreeing
 use Rattle.closing_laws.proofs.Agreeing.{counted_agreed}
@@ -306,9 +306,9 @@ module _ (kinds : List ℕ) (setup : Setup) (w p : ℕ) (quorum : List ℕ) (sta
           abbrev in_ : List Message
           in_ = between (actor.Switch k) (actor.Controller p) rest
 
-          was : IsServed kinds setup c k (switches k) out (heard_by.tells_event xid (life_of (switches k)) number what ∷ in_)
+          was : IsAttended kinds setup c k (switches k) out (heard_by.tells_event xid (life_of (switches k)) number what ∷ in_)
           was =
-              subst (λ (l : List Message). IsServed kinds setup c k (switches k) out l)
+              subst (λ (l : List Message). IsAttended kinds setup c k (switches k) out l)
               (primary_turns.own_is kinds setup few w p quorum start picked inside leader small c members switches m rest d to truths.each k from there (heard_by.tells_event xid (life_of (switches k)) number what) says)
               (primary_turns.served kinds setup few w p quorum start picked inside leader small c members switches m rest d to truths.each k there)
 
@@ -459,8 +459,8 @@ module _ (kinds : List ℕ) (setup : Setup) (w p : ℕ) (quorum : List ℕ) (sta
             own_waits : between (actor.Controller p) (actor.Switch s) (m ∷ rest) ≡ m.said ∷ between (actor.Controller p) (actor.Switch s) rest
             own_waits = between_own (actor.Controller p) (actor.Switch s) m rest from to
 
-            served : IsServed kinds setup c s (switches s) (m.said ∷ between (actor.Controller p) (actor.Switch s) rest) (between (actor.Switch s) (actor.Controller p) (m ∷ rest))
-            served = subst (λ (l : List Message). IsServed kinds setup c s (switches s) l (between (actor.Switch s) (actor.Controller p) (m ∷ rest))) own_waits (d.served s there)
+            served : IsAttended kinds setup c s (switches s) (m.said ∷ between (actor.Controller p) (actor.Switch s) rest) (between (actor.Switch s) (actor.Controller p) (m ∷ rest))
+            served = subst (λ (l : List Message). IsAttended kinds setup c s (switches s) l (between (actor.Switch s) (actor.Controller p) (m ∷ rest))) own_waits (d.served s there)
 
             turn_is : turn ≡ switch_turn (switches s) (switch_hears (actor.Controller c.vr.me) (unsealed.Message m.said))
             turn_is = ap (λ (a : Actor). switch_turn (switches s) (switch_hears a (unsealed.Message m.said))) (from ∙ ap (λ (i : ℕ). actor.Controller i) (sym d.primary.me))

@@ -24,7 +24,7 @@ use Rattle.rv_runs.specs.States.{controller_message}
 use Rattle.closing_laws.specs.Quorum.{has}
 use Rattle.closing_laws.specs.Following.{Start}
 use Rattle.closing_laws.specs.Serving.{AreFew, IsOlder}
-use Rattle.closing_laws.specs.Views.{IsCovered, IsMember}
+use Rattle.closing_laws.specs.Views.{IsCovered, IsReadyMember}
 use Rattle.closing_laws.specs.Ways.{Sent, sent_by}
 use Rattle.closing_laws.proofs.Broadcasts.{AreEven, AreSilent, Posts, even_append, even_silent, posted, roles_silent, settling_posts, silent_append}
 use Rattle.closing_laws.proofs.Leading as leading
@@ -43,7 +43,7 @@ words_silent s l among =
     ap (λ (x : Letter ControllerSays). is_prepare (controller_message x.body)) y.2 ∙ ap (λ (x : VrLetter). is_prepare (message.Vr x.message)) z.2
 
 module _ (kinds : List ℕ) (setup : Setup) (few : AreFew kinds setup) (w : ℕ) (quorum : List ℕ) (at : ℕ → VrState) (best : ℕ) (picked : IsPicked setup.controllers w quorum)
-    (small : (b : ℕ) → has quorum b ≡ true → b < setup.controllers) (ready : (j : ℕ) → has quorum j ≡ true → IsMember setup.controllers w j (at j)) (covered : IsCovered quorum at best) (chosen : has quorum best ≡ true)
+    (small : (b : ℕ) → has quorum b ≡ true → b < setup.controllers) (ready : (j : ℕ) → has quorum j ≡ true → IsReadyMember setup.controllers w j (at j)) (covered : IsCovered quorum at best) (chosen : has quorum best ≡ true)
     (voters : ℕ → List ℕ) (promise : Option ℕ) (sw : ℕ → SwitchState) (older : (t : ℕ) → t < length setup.ports → IsOlder (sw t).fence.generation w) where
   abbrev n : ℕ
   n = setup.controllers

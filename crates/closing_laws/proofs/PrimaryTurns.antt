@@ -32,7 +32,7 @@ use Rattle.rv_runs.specs.States.{controller_hears, controller_message}
 use Rattle.closing_laws.specs.Quorum.{has}
 use Rattle.closing_laws.specs.Ways.{Sent, sent_by, between, told_to}
 use Rattle.closing_laws.specs.Following.{ArePrepares, Start, KeepsUp, IsAgreed, Leads}
-use Rattle.closing_laws.specs.Serving.{AreFew, Extends, IsSaidIn, Replies, Tells, Results, IsServed, IsSettled, IsTrueOf, IsTruePrimary}
+use Rattle.closing_laws.specs.Serving.{AreFew, Extends, IsSaidIn, Replies, Tells, Results, IsAttended, IsSettled, IsTrueOf, IsTruePrimary}
 use Rattle.closing_laws.proofs.Agreed as agreed_by
 use Rattle.closing_laws.proofs.Agreeing.{agreed_longer, counted_agreed, keeps_up_acked, keeps_up_still}
 use Rattle.closing_laws.proofs.Between.{between_other, between_own}
@@ -185,8 +185,8 @@ module _ (kinds : List ℕ) (setup : Setup) (few : AreFew kinds setup) (w p : �
     out_same : (a t : Actor) → (t ≡ actor.Controller p → ⊥) → between a t (m ∷ rest) ≡ between a t rest
     out_same a t other = between_other a t m rest (way_apart a t m (λ f g. other (sym g ∙ to)))
 
-    pub served : (t : ℕ) → t < length setup.ports → IsServed kinds setup c t (switches t) (out t) (in_before t)
-    served t less = subst (λ (l : List Message). IsServed kinds setup c t (switches t) l (in_before t)) (out_same (actor.Controller p) (actor.Switch t) (λ e. absurd cc)) (d.served t less)
+    pub served : (t : ℕ) → t < length setup.ports → IsAttended kinds setup c t (switches t) (out t) (in_before t)
+    served t less = subst (λ (l : List Message). IsAttended kinds setup c t (switches t) l (in_before t)) (out_same (actor.Controller p) (actor.Switch t) (λ e. absurd cc)) (d.served t less)
 
     -- letters go to switches and to other members
     apart_letters : (x : Work) → AreForOthers c.vr.me x.letters → (l : Letter ControllerSays) → IsIn l x.letters → ((b : ℕ) × (l.to ≡ actor.Controller b) × (b ≡ p → ⊥)) ⊎ ((t : ℕ) × (l.to ≡ actor.Switch t))
@@ -360,7 +360,7 @@ module _ (kinds : List ℕ) (setup : Setup) (few : AreFew kinds setup) (w p : �
       keeps_counting one now_true now_truths full =
           let q = d.primary in
           let h = agreed_by.agreed_more kinds setup few switches in_after out c one several q.settled
-          (λ t less. subst (λ (l : List Message). IsServed kinds setup c t (switches t) (out t) l) (sym (from_others t)) (served t less)) b op small_b (λ e. apart (e ∙ q.me)) keeps_next.0 full now_true now_truths in
+          (λ t less. subst (λ (l : List Message). IsAttended kinds setup c t (switches t) (out t) l) (sym (from_others t)) (served t less)) b op small_b (λ e. apart (e ∙ q.me)) keeps_next.0 full now_true now_truths in
           let outs = λ (j : ℕ). between (actor.Controller p) (actor.Controller j) rest in
           let ins = λ (j : ℕ). between (actor.Controller j) (actor.Controller p) rest in
           drained_by.drains_primary kinds setup w p quorum start c counts.state members switches m rest counts.letters d

@@ -20,7 +20,7 @@ use Rattle.group_controller.specs.State.{ControllerState, Work, committed, leavi
 use Rattle.group_controller.specs.Settling.{after_proposal, command_letters, is_alone, is_some_of, is_untold, with_answers, with_commands}
 use Rattle.rv_runs.specs.declared.messages.Message.{Message}
 use Rattle.closing_laws.specs.Following.{ArePrepares}
-use Rattle.closing_laws.specs.Serving.{AreFew, Extends, IsServed, IsToldLast}
+use Rattle.closing_laws.specs.Serving.{AreFew, Extends, IsAttended, IsToldLast}
 use Rattle.closing_laws.proofs.Committing.{CommitsMore}
 use Rattle.closing_laws.proofs.Extending as extending
 use Rattle.closing_laws.proofs.Extending.{AreToOthers, extends_none, extends_then, others_told}
@@ -121,7 +121,7 @@ module _ (kinds : List ℕ) (setup : Setup) (sw : ℕ → SwitchState) (in_ : �
     marks = refl;
     full = refl;
     standing = standing;
-    served = λ t less. subst (λ (z : List Message). IsServed kinds setup work.state t (sw t) z (in_ t)) (sym (append-nil (out t))) (served t less);
+    served = λ t less. subst (λ (z : List Message). IsAttended kinds setup work.state t (sw t) z (in_ t)) (sym (append-nil (out t))) (served t less);
   }
 
   pub progress_then : (out : ℕ → List Message) (a b c : Work) (p : Progress out a b) → Progress (λ t. out t ++ told t p.letters) b c → Progress out a c
@@ -136,7 +136,7 @@ module _ (kinds : List ℕ) (setup : Setup) (sw : ℕ → SwitchState) (in_ : �
     marks = q.marks ∙ p.marks;
     full = q.full ∙ p.full;
     standing = q.standing;
-    served = λ t less. subst (λ (z : List Message). IsServed kinds setup c.state t (sw t) z (in_ t))
+    served = λ t less. subst (λ (z : List Message). IsAttended kinds setup c.state t (sw t) z (in_ t))
         (append_assoc (out t) (told t p.letters) (told t q.letters) ∙ ap (λ (z : List Message). out t ++ z) (sym (told-append t p.letters q.letters))) (q.served t less);
   }
     where
@@ -170,7 +170,7 @@ module _ (kinds : List ℕ) (setup : Setup) (sw : ℕ → SwitchState) (in_ : �
         told_all = untold_same work.state (pushed work.state entry work.state.vr.commit) same refl ∙ s.told_all;
         last = last_same work.state (pushed work.state entry work.state.vr.commit) same refl s.last;
       };
-      served = λ t less. subst (λ (z : List Message). IsServed kinds setup (pushed work.state entry work.state.vr.commit) t (sw t) z (in_ t))
+      served = λ t less. subst (λ (z : List Message). IsAttended kinds setup (pushed work.state entry work.state.vr.commit) t (sw t) z (in_ t))
           (sym (ap (λ (z : List Message). out t ++ z) (members_told t (to_others work.state.vr (vr.Prepare work.state.vr.view (length work.state.vr.log + 1) work.state.vr.commit entry))) ∙ append-nil (out t)))
           (served t less);
     }
@@ -241,7 +241,7 @@ module _ (kinds : List ℕ) (setup : Setup) (sw : ℕ → SwitchState) (in_ : �
             told_all = r.told_all;
             last = r.last;
           };
-          served = λ t less. subst (λ (z : List Message). IsServed kinds setup alone_work.state t (sw t) z (in_ t))
+          served = λ t less. subst (λ (z : List Message). IsAttended kinds setup alone_work.state t (sw t) z (in_ t))
               (ap (λ (z : List Message). out t ++ z)
               (sym (told-append t (proposal work.state entry) r.tells.letters
               ∙ ap (λ (z : List Message). z ++ told t r.tells.letters) (members_told t (to_others work.state.vr (vr.Prepare work.state.vr.view (length work.state.vr.log + 1) work.state.vr.commit entry))))))

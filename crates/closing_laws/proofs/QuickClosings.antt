@@ -1,6 +1,6 @@
 -- A closing is quick as a whole: what is posted and lost before its first view takes no turn, and leaves all as it was.
-use Rattle.std.proofs.Common.{◌≡◌, ◌≤◌, inl, inr, ℕ, ◌/◌, ◌%◌, Bool, true, false, List, [], ◌∷◌, map, length, refl, sym, ◌∙◌, ap, subst, arith}
-use Rattle.std.specs.Prelude.{nat_eq, nat_lt, filter, drop, if◌then◌else◌}
+use Rattle.std.proofs.Common.{◌≡◌, ◌≤◌, inl, inr, ℕ, ◌/◌, ◌%◌, Bool, true, false, List, [], ◌∷◌, map, length, refl, sym, ◌∙◌, ap, subst, arith, zero, suc, ◌+◌, ◌<◌}
+use Rattle.std.specs.Prelude.{nat_eq, nat_lt, filter, drop, if◌then◌else◌, slice_index_or, reverse, ◌++◌}
 use Rattle.std.specs.List.{list_any, range_with_len}
 use Rattle.std.proofs.Math.Path.{fun_ext}
 use Rattle.std.proofs.lemmas.Bool.{ltb-true, ltb-false, le-ltb}
@@ -20,20 +20,20 @@ use Rattle.vr_log.specs.Log.{processed, received}
 use Rattle.dispatcher.specs.Ledger.{most_commands}
 use Rattle.group_controller.specs.State.{ControllerState}
 use Rattle.of_switch.specs.State.{SwitchState, life_of}
-use Rattle.rv_runs.specs.Bound.{commands_left, ended_waiting, entries_left, events_left, most_turns, place_known, turns_bound}
+use Rattle.rv_runs.specs.Bound.{closing_members, commands_left, ended_waiting, entries_left, events_left, most_by, place_known, sharp_bound, turns_bound}
 use Rattle.rv_runs.specs.Committed.{count_up, decided, kept, kept_of, longest, members_up, states_of}
 use Rattle.rv_runs.specs.Legal.{IsPossible}
 use Rattle.rv_runs.specs.Schedule.{ClosesTo, IsMove, IsPosted, Losing, Phase, after_move, closing_view, count_turns, is_turn, majority, next_lost, next_move, quorum_of}
 use Rattle.rv_runs.specs.States.{Scene, IsFaithful}
 use Rattle.closing_laws.specs.Given.{given_by}
-use Rattle.closing_laws.specs.Quick.{ClosingsAreQuick}
+use Rattle.closing_laws.specs.Quick.{ClosingsAreQuick, ClosingsAreSharplyBounded}
 use Rattle.closing_laws.specs.Starts.{SavesSucceed}
 use Rattle.closing_laws.proofs.Carrying.{IsIdle, Loses, Posts, controllers_stay, switches_stay}
 use Rattle.closing_laws.proofs.Given.{are_few}
 use Rattle.closing_laws.proofs.Quickly.{attempt_turns, waiting_same}
 use Rattle.closing_laws.proofs.LastAttempts as attempts
 use Rattle.closing_laws.proofs.Quorate as quorate
-use Rattle.closing_laws.proofs.Walking.{later, later_is}
+use Rattle.closing_laws.proofs.Posting.{later, later_is}
 
 -- the longest of logs is as long as each
 longest_covers : (best : List Entry) (logs : List (List Entry)) → (length best ≤ length (longest best logs)) × ((x : List Entry) → IsIn x logs → length x ≤ length (longest best logs))
@@ -106,10 +106,10 @@ module _ {B : Type 0} (scene : Scene B) (results : List (List SaveResult)) where
         omega (arith, held, over)
 
     -- so the bound is the same
-    most_same : (after : Past) → most_turns scene results (e ∷ P) after ≡ most_turns scene results P after
+    most_same : (after : Past) → most_by sharp_bound scene results (e ∷ P) after ≡ most_by sharp_bound scene results P after
     most_same after =
-        ap (λ (l : ℕ). turns_bound scene.setup.controllers (length scene.setup.ports) l (entries_left (members_of (states_of scene results (e ∷ P)))) (commands_left scene (decided scene results after) (place_known (members_of (states_of scene results (e ∷ P)))))) left_same
-        ∙ ap (λ (ss : List ControllerState). turns_bound scene.setup.controllers (length scene.setup.ports) (events_left scene results P) (entries_left (members_of ss)) (commands_left scene (decided scene results after) (place_known (members_of ss)))) states_same
+        ap (λ (l : ℕ). sharp_bound scene.setup.controllers (length scene.setup.ports) l (entries_left (members_of (states_of scene results (e ∷ P)))) (commands_left scene (decided scene results after) (place_known (members_of (states_of scene results (e ∷ P)))))) left_same
+        ∙ ap (λ (ss : List ControllerState). sharp_bound scene.setup.controllers (length scene.setup.ports) (events_left scene results P) (entries_left (members_of ss)) (commands_left scene (decided scene results after) (place_known (members_of ss)))) states_same
       where
         n : ℕ
         n = scene.setup.controllers
@@ -119,7 +119,7 @@ module _ {B : Type 0} (scene : Scene B) (results : List (List SaveResult)) where
 
   module _ (setup : IsSetup scene.setup) (faithful : IsFaithful scene.sealing) (given : given_by scene.kinds ≤ most_commands) (last : Phase) where
     abbrev Quick : Past → Past → Type 0
-    Quick P entries = count_turns entries ≤ most_turns scene results P (later P entries)
+    Quick P entries = count_turns entries ≤ most_by sharp_bound scene results P (later P entries)
 
     -- an entry that is no turn
     behind_idle : (e : JournalEntry B) (P rest : Past) → IsIdle scene results e → is_turn e ≡ false → Quick (e ∷ P) rest → Quick P (e ∷ rest)
@@ -133,7 +133,7 @@ module _ {B : Type 0} (scene : Scene B) (results : List (List SaveResult)) where
     attempted : (P entries : Past) → IsPosted scene results P → pool P ≡ [] → majority scene.setup.controllers ≤ count_up scene results P → SavesSucceed scene results P → ClosesTo scene results Losing P entries last → IsPossible scene results (later P entries) →
         IsPosted scene results (later P entries) → IsWithinLimits scene.sealing.size (later P entries) → Quick P entries
     attempted P entries rests empty most succeed closes possible posted within =
-        subst (λ (l : Past). count_turns entries ≤ most_turns scene results P l) (sym (later_is P entries))
+        subst (λ (l : Past). count_turns entries ≤ most_by sharp_bound scene results P l) (sym (later_is P entries))
         (attempt_turns scene results setup faithful (are_few scene.setup setup scene.kinds given) P entries last (record {
           possible = subst (λ (l : Past). IsPossible scene results l) (later_is P entries) possible;
           rests = rests;
@@ -179,10 +179,30 @@ module _ {B : Type 0} (scene : Scene B) (results : List (List SaveResult)) where
         by_entry (Idle a) c again can done fits = by_pool (Idle a) c.0 c.1.0 c.1.1 c.1.2 c again can done fits (pool P) refl
         by_entry (Refused a) c again can done fits = by_pool (Refused a) c.0 c.1.0 c.1.1 c.1.2 c again can done fits (pool P) refl
 
-pub quick_law : {B : Type 0} → ClosingsAreQuick B
-quick_law scene results before entries last setup faithful given possible succeed within closes posted =
-    subst (λ (l : List (JournalEntry _)). count_turns entries ≤ most_turns scene results before l) (later_is before entries)
+pub sharp_law : {B : Type 0} → ClosingsAreSharplyBounded B
+sharp_law scene results before entries last setup faithful given possible succeed within closes posted =
+    subst (λ (l : List (JournalEntry _)). count_turns entries ≤ most_by sharp_bound scene results before l) (later_is before entries)
     (quick scene results setup faithful given last entries before succeed closes
     (subst (λ (l : List (JournalEntry _)). IsPossible scene results l) (sym (later_is before entries)) possible)
     (subst (λ (l : List (JournalEntry _)). IsPosted scene results l) (sym (later_is before entries)) posted)
     (subst (λ (l : List (JournalEntry _)). IsWithinLimits scene.sealing.size l) (sym (later_is before entries)) within))
+
+-- the sharper bound is no higher than the first, in a group of this size
+abbrev IsSharper : ℕ → Type 0
+IsSharper n = (switches events entries commands : ℕ) → sharp_bound n switches events entries commands ≤ turns_bound n switches events entries commands
+
+sharper_of : (n k : ℕ) → k < 4 → slice_index_or (1 ∷ 3 ∷ 5 ∷ 7 ∷ []) k n ≡ n → IsSharper n
+sharper_of n zero l e = subst IsSharper e (λ switches events entries commands. omega arith)
+sharper_of n (suc zero) l e = subst IsSharper e (λ switches events entries commands. omega arith)
+sharper_of n (suc (suc zero)) l e = subst IsSharper e (λ switches events entries commands. omega arith)
+sharper_of n (suc (suc (suc zero))) l e = subst IsSharper e (λ switches events entries commands. omega arith)
+sharper_of n (suc (suc (suc (suc k)))) l e = absurd (omega (arith, l))
+
+pub quick_law : {B : Type 0} → ClosingsAreQuick B
+quick_law scene results before entries last setup faithful given possible succeed within closes posted =
+    let sharp = sharp_law scene results before entries last setup faithful given possible succeed within closes posted in
+    let group = setup.group in
+    let members = closing_members scene results before in
+    let below = sharper_of scene.setup.controllers group.0 group.1 group.2 (length scene.setup.ports) (events_left scene results before) (entries_left members)
+    (commands_left scene (decided scene results (reverse entries ++ before)) (place_known members)) in
+    omega (arith, sharp, below)

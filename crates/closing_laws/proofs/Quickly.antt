@@ -1,12 +1,12 @@
--- An attempt of a closing takes no more turns than the bound says.
+-- An attempt of a closing takes no more turns than the sharper bound says.
 use Rattle.std.proofs.Common.{◌≡◌, ◌≤◌, ◌<◌, inl, inr, ℕ, zero, suc, ◌+◌, ◌-◌, ◌*◌, ◌/◌, ◌%◌, Bool, true, false, List, [], ◌∷◌, ◌++◌, map, length, take, drop, filter, refl, sym, ◌∙◌, ap, subst, arith}
-use Rattle.std.specs.Prelude.{nat_lt, reverse, sum_by, slice_index_or, Option, Some, None}
+use Rattle.std.specs.Prelude.{if◌then◌else◌, nat_lt, reverse, sum_by, slice_index_or, Option, Some, None}
 use Rattle.std.specs.List.{range_with_len}
 use Rattle.std.proofs.Math.Path.{fun_ext}
 use Rattle.std.proofs.Math.Seq.{drop-append_seam}
-use Rattle.std.proofs.lemmas.Bool.{cases_lt}
+use Rattle.std.proofs.lemmas.Bool.{cases_lt, le-ltb}
 use Rattle.lists.specs.Lists.{IsIn, IsPrefix}
-use Rattle.lists.proofs.Prefixes.{front_prefix, prefix_trans}
+use Rattle.lists.proofs.Prefixes.{front_prefix, prefix_both, prefix_length, prefix_trans}
 use Rattle.of_types.specs.declared.message.Event.{Event}
 use Rattle.of_types.specs.Lives.{count_in}
 use Rattle.of_types.specs.Setups.{IsSetup}
@@ -17,13 +17,13 @@ use Rattle.vr_log.specs.declared.entry.Entry.{Entry}
 use Rattle.vr_log.specs.declared.entry.LogFull.{LogFull}
 use Rattle.vr_log.specs.declared.state.VrState.{VrState}
 use Rattle.vr_log.specs.Log.{processed, received}
-use Rattle.controller_laws.proofs.Logs.{processed_prefix}
+use Rattle.controller_laws.proofs.Logs.{processed_prefix, received_prefix}
 use Rattle.event_buffer.specs.Buffer.{next_number}
 use Rattle.two_stage_log.specs.Counts.{processed_of}
 use Rattle.exactly_once.proofs.Growing.{take_prefix, take_same}
 use Rattle.of_switch.specs.State.{SwitchState, life_of}
 use Rattle.group_controller.specs.State.{ControllerState, committed}
-use Rattle.rv_runs.specs.Bound.{closing_members, commands_left, entries_left, greatest_of, place_known, turns_bound, waiting_at}
+use Rattle.rv_runs.specs.Bound.{closing_members, commands_left, entries_left, greatest_of, place_known, sharp_bound, waiting_at}
 use Rattle.rv_runs.specs.States.{Scene, IsFaithful}
 use Rattle.rv_runs.specs.Legal.{IsPossible}
 use Rattle.rv_runs.specs.Committed.{controller_state, decided, switch_state}
@@ -31,7 +31,7 @@ use Rattle.rv_runs.specs.Schedule.{Phase, ClosesTo, count_turns, met_by}
 use Rattle.rv_agreement.proofs.Groups.{odd_law}
 use Rattle.rv_laws.proofs.Laws.{lasting_law}
 use Rattle.closing_laws.specs.Following.{Leads, Start}
-use Rattle.closing_laws.specs.Measure.{commands_from}
+use Rattle.closing_laws.specs.Measure.{commands_from, logged_held}
 use Rattle.closing_laws.specs.Quorum.{has}
 use Rattle.closing_laws.specs.Serving.{AreFew, IsOlder}
 use Rattle.closing_laws.specs.Starts.{IsAttempt, Starts, members_at, quorum_after, turns_after, view_after}
@@ -42,7 +42,8 @@ use Rattle.closing_laws.proofs.Begun.{counts_append}
 use Rattle.closing_laws.proofs.Behind as behind
 use Rattle.closing_laws.proofs.BestLogs.{has_best}
 use Rattle.closing_laws.proofs.Emptied as emptied
-use Rattle.closing_laws.proofs.Emptying as emptying
+use Rattle.closing_laws.proofs.Rooms as rooms
+use Rattle.closing_laws.proofs.Standing as standing
 use Rattle.closing_laws.proofs.Facts.{cleared, known}
 use Rattle.closing_laws.proofs.Generations.{generations_older}
 use Rattle.closing_laws.proofs.InTime.{in_time_law}
@@ -53,26 +54,36 @@ use Rattle.closing_laws.proofs.Growth.{processed_beyond}
 use Rattle.closing_laws.proofs.OpenedMeasure as measure
 use Rattle.closing_laws.proofs.Picked.{IsPicked, picked_of_quorum}
 use Rattle.closing_laws.proofs.PrimaryLowers.{known_of, place_of}
-use Rattle.closing_laws.proofs.Walking.{later}
+use Rattle.closing_laws.proofs.Posting.{later}
 use Rattle.vr_log.proofs.Logs.{length_is}
 
 -- the bound in a group of this size, by what the parts are within: the turns to the start, those behind it, and of these the events that
--- do not stand as processed, and those that do beyond what is known
+-- do not stand as processed, and those that do beyond what is known. An event that is logged as it starts costs less than one that is not
 abbrev IsBounded : ℕ → Type 0
-IsBounded n = (switches waiting over entries commands first rest events beyond : ℕ) → first ≤ (n / 2) * (n / 2) + 3 * (n / 2) + 3 →
-    rest ≤ 2 * (n / 2) + 2 * switches + (2 * (n / 2) + 1) * events + beyond + (4 * (n / 2) + 3) * waiting + 3 * commands → events ≤ waiting + over + entries + 2 → beyond ≤ entries →
-    first + rest ≤ turns_bound n switches (waiting + over) entries commands
+IsBounded n = (switches waiting logged over entries commands first fetched rest events more beyond : ℕ) →
+    first ≤ (n / 2) * (n / 2) + 3 * (n / 2) + 1 + 2 * fetched → fetched ≤ 1 → fetched ≤ n / 2 →
+    rest + (4 * (n / 2) + 1) * logged ≤ 2 * (n / 2) + 2 * switches + (2 * (n / 2) + 1) * events + beyond + (4 * (n / 2) + 3) * waiting + 3 * commands →
+    events ≤ logged + over + entries + more → more ≤ 1 → more ≤ n / 2 → beyond ≤ entries →
+    first + rest ≤ sharp_bound n switches (waiting + over) entries commands
 
 bounded_of : (n k : ℕ) → k < 4 → slice_index_or (1 ∷ 3 ∷ 5 ∷ 7 ∷ []) k n ≡ n → IsBounded n
-bounded_of n zero l e = subst IsBounded e (λ switches waiting over entries commands first rest events beyond a b c d. omega (arith, a, b, c, d))
-bounded_of n (suc zero) l e = subst IsBounded e (λ switches waiting over entries commands first rest events beyond a b c d. omega (arith, a, b, c, d))
-bounded_of n (suc (suc zero)) l e = subst IsBounded e (λ switches waiting over entries commands first rest events beyond a b c d. omega (arith, a, b, c, d))
-bounded_of n (suc (suc (suc zero))) l e = subst IsBounded e (λ switches waiting over entries commands first rest events beyond a b c d. omega (arith, a, b, c, d))
+bounded_of n zero l e = subst IsBounded e (λ switches waiting logged over entries commands first fetched rest events more beyond a b c d e f g h. omega (arith, a, b, c, d, e, f, g, h))
+bounded_of n (suc zero) l e = subst IsBounded e (λ switches waiting logged over entries commands first fetched rest events more beyond a b c d e f g h. omega (arith, a, b, c, d, e, f, g, h))
+bounded_of n (suc (suc zero)) l e = subst IsBounded e (λ switches waiting logged over entries commands first fetched rest events more beyond a b c d e f g h. omega (arith, a, b, c, d, e, f, g, h))
+bounded_of n (suc (suc (suc zero))) l e = subst IsBounded e (λ switches waiting logged over entries commands first fetched rest events more beyond a b c d e f g h. omega (arith, a, b, c, d, e, f, g, h))
 bounded_of n (suc (suc (suc (suc k)))) l e = absurd (omega (arith, l))
 
-soon : (f : ℕ) (b : Bool) → turns_to_start f b ≤ f * f + 3 * f + 3
+-- the turns of a fetch come in groups of several alone
+abbrev once : Bool → ℕ
+once fetches = if fetches then 1 else 0
+
+soon : (f : ℕ) (fetches : Bool) → turns_to_start f fetches ≤ f * f + 3 * f + 1 + 2 * once fetches
 soon f true = omega arith
 soon f false = omega arith
+
+once_least : (fetches : Bool) → once fetches ≤ 1
+once_least true = omega arith
+once_least false = omega arith
 
 -- what was decided begins what is
 decided_grows : {B : Type 0} (scene : Scene B) (results : List (List SaveResult)) → IsSetup scene.setup → IsFaithful scene.sealing → (more P : List (JournalEntry B)) → IsPossible scene results (more ++ P) →
@@ -124,16 +135,36 @@ module _ {B : Type 0} (scene : Scene B) (results : List (List SaveResult)) (setu
   commands = commands_left scene (decided scene results (reverse entries ++ before)) (place_known (closing_members scene results before))
 
   abbrev pub Bounded : Type 0
-  Bounded = count_turns entries ≤ turns_bound n (length scene.setup.ports) (waiting + over) more commands
+  Bounded = count_turns entries ≤ sharp_bound n (length scene.setup.ports) (waiting + over) more commands
 
   bounded : IsBounded n
   bounded = let g = setup.group in bounded_of n g.0 g.1 g.2
 
+  -- a member that is alone in its group fetches nothing
+  abbrev fetches : ℕ → Bool
+  fetches best = nat_lt (members p).commit (members best).commit
+
+  fetched_few : (best : ℕ) → has quorum best ≡ true → once (fetches best) ≤ n / 2
+  fetched_few best chosen = by_group (n / 2) refl
+    where
+      by_group : (f : ℕ) → n / 2 ≡ f → once (fetches best) ≤ f
+      by_group zero none =
+          let size = (odd_law scene.setup setup).1 in
+          let is = begun.quorum_is scene results before a.most in
+          let own = is.members best chosen in
+          let first = is.members p is.primary in
+          let same : best ≡ p = omega (arith, size, none, own, first) in
+          let never : fetches best ≡ false = ap (λ (b : ℕ). nat_lt (members p).commit (members b).commit) same ∙ le-ltb (members p).commit (members p).commit (omega arith) in
+          let count = ap once never in
+          omega (arith, count)
+      by_group (suc f) some = let one = once_least (fetches best) in omega (arith, one)
+
   -- where nothing comes behind the start
-  bounded_first : (first : ℕ) (best : ℕ) → first ≤ turns_after scene results before best → first ≤ turns_bound n (length scene.setup.ports) (waiting + over) more commands
-  bounded_first first best few_turns =
-      let early = soon (n / 2) (nat_lt (members p).commit (members best).commit) in
-      let all = bounded (length scene.setup.ports) waiting over more commands first 0 0 0 (omega (arith, few_turns, early)) (omega arith) (omega arith) (omega arith) in
+  bounded_first : (first : ℕ) (best : ℕ) → has quorum best ≡ true → first ≤ turns_after scene results before best → first ≤ sharp_bound n (length scene.setup.ports) (waiting + over) more commands
+  bounded_first first best chosen few_turns =
+      let early = soon (n / 2) (fetches best) in
+      let all = bounded (length scene.setup.ports) waiting 0 over more commands first (once (fetches best)) 0 0 0 0 (omega (arith, few_turns, early)) (once_least (fetches best)) (fetched_few best chosen)
+      (omega arith) (omega arith) (omega arith) (omega arith) (omega arith) in
       omega (arith, all)
 
   module _ (best : ℕ) (is_best : HasBest quorum members best) (starts : Starts scene results before entries last best) where
@@ -159,7 +190,7 @@ module _ {B : Type 0} (scene : Scene B) (results : List (List SaveResult)) (setu
     older = generations_older scene results setup faithful before (behind.possible_first scene results setup faithful few before entries last a best is_best starts) a.most
 
     abbrev Promised : List (JournalEntry B) → Type 0
-    Promised P = emptying.HavePromised scene results setup faithful w quorum small before a.saves start P
+    Promised P = standing.HavePromised scene results w quorum start P
 
     possible_begin : IsPossible scene results begins
     possible_begin = opened_by.possible scene results setup faithful few before entries last best a starts is_best.member small older
@@ -167,7 +198,7 @@ module _ {B : Type 0} (scene : Scene B) (results : List (List SaveResult)) (setu
     promised : Promised begins
     promised = opened_by.promised scene results setup faithful few before entries last best a starts is_best.member small older
 
-    truth : emptying.AreTrue scene results setup faithful w quorum small before a.saves start c (λ s. switch_state scene s begins)
+    truth : rooms.AreTrue scene.kinds scene.setup c (λ s. switch_state scene s begins)
     truth = emptied.truths scene results setup faithful few w quorum closing before a.saves start begins possible_begin promised
 
     abbrev leader : VrState
@@ -212,36 +243,54 @@ module _ {B : Type 0} (scene : Scene B) (results : List (List SaveResult)) (setu
     abbrev events : ℕ
     events = length (received leader.log) - processed leader.log
 
-    in_several : 0 < n / 2 → events ≤ waiting + over + more + 2
-    in_several some =
-        let some_left = unprocessed_left (length scene.setup.ports) switches c.vr.log was was_begins genuine logged gone in
-        let same = ap (λ (es : List Event). length es) events_same in
+    -- those of its events that switches hold
+    abbrev holding : ℕ
+    holding = sum_by (λ s. logged_held leader.log s (switches s)) (range_with_len 0 (length scene.setup.ports))
+
+    events_left_of : (log : List Entry) → IsPrefix was log → received c.vr.log ≡ received log →
+        length (received leader.log) - processed was ≤ holding + over + (length (received leader.log) - length (received was))
+    events_left_of log front is =
+        let same : received log ≡ received leader.log = sym is ∙ events_same in
+        subst (λ (es : List Event). length es - processed was ≤
+        sum_by (λ s. count_in s (life_of (switches s)) es - (switches s).buffer.cleared) (range_with_len 0 (length scene.setup.ports)) + over + (length es - length (received was))) same
+        (unprocessed_left (length scene.setup.ports) switches log was front (λ e among. genuine e (subst (λ (es : List Event). IsIn e es) (sym is) among)) gone)
+
+    -- where its log begins with what was decided
+    in_front : IsPrefix was leader.log → events ≤ holding + over + more
+    in_front front =
+        let some_left = events_left_of leader.log front events_same in
+        let fewer = processed_prefix front in
+        let x = length_is leader.log in
+        let y = length_is was in
+        let far = longest in
+        let place = place_decided in
+        omega (arith, some_left, fewer, x, y, far, place)
+
+    -- else no event of the log is missing there, and at most one more stands as processed
+    in_back : 0 < n / 2 → length leader.log ≤ length was → events ≤ holding + over + more + 1
+    in_back some short =
+        let some_left = events_left_of c.vr.log was_begins refl in
+        let fewer = prefix_length (received_prefix (prefix_both longer was_begins short)) in
         let committed_is : committed c ≡ take leader.commit leader.log =
         ap (λ (k : ℕ). take k c.vr.log) (measure.same_commit scene results setup faithful few before entries last best a starts is_best.member small older some)
         ∙ take_same leader.commit (measure.within scene results setup faithful few before entries last best a starts is_best.member small older) longer in
         let one = truth.primary.ahead in
         let count = ap processed committed_is in
         let front = processed_prefix (front_prefix leader.commit leader.log) in
-        let x = length_is c.vr.log in
-        let y = length_is leader.log in
-        let far = longest in
-        let place = place_decided in
-        omega (arith, some_left, same, one, count, front, x, y, far, place)
+        let all = processed_prefix was_begins in
+        omega (arith, some_left, fewer, one, count, front, all)
 
-    in_one : n / 2 ≤ 0 → events ≤ waiting + over + more + 2
-    in_one none =
-        let odd = odd_law scene.setup setup in
-        let size = odd.1 in
-        let front = decided_before scene results setup faithful (omega (arith, size, none)) before possible_first best (small best is_best.member) (begun.ready scene results before a.most best is_best.member).up in
-        let some_left = unprocessed_left (length scene.setup.ports) switches leader.log was front
-        (λ e among. genuine e (subst (λ (es : List Event). IsIn e es) (sym events_same) among))
-        (λ s there. subst (λ (es : List Event). count_in s (life_of (switches s)) es ≤ next_number (switches s).buffer) events_same (logged s there)) gone in
-        let far = longest in
-        let place = place_decided in
-        omega (arith, some_left, far, place)
-
-    events_few : events ≤ waiting + over + more + 2
-    events_few = elim (cases_lt 0 (n / 2)) [ inl some ↦ in_several some | inr none ↦ in_one none ]
+    events_few : (slack : ℕ) × (slack ≤ 1) × (slack ≤ n / 2) × (events ≤ holding + over + more + slack)
+    events_few = elim (cases_lt 0 (n / 2)) [
+      | inl some ↦ elim (cases_lt (length leader.log) (length was)) [
+        | inl short ↦ (1, omega arith, omega (arith, some), in_back some (omega (arith, short)))
+        | inr long ↦ (let here = in_front (prefix_both was_begins longer long) in (0, omega arith, omega arith, omega (arith, here)))
+      ]
+      | inr none ↦
+          let size = (odd_law scene.setup setup).1 in
+          let here = in_front (decided_before scene results setup faithful (omega (arith, size, none)) before possible_first best (small best is_best.member) (begun.ready scene results before a.most best is_best.member).up) in
+          (0, omega arith, omega arith, omega (arith, here))
+    ]
 
     beyond_few : processed leader.log - processed (take leader.commit leader.log) ≤ more
     beyond_few =
@@ -294,23 +343,25 @@ module _ {B : Type 0} (scene : Scene B) (results : List (List SaveResult)) (setu
 
     by_full : (o : Option LogFull) → c.full ≡ o → Bounded
     by_full None is =
-        let counted = emptied.counts scene results setup faithful few w quorum closing before a.saves start starts.rest begins last within_then starts.phase starts.drains
+        let counted = emptied.goes scene results setup faithful few w quorum closing before a.saves start starts.rest begins last within_then starts.phase starts.drains
         (behind.opened scene results setup faithful few before entries last a best is_best starts is) (subst (λ (o : Option LogFull). ClosesTo scene results (met_by o starts.phase) begins starts.rest last) is goes_on) possible_end in
-        let turns = counted.0 in
+        let turns = counted.counted in
         let left = behind.opened_left scene results setup faithful few before entries last a best is_best starts is in
-        let value = measure.start_left scene results setup faithful few before entries last best a starts is_best.member small older (λ t there. (truth.each t there).cleared) in
+        let value = measure.start_left scene results setup faithful few before entries last best a starts is_best.member small older (λ t there. (truth.each t there).cleared) (λ t there. (truth.each t there).logged) in
         let unchanged = ap (λ (k : ℕ). (4 * (n / 2) + 3) * k) (waiting_same scene begins before (length scene.setup.ports) starts.unchanged) in
-        let more_commands = commands_few is counted.1 in
-        let early = soon (n / 2) (nat_lt (members p).commit (members best).commit) in
+        let holding_same = ap (λ (sw : ℕ → SwitchState). (4 * (n / 2) + 1) * sum_by (λ t. logged_held leader.log t (sw t)) (range_with_len 0 (length scene.setup.ports))) (fun_ext starts.unchanged) in
+        let more_commands = commands_few is counted.promised in
         let first = first_counted in
-        let all = bounded (length scene.setup.ports) waiting over more commands (turns_after scene results before best) (count_turns starts.rest) events (processed leader.log - processed (take leader.commit leader.log)) early
-        (omega (arith, turns, left, value, unchanged, more_commands)) events_few beyond_few in
+        let some = events_few in
+        let all = bounded (length scene.setup.ports) waiting holding over more commands (turns_after scene results before best) (once (fetches best)) (count_turns starts.rest) events some.0
+        (processed leader.log - processed (take leader.commit leader.log)) (soon (n / 2) (fetches best)) (once_least (fetches best)) (fetched_few best is_best.member)
+        (omega (arith, turns, left, value, unchanged, holding_same, more_commands)) some.3 some.1 some.2 beyond_few in
         omega (arith, first, all)
     by_full (Some limit) is =
         let none = emptied.no_turn scene results setup faithful few w quorum closing before a.saves start limit begins starts.rest last
         (subst (λ (o : Option LogFull). ClosesTo scene results (met_by o starts.phase) begins starts.rest last) is goes_on) in
         let first = first_counted in
-        bounded_first (count_turns entries) best (omega (arith, first, none))
+        bounded_first (count_turns entries) best is_best.member (omega (arith, first, none))
 
     pub started_quick : Bounded
     started_quick = by_full c.full refl
@@ -323,6 +374,6 @@ module _ {B : Type 0} (scene : Scene B) (results : List (List SaveResult)) (setu
       let b = has_best members quorum (let count = picked.count in omega (arith, count)) in
       let s = in_time_law scene results before entries last b.0 setup faithful a b.1 in
       elim (cases_lt (count_turns entries) (turns_after scene results before b.0)) [
-        | inl less ↦ bounded_first (count_turns entries) b.0 (omega (arith, less))
+        | inl less ↦ bounded_first (count_turns entries) b.0 b.1.member (omega (arith, less))
         | inr enough ↦ started_quick b.0 b.1 (s.starts enough)
       ]

@@ -42,7 +42,7 @@ use Rattle.closing_laws.proofs.Begun as begun
 use Rattle.closing_laws.proofs.Carrying.{controller_rests}
 use Rattle.closing_laws.proofs.Numbers.{has_here, has_later}
 use Rattle.closing_laws.proofs.Taking.{at, own_steps, took_saved}
-use Rattle.closing_laws.proofs.Walking.{later, later_is}
+use Rattle.closing_laws.proofs.Posting.{later, later_is}
 
 -- a turn leaves a controller up that was, but for a crash
 chain_up : (kinds : List ℕ) (setup : Setup) (x : ControllerInput) (c : ControllerState) (w : Work) → is_up c.vr ≡ true → Chain kinds setup x (beginning c) w → is_up w.state.vr ≡ true

@@ -26,7 +26,7 @@ use Rattle.closing_laws.proofs.InTime.{in_time_law}
 use Rattle.closing_laws.proofs.LastAttempts as attempts
 use Rattle.closing_laws.proofs.Picked.{IsPicked, picked_of_quorum}
 use Rattle.closing_laws.proofs.Taking.{at}
-use Rattle.closing_laws.proofs.Walking.{later, later_is}
+use Rattle.closing_laws.proofs.Posting.{later, later_is}
 
 module _ {B : Type 0} (scene : Scene B) (results : List (List SaveResult)) (setup : IsSetup scene.setup) (faithful : IsFaithful scene.sealing) (few : AreFew scene.kinds scene.setup)
     (before entries : List (JournalEntry B)) (last : Phase) (primary : ℕ) (a : IsAttempt scene results before entries last) (end : IsEnd (next_move scene results last (reverse entries ++ before)) (Done primary)) where

@@ -24,7 +24,7 @@ use Rattle.dispatcher.specs.Marks.{has_result, is_confirmed, is_finished, is_wan
 use Rattle.group_controller.specs.State.{ControllerState, committed}
 use Rattle.closing_laws.specs.Quorum.{has}
 use Rattle.closing_laws.specs.Following.{Start, KeepsUp, IsAgreed, Leads}
-use Rattle.closing_laws.specs.Serving.{IsServed, IsSettled, IsTrueOf, IsAsked, AreTold, events_told, logged_of, processed_by, sent_of, settled_by, told_by, told_through}
+use Rattle.closing_laws.specs.Serving.{IsAttended, IsSettled, IsTrueOf, IsMastered, AreEventsTold, events_told, logged_of, processed_by, sent_of, settled_by, told_by, told_through}
 use Rattle.closing_laws.proofs.CommandsNamed.{command_named}
 use Rattle.closing_laws.proofs.Followers.{rests, drop_none}
 
@@ -56,8 +56,8 @@ module _ (kinds : List ℕ) (setup : Setup) (c : ControllerState) (all : committ
       ap (λ (os : List Order). length os) (issued-take kinds setup switch life n (received (committed c))) ∙ sym (count-orders switch life (concat (take n (issues kinds setup (received (committed c))))))
 
   -- one switch
-  module _ (s : ℕ) (sw : SwitchState) (h : IsServed kinds setup c s sw [] []) (t : IsTrueOf kinds setup c s sw) where
-    pub asked : IsAsked c s sw [] [] × AreTold c s sw [] []
+  module _ (s : ℕ) (sw : SwitchState) (h : IsAttended kinds setup c s sw [] []) (t : IsTrueOf kinds setup c s sw) where
+    pub asked : IsMastered c s sw [] [] × AreEventsTold c s sw [] []
     asked = elim h.role [ inl u ↦ absurd (let e = u.first in cc) | inr a ↦ a ]
 
     confirmed : is_confirmed c.marks s ≡ true
@@ -102,7 +102,7 @@ module _ (kinds : List ℕ) (setup : Setup) (c : ControllerState) (all : committ
     all_marked i least most = elim ((h.confirmed confirmed).accounted i least most) [ inl e ↦ e | inr w ↦ elim w [ inl e ↦ absurd e | inr e ↦ absurd e ] ]
 
   -- of all switches
-  module _ (switches : ℕ → SwitchState) (served : (s : ℕ) → s < length setup.ports → IsServed kinds setup c s (switches s) [] []) (true_of : (s : ℕ) → s < length setup.ports → IsTrueOf kinds setup c s (switches s))
+  module _ (switches : ℕ → SwitchState) (served : (s : ℕ) → s < length setup.ports → IsAttended kinds setup c s (switches s) [] []) (true_of : (s : ℕ) → s < length setup.ports → IsTrueOf kinds setup c s (switches s))
       (lives : (e : Event) → IsIn e (received c.vr.log) → (s : ℕ) → s < length setup.ports → e.switch ≡ s → e.life ≤ life_of (switches s)) where
     abbrev events : List Event
     events = received c.vr.log

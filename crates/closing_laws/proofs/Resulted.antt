@@ -21,7 +21,7 @@ use Rattle.group_controller.specs.Rules.{controller_work}
 use Rattle.group_controller.specs.Settling.{after_finishing}
 use Rattle.rv_runs.specs.declared.messages.Message.{Message}
 use Rattle.rv_runs.specs.declared.messages.Message.TheVariants as message
-use Rattle.closing_laws.specs.Serving.{AreCommanded, AreFew, AreTold, IsAsked, IsServed, IsSettled, IsTrueOf, IsTruePrimary, events_told, is_reply, results_said, settled_by}
+use Rattle.closing_laws.specs.Serving.{AreCommanded, AreFew, AreEventsTold, IsMastered, IsAttended, IsSettled, IsTrueOf, IsTruePrimary, events_told, is_reply, results_said, settled_by}
 use Rattle.closing_laws.proofs.Committing.{told_is}
 use Rattle.closing_laws.proofs.Extending.{extends_none}
 use Rattle.closing_laws.proofs.Finishing.{AreBoundedTo}
@@ -100,17 +100,17 @@ abbrev pub with_marks : ControllerState → Marks → ControllerState
 with_marks c marks = record (with_no_met_limit c) { marks = marks }
 
 module _ (kinds : List ℕ) (setup : Setup) (c : ControllerState) (s : ℕ) (sw : SwitchState) (xid number : ℕ) (result : Outcome) (out rest : List Message)
-    (was : IsServed kinds setup c s sw out (tells_result xid (life_of sw) number result ∷ rest)) (marks : Marks) (confirmed : is_confirmed marks s ≡ is_confirmed c.marks s)
+    (was : IsAttended kinds setup c s sw out (tells_result xid (life_of sw) number result ∷ rest)) (marks : Marks) (confirmed : is_confirmed marks s ≡ is_confirmed c.marks s)
     (kept : (i : ℕ) → has_result c.marks s (life_of sw) i ≡ true → has_result marks s (life_of sw) i ≡ true)
     (only : (i : ℕ) → has_result marks s (life_of sw) i ≡ true → (has_result c.marks s (life_of sw) i ≡ true) ⊎ (number ≡ i))
     (marked : settled_by kinds setup c s sw ≤ number → has_result marks s (life_of sw) number ≡ true) where
-  asked : IsAsked c s sw out (tells_result xid (life_of sw) number result ∷ rest) × AreTold c s sw out (tells_result xid (life_of sw) number result ∷ rest)
+  asked : IsMastered c s sw out (tells_result xid (life_of sw) number result ∷ rest) × AreEventsTold c s sw out (tells_result xid (life_of sw) number result ∷ rest)
   asked = elim was.role [ inl u ↦ absurd (some u.silent) | inr a ↦ a ]
     where
       some : (tells_result xid (life_of sw) number result ∷ rest) ≡ [] → ⊥
       some x = absurd cc
 
-  pub result_taken : IsServed kinds setup (with_marks c marks) s sw out rest
+  pub result_taken : IsAttended kinds setup (with_marks c marks) s sw out rest
   result_taken = record {
     said = was.said;
     heard = was.heard.1;
@@ -150,16 +150,16 @@ module _ (kinds : List ℕ) (setup : Setup) (c : ControllerState) (s : ℕ) (sw 
 module _ (kinds : List ℕ) (setup : Setup) (few : AreFew kinds setup) (sw : ℕ → SwitchState) (in_ in' out : ℕ → List Message) (c : ControllerState) (p : IsTruePrimary c)
     (whole : most_failures c.vr ≡ 0 → c.vr.commit ≡ length c.vr.log) (settled : IsSettled kinds setup c) (served : AreServed kinds setup sw in_ c out) (s xid number : ℕ) (result : Outcome)
     (there : s < length setup.ports) (own : in_ s ≡ tells_result xid (life_of (sw s)) number result ∷ in' s) (others : (t : ℕ) → (t ≡ s → ⊥) → in' t ≡ in_ t) where
-  was : IsServed kinds setup c s (sw s) (out s) (tells_result xid (life_of (sw s)) number result ∷ in' s)
-  was = subst (λ (z : List Message). IsServed kinds setup c s (sw s) (out s) z) own (served s there)
+  was : IsAttended kinds setup c s (sw s) (out s) (tells_result xid (life_of (sw s)) number result ∷ in' s)
+  was = subst (λ (z : List Message). IsAttended kinds setup c s (sw s) (out s) z) own (served s there)
 
-  each_by : (marks : Marks) → IsServed kinds setup (with_marks c marks) s (sw s) (out s) (in' s) → ((t : ℕ) → is_confirmed marks t ≡ is_confirmed c.marks t) →
+  each_by : (marks : Marks) → IsAttended kinds setup (with_marks c marks) s (sw s) (out s) (in' s) → ((t : ℕ) → is_confirmed marks t ≡ is_confirmed c.marks t) →
       ((t i : ℕ) → (t ≡ s → ⊥) → has_result marks t (life_of (sw t)) i ≡ has_result c.marks t (life_of (sw t)) i) → AreServed kinds setup sw in' (with_marks c marks) out
   each_by marks own_one confirmed rest t less = elim (cases_eq t s) [
-    | inl same ↦ subst (λ (k : ℕ). IsServed kinds setup (with_marks c marks) k (sw k) (out k) (in' k)) (sym same) own_one
+    | inl same ↦ subst (λ (k : ℕ). IsAttended kinds setup (with_marks c marks) k (sw k) (out k) (in' k)) (sym same) own_one
     | inr other ↦
-        subst (λ (z : List Message). IsServed kinds setup (with_marks c marks) t (sw t) (out t) z) (sym (others t other))
-        (subst (λ (z : List Message). IsServed kinds setup (with_marks c marks) t (sw t) z (in_ t)) (append-nil (out t))
+        subst (λ (z : List Message). IsAttended kinds setup (with_marks c marks) t (sw t) (out t) z) (sym (others t other))
+        (subst (λ (z : List Message). IsAttended kinds setup (with_marks c marks) t (sw t) z (in_ t)) (append-nil (out t))
         (answered kinds setup c (with_marks c marks) t (sw t) (record { view = refl; me = refl; confirmed = confirmed t; marks = λ i. rest t i other; logged = refl }) (out t) (in_ t) [] (served t less)
         (inl refl) (omega arith) (quiet_nil c.vr.view) refl))
   ]
@@ -225,5 +225,5 @@ module _ (kinds : List ℕ) (setup : Setup) (few : AreFew kinds setup) (sw : ℕ
             marks_are = refl;
             settled = record { told = settled.told; proposed = settled.proposed; last = settled.last };
             standing = standing c.marks;
-            served = λ t less. subst (λ (z : List Message). IsServed kinds setup (with_no_met_limit c) t (sw t) z (in' t)) (sym (append-nil (out t))) (past_served past t less);
+            served = λ t less. subst (λ (z : List Message). IsAttended kinds setup (with_no_met_limit c) t (sw t) z (in' t)) (sym (append-nil (out t))) (past_served past t less);
           })

@@ -16,7 +16,7 @@ use Rattle.closing_laws.specs.Quorum.{has}
 use Rattle.closing_laws.specs.Ways.{Sent, sent_by}
 use Rattle.closing_laws.specs.Following.{Start}
 use Rattle.closing_laws.specs.Serving.{AreFew, IsOlder}
-use Rattle.closing_laws.specs.Views.{IsCovered, IsMember}
+use Rattle.closing_laws.specs.Views.{IsCovered, IsReadyMember}
 use Rattle.closing_laws.proofs.ClearedEvents as cleared_by
 use Rattle.closing_laws.proofs.ClearRooms.{ClearRoom, clears_bounded}
 use Rattle.closing_laws.proofs.ClearRooms as clears_by
@@ -179,7 +179,7 @@ module _ (kinds : List ℕ) (setup : Setup) (few : AreFew kinds setup) (w p : �
 
 -- at the start of the view
 module _ (kinds : List ℕ) (setup : Setup) (few : AreFew kinds setup) (w : ℕ) (quorum : List ℕ) (at : ℕ → VrState) (best : ℕ) (picked : IsPicked setup.controllers w quorum)
-    (small : (b : ℕ) → has quorum b ≡ true → b < setup.controllers) (ready : (j : ℕ) → has quorum j ≡ true → IsMember setup.controllers w j (at j)) (covered : IsCovered quorum at best) (chosen : has quorum best ≡ true)
+    (small : (b : ℕ) → has quorum b ≡ true → b < setup.controllers) (ready : (j : ℕ) → has quorum j ≡ true → IsReadyMember setup.controllers w j (at j)) (covered : IsCovered quorum at best) (chosen : has quorum best ≡ true)
     (voters : ℕ → List ℕ) (promise : Option ℕ) (sw : ℕ → SwitchState) (older : (t : ℕ) → t < length setup.ports → IsOlder (sw t).fence.generation w) where
   abbrev p : ℕ
   p = w % setup.controllers

@@ -8,8 +8,8 @@ use Rattle.vr_log.specs.declared.state.VrState.{VrState}
 use Rattle.vr_log.specs.Members.{others_below}
 use Rattle.of_types.specs.SmallSets.{with_number}
 use Rattle.closing_laws.specs.Quorum.{has}
-use Rattle.closing_laws.specs.Draining.{Flight, Group}
-use Rattle.closing_laws.specs.Views.{IsMember, behind, last_first}
+use Rattle.closing_laws.specs.Draining.{Flight, GroupState}
+use Rattle.closing_laws.specs.Views.{IsReadyMember, behind, last_first}
 use Rattle.closing_laws.proofs.Words.{call, log_sent, all_calls, all_packets, times}
 use Rattle.closing_laws.proofs.Picked.{IsPicked}
 use Rattle.closing_laws.proofs.Numbers.{Once, has_here, has_later, has_append, filter_once, filter_twice, filter_on, filter_no, others_all, others_but_one, with_none, with_length, below_has, below_once, below_others}
@@ -106,7 +106,7 @@ heard_all callers j once none = heard_length callers j once ∙ ap length (other
 pub heard_others : (callers : List ℕ) (j : ℕ) → Once callers → has callers j ≡ true → suc (length (heard_from callers j)) ≡ length callers
 heard_others callers j once h = ap suc (heard_length callers j once) ∙ others_but_one j callers once h
 
-module _ (n w : ℕ) (quorum : List ℕ) (start : ℕ → VrState) (ready : (j : ℕ) → has quorum j ≡ true → IsMember n w j (start j)) (q : IsPicked n w quorum) where
+module _ (n w : ℕ) (quorum : List ℕ) (start : ℕ → VrState) (ready : (j : ℕ) → has quorum j ≡ true → IsReadyMember n w j (start j)) (q : IsPicked n w quorum) where
   pub quorum_once : Once quorum
   quorum_once = subst Once (sym q.ascending) (filter_once (has quorum) (others_below n n) (below_once n n))
 
@@ -317,7 +317,7 @@ module _ (n w : ℕ) (quorum : List ℕ) (start : ℕ → VrState) (ready : (j :
       let told_it : ℕ → Flight = log_sent start w (w % n) in
       let todo : List ℕ = d ∷ (e ∷ later) in
       let final : List Flight = map told_it (filter (λ j. not (nat_eq (w % n) j)) (last_first callers (c ∷ todo))) in
-      let g : Group = record { at = at; pool = all_calls n w (c ∷ todo); turns = turns } in
+      let g : GroupState = record { at = at; pool = all_calls n w (c ∷ todo); turns = turns } in
       let k : ℕ = turns + n / 2 in
       let first = after_is (length (others_below c n)) quorum g (held n w quorum start ready (heard_from (c ∷ callers))) (held n w quorum start ready (heard_from (c ∷ callers)))
       (all_calls n w todo ++ map told_it (filter (told_by_call callers c) quorum)) (all_calls n w todo) k k

@@ -15,7 +15,7 @@ use Rattle.of_switch.specs.State.{SwitchState, life_of}
 use Rattle.rv_runs.specs.declared.messages.Message.{Message}
 use Rattle.rv_runs.specs.declared.messages.Message.TheVariants as message
 use Rattle.rv_base.proofs.All.{all_append}
-use Rattle.closing_laws.specs.Serving.{AreCommanded, AreTold, AreUntold, IsAsked, IsSaidIn, IsServed, IsUnasked, acknowledges_events, commands_said, events_said, is_reply, is_request, logged_of, processed_by, results_said, told_through}
+use Rattle.closing_laws.specs.Serving.{AreCommanded, AreEventsTold, AreUntold, IsMastered, IsSaidIn, IsAttended, IsUnasked, acknowledges_events, commands_said, events_said, is_reply, is_request, logged_of, processed_by, results_said, told_through}
 use Rattle.closing_laws.proofs.Saying.{count_cons, events_append, results_append}
 
 -- a switch draws a message that is no command of its life, and tells no result
@@ -27,10 +27,10 @@ pub record Draws (c : ControllerState) (sw sw' : SwitchState) (m : Message) (out
   pub results : results_said told ≡ []
 
 abbrev Role : ControllerState → ℕ → SwitchState → List Message → List Message → Type 0
-Role c s sw out in_ = IsUnasked c s sw out in_ ⊎ (IsAsked c s sw out in_ × AreTold c s sw out in_)
+Role c s sw out in_ = IsUnasked c s sw out in_ ⊎ (IsMastered c s sw out in_ × AreEventsTold c s sw out in_)
 
 pub draws_keep : (kinds : List ℕ) (setup : Setup) (c : ControllerState) (s : ℕ) (sw sw' : SwitchState) (m : Message) (out in_ told : List Message) →
-    IsServed kinds setup c s sw (m ∷ out) in_ → Draws c sw sw' m out told → Role c s sw' out (in_ ++ told) → IsServed kinds setup c s sw' out (in_ ++ told)
+    IsAttended kinds setup c s sw (m ∷ out) in_ → Draws c sw sw' m out told → Role c s sw' out (in_ ++ told) → IsAttended kinds setup c s sw' out (in_ ++ told)
 draws_keep kinds setup c s sw sw' m out in_ told served draws role =
     record {
       said = served.said.1;
@@ -70,9 +70,9 @@ draws_keep kinds setup c s sw sw' m out in_ told served draws role =
 
 -- the buffer and the events stay, no acknowledgement of this life is drawn, and no event is told
 pub told_stays : (c : ControllerState) (s : ℕ) (sw sw' : SwitchState) (m : Message) (out in_ told : List Message) → sw'.buffer ≡ sw.buffer → sw'.events ≡ sw.events →
-    ((through : ℕ) → acknowledges_events (life_of sw) through ≡ m → ⊥) → events_said s told ≡ [] → AreTold c s sw (m ∷ out) in_ → AreTold c s sw' out (in_ ++ told)
+    ((through : ℕ) → acknowledges_events (life_of sw) through ≡ m → ⊥) → events_said s told ≡ [] → AreEventsTold c s sw (m ∷ out) in_ → AreEventsTold c s sw' out (in_ ++ told)
 told_stays c s sw sw' m out in_ told buffer events other none a =
-    subst (λ (x : SwitchState). AreTold c s x out (in_ ++ told)) (sym is)
+    subst (λ (x : SwitchState). AreEventsTold c s x out (in_ ++ told)) (sym is)
     (record {
       coming = ap (λ (l : List Event). filter (λ e. nat_le (logged_of c s sw) e.number) l) same ∙ a.coming;
       stands = λ e among. a.stands e (subst (λ (l : List Event). IsIn e l) same among);
@@ -94,7 +94,7 @@ pub silent_keeps : (kinds : List ℕ) (setup : Setup) (c : ControllerState) (s :
     sw'.buffer ≡ sw.buffer → sw'.events ≡ sw.events → sw'.fence ≡ sw.fence → sw'.results.executed ≡ sw.results.executed →
     ((through : ℕ) → acknowledges_events (life_of sw) through ≡ message.Of 0 (spoken.Ravana said) → ⊥) →
     commands_said (life_of sw) (message.Of 0 (spoken.Ravana said) ∷ out) ≡ commands_said (life_of sw) out →
-    IsServed kinds setup c s sw (message.Of 0 (spoken.Ravana said) ∷ out) in_ → IsServed kinds setup c s sw' out (in_ ++ [])
+    IsAttended kinds setup c s sw (message.Of 0 (spoken.Ravana said) ∷ out) in_ → IsAttended kinds setup c s sw' out (in_ ++ [])
 silent_keeps kinds setup c s sw sw' said out in_ buffer events fence executed other commands served =
     draws_keep kinds setup c s sw sw' (message.Of 0 (spoken.Ravana said)) out in_ [] served
     (record { life = ap (λ (b : Buffer). b.life) buffer; executed = executed; heard = tt; commands = commands; results = refl })

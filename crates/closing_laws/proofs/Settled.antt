@@ -24,7 +24,7 @@ use Rattle.group_controller.specs.State.{ControllerState, Work, committed}
 use Rattle.group_controller.specs.Settling.{ack_letter, answers_at, clear_letter, command_letters, is_untold, with_answers, with_commands}
 use Rattle.rv_runs.specs.declared.messages.Message.{Message}
 use Rattle.rv_runs.specs.States.{controller_message}
-use Rattle.closing_laws.specs.Serving.{AreFew, IsServed, IsToldLast, IsTrueOf}
+use Rattle.closing_laws.specs.Serving.{AreFew, IsAttended, IsToldLast, IsTrueOf}
 use Rattle.closing_laws.specs.Ways.{told_to}
 use Rattle.closing_laws.proofs.Commanding.{is_told, now_served, told_now_last}
 use Rattle.closing_laws.proofs.Committing.{CommitsMore, more_committed, told_last}
@@ -93,7 +93,7 @@ pub record Tells (old new : Work) : Type 0 where
 
 module _ (kinds : List ℕ) (setup : Setup) (sw : ℕ → SwitchState) (in_ : ℕ → List Message) where
   abbrev pub AreServed : ControllerState → (ℕ → List Message) → Type 0
-  AreServed c out = (t : ℕ) → t < length setup.ports → IsServed kinds setup c t (sw t) (out t) (in_ t)
+  AreServed c out = (t : ℕ) → t < length setup.ports → IsAttended kinds setup c t (sw t) (out t) (in_ t)
 
   abbrev pub AreBounded : List Entry → Type 0
   AreBounded log = (t : ℕ) → t < length setup.ports → IsBounded kinds setup log t (sw t)
@@ -135,7 +135,7 @@ module _ (kinds : List ℕ) (setup : Setup) (sw : ℕ → SwitchState) (in_ : �
           tells = record { letters = []; joined = sym (append-nil work.letters); save = refl; vr = refl; marks = refl; full = refl; to_switches = λ b. refl };
           told_all = is;
           last = last;
-          served = λ t less. subst (λ (z : List Message). IsServed kinds setup c t (sw t) z (in_ t)) (sym (append-nil (out t))) (served t less);
+          served = λ t less. subst (λ (z : List Message). IsAttended kinds setup c t (sw t) z (in_ t)) (sym (append-nil (out t))) (served t less);
         }
 
     -- what is newly committed is answered first
@@ -152,7 +152,7 @@ module _ (kinds : List ℕ) (setup : Setup) (sw : ℕ → SwitchState) (in_ : �
 
         answered : AreServed work.state (λ t. out t ++ told t letters)
         answered t less =
-            subst (λ (l : List Entry). IsServed kinds setup work.state t (sw t) (out t ++ told t (flat_map (answers_at kinds setup work.state) (places_processed l))) (in_ t)) (sym behind)
+            subst (λ (l : List Entry). IsAttended kinds setup work.state t (sw t) (out t ++ told t (flat_map (answers_at kinds setup work.state) (places_processed l))) (in_ t)) (sym behind)
             (more_committed kinds setup c work.state m t (sw t) untold last (bounds t less).young (out t) (in_ t) (served t less))
 
         joined_step : Told (λ t. out t ++ told t letters) (with_answers kinds setup before work) (with_commands kinds setup (with_answers kinds setup before work)) →
@@ -169,6 +169,6 @@ module _ (kinds : List ℕ) (setup : Setup) (sw : ℕ → SwitchState) (in_ : �
           };
           told_all = r.told_all;
           last = r.last;
-          served = λ t less. subst (λ (z : List Message). IsServed kinds setup (with_commands kinds setup (with_answers kinds setup before work)).state t (sw t) z (in_ t))
+          served = λ t less. subst (λ (z : List Message). IsAttended kinds setup (with_commands kinds setup (with_answers kinds setup before work)).state t (sw t) z (in_ t))
               (append_assoc (out t) (told t letters) (told t r.tells.letters) ∙ ap (λ (z : List Message). out t ++ z) (sym (told-append t letters r.tells.letters))) (r.served t less);
         }

@@ -1,5 +1,5 @@
 -- What is left to do as a view starts, by what its primary begins with.
-use Rattle.std.proofs.Common.{◌≡◌, ◌≤◌, ◌<◌, ℕ, zero, suc, ◌+◌, ◌*◌, Bool, true, false, List, [], ◌∷◌, length, drop, filter, map, refl, sym, ◌∙◌, ap, arith, append-nil, mul-le-mul_left, add-mul, length-take-le}
+use Rattle.std.proofs.Common.{◌≡◌, ◌≤◌, ◌<◌, ℕ, zero, suc, ◌+◌, ◌*◌, Bool, true, false, List, [], ◌∷◌, length, drop, filter, map, refl, sym, ◌∙◌, ap, arith, append-nil, mul-add, add-mul, length-take-le}
 use Rattle.std.specs.Prelude.{sum_by, None, if◌then◌else◌}
 use Rattle.std.specs.List.{range_with_len}
 use Rattle.std.proofs.lemmas.List.FromFn.{length-range_with_len}
@@ -14,6 +14,7 @@ use Rattle.vr_log.specs.Members.{most_failures, others_below}
 use Rattle.app_core.specs.Chain.{concat}
 use Rattle.app_core.specs.Issued.{issues}
 use Rattle.dispatcher.specs.Marks.{no_marks}
+use Rattle.event_buffer.specs.Buffer.{next_number}
 use Rattle.of_switch.specs.State.{SwitchState}
 use Rattle.group_controller.specs.declared.messages.ControllerSays.{ControllerSays}
 use Rattle.group_controller.specs.State.{ControllerState, Work, committed, leaving, posting}
@@ -21,7 +22,7 @@ use Rattle.group_controller.specs.Settling.{is_some_of, role_letter}
 use Rattle.group_controller.specs.Rules.{starting_view, switches}
 use Rattle.rv_runs.specs.Bound.{waiting_at}
 use Rattle.rv_runs.specs.States.{controller_message}
-use Rattle.closing_laws.specs.Measure.{commands_from, left_at, left_at_switches, left_to_process, uncommitted, unlogged, unprocessed, unsent}
+use Rattle.closing_laws.specs.Measure.{commands_from, left_at, left_at_switches, left_to_process, logged_held, uncommitted, unlogged, unprocessed, unsent}
 use Rattle.closing_laws.specs.Quorum.{has}
 use Rattle.closing_laws.specs.Serving.{logged_of, sent_of}
 use Rattle.closing_laws.proofs.AnswerWorths.{letters-append, primary_worths}
@@ -29,7 +30,7 @@ use Rattle.closing_laws.proofs.CommandCounts.{sent_open, split_count}
 use Rattle.closing_laws.proofs.Growth.{log_prefix}
 use Rattle.closing_laws.proofs.LoggedMeasure.{same_left, whole_falls}
 use Rattle.closing_laws.proofs.Numbering.{of_range}
-use Rattle.closing_laws.proofs.Sums.{sum_most}
+use Rattle.closing_laws.proofs.Sums.{sum_less}
 use Rattle.closing_laws.proofs.WorkMeasure.{Descends, settling_descends}
 use Rattle.closing_laws.proofs.Worths.{worths_two}
 
@@ -95,23 +96,24 @@ module _ (kinds : List ℕ) (setup : Setup) (quorum : List ℕ) (f place : ℕ) 
         primary_worths quorum v.me work.letters + 2 * length setup.ports + (2 * f + 1) * unprocessed begun + uncommitted begun + left_at_switches setup f begun sw + 3 * commands_from kinds setup end.state place
     start_value = let a = said in let b = falls in let c = to_process in omega (arith, a, b, c)
 
-  -- at switches that were not asked, each event that they hold is left, and each port that they remember
-  unasked_left : (s : ℕ) → is_some_of v.view (sw s).fence.generation ≡ false → (sw s).buffer.cleared ≤ logged_of begun s (sw s) → left_at f begun s (sw s) ≤ (4 * f + 3) * waiting_at (sw s)
-  unasked_left s unasked cleared =
+  -- at switches that were not asked, each event that they hold is left, but what was logged of it, and each port that they remember
+  unasked_left : (s : ℕ) → is_some_of v.view (sw s).fence.generation ≡ false → (sw s).buffer.cleared ≤ logged_of begun s (sw s) → logged_of begun s (sw s) ≤ next_number (sw s).buffer →
+      left_at f begun s (sw s) + (4 * f + 1) * logged_held v.log s (sw s) ≤ (4 * f + 3) * waiting_at (sw s)
+  unasked_left s unasked cleared logged =
       let asked = ap (λ (b : Bool). if b then sent_of (sw s) else (sw s).buffer.cleared) unasked in
       let a : unsent begun (sw s) ≤ waiting_at (sw s) = omega (arith, asked) in
-      let b : unlogged begun s (sw s) ≤ waiting_at (sw s) = omega (arith, cleared) in
-      let c = mul-le-mul_left (4 * f + 1) b in
+      let b : unlogged begun s (sw s) + logged_held v.log s (sw s) ≡ waiting_at (sw s) = omega (arith, cleared, logged) in
+      let c = sym (mul-add (4 * f + 1) (unlogged begun s (sw s)) (logged_held v.log s (sw s))) ∙ ap (λ (k : ℕ). (4 * f + 1) * k) b in
       let three : 4 * f + 3 ≡ 4 * f + 1 + 2 = omega arith in
       let d = ap (λ (k : ℕ). k * waiting_at (sw s)) three ∙ add-mul (4 * f + 1) 2 (waiting_at (sw s)) in
       omega (arith, a, c, d)
 
-  pub all_left : ((s : ℕ) → s < length setup.ports → (is_some_of v.view (sw s).fence.generation ≡ false) × ((sw s).buffer.cleared ≤ logged_of begun s (sw s))) →
-      left_at_switches setup f begun sw ≤ (4 * f + 3) * sum_by (λ s. waiting_at (sw s)) (range_with_len 0 (length setup.ports))
+  pub all_left : ((s : ℕ) → s < length setup.ports →
+      (is_some_of v.view (sw s).fence.generation ≡ false) × ((sw s).buffer.cleared ≤ logged_of begun s (sw s)) × (logged_of begun s (sw s) ≤ next_number (sw s).buffer)) →
+      left_at_switches setup f begun sw + (4 * f + 1) * sum_by (λ s. logged_held v.log s (sw s)) (range_with_len 0 (length setup.ports)) ≤
+      (4 * f + 3) * sum_by (λ s. waiting_at (sw s)) (range_with_len 0 (length setup.ports))
   all_left each =
-      let all = sum_most (4 * f + 3) 0 (λ s. left_at f begun s (sw s)) (λ s. waiting_at (sw s)) (range_with_len 0 (length setup.ports)) (λ s among.
+      sum_less (4 * f + 3) (4 * f + 1) (λ s. left_at f begun s (sw s)) (λ s. waiting_at (sw s)) (λ s. logged_held v.log s (sw s)) (range_with_len 0 (length setup.ports)) (λ s among.
       let less = (of_range 0 (length setup.ports) s among).1 in
       let own = each s (omega (arith, less)) in
-      let few = unasked_left s own.0 own.1 in
-      omega (arith, few)) in
-      omega (arith, all)
+      unasked_left s own.0 own.1 own.2)

@@ -21,7 +21,7 @@ use Rattle.rv_runs.specs.States.{controller_message}
 use Rattle.closing_laws.specs.Quorum.{has}
 use Rattle.closing_laws.specs.Following.{Start}
 use Rattle.closing_laws.specs.Serving.{AreFew, IsOlder, results_said}
-use Rattle.closing_laws.specs.Views.{IsCovered, IsMember}
+use Rattle.closing_laws.specs.Views.{IsCovered, IsReadyMember}
 use Rattle.closing_laws.specs.Ways.{sent_by}
 use Rattle.closing_laws.proofs.Between.{between_sent_by}
 use Rattle.closing_laws.proofs.Broadcasts.{posted}
@@ -37,7 +37,7 @@ use Rattle.closing_laws.proofs.Rooms.{is_clear, waits}
 use Rattle.closing_laws.proofs.Waiting.{members_none, posts_append, posts_never}
 
 module _ (kinds : List ℕ) (setup : Setup) (few : AreFew kinds setup) (w : ℕ) (quorum : List ℕ) (at : ℕ → VrState) (best : ℕ) (picked : IsPicked setup.controllers w quorum)
-    (small : (b : ℕ) → has quorum b ≡ true → b < setup.controllers) (ready : (j : ℕ) → has quorum j ≡ true → IsMember setup.controllers w j (at j)) (covered : IsCovered quorum at best) (chosen : has quorum best ≡ true)
+    (small : (b : ℕ) → has quorum b ≡ true → b < setup.controllers) (ready : (j : ℕ) → has quorum j ≡ true → IsReadyMember setup.controllers w j (at j)) (covered : IsCovered quorum at best) (chosen : has quorum best ≡ true)
     (voters : ℕ → List ℕ) (promise : Option ℕ) (sw : ℕ → SwitchState) (older : (t : ℕ) → t < length setup.ports → IsOlder (sw t).fence.generation w) where
   abbrev p : ℕ
   p = opens.p kinds setup few w quorum at best picked small ready covered chosen voters promise sw older

@@ -15,20 +15,20 @@ use Rattle.vr_log.specs.Steps.{VrStep, guarded, is_sound, letter, quiet, sends, 
 use Rattle.view_change.specs.Entering.{check, own_log, started, tells_start}
 use Rattle.vr_core.specs.declared.input.VrInput.TheVariants as vr_input
 use Rattle.vr_core.specs.Step.{vr_step}
-use Rattle.closing_laws.specs.Views.{IsMember, gathering, in_started, in_view, started_with}
+use Rattle.closing_laws.specs.Views.{IsReadyMember, gathering, in_started, in_view, started_with}
 use Rattle.closing_laws.proofs.Members.{suspects, guard_open, sound_here, starts_alone}
 use Rattle.closing_laws.proofs.Starting.{waits, check_starts, check_fetches, log_comes}
 use Rattle.closing_laws.proofs.Adopted as adopted
 
-pub enters : (n w j : ℕ) (s : VrState) → IsMember n w j s → 0 < n / 2 →
+pub enters : (n w j : ℕ) (s : VrState) → IsReadyMember n w j s → 0 < n / 2 →
     vr_step s (vr_input.Suspect w) ≡ record { state = in_view s w [] false [] None; promise = Some w; letters = to_others s (message.StartViewChange w) }
 enters n w j s m group = suspects n w j s m (subst (λ (k : ℕ). 0 < k / 2) (sym m.size) group)
 
-pub alone : (w : ℕ) (s : VrState) → IsMember 1 w 0 s →
+pub alone : (w : ℕ) (s : VrState) → IsReadyMember 1 w 0 s →
     vr_step s (vr_input.Suspect w) ≡ record { state = started (gathering s w [] [] None) s.log s.commit s.commit; promise = Some w; letters = [] }
 alone w s m = starts_alone s w m.size m.me m.up m.below m.commit m.is_one
 
-module _ (n w : ℕ) (s : VrState) (voters : List ℕ) (logs : List Collected) (c : Collected) (m : IsMember n w (w % n) s) (small : c.from < n) (other : c.from ≡ w % n → ⊥)
+module _ (n w : ℕ) (s : VrState) (voters : List ℕ) (logs : List Collected) (c : Collected) (m : IsReadyMember n w (w % n) s) (small : c.from < n) (other : c.from ≡ w % n → ⊥)
     (new : has_collected (gathering s w voters logs None) c.from ≡ false) where
   here : nat_eq (w % s.controllers) s.me ≡ true
   here = eq-eqb (w % s.controllers) s.me (ap (λ (k : ℕ). w % k) m.size ∙ sym m.me)
@@ -92,7 +92,7 @@ AdoptedOf n w s t log base commit =
     sends (in_started t w log commit) (if nat_lt commit (length log) then letter (message.PrepareOk w (length log)) (w % n) ∷ [] else [])
 
 pub adopts : (n w j : ℕ) (s : VrState) (voters : List ℕ) (sent : Bool) (logs : List Collected) (supply : Option Supplied) (log : List Entry) (base commit : ℕ) →
-    IsMember n w j s → (w % n ≡ j → ⊥) → base ≤ s.commit → s.commit ≤ commit → commit ≤ length log → is_log log ≡ true → take s.commit s.log ≡ take s.commit log →
+    IsReadyMember n w j s → (w % n ≡ j → ⊥) → base ≤ s.commit → s.commit ≤ commit → commit ≤ length log → is_log log ≡ true → take s.commit s.log ≡ take s.commit log →
     vr_step (in_view s w voters sent logs supply) (vr_input.From (w % n) (message.StartView w base commit (drop base log))) ≡
     sends (in_started (in_view s w voters sent logs supply) w log commit) (if nat_lt commit (length log) then letter (message.PrepareOk w (length log)) (w % n) ∷ [] else [])
 adopts n w j s voters sent logs supply log base commit m other from up_to within one agree =

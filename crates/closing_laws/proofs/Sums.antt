@@ -30,3 +30,14 @@ sum_lower g h (y ∷ ys) x d (inr among) each lower =
     let one = each y in
     let rest = sum_lower g h ys x d among each lower in
     omega (arith, a, b, one, rest)
+
+-- parts that are at most so many times others, less so many times third ones
+pub sum_less : {X : Type 0} (d e : ℕ) (g h k : X → ℕ) (xs : List X) → ((x : X) → IsIn x xs → g x + e * k x ≤ d * h x) → sum_by g xs + e * sum_by k xs ≤ d * sum_by h xs
+sum_less d e g h k [] each = omega arith
+sum_less d e g h k (x ∷ xs) each =
+    let p = sum_by-cons g x xs in
+    let q = ap (λ (m : ℕ). d * m) (sum_by-cons h x xs) ∙ mul-add d (h x) (sum_by h xs) in
+    let r = ap (λ (m : ℕ). e * m) (sum_by-cons k x xs) ∙ mul-add e (k x) (sum_by k xs) in
+    let first = each x (inl refl) in
+    let rest = sum_less d e g h k xs (λ y among. each y (inr among)) in
+    omega (arith, p, q, r, first, rest)

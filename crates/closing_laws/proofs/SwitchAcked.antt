@@ -23,7 +23,7 @@ use Rattle.of_switch.specs.State.{SwitchState, SwitchTurn, events_in, life_of}
 use Rattle.of_switch.specs.Events.{event_letter, window}
 use Rattle.rv_runs.specs.declared.messages.Message.{Message}
 use Rattle.rv_runs.specs.States.{switch_message}
-use Rattle.closing_laws.specs.Serving.{AreTold, IsSaidIn, IsServed, IsTrueOf, acknowledges_events, events_said, is_reply, is_request, logged_of, processed_by, results_said, sent_of}
+use Rattle.closing_laws.specs.Serving.{AreEventsTold, IsSaidIn, IsAttended, IsTrueOf, acknowledges_events, events_said, is_reply, is_request, logged_of, processed_by, results_said, sent_of}
 use Rattle.closing_laws.specs.Ways.{told_to}
 use Rattle.closing_laws.proofs.AckTurns.{AfterAck}
 use Rattle.closing_laws.proofs.Saying.{count_append, count_cons, event_message, events_append, events_of_messages, heard_of_events, replies_of_events, results_of_events, told_events}
@@ -100,7 +100,7 @@ module _ (kinds : List ℕ) (setup : Setup) (c : ControllerState) (s : ℕ) (sw 
   sent_before = let n = true_before.next in omega (arith, n)
 
   -- what is on its way
-  are_told : (out in_ : List Message) → AreTold c s sw (acknowledges_events (life_of sw) through ∷ out) in_ → AreTold c s turn.state out (in_ ++ told)
+  are_told : (out in_ : List Message) → AreEventsTold c s sw (acknowledges_events (life_of sw) through ∷ out) in_ → AreEventsTold c s turn.state out (in_ ++ told)
   are_told out in_ a =
       record {
         coming =
@@ -137,7 +137,7 @@ module _ (kinds : List ℕ) (setup : Setup) (c : ControllerState) (s : ℕ) (sw 
           ]
 
   -- it is served as before
-  pub acked_keeps : (out in_ : List Message) → IsServed kinds setup c s sw (acknowledges_events (life_of sw) through ∷ out) in_ → IsServed kinds setup c s turn.state out (in_ ++ told)
+  pub acked_keeps : (out in_ : List Message) → IsAttended kinds setup c s sw (acknowledges_events (life_of sw) through ∷ out) in_ → IsAttended kinds setup c s turn.state out (in_ ++ told)
   acked_keeps out in_ served =
       draws_keep kinds setup c s sw turn.state (acknowledges_events (life_of sw) through) out in_ told served
       (record { life = after.life; executed = ap (λ (r : Results). r.executed) after.results; heard = heard; commands = refl; results = ap results_said told_is ∙ results_of_events new })

@@ -25,7 +25,7 @@ use Rattle.of_switch.specs.Rules.{on_role_request}
 use Rattle.rv_runs.specs.declared.messages.Message.{Message}
 use Rattle.rv_runs.specs.declared.messages.Message.TheVariants as message
 use Rattle.rv_runs.specs.States.{switch_message}
-use Rattle.closing_laws.specs.Serving.{AreTold, IsOlder, IsSaidIn, IsServed, IsTrueOf, IsUnasked, Replies, asks_role, events_said, is_reply, is_request, logged_of, results_said, sent_of}
+use Rattle.closing_laws.specs.Serving.{AreEventsTold, IsOlder, IsSaidIn, IsAttended, IsTrueOf, IsUnasked, Replies, asks_role, events_said, is_reply, is_request, logged_of, results_said, sent_of}
 use Rattle.closing_laws.specs.Ways.{told_to}
 use Rattle.closing_laws.proofs.Saying.{count_cons, event_message, events_of_messages, heard_of_events, replies_of_events, results_of_events, told_events}
 use Rattle.closing_laws.proofs.Sending.{StandFrom, coming_first, first_held_is, sent_to, window_at}
@@ -92,7 +92,7 @@ module _ (kinds : List ℕ) (setup : Setup) (c : ControllerState) (s : ℕ) (sw 
   sent_is : sent_of sw ≡ sent_to sw.buffer.cleared events
   sent_is = let n = is_true.next in omega (arith, n)
 
-  are_told : (out : List Message) → AreTold c s after out told
+  are_told : (out : List Message) → AreEventsTold c s after out told
   are_told out =
       record {
         coming =
@@ -111,7 +111,7 @@ module _ (kinds : List ℕ) (setup : Setup) (c : ControllerState) (s : ℕ) (sw 
       }
 
   -- it is served as before
-  pub asked_keeps : (out in_ : List Message) → IsServed kinds setup c s sw (asks_role c.vr.view ∷ out) in_ → IsUnasked c s sw (asks_role c.vr.view ∷ out) in_ → IsServed kinds setup c s after out (in_ ++ told)
+  pub asked_keeps : (out in_ : List Message) → IsAttended kinds setup c s sw (asks_role c.vr.view ∷ out) in_ → IsUnasked c s sw (asks_role c.vr.view ∷ out) in_ → IsAttended kinds setup c s after out (in_ ++ told)
   asked_keeps out in_ served unasked =
       let same : out ≡ unasked.rest = let first = unasked.first in cc in
       draws_keep kinds setup c s sw after (asks_role c.vr.view) out in_ told served
@@ -126,7 +126,7 @@ module _ (kinds : List ℕ) (setup : Setup) (c : ControllerState) (s : ℕ) (sw 
               ∙ ap (λ (b : Bool). count_by is_reply told + (if b then 1 else 0)) unasked.unconfirmed
               ∙ omega (arith, replies);
         },
-        subst (λ (ms : List Message). AreTold c s after out (ms ++ told)) (sym unasked.silent) (are_told out),
+        subst (λ (ms : List Message). AreEventsTold c s after out (ms ++ told)) (sym unasked.silent) (are_told out),
       ))
 
   pub asked_is : IsOlder sw.fence.generation c.vr.view → on_role_request sw c.vr.me 0 MASTER c.vr.view ≡ record { state = after; letters = letters }

@@ -24,7 +24,7 @@ use Rattle.of_switch.specs.Commands.{letter_of_result}
 use Rattle.rv_runs.specs.declared.messages.Message.{Message}
 use Rattle.rv_runs.specs.declared.messages.Message.TheVariants as message
 use Rattle.rv_runs.specs.States.{switch_message}
-use Rattle.closing_laws.specs.Serving.{AreCommanded, IsSaidIn, IsServed, Results, commands_said, events_said, is_reply, is_request, results_said, told_by, told_through}
+use Rattle.closing_laws.specs.Serving.{AreCommanded, IsSaidIn, IsAttended, Results, commands_said, events_said, is_reply, is_request, results_said, told_by, told_through}
 use Rattle.closing_laws.specs.Ways.{told_to}
 use Rattle.closing_laws.proofs.CommandTurns.{AfterCommand}
 use Rattle.closing_laws.proofs.Saying.{count_append, count_cons, results_append, told_none}
@@ -48,7 +48,7 @@ module _ (kinds : List ℕ) (setup : Setup) (c : ControllerState) (s : ℕ) (sw 
   commands out = ap (λ (b : Bool). if b then number ∷ commands_said (life_of sw) out else commands_said (life_of sw) out) (eq-eqb (life_of sw) (life_of sw) refl)
 
   -- a command waits only where the role is confirmed
-  pub is_commanded : (out in_ : List Message) → IsServed kinds setup c s sw (command ∷ out) in_ → AreCommanded kinds setup c s sw (command ∷ out) in_
+  pub is_commanded : (out in_ : List Message) → IsAttended kinds setup c s sw (command ∷ out) in_ → AreCommanded kinds setup c s sw (command ∷ out) in_
   is_commanded out in_ served = elim (cases_Bool (is_confirmed c.marks s)) [
     | inl is ↦ served.confirmed is
     | inr is ↦ let none = sym (commands out) ∙ (served.unconfirmed is).no_commands in absurd cc
@@ -110,7 +110,7 @@ module _ (kinds : List ℕ) (setup : Setup) (c : ControllerState) (s : ℕ) (sw 
         }
 
     -- it is served as before
-    pub commanded_keeps : (out in_ : List Message) → IsServed kinds setup c s sw (command ∷ out) in_ → IsServed kinds setup c s turn.state out (in_ ++ told)
+    pub commanded_keeps : (out in_ : List Message) → IsAttended kinds setup c s sw (command ∷ out) in_ → IsAttended kinds setup c s turn.state out (in_ ++ told)
     commanded_keeps out in_ served =
         let a = is_commanded out in_ served in
         record {

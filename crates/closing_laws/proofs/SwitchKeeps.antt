@@ -26,7 +26,7 @@ use Rattle.rv_runs.specs.declared.messages.Message.{Message}
 use Rattle.rv_runs.specs.declared.messages.Message.TheVariants as message
 use Rattle.rv_runs.specs.declared.messages.Unsealed.TheVariants as unsealed
 use Rattle.rv_runs.specs.States.{switch_hears, switch_message}
-use Rattle.closing_laws.specs.Serving.{Acknowledges, Asks, Clears, Commands, IsSaidBy, IsServed, IsTrueOf, acknowledges_events, asks_role, commands_said, is_request}
+use Rattle.closing_laws.specs.Serving.{Acknowledges, Asks, Clears, Commands, IsSaidBy, IsAttended, IsTrueOf, acknowledges_events, asks_role, commands_said, is_request}
 use Rattle.closing_laws.specs.Ways.{told_to}
 use Rattle.closing_laws.proofs.AckTurns.{acked}
 use Rattle.closing_laws.proofs.CommandTurns.{commanded}
@@ -47,7 +47,7 @@ pub record Leaves (kinds : List ℕ) (setup : Setup) (c : ControllerState) (s : 
   pub cleared : sw.buffer.cleared ≤ turn.state.buffer.cleared
   pub more : List Event
   pub events : events_in turn.state (life_of sw) ≡ events_in sw (life_of sw) ++ more
-  pub served : IsServed kinds setup c s turn.state out (in_ ++ told_to switch_message (actor.Controller c.vr.me) turn.letters)
+  pub served : IsAttended kinds setup c s turn.state out (in_ ++ told_to switch_message (actor.Controller c.vr.me) turn.letters)
   pub letters : GoesOut c.vr.me turn.letters
 
 module _ (kinds : List ℕ) (setup : Setup) (c : ControllerState) (s : ℕ) (sw : SwitchState) (small : c.vr.view < 2 ^ 32) (is_true : IsTrueOf kinds setup c s sw) (out in_ : List Message) where
@@ -57,7 +57,7 @@ module _ (kinds : List ℕ) (setup : Setup) (c : ControllerState) (s : ℕ) (sw 
   abbrev turn_on : Message → SwitchTurn
   turn_on m = switch_turn sw (switch_hears (actor.Controller c.vr.me) (unsealed.Message m))
 
-  asks : IsServed kinds setup c s sw (asks_role c.vr.view ∷ out) in_ → Keeps (turn_on (asks_role c.vr.view))
+  asks : IsAttended kinds setup c s sw (asks_role c.vr.view ∷ out) in_ → Keeps (turn_on (asks_role c.vr.view))
   unfolding switch_turn
   asks served _ = elim served.role [
     | inl unasked ↦
@@ -81,7 +81,7 @@ module _ (kinds : List ℕ) (setup : Setup) (c : ControllerState) (s : ℕ) (sw 
   nothing : (state : SwitchState) (said : Extension) → state.buffer ≡ sw.buffer → state.events ≡ sw.events → state.fence ≡ sw.fence → state.results.executed ≡ sw.results.executed →
       ((through : ℕ) → acknowledges_events (life_of sw) through ≡ message.Of 0 (spoken.Ravana said) → ⊥) →
       commands_said (life_of sw) (message.Of 0 (spoken.Ravana said) ∷ out) ≡ commands_said (life_of sw) out →
-      IsServed kinds setup c s sw (message.Of 0 (spoken.Ravana said) ∷ out) in_ → Keeps (quiet state)
+      IsAttended kinds setup c s sw (message.Of 0 (spoken.Ravana said) ∷ out) in_ → Keeps (quiet state)
   nothing state said buffer events fence executed other commands served _ =
       record {
         life = ap (λ (b : Buffer). b.life) buffer;
@@ -93,12 +93,12 @@ module _ (kinds : List ℕ) (setup : Setup) (c : ControllerState) (s : ℕ) (sw 
         letters = λ l none. absurd none;
       }
 
-  acknowledges : (life through : ℕ) → IsServed kinds setup c s sw (acknowledges_events life through ∷ out) in_ → Keeps (turn_on (acknowledges_events life through))
+  acknowledges : (life through : ℕ) → IsAttended kinds setup c s sw (acknowledges_events life through ∷ out) in_ → Keeps (turn_on (acknowledges_events life through))
   unfolding switch_turn
   acknowledges life through served =
       cond_both (nat_eq life (life_of sw)) (on_event_ack sw through) (quiet sw) (λ (t : SwitchTurn). Keeps t)
       (λ own true_after.
-      let served' = subst (λ (l : ℕ). IsServed kinds setup c s sw (acknowledges_events l through ∷ out) in_) (eqb-true life (life_of sw) own) served in
+      let served' = subst (λ (l : ℕ). IsAttended kinds setup c s sw (acknowledges_events l through ∷ out) in_) (eqb-true life (life_of sw) own) served in
       elim served'.role [
         | inl unasked ↦ absurd (let first = unasked.first in cc)
         | inr asked ↦
@@ -117,13 +117,13 @@ module _ (kinds : List ℕ) (setup : Setup) (c : ControllerState) (s : ℕ) (sw 
       (λ t is. let same : life ≡ life_of sw = cc in eqb-false life (life_of sw) other same) refl served)
 
   commands : (life number through : ℕ) (what : Order) → number < through + most_commands →
-      IsServed kinds setup c s sw (message.Of 0 (spoken.Ravana (extension.Command life c.vr.view number through what)) ∷ out) in_ →
+      IsAttended kinds setup c s sw (message.Of 0 (spoken.Ravana (extension.Command life c.vr.view number through what)) ∷ out) in_ →
       Keeps (turn_on (message.Of 0 (spoken.Ravana (extension.Command life c.vr.view number through what))))
   unfolding switch_turn
   commands life number through what near served =
       cond_both (nat_eq life (life_of sw)) (on_command sw c.vr.me 0 c.vr.view number through what) (quiet sw) (λ (t : SwitchTurn). Keeps t)
       (λ own _.
-      let served' = subst (λ (l : ℕ). IsServed kinds setup c s sw (message.Of 0 (spoken.Ravana (extension.Command l c.vr.view number through what)) ∷ out) in_) (eqb-true life (life_of sw) own) served in
+      let served' = subst (λ (l : ℕ). IsAttended kinds setup c s sw (message.Of 0 (spoken.Ravana (extension.Command l c.vr.view number through what)) ∷ out) in_) (eqb-true life (life_of sw) own) served in
       elim served'.role [
         | inl unasked ↦ absurd (let first = unasked.first in cc)
         | inr asked ↦
@@ -147,7 +147,7 @@ module _ (kinds : List ℕ) (setup : Setup) (c : ControllerState) (s : ℕ) (sw 
       (λ other. nothing sw (extension.Command life c.vr.view number through what) refl refl refl refl (λ t is. absurd cc)
       (ap (λ (b : Bool). if b then number ∷ commands_said (life_of sw) out else commands_said (life_of sw) out) other) served)
 
-  clears : (life through : ℕ) → IsServed kinds setup c s sw (message.Of 0 (spoken.Ravana (extension.Clear life through)) ∷ out) in_ →
+  clears : (life through : ℕ) → IsAttended kinds setup c s sw (message.Of 0 (spoken.Ravana (extension.Clear life through)) ∷ out) in_ →
       Keeps (turn_on (message.Of 0 (spoken.Ravana (extension.Clear life through))))
   unfolding switch_turn
   clears life through served =
@@ -156,7 +156,7 @@ module _ (kinds : List ℕ) (setup : Setup) (c : ControllerState) (s : ℕ) (sw 
       (λ other. nothing sw (extension.Clear life through) refl refl refl refl (λ t is. absurd cc) refl served)
 
   -- each kind of what the primary says
-  pub leaves : (m : Message) → IsSaidBy c.vr.view m → IsServed kinds setup c s sw (m ∷ out) in_ → Keeps (turn_on m)
+  pub leaves : (m : Message) → IsSaidBy c.vr.view m → IsAttended kinds setup c s sw (m ∷ out) in_ → Keeps (turn_on m)
   leaves _ Asks served = asks served
   leaves _ (Acknowledges life through) served = acknowledges life through served
   leaves _ (Commands life number through what near) served = commands life number through what near served
@@ -165,16 +165,16 @@ module _ (kinds : List ℕ) (setup : Setup) (c : ControllerState) (s : ℕ) (sw 
 -- it is served as before
 pub switch_keeps : (kinds : List ℕ) (setup : Setup) (c : ControllerState) (s : ℕ) (sw : SwitchState) (xid : ℕ) (said : Spoken) (out in_ : List Message) →
     c.vr.view < 2 ^ 32 →
-    IsServed kinds setup c s sw (message.Of xid said ∷ out) in_ →
+    IsAttended kinds setup c s sw (message.Of xid said ∷ out) in_ →
     IsTrueOf kinds setup c s sw → IsTrueOf kinds setup c s (switch_turn sw (switch_input.Of c.vr.me xid said)).state →
-    IsServed kinds setup c s (switch_turn sw (switch_input.Of c.vr.me xid said)).state out
+    IsAttended kinds setup c s (switch_turn sw (switch_input.Of c.vr.me xid said)).state out
     (in_ ++ told_to switch_message (actor.Controller c.vr.me) (switch_turn sw (switch_input.Of c.vr.me xid said)).letters)
 switch_keeps kinds setup c s sw xid said out in_ small served before after = (leaves kinds setup c s sw small before out in_ (message.Of xid said) served.said.0 served after).served
 
 -- its letters go nowhere else but to switches
 pub switch_says : (kinds : List ℕ) (setup : Setup) (c : ControllerState) (s : ℕ) (sw : SwitchState) (xid : ℕ) (said : Spoken) (out in_ : List Message) →
     c.vr.view < 2 ^ 32 →
-    IsServed kinds setup c s sw (message.Of xid said ∷ out) in_ →
+    IsAttended kinds setup c s sw (message.Of xid said ∷ out) in_ →
     IsTrueOf kinds setup c s sw → IsTrueOf kinds setup c s (switch_turn sw (switch_input.Of c.vr.me xid said)).state →
     (l : Letter SwitchSays) → IsIn l (switch_turn sw (switch_input.Of c.vr.me xid said)).letters → (l.to ≡ actor.Controller c.vr.me) ⊎ ((t : ℕ) × (l.to ≡ actor.Switch t))
 switch_says kinds setup c s sw xid said out in_ small served before after = (leaves kinds setup c s sw small before out in_ (message.Of xid said) served.said.0 served after).letters

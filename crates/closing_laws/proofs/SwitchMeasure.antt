@@ -37,7 +37,7 @@ use Rattle.rv_runs.specs.Schedule.{is_drawn}
 use Rattle.rv_runs.specs.States.{switch_hears, switch_message}
 use Rattle.closing_laws.specs.Quorum.{has}
 use Rattle.closing_laws.specs.Measure.{left_at, message_worth, unlogged, unsent}
-use Rattle.closing_laws.specs.Serving.{Acknowledges, Asks, Clears, Commands, IsOlder, IsSaidBy, IsServed, IsTrueOf, acknowledges_events, asks_role, is_request, sent_of}
+use Rattle.closing_laws.specs.Serving.{Acknowledges, Asks, Clears, Commands, IsOlder, IsSaidBy, IsAttended, IsTrueOf, acknowledges_events, asks_role, is_request, sent_of}
 use Rattle.closing_laws.proofs.AckTurns.{AfterAck, acked}
 use Rattle.closing_laws.proofs.CommandTurns.{commanded}
 use Rattle.closing_laws.proofs.Numbers.{filter_all}
@@ -276,14 +276,14 @@ module _ (kinds : List ℕ) (setup : Setup) (c : ControllerState) (s : ℕ) (sw 
   silent : (m : Message) (state : SwitchState) → state.buffer ≡ sw.buffer → state.fence ≡ sw.fence → 1 ≤ message_worth m → Goes m (quiet state)
   silent m state buffer fence some = lowered quorum c.vr.me drawn s kinds setup c refl sw f (message_worth m) (quiet state) (stays quorum c.vr.me drawn s kinds setup c refl sw (message_worth m) (quiet state) buffer fence (omega (arith, some)))
 
-  asks : IsServed kinds setup c s sw (asks_role c.vr.view ∷ out) in_ → Goes (asks_role c.vr.view) (turn_on (asks_role c.vr.view))
+  asks : IsAttended kinds setup c s sw (asks_role c.vr.view ∷ out) in_ → Goes (asks_role c.vr.view) (turn_on (asks_role c.vr.view))
   unfolding switch_turn
   asks h = elim h.role [
     | inl unasked ↦ lowered quorum c.vr.me drawn s kinds setup c refl sw f 2 (on_role_request sw c.vr.me 0 MASTER c.vr.view) (asked_lowers quorum c.vr.me drawn s kinds setup c refl sw small is_true unasked.older)
     | inr asked ↦ let none = asked.0.no_more in let one = count_cons is_request (asks_role c.vr.view) out in absurd (omega (arith, none, one))
   ]
 
-  acknowledges : (life through : ℕ) → IsServed kinds setup c s sw (acknowledges_events life through ∷ out) in_ → Goes (acknowledges_events life through) (turn_on (acknowledges_events life through))
+  acknowledges : (life through : ℕ) → IsAttended kinds setup c s sw (acknowledges_events life through ∷ out) in_ → Goes (acknowledges_events life through) (turn_on (acknowledges_events life through))
   unfolding switch_turn
   acknowledges life through h =
       cond_both (nat_eq life (life_of sw)) (on_event_ack sw through) (quiet sw) (λ (t : SwitchTurn). Goes (acknowledges_events life through) t)
@@ -294,7 +294,7 @@ module _ (kinds : List ℕ) (setup : Setup) (c : ControllerState) (s : ℕ) (sw 
       (λ other. silent (acknowledges_events life through) sw refl refl (omega arith))
 
   commands : (life number through : ℕ) (what : Order) → number < through + most_commands →
-      IsServed kinds setup c s sw (message.Of 0 (spoken.Ravana (extension.Command life c.vr.view number through what)) ∷ out) in_ →
+      IsAttended kinds setup c s sw (message.Of 0 (spoken.Ravana (extension.Command life c.vr.view number through what)) ∷ out) in_ →
       Goes (message.Of 0 (spoken.Ravana (extension.Command life c.vr.view number through what))) (turn_on (message.Of 0 (spoken.Ravana (extension.Command life c.vr.view number through what))))
   unfolding switch_turn
   commands life number through what near h =
@@ -303,7 +303,7 @@ module _ (kinds : List ℕ) (setup : Setup) (c : ControllerState) (s : ℕ) (sw 
       (λ own. elim h.role [
         | inl unasked ↦ absurd (let first = unasked.first in cc)
         | inr asked ↦
-            let here = subst (λ (l : ℕ). IsServed kinds setup c s sw (message.Of 0 (spoken.Ravana (extension.Command l c.vr.view number through what)) ∷ out) in_) (eqb-true life (life_of sw) own) h in
+            let here = subst (λ (l : ℕ). IsAttended kinds setup c s sw (message.Of 0 (spoken.Ravana (extension.Command l c.vr.view number through what)) ∷ out) in_) (eqb-true life (life_of sw) own) h in
             let waits = is_commanded kinds setup c s sw number through what out in_ here in
             lowered quorum c.vr.me drawn s kinds setup c refl sw f 2 (on_command sw c.vr.me 0 c.vr.view number through what)
             (commanded_lowers quorum c.vr.me drawn s kinds setup c refl sw number through what asked.0.master asked.0.generation (late kinds setup c s sw number through what out in_ waits) near is_true.results)
@@ -317,7 +317,7 @@ module _ (kinds : List ℕ) (setup : Setup) (c : ControllerState) (s : ℕ) (sw 
       (λ own. silent (message.Of 0 (spoken.Ravana (extension.Clear life through))) (settled sw through) refl refl (omega arith))
       (λ other. silent (message.Of 0 (spoken.Ravana (extension.Clear life through))) sw refl refl (omega arith))
 
-  by_said : (m : Message) → IsSaidBy c.vr.view m → IsServed kinds setup c s sw (m ∷ out) in_ → Goes m (turn_on m)
+  by_said : (m : Message) → IsSaidBy c.vr.view m → IsAttended kinds setup c s sw (m ∷ out) in_ → Goes m (turn_on m)
   by_said _ Asks h = asks h
   by_said _ (Acknowledges life through) h = acknowledges life through h
   by_said _ (Commands life number through what near) h = commands life number through what near h
@@ -326,7 +326,7 @@ module _ (kinds : List ℕ) (setup : Setup) (c : ControllerState) (s : ℕ) (sw 
 -- each message of the primary that a switch draws lowers what is left to do
 pub switch_lowers : (kinds : List ℕ) (setup : Setup) (c : ControllerState) (s : ℕ) (sw : SwitchState) (xid : ℕ) (said : Spoken) (out in_ : List Message) →
     c.vr.view < 2 ^ 32 →
-    IsServed kinds setup c s sw (message.Of xid said ∷ out) in_ →
+    IsAttended kinds setup c s sw (message.Of xid said ∷ out) in_ →
     IsTrueOf kinds setup c s sw → (quorum : List ℕ) → has quorum c.vr.me ≡ true → (f : ℕ) →
     worths_of quorum switch_message (actor.Switch s) (switch_turn sw (switch_input.Of c.vr.me xid said)).letters
     + left_at f c s (switch_turn sw (switch_input.Of c.vr.me xid said)).state + 1 ≤ message_worth (message.Of xid said) + left_at f c s sw

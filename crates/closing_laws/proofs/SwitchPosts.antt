@@ -27,7 +27,7 @@ use Rattle.rv_runs.specs.declared.messages.Message.{Message}
 use Rattle.rv_runs.specs.declared.messages.Message.TheVariants as message
 use Rattle.rv_runs.specs.declared.messages.Unsealed.TheVariants as unsealed
 use Rattle.rv_runs.specs.States.{switch_hears, switch_message}
-use Rattle.closing_laws.specs.Serving.{Acknowledges, Asks, Clears, Commands, IsOlder, IsSaidBy, IsServed, IsTrueOf, acknowledges_events, asks_role, is_request, sent_of}
+use Rattle.closing_laws.specs.Serving.{Acknowledges, Asks, Clears, Commands, IsOlder, IsSaidBy, IsAttended, IsTrueOf, acknowledges_events, asks_role, is_request, sent_of}
 use Rattle.closing_laws.proofs.AckTurns.{AfterAck, acked}
 use Rattle.closing_laws.proofs.CommandTurns.{AfterCommand, commanded}
 use Rattle.closing_laws.proofs.Drained.{put, put_other, put_own}
@@ -61,14 +61,14 @@ module _ (kinds : List ℕ) (setup : Setup) (c : ControllerState) (s : ℕ) (sw 
   abbrev Turns : Message → SwitchTurn → Type 0
   Turns m turn = IsTurn c.vr.me c.vr.view sw m turn
 
-  asks : IsServed kinds setup c s sw (asks_role c.vr.view ∷ out) in_ → Turns (asks_role c.vr.view) (turn_on (asks_role c.vr.view))
+  asks : IsAttended kinds setup c s sw (asks_role c.vr.view ∷ out) in_ → Turns (asks_role c.vr.view) (turn_on (asks_role c.vr.view))
   unfolding switch_turn
   asks served = elim served.role [
     | inl unasked ↦ subst (λ (t : SwitchTurn). Turns (asks_role c.vr.view) t) (sym (asked_is kinds setup c s sw small is_true unasked.older)) (Replies unasked.older)
     | inr asked ↦ let none = asked.0.no_more in let one = count_cons is_request (asks_role c.vr.view) out in absurd (omega (arith, none, one))
   ]
 
-  acknowledges : (life through : ℕ) → IsServed kinds setup c s sw (acknowledges_events life through ∷ out) in_ → Turns (acknowledges_events life through) (turn_on (acknowledges_events life through))
+  acknowledges : (life through : ℕ) → IsAttended kinds setup c s sw (acknowledges_events life through ∷ out) in_ → Turns (acknowledges_events life through) (turn_on (acknowledges_events life through))
   unfolding switch_turn
   acknowledges life through served =
       cond_both (nat_eq life (life_of sw)) (on_event_ack sw through) (quiet sw) (λ (t : SwitchTurn). Turns (acknowledges_events life through) t)
@@ -81,7 +81,7 @@ module _ (kinds : List ℕ) (setup : Setup) (c : ControllerState) (s : ℕ) (sw 
       (λ other. Rests (acknowledges_events life through) sw refl refl)
 
   commands : (life number through : ℕ) (what : Order) → number < through + most_commands →
-      IsServed kinds setup c s sw (message.Of 0 (spoken.Ravana (extension.Command life c.vr.view number through what)) ∷ out) in_ →
+      IsAttended kinds setup c s sw (message.Of 0 (spoken.Ravana (extension.Command life c.vr.view number through what)) ∷ out) in_ →
       Turns (message.Of 0 (spoken.Ravana (extension.Command life c.vr.view number through what))) (turn_on (message.Of 0 (spoken.Ravana (extension.Command life c.vr.view number through what))))
   unfolding switch_turn
   commands life number through what near served =
@@ -90,7 +90,7 @@ module _ (kinds : List ℕ) (setup : Setup) (c : ControllerState) (s : ℕ) (sw 
       (λ own. elim served.role [
         | inl unasked ↦ absurd (let first = unasked.first in cc)
         | inr asked ↦
-            let here = subst (λ (l : ℕ). IsServed kinds setup c s sw (message.Of 0 (spoken.Ravana (extension.Command l c.vr.view number through what)) ∷ out) in_) (eqb-true life (life_of sw) own) served in
+            let here = subst (λ (l : ℕ). IsAttended kinds setup c s sw (message.Of 0 (spoken.Ravana (extension.Command l c.vr.view number through what)) ∷ out) in_) (eqb-true life (life_of sw) own) served in
             let waits = is_commanded kinds setup c s sw number through what out in_ here in
             subst (λ (l : ℕ). Turns (message.Of 0 (spoken.Ravana (extension.Command l c.vr.view number through what))) (on_command sw c.vr.me 0 c.vr.view number through what)) (sym (eqb-true life (life_of sw) own))
             (Results number through what (on_command sw c.vr.me 0 c.vr.view number through what)
@@ -106,7 +106,7 @@ module _ (kinds : List ℕ) (setup : Setup) (c : ControllerState) (s : ℕ) (sw 
       (λ other. Rests (message.Of 0 (spoken.Ravana (extension.Clear life through))) sw refl refl)
 
   -- each kind of what the primary says
-  pub turn_is : (m : Message) → IsSaidBy c.vr.view m → IsServed kinds setup c s sw (m ∷ out) in_ → Turns m (turn_on m)
+  pub turn_is : (m : Message) → IsSaidBy c.vr.view m → IsAttended kinds setup c s sw (m ∷ out) in_ → Turns m (turn_on m)
   turn_is _ Asks served = asks served
   turn_is _ (Acknowledges life through) served = acknowledges life through served
   turn_is _ (Commands life number through what near) served = commands life number through what near served

@@ -1,6 +1,6 @@
 -- What a primary's log tells of a switch, where what is decided begins the log: events of the switch stand there in their order,
 -- none of a later life, what left its buffer is among them, and what is settled it has carried out.
-use Rattle.std.proofs.Common.{◌≡◌, ◌≤◌, ◌<◌, inl, inr, ℕ, zero, suc, ◌+◌, true, List, [], ◌∷◌, ◌++◌, length, take, drop, refl, sym, ◌∙◌, ap, subst, arith, take-append-drop}
+use Rattle.std.proofs.Common.{◌≡◌, ◌≤◌, ◌<◌, inl, inr, ℕ, zero, suc, ◌+◌, true, List, [], ◌∷◌, length, take, drop, refl, sym, ◌∙◌, ap, subst, arith, take-append-drop}
 use Rattle.std.specs.Prelude.{slice_get, Some}
 use Rattle.std.proofs.lemmas.Bool.{cases_lt}
 use Rattle.std.proofs.lemmas.List.{length-take, get_or_push}
@@ -29,11 +29,7 @@ use Rattle.exactly_once.specs.Truths.{IsDoneThrough, IsGenuine, IsTrueEntry}
 use Rattle.exactly_once.specs.Invariant.{IsSound}
 use Rattle.exactly_once.proofs.ControllerTurns.{life_comes, received_at}
 use Rattle.exactly_once.proofs.Growing.{take_same}
-
--- where a log begins with another, what stands before an entry of it
-seam : {A : Type 0} (xs ys : List A) (y : A) → slice_get (xs ++ y ∷ ys) (length xs) ≡ Some y
-seam [] ys y = refl
-seam (x ∷ xs) ys y = seam xs ys y
+use Rattle.exactly_once.proofs.Executed.{seam_at}
 
 -- no more are processed of a life than are received
 pub processed_received : (log : List Entry) (s l : ℕ) → processed_of log s l ≤ count_in s l (received log)
@@ -115,7 +111,7 @@ module _ (kinds : List ℕ) (setup : Setup) (f : PastFacts) (log : List Entry) (
         let within = (processed_at r.front j r.back (subst (λ (l : List Entry). is_log l ≡ true) r.is front_valid)).1 in
         let parts : IsPrefix r.front (take k log) = record { rest = Processed j ∷ r.back; joined = r.is } in
         let long = prefix_length (received_prefix parts) in
-        let at : slice_get (take k log) (length r.front) ≡ Some (Processed j) = subst (λ (l : List Entry). slice_get l (length r.front) ≡ Some (Processed j)) (sym r.is) (seam r.front r.back (Processed j)) in
+        let at : slice_get (take k log) (length r.front) ≡ Some (Processed j) = subst (λ (l : List Entry). slice_get l (length r.front) ≡ Some (Processed j)) (sym r.is) (seam_at r.front r.back (Processed j)) in
         let done : IsDoneThrough kinds setup f (length r.front) j = entries (length r.front) (Processed j) (get_prefix (length r.front) (Processed j) (front_prefix k log) at) in
         let same : take (j + 1) (received f.decided) ≡ take (j + 1) (received (take k log)) = take_same (j + 1) (omega (arith, within, long)) (received_prefix front_begins) in
         elim (done.all s (life_of state)) [

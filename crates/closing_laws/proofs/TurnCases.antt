@@ -30,7 +30,7 @@ use Rattle.rv_runs.specs.declared.messages.Message.{Message}
 use Rattle.rv_runs.specs.declared.messages.Message.TheVariants as message
 use Rattle.closing_laws.specs.Following.{Start}
 use Rattle.closing_laws.specs.Quorum.{has}
-use Rattle.closing_laws.specs.Serving.{AreFew, IsAsked, IsSaidIn, IsServed, IsTrueOf, IsTruePrimary, IsUnasked, Replies, Tells, Results, is_reply}
+use Rattle.closing_laws.specs.Serving.{AreFew, IsMastered, IsSaidIn, IsAttended, IsTrueOf, IsTruePrimary, IsUnasked, Replies, Tells, Results, is_reply}
 use Rattle.closing_laws.specs.Ways.{Sent, between}
 use Rattle.closing_laws.proofs.Agreed.{agreed_no_less, counts_it, marked}
 use Rattle.closing_laws.proofs.Drained as drained_by
@@ -43,7 +43,7 @@ use Rattle.closing_laws.proofs.Rooms.{IsHeard}
 use Rattle.closing_laws.proofs.Saying.{count_cons}
 
 -- a switch whose reply comes is not confirmed
-replies_once : (c : ControllerState) (s : ℕ) (sw : SwitchState) (out in_ : List Message) (m : Message) → is_reply m ≡ true → IsUnasked c s sw out (m ∷ in_) ⊎ IsAsked c s sw out (m ∷ in_) →
+replies_once : (c : ControllerState) (s : ℕ) (sw : SwitchState) (out in_ : List Message) (m : Message) → is_reply m ≡ true → IsUnasked c s sw out (m ∷ in_) ⊎ IsMastered c s sw out (m ∷ in_) →
     is_confirmed c.marks s ≡ false
 replies_once c s sw out in_ m reply (inl h) = h.unconfirmed
 replies_once c s sw out in_ m reply (inr h) = elim (cases_Bool (is_confirmed c.marks s)) [
@@ -111,9 +111,9 @@ module _ (kinds : List ℕ) (setup : Setup) (few : AreFew kinds setup) (w p : �
             as_said = message.Of xid (spoken.Plain (plain.RoleReply MASTER c.vr.view))
 
             role : IsUnasked c k (switches k) (between (actor.Controller p) (actor.Switch k) rest) (as_said ∷ between (actor.Switch k) (actor.Controller p) rest)
-                ⊎ IsAsked c k (switches k) (between (actor.Controller p) (actor.Switch k) rest) (as_said ∷ between (actor.Switch k) (actor.Controller p) rest)
+                ⊎ IsMastered c k (switches k) (between (actor.Controller p) (actor.Switch k) rest) (as_said ∷ between (actor.Switch k) (actor.Controller p) rest)
             role =
-                let s = subst (λ (l : List Message). IsServed kinds setup c k (switches k) (between (actor.Controller p) (actor.Switch k) rest) l)
+                let s = subst (λ (l : List Message). IsAttended kinds setup c k (switches k) (between (actor.Controller p) (actor.Switch k) rest) l)
                 (primary_by.own_is kinds setup few w p quorum start picked inside leader small c members switches m rest d to true_of k from there as_said is)
                 (primary_by.served kinds setup few w p quorum start picked inside leader small c members switches m rest d to true_of k there) in
                 elim s.role [ inl h ↦ inl h | inr h ↦ inr h.0 ]

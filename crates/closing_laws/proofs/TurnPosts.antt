@@ -21,7 +21,7 @@ use Rattle.rv_runs.specs.States.{switch_hears}
 use Rattle.closing_laws.specs.Quorum.{has}
 use Rattle.closing_laws.specs.Ways.{Sent, between}
 use Rattle.closing_laws.specs.Following.{Start, KeepsUp}
-use Rattle.closing_laws.specs.Serving.{AreFew, IsServed}
+use Rattle.closing_laws.specs.Serving.{AreFew, IsAttended}
 use Rattle.closing_laws.proofs.Between.{between_other, between_own}
 use Rattle.closing_laws.proofs.Drained as drained_by
 use Rattle.closing_laws.proofs.Drained.{heard_of, way_apart}
@@ -81,8 +81,8 @@ module _ (kinds : List ℕ) (setup : Setup) (few : AreFew kinds setup) (w p : �
       subst (λ (a : Actor). IsTurn c.vr.me c.vr.view (switches s) m.said (switch_turn (switches s) (switch_hears a (unsealed.Message m.said)))) (ap (λ (k : ℕ). actor.Controller k) d.primary.me ∙ sym from)
       (switch_by.turn_is kinds setup c s (switches s) t.primary.view (t.each s there) (between (actor.Controller p) (actor.Switch s) rest) (between (actor.Switch s) (actor.Controller p) rest) m.said served.said.0 served)
     where
-      served : IsServed kinds setup c s (switches s) (m.said ∷ between (actor.Controller p) (actor.Switch s) rest) (between (actor.Switch s) (actor.Controller p) rest)
+      served : IsAttended kinds setup c s (switches s) (m.said ∷ between (actor.Controller p) (actor.Switch s) rest) (between (actor.Switch s) (actor.Controller p) rest)
       served =
-          subst (λ (l : List Message). IsServed kinds setup c s (switches s) l (between (actor.Switch s) (actor.Controller p) rest)) (between_own (actor.Controller p) (actor.Switch s) m rest from to)
-          (subst (λ (l : List Message). IsServed kinds setup c s (switches s) (between (actor.Controller p) (actor.Switch s) (m ∷ rest)) l)
+          subst (λ (l : List Message). IsAttended kinds setup c s (switches s) l (between (actor.Switch s) (actor.Controller p) rest)) (between_own (actor.Controller p) (actor.Switch s) m rest from to)
+          (subst (λ (l : List Message). IsAttended kinds setup c s (switches s) (between (actor.Controller p) (actor.Switch s) (m ∷ rest)) l)
           (between_other (actor.Switch s) (actor.Controller p) m rest (way_apart (actor.Switch s) (actor.Controller p) m (λ f g. absurd (let e : actor.Controller p ≡ actor.Switch s = sym from ∙ f in cc)))) (d.served s there))

@@ -15,7 +15,7 @@ use Rattle.group_controller.specs.State.{ControllerState, Work, committed}
 use Rattle.group_controller.specs.Settling.{after_finishing, is_untold, settling, with_answers, with_commands}
 use Rattle.rv_runs.specs.declared.messages.Message.{Message}
 use Rattle.closing_laws.specs.Following.{ArePrepares}
-use Rattle.closing_laws.specs.Serving.{AreFew, Extends, IsServed, IsSettled, IsToldLast, IsTrueOf, IsTruePrimary}
+use Rattle.closing_laws.specs.Serving.{AreFew, Extends, IsAttended, IsSettled, IsToldLast, IsTrueOf, IsTruePrimary}
 use Rattle.closing_laws.proofs.Committing.{CommitsMore}
 use Rattle.closing_laws.proofs.Extending.{AreToOthers, extends_none, tells_member}
 use Rattle.closing_laws.proofs.Finishing.{AreBoundedTo, Finished, finished, finishing_grows, grows_committed}
@@ -121,7 +121,7 @@ module _ (kinds : List ℕ) (setup : Setup) (sw : ℕ → SwitchState) (in_ : �
     marks_are = f.progress.marks;
     settled = record { told = f.progress.standing.told_all; proposed = f.settled; last = f.progress.standing.last };
     standing = f.progress.standing;
-    served = λ t less. subst (λ (z : List (Letter ControllerSays)). IsServed kinds setup work.state t (sw t) (out t ++ told t z) (in_ t)) letters (f.progress.served t less);
+    served = λ t less. subst (λ (z : List (Letter ControllerSays)). IsAttended kinds setup work.state t (sw t) (out t ++ told t z) (in_ t)) letters (f.progress.served t less);
   }
     where
       e : Extends start.state f.progress.more work.state f.progress.letters

@@ -18,8 +18,8 @@ use Rattle.view_change.specs.Entering.{check, own_log, started, view_start}
 use Rattle.vr_core.specs.declared.input.VrInput.TheVariants as vr_input
 use Rattle.vr_core.specs.Step.{vr_step}
 use Rattle.closing_laws.specs.Quorum.{IsQuorum, has}
-use Rattle.closing_laws.specs.Draining.{Flight, Group, flown, put, took, drains, suspected, all_suspected, resting}
-use Rattle.closing_laws.specs.Views.{IsMember, in_view, voting, log_of, behind, last_first, tellers, lacks, HasBest, HasStarted, IsCovered}
+use Rattle.closing_laws.specs.Draining.{Flight, GroupState, flown, put, took, drains, suspected, all_suspected, resting}
+use Rattle.closing_laws.specs.Views.{IsReadyMember, in_view, voting, log_of, behind, last_first, tellers, lacks, HasBest, HasStarted, IsCovered}
 use Rattle.closing_laws.proofs.Words.{call, all_calls, all_packets, times, log_sent, IsChosen}
 use Rattle.closing_laws.proofs.Picked.{IsPicked, picked_of_quorum}
 use Rattle.closing_laws.proofs.Members.{suspects, guard_open, sound_here}
@@ -84,7 +84,7 @@ best_held start best (x ∷ xs) h = elim (or_cases (nat_eq x best) (has xs best)
   | inr k ↦ inr (best_held start best xs k)
 ]
 
-module _ (n w : ℕ) (quorum : List ℕ) (start : ℕ → VrState) (ready : (j : ℕ) → has quorum j ≡ true → IsMember n w j (start j)) (q : IsPicked n w quorum) (group : 0 < n / 2)
+module _ (n w : ℕ) (quorum : List ℕ) (start : ℕ → VrState) (ready : (j : ℕ) → has quorum j ≡ true → IsReadyMember n w j (start j)) (q : IsPicked n w quorum) (group : 0 < n / 2)
     (best : ℕ) (chosen : IsChosen quorum start best) where
   abbrev bs : List ℕ
   bs = tellers (w % n) quorum
@@ -207,7 +207,7 @@ module _ (n w : ℕ) (quorum : List ℕ) (start : ℕ → VrState) (ready : (j :
       rw (member, all, apart) refl
 
   -- the group before the turn that starts the view: one packet waits, for the primary
-  pub record Ending (count : ℕ) (g : Group) (turns : ℕ) : Type 0 where
+  pub record Ending (count : ℕ) (g : GroupState) (turns : ℕ) : Type 0 where
     pub front : List ℕ
     pub sender : ℕ
     pub message : VrMessage
@@ -271,7 +271,7 @@ module _ (n w : ℕ) (quorum : List ℕ) (start : ℕ → VrState) (ready : (j :
   turns_drained = times (n / 2) quorum + n / 2 + (if lacks (w % n) start best then 2 else 0)
 
   module _ (at : ℕ → VrState) (turns : ℕ) (each : (j : ℕ) → at j ≡ held n w quorum start ready (heard_from []) j) where
-    abbrev g : Group
+    abbrev g : GroupState
     g = record { at = at; pool = all_calls n w quorum; turns = turns }
 
     rounds : After (all_packets n quorum) quorum g (held n w quorum start ready (heard_from (behind quorum []))) (map (log_sent start w (w % n)) bs) (turns + times (n / 2) quorum)
@@ -290,7 +290,7 @@ module _ (n w : ℕ) (quorum : List ℕ) (start : ℕ → VrState) (ready : (j :
         let b = last.2 in
         let t = gathered n w quorum start ready q group bs in
         let now = turns + times (n / 2) quorum in
-        let g1 : Group = record { at = rounds.found; pool = map (log_sent start w (w % n)) bs; turns = now } in
+        let g1 : GroupState = record { at = rounds.found; pool = map (log_sent start w (w % n)) bs; turns = now } in
         let collected = collect_last n w quorum start ready q group c bs g1 now t fetching b (fetches_far far) (sound_here sp (leader n w quorum start ready q group).is_one (leader n w quorum start ready q group).commit t refl refl) in
         let asks = asked far collected.found (now + c + 1) collected.each in
         let both = after_first (c + 1) 1 (c + 1 + 1) quorum g1 (led n w quorum start ready q group t) (led n w quorum start ready q group t) (map (flown (w % n)) fetching) (answer far ∷ []) (now + c + 1) (now + c + 1 + 1) (now + c + 1 + 1) collected asks refl refl in (
@@ -329,7 +329,7 @@ module _ (n w : ℕ) (quorum : List ℕ) (start : ℕ → VrState) (ready : (j :
     drained_all = by_need (lacks (w % n) start best) refl
 
   -- the members suspect
-  record Suspected (g : Group) (at : ℕ → VrState) (pool : List Flight) (turns : ℕ) : Type 0 where
+  record Suspected (g : GroupState) (at : ℕ → VrState) (pool : List Flight) (turns : ℕ) : Type 0 where
     pub found : ℕ → VrState
     pub is : g ≡ record { at = found; pool = pool; turns = turns }
     pub each : (j : ℕ) → found j ≡ at j
@@ -369,7 +369,7 @@ module _ (n w : ℕ) (quorum : List ℕ) (start : ℕ → VrState) (ready : (j :
       (λ j h. let r = fresh j (has_later c j cs h) in (ap (λ (b : Bool). b || nat_eq c j) r.0 ∙ ne_eqb c j (λ e. both_ways (has cs j) (ap (has cs) (sym e) ∙ once.0) h), r.1)) in
       record {
         found = rest.found;
-        is = ap (λ (g : Group). all_suspected g w cs) next ∙ rest.is
+        is = ap (λ (g : GroupState). all_suspected g w cs) next ∙ rest.is
             ∙ ap (λ (l : List Flight). record { at = rest.found; pool = l; turns = turns + 1 + length cs }) (append_assoc pool (map (call w c) (others_below c n)) (all_calls n w cs))
             ∙ ap (λ (k : ℕ). record { at = rest.found; pool = pool ++ all_calls n w (c ∷ cs); turns = k }) (omega arith);
         each = λ j. rest.each j ∙ ap (λ (b : Bool). if b then in_view (start j) w [] false [] None else start j) (or_assoc (seen j) (nat_eq c j) (has cs j));
@@ -392,7 +392,7 @@ module _ (n w : ℕ) (quorum : List ℕ) (start : ℕ → VrState) (ready : (j :
       rw (few, nothing) refl
 
   -- the last packet is drawn
-  begins : (k : ℕ) (g : Group) (t : ℕ) → Ending k g t → After (k + 1) quorum g (led n w quorum start ready q group begun) (map (flown (w % n)) (to_others begun (view_start begun))) (t + 1)
+  begins : (k : ℕ) (g : GroupState) (t : ℕ) → Ending k g t → After (k + 1) quorum g (led n w quorum start ready q group begun) (map (flown (w % n)) (to_others begun (view_start begun))) (t + 1)
   begins k g t e =
       let letters = map (flown (w % n)) (to_others begun (view_start begun)) in
       let f : Flight = record { from = e.sender; to = w % n; message = e.message } in
@@ -409,14 +409,14 @@ module _ (n w : ℕ) (quorum : List ℕ) (start : ℕ → VrState) (ready : (j :
   pub view_starts : (k : ℕ) × HasStarted n w quorum start best (drains k quorum (all_suspected (resting start) w quorum))
   view_starts =
       let first = all_suspect quorum (λ j. false) start [] 0 (λ j. refl) (quorum_once n w quorum start ready q) (λ j h. (refl, h)) in
-      let g : Group = record { at = first.found; pool = all_calls n w quorum; turns = 0 + length quorum } in
+      let g : GroupState = record { at = first.found; pool = all_calls n w quorum; turns = 0 + length quorum } in
       let rest = drained_all first.found (0 + length quorum) (λ j. first.each j ∙ none_yet j) in
       let done = begins rest.0 g rest.1 rest.3 in
       let is : drains (rest.0 + 1) quorum (all_suspected (resting start) w quorum) ≡ record { at = done.found; pool = map (flown (w % n)) (to_others begun (view_start begun)); turns = rest.1 + 1 } =
       ap (drains (rest.0 + 1) quorum) first.is ∙ done.drained_to in
       let at_p : done.found (w % n) ≡ begun = done.each (w % n) ∙ ap (λ (b : Bool). if b then begun else held n w quorum start ready (votes_of n w quorum start ready q group) (w % n)) (eq-eqb (w % n) (w % n) refl) in (
         rest.0 + 1,
-        subst (λ (x : Group). HasStarted n w quorum start best x) (sym is) (record {
+        subst (λ (x : GroupState). HasStarted n w quorum start best x) (sym is) (record {
           voters = votes_of n w quorum start ready q group;
           logs = logs;
           logs_are = refl;
@@ -433,18 +433,18 @@ module _ (n w : ℕ) (quorum : List ℕ) (start : ℕ → VrState) (ready : (j :
       not_leader j out = ne_eqb j (w % n) (λ e. both_ways (has quorum (w % n)) (ap (has quorum) (sym e) ∙ out) q.primary)
 
   -- how the members come there, once they have entered the view
-  pub path : (z : Group) × Path w quorum z [] (all_suspected (resting start) w quorum) × IsLast n w quorum start best z
+  pub path : (z : GroupState) × Path w quorum z [] (all_suspected (resting start) w quorum) × IsLast n w quorum start best z
   path =
       let once = quorum_once n w quorum start ready q in
       let first = all_suspect quorum (λ j. false) start [] 0 (λ j. refl) once (λ j h. (refl, h)) in
-      let g : Group = record { at = first.found; pool = all_calls n w quorum; turns = 0 + length quorum } in
+      let g : GroupState = record { at = first.found; pool = all_calls n w quorum; turns = 0 + length quorum } in
       let rest = drained_all first.found (0 + length quorum) (λ j. first.each j ∙ none_yet j) in
       let k = rest.0 in
       let e = rest.3 in
-      let z : Group = record { at = e.reached.found; pool = record { from = e.sender; to = w % n; message = e.message } ∷ []; turns = rest.1 } in
+      let z : GroupState = record { at = e.reached.found; pool = record { from = e.sender; to = w % n; message = e.message } ∷ []; turns = rest.1 } in
       let changes : AreChanging quorum e.reached.found = led_changing n w quorum start ready q group e.front e.reached.found e.reached.each in
       let drained_path : Path w quorum z [] (all_suspected (resting start) w quorum) =
-      subst (λ (x : Group). Path w quorum z [] x) (sym first.is) (of_drains w quorum z k g (λ i le. each_before k g rest.1 e i le) e.reached.drained_to) in (
+      subst (λ (x : GroupState). Path w quorum z [] x) (sym first.is) (of_drains w quorum z k g (λ i le. each_before k g rest.1 e i le) e.reached.drained_to) in (
         z,
         drained_path,
         record {
@@ -464,29 +464,29 @@ module _ (n w : ℕ) (quorum : List ℕ) (start : ℕ → VrState) (ready : (j :
       no_leader : (j : ℕ) → has quorum j ≡ false → nat_eq j (w % n) ≡ false
       no_leader j out = ne_eqb j (w % n) (λ e. both_ways (has quorum (w % n)) (ap (has quorum) (sym e) ∙ out) q.primary)
 
-      each_before : (k : ℕ) (g : Group) (t : ℕ) → (e : Ending k g t) → (i : ℕ) → i ≤ k → AreChanging quorum (drains i quorum g).at
+      each_before : (k : ℕ) (g : GroupState) (t : ℕ) → (e : Ending k g t) → (i : ℕ) → i ≤ k → AreChanging quorum (drains i quorum g).at
       each_before k g t e i le = elim (cases_lt i k) [
         | inl before ↦ e.reached.changing i before
         | inr from ↦
             let same : k ≡ i = omega (arith, le, from) in
             subst (λ (x : ℕ). AreChanging quorum (drains x quorum g).at) same
-            (subst (λ (x : Group). AreChanging quorum x.at) (sym e.reached.drained_to) (led_changing n w quorum start ready q group e.front e.reached.found e.reached.each))
+            (subst (λ (x : GroupState). AreChanging quorum x.at) (sym e.reached.drained_to) (led_changing n w quorum start ready q group e.front e.reached.found e.reached.each))
       ]
 
 -- the suspicions alone
-module _ (n w : ℕ) (quorum : List ℕ) (start : ℕ → VrState) (ready : (j : ℕ) → has quorum j ≡ true → IsMember n w j (start j)) (group : 0 < n / 2) where
-  abbrev Fresh : List ℕ → Group → Type 0
+module _ (n w : ℕ) (quorum : List ℕ) (start : ℕ → VrState) (ready : (j : ℕ) → has quorum j ≡ true → IsReadyMember n w j (start j)) (group : 0 < n / 2) where
+  abbrev Fresh : List ℕ → GroupState → Type 0
   Fresh cs g = (j : ℕ) → has cs j ≡ true → (g.at j ≡ start j) × (has quorum j ≡ true)
 
   does_enter : (c : ℕ) → has quorum c ≡ true → vr_step (start c) (vr_input.Suspect w) ≡ record { state = in_view (start c) w [] false [] None; promise = Some w; letters = to_others (start c) (message.StartViewChange w) }
   does_enter c member = let m = ready c member in suspects n w c (start c) m (subst (λ (k : ℕ). 0 < k / 2) (sym m.size) group)
 
-  still_fresh : (c : ℕ) (cs : List ℕ) (g : Group) → Once (c ∷ cs) → Fresh (c ∷ cs) g → Fresh cs (suspected g w c)
+  still_fresh : (c : ℕ) (cs : List ℕ) (g : GroupState) → Once (c ∷ cs) → Fresh (c ∷ cs) g → Fresh cs (suspected g w c)
   still_fresh c cs g once fresh j h =
       let r = fresh j (has_later c j cs h) in
       (ap (λ (b : Bool). if b then (vr_step (g.at c) (vr_input.Suspect w)).state else g.at j) (ne_eqb j c (λ e. both_ways (has cs j) (ap (has cs) e ∙ once.0) h)) ∙ r.0, r.1)
 
-  pub suspects_path : (z : Group) (cs : List ℕ) (g : Group) → Once cs → Fresh cs g → Path w quorum z [] (all_suspected g w cs) → Path w quorum z cs g
+  pub suspects_path : (z : GroupState) (cs : List ℕ) (g : GroupState) → Once cs → Fresh cs g → Path w quorum z [] (all_suspected g w cs) → Path w quorum z cs g
   suspects_path z [] g once fresh rest = rest
   suspects_path z (c ∷ cs) g once fresh rest =
       let f = fresh c (has_here c cs) in
@@ -495,14 +495,14 @@ module _ (n w : ℕ) (quorum : List ℕ) (start : ℕ → VrState) (ready : (j :
       (ap (λ (s : VrState). is_changing (vr_step s (vr_input.Suspect w)).state) f.0 ∙ ap (λ (x : VrStep). is_changing x.state) (does_enter c f.1))
       (suspects_path z cs (suspected g w c) once.1 (still_fresh c cs g once fresh) rest)
 
-  untouched : (cs : List ℕ) (g : Group) (j : ℕ) → has cs j ≡ false → (all_suspected g w cs).at j ≡ g.at j
+  untouched : (cs : List ℕ) (g : GroupState) (j : ℕ) → has cs j ≡ false → (all_suspected g w cs).at j ≡ g.at j
   untouched [] g j none = refl
   untouched (c ∷ cs) g j none =
       let parts = or_parts (nat_eq c j) (has cs j) none in
       untouched cs (suspected g w c) j parts.1
       ∙ ap (λ (b : Bool). if b then (vr_step (g.at c) (vr_input.Suspect w)).state else g.at j) (ne_eqb j c (λ e. eqb-false c j parts.0 (sym e)))
 
-  pub entered_all : (cs : List ℕ) (g : Group) → Once cs → Fresh cs g → (j : ℕ) → has cs j ≡ true → (all_suspected g w cs).at j ≡ in_view (start j) w [] false [] None
+  pub entered_all : (cs : List ℕ) (g : GroupState) → Once cs → Fresh cs g → (j : ℕ) → has cs j ≡ true → (all_suspected g w cs).at j ≡ in_view (start j) w [] false [] None
   entered_all [] g once fresh j h = absurd (true≢false (sym h))
   entered_all (c ∷ cs) g once fresh j h = by_first (nat_eq c j) refl (λ k. entered_all cs (suspected g w c) once.1 (still_fresh c cs g once fresh) j k)
     where
@@ -516,12 +516,12 @@ module _ (n w : ℕ) (quorum : List ℕ) (start : ℕ → VrState) (ready : (j :
           ∙ ap (λ (s : VrState). (vr_step s (vr_input.Suspect w)).state) f.0 ∙ ap (λ (x : VrStep). x.state) (does_enter c f.1))
       by_first false e rest = rest (elim (or_cases (nat_eq c j) (has cs j) h) [ inl i ↦ absurd (both_ways (nat_eq c j) e i) | inr k ↦ k ])
 
-pub suspicion_turns : (w : ℕ) (cs : List ℕ) (g : Group) → (all_suspected g w cs).turns ≡ g.turns + length cs
+pub suspicion_turns : (w : ℕ) (cs : List ℕ) (g : GroupState) → (all_suspected g w cs).turns ≡ g.turns + length cs
 suspicion_turns w [] g = omega arith
 suspicion_turns w (c ∷ cs) g = let rest = suspicion_turns w cs (suspected g w c) in omega (arith, rest)
 
 -- by what each quorum is
-pub starts_of : (n w : ℕ) (quorum : List ℕ) (start : ℕ → VrState) → IsQuorum n w quorum → ((j : ℕ) → has quorum j ≡ true → IsMember n w j (start j)) → 0 < n / 2 →
+pub starts_of : (n w : ℕ) (quorum : List ℕ) (start : ℕ → VrState) → IsQuorum n w quorum → ((j : ℕ) → has quorum j ≡ true → IsReadyMember n w j (start j)) → 0 < n / 2 →
     (best : ℕ) → HasBest quorum start best → IsCovered quorum start best → (packets : ℕ) × HasStarted n w quorum start best (drains packets quorum (all_suspected (resting start) w quorum))
 starts_of n w quorum start q ready group best b covered =
     view_starts n w quorum start ready (picked_of_quorum n w quorum q) group best

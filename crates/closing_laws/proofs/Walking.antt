@@ -1,9 +1,9 @@
 -- A closing goes the way of its members, entry by entry, until its view starts.
-use Rattle.std.proofs.Common.{◌≡◌, ◌≤◌, ◌<◌, ◌⊎◌, inl, inr, ℕ, zero, ◌+◌, ◌*◌, ◌%◌, Bool, true, false, List, [], ◌∷◌, ◌++◌, map, suc, length, Contains, refl, sym, ◌∙◌, ap, subst, arith, append_assoc}
-use Rattle.std.specs.Prelude.{nat_eq, not, cond, reverse, slice_index_or, Option, Some, None, if◌then◌else◌}
+use Rattle.std.proofs.Common.{◌≡◌, ◌≤◌, ◌<◌, ◌⊎◌, inl, inr, ℕ, zero, ◌+◌, ◌*◌, ◌%◌, Bool, true, false, List, [], ◌∷◌, ◌++◌, map, suc, length, Contains, refl, sym, ◌∙◌, ap, subst, arith}
+use Rattle.std.specs.Prelude.{nat_eq, not, cond, slice_index_or, Option, Some, None, if◌then◌else◌}
 use Rattle.std.specs.List.{AllByRecursion}
 use Rattle.std.proofs.lemmas.Bool.{eq-eqb, eqb-true, eqb-false, ne_eqb}
-use Rattle.std.proofs.lemmas.List.{length-append, length-map, reverse-append}
+use Rattle.std.proofs.lemmas.List.{length-append, length-map}
 use Rattle.std.proofs.lemmas.List.Sums.{sum_by-cons}
 use Rattle.of_types.specs.Setups.{IsSetup}
 use Rattle.rv_base.specs.declared.journal.Actor.{Actor}
@@ -15,8 +15,8 @@ use Rattle.rv_base.specs.declared.journal.Local.TheVariants as local
 use Rattle.rv_base.specs.declared.journal.Packet.{Packet}
 use Rattle.rv_base.specs.declared.journal.SaveResult.{SaveResult}
 use Rattle.rv_base.specs.declared.journal.SaveResult.TheVariants.{Saved}
-use Rattle.rv_base.specs.Actors.{actor_of, same_actor}
-use Rattle.rv_base.specs.Part.{drawn, packet_of, part}
+use Rattle.rv_base.specs.Actors.{actor_of}
+use Rattle.rv_base.specs.Part.{packet_of, part}
 use Rattle.rv_base.specs.Pool.{pool, numbered, letters_posted, without}
 use Rattle.rv_base.specs.Turns.{IsWithinLimits}
 use Rattle.rv_base.proofs.Pools.{Rising, Rising-pool}
@@ -37,46 +37,30 @@ use Rattle.group_controller.specs.declared.messages.ControllerInput.TheVariants 
 use Rattle.group_controller.specs.declared.messages.ControllerSays.{ControllerSays}
 use Rattle.group_controller.specs.State.{ControllerState, Work, stepped, to_member, to_members, with_no_met_limit}
 use Rattle.group_controller.specs.Rules.{after_step, controller_work}
-use Rattle.rv_runs.specs.declared.messages.Message.{Message}
 use Rattle.rv_runs.specs.declared.messages.Unsealed.{Unsealed}
 use Rattle.rv_runs.specs.declared.messages.Unsealed.TheVariants as unsealed
 use Rattle.rv_runs.specs.Committed.{switch_state}
 use Rattle.rv_runs.specs.Messages.{FitsMessage}
-use Rattle.rv_runs.specs.States.{Scene, Sealing, IsFaithful, ControllerAt, content, controller_hears, controller_message, sealed_letters, switch_at, switch_message}
-use Rattle.rv_runs.specs.Legal.{Fits, IsPossible, IsSoundSwitch, results_of}
-use Rattle.rv_runs.specs.Schedule.{Answer, IsEnd, Phase, Suspecting, Draining, Losing, Move, Takes, ClosesTo, IsInputOf, IsMove, IsPosted, after_member, after_move, count_turns, drained, is_drawn, is_turn, met_by, next_drained, next_move, owed_of}
-use Rattle.rv_runs.proofs.Entries.{Mine, Another, switch_after}
-use Rattle.rv_runs.proofs.Pasts.{possible_before, self_controller, self_switch}
-use Rattle.rv_runs.proofs.Pools.{one_actor}
+use Rattle.rv_runs.specs.States.{Scene, IsFaithful, ControllerAt, content, controller_hears, controller_message, sealed_letters}
+use Rattle.rv_runs.specs.Legal.{IsPossible, results_of}
+use Rattle.rv_runs.specs.Schedule.{Answer, IsEnd, Phase, Suspecting, Draining, Losing, Move, Takes, ClosesTo, IsInputOf, IsMove, IsPosted, after_member, after_move, count_turns, drained, is_drawn, is_turn, met_by, next_drained, next_move}
+use Rattle.rv_runs.proofs.Pasts.{possible_before, self_controller}
 use Rattle.rv_agreement.proofs.Pasts.{fits}
 use Rattle.rv_agreement.proofs.Spelling.{all_spelled}
 use Rattle.rv_laws.proofs.Events.{events_valid}
 use Rattle.rv_laws.proofs.Laws.{always}
 use Rattle.rv_laws.proofs.Members.{owned_at}
 use Rattle.closing_laws.specs.Quorum.{has}
-use Rattle.closing_laws.specs.Draining.{Flight, Group, flown, suspected, took}
-use Rattle.closing_laws.specs.Views.{IsMember, log_of, started_with, tellers}
+use Rattle.closing_laws.specs.Draining.{Flight, GroupState, flown, suspected, took}
+use Rattle.closing_laws.specs.Views.{IsReadyMember, log_of, started_with, tellers}
 use Rattle.closing_laws.specs.Starts.{HasStartedIn, SavesSucceed, starting_turn}
-use Rattle.closing_laws.proofs.Carrying.{letters_read, ordered_may}
 use Rattle.closing_laws.proofs.Paths.{IsLast, Path, Arrives, Suspects, Draws, Loses, hears, path_turns}
-use Rattle.closing_laws.proofs.Taking.{AllCarry, By_message, By_suspicion, HeadOf, TurnOf, all_fit, at, carry_both, changing_leads_not, changing_up, finds_head, head_of, leaves_head, member_work, others_stay, own_steps, posts_carry, quiet_work, starting_work, turn_draw, turn_local, Carries}
+use Rattle.closing_laws.proofs.Taking.{AllCarry, By_message, By_suspicion, HeadOf, TurnOf, at, carry_both, changing_leads_not, changing_up, finds_head, head_of, leaves_head, member_work, others_stay, own_steps, posts_carry, quiet_work, starting_work, turn_draw, turn_local, Carries}
 use Rattle.closing_laws.proofs.FewLetters.{hears_few, suspects_few}
+use Rattle.closing_laws.proofs.Posting.{Done, Next, Posting, later, map_none, never_posts, next_of, owes_nothing, pool_grows, possible_under, posted_all, posted_holds, poster, says_posted, sealed_length, switches_stay, within_under}
 use Rattle.closing_laws.proofs.Paired.{paired_length, paired_none}
-use Rattle.closing_laws.proofs.Room.{finds_room, within_before}
+use Rattle.closing_laws.proofs.Room.{finds_room}
 use Rattle.closing_laws.proofs.StartingLetters.{IsSized, starting_few}
-
--- a past with entries behind it, the oldest first
-abbrev pub later : {B : Type 0} → List (JournalEntry B) → List (JournalEntry B) → List (JournalEntry B)
-later P [] = P
-later P (e ∷ rest) = later (e ∷ P) rest
-
-pub later_is : {B : Type 0} (P entries : List (JournalEntry B)) → later P entries ≡ reverse entries ++ P
-later_is P [] = refl
-later_is P (e ∷ rest) = later_is (e ∷ P) rest ∙ sym (ap (λ (l : List (JournalEntry _)). l ++ P) (reverse-append (e ∷ []) rest) ∙ append_assoc (reverse rest) (e ∷ []) P)
-
-pub map_none : {X Y : Type 0} (f : X → Y) (xs : List X) → map f xs ≡ [] → xs ≡ []
-map_none f [] h = refl
-map_none f (x ∷ xs) h = cc
 
 both_same : {X : Type 0} (b : Bool) (x : X) → (if b then x else x) ≡ x
 both_same true x = refl
@@ -88,16 +72,6 @@ stays w c next up full =
     ap (λ (b : Bool). if not b then Losing else if nat_eq (w % c.vr.controllers) c.vr.me then met_by c.full next else next) up
     ∙ ap (λ (o : Option _). if nat_eq (w % c.vr.controllers) c.vr.me then met_by o next else next) full
     ∙ both_same (nat_eq (w % c.vr.controllers) c.vr.me) next
-
--- and its parts are within the limits
-pub within_under : {B : Type 0} (size : B → ℕ) (entries P : List (JournalEntry B)) → IsWithinLimits size (later P entries) → IsWithinLimits size P
-within_under size [] P h = h
-within_under size (e ∷ rest) P h = within_before size e P (within_under size rest (e ∷ P) h)
-
--- sealing keeps the number of letters
-pub sealed_length : {A B : Type 0} (says : A → Message) (sealing : Sealing B) (letters : List (Letter A)) → length (sealed_letters says sealing letters) ≡ length letters
-sealed_length says sealing [] = refl
-sealed_length says sealing (l ∷ letters) = ap suc (sealed_length says sealing letters)
 
 -- a group has at most seven members
 pub seven_at_most : (n : ℕ) → Contains (1 ∷ 3 ∷ 5 ∷ 7 ∷ []) n → n ≤ 7
@@ -118,30 +92,21 @@ most_said = 16
 
 module _ {B : Type 0} (scene : Scene B) (results : List (List SaveResult)) (setup : IsSetup scene.setup) (faithful : IsFaithful scene.sealing) (w : ℕ) (quorum : List ℕ)
     (small : (c : ℕ) → has quorum c ≡ true → c < scene.setup.controllers) (before : List (JournalEntry B)) (succeed : SavesSucceed scene results before) where
-  pub possible_under : (entries P : List (JournalEntry B)) → IsPossible scene results (later P entries) → IsPossible scene results P
-  possible_under [] P h = h
-  possible_under (e ∷ rest) P h = possible_before scene results e P (possible_under rest (e ∷ P) h)
-
-  -- an entry of a controller leaves the switches as they are
-  pub switches_stay : (m : ℕ) (e : JournalEntry B) (P : List (JournalEntry B)) → actor_of e ≡ actor.Controller m → (t : ℕ) → switch_state scene t (e ∷ P) ≡ switch_state scene t P
-  switches_stay m e P whose t =
-      ap (λ (a : Actor). (switch_at scene t (if same_actor a (actor.Switch t) then (e, drawn e P) ∷ part (actor.Switch t) P else part (actor.Switch t) P)).now) whose
-
   -- the controllers hold these members, and the switches are as before
-  pub record Holds (P : List (JournalEntry B)) (g : Group) : Type 0 where
+  pub record Holds (P : List (JournalEntry B)) (g : GroupState) : Type 0 where
     pub members : (c : ℕ) → c < scene.setup.controllers → (at scene results c P).now.vr ≡ g.at c
     pub saves : (c : ℕ) → (at scene results c before).saves ≤ (at scene results c P).saves
     pub switches : (t : ℕ) → switch_state scene t P ≡ switch_state scene t before
     pub few : length g.pool ≤ most_said * g.turns
 
   -- and what waits is what waits between them. All was posted
-  pub record Stands (P : List (JournalEntry B)) (g : Group) : Type 0 where
+  pub record Stands (P : List (JournalEntry B)) (g : GroupState) : Type 0 where
     pub holds : Holds P g
     pub carries : AllCarry scene results (pool P) g.pool
     pub posted : IsPosted scene results P
 
   -- one of them has taken a turn, and did not post yet
-  pub record Owes (P : List (JournalEntry B)) (g : Group) : Type 0 where
+  pub record Owes (P : List (JournalEntry B)) (g : GroupState) : Type 0 where
     pub member : ℕ
     pub there : member < scene.setup.controllers
     pub newest : JournalEntry B
@@ -155,24 +120,17 @@ module _ {B : Type 0} (scene : Scene B) (results : List (List SaveResult)) (setu
     pub pool_is : g.pool ≡ waiting ++ map (flown member) letters
     pub holds : Holds P g
 
-  pub data Mode (P : List (JournalEntry B)) (g : Group) : Type 0 where
+  pub data Mode (P : List (JournalEntry B)) (g : GroupState) : Type 0 where
     Rests : Stands P g → Mode P g
     Owing : Owes P g → Mode P g
-
-  -- what the actor of the newest entry owes
-  pub owes_nothing : (P older : List (JournalEntry B)) (e : JournalEntry B) (m : ℕ) → P ≡ e ∷ older → actor_of e ≡ actor.Controller m → IsPosted scene results P → (at scene results m P).owed ≡ []
-  owes_nothing P older e m is whose posted =
-      map_none (λ (l : Letter ControllerSays). record { to = l.to; body = scene.sealing.sealed (controller_message l.body) }) (at scene results m P).owed
-      (subst (λ (Q : List (JournalEntry B)). IsPosted scene results Q → sealed_letters controller_message scene.sealing (at scene results m Q).owed ≡ []) (sym is)
-      (λ h. ap (λ (a : Actor). owed_of scene results a (e ∷ older)) (sym whose) ∙ h) posted)
 
   no_letters : (letters : List VrLetter) → to_members letters ≡ [] → letters ≡ []
   no_letters letters h = map_none _ letters h
 
-  pub rested : (P : List (JournalEntry B)) (g : Group) → Mode P g → IsPosted scene results P → Stands P g
+  pub rested : (P : List (JournalEntry B)) (g : GroupState) → Mode P g → IsPosted scene results P → Stands P g
   rested P g (Rests s) posted = s
   rested P g (Owing o) posted =
-      let none : o.letters ≡ [] = no_letters o.letters (sym o.owed ∙ owes_nothing P o.older o.newest o.member o.is o.whose posted) in
+      let none : o.letters ≡ [] = no_letters o.letters (sym o.owed ∙ owes_nothing scene results P o.older o.newest o.member o.is o.whose posted) in
       let same : o.waiting ≡ g.pool = sym (nothing_more o.waiting) ∙ ap (λ (ls : List VrLetter). o.waiting ++ map (flown o.member) ls) (sym none) ∙ sym o.pool_is in
       record { holds = o.holds; carries = subst (λ (fs : List Flight). AllCarry scene results (pool P) fs) same o.carries; posted = posted }
     where
@@ -180,115 +138,50 @@ module _ {B : Type 0} (scene : Scene B) (results : List (List SaveResult)) (setu
       nothing_more [] = refl
       nothing_more (f ∷ fs) = ap (λ (l : List Flight). f ∷ l) (nothing_more fs)
 
-  -- whose post it is
-  pub poster : (P older : List (JournalEntry B)) (e : JournalEntry B) (m : ℕ) (a : Actor) → P ≡ e ∷ older → actor_of e ≡ actor.Controller m → IsInputOf a P → a ≡ actor.Controller m
-  poster P older e m a is whose input =
-      let it = subst (λ (Q : List (JournalEntry B)). IsInputOf a Q) is input in
-      sym (one_actor (actor_of e) a it.1) ∙ whose
-
-  module _ (m first : ℕ) (letters : List (Letter B)) (lost : ℕ) (P : List (JournalEntry B)) where
+  module _ (m first : ℕ) (letters : List (Letter B)) (lost : ℕ) (P : List (JournalEntry B)) (possible : IsPossible scene results (Post (actor.Controller m) first letters lost ∷ P)) (room : lost ≡ 0) where
     abbrev post : JournalEntry B
     post = Post (actor.Controller m) first letters lost
 
-    abbrev after_post : ControllerAt
-    after_post = record (at scene results m P) { owed = []; fresh = false }
-
-    pub posted_own : at scene results m (post ∷ P) ≡ after_post
-    posted_own = own_steps scene results m post P refl
-
-    -- a post changes nobody
-    pub posted_holds : (c : ℕ) → ((at scene results c (post ∷ P)).now ≡ (at scene results c P).now) × ((at scene results c (post ∷ P)).saves ≡ (at scene results c P).saves)
-    posted_holds c = by_place (nat_eq m c) refl
-      where
-        by_place : (b : Bool) → nat_eq m c ≡ b → ((at scene results c (post ∷ P)).now ≡ (at scene results c P).now) × ((at scene results c (post ∷ P)).saves ≡ (at scene results c P).saves)
-        by_place true e =
-            subst (λ (k : ℕ). ((at scene results k (post ∷ P)).now ≡ (at scene results k P).now) × ((at scene results k (post ∷ P)).saves ≡ (at scene results k P).saves)) (eqb-true m c e)
-            (ap (λ (x : ControllerAt). x.now) posted_own, ap (λ (x : ControllerAt). x.saves) posted_own)
-        by_place false e =
-            let same = others_stay scene results m post P refl c e in
-            (ap (λ (x : ControllerAt). x.now) same, ap (λ (x : ControllerAt). x.saves) same)
-
-    pub posted_all : IsPosted scene results (post ∷ P)
-    posted_all = ap (λ (x : ControllerAt). sealed_letters controller_message scene.sealing x.owed) posted_own
-
-    module _ (possible : IsPossible scene results (post ∷ P)) (room : lost ≡ 0) where
-      pub letters_are : letters ≡ sealed_letters controller_message scene.sealing (at scene results m P).owed
-      letters_are = (fits scene results post P possible m (self_controller m)).0
-
-      pub pool_grows : pool (post ∷ P) ≡ pool P ++ numbered first (actor.Controller m) (sealed_letters controller_message scene.sealing (at scene results m P).owed)
-      pool_grows = ap (λ (l : List (Packet B)). pool P ++ l) (all_fit first (actor.Controller m) letters lost room ∙ ap (numbered first (actor.Controller m)) letters_are)
-
-      -- what was owed can be read
-      pub says_posted : pool P ≡ [] → map (content scene.sealing) (pool (post ∷ P)) ≡ map (λ (l : Letter ControllerSays). unsealed.Message (controller_message l.body)) (at scene results m P).owed
-      says_posted empty =
-          let old = possible_before scene results post P possible in
-          let holds = (always scene results setup faithful P old 0).controllers m (possible.named.0) in
-          ap (map (content scene.sealing))
-          (pool_grows ∙ ap (λ (ps : List (Packet B)). ps ++ numbered first (actor.Controller m) (sealed_letters controller_message scene.sealing (at scene results m P).owed)) empty)
-          ∙ letters_read scene.sealing faithful controller_message (actor.Controller m) first (at scene results m P).owed (λ l among. ordered_may scene.kinds scene.setup _ m l (holds.owed l among))
-          (fits scene results post P possible m (self_controller m)).2
-
-      pub stands_posted : (g : Group) (vs : List VrLetter) (waiting : List Flight) → m < scene.setup.controllers → (at scene results m P).owed ≡ to_members vs → AllCarry scene results (pool P) waiting →
-          g.pool ≡ waiting ++ map (flown m) vs → Holds P g → Stands (post ∷ P) g
-      stands_posted g vs waiting there owed carries is holds =
-          let old = possible_before scene results post P possible in
-          let valid = events_valid scene results P old (λ i. always scene results setup faithful P old (suc i)) in
-          let may = ((all_spelled scene results faithful P old valid).controllers m there).owed in
-          let typed = (fits scene results post P possible m (self_controller m)).2 in
-          let new = posts_carry scene results faithful m first vs
-          (subst (λ (ls : List (Letter ControllerSays)). AllByRecursion (λ l. IsValidTo l.to l.body) ls) owed may)
-          (subst (λ (ls : List (Letter ControllerSays)). AllByRecursion (λ l. FitsMessage (controller_message l.body)) ls) owed typed) in
-          let all = carry_both scene results (pool P) (numbered first (actor.Controller m) (sealed_letters controller_message scene.sealing (to_members vs))) waiting (map (flown m) vs) carries new in
-          let grown = pool_grows ∙ ap (λ (ls : List (Letter ControllerSays)). pool P ++ numbered first (actor.Controller m) (sealed_letters controller_message scene.sealing ls)) owed in
-          record {
-            holds = record {
-              members = λ c lt. ap (λ (x : ControllerState). x.vr) (posted_holds c).0 ∙ holds.members c lt;
-              saves = λ c. let same = (posted_holds c).1 in let low = holds.saves c in omega (arith, same, low);
-              switches = λ t. switches_stay m post P refl t ∙ holds.switches t;
-              few = holds.few;
-            };
-            carries = subst (λ (ps : List (Packet B)). AllCarry scene results ps g.pool) (sym grown) (subst (λ (fs : List Flight). AllCarry scene results (pool P ++ numbered first (actor.Controller m) (sealed_letters controller_message scene.sealing (to_members vs))) fs) (sym is) all);
-            posted = posted_all;
-          }
-
-  -- one that owes nothing posts nothing
-  pub switch_fits : (m first : ℕ) (letters : List (Letter B)) (lost : ℕ) (P : List (JournalEntry B)) → IsPossible scene results (Post (actor.Switch m) first letters lost ∷ P) →
-      Fits switch_message scene.sealing (switch_at scene m (part (actor.Switch m) P)).owed (part (actor.Switch m) P) (Post (actor.Switch m) first letters lost)
-  switch_fits m first letters lost P possible =
-      elim (switch_after scene m (Post (actor.Switch m) first letters lost) P) [
-        | Mine own is ↦ (subst (λ (ps : List (JournalEntry B × Option (Packet B))). IsSoundSwitch scene m ps) is (possible.switches m possible.named.0)).0
-        | Another other is ↦ absurd (let no : true ≡ false = sym (self_switch m) ∙ other in cc)
-      ]
-
-  nothing_posted : (a : Actor) (first : ℕ) (letters : List (Letter B)) (lost : ℕ) (P : List (JournalEntry B)) → IsPossible scene results (Post a first letters lost ∷ P) → owed_of scene results a P ≡ [] → ⊥
-  nothing_posted (actor.Controller m) first letters lost P possible none =
-      let f = fits scene results (Post (actor.Controller m) first letters lost) P possible m (self_controller m) in f.1 (f.0 ∙ none)
-  nothing_posted (actor.Switch m) first letters lost P possible none =
-      let f = switch_fits m first letters lost P possible in f.1 (f.0 ∙ none)
-
-  pub never_posts : (P : List (JournalEntry B)) → IsPosted scene results P → (a : Actor) (first : ℕ) (letters : List (Letter B)) (lost : ℕ) → IsInputOf a P → IsPossible scene results (Post a first letters lost ∷ P) → ⊥
-  never_posts [] posted a first letters lost input possible = input
-  never_posts (e ∷ P) posted a first letters lost input possible =
-      let whose = one_actor (actor_of e) a input.1 in
-      nothing_posted a first letters lost (e ∷ P) possible (ap (λ (b : Actor). owed_of scene results b (e ∷ P)) (sym whose) ∙ posted)
+    pub stands_posted : (g : GroupState) (vs : List VrLetter) (waiting : List Flight) → m < scene.setup.controllers → (at scene results m P).owed ≡ to_members vs → AllCarry scene results (pool P) waiting →
+        g.pool ≡ waiting ++ map (flown m) vs → Holds P g → Stands (post ∷ P) g
+    stands_posted g vs waiting there owed carries is holds =
+        let old = possible_before scene results post P possible in
+        let valid = events_valid scene results P old (λ i. always scene results setup faithful P old (suc i)) in
+        let may = ((all_spelled scene results faithful P old valid).controllers m there).owed in
+        let typed = (fits scene results post P possible m (self_controller m)).2 in
+        let new = posts_carry scene results faithful m first vs
+        (subst (λ (ls : List (Letter ControllerSays)). AllByRecursion (λ l. IsValidTo l.to l.body) ls) owed may)
+        (subst (λ (ls : List (Letter ControllerSays)). AllByRecursion (λ l. FitsMessage (controller_message l.body)) ls) owed typed) in
+        let all = carry_both scene results (pool P) (numbered first (actor.Controller m) (sealed_letters controller_message scene.sealing (to_members vs))) waiting (map (flown m) vs) carries new in
+        let grown = pool_grows scene results m first letters lost P possible room ∙ ap (λ (ls : List (Letter ControllerSays)). pool P ++ numbered first (actor.Controller m) (sealed_letters controller_message scene.sealing ls)) owed in
+        record {
+          holds = record {
+            members = λ c lt. ap (λ (x : ControllerState). x.vr) (posted_holds scene results m first letters lost P c).0 ∙ holds.members c lt;
+            saves = λ c. let same = (posted_holds scene results m first letters lost P c).1 in let low = holds.saves c in omega (arith, same, low);
+            switches = λ t. switches_stay scene results m post P refl t ∙ holds.switches t;
+            few = holds.few;
+          };
+          carries = subst (λ (ps : List (Packet B)). AllCarry scene results ps g.pool) (sym grown) (subst (λ (fs : List Flight). AllCarry scene results (pool P ++ numbered first (actor.Controller m) (sealed_letters controller_message scene.sealing (to_members vs))) fs) (sym is) all);
+          posted = posted_all scene results m first letters lost P;
+        }
 
   -- what is owed is posted
-  pub posts : (P : List (JournalEntry B)) (g : Group) → Mode P g → (a : Actor) (first : ℕ) (letters : List (Letter B)) (lost : ℕ) → IsInputOf a P → IsPossible scene results (Post a first letters lost ∷ P) → lost ≡ 0 →
+  pub posts : (P : List (JournalEntry B)) (g : GroupState) → Mode P g → (a : Actor) (first : ℕ) (letters : List (Letter B)) (lost : ℕ) → IsInputOf a P → IsPossible scene results (Post a first letters lost ∷ P) → lost ≡ 0 →
       Stands (Post a first letters lost ∷ P) g
   posts P g (Owing o) a first letters lost input possible room =
-      let whose = poster P o.older o.newest o.member a o.is o.whose input in
+      let whose = poster scene results P o.older o.newest o.member a o.is o.whose input in
       subst (λ (b : Actor). Stands (Post b first letters lost ∷ P) g) (sym whose)
       (stands_posted o.member first letters lost P (subst (λ (b : Actor). IsPossible scene results (Post b first letters lost ∷ P)) whose possible) room g o.letters o.waiting o.there o.owed o.carries o.pool_is o.holds)
-  posts P g (Rests s) a first letters lost input possible room = absurd (never_posts P s.posted a first letters lost input possible)
+  posts P g (Rests s) a first letters lost input possible room = absurd (never_posts scene results P s.posted a first letters lost input possible)
 
   -- a turn behind which the view still changes
-  module _ (m : ℕ) (e : JournalEntry B) (P : List (JournalEntry B)) (g : Group) (step : VrStep) (there : m < scene.setup.controllers) (whose : actor_of e ≡ actor.Controller m) (holds : Holds P g)
+  module _ (m : ℕ) (e : JournalEntry B) (P : List (JournalEntry B)) (g : GroupState) (step : VrStep) (there : m < scene.setup.controllers) (whose : actor_of e ≡ actor.Controller m) (holds : Holds P g)
       (turn : TurnOf scene results m e P (stepped (with_no_met_limit (at scene results m P).now) step)) where
     took_holds : (waiting : List Flight) → length waiting ≤ length g.pool → length step.letters ≤ most_said → Holds (e ∷ P) (took g m step waiting)
     took_holds waiting shorter said = record {
       members = λ c lt. member c (nat_eq c m) refl (holds.members c lt);
       saves = λ c. saved c (nat_eq c m) refl (holds.saves c);
-      switches = λ t. switches_stay m e P whose t ∙ holds.switches t;
+      switches = λ t. switches_stay scene results m e P whose t ∙ holds.switches t;
       few =
           let all = length-append waiting (map (flown m) step.letters) in
           let same = length-map step.letters (flown m) in
@@ -330,7 +223,7 @@ module _ {B : Type 0} (scene : Scene B) (results : List (List SaveResult)) (setu
         (ap (λ (x : ControllerState). is_up x.vr) turn.now ∙ changing_up step.state changes) (ap (λ (x : ControllerState). x.full) turn.now)
 
   -- what a member says in one turn
-  says_little : (P : List (JournalEntry B)) (g : Group) → Holds P g → (m : ℕ) → m < scene.setup.controllers → (input : VrInput) → IsHeard input → length (vr_step (g.at m) input).letters ≤ most_said
+  says_little : (P : List (JournalEntry B)) (g : GroupState) → Holds P g → (m : ℕ) → m < scene.setup.controllers → (input : VrInput) → IsHeard input → length (vr_step (g.at m) input).letters ≤ most_said
   says_little P g holds m there input heard = by_input input heard
     where
       size : (g.at m).controllers ≡ scene.setup.controllers
@@ -341,7 +234,7 @@ module _ {B : Type 0} (scene : Scene B) (results : List (List SaveResult)) (setu
       by_input _ (Suspects_it view) = let few = suspects_few (g.at m) view in let is = size in let seven = seven_at_most scene.setup.controllers setup.group in omega (arith, few, is, seven)
 
   -- which saves succeed
-  pub still_succeed : (P : List (JournalEntry B)) (g : Group) → Holds P g → (m : ℕ) → m < scene.setup.controllers → (i : ℕ) → (at scene results m P).saves ≤ i → slice_index_or (results_of results m) i Saved ≡ Saved
+  pub still_succeed : (P : List (JournalEntry B)) (g : GroupState) → Holds P g → (m : ℕ) → m < scene.setup.controllers → (i : ℕ) → (at scene results m P).saves ≤ i → slice_index_or (results_of results m) i Saved ≡ Saved
   still_succeed P g holds m there i le = let low = holds.saves m in succeed m i there (omega (arith, low, le))
 
   -- where a closing stands, and who is still to suspect
@@ -357,26 +250,12 @@ module _ {B : Type 0} (scene : Scene B) (results : List (List SaveResult)) (setu
   here_is : (rest P : List (JournalEntry B)) (last : Phase) (e e' : JournalEntry B) (next next' : Phase) → e ≡ e' → next ≡ next' → Here rest P last e next → Here rest P last e' next'
   here_is rest P last e e' next next' is goes h = subst (λ (x : JournalEntry B). Here rest P last x next') is (subst (λ (y : Phase). Here rest P last e y) goes h)
 
-  -- what comes behind a turn: its post, or nothing is owed
-  pub data Next (P rest : List (JournalEntry B)) : Type 0 where
-    Done : IsPosted scene results P → Next P rest
-    Posting : (a : Actor) (first : ℕ) (letters : List (Letter B)) (lost : ℕ) (more : List (JournalEntry B)) → rest ≡ Post a first letters lost ∷ more → IsInputOf a P → Next P rest
-
-  pub next_of : (phase : Phase) (P rest : List (JournalEntry B)) (last : Phase) → ClosesTo scene results phase P rest last → IsPosted scene results (later P rest) → Next P rest
-  next_of phase P [] last closes posted = Done posted
-  next_of phase P (Post a first letters lost ∷ rest) last closes posted = Posting a first letters lost rest refl closes.0
-  next_of phase P (Draw a id keep ∷ rest) last closes posted = Done closes.0
-  next_of phase P (Lose a id ∷ rest) last closes posted = Done closes.0
-  next_of phase P (Local a input ∷ rest) last closes posted = Done closes.0
-  next_of phase P (Idle a ∷ rest) last closes posted = Done closes.0
-  next_of phase P (Refused a ∷ rest) last closes posted = Done closes.0
-
-  module _ (z : Group) where
+  module _ (z : GroupState) where
     abbrev n : ℕ
     n = scene.setup.controllers
 
     -- the closing goes on behind these entries, or the first of them bring the group there
-    pub data Outcome (P : List (JournalEntry B)) (g : Group) (entries : List (JournalEntry B)) (last : Phase) : Type 0 where
+    pub data Outcome (P : List (JournalEntry B)) (g : GroupState) (entries : List (JournalEntry B)) (last : Phase) : Type 0 where
       Goes : ((answer : Answer) → IsEnd (next_move scene results last (later P entries)) answer → ⊥) → g.turns + count_turns entries ≤ z.turns → Outcome P g entries last
       Reaches : (first rest : List (JournalEntry B)) (phase : Phase) → entries ≡ first ++ rest → g.turns + count_turns first ≡ z.turns → PhaseOf phase [] → Stands (later P first) z →
           ClosesTo scene results phase (later P first) rest last → Outcome P g entries last
@@ -385,7 +264,7 @@ module _ {B : Type 0} (scene : Scene B) (results : List (List SaveResult)) (setu
     counted e rest = sum_by-cons (λ (x : JournalEntry B). cond (is_turn x) 1 0) e rest
 
     -- one entry more in front
-    behind_one : (e : JournalEntry B) (P : List (JournalEntry B)) (g g' : Group) (rest : List (JournalEntry B)) (last : Phase) → g'.turns ≡ g.turns + (if is_turn e then 1 else 0) →
+    behind_one : (e : JournalEntry B) (P : List (JournalEntry B)) (g g' : GroupState) (rest : List (JournalEntry B)) (last : Phase) → g'.turns ≡ g.turns + (if is_turn e then 1 else 0) →
         Outcome (e ∷ P) g' rest last → Outcome P g (e ∷ rest) last
     behind_one e P g g' rest last more (Goes never few) = Goes never (let all = counted e rest in omega (arith, all, more, few))
     behind_one e P g g' rest last more (Reaches first later phase is turns at_phase stands closes) =
@@ -393,11 +272,11 @@ module _ {B : Type 0} (scene : Scene B) (results : List (List SaveResult)) (setu
 
     -- and then the rest
     abbrev Again : List (JournalEntry B) → Phase → List (JournalEntry B) → Type 0
-    Again rest last P = (phase : Phase) (ms : List ℕ) (g : Group) → PhaseOf phase ms → Mode P g → Path w quorum z ms g → ClosesTo scene results phase P rest last →
+    Again rest last P = (phase : Phase) (ms : List ℕ) (g : GroupState) → PhaseOf phase ms → Mode P g → Path w quorum z ms g → ClosesTo scene results phase P rest last →
         IsPossible scene results (later P rest) → IsPosted scene results (later P rest) → IsWithinLimits scene.sealing.size (later P rest) → Outcome P g rest last
 
     -- a suspicion
-    module _ (m : ℕ) (ms : List ℕ) (g : Group) (P rest : List (JournalEntry B)) (last : Phase) (member : has quorum m ≡ true) (up : is_up (g.at m) ≡ true)
+    module _ (m : ℕ) (ms : List ℕ) (g : GroupState) (P rest : List (JournalEntry B)) (last : Phase) (member : has quorum m ≡ true) (up : is_up (g.at m) ≡ true)
         (changes : is_changing (vr_step (g.at m) (vr_input.Suspect w)).state ≡ true) (stands : Stands P g) where
       abbrev suspicion : JournalEntry B
       suspicion = Local (actor.Controller m) (local.Suspect w)
@@ -459,12 +338,12 @@ module _ {B : Type 0} (scene : Scene B) (results : List (List SaveResult)) (setu
       abbrev draw : JournalEntry B
       draw = Draw (actor.Controller f.to) h.packet.id false
 
-      draw_turn : (g : Group) → Stands P g → has quorum f.to ≡ true → TurnOf scene results f.to draw P (controller_work scene.kinds scene.setup (at scene results f.to P).now (controller_input.Vr f.from f.message))
+      draw_turn : (g : GroupState) → Stands P g → has quorum f.to ≡ true → TurnOf scene results f.to draw P (controller_work scene.kinds scene.setup (at scene results f.to P).now (controller_input.Vr f.from f.message))
       draw_turn g stands member =
           subst (λ (x : ControllerInput). TurnOf scene results f.to draw P (controller_work scene.kinds scene.setup (at scene results f.to P).now x)) heard_head
           (turn_draw scene results f.to h.packet P found_head (still_succeed P g stands.holds f.to (small f.to member)))
 
-      drawn_work : (g : Group) → Stands P g → has quorum f.to ≡ true → is_changing (g.at f.to) ≡ true →
+      drawn_work : (g : GroupState) → Stands P g → has quorum f.to ≡ true → is_changing (g.at f.to) ≡ true →
           controller_work scene.kinds scene.setup (at scene results f.to P).now (controller_input.Vr f.from f.message) ≡
           after_step scene.kinds scene.setup (with_no_met_limit (at scene results f.to P).now) (hears g f)
       drawn_work g stands member changing =
@@ -473,7 +352,7 @@ module _ {B : Type 0} (scene : Scene B) (results : List (List SaveResult)) (setu
           member_work scene.kinds scene.setup c (controller_input.Vr f.from f.message) (vr_input.From f.from f.message) (By_message f.from f.message) (ap is_up is ∙ changing_up (g.at f.to) changing)
           ∙ ap (λ (s : VrState). after_step scene.kinds scene.setup (with_no_met_limit c) (vr_step s (vr_input.From f.from f.message))) is
 
-      draws_goes : (g : Group) (rest : List (JournalEntry B)) (last : Phase) → g.pool ≡ f ∷ waiting → Stands P g → has quorum f.to ≡ true → is_changing (g.at f.to) ≡ true → is_changing (hears g f).state ≡ true →
+      draws_goes : (g : GroupState) (rest : List (JournalEntry B)) (last : Phase) → g.pool ≡ f ∷ waiting → Stands P g → has quorum f.to ≡ true → is_changing (g.at f.to) ≡ true → is_changing (hears g f).state ≡ true →
           Path w quorum z [] (took g f.to (hears g f) waiting) → Here rest P last draw (Draining w quorum) → ((P' : List (JournalEntry B)) → Again rest last P') → Outcome P g (draw ∷ rest) last
       draws_goes g rest last waits stands member changing changes path here again =
           let behind = ap (λ (l : List Flight). length l) waits in
@@ -482,7 +361,7 @@ module _ {B : Type 0} (scene : Scene B) (results : List (List SaveResult)) (setu
           subst (λ (x : Work). TurnOf scene results f.to draw P x)
           (drawn_work g stands member changing ∙ quiet_work scene.kinds scene.setup (with_no_met_limit c) (hears g f) changes) (draw_turn g stands member) in
           let same = took_stays f.to draw P g (hears g f) (small f.to member) refl stands.holds turn (Draining w quorum) changes in
-          let possible = possible_before scene results draw P (possible_under rest (draw ∷ P) here.1) in
+          let possible = possible_before scene results draw P (possible_under scene results rest (draw ∷ P) here.1) in
           let carries : AllCarry scene results (pool (draw ∷ P)) waiting = subst (λ (ps : List (Packet B)). AllCarry scene results ps waiting) (sym (left_head possible)) h.others in
           behind_one draw P g (took g f.to (hears g f) waiting) rest last refl
           (again (draw ∷ P) (Draining w quorum) [] (took g f.to (hears g f) waiting) Now
@@ -493,10 +372,10 @@ module _ {B : Type 0} (scene : Scene B) (results : List (List SaveResult)) (setu
       abbrev loss : JournalEntry B
       loss = Lose (actor.Controller f.to) h.packet.id
 
-      loses_goes : (g : Group) (rest : List (JournalEntry B)) (last : Phase) → g.pool ≡ f ∷ waiting → Stands P g → Path w quorum z [] (record g { pool = waiting }) → Here rest P last loss (Draining w quorum) →
+      loses_goes : (g : GroupState) (rest : List (JournalEntry B)) (last : Phase) → g.pool ≡ f ∷ waiting → Stands P g → Path w quorum z [] (record g { pool = waiting }) → Here rest P last loss (Draining w quorum) →
           ((P' : List (JournalEntry B)) → Again rest last P') → Outcome P g (loss ∷ rest) last
       loses_goes g rest last waits stands path here again =
-          let after = possible_under rest (loss ∷ P) here.1 in
+          let after = possible_under scene results rest (loss ∷ P) here.1 in
           let possible = possible_before scene results loss P after in
           let own : at scene results f.to (loss ∷ P) ≡ record (at scene results f.to P) { fresh = false } = own_steps scene results f.to loss P refl in
           let owed : (at scene results f.to P).owed ≡ [] = fits scene results loss P after f.to (self_controller f.to) in
@@ -504,7 +383,7 @@ module _ {B : Type 0} (scene : Scene B) (results : List (List SaveResult)) (setu
             holds = record {
               members = λ c lt. member c (nat_eq f.to c) refl own (stands.holds.members c lt);
               saves = λ c. saved c (nat_eq f.to c) refl own (stands.holds.saves c);
-              switches = λ t. switches_stay f.to loss P refl t ∙ stands.holds.switches t;
+              switches = λ t. switches_stay scene results f.to loss P refl t ∙ stands.holds.switches t;
               few = (let behind = ap (λ (l : List Flight). length l) waits in let old = stands.holds.few in omega (arith, behind, old));
             };
             carries = subst (λ (ps : List (Packet B)). AllCarry scene results ps waiting) (sym (left_head possible)) h.others;
@@ -529,7 +408,7 @@ module _ {B : Type 0} (scene : Scene B) (results : List (List SaveResult)) (setu
     suspects_move : (P : List (JournalEntry B)) (phase : Phase) (m : ℕ) (ms : List ℕ) → PhaseOf phase (m ∷ ms) → next_move scene results phase P ≡ Takes (Local (actor.Controller m) (local.Suspect w)) (Suspecting w quorum ms)
     suspects_move P _ m ms (Still _) = refl
 
-    moves : (e : JournalEntry B) (rest P : List (JournalEntry B)) (last phase : Phase) → ClosesTo scene results phase P (e ∷ rest) last → (ms : List ℕ) (g : Group) → PhaseOf phase ms → Stands P g → Path w quorum z ms g →
+    moves : (e : JournalEntry B) (rest P : List (JournalEntry B)) (last phase : Phase) → ClosesTo scene results phase P (e ∷ rest) last → (ms : List ℕ) (g : GroupState) → PhaseOf phase ms → Stands P g → Path w quorum z ms g →
         (next : Phase) → IsMove (next_move scene results phase P) e next → Here rest P last e next → ((P' : List (JournalEntry B)) → Again rest last P') → Outcome P g (e ∷ rest) last
     moves e rest P last phase whole _ _ at_phase stands (Suspects m ms g member up changes path) next move here again =
         let m' = subst (λ (v : Move B). IsMove v e next) (suspects_move P phase m ms at_phase) move in
@@ -548,14 +427,14 @@ module _ {B : Type 0} (scene : Scene B) (results : List (List SaveResult)) (setu
         subst (λ (x : JournalEntry B). Outcome P g (x ∷ rest) last) (sym e_is)
         (loses_goes f waiting P h g rest last waits stands path (here_is rest P last e (Lose (actor.Controller f.to) h.packet.id) next (Draining w quorum) e_is m'.1 here) again)
     moves e rest P last phase whole _ _ at_phase stands (Arrives g is) next move here again =
-        let same = ap (λ (x : Group). x.turns) is in
-        Reaches [] (e ∷ rest) phase refl (omega (arith, same)) at_phase (subst (λ (x : Group). Stands P x) is stands) whole
+        let same = ap (λ (x : GroupState). x.turns) is in
+        Reaches [] (e ∷ rest) phase refl (omega (arith, same)) at_phase (subst (λ (x : GroupState). Stands P x) is stands) whole
 
     -- where no more entries come
     never_ends : (P : List (JournalEntry B)) (phase : Phase) (e : JournalEntry B) (next : Phase) (answer : Answer) → next_move scene results phase P ≡ Takes e next → IsEnd (next_move scene results phase P) answer → ⊥
     never_ends P phase e next answer is end = subst (λ (v : Move B). IsEnd v answer) is end
 
-    ends_here : (P : List (JournalEntry B)) (phase : Phase) (ms : List ℕ) (g : Group) → PhaseOf phase ms → Stands P g → Path w quorum z ms g → Outcome P g [] phase
+    ends_here : (P : List (JournalEntry B)) (phase : Phase) (ms : List ℕ) (g : GroupState) → PhaseOf phase ms → Stands P g → Path w quorum z ms g → Outcome P g [] phase
     ends_here P phase _ _ at_phase stands (Suspects m ms g member up changes path) =
         Goes (λ answer end. never_ends P phase (Local (actor.Controller m) (local.Suspect w)) (Suspecting w quorum ms) answer (suspects_move P phase m ms at_phase) end)
         (let few = path_turns w quorum z (m ∷ ms) g (Suspects m ms g member up changes path) in omega (arith, few))
@@ -568,15 +447,15 @@ module _ {B : Type 0} (scene : Scene B) (results : List (List SaveResult)) (setu
         Goes (λ answer end. never_ends P phase (drained quorum h.packet) (Draining w quorum) answer (next_is f waiting P h phase at_phase) end)
         (let few = path_turns w quorum z [] g (Loses g f waiting waits other path) in omega (arith, few))
     ends_here P phase _ _ at_phase stands (Arrives g is) =
-        let same = ap (λ (x : Group). x.turns) is in
-        Reaches [] [] phase refl (omega (arith, same)) at_phase (subst (λ (x : Group). Stands P x) is stands) refl
+        let same = ap (λ (x : GroupState). x.turns) is in
+        Reaches [] [] phase refl (omega (arith, same)) at_phase (subst (λ (x : GroupState). Stands P x) is stands) refl
 
     -- what is owed finds room
-    found : (P : List (JournalEntry B)) (g : Group) → Mode P g → g.turns ≤ 64 → (a : Actor) (first : ℕ) (letters : List (Letter B)) (lost : ℕ) → IsInputOf a P → IsPossible scene results (Post a first letters lost ∷ P) →
+    found : (P : List (JournalEntry B)) (g : GroupState) → Mode P g → g.turns ≤ 64 → (a : Actor) (first : ℕ) (letters : List (Letter B)) (lost : ℕ) → IsInputOf a P → IsPossible scene results (Post a first letters lost ∷ P) →
         IsWithinLimits scene.sealing.size (Post a first letters lost ∷ P) → lost ≡ 0
-    found P g (Rests s) short a first letters lost input possible within = absurd (never_posts P s.posted a first letters lost input possible)
+    found P g (Rests s) short a first letters lost input possible within = absurd (never_posts scene results P s.posted a first letters lost input possible)
     found P g (Owing o) short a first letters lost input possible within =
-        let whose = poster P o.older o.newest o.member a o.is o.whose input in
+        let whose = poster scene results P o.older o.newest o.member a o.is o.whose input in
         let same = (fits scene results (Post (actor.Controller o.member) first letters lost) P (subst (λ (b : Actor). IsPossible scene results (Post b first letters lost ∷ P)) whose possible) o.member (self_controller o.member)).0 in
         let said = ap (λ (l : List (Letter B)). length l) same in
         let sealed = sealed_length controller_message scene.sealing (at scene results o.member P).owed in
@@ -594,7 +473,7 @@ module _ {B : Type 0} (scene : Scene B) (results : List (List SaveResult)) (setu
     goes short [] P last phase ms g at_phase mode path closes possible posted within =
         subst (λ (x : Phase). Outcome P g [] x) (sym closes) (ends_here P phase ms g at_phase (rested P g mode posted) path)
     goes short (Post a first letters lost ∷ rest) P last phase ms g at_phase mode path closes possible posted within =
-        let can = possible_under rest (Post a first letters lost ∷ P) possible in
+        let can = possible_under scene results rest (Post a first letters lost ∷ P) possible in
         let few = path_turns w quorum z ms g path in
         let fit = found P g mode (omega (arith, few, short)) a first letters lost closes.0 can (within_under scene.sealing.size rest (Post a first letters lost ∷ P) within) in
         let stands = posts P g mode a first letters lost closes.0 can fit in
@@ -611,7 +490,7 @@ module _ {B : Type 0} (scene : Scene B) (results : List (List SaveResult)) (setu
     goes short (Refused a ∷ rest) P last phase ms g at_phase mode path closes possible posted within =
         moves (Refused a) rest P last phase closes ms g at_phase (rested P g mode closes.0) path closes.1.0 closes.1.1 (closes.1.2, possible, posted, within) (λ P'. goes short rest P' last)
 
-  module _ (z : Group) (start : ℕ → VrState) (best : ℕ) (ends : IsLast scene.setup.controllers w quorum start best z) (leader : IsMember scene.setup.controllers w (w % scene.setup.controllers) (start (w % scene.setup.controllers)))
+  module _ (z : GroupState) (start : ℕ → VrState) (best : ℕ) (ends : IsLast scene.setup.controllers w quorum start best z) (leader : IsReadyMember scene.setup.controllers w (w % scene.setup.controllers) (start (w % scene.setup.controllers)))
       (leads_it : has quorum (w % scene.setup.controllers) ≡ true) (one_log : is_log (start best).log ≡ true) where
     abbrev m : ℕ
     m = scene.setup.controllers
@@ -708,14 +587,14 @@ module _ {B : Type 0} (scene : Scene B) (results : List (List SaveResult)) (setu
 
       starts_goes : (rest : List (JournalEntry B)) (last : Phase) → ClosesTo scene results phase_then (start_draw ∷ P) rest last → IsPossible scene results (later (start_draw ∷ P) rest) →
           IsPosted scene results (later (start_draw ∷ P) rest) → IsWithinLimits scene.sealing.size (later (start_draw ∷ P) rest) → Begun P (start_draw ∷ rest) last
-      starts_goes rest last closes possible posted within = by_next (next_of phase_then (start_draw ∷ P) rest last closes posted)
+      starts_goes rest last closes possible posted within = by_next (next_of scene results phase_then (start_draw ∷ P) rest last closes posted)
         where
           was : IsPossible scene results (start_draw ∷ P)
-          was = possible_under rest (start_draw ∷ P) possible
+          was = possible_under scene results rest (start_draw ∷ P) possible
 
-          by_next : Next (start_draw ∷ P) rest → Begun P (start_draw ∷ rest) last
+          by_next : Next scene results (start_draw ∷ P) rest → Begun P (start_draw ∷ rest) last
           by_next (Done done) =
-              let none : turn_work.letters ≡ [] = sym turn_is.owed ∙ owes_nothing (start_draw ∷ P) P start_draw (w % m) refl refl done in
+              let none : turn_work.letters ≡ [] = sym turn_is.owed ∙ owes_nothing scene results (start_draw ∷ P) P start_draw (w % m) refl refl done in
               let empty = pool_empty (possible_before scene results start_draw P was) in
               record {
                 first = start_draw ∷ [];
@@ -726,15 +605,15 @@ module _ {B : Type 0} (scene : Scene B) (results : List (List SaveResult)) (setu
                     (begun_in (start_draw ∷ P) (λ c. refl) 0
                     (empty ∙ ap (λ (ls : List (Letter ControllerSays)). numbered 0 (actor.Controller (w % m)) (sealed_letters controller_message scene.sealing ls)) (sym none))
                     (ap (map (content scene.sealing)) empty ∙ ap (map (λ (l : Letter ControllerSays). unsealed.Message (controller_message l.body))) (sym none)));
-                unchanged = λ t. switches_stay (w % m) start_draw P refl t ∙ stands.holds.switches t;
+                unchanged = λ t. switches_stay scene results (w % m) start_draw P refl t ∙ stands.holds.switches t;
                 posted = done;
                 goes_on = closes;
               }
           by_next (Posting a first letters lost more is input) =
-              let whose : a ≡ actor.Controller (w % m) = poster (start_draw ∷ P) P start_draw (w % m) a refl refl input in
+              let whose : a ≡ actor.Controller (w % m) = poster scene results (start_draw ∷ P) P start_draw (w % m) a refl refl input in
               let split : rest ≡ Post (actor.Controller (w % m)) first letters lost ∷ more = is ∙ ap (λ (b : Actor). Post b first letters lost ∷ more) whose in
               let it : JournalEntry B = Post (actor.Controller (w % m)) first letters lost in
-              let after : IsPossible scene results (it ∷ (start_draw ∷ P)) = possible_under more (it ∷ (start_draw ∷ P)) (subst (λ (l : List (JournalEntry B)). IsPossible scene results (later (start_draw ∷ P) l)) split possible) in
+              let after : IsPossible scene results (it ∷ (start_draw ∷ P)) = possible_under scene results more (it ∷ (start_draw ∷ P)) (subst (λ (l : List (JournalEntry B)). IsPossible scene results (later (start_draw ∷ P) l)) split possible) in
               let fit : lost ≡ 0 =
               start_fits first letters lost after (within_under scene.sealing.size more (it ∷ (start_draw ∷ P)) (subst (λ (l : List (JournalEntry B)). IsWithinLimits scene.sealing.size (later (start_draw ∷ P) l)) split within)) in
               record {
@@ -743,18 +622,18 @@ module _ {B : Type 0} (scene : Scene B) (results : List (List SaveResult)) (setu
                 joined = ap (λ (l : List (JournalEntry B)). start_draw ∷ l) split;
                 one = refl;
                 started =
-                    (begun_in (it ∷ (start_draw ∷ P)) (λ c. (posted_holds (w % m) first letters lost (start_draw ∷ P) c).0) first
-                    (pool_grows (w % m) first letters lost (start_draw ∷ P) after fit
+                    (begun_in (it ∷ (start_draw ∷ P)) (λ c. (posted_holds scene results (w % m) first letters lost (start_draw ∷ P) c).0) first
+                    (pool_grows scene results (w % m) first letters lost (start_draw ∷ P) after fit
                     ∙ ap (λ (ps : List (Packet B)). ps ++ numbered first (actor.Controller (w % m)) (sealed_letters controller_message scene.sealing (at scene results (w % m) (start_draw ∷ P)).owed))
                     (pool_empty (possible_before scene results start_draw P was))
                     ∙ ap (λ (ls : List (Letter ControllerSays)). numbered first (actor.Controller (w % m)) (sealed_letters controller_message scene.sealing ls)) turn_is.owed)
-                    (says_posted (w % m) first letters lost (start_draw ∷ P) after fit (pool_empty (possible_before scene results start_draw P was))
+                    (says_posted scene results (w % m) first letters lost (start_draw ∷ P) after fit setup faithful (pool_empty (possible_before scene results start_draw P was))
                     ∙ ap (map (λ (l : Letter ControllerSays). unsealed.Message (controller_message l.body))) turn_is.owed));
-                unchanged = λ t. switches_stay (w % m) it (start_draw ∷ P) refl t ∙ switches_stay (w % m) start_draw P refl t ∙ stands.holds.switches t;
-                posted = posted_all (w % m) first letters lost (start_draw ∷ P);
+                unchanged = λ t. switches_stay scene results (w % m) it (start_draw ∷ P) refl t ∙ switches_stay scene results (w % m) start_draw P refl t ∙ stands.holds.switches t;
+                posted = posted_all scene results (w % m) first letters lost (start_draw ∷ P);
                 goes_on =
                     subst (λ (c : ControllerState). ClosesTo scene results (after_member w c (Draining w quorum)) (it ∷ (start_draw ∷ P)) more last)
-                    (sym (posted_holds (w % m) first letters lost (start_draw ∷ P) (w % m)).0)
+                    (sym (posted_holds scene results (w % m) first letters lost (start_draw ∷ P) (w % m)).0)
                     (subst (λ (l : List (JournalEntry B)). ClosesTo scene results phase_then (start_draw ∷ P) l last) split closes).1;
               }
 
@@ -778,7 +657,7 @@ module _ {B : Type 0} (scene : Scene B) (results : List (List SaveResult)) (setu
           (((answer : Answer) → IsEnd (next_move scene results last (later P entries)) answer → ⊥) × (entries ≡ [])) ⊎ Begun P entries last
       begins [] last phase at_phase closes possible posted within = inl ((λ answer end. no_end phase at_phase answer (subst (λ (x : Phase). IsEnd (next_move scene results x P) answer) closes end)), refl)
       begins (Post a first letters lost ∷ rest) last phase at_phase closes possible posted within =
-          absurd (never_posts P stands.posted a first letters lost closes.0 (possible_under rest (Post a first letters lost ∷ P) possible))
+          absurd (never_posts scene results P stands.posted a first letters lost closes.0 (possible_under scene results rest (Post a first letters lost ∷ P) possible))
       begins (Draw a id keep ∷ rest) last phase at_phase closes possible posted within = inr (last_turn (Draw a id keep) rest last phase at_phase closes.1.0 closes.1.1 (closes.1.2, possible, posted, within))
       begins (Lose a id ∷ rest) last phase at_phase closes possible posted within = inr (last_turn (Lose a id) rest last phase at_phase closes.1.0 closes.1.1 (closes.1.2, possible, posted, within))
       begins (Local a input ∷ rest) last phase at_phase closes possible posted within = inr (last_turn (Local a input) rest last phase at_phase closes.1.0 closes.1.1 (closes.1.2, possible, posted, within))

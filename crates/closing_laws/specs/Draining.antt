@@ -16,13 +16,13 @@ pub record Flight : Type 0 where
   pub message : VrMessage
 
 -- the members by number, what waits, the packet of the lowest number first, and how many turns were taken
-pub record Group : Type 0 where
+pub record GroupState : Type 0 where
   pub at : ℕ → VrState
   pub pool : List Flight
   pub turns : ℕ
 
 -- nothing waits, and no turn was taken
-abbrev pub resting : (ℕ → VrState) → Group
+abbrev pub resting : (ℕ → VrState) → GroupState
 resting start = record { at = start; pool = []; turns = 0 }
 
 abbrev pub flown : ℕ → VrLetter → Flight
@@ -33,24 +33,24 @@ abbrev pub put : (ℕ → VrState) → ℕ → VrState → ℕ → VrState
 put at c s j = if nat_eq j c then s else at j
 
 -- a turn of a member: its letters go behind what waits
-abbrev pub took : Group → ℕ → VrStep → List Flight → Group
+abbrev pub took : GroupState → ℕ → VrStep → List Flight → GroupState
 took g c step waiting = record { at = put g.at c step.state; pool = waiting ++ map (flown c) step.letters; turns = g.turns + 1 }
 
 -- members suspect a view, in this order
-abbrev pub suspected : Group → ℕ → ℕ → Group
+abbrev pub suspected : GroupState → ℕ → ℕ → GroupState
 suspected g view c = took g c (vr_step (g.at c) (vr_input.Suspect view)) g.pool
 
-abbrev pub all_suspected : Group → ℕ → List ℕ → Group
+abbrev pub all_suspected : GroupState → ℕ → List ℕ → GroupState
 all_suspected g view [] = g
 all_suspected g view (c ∷ cs) = all_suspected (suspected g view c) view cs
 
 -- the first packet is drawn by a member of the quorum, or lost
-abbrev pub drained : List ℕ → Group → List Flight → Group
+abbrev pub drained : List ℕ → GroupState → List Flight → GroupState
 drained quorum g [] = g
 drained quorum g (f ∷ waiting) =
     if has quorum f.to then took g f.to (vr_step (g.at f.to) (vr_input.From f.from f.message)) waiting else record g { pool = waiting }
 
 -- so many packets are drained
-unfoldable pub drains : ℕ → List ℕ → Group → Group
+unfoldable pub drains : ℕ → List ℕ → GroupState → GroupState
 drains zero quorum g = g
 drains (suc n) quorum g = drains n quorum (drained quorum g g.pool)

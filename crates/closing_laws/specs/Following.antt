@@ -8,7 +8,7 @@ use Rattle.vr_log.specs.Log.{is_log}
 use Rattle.rv_runs.specs.declared.messages.Message.{Message}
 use Rattle.rv_runs.specs.declared.messages.Message.TheVariants as message
 use Rattle.closing_laws.specs.Quorum.{has}
-use Rattle.closing_laws.specs.Views.{IsMember, in_view}
+use Rattle.closing_laws.specs.Views.{IsReadyMember, in_view}
 
 -- messages that tell these entries, one after another, from a place of the log on: each with its op, and with a commit
 -- number that is no greater than this
@@ -37,7 +37,7 @@ pub record Start : Type 0 where
 pub record Waits (start : Start) (primary : VrState) (b : ℕ) (s : VrState) (out in_ : List Message) : Type 0 where
   pub had : VrState
   pub voters : List ℕ
-  pub is_member : IsMember primary.controllers primary.view b had
+  pub is_member : IsReadyMember primary.controllers primary.view b had
   pub state_is : s ≡ in_view had primary.view voters true [] None
   pub base : start.base ≤ had.commit
   pub commit : had.commit ≤ start.known
@@ -49,7 +49,7 @@ pub record Waits (start : Start) (primary : VrState) (b : ℕ) (s : VrState) (ou
   pub acked : slice_index primary.acked b ≡ 0
 
 -- It follows: it has the beginning of the primary's log, and is told the rest.
-pub record Follows (start : Start) (primary : VrState) (b : ℕ) (s : VrState) (out in_ : List Message) : Type 0 where
+pub record IsFollowing (start : Start) (primary : VrState) (b : ℕ) (s : VrState) (out in_ : List Message) : Type 0 where
   pub me : s.me ≡ b
   pub size : s.controllers ≡ primary.controllers
   pub normal : s.status ≡ Normal
@@ -64,7 +64,7 @@ pub record Follows (start : Start) (primary : VrState) (b : ℕ) (s : VrState) (
   pub acks : AreAcknowledged primary.view start.known (slice_index primary.acked b) (length s.log) in_
 
 abbrev pub KeepsUp : Start → VrState → ℕ → VrState → List Message → List Message → Type 0
-KeepsUp start primary b s out in_ = Waits start primary b s out in_ ⊎ Follows start primary b s out in_
+KeepsUp start primary b s out in_ = Waits start primary b s out in_ ⊎ IsFollowing start primary b s out in_
 
 -- what each other member of a quorum has acknowledged is committed
 abbrev pub IsAgreed : VrState → List ℕ → Type 0

@@ -8,12 +8,14 @@ use Rattle.of_types.specs.declared.message.Spoken.TheVariants as spoken
 use Rattle.of_types.specs.declared.setup.Setup.{Setup}
 use Rattle.vr_log.specs.declared.message.VrMessage.{VrMessage}
 use Rattle.vr_log.specs.declared.message.VrMessage.TheVariants as vr
+use Rattle.of_types.specs.Lives.{count_in}
+use Rattle.vr_log.specs.declared.entry.Entry.{Entry}
 use Rattle.vr_log.specs.Log.{received, processed}
 use Rattle.two_stage_log.specs.Counts.{has_unprocessed}
 use Rattle.app_core.specs.Chain.{concat}
 use Rattle.app_core.specs.Issued.{commands_of, issues}
 use Rattle.event_buffer.specs.Buffer.{next_number}
-use Rattle.of_switch.specs.State.{SwitchState}
+use Rattle.of_switch.specs.State.{SwitchState, life_of}
 use Rattle.dispatcher.specs.Marks.{is_confirmed}
 use Rattle.group_controller.specs.State.{ControllerState, committed}
 use Rattle.group_controller.specs.Settling.{is_some_of, is_untold}
@@ -56,6 +58,10 @@ unsent c sw =
 -- those that are still to be logged
 abbrev pub unlogged : ControllerState → ℕ → SwitchState → ℕ
 unlogged c s sw = next_number sw.buffer - logged_of c s sw + length sw.buffer.dirty
+
+-- the events of its present life that a log has, and that the switch holds
+abbrev pub logged_held : List Entry → ℕ → SwitchState → ℕ
+logged_held log s sw = count_in s (life_of sw) (received log) - sw.buffer.cleared
 
 -- the events of the primary's log that do not stand there as processed, and those that do beyond what is committed
 abbrev pub unprocessed : ControllerState → ℕ

@@ -5,20 +5,26 @@ use Rattle.rv_base.specs.declared.journal.JournalEntry.{JournalEntry}
 use Rattle.rv_base.specs.declared.journal.SaveResult.{SaveResult}
 use Rattle.rv_base.specs.Turns.{IsWithinLimits}
 use Rattle.dispatcher.specs.Ledger.{most_commands}
-use Rattle.rv_runs.specs.Bound.{IsQuick}
+use Rattle.rv_runs.specs.Bound.{IsQuick, IsSharplyBounded}
 use Rattle.rv_runs.specs.Legal.{IsPossible}
 use Rattle.rv_runs.specs.Schedule.{ClosesTo, Losing, Phase, IsPosted}
 use Rattle.rv_runs.specs.States.{Scene, IsFaithful}
 use Rattle.closing_laws.specs.Given.{given_by}
 use Rattle.closing_laws.specs.Starts.{SavesSucceed}
 
--- A closing takes no more turns than the bound says, where each save of it succeeds, its journal is within the limits, and the
--- applications give no more commands for an event than a ledger holds. So it is at each moment of it at which all is posted, and not
--- only at its end.
-abbrev pub ClosingsAreQuick : Type 0 → Type 0
-ClosingsAreQuick B =
+-- A claim on each closing in which each save succeeds, whose journal is within the limits, and whose applications give no more commands for
+-- an event than a ledger holds: at each moment of it at which all is posted, and not only at its end.
+abbrev pub WhereSavesSucceed : (B : Type 0) → (Scene B → List (List SaveResult) → List (JournalEntry B) → List (JournalEntry B) → Type 0) → Type 0
+WhereSavesSucceed B claim =
     (scene : Scene B) (results : List (List SaveResult)) (before entries : List (JournalEntry B)) (last : Phase) →
     IsSetup scene.setup → IsFaithful scene.sealing → given_by scene.kinds ≤ most_commands → IsPossible scene results (reverse entries ++ before) →
     SavesSucceed scene results before → IsWithinLimits scene.sealing.size (reverse entries ++ before) →
     ClosesTo scene results Losing before entries last → IsPosted scene results (reverse entries ++ before) →
-    IsQuick scene results before entries
+    claim scene results before entries
+
+-- such a closing takes no more turns than the sharper bound says, and so than the first
+abbrev pub ClosingsAreSharplyBounded : Type 0 → Type 0
+ClosingsAreSharplyBounded B = WhereSavesSucceed B (λ scene results before entries. IsSharplyBounded scene results before entries)
+
+abbrev pub ClosingsAreQuick : Type 0 → Type 0
+ClosingsAreQuick B = WhereSavesSucceed B (λ scene results before entries. IsQuick scene results before entries)

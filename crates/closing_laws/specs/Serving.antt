@@ -128,7 +128,7 @@ pub record IsUnasked (c : ControllerState) (s : ℕ) (sw : SwitchState) (out in_
   pub unconfirmed : is_confirmed c.marks s ≡ false
 
 -- It was: the primary is its master, and has its reply, or that is on its way.
-pub record IsAsked (c : ControllerState) (s : ℕ) (sw : SwitchState) (out in_ : List Message) : Type 0 where
+pub record IsMastered (c : ControllerState) (s : ℕ) (sw : SwitchState) (out in_ : List Message) : Type 0 where
   pub generation : sw.fence.generation ≡ Some c.vr.view
   pub master : sw.fence.master ≡ Some c.vr.me
   pub no_more : count_by is_request out ≡ 0
@@ -136,7 +136,7 @@ pub record IsAsked (c : ControllerState) (s : ℕ) (sw : SwitchState) (out in_ :
 
 -- Of the events that are not logged those that were sent are on their way, in order; and where events that are processed are still held,
 -- the switch will be told so: by an acknowledgement on its way, or in answer to such an event.
-pub record AreTold (c : ControllerState) (s : ℕ) (sw : SwitchState) (out in_ : List Message) : Type 0 where
+pub record AreEventsTold (c : ControllerState) (s : ℕ) (sw : SwitchState) (out in_ : List Message) : Type 0 where
   pub coming : filter (λ e. nat_le (logged_of c s sw) e.number) (events_said s in_) ≡
       take (sent_of sw - logged_of c s sw) (drop (logged_of c s sw) (events_in sw (life_of sw)))
   pub stands : (e : Event) → IsIn e (events_said s in_) → slice_get (events_in sw (life_of sw)) e.number ≡ Some e
@@ -159,10 +159,10 @@ pub record AreUntold (c : ControllerState) (s : ℕ) (sw : SwitchState) (out in_
   pub no_marks : (i : ℕ) → has_result c.marks s (life_of sw) i ≡ false
 
 -- all of it, of one switch
-pub record IsServed (kinds : List ℕ) (setup : Setup) (c : ControllerState) (s : ℕ) (sw : SwitchState) (out in_ : List Message) : Type 0 where
+pub record IsAttended (kinds : List ℕ) (setup : Setup) (c : ControllerState) (s : ℕ) (sw : SwitchState) (out in_ : List Message) : Type 0 where
   pub said : AllByRecursion (λ m. IsSaidBy c.vr.view m) out
   pub heard : AllByRecursion (λ m. IsSaidIn c.vr.view (life_of sw) m) in_
-  pub role : IsUnasked c s sw out in_ ⊎ (IsAsked c s sw out in_ × AreTold c s sw out in_)
+  pub role : IsUnasked c s sw out in_ ⊎ (IsMastered c s sw out in_ × AreEventsTold c s sw out in_)
   pub confirmed : is_confirmed c.marks s ≡ true → AreCommanded kinds setup c s sw out in_
   pub unconfirmed : is_confirmed c.marks s ≡ false → AreUntold c s sw out in_
   pub marks : (i : ℕ) → has_result c.marks s (life_of sw) i ≡ true → i < told_by kinds setup c s sw

@@ -13,10 +13,10 @@ use Rattle.vr_log.specs.Members.{is_up}
 use Rattle.vr_log.specs.Steps.{letter, to_others}
 use Rattle.view_change.specs.Entering.{entered, own_log, started, view_start}
 use Rattle.closing_laws.specs.Quorum.{has}
-use Rattle.closing_laws.specs.Draining.{Group, flown}
+use Rattle.closing_laws.specs.Draining.{GroupState, flown}
 
 -- a member of a group, ready to enter a view
-pub record IsMember (n view j : ℕ) (s : VrState) : Type 0 where
+pub record IsReadyMember (n view j : ℕ) (s : VrState) : Type 0 where
   pub me : s.me ≡ j
   pub size : s.controllers ≡ n
   pub up : is_up s ≡ true
@@ -96,7 +96,7 @@ turns_to_start f fetches = f * f + 3 * f + 1 + (if fetches then 2 else 0)
 
 -- A view has started: its primary has the best log, and knows as committed what the quorum knew; the others wait in the
 -- view with what they had, and nothing waits but the primary's word that the view has started.
-pub record HasStarted (n view : ℕ) (quorum : List ℕ) (start : ℕ → VrState) (best : ℕ) (g : Group) : Type 0 where
+pub record HasStarted (n view : ℕ) (quorum : List ℕ) (start : ℕ → VrState) (best : ℕ) (g : GroupState) : Type 0 where
   pub voters : ℕ → List ℕ
   pub logs : List Collected
   pub logs_are : logs ≡ map (log_of start) (tellers (view % n) quorum)

@@ -21,8 +21,8 @@ ghost use Rattle.closing_laws.specs.Draining.{all_suspected, drains, resting};
 ghost use Rattle.closing_laws.specs.Starts.{ViewsStartInTime};
 ghost use Rattle.closing_laws.specs.Ends.{ClosingsRest};
 ghost use Rattle.closing_laws.specs.Stops.{ClosingsFindAQuorum, ClosingsMeetLimits};
-ghost use Rattle.closing_laws.specs.Quick.{ClosingsAreQuick};
-ghost use Rattle.closing_laws.specs.Views.{HasBest, HasStarted, IsCovered, IsMember, gathering, in_started, in_view, started_with, vote_letters, voting};
+ghost use Rattle.closing_laws.specs.Quick.{ClosingsAreQuick, ClosingsAreSharplyBounded};
+ghost use Rattle.closing_laws.specs.Views.{HasBest, HasStarted, IsCovered, IsReadyMember, gathering, in_started, in_view, started_with, vote_letters, voting};
 
 /// Where a majority of a group takes part, the members that a closing takes are a quorum: f + 1 of those that take part,
 /// each once and in ascending order, and the primary of the closing's view is one of them.
@@ -38,27 +38,27 @@ pub fn view_is_the_least<B>()
 
 /// A member of a group of several that suspects a view enters it, saves its promise, and asks the others for their votes.
 pub fn suspicion_enters()
-    ensures { (n w j : ℕ) (s : VrState) → IsMember n w j s → 0 < n / 2 →
+    ensures { (n w j : ℕ) (s : VrState) → IsReadyMember n w j s → 0 < n / 2 →
         vr_step s (vr_input.Suspect w) ≡ record { state = in_view s w [] false [] None; promise = Some w; letters = to_others s (message.StartViewChange w) } }
 {}
 
 /// A member alone in its group starts the view as it suspects, and all of its log is committed.
 pub fn alone_starts()
-    ensures { (w : ℕ) (s : VrState) → IsMember 1 w 0 s →
+    ensures { (w : ℕ) (s : VrState) → IsReadyMember 1 w 0 s →
         vr_step s (vr_input.Suspect w) ≡ record { state = started (gathering s w [] [] None) s.log s.commit s.commit; promise = Some w; letters = [] } }
 {}
 
 /// A vote is counted, while a member lacks votes. With the last one a member tells the primary its log, and the primary
 /// keeps its own.
 pub fn votes_are_counted()
-    ensures { (n w from j : ℕ) (s : VrState) (voters : List ℕ) → IsMember n w j s → from < n → (from ≡ j → ⊥) → has voters from ≡ false → length voters < n / 2 →
+    ensures { (n w from j : ℕ) (s : VrState) (voters : List ℕ) → IsReadyMember n w j s → from < n → (from ≡ j → ⊥) → has voters from ≡ false → length voters < n / 2 →
         vr_step (voting (n / 2) w (w % n) s voters) (vr_input.From from (message.StartViewChange w)) ≡
         sends (voting (n / 2) w (w % n) s (with_number from voters)) (vote_letters (n / 2) w (w % n) s voters) }
 {}
 
 /// A log of another member is collected by the primary, and nothing is said while logs are lacking.
 pub fn logs_are_collected()
-    ensures { (n w : ℕ) (s : VrState) (voters : List ℕ) (logs : List Collected) (c : Collected) → IsMember n w (w % n) s → c.from < n → (c.from ≡ w % n → ⊥) →
+    ensures { (n w : ℕ) (s : VrState) (voters : List ℕ) (logs : List Collected) (c : Collected) → IsReadyMember n w (w % n) s → c.from < n → (c.from ≡ w % n → ⊥) →
         has_collected (gathering s w voters logs None) c.from ≡ false → suc (length logs) < n / 2 →
         vr_step (gathering s w voters logs None) (vr_input.From c.from (message.DoViewChange w c.normal c.commit c.log)) ≡ quiet (gathering s w voters (logs ++ c ∷ []) None) }
 {}
@@ -66,7 +66,7 @@ pub fn logs_are_collected()
 /// With the last log the view starts from the best of them, where that begins no later than what the primary knows as
 /// committed, and leaves all of this in place.
 pub fn last_log_starts()
-    ensures { (n w : ℕ) (s : VrState) (voters : List ℕ) (logs : List Collected) (c : Collected) → IsMember n w (w % n) s → c.from < n → (c.from ≡ w % n → ⊥) →
+    ensures { (n w : ℕ) (s : VrState) (voters : List ℕ) (logs : List Collected) (c : Collected) → IsReadyMember n w (w % n) s → c.from < n → (c.from ≡ w % n → ⊥) →
         has_collected (gathering s w voters logs None) c.from ≡ false → suc (length logs) ≡ n / 2 → (best : Collected) → best_of (own_log s) (logs ++ c ∷ []) ≡ best →
         best.commit ≤ s.commit → (log : List Entry) → take best.commit s.log ++ best.log ≡ log → is_sound s (started_with s w voters (logs ++ c ∷ []) log) ≡ true →
         vr_step (gathering s w voters logs None) (vr_input.From c.from (message.DoViewChange w c.normal c.commit c.log)) ≡ tells_start (started_with s w voters (logs ++ c ∷ []) log) }
@@ -74,7 +74,7 @@ pub fn last_log_starts()
 
 /// Where it begins later, what the primary lacks is fetched from the member of that log.
 pub fn last_log_is_fetched()
-    ensures { (n w : ℕ) (s : VrState) (voters : List ℕ) (logs : List Collected) (c : Collected) → IsMember n w (w % n) s → c.from < n → (c.from ≡ w % n → ⊥) →
+    ensures { (n w : ℕ) (s : VrState) (voters : List ℕ) (logs : List Collected) (c : Collected) → IsReadyMember n w (w % n) s → c.from < n → (c.from ≡ w % n → ⊥) →
         has_collected (gathering s w voters logs None) c.from ≡ false → suc (length logs) ≡ n / 2 → (best : Collected) → best_of (own_log s) (logs ++ c ∷ []) ≡ best →
         s.commit < best.commit →
         vr_step (gathering s w voters logs None) (vr_input.From c.from (message.DoViewChange w c.normal c.commit c.log)) ≡
@@ -90,7 +90,7 @@ pub fn one_log_is_best()
 /// came are the whole log, nothing is asked for, and what goes beyond the commit number is acknowledged.
 pub fn log_is_adopted()
     ensures { (n w j : ℕ) (s : VrState) (voters : List ℕ) (sent : Bool) (logs : List Collected) (supply : Option Supplied) (log : List Entry) (base commit : ℕ) →
-        IsMember n w j s → (w % n ≡ j → ⊥) → base ≤ s.commit → s.commit ≤ commit → commit ≤ length log → is_log log ≡ true → take s.commit s.log ≡ take s.commit log →
+        IsReadyMember n w j s → (w % n ≡ j → ⊥) → base ≤ s.commit → s.commit ≤ commit → commit ≤ length log → is_log log ≡ true → take s.commit s.log ≡ take s.commit log →
         vr_step (in_view s w voters sent logs supply) (vr_input.From (w % n) (message.StartView w base commit (drop base log))) ≡
         sends (in_started (in_view s w voters sent logs supply) w log commit)
         (if nat_lt commit (length log) then letter (message.PrepareOk w (length log)) (w % n) ∷ [] else []) }
@@ -100,7 +100,7 @@ pub fn log_is_adopted()
 /// waits is drained, the packet of the lowest number first. The view starts, from the best log of the quorum, in exactly
 /// f * f + 3 * f + 1 turns, and two more where its primary has to fetch.
 pub fn view_starts()
-    ensures { (n w : ℕ) (quorum : List ℕ) (start : ℕ → VrState) → IsQuorum n w quorum → ((j : ℕ) → has quorum j ≡ true → IsMember n w j (start j)) → 0 < n / 2 →
+    ensures { (n w : ℕ) (quorum : List ℕ) (start : ℕ → VrState) → IsQuorum n w quorum → ((j : ℕ) → has quorum j ≡ true → IsReadyMember n w j (start j)) → 0 < n / 2 →
         (best : ℕ) → HasBest quorum start best → IsCovered quorum start best →
         (packets : ℕ) × HasStarted n w quorum start best (drains packets quorum (all_suspected (resting start) w quorum)) }
 {}
@@ -132,8 +132,10 @@ pub fn closings_meet_limits<B>()
     ensures { ClosingsMeetLimits B }
 {}
 
-/// A closing takes no more turns than the bound says, at each moment of it at which all is posted, where each save in it
-/// succeeds, its journal is within the limits, and the applications give at most 128 commands for an event.
+/// A closing takes no more turns than the sharper of two bounds says, and so than the other, at each moment of it at which all
+/// is posted, where each save in it succeeds, its journal is within the limits, and the applications give at most 128 commands
+/// for an event.
 pub fn closings_are_quick<B>()
-    ensures { ClosingsAreQuick B }
+    ensures sharp { ClosingsAreSharplyBounded B }
+    ensures quick { ClosingsAreQuick B }
 {}

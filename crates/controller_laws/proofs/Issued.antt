@@ -22,7 +22,7 @@ pub concat_prefix : {A : Type 0} (xs ys : List (List A)) → IsPrefix xs ys → 
 concat_prefix xs ys p = record { rest = concat p.rest; joined = ap (λ l. concat l) p.joined ∙ concat-append xs p.rest }
 
 -- a command is for a life of a switch
-abbrev is_of : ℕ → ℕ → Issued → Bool
+abbrev pub is_of : ℕ → ℕ → Issued → Bool
 is_of s l x = nat_eq x.switch s && nat_eq x.life l
 
 -- one order more or not, before others

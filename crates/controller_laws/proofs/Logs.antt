@@ -1,16 +1,16 @@
 -- What stands in a log whose entries follow: events are processed in their order, and those of a life of a switch come
 -- by number.
-use Rattle.std.proofs.Common.{inl, inr, ◌⊎◌, ◌≡◌, ◌≤◌, ◌<◌, ℕ, ◌+◌, Bool, true, false, not, ◌&&◌, List, [], ◌∷◌, ◌++◌, length, take, filter, zero, suc, refl, sym, ap, subst, ◌∙◌, arith, append-nil, append_assoc}
+use Rattle.std.proofs.Common.{inl, inr, ◌⊎◌, ◌≡◌, ◌≤◌, ◌<◌, ℕ, ◌+◌, Bool, true, false, not, List, [], ◌∷◌, ◌++◌, length, take, filter, zero, suc, refl, sym, ap, subst, ◌∙◌, arith, append-nil, append_assoc}
 use Rattle.std.specs.Prelude.{nat_eq, nat_lt, slice_get, Some, if◌then◌else◌}
 use Rattle.std.proofs.lemmas.Bool.{eqb-true, ltb-true, and_parts}
 use Rattle.std.proofs.lemmas.List.Sums.{sum_by-cons, sum_by-append}
 use Rattle.of_types.specs.declared.message.Event.{Event}
-use Rattle.of_types.specs.Lives.{life_after, life_in, count_in, has_ended, is_switch_up}
+use Rattle.of_types.specs.Lives.{life_after, life_in, count_in, has_ended}
 use Rattle.vr_log.specs.declared.entry.Entry.{Entry}
 use Rattle.vr_log.specs.declared.entry.Entry.TheVariants.{Received, Processed}
 use Rattle.vr_log.specs.Log.{received, processed, is_past_limits, may_be_received, may_follow, fits, follows, is_log}
 use Rattle.two_stage_log.specs.Counts.{processed_of}
-use Rattle.vr_log.proofs.Logs.{received-append, follows-append, follows_front, no_earlier, none_after, IsLog_is, IsLog_push}
+use Rattle.vr_log.proofs.Logs.{received-append, follows-append, follows_front, no_earlier, none_after, number_is, IsLog_is, IsLog_push}
 use Rattle.of_types.proofs.Counts.{count_in-append}
 use Rattle.lists.proofs.Prefixes.{prefix_length, take_prefix}
 use Rattle.lists.specs.Lists.{IsIn, IsPrefix}
@@ -99,20 +99,7 @@ in_order log valid =
 
 -- an event that may be received: its life is no less than that of its switch, and its number is the count of its life
 next_of : (front : List Entry) (e : Event) → is_log front ≡ true → may_be_received e (received front) ≡ true → IsNextOfLife front e
-next_of front e valid may = chosen (nat_eq e.life (life_in e.switch (received front))) refl may
-  where
-    chosen : (b : Bool) → nat_eq e.life (life_in e.switch (received front)) ≡ b →
-        (if b then nat_eq e.number (count_in e.switch (life_in e.switch (received front)) (received front)) else nat_lt (life_in e.switch (received front)) e.life && nat_eq e.number 0 && is_switch_up e.what) ≡ true →
-        IsNextOfLife front e
-    chosen true same h =
-        let life : e.life ≡ life_in e.switch (received front) = eqb-true e.life (life_in e.switch (received front)) same in
-        let number = eqb-true e.number (count_in e.switch (life_in e.switch (received front)) (received front)) h in
-        record { life = no_earlier e (received front) may; number = number ∙ ap (λ (l : ℕ). count_in e.switch l (received front)) (sym life) }
-    chosen false other h =
-        let a = and_parts (nat_lt (life_in e.switch (received front)) e.life && nat_eq e.number 0) (is_switch_up e.what) h in
-        let b = and_parts (nat_lt (life_in e.switch (received front)) e.life) (nat_eq e.number 0) a.0 in
-        let less = ltb-true (life_in e.switch (received front)) e.life b.0 in
-        record { life = no_earlier e (received front) may; number = eqb-true e.number 0 b.1 ∙ sym (none_after front valid e.switch e.life less) }
+next_of front e valid may = record { life = no_earlier e (received front) may; number = number_is e (received front) (none_after front valid) may }
 
 -- an event of a log is the next of its life
 pub numbered_by_life : LogsNumberByLife
@@ -121,7 +108,7 @@ numbered_by_life log front back e valid is =
     next_of front e (follows_front [] front (Received e ∷ back) whole) (may_follow_at front (Received e) back whole)
 
 -- the elements up to a place
-take_next : {A : Type 0} (xs : List A) (n : ℕ) (x : A) → slice_get xs n ≡ Some x → take (n + 1) xs ≡ take n xs ++ x ∷ []
+pub take_next : {A : Type 0} (xs : List A) (n : ℕ) (x : A) → slice_get xs n ≡ Some x → take (n + 1) xs ≡ take n xs ++ x ∷ []
 take_next [] n x h = cc
 take_next (y ∷ xs) zero x h = let e : y ≡ x = cc in ap (λ z. z ∷ []) e
 take_next (y ∷ xs) (suc n) x h = let e : suc n + 1 ≡ suc (n + 1) = omega arith in ap (λ (k : ℕ). take k (y ∷ xs)) e ∙ ap (λ l. y ∷ l) (take_next xs n x h)

@@ -35,7 +35,7 @@ use Rattle.rv_runs.proofs.Pasts.{possible_before}
 use Rattle.exactly_once.proofs.Journals.{firm_events, firm_executed, later, all_holds}
 
 -- what stands where two lists meet, and before
-seam_at : {A : Type 0} (xs ys : List A) (y : A) → slice_get (xs ++ y ∷ ys) (length xs) ≡ Some y
+pub seam_at : {A : Type 0} (xs ys : List A) (y : A) → slice_get (xs ++ y ∷ ys) (length xs) ≡ Some y
 seam_at [] ys y = refl
 seam_at (x ∷ xs) ys y = seam_at xs ys y
 

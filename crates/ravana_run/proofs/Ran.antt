@@ -18,7 +18,7 @@ use Rattle.of_switch.specs.State.{SwitchState}
 use Rattle.of_types.specs.Setups.{IsSetup}
 use Rattle.rv_laws.proofs.Told.{told_law}
 use Rattle.rv_laws.proofs.Laws.{agreement_law, lasting_law, once_law, fence_law}
-use Rattle.rv_runs.specs.Bound.{IsQuick}
+use Rattle.rv_runs.specs.Bound.{IsQuick, IsSharplyBounded}
 use Rattle.rv_runs.specs.Committed.{count_up, decided, members_up, switch_state}
 use Rattle.rv_runs.specs.Legal.{IsLegalPast, IsPossible, results_of}
 use Rattle.rv_runs.specs.Schedule.{Answer, Closes, FollowsInOrder, IsBegun, count_turns, majority}
@@ -43,9 +43,10 @@ use Rattle.closing.proofs.Parts.{few_members}
 use Rattle.vr_log.specs.declared.entry.LogFull.{LogFull}
 use Rattle.closing_laws.specs.Ends.{HasRested}
 use Rattle.closing_laws.specs.Given.{given_by}
+use Rattle.closing_laws.specs.Quick.{WhereSavesSucceed}
 use Rattle.closing_laws.specs.Stops.{IsAtLimit}
 use Rattle.closing_laws.proofs.Limits.{limits_law}
-use Rattle.closing_laws.proofs.QuickClosings.{quick_law}
+use Rattle.closing_laws.proofs.QuickClosings.{quick_law, sharp_law}
 use Rattle.closing_laws.proofs.Quorate.{quorum_law}
 use Rattle.closing_laws.proofs.Rested.{rest_law}
 use Rattle.dispatcher.specs.Ledger.{most_commands}
@@ -177,10 +178,11 @@ module _ {A W : Type 0} (controls : Controlling A → List ℕ → Type 0) (pair
         }) in
         record { most = found.0; plays_it = found.1 ∙ ap (λ l. record { entries = l; answer = Some answer }) (sym whole) }
 
-    -- its closing is quick
-    quick : given_by kinds ≤ most_commands → AreSaved scenario.setup.controllers Results → IsQuick OfRun Results (past played.front) played.rest
-    quick given saved =
-        quick_law OfRun Results (past played.front) played.rest closes.last runs.setup bytes_again given (subst (λ l. IsPossible OfRun Results l) whole runs.legal.possible)
+    -- a law of closings tells of its closing
+    of_closing : (claim : Scene (List ℕ) → List (List SaveResult) → List (JournalEntry (List ℕ)) → List (JournalEntry (List ℕ)) → Type 0) → WhereSavesSucceed (List ℕ) claim →
+        given_by kinds ≤ most_commands → AreSaved scenario.setup.controllers Results → claim OfRun Results (past played.front) played.rest
+    of_closing claim law given saved =
+        law OfRun Results (past played.front) played.rest closes.last runs.setup bytes_again given (subst (λ l. IsPossible OfRun Results l) whole runs.legal.possible)
         (λ c i there low. each_saved (results_of Results c) (saved c there) i) (subst (λ l. IsWithinLimits byte_bodies.size l) whole within) closes.steps closes.posted
 
     pub has_run : HasRun kinds (StablesTell pair faults stables stables_after) scenario answer
@@ -192,7 +194,8 @@ module _ {A W : Type 0} (controls : Controlling A → List ℕ → Type 0) (pair
       run = record { joined = played.joined; legal = runs.legal; within = within; follows = follows; closes = closes; lawful = lawful };
       saved = stables_tell;
       one = one;
-      quick = quick;
+      quick = of_closing (λ scene results before entries. IsQuick scene results before entries) quick_law;
+      sharp = of_closing (λ scene results before entries. IsSharplyBounded scene results before entries) sharp_law;
     }
 
     -- nothing is left undone

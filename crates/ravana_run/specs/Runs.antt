@@ -10,7 +10,7 @@ use Rattle.rv_base.specs.Turns.{IsWithinLimits}
 use Rattle.vr_log.specs.declared.entry.Entry.{Entry}
 use Rattle.vr_log.specs.declared.entry.LogFull.{LogFull}
 use Rattle.group_controller.specs.Turns.{pair_in}
-use Rattle.rv_runs.specs.Bound.{IsQuick}
+use Rattle.rv_runs.specs.Bound.{IsQuick, IsSharplyBounded}
 use Rattle.rv_runs.specs.Committed.{controller_state, count_up}
 use Rattle.rv_laws.specs.Laws.{AreAgreed}
 use Rattle.rv_runs.specs.Laws.{IsExactlyOnce, IsFenced, IsLasting}
@@ -88,7 +88,7 @@ pub record IsTheOne (scene : Scene (List ℕ)) (steps : List Turn) (journal : Li
 abbrev pub Telling : Type 1
 Telling = Scene (List ℕ) → List (List SaveResult) → List (JournalEntry (List ℕ)) → Type 0
 
--- A run up to this answer, and what its stable pairs tell. Its closing takes no more turns than the bound says, where each save was made
+-- A run up to this answer, and what its stable pairs tell. Its closing takes no more turns than the bounds say, where each save was made
 -- and the applications give no more commands for an event than a ledger holds.
 pub record HasRun (kinds : List ℕ) (saves : Telling) (scenario : Scenario) (answer : Answer) : Type 0 where
   pub results : List (List SaveResult)
@@ -99,6 +99,7 @@ pub record HasRun (kinds : List ℕ) (saves : Telling) (scenario : Scenario) (an
   pub saved : saves (scene_for kinds scenario) results journal
   pub one : AreSaved scenario.setup.controllers results → IsTheOne (scene_for kinds scenario) scenario.steps journal answer
   pub quick : given_by kinds ≤ most_commands → AreSaved scenario.setup.controllers results → IsQuick (scene_for kinds scenario) results (past script) closing
+  pub sharp : given_by kinds ≤ most_commands → AreSaved scenario.setup.controllers results → IsSharplyBounded (scene_for kinds scenario) results (past script) closing
 
 -- what is told as a report is a record, and no other record has the text that was written
 abbrev pub IsOneRecord : Output → Record → List ℕ → Type 0

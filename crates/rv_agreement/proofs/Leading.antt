@@ -39,12 +39,12 @@ use Rattle.rv_agreement.proofs.Reading.{IsReadPast, read_drop, read_past}
 use Rattle.rv_agreement.proofs.Standing.{saving, stands_alike}
 
 -- each of the first m posts, so that no input is open
-abbrev posting : {Own E : Type 0} → ℕ → List (journal.Entry Own E)
+abbrev pub posting : {Own E : Type 0} → ℕ → List (journal.Entry Own E)
 posting zero = []
 posting (suc m) = journal.Posts m ∷ posting m
 
 module _ {Own A E : Type 0} (r : Rules Own A E) (g : Group E) where
-  posting_legal : (m : ℕ) (past : List (journal.Entry Own E)) → m ≤ size g → journal.IsLegal r g past → journal.IsLegal r g (posting m ++ past)
+  pub posting_legal : (m : ℕ) (past : List (journal.Entry Own E)) → m ≤ size g → journal.IsLegal r g past → journal.IsLegal r g (posting m ++ past)
   posting_legal zero past b k = k
   posting_legal (suc m) past b k = (omega arith, posting_legal m past (omega arith) k)
 
@@ -59,7 +59,7 @@ module _ {Own A E : Type 0} (r : Rules Own A E) (g : Group E) where
       by_own true = refl
       by_own false = refl
 
-  posting_held : (m j : ℕ) (past : List (journal.Entry Own E)) → j < m → held r j (posting m ++ past) ≡ record { now = settled r j past; open_input = None }
+  pub posting_held : (m j : ℕ) (past : List (journal.Entry Own E)) → j < m → held r j (posting m ++ past) ≡ record { now = settled r j past; open_input = None }
   posting_held zero j past b = absurd (omega arith)
   posting_held (suc m) j past b = elim (cases_eq m j) [
     | inl e ↦ cond-true (eqb m j) _ _ (eq-eqb m j e) ∙ ap (λ (a : A). record { now = a; open_input = None }) (posting_settled m j past)

@@ -55,12 +55,23 @@ abbrev pub turns_bound : ℕ → ℕ → ℕ → ℕ → ℕ → ℕ
 turns_bound n switches events entries commands =
     4 * n * n + 8 * n + 2 * switches + (events + entries) * (6 * n + 4) + 4 * commands
 
--- a closing behind a past takes at most so many turns
-abbrev pub most_turns : {B : Type 0} → Scene B → List (List SaveResult) → List (JournalEntry B) → List (JournalEntry B) → ℕ
-most_turns scene results before after =
+-- a sharper one, in a group of n = 2 f + 1 controllers
+abbrev pub sharp_bound : ℕ → ℕ → ℕ → ℕ → ℕ → ℕ
+sharp_bound n switches events entries commands =
+    let f = n / 2 in
+    f * f + 10 * f + 1 + 2 * switches + (2 * n + 1) * events + (n + 1) * entries + 3 * commands
+
+-- a bound on the turns of a closing behind a past
+abbrev pub most_by : {B : Type 0} → (ℕ → ℕ → ℕ → ℕ → ℕ → ℕ) → Scene B → List (List SaveResult) → List (JournalEntry B) → List (JournalEntry B) → ℕ
+most_by bound scene results before after =
     let members = closing_members scene results before in
-    turns_bound scene.setup.controllers (length scene.setup.ports) (events_left scene results before) (entries_left members)
+    bound scene.setup.controllers (length scene.setup.ports) (events_left scene results before) (entries_left members)
     (commands_left scene (decided scene results after) (place_known members))
 
+-- it takes no more turns than the first bound says
 abbrev pub IsQuick : {B : Type 0} → Scene B → List (List SaveResult) → List (JournalEntry B) → List (JournalEntry B) → Type 0
-IsQuick scene results before entries = count_turns entries ≤ most_turns scene results before (reverse entries ++ before)
+IsQuick scene results before entries = count_turns entries ≤ most_by turns_bound scene results before (reverse entries ++ before)
+
+-- and no more than the sharper one
+abbrev pub IsSharplyBounded : {B : Type 0} → Scene B → List (List SaveResult) → List (JournalEntry B) → List (JournalEntry B) → Type 0
+IsSharplyBounded scene results before entries = count_turns entries ≤ most_by sharp_bound scene results before (reverse entries ++ before)

@@ -115,6 +115,18 @@ no_earlier event events h = chosen (nat_eq event.life (life_in event.switch even
         let q = and_parts (nat_lt (life_in event.switch events) event.life) (nat_eq event.number 0) p.0 in
         let less = ltb-true (life_in event.switch events) event.life q.0 in omega arith
 
+-- and has the next number of its life, where no event is of a later life than its switch has
+pub number_is : (e : Event) (events : List Event) → NoneAfter events → may_be_received e events ≡ true → e.number ≡ count_in e.switch e.life events
+number_is e events none h = chosen (nat_eq e.life (life_in e.switch events)) refl h
+  where
+    chosen : (b : Bool) → nat_eq e.life (life_in e.switch events) ≡ b →
+        (if b then nat_eq e.number (count_in e.switch (life_in e.switch events) events) else nat_lt (life_in e.switch events) e.life && nat_eq e.number 0 && is_switch_up e.what) ≡ true → e.number ≡ count_in e.switch e.life events
+    chosen true is k = eqb-true _ _ k ∙ ap (λ (life : ℕ). count_in e.switch life events) (sym (eqb-true e.life (life_in e.switch events) is))
+    chosen false is k =
+        let p = and_parts (nat_lt (life_in e.switch events) e.life && nat_eq e.number 0) (is_switch_up e.what) k in
+        let q = and_parts (nat_lt (life_in e.switch events) e.life) (nat_eq e.number 0) p.0 in
+        eqb-true _ _ q.1 ∙ sym (none e.switch e.life (ltb-true _ _ q.0))
+
 -- no event of a log is of a later life than its switch has
 pub none_after : (log : List Entry) → is_log log ≡ true → NoneAfter (received log)
 none_after log h = build [] log (λ s life less. refl) h

@@ -1,5 +1,8 @@
 use Rattle.closing_laws.proofs.closings_are_quick.Goals as goal
-use Rattle.closing_laws.proofs.QuickClosings.{quick_law}
+use Rattle.closing_laws.proofs.QuickClosings.{quick_law, sharp_law}
 
-pub returns : goal.returns
-returns g c = quick_law
+pub returns-clause-sharp : goal.returns-clause-sharp
+returns-clause-sharp g c = sharp_law
+
+pub returns-clause-quick : goal.returns-clause-quick
+returns-clause-quick g c = quick_law

@@ -17,9 +17,13 @@ const BASE: &[&str] = &[
 /// What the closing takes behind so many steps of them.
 const CLOSINGS: [u64; 13] = [8, 8, 8, 8, 17, 17, 17, 16, 16, 16, 16, 13, 13];
 
-/// The bound on the turns of a closing, of three controllers and a switch, where it finds nothing left to do: 4 n n + 8 n, and 2
-/// for each switch.
-const BOUND: u64 = 4 * 3 * 3 + 8 * 3 + 2;
+/// The sharper bound on the turns of a closing, of three controllers and a switch, where it finds nothing left to do: f f + 10 f + 1,
+/// and 2 for each switch.
+const IDLE_BOUND: u64 = 1 + 10 + 1 + 2;
+
+/// And where a switch holds an event with a command, which no member that closes knows as processed: 2 n + 1 for the event, and 3 for
+/// the command. Entries that no member knows as committed would only raise it.
+const EVENT_BOUND: u64 = IDLE_BOUND + 7 + 3;
 
 /// Stops behind so many steps.
 fn assert_stop(
@@ -31,16 +35,16 @@ fn assert_stop(
 ) -> Result<(), Fail> {
     let script = THREE.text_with(alloc, &[(1, front), (1, stop)])?;
     let answer = serve(alloc, "sim", script.as_bytes(), SOUND)?;
-    let sums = if front.contains(&FRAME_AB) {
-        "events 1 log 2 commands 1 rows 1"
+    let (sums, bound) = if front.contains(&FRAME_AB) {
+        ("events 1 log 2 commands 1 rows 1", EVENT_BOUND)
     } else {
-        "events 0 log 0 commands 0 rows 1"
+        ("events 0 log 0 commands 0 rows 1", IDLE_BOUND)
     };
     let steps = front.len().saturating_add(stop.len());
     let end = format!(in alloc; "end script {steps} closing {closing} {sums}")?;
     assert_eq!(rt; answer.text().lines().last(), Some(end.as_str()));
     assert_eq!(rt; answer.status, 0, "at {end}");
-    assert!(rt; closing <= BOUND, "at {end}");
+    assert!(rt; closing <= bound, "at {end}");
     assert_served(rt, alloc, "audit", answer.written.as_slice(), 0, SAME)
 }
 

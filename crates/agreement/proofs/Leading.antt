@@ -1,7 +1,7 @@
 -- Whose log begins with what is decided.
 use Rattle.std.proofs.Common.{◌≡◌, ℕ, ◌+◌, ◌<◌, ◌≤◌, inl, inr, Bool, true, leb, ltb, None, List, [], ◌∷◌, ◌++◌, length, sym, ap, ◌∙◌, subst, arith}
 use Rattle.std.proofs.lemmas.Bool.{cases_lt, leb-true, ltb-true, cond-true}
-use Rattle.agreement.specs.Lists.{count_below}
+use Rattle.agreement.specs.Lists.{IsAtMost, count_below}
 use Rattle.lists.proofs.Prefixes.{front_prefix, prefix_both, prefix_nil, prefix_trans, take_within}
 use Rattle.lists.specs.Lists.{IsPrefix}
 use Rattle.agreement.specs.History.{Group, size, primary_of, Normal, State, History}
@@ -12,6 +12,7 @@ use Rattle.agreement.specs.Journals.{Rules, Entry, settled_by, held, settled, hi
 use Rattle.agreement.specs.Decided.{decided}
 use Rattle.agreement.specs.Leading.{SafeLogsBegin, LaterLogsBegin, PrimariesLead, DecidedIsLed}
 use Rattle.agreement.proofs.Counts.{count_share}
+use Rattle.agreement.proofs.Numbers.{below_trans}
 use Rattle.agreement.proofs.Quorums.{quorum_begins}
 use Rattle.agreement.proofs.Frame.{quorum_more}
 use Rattle.agreement.proofs.Consequences.{own_log, own_of_view}
@@ -40,6 +41,24 @@ module _ {E : Type 0} {g : Group E} where
       let f = quorum_begins q o l s in
       let n = take_within m (h.logs v) f.within in
       prefix_trans (prefix_both p (front_prefix m (h.logs v)) (omega arith)) f.front
+
+  -- of more than f controllers that are up, the best log begins with all that is certified
+  pub best_begins : {h : History E} → Invariant g h → (passes : ℕ → Bool) (best : ℕ) (ys : List E) → g.most_failures < count_below passes (size g) → ((j : ℕ) → passes j ≡ true → is_up (h.state j).status ≡ true)
+      → passes best ≡ true → best < size g → ((j : ℕ) → passes j ≡ true → IsAtMost (h.state j).normal (length (h.state j).log) (h.state best).normal (length (h.state best).log))
+      → IsCertified g h ys → IsPrefix ys (h.state best).log
+  unfolding size
+  best_begins {h} i passes best [] many up chosen b far k = prefix_nil (h.state best).log
+  best_begins {h} i passes best (y ∷ ys) many up chosen b far (empty e) = absurd cc
+  best_begins {h} i passes best (y ∷ ys) many up chosen b far (shown v m a w p q) =
+      let q' = q.many in
+      let s = count_share (has_accepted g h v m) passes (size g) (omega arith) in
+      let own = (i.states best b).of_view (up best chosen) in
+      elim (below_trans ((i.states s.0 s.1).covers (up s.0 s.3) v m (omega arith) s.2) (far s.0 s.3)) [
+        | inl less ↦ below_safe a p q (omega arith) less own.safe
+        | inr same ↦
+            let le = same.1 in
+            prefix_both p (subst (λ (u : ℕ). IsPrefix (h.state best).log (h.logs u)) (sym same.0) own.front) (omega arith)
+      ]
 
   run_quorum : {h0 h : History E} → IsGroup g → Invariant g h0 → Run g h0 h → {v m : ℕ} → HasQuorum g h0 v m → HasQuorum g h v m
   run_quorum gr i still q = q
@@ -76,19 +95,22 @@ lead_law {E = E} g h c (y ∷ ys) i b n is many (shown v m a f p q) =
     ]
 
 module _ {Own A E : Type 0} {r : Rules Own A E} {g : Group E} (f : Follows r g) where
-  many_led : 1 ≤ g.most_failures → (past : List (Entry Own E)) (c : ℕ) → IsLegal r g past → c < size g → (let s = r.state (held r c past).now in
-      s.status ≡ Normal → c ≡ primary_of g s.view → g.most_failures < count_below (λ j. leb (r.promise (held r j past).now) s.view) (size g) → IsPrefix (decided r g past) s.log)
-  many_led o past c k b n is many = elim (decided_is f past) [
-    | inl e ↦ subst (λ (l : List E). IsPrefix l (r.state (held r c past).now).log) (sym e) (prefix_nil (r.state (held r c past).now).log)
+  -- what a journal has decided is certified
+  pub decided_certified : 1 ≤ g.most_failures → (past : List (Entry Own E)) → IsLegal r g past → IsCertified g (history r g past) (decided r g past)
+  decided_certified o past k = elim (decided_is f past) [
+    | inl e ↦ empty e
     | inr x ↦
         let k' : IsLegal r g (x.0 ++ x.1) = subst (λ (l : List (Entry Own E)). IsLegal r g l) x.3 k in
         let k1 = legal_past r g x.0 x.1 k' in
         let i1 = journal_good f o x.1 k1 in
         let shown_then = shown_certified f.group i1 x.4 (journal_shows f o x.1 x.2 i1 k1 x.4) in
         let now = run_certified f.group i1 (journal_runs f o x.0 x.1 i1 k') shown_then in
-        let led = lead_law g (history r g past) c (kept r x.2 x.1) (journal_good f o past k) b n is many (subst (λ (l : List (Entry Own E)). IsCertified g (history r g l) (kept r x.2 x.1)) (sym x.3) now) in
-        subst (λ (l : List E). IsPrefix l (r.state (held r c past).now).log) (sym x.5) led
+        subst (λ (l : List E). IsCertified g (history r g past) l) (sym x.5) (subst (λ (l : List (Entry Own E)). IsCertified g (history r g l) (kept r x.2 x.1)) (sym x.3) now)
   ]
+
+  many_led : 1 ≤ g.most_failures → (past : List (Entry Own E)) (c : ℕ) → IsLegal r g past → c < size g → (let s = r.state (held r c past).now in
+      s.status ≡ Normal → c ≡ primary_of g s.view → g.most_failures < count_below (λ j. leb (r.promise (held r j past).now) s.view) (size g) → IsPrefix (decided r g past) s.log)
+  many_led o past c k b n is many = lead_law g (history r g past) c (decided r g past) (journal_good f o past k) b n is many (decided_certified o past k)
 
   one_led : g.most_failures ≡ 0 → (past : List (Entry Own E)) (c : ℕ) → c < size g → (held r c past).open_input ≡ None → (r.state (held r c past).now).status ≡ Normal → IsPrefix (decided r g past) (r.state (held r c past).now).log
   one_led o past c b closed n = elim (decided_is f past) [

@@ -34,7 +34,7 @@ use Rattle.rv_agreement.proofs.Standing.{stands_alike}
 use Rattle.rv_laws.proofs.Events.{events_valid}
 use Rattle.rv_laws.proofs.Laws.{always}
 
-status_up : (s : Status) → elim s [ Normal ↦ true | ViewChange ↦ true | Recovering ↦ false | Down ↦ false ] ≡ true → agreed.is_up (status_of s) ≡ true
+pub status_up : (s : Status) → elim s [ Normal ↦ true | ViewChange ↦ true | Recovering ↦ false | Down ↦ false ] ≡ true → agreed.is_up (status_of s) ≡ true
 status_up Normal h = refl
 status_up ViewChange h = refl
 status_up Recovering h = absurd cc

@@ -1,5 +1,5 @@
 -- Once the members of a quorum have entered a view, what each of them knows as committed begins the best of their logs.
-use Rattle.std.proofs.Common.{◌≡◌, ◌≤◌, ◌<◌, inl, inr, ℕ, suc, ◌+◌, ◌*◌, ◌/◌, Bool, true, false, None, List, [], ◌∷◌, ◌++◌, length, map, take, drop, refl, sym, ap, ◌∙◌, subst, arith, length-append}
+use Rattle.std.proofs.Common.{◌≡◌, ◌≤◌, ◌<◌, inl, inr, ℕ, suc, ◌+◌, ◌/◌, Bool, true, false, None, List, [], ◌∷◌, ◌++◌, length, map, take, drop, refl, sym, ap, ◌∙◌, subst, arith, length-append}
 use Rattle.std.specs.Prelude.{nat_eq, nat_lt, if◌then◌else◌}
 use Rattle.std.proofs.lemmas.Bool.{eqb-true, ltb-true, both_ways}
 use Rattle.std.proofs.lemmas.List.{length-map, length-take-le, take_at}
@@ -11,40 +11,25 @@ use Rattle.lists.proofs.Elements.{in_map}
 use Rattle.agreement.specs.Lists.{AreDistinct, IsAtMost}
 use Rattle.agreement.specs.History.{Group, History, State, Vote, size}
 use Rattle.agreement.specs.Invariant.{Invariant, IsBallot, IsGoodState, IsGoodVote}
-use Rattle.agreement.specs.Journals as journal
-use Rattle.agreement.specs.Journals.{Held, Rules}
 use Rattle.agreement.specs.Moves.{IsBest}
 use Rattle.agreement.specs.Quorums.{IsSafe, IsVote}
-use Rattle.agreement.proofs.Agreeing.{journal_good}
 use Rattle.agreement.proofs.Consequences.{committed_begins}
 use Rattle.agreement.proofs.Quorums.{best_is_safe}
-use Rattle.agreement.proofs.Standing.{folds_law}
 use Rattle.vr_log.specs.declared.entry.Entry.{Entry}
 use Rattle.vr_log.specs.declared.state.Collected.{Collected}
 use Rattle.vr_log.specs.declared.state.VrState.{VrState}
 use Rattle.vr_log.specs.Choosing.{is_better, length_of}
-use Rattle.members.specs.Projection.{group_of, state_of, vote_of}
-use Rattle.controllers.specs.Projection.{OwnInput}
-use Rattle.controllers.specs.Rules.{SavingController}
-use Rattle.controllers.proofs.Following.{follow_law}
+use Rattle.members.specs.Projection.{state_of, vote_of}
 use Rattle.rv_runs.specs.States.{Scene, IsFaithful}
-use Rattle.rv_runs.specs.Legal.{IsPossible, results_of}
+use Rattle.rv_runs.specs.Legal.{IsPossible}
 use Rattle.rv_runs.specs.Committed.{controller_state}
-use Rattle.rv_agreement.specs.Projection.{past_of, rules_of}
-use Rattle.rv_agreement.specs.Reading.{WhereValid}
-use Rattle.rv_agreement.proofs.Groups.{odd_law}
-use Rattle.rv_agreement.proofs.Journals.{in_group, past_orderly}
-use Rattle.rv_agreement.proofs.Reading.{IsReadPast, read_past}
-use Rattle.rv_agreement.proofs.Standing.{stands_alike}
-use Rattle.rv_laws.proofs.Events.{events_valid}
-use Rattle.rv_laws.proofs.Laws.{always}
-use Rattle.rv_agreement.proofs.Leading.{posting, posting_held, posting_legal}
 use Rattle.closing_laws.specs.Quorum.{has}
 use Rattle.closing_laws.specs.Views.{HasBest, IsCovered, in_view, log_of}
+use Rattle.closing_laws.proofs.Histories as histories
 use Rattle.closing_laws.proofs.Numbers.{Once, in_has}
 
 -- a better log is at least as far
-better_far : (a b : Collected) → is_better a b ≡ true → IsAtMost b.normal (length_of b) a.normal (length_of a)
+pub better_far : (a b : Collected) → is_better a b ≡ true → IsAtMost b.normal (length_of b) a.normal (length_of a)
 better_far a b h = by_normal (nat_eq a.normal b.normal) refl h
   where
     by_length : (d : Bool) → nat_eq (length_of a) (length_of b) ≡ d → (if d then nat_lt a.from b.from else nat_lt (length_of b) (length_of a)) ≡ true → length_of b ≤ length_of a
@@ -73,45 +58,20 @@ module _ {B : Type 0} (scene : Scene B) (results : List (List SaveResult)) (setu
     (w : ℕ) (quorum : List ℕ) (start : ℕ → VrState) (once : Once quorum) (count : length quorum ≡ suc (scene.setup.controllers / 2)) (small : (j : ℕ) → has quorum j ≡ true → j < scene.setup.controllers)
     (several : 0 < scene.setup.controllers / 2)
     (entered : (j : ℕ) → has quorum j ≡ true → (controller_state scene results j P).vr ≡ in_view (start j) w [] false [] None) where
-  odd : (f : ℕ) × (scene.setup.controllers ≡ 2 * f + 1)
-  odd = odd_law scene.setup setup
-
-  abbrev f : ℕ
-  f = odd.0
-
-  abbrev r : Rules OwnInput SavingController Entry
-  r = rules_of scene f results
-
   abbrev g : Group Entry
-  g = group_of f
-
-  abbrev all : List (journal.Entry OwnInput Entry)
-  all = posting (size g) ++ past_of scene P
+  g = histories.g scene results setup faithful P possible several
 
   abbrev h : History Entry
-  h = journal.history r g all
-
-  some : 1 ≤ f
-  some = let n = odd.1 in omega (arith, n, several)
-
-  read : IsReadPast scene results P
-  read = read_past scene results P possible (WhereValid faithful (events_valid scene results P possible (λ i. always scene results setup faithful P possible (suc i))))
+  h = histories.h scene results setup faithful P possible several
 
   good : Invariant g h
-  good =
-      let agrees = folds_law r g (past_of scene P) (past_orderly scene results f odd.1 P read).orderly in
-      journal_good (follow_law scene.kinds scene.setup f (λ c. results_of results c)) some all (posting_legal r g (size g) (past_of scene P) (omega arith) agrees.0)
+  good = histories.good scene results setup faithful P possible several
 
   within : (j : ℕ) → has quorum j ≡ true → j < size g
-  within j member = in_group scene results f odd.1 j (small j member)
+  within j member = histories.within scene results setup faithful P possible several j (small j member)
 
   state_is : (j : ℕ) → has quorum j ≡ true → h.state j ≡ state_of (in_view (start j) w [] false [] None)
-  state_is j member =
-      let agrees = folds_law r g (past_of scene P) (past_orderly scene results f odd.1 P read).orderly in
-      ap (λ (x : Held OwnInput SavingController Entry). r.state x.now)
-      (posting_held r g (size g) j (past_of scene P) (within j member)
-      ∙ ap (λ (a : SavingController). record { now = a; open_input = None }) ((agrees.1 j).now ∙ (stands_alike scene results f j odd.1 P possible.orderly).now))
-      ∙ ap state_of (entered j member)
+  state_is j member = histories.state_is scene results setup faithful P possible several j (small j member) ∙ ap state_of (entered j member)
 
   good_state : (j : ℕ) → has quorum j ≡ true → IsGoodState g h j (state_of (in_view (start j) w [] false [] None))
   good_state j member = subst (λ (s : State Entry). IsGoodState g h j s) (state_is j member) (good.states j (within j member))
@@ -153,7 +113,7 @@ module _ {B : Type 0} (scene : Scene B) (results : List (List SaveResult)) (setu
 
     safe : IsSafe g h w (start best).log
     unfolding votes_for
-    safe = best_is_safe (told start best) (votes_for best b.member) ballot (let n = odd.1 in let long = length-map quorum (told start) in omega (arith, n, long, count)) is_best
+    safe = best_is_safe (told start best) (votes_for best b.member) ballot (let n = (histories.odd scene results setup faithful P possible several).1 in let long = length-map quorum (told start) in omega (arith, n, long, count)) is_best
 
     begins : (j : ℕ) → has quorum j ≡ true → IsPrefix (take (start j).commit (start j).log) (start best).log
     begins j member = let v = vote_for j member in committed_begins good v.of_view v.earlier safe

@@ -19,6 +19,7 @@ pub mod Paired
 pub mod Taking
 pub mod Posting
 pub mod Walking
+pub mod Histories
 pub mod Covering
 pub mod Begun
 pub mod Alone
@@ -103,6 +104,7 @@ pub mod DrainingMeasure
 pub mod PrimaryLowers
 pub mod StartMeasure
 pub mod LeftEvents
+pub mod BestBegins
 pub mod Quorate
 pub mod Limits
 pub mod AloneLogs

@@ -6,7 +6,7 @@ use Rattle.std.proofs.Math.Path.{fun_ext}
 use Rattle.std.proofs.Math.Seq.{drop-append_seam}
 use Rattle.std.proofs.lemmas.Bool.{cases_lt, le-ltb}
 use Rattle.lists.specs.Lists.{IsIn, IsPrefix}
-use Rattle.lists.proofs.Prefixes.{front_prefix, prefix_both, prefix_length, prefix_trans}
+use Rattle.lists.proofs.Prefixes.{front_prefix, prefix_trans}
 use Rattle.of_types.specs.declared.message.Event.{Event}
 use Rattle.of_types.specs.Lives.{count_in}
 use Rattle.of_types.specs.Setups.{IsSetup}
@@ -17,7 +17,7 @@ use Rattle.vr_log.specs.declared.entry.Entry.{Entry}
 use Rattle.vr_log.specs.declared.entry.LogFull.{LogFull}
 use Rattle.vr_log.specs.declared.state.VrState.{VrState}
 use Rattle.vr_log.specs.Log.{processed, received}
-use Rattle.controller_laws.proofs.Logs.{processed_prefix, received_prefix}
+use Rattle.controller_laws.proofs.Logs.{processed_prefix}
 use Rattle.event_buffer.specs.Buffer.{next_number}
 use Rattle.two_stage_log.specs.Counts.{processed_of}
 use Rattle.exactly_once.proofs.Growing.{take_prefix, take_same}
@@ -40,6 +40,7 @@ use Rattle.closing_laws.proofs.AloneLogs.{decided_before}
 use Rattle.closing_laws.proofs.Begun as begun
 use Rattle.closing_laws.proofs.Begun.{counts_append}
 use Rattle.closing_laws.proofs.Behind as behind
+use Rattle.closing_laws.proofs.BestBegins.{decided_in_best}
 use Rattle.closing_laws.proofs.BestLogs.{has_best}
 use Rattle.closing_laws.proofs.Emptied as emptied
 use Rattle.closing_laws.proofs.Rooms as rooms
@@ -60,17 +61,17 @@ use Rattle.vr_log.proofs.Logs.{length_is}
 -- the bound in a group of this size, by what the parts are within: the turns to the start, those behind it, and of these the events that
 -- do not stand as processed, and those that do beyond what is known. An event that is logged as it starts costs less than one that is not
 abbrev IsBounded : ℕ → Type 0
-IsBounded n = (switches waiting logged over entries commands first fetched rest events more beyond : ℕ) →
+IsBounded n = (switches waiting logged over entries commands first fetched rest events beyond : ℕ) →
     first ≤ (n / 2) * (n / 2) + 3 * (n / 2) + 1 + 2 * fetched → fetched ≤ 1 → fetched ≤ n / 2 →
     rest + (4 * (n / 2) + 1) * logged ≤ 2 * (n / 2) + 2 * switches + (2 * (n / 2) + 1) * events + beyond + (4 * (n / 2) + 3) * waiting + 3 * commands →
-    events ≤ logged + over + entries + more → more ≤ 1 → more ≤ n / 2 → beyond ≤ entries →
+    events ≤ logged + over + entries → beyond ≤ entries →
     first + rest ≤ sharp_bound n switches (waiting + over) entries commands
 
 bounded_of : (n k : ℕ) → k < 4 → slice_index_or (1 ∷ 3 ∷ 5 ∷ 7 ∷ []) k n ≡ n → IsBounded n
-bounded_of n zero l e = subst IsBounded e (λ switches waiting logged over entries commands first fetched rest events more beyond a b c d e f g h. omega (arith, a, b, c, d, e, f, g, h))
-bounded_of n (suc zero) l e = subst IsBounded e (λ switches waiting logged over entries commands first fetched rest events more beyond a b c d e f g h. omega (arith, a, b, c, d, e, f, g, h))
-bounded_of n (suc (suc zero)) l e = subst IsBounded e (λ switches waiting logged over entries commands first fetched rest events more beyond a b c d e f g h. omega (arith, a, b, c, d, e, f, g, h))
-bounded_of n (suc (suc (suc zero))) l e = subst IsBounded e (λ switches waiting logged over entries commands first fetched rest events more beyond a b c d e f g h. omega (arith, a, b, c, d, e, f, g, h))
+bounded_of n zero l e = subst IsBounded e (λ switches waiting logged over entries commands first fetched rest events beyond a b c d e f. omega (arith, a, b, c, d, e, f))
+bounded_of n (suc zero) l e = subst IsBounded e (λ switches waiting logged over entries commands first fetched rest events beyond a b c d e f. omega (arith, a, b, c, d, e, f))
+bounded_of n (suc (suc zero)) l e = subst IsBounded e (λ switches waiting logged over entries commands first fetched rest events beyond a b c d e f. omega (arith, a, b, c, d, e, f))
+bounded_of n (suc (suc (suc zero))) l e = subst IsBounded e (λ switches waiting logged over entries commands first fetched rest events beyond a b c d e f. omega (arith, a, b, c, d, e, f))
 bounded_of n (suc (suc (suc (suc k)))) l e = absurd (omega (arith, l))
 
 -- the turns of a fetch come in groups of several alone
@@ -163,8 +164,8 @@ module _ {B : Type 0} (scene : Scene B) (results : List (List SaveResult)) (setu
   bounded_first : (first : ℕ) (best : ℕ) → has quorum best ≡ true → first ≤ turns_after scene results before best → first ≤ sharp_bound n (length scene.setup.ports) (waiting + over) more commands
   bounded_first first best chosen few_turns =
       let early = soon (n / 2) (fetches best) in
-      let all = bounded (length scene.setup.ports) waiting 0 over more commands first (once (fetches best)) 0 0 0 0 (omega (arith, few_turns, early)) (once_least (fetches best)) (fetched_few best chosen)
-      (omega arith) (omega arith) (omega arith) (omega arith) (omega arith) in
+      let all = bounded (length scene.setup.ports) waiting 0 over more commands first (once (fetches best)) 0 0 0 (omega (arith, few_turns, early)) (once_least (fetches best)) (fetched_few best chosen)
+      (omega arith) (omega arith) (omega arith) in
       omega (arith, all)
 
   module _ (best : ℕ) (is_best : HasBest quorum members best) (starts : Starts scene results before entries last best) where
@@ -247,50 +248,25 @@ module _ {B : Type 0} (scene : Scene B) (results : List (List SaveResult)) (setu
     abbrev holding : ℕ
     holding = sum_by (λ s. logged_held leader.log s (switches s)) (range_with_len 0 (length scene.setup.ports))
 
-    events_left_of : (log : List Entry) → IsPrefix was log → received c.vr.log ≡ received log →
-        length (received leader.log) - processed was ≤ holding + over + (length (received leader.log) - length (received was))
-    events_left_of log front is =
-        let same : received log ≡ received leader.log = sym is ∙ events_same in
-        subst (λ (es : List Event). length es - processed was ≤
-        sum_by (λ s. count_in s (life_of (switches s)) es - (switches s).buffer.cleared) (range_with_len 0 (length scene.setup.ports)) + over + (length es - length (received was))) same
-        (unprocessed_left (length scene.setup.ports) switches log was front (λ e among. genuine e (subst (λ (es : List Event). IsIn e es) (sym is) among)) gone)
+    -- its log begins with what was decided
+    was_in_front : IsPrefix was leader.log
+    was_in_front = elim (cases_lt 0 (n / 2)) [
+      | inl some ↦ decided_in_best scene results setup faithful before possible_first some w quorum closing (begun.ready scene results before a.most) best is_best
+      | inr none ↦
+          let size = (odd_law scene.setup setup).1 in
+          decided_before scene results setup faithful (omega (arith, size, none)) before possible_first best (small best is_best.member) (begun.ready scene results before a.most best is_best.member).up
+    ]
 
-    -- where its log begins with what was decided
-    in_front : IsPrefix was leader.log → events ≤ holding + over + more
-    in_front front =
-        let some_left = events_left_of leader.log front events_same in
-        let fewer = processed_prefix front in
+    events_few : events ≤ holding + over + more
+    events_few =
+        let some_left = unprocessed_left (length scene.setup.ports) switches leader.log was was_in_front
+        (λ e among. genuine e (subst (λ (es : List Event). IsIn e es) (sym events_same) among)) gone in
+        let fewer = processed_prefix was_in_front in
         let x = length_is leader.log in
         let y = length_is was in
         let far = longest in
         let place = place_decided in
         omega (arith, some_left, fewer, x, y, far, place)
-
-    -- else no event of the log is missing there, and at most one more stands as processed
-    in_back : 0 < n / 2 → length leader.log ≤ length was → events ≤ holding + over + more + 1
-    in_back some short =
-        let some_left = events_left_of c.vr.log was_begins refl in
-        let fewer = prefix_length (received_prefix (prefix_both longer was_begins short)) in
-        let committed_is : committed c ≡ take leader.commit leader.log =
-        ap (λ (k : ℕ). take k c.vr.log) (measure.same_commit scene results setup faithful few before entries last best a starts is_best.member small older some)
-        ∙ take_same leader.commit (measure.within scene results setup faithful few before entries last best a starts is_best.member small older) longer in
-        let one = truth.primary.ahead in
-        let count = ap processed committed_is in
-        let front = processed_prefix (front_prefix leader.commit leader.log) in
-        let all = processed_prefix was_begins in
-        omega (arith, some_left, fewer, one, count, front, all)
-
-    events_few : (slack : ℕ) × (slack ≤ 1) × (slack ≤ n / 2) × (events ≤ holding + over + more + slack)
-    events_few = elim (cases_lt 0 (n / 2)) [
-      | inl some ↦ elim (cases_lt (length leader.log) (length was)) [
-        | inl short ↦ (1, omega arith, omega (arith, some), in_back some (omega (arith, short)))
-        | inr long ↦ (let here = in_front (prefix_both was_begins longer long) in (0, omega arith, omega arith, omega (arith, here)))
-      ]
-      | inr none ↦
-          let size = (odd_law scene.setup setup).1 in
-          let here = in_front (decided_before scene results setup faithful (omega (arith, size, none)) before possible_first best (small best is_best.member) (begun.ready scene results before a.most best is_best.member).up) in
-          (0, omega arith, omega arith, omega (arith, here))
-    ]
 
     beyond_few : processed leader.log - processed (take leader.commit leader.log) ≤ more
     beyond_few =
@@ -352,10 +328,9 @@ module _ {B : Type 0} (scene : Scene B) (results : List (List SaveResult)) (setu
         let holding_same = ap (λ (sw : ℕ → SwitchState). (4 * (n / 2) + 1) * sum_by (λ t. logged_held leader.log t (sw t)) (range_with_len 0 (length scene.setup.ports))) (fun_ext starts.unchanged) in
         let more_commands = commands_few is counted.promised in
         let first = first_counted in
-        let some = events_few in
-        let all = bounded (length scene.setup.ports) waiting holding over more commands (turns_after scene results before best) (once (fetches best)) (count_turns starts.rest) events some.0
+        let all = bounded (length scene.setup.ports) waiting holding over more commands (turns_after scene results before best) (once (fetches best)) (count_turns starts.rest) events
         (processed leader.log - processed (take leader.commit leader.log)) (soon (n / 2) (fetches best)) (once_least (fetches best)) (fetched_few best is_best.member)
-        (omega (arith, turns, left, value, unchanged, holding_same, more_commands)) some.3 some.1 some.2 beyond_few in
+        (omega (arith, turns, left, value, unchanged, holding_same, more_commands)) events_few beyond_few in
         omega (arith, first, all)
     by_full (Some limit) is =
         let none = emptied.no_turn scene results setup faithful few w quorum closing before a.saves start limit begins starts.rest last

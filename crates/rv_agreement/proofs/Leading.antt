@@ -106,7 +106,8 @@ module _ {B : Type 0} (scene : Scene B) (results : List (List SaveResult)) (most
       begun [] e {zs} stays holds = subst (λ (q : List Entry). IsPrefix q zs) (sym (ap (λ (ys : List (journal.Entry OwnInput Entry)). journal.kept r d ys) e)) (prefix_nil zs)
       begun (y ∷ ys) e stays holds = prefix_trans (holds y ys e) stays
 
-  decided_begins : (past : List (JournalEntry B)) → IsReadPast scene results past → IsPrefix (decided scene results past) (decision.decided r g (all_posted past))
+  -- and so does what is decided
+  pub decided_begins : (past : List (JournalEntry B)) → IsReadPast scene results past → IsPrefix (decided scene results past) (decision.decided r g (all_posted past))
   decided_begins past k = by_kept (decided scene results past) (decided_kept scene results past)
     where
       by_kept : (xs : List Entry) → WasKept scene results past xs → IsPrefix xs (decision.decided r g (all_posted past))

@@ -59,7 +59,7 @@ turns_bound n switches events entries commands =
 abbrev pub sharp_bound : ℕ → ℕ → ℕ → ℕ → ℕ → ℕ
 sharp_bound n switches events entries commands =
     let f = n / 2 in
-    f * f + 10 * f + 1 + 2 * switches + (2 * n + 1) * events + (n + 1) * entries + 3 * commands
+    f * f + 7 * f + 1 + 2 * switches + (2 * n + 1) * events + (n + 1) * entries + 3 * commands
 
 -- a bound on the turns of a closing behind a past
 abbrev pub most_by : {B : Type 0} → (ℕ → ℕ → ℕ → ℕ → ℕ → ℕ) → Scene B → List (List SaveResult) → List (JournalEntry B) → List (JournalEntry B) → ℕ

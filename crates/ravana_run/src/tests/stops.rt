@@ -17,9 +17,9 @@ const BASE: &[&str] = &[
 /// What the closing takes behind so many steps of them.
 const CLOSINGS: [u64; 13] = [8, 8, 8, 8, 17, 17, 17, 16, 16, 16, 16, 13, 13];
 
-/// The sharper bound on the turns of a closing, of three controllers and a switch, where it finds nothing left to do: f f + 10 f + 1,
+/// The sharper bound on the turns of a closing, of three controllers and a switch, where it finds nothing left to do: f f + 7 f + 1,
 /// and 2 for each switch.
-const IDLE_BOUND: u64 = 1 + 10 + 1 + 2;
+const IDLE_BOUND: u64 = 1 + 7 + 1 + 2;
 
 /// And where a switch holds an event with a command, which no member that closes knows as processed: 2 n + 1 for the event, and 3 for
 /// the command. Entries that no member knows as committed would only raise it.

@@ -23,7 +23,7 @@ use Rattle.group_controller.specs.State.{ControllerState}
 use Rattle.group_controller.specs.Turns.{Controlling, state_of}
 use Rattle.rv_runs.specs.States.{Scene, Sealing}
 use Rattle.rv_runs.specs.Committed.{members_up, states_of}
-use Rattle.rv_runs.specs.Schedule.{Phase, Losing, Met, Move, Answer, Takes, Ends, IsPosted, IsEnd, closing_view, majority, quorum_of, next_drained, next_lost, next_move, next_suspicion, next_view, ClosesTo, Closes}
+use Rattle.rv_runs.specs.Schedule.{Phase, Losing, Met, Move, Answer, Ends, IsPosted, IsEnd, closing_view, majority, quorum_of, next_drained, next_lost, next_move, next_suspicion, next_view, ClosesTo}
 use Rattle.rv_runs.specs.Schedule as schedule
 use Rattle.rv_world.specs.declared.debt.Debt.{Debt}
 use Rattle.rv_world.specs.World.{AreMore, AreTold, Holds, IfMemory, IsDebtor, Keeps, PairsStand, Worlding, posts_of, results_in, scene_in}

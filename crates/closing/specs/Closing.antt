@@ -1,11 +1,9 @@
 -- How a closing goes on in a world, whatever becomes of later saves.
 use Rattle.std.specs.Prelude.{◌≡◌, ◌<◌, ◌≤◌, ℕ, ◌+◌, ◌-◌, ◌%◌, suc, max, Bool, true, false, not, nat_eq, List, [], ◌∷◌, ◌++◌, length, map, slice_get, Option, Some, None, Result, Ok, Err, if◌then◌else◌}
-use Rattle.std.specs.List.{AllByRecursion, list_any}
+use Rattle.std.specs.List.{list_any}
 use Rattle.rv_base.specs.declared.journal.Actor.{Actor}
 use Rattle.rv_base.specs.declared.journal.Actor.TheVariants as actor
 use Rattle.rv_base.specs.declared.journal.JournalEntry.{JournalEntry}
-use Rattle.rv_base.specs.declared.journal.JournalEntry.TheVariants.{Local}
-use Rattle.rv_base.specs.declared.journal.Local.{Local as LocalInput}
 use Rattle.rv_base.specs.declared.journal.Local.TheVariants as local
 use Rattle.rv_base.specs.declared.journal.Packet.{Packet}
 use Rattle.rv_base.specs.declared.journal.SaveResult.{SaveResult}
@@ -21,7 +19,7 @@ use Rattle.group_controller.specs.State.{ControllerState}
 use Rattle.group_controller.specs.Turns.{Controlling, state_of}
 use Rattle.rv_runs.specs.States.{Scene, Sealing}
 use Rattle.rv_runs.specs.Committed.{members_up}
-use Rattle.rv_runs.specs.Schedule.{Phase, Losing, Met, Move, Answer, IsPosted, IsEnd, majority, next_move, next_suspicion, next_drained, ClosesTo, Closes}
+use Rattle.rv_runs.specs.Schedule.{Phase, Losing, Met, Move, Answer, majority, next_move, next_suspicion, next_drained, ClosesTo, Closes}
 use Rattle.rv_runs.specs.Schedule as schedule
 use Rattle.rv_laws.specs.Laws.{IsSuspectedUpTo}
 use Rattle.rv_world.specs.World.{AreMore, Holds, IsStuck, Worlding, results_in, scene_in}

@@ -22,7 +22,7 @@ use Rattle.ravana_run.specs.declared.service.Service.TheVariants as service
 use Rattle.ravana_run.specs.Audited.{report_limit, too_large}
 use Rattle.ravana_run.specs.Ending.{ending_status, ending_text, EndsRead, EndsReport, EndsRun, EndsScenario}
 use Rattle.ravana_run.specs.Service.{limit_of}
-use Rattle.ravana_run.specs.Outcome.{Outcome, statuses, statuses_of_audit, HasRead, To_the_end, Past_the_limit, IsUnserved, IsAudit, IsAsked, Of_bytes, Of_numbers, is_served_job, service_for}
+use Rattle.ravana_run.specs.Outcome.{Outcome, statuses, statuses_of_audit, HasRead, To_the_end, Past_the_limit, IsUnserved, IsAudit, IsAsked, Of_bytes, Of_numbers, service_for}
 use Rattle.ravana_run.specs.Outcome as outcome
 use Rattle.ravana_run.specs.Runs.{Telling}
 use Rattle.ravana_run.proofs.Complete.{no_audit, no_audit_made, never_served}

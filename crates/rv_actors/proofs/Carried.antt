@@ -1,6 +1,6 @@
 -- A run whose bodies are replaced by others that say the same is a run again, and takes the same steps.
-use Rattle.std.proofs.Common.{◌≡◌, ◌≢◌, ◌≤◌, ◌<◌, ℕ, ◌+◌, ◌-◌, Bool, true, false, List, [], ◌∷◌, length, map, drop, zero, refl, sym, ◌∙◌, ap, subst}
-use Rattle.std.specs.Prelude.{nat_le, ◌&&◌, Option, Some, None, sum_by, if◌then◌else◌}
+use Rattle.std.proofs.Common.{◌≡◌, ◌≢◌, ◌<◌, ℕ, ◌+◌, ◌-◌, Bool, true, List, [], ◌∷◌, length, map, zero, refl, sym, ◌∙◌, ap, subst}
+use Rattle.std.specs.Prelude.{nat_le, ◌&&◌, Option, Some, None, if◌then◌else◌}
 use Rattle.std.specs.List.{AllByRecursion, range_with_len}
 use Rattle.std.proofs.lemmas.Bool.{and_parts, leb-true}
 use Rattle.std.proofs.lemmas.List.{length-map}
@@ -44,7 +44,7 @@ use Rattle.exactly_once.specs.Facts.{PastFacts, facts_of}
 use Rattle.exactly_once.specs.Invariant.{Forwarded, Holds, IsOrder, IsReport, Reported, ToMember, ToSwitch}
 use Rattle.exactly_once.proofs.Packets.{reported_valid, told_valid}
 use Rattle.rv_laws.proofs.Laws.{always}
-use Rattle.rv_actors.proofs.Carrying.{carried, carried_entry, carried_found, carried_letters, carried_packet, carried_part, any_carried, drawn_carried, input_carried, map_same, part_carried, pool_carried, posted_carried, same_actors, waiting_carried}
+use Rattle.rv_actors.proofs.Carrying.{carried, carried_entry, carried_found, carried_letters, carried_packet, carried_part, any_carried, input_carried, map_same, part_carried, pool_carried, posted_carried, same_actors, waiting_carried}
 
 -- what an actor says can be sealed, on the way of its kind
 abbrev pub CanSay : {A : Type 0} → (A → Message) → Actor → Letter A → Type 0

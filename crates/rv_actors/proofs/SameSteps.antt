@@ -1,6 +1,5 @@
 -- Runs over messages are runs over bytes, and the other way round.
-use Rattle.std.proofs.Common.{◌≡◌, ◌≤◌, ◌<◌, ℕ, ◌+◌, ◌-◌, ◌^◌, List, [], ◌∷◌, length, map, refl, sym, ◌∙◌, ap, subst, arith}
-use Rattle.std.specs.Prelude.{min, Option, Some}
+use Rattle.std.proofs.Common.{◌≡◌, ℕ, List, [], ◌∷◌, map, refl, sym, ◌∙◌, ap, subst}
 use Rattle.std.specs.List.{AllByRecursion}
 use Rattle.of_types.specs.declared.message.OfMessage.TheVariants as plain
 use Rattle.of_types.specs.declared.message.Spoken.TheVariants as spoken
@@ -10,15 +9,12 @@ use Rattle.rv_base.specs.declared.journal.Actor.{Actor}
 use Rattle.rv_base.specs.declared.journal.JournalEntry.{JournalEntry}
 use Rattle.rv_base.specs.declared.journal.JournalEntry.TheVariants.{Post, Draw, Lose, Local, Idle, Refused}
 use Rattle.rv_base.specs.declared.journal.Letter.{Letter}
-use Rattle.rv_base.specs.declared.journal.Packet.{Packet}
 use Rattle.rv_base.specs.declared.journal.SaveResult.{SaveResult}
 use Rattle.rv_base.specs.Part.{part}
 use Rattle.rv_base.specs.Pool.{pool}
 use Rattle.rv_base.specs.Turns.{entry_of}
 use Rattle.rv_base.specs.declared.journal.Actor.TheVariants as actor
-use Rattle.rv_base.specs.declared.journal.Turn.{Turn}
 use Rattle.lists.proofs.Elements.{all_in}
-use Rattle.lists.specs.Lists.{IsIn}
 use Rattle.rv_bodies.specs.declared.typed.Typed.{Typed}
 use Rattle.rv_runs.specs.declared.messages.Message.{Message}
 use Rattle.rv_runs.specs.declared.messages.Message.TheVariants as message
@@ -27,10 +23,10 @@ use Rattle.rv_runs.specs.declared.messages.Unsealed.TheVariants as unsealed
 use Rattle.rv_runs.specs.declared.messages.Way.{Way}
 use Rattle.rv_runs.specs.Bodies.{byte_bodies, bytes_said, message_bytes}
 use Rattle.rv_runs.specs.Legal.{IsPossible}
-use Rattle.rv_runs.specs.Messages.{FitsMessage, IsValidMessage, message_size, way_of, way_of_message}
+use Rattle.rv_runs.specs.Messages.{FitsMessage, IsValidMessage, way_of, way_of_message}
 use Rattle.rv_runs.specs.Committed.{decided}
 use Rattle.rv_runs.specs.Legal.{results_of}
-use Rattle.rv_runs.specs.States.{ControllerAt, IsFaithful, SwitchAt, controller_at, switch_at}
+use Rattle.rv_runs.specs.States.{IsFaithful, controller_at, switch_at}
 use Rattle.rv_runs.proofs.Bodies.{bytes_again, own_again}
 use Rattle.rv_runs.proofs.Pasts.{possible_before}
 use Rattle.rv_actors.specs.Bare.{bare, bare_entry, bare_letters, bare_packet, scene_bytes, scene_typed, typed_bodies}

@@ -1,7 +1,6 @@
 -- Two worlds of one journal, over messages and over bytes.
 use Rattle.std.proofs.Common.{◌≡◌, ◌<◌, ℕ, zero, suc, List, [], ◌∷◌, ◌++◌, length, map, reverse, refl, sym, ◌∙◌, ap, subst, arith}
-use Rattle.std.specs.Prelude.{slice_get, Some, Option, None}
-use Rattle.std.specs.List.{range_with_len}
+use Rattle.std.specs.Prelude.{slice_get, Some}
 use Rattle.std.proofs.lemmas.List.{length-map, reverse-append}
 use Rattle.std.proofs.lemmas.Option.{slice_get_within}
 use Rattle.of_types.specs.declared.setup.Setup.{Setup}
@@ -17,7 +16,6 @@ use Rattle.rv_base.specs.Turns.{entry_of}
 use Rattle.group_controller.specs.State.{ControllerState}
 use Rattle.group_controller.specs.Turns.{Controlling, state_of}
 use Rattle.of_switch.specs.State.{SwitchState}
-use Rattle.vr_log.specs.declared.entry.Entry.{Entry}
 use Rattle.rv_bodies.specs.declared.typed.Typed.{Typed}
 use Rattle.rv_runs.specs.declared.messages.Message.{Message}
 use Rattle.rv_runs.specs.Bodies.{byte_bodies, message_bytes}
@@ -25,7 +23,7 @@ use Rattle.rv_runs.specs.Committed.{controller_state, decided, switch_state}
 use Rattle.rv_runs.specs.Legal.{results_of}
 use Rattle.rv_runs.specs.States.{ControllerAt, SwitchAt, controller_at, controller_message, sealed_letters, switch_at, switch_message}
 use Rattle.rv_runs.proofs.Pasts.{from_some}
-use Rattle.rv_world.specs.World.{AreMore, HoldsAt, Worlding, debt_of, results_in}
+use Rattle.rv_world.specs.World.{HoldsAt, Worlding, debt_of, results_in}
 use Rattle.rv_world.proofs.Growing.{no_more}
 use Rattle.rv_actors.specs.Bare.{bare, bare_entry, bare_letters, scene_bytes, scene_typed, typed_bodies}
 use Rattle.rv_actors.specs.SameSteps.{AreTwins, IsAsBytes, TakeTheSameSteps, TwinsTakeTheSameSteps}

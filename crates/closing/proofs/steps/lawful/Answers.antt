@@ -1,4 +1,3 @@
-use Rattle.std.proofs.Common.{◌≡◌, ◌<◌, ◌≤◌, ℕ, sym, ◌∙◌, ap, subst, arith}
 use Rattle.rv_laws.proofs.Laws.{waits_law}
 use Rattle.closing.proofs.Worlds.{views_known}
 use Rattle.closing.proofs.steps.lawful.Goals as goal

@@ -55,9 +55,6 @@ following_work kinds setup c step e = rw e refl
 module _ {B : Type 0} (scene : Scene B) (results : List (List SaveResult)) (w : ℕ) (quorum : List ℕ) (start : Start)
     (holds : HoldsThroughout scene results w quorum start) (P : List (JournalEntry B)) (m : Sent) (rest : List Sent) (h : HeadOf scene.sealing (pool P) m rest)
     (s : standing.Stands scene results w quorum start P (m ∷ rest)) (possible : IsPossible scene results P) (b : ℕ) (from : m.from ≡ actor.Controller (w % scene.setup.controllers)) (to : m.to ≡ actor.Controller b) (chosen : has quorum b ≡ true) (other : b ≡ w % scene.setup.controllers → ⊥) where
-  abbrev n : ℕ
-  n = scene.setup.controllers
-
   abbrev p : ℕ
   p = w % scene.setup.controllers
 

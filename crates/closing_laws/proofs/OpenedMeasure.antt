@@ -2,7 +2,6 @@
 use Rattle.std.proofs.Common.{◌≡◌, ◌≤◌, ◌<◌, ◌⊎◌, inl, inr, ℕ, ◌+◌, ◌-◌, ◌*◌, ◌/◌, ◌%◌, true, List, map, length, take, filter, refl, sym, ◌∙◌, ap, subst, arith}
 use Rattle.std.specs.Prelude.{sum_by}
 use Rattle.std.specs.List.{range_with_len}
-use Rattle.lists.specs.Lists.{IsPrefix}
 use Rattle.of_types.specs.declared.message.Event.{Event}
 use Rattle.of_types.specs.Lives.{count_in}
 use Rattle.of_types.specs.Setups.{IsSetup}
@@ -31,7 +30,6 @@ use Rattle.closing_laws.proofs.AnswerWorths.{primary_worths, told_worth}
 use Rattle.closing_laws.proofs.Carrying.{sw}
 use Rattle.closing_laws.proofs.Leading as leading
 use Rattle.closing_laws.proofs.Opened as opened_by
-use Rattle.closing_laws.proofs.OpeningTurn as opens
 use Rattle.closing_laws.proofs.SwitchAsked.{older_other}
 use Rattle.closing_laws.proofs.Picked.{IsPicked}
 use Rattle.closing_laws.proofs.PrimaryLowers.{place_known, place_of}
@@ -136,27 +134,8 @@ module _ {B : Type 0} (scene : Scene B) (results : List (List SaveResult)) (setu
       ap (λ (c : ControllerState). received c.vr.log) now_is
       ∙ measure.events_same scene.kinds scene.setup quorum f (place_of start) switches work enough lead.one lead.commit whole (place_known start leader lead)
 
-  -- and its log goes on
-  pub longer : IsPrefix leader.log (controller_state scene results p begin).vr.log
-  longer =
-      subst (λ (c : ControllerState). IsPrefix leader.log c.vr.log) (sym now_is)
-      (opens.grown scene.kinds scene.setup few w quorum members best (opened_by.picked scene results setup faithful few before entries last best a s chosen small older) small
-      (opened_by.ready scene results setup faithful few before entries last best a s chosen small older) s.covered chosen s.started.voters s.started.promise switches
-      (opened_by.older_then scene results setup faithful few before entries last best a s chosen small older)).log
-
-  -- in a group of several no more is committed by that
-  pub same_commit : 0 < n / 2 → (controller_state scene results p begin).vr.commit ≡ leader.commit
-  same_commit some =
-      ap (λ (c : ControllerState). c.vr.commit) now_is
-      ∙ opens.same_commit scene.kinds scene.setup few w quorum members best (opened_by.picked scene results setup faithful few before entries last best a s chosen small older) small
-      (opened_by.ready scene results setup faithful few before entries last best a s chosen small older) s.covered chosen s.started.voters s.started.promise switches
-      (opened_by.older_then scene results setup faithful few before entries last best a s chosen small older) some
-
   pub known_within : start.known ≤ leader.commit
   known_within = lead.known
-
-  pub within : leader.commit ≤ length leader.log
-  within = lead.commit
 
   -- what it says first: that the view has started
   said_first : primary_worths quorum leader.me work.letters ≡ 2 * f

@@ -208,9 +208,6 @@ module _ {B : Type 0} (scene : Scene B) (results : List (List SaveResult)) (setu
     events_same : received c.vr.log ≡ received leader.log
     events_same = measure.events_same scene results setup faithful few before entries last best a starts is_best.member small older
 
-    longer : IsPrefix leader.log c.vr.log
-    longer = measure.longer scene results setup faithful few before entries last best a starts is_best.member small older
-
     -- what the members knew as committed was decided
     place_decided : place_known (closing_members scene results before) ≤ length was
     place_decided = place_below scene results before a.most (length was) (λ j member. known scene results setup faithful before possible_first j (small j member))

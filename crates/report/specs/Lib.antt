@@ -7,4 +7,3 @@ pub mod Records
 pub mod Report
 pub mod Writable
 pub mod Spelled
-pub mod Writing

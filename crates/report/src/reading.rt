@@ -19,6 +19,9 @@ use crate::switch_lines::switches;
 use of_types::Octets;
 use std::alloc::{AllocError, Global};
 
+/// The most bytes of a report.
+pub const REPORT_LIMIT: usize = 268_435_456;
+
 #[tactic(auto, unfolding(crate::specs::OneLine::first_line_at))]
 fn first_line(bytes: &[u8]) -> Result<&[u8], Misfit>
     ensures { Gives (λ x. x.now) result (first_line_at bytes.now) }

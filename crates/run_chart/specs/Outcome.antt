@@ -2,10 +2,11 @@
 use Rattle.std.specs.Prelude.{◌≡◌, ◌<◌, ◌≤◌, ℕ, List, ◌++◌, length, Option, None, Err, IsOk, codes, [], ◌∷◌}
 use Rattle.std.specs.Io.KnownBytes.{Consumes, IsAtEnd}
 use Rattle.report.specs.Reading.{report_at}
-use Rattle.report.specs.Report.{line, number, newline}
+use Rattle.report.specs.Report.{newline}
 use Rattle.run_chart.specs.declared.outcome.Ending.{Ending}
 use Rattle.run_chart.specs.declared.outcome.Ending.TheVariants.{Drawn, Usage, TooLarge, Unread, Differs}
-use Rattle.run_chart.specs.declared.outcome.TheConstants.{REPORT_LIMIT}
+use Rattle.report.specs.declared.reading.TheConstants.{REPORT_LIMIT}
+use Rattle.endings.specs.Lines.{unread_line, differs_line}
 use Rattle.run_chart.specs.Words.{window_of}
 
 unfoldable pub usage_line : List ℕ
@@ -13,12 +14,6 @@ usage_line = codes "fault 2 usage: run_chart, or run_chart FIRST LAST" ++ newlin
 
 unfoldable pub size_line : List ℕ
 size_line = codes "fault 3 size top" ++ newline
-
-unfoldable pub unread_line : List ℕ
-unread_line = codes "fault 4 read" ++ newline
-
-unfoldable pub differs_line : ℕ → List ℕ
-differs_line n = line (codes "differs") (codes "line" ∷ number n ∷ [])
 
 -- The end that bytes have: a picture if they are a report, else the first line that is none of a report's
 abbrev pub EndsBytes : List ℕ → Ending → Type 0

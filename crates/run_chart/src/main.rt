@@ -4,24 +4,15 @@
 mod outcome;
 mod window;
 
+use endings::{NO_MEMORY, words_of};
 use rv_base::{StdSink, StdSource};
-use std::env;
 use std::io::{self, ErrorKind};
 use std::process::ExitCode;
-
-/// The words behind the program's name. One that is no text is an error.
-fn words(rt: &HostRuntime) -> io::Result<Vec<String>> {
-    let mut words = Vec::new(rt.alloc());
-    for word in env::args(rt)?.skip(1) {
-        words.push(word)?;
-    }
-    Ok(words)
-}
 
 /// The status of a call with the program's words, input and output. Words of which one is no text are served as a word that
 /// is not accepted.
 fn serve(rt: &HostRuntime) -> io::Result<u8> {
-    let words = match words(rt) {
+    let words = match words_of(rt) {
         Err(error) if error.kind() != ErrorKind::OutOfMemory => {
             vec![in rt.alloc(); String::new(rt.alloc())]?
         }
@@ -33,5 +24,5 @@ fn serve(rt: &HostRuntime) -> io::Result<u8> {
 }
 
 fn main(rt: HostRuntime) -> ExitCode {
-    ExitCode::from(serve(&rt).unwrap_or(outcome::NO_MEMORY))
+    ExitCode::from(serve(&rt).unwrap_or(NO_MEMORY))
 }

@@ -2,24 +2,18 @@
 ghost use Rattle.std.specs.Prelude.{◌≡◌, ◌≢◌, map, string_bytes, IfOk};
 ghost use Rattle.std.specs.Io.KnownBytes.{Appends};
 ghost use Rattle.rv_base.specs.Causes.{Rose};
+ghost use Rattle.endings.specs.Lines.{text_bytes};
 ghost use Rattle.run_chart.specs.declared.outcome.Ending.{Ending};
 ghost use Rattle.run_chart.specs.Outcome as out;
 
 use crate::window::window_of;
 use chart::{Window, draw, svg};
+use endings::{NO_MEMORY, Text, WRITE_FAILED, differs_line, unread_line};
 use of_types::Octets;
-use report::{ReportFault, read_report, write_all, write_newline, write_number, write_word};
+use report::{REPORT_LIMIT, ReportFault, read_report};
 use rv_base::{Sink, Source};
-use scenario::{InputFault, read_input};
 use std::alloc::{AllocError, Global};
-
-/// The most bytes of a report, which an audit takes too.
-const REPORT_LIMIT: usize = 268_435_456;
-
-/// The status of a call whose sink failed, and of one that found no memory.
-const WRITE_FAILED: u8 = 5;
-
-pub const NO_MEMORY: u8 = 6;
+use streams::{StreamFault, read_input, write_all};
 
 /// How a call ended, before anything is written.
 #[derive(Drop)]
@@ -36,17 +30,6 @@ pub enum Ending {
     Differs { line: u64 },
 }
 
-#[tactic(auto, unfolding(crate::specs::Outcome::differs_line, report::specs::Report::line, report::specs::Report::number))]
-fn differs_line(alloc: Global, number: u64) -> Result<Octets, AllocError>
-    ensures { IfOk result (λ line. line ≡ out.differs_line number) }
-{
-    let mut line = Octets::from_slice(alloc, b"differs")?;
-    write_word(&mut line, b"line")?;
-    write_number(&mut line, number)?;
-    write_newline(&mut line)?;
-    Ok(line)
-}
-
 impl Ending {
     /// The status of a call that ended so.
     fn status(&self) -> u8
@@ -61,20 +44,19 @@ impl Ending {
         }
     }
 
-    /// What is written.
-    #[tactic(auto, unfolding(crate::specs::Outcome::size_line, crate::specs::Outcome::unread_line, crate::specs::Outcome::usage_line))]
-    fn into_text(self, alloc: Global) -> Result<Octets, AllocError>
-        ensures { IfOk result (λ text. text ≡ out.ending_text self) }
+    /// What is written. Only a picture and a line that differs take memory.
+    #[tactic(auto, unfolding(crate::specs::Outcome::size_line, crate::specs::Outcome::usage_line))]
+    fn into_text(self, alloc: Global) -> Result<Text, AllocError>
+        ensures { IfOk result (λ text. text_bytes text ≡ out.ending_text self) }
     {
         match self {
-            Ending::Drawn(text) => Ok(text),
-            Ending::Usage => Octets::from_slice(
-                alloc,
+            Ending::Drawn(text) => Ok(Text::Own(text)),
+            Ending::Usage => Ok(Text::Fixed(
                 b"fault 2 usage: run_chart, or run_chart FIRST LAST\n",
-            ),
-            Ending::TooLarge => Octets::from_slice(alloc, b"fault 3 size top\n"),
-            Ending::Unread => Octets::from_slice(alloc, b"fault 4 read\n"),
-            Ending::Differs { line } => differs_line(alloc, line),
+            )),
+            Ending::TooLarge => Ok(Text::Fixed(b"fault 3 size top\n")),
+            Ending::Unread => Ok(Text::Fixed(unread_line())),
+            Ending::Differs { line } => Ok(Text::Own(differs_line(alloc, line)?)),
         }
     }
 }
@@ -105,8 +87,8 @@ fn outcome<S: Source>(alloc: Global, words: &[String], source: &mut S) -> Result
     };
     match read_input(alloc, source, REPORT_LIMIT) {
         Ok(bytes) => end_of_report(alloc, bytes.as_slice(), window),
-        Err(InputFault::Failed) => Ok(Ending::Unread),
-        Err(InputFault::OutOfMemory) => Err(AllocError),
+        Err(StreamFault::Failed) => Ok(Ending::Unread),
+        Err(StreamFault::OutOfMemory) => Err(AllocError),
     }
 }
 

@@ -10,7 +10,7 @@ use Rattle.rv_base.specs.declared.journal.Turn.{Turn}
 use Rattle.rv_base.specs.declared.journal.Turn.TheVariants as turn
 use Rattle.rv_base.specs.Actors.{IsActor}
 use Rattle.rv_base.specs.Turns.{turn_actor}
-use Rattle.scenario.specs.declared.input.TheConstants.{SCENARIO_LIMIT}
+use Rattle.scenario.specs.declared.reading.TheConstants.{SCENARIO_LIMIT}
 use Rattle.scenario.specs.declared.limits.TheConstants.{MOST_VIEW}
 use Rattle.scenario.specs.declared.scenario.Fault.{Fault}
 use Rattle.scenario.specs.declared.scenario.FaultKind.TheVariants.{Size, Json, Limit}

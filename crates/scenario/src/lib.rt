@@ -3,7 +3,6 @@
 
 mod generator;
 mod grammar;
-mod input;
 mod json;
 mod limits;
 mod reading;
@@ -11,6 +10,5 @@ mod scenario;
 mod written;
 
 pub use generator::generate;
-pub use input::{InputFault, SCENARIO_LIMIT, read_input};
-pub use reading::read_scenario;
+pub use reading::{SCENARIO_LIMIT, read_scenario};
 pub use scenario::{Fault, FaultKind, FaultPlace, Scenario, ScenarioFault, Steps};

@@ -12,7 +12,6 @@ ghost use Rattle.scenario.specs.Scenario.{Gives, IsScenario, text_of, json_of, s
 ghost use Rattle.scenario.specs.Written.{written_of};
 
 use crate::grammar::{link_of, lists_of, rule_of, step_of, switch_of};
-use crate::input::SCENARIO_LIMIT;
 use crate::limits::scenario_within;
 use crate::scenario::{FaultKind, FaultPlace, Scenario, ScenarioFault};
 use crate::written::{Written, WrittenLink, WrittenRule, WrittenStep, WrittenSwitch};
@@ -20,6 +19,9 @@ use of_types::Items;
 use serde_json::Value;
 use std::alloc::{AllocError, Global};
 use std::str;
+
+/// The most bytes of a scenario.
+pub const SCENARIO_LIMIT: usize = 16_777_216;
 
 /// What stands in one of the lists of a scenario.
 trait Listed: Drop {

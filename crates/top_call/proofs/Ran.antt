@@ -1,0 +1,341 @@
+-- What the run of a scenario is, once it was played.
+use Rattle.std.proofs.Common.{◌≡◌, ◌≤◌, ◌<◌, ◌⊎◌, inl, inr, ℕ, zero, suc, ◌+◌, List, [], ◌∷◌, ◌++◌, length, map, refl, sym, ◌∙◌, ap, subst, arith}
+use Rattle.std.specs.Prelude.{◌-◌, ◌^◌, count_by, reverse, slice_get, slice_index_or, Some, IfOk, IfErr, Result, Ok, Err}
+use Rattle.std.specs.List.{AllByRecursion, range_with_len}
+use Rattle.std.proofs.lemmas.Bool.{cases_lt}
+use Rattle.std.proofs.lemmas.List.{length-map}
+use Rattle.std.proofs.lemmas.Option.{slice_get_within}
+use Rattle.of_types.specs.declared.setup.Setup.{Setup}
+use Rattle.rv_base.specs.declared.journal.JournalEntry.{JournalEntry}
+use Rattle.rv_base.specs.declared.journal.SaveResult.{SaveResult}
+use Rattle.rv_base.specs.declared.journal.SaveResult.TheVariants.{Saved}
+use Rattle.rv_base.specs.declared.journal.Turn.{Turn}
+use Rattle.rv_base.specs.Pool.{past}
+use Rattle.rv_base.specs.Turns.{IsWithinLimits}
+use Rattle.rv_base.proofs.All.{all_get}
+use Rattle.group_controller.specs.Turns.{Controlling, state_of, pair_in}
+use Rattle.of_switch.specs.State.{SwitchState}
+use Rattle.of_types.specs.Setups.{IsSetup}
+use Rattle.rv_laws.proofs.Told.{told_law}
+use Rattle.rv_laws.proofs.Laws.{agreement_law, lasting_law, once_law, fence_law}
+use Rattle.rv_runs.specs.Bound.{IsQuick, IsSharplyBounded}
+use Rattle.rv_runs.specs.Committed.{count_up, decided, members_up, switch_state}
+use Rattle.rv_runs.specs.Legal.{IsLegalPast, IsPossible, results_of}
+use Rattle.rv_runs.specs.Schedule.{Answer, Closes, FollowsInOrder, IsBegun, count_turns, majority}
+use Rattle.rv_runs.specs.Schedule as schedule
+use Rattle.rv_runs.specs.States.{Scene, controller_at}
+use Rattle.rv_base.specs.declared.journal.Actor.TheVariants as actor
+use Rattle.rv_base.specs.Part.{part}
+use Rattle.rv_runs.specs.Bodies.{byte_bodies}
+use Rattle.rv_runs.proofs.Bodies.{bytes_again}
+use Rattle.rv_runs.proofs.Pasts.{from_some}
+use Rattle.rv_runs.proofs.Playing.{all_saved, the_one_journal}
+use Rattle.rv_base.specs.declared.wire.Stop.{Stop}
+use Rattle.rv_base.specs.declared.wire.Stop.TheVariants.{OutOfMemory, JournalFull}
+use Rattle.rv_world.specs.World.{AreMore, Holds, IfMemory, Keeps, PairsStand, StartsAs, Worlding, is_failed, results_in, scene_in}
+use Rattle.rv_world.proofs.Growing.{no_more}
+use Rattle.rv_world.proofs.Places.{results_at}
+use Rattle.closing.specs.declared.closed.Closed.{Closed}
+use Rattle.closing.specs.declared.closed.Closed.TheVariants as closed
+use Rattle.closing.specs.Closing.{HasMajority, answer_of, up_in}
+use Rattle.closing.proofs.Lists.{map_range}
+use Rattle.closing.proofs.Parts.{few_members}
+use Rattle.vr_log.specs.declared.entry.LogFull.{LogFull}
+use Rattle.closing_laws.specs.Ends.{HasRested}
+use Rattle.closing_laws.specs.Given.{given_by}
+use Rattle.closing_laws.specs.Quick.{WhereSavesSucceed}
+use Rattle.closing_laws.specs.Stops.{IsAtLimit}
+use Rattle.closing_laws.proofs.Limits.{limits_law}
+use Rattle.closing_laws.proofs.QuickClosings.{quick_law, sharp_law}
+use Rattle.closing_laws.proofs.Quorate.{quorum_law}
+use Rattle.closing_laws.proofs.Rested.{rest_law}
+use Rattle.dispatcher.specs.Ledger.{most_commands}
+use Rattle.closing.proofs.Turned.{past_joined}
+use Rattle.closing.proofs.Worlds.{Runs, states_are}
+use Rattle.scenario.specs.declared.scenario.Scenario.{Scenario}
+use Rattle.report.specs.declared.record.Record.{Record}
+use Rattle.report.specs.Fits.{FitsRecord}
+use Rattle.report.specs.Writable.{IsWritable}
+use Rattle.rv_record.specs.Shows.{Shows, told_by, told_of}
+use Rattle.playing.specs.Played.{HasPlayed, RunStops}
+use Rattle.top_call.specs.declared.sim.Output.{Output}
+use Rattle.top_call.specs.Play.{AreFresh, IfDone, IfReport, StopsAs, ending_by, told_text}
+use Rattle.top_call.proofs.Recorded.{one_record, told_writable}
+use Rattle.top_call.specs.declared.ending.Ending.{Ending}
+use Rattle.top_call.specs.Ending.{EndsRun}
+use Rattle.top_call.specs.Runs.{AreSaved, HasRun, IsDone, IsLawful, IsLeft, IsOverfull, IsTheOne, IsUnposted, StablesTell, scene_for}
+use Rattle.top_call.proofs.Playing.{rest_is, within_journal}
+
+-- of the first stables
+there_is : {X : Type 0} (xs : List X) (i : ℕ) → i < length xs → (x : X) × (slice_get xs i ≡ Some x)
+there_is [] i less = absurd (omega (arith, less))
+there_is (x ∷ xs) zero less = (x, refl)
+there_is (x ∷ xs) (suc i) less = there_is xs i (omega (arith, less))
+
+pub fresh_pairs : {A W : Type 0} (controls : Controlling A → List ℕ → Type 0) (pair : W → ℕ × ℕ) (stables : List W) (setup : Setup) (w : Worlding (List ℕ) A) (kinds : List ℕ) → AreFresh pair stables → StartsAs setup w →
+    Holds controls byte_bodies w kinds → PairsStand pair stables w.controllers
+fresh_pairs controls pair stables setup w kinds fresh starts holds c x found =
+    let within = slice_get_within w.controllers c x found in
+    let group = holds.run.group in
+    let few = few_members (scene_in byte_bodies w kinds) w holds.run in
+    let count = fresh.count in
+    let s = there_is stables c (omega (arith, within, few, count, group)) in
+    (s.0, s.1, all_get (λ stable. pair stable ≡ (0, 0)) stables c s.0 fresh.each s.1 ∙ sym (starts.pairs c x found))
+
+none_left : {X : Type 0} (xs : List X) → length xs ≡ 0 → xs ≡ []
+none_left [] h = refl
+none_left (x ∷ xs) h = cc
+
+module _ {A W : Type 0} (controls : Controlling A → List ℕ → Type 0) (pair : W → ℕ × ℕ) (faults : W → ℕ) (scenario : Scenario) (kinds : List ℕ)
+    (start : Worlding (List ℕ) A) (stables : List W) (w : Worlding (List ℕ) A) (stables_after : List W)
+    (begins : StartsAs scenario.setup start) (holds : Holds controls byte_bodies start kinds) (pairs : PairsStand pair stables start.controllers)
+    (k : Keeps controls pair faults byte_bodies start stables w stables_after) (within : IsWithinLimits byte_bodies.size (past w.journal)) where
+  abbrev OfRun : Scene (List ℕ)
+  OfRun = scene_for kinds scenario
+
+  abbrev Results : List (List SaveResult)
+  Results = results_in w.controllers
+
+  now_holds : Holds controls byte_bodies w kinds
+  now_holds = k.holds kinds holds
+
+  same_setup : w.setup ≡ scenario.setup
+  same_setup = k.setup ∙ begins.setup_is
+
+  -- the world is that of a run of the scenario
+  runs : Runs controls OfRun w
+  runs = subst (λ (s : Setup). Runs controls (record { setup = s; kinds = kinds; sealing = byte_bodies }) w) same_setup now_holds.run
+
+  first_runs : Runs controls OfRun start
+  first_runs = subst (λ (s : Setup). Runs controls (record { setup = s; kinds = kinds; sealing = byte_bodies }) start) begins.setup_is holds.run
+
+  none_yet : AreMore scenario.setup.controllers Results Results
+  none_yet = no_more scenario.setup.controllers Results
+
+  lawful : IsLawful OfRun Results (past w.journal)
+  lawful = record {
+    agreed = agreement_law OfRun Results (past w.journal) runs.setup bytes_again runs.legal.possible;
+    exactly_once = once_law OfRun Results (past w.journal) runs.setup bytes_again runs.legal.possible;
+    fenced = fence_law OfRun Results (past w.journal) runs.setup bytes_again runs.legal.possible;
+    lasting = lasting_law OfRun Results (past w.journal) runs.setup bytes_again runs.legal.possible;
+  }
+
+  -- no save was made before
+  unsaved : (c : ℕ) (x : Controlling A) → c < scenario.setup.controllers → slice_get start.controllers c ≡ Some x → x.results ≡ []
+  unsaved c x there found =
+      none_left x.results (ap length (sym (results_at start.controllers c x found)) ∙ first_runs.legal.saves c there ∙ ap (λ l. (controller_at OfRun (results_of (results_in start.controllers) c) c (part (actor.Controller c) (past l))).saves) begins.journal)
+
+  -- what the stable pairs tell
+  stables_tell : StablesTell pair faults stables stables_after OfRun Results w.journal
+  stables_tell c there =
+      let m = first_runs.controllers c there in
+      let s = pairs c m.member m.stands in
+      let t = k.told c m.member s.0 m.stands s.1 in
+      let n = runs.controllers c there in
+      let last = k.pairs c t.0 t.2 in
+      let none : m.member.results ≡ [] = unsaved c m.member there m.stands in
+      let more : t.4.more ≡ results_of Results c = sym (results_at w.controllers c t.0 t.2 ∙ t.4.joined ∙ ap (λ l. l ++ t.4.more) none) in
+      record {
+        old = s.0;
+        new = t.1;
+        stood = s.1;
+        stands = t.3;
+        rose = subst (λ l. (faults s.0 + count_by is_failed l ≤ faults t.1) ⊎ (2 ^ 64 - 1 ≤ faults t.1)) more t.4.rose;
+        pair_is = ap pair (from_some t.1 last.0 (sym t.3 ∙ last.1)) ∙ last.2 ∙ ap (λ x. pair_in (state_of x)) (from_some t.0 n.member (sym t.2 ∙ n.stands)) ∙ ap pair_in n.state;
+      }
+
+  -- each save is made, so each succeeds
+  each_saved : (rs : List SaveResult) → AllByRecursion (λ r. r ≡ Saved) rs → (i : ℕ) → slice_index_or rs i Saved ≡ Saved
+  each_saved [] all i = refl
+  each_saved (r ∷ rs) all zero = all.0
+  each_saved (r ∷ rs) all (suc i) = each_saved rs all.1 i
+
+  module _ (count : ℕ) (answer : Answer) (played : HasPlayed (scene_in byte_bodies start kinds) scenario.steps count answer w) where
+    same_scene : (P : Scene (List ℕ) → Type 0) → P (scene_in byte_bodies start kinds) → P OfRun
+    same_scene P h = subst (λ (s : Setup). P (record { setup = s; kinds = kinds; sealing = byte_bodies })) begins.setup_is h
+
+    as_group : AreMore w.setup.controllers Results Results
+    as_group = no_more w.setup.controllers Results
+
+    follows : FollowsInOrder OfRun Results scenario.steps (past played.front)
+    follows = same_scene (λ s. FollowsInOrder s Results scenario.steps (past played.front)) (played.follows Results as_group)
+
+    closes : Closes OfRun Results (past played.front) played.rest answer
+    closes = same_scene (λ s. Closes s Results (past played.front) played.rest answer) (played.closes Results as_group)
+
+    whole : past w.journal ≡ reverse played.rest ++ past played.front
+    whole = ap past played.joined ∙ past_joined played.front played.rest
+
+    one : AreSaved scenario.setup.controllers Results → IsTheOne OfRun scenario.steps w.journal answer
+    one saved =
+        let count_is = length-map w.controllers (λ c. c.results) ∙ runs.group in
+        let found = the_one_journal OfRun scenario.steps (past played.front) played.rest answer (record {
+          results = Results;
+          saved = all_saved Results (λ c less. saved c (omega (arith, less, count_is)));
+          possible = subst (λ l. IsPossible OfRun Results l) whole runs.legal.possible;
+          follows = follows;
+          closes = closes;
+        }) in
+        record { most = found.0; plays_it = found.1 ∙ ap (λ l. record { entries = l; answer = Some answer }) (sym whole) }
+
+    -- a law of closings tells of its closing
+    of_closing : (claim : Scene (List ℕ) → List (List SaveResult) → List (JournalEntry (List ℕ)) → List (JournalEntry (List ℕ)) → Type 0) → WhereSavesSucceed (List ℕ) claim →
+        given_by kinds ≤ most_commands → AreSaved scenario.setup.controllers Results → claim OfRun Results (past played.front) played.rest
+    of_closing claim law given saved =
+        law OfRun Results (past played.front) played.rest closes.last runs.setup bytes_again given (subst (λ l. IsPossible OfRun Results l) whole runs.legal.possible)
+        (λ c i there low. each_saved (results_of Results c) (saved c there) i) (subst (λ l. IsWithinLimits byte_bodies.size l) whole within) closes.steps closes.posted
+
+    pub has_run : HasRun kinds (StablesTell pair faults stables stables_after) scenario answer
+    has_run = record {
+      results = Results;
+      script = played.front;
+      closing = played.rest;
+      journal = w.journal;
+      run = record { joined = played.joined; legal = runs.legal; within = within; follows = follows; closes = closes; lawful = lawful };
+      saved = stables_tell;
+      one = one;
+      quick = of_closing (λ scene results before entries. IsQuick scene results before entries) quick_law;
+      sharp = of_closing (λ scene results before entries. IsSharplyBounded scene results before entries) sharp_law;
+    }
+
+    -- nothing is left undone
+    rested : (primary : ℕ) → answer ≡ schedule.Done primary → given_by kinds ≤ most_commands → HasRested OfRun Results primary (past w.journal)
+    rested primary is given =
+        subst (λ (l : List (JournalEntry (List ℕ))). HasRested OfRun Results primary l) (sym whole)
+        (rest_law OfRun Results (past played.front) played.rest primary runs.setup bytes_again given (subst (λ (l : List (JournalEntry (List ℕ))). IsLegalPast OfRun Results l) whole runs.legal)
+        (subst (λ (x : Answer). Closes OfRun Results (past played.front) played.rest x) is closes) (subst (λ l. IsWithinLimits byte_bodies.size l) whole within))
+
+    -- what is told of it
+    shows : (told : Record) → told ≡ told_by w (length scenario.steps) count → Shows OfRun Results (length scenario.steps) played.rest w.journal told
+    shows told is = record {
+      setup = ap (λ t. t.setup) is ∙ same_setup;
+      journal_is = ap (λ t. t.journal) is;
+      log = ap (λ t. t.log) is ∙ sym (subst (λ (s : Setup). decided (record { setup = s; kinds = kinds; sealing = byte_bodies }) Results (past w.journal) ≡ w.decided) same_setup (now_holds.decided Results as_group));
+      script = ap (λ t. t.script) is;
+      closing_is = ap (λ t. t.closing) is ∙ ap count_turns (rest_is (scene_in byte_bodies start kinds) scenario.steps count answer w played);
+      switches = ap (λ t. t.switches) is ∙ sym (ap (λ n. map (λ s. told_of (switch_state OfRun s (past w.journal))) (range_with_len 0 n)) (sym runs.count)
+          ∙ map_range (λ s. told_of (switch_state OfRun s (past w.journal))) told_of w.switches 0 told_at);
+    }
+      where
+        told_at : (i : ℕ) (x : SwitchState) → slice_get w.switches i ≡ Some x → told_of (switch_state OfRun (0 + i) (past w.journal)) ≡ told_of x
+        told_at i x found =
+            let less = slice_get_within w.switches i x found in
+            let count_is = runs.count in
+            let there : i < length scenario.setup.ports = omega (arith, less, count_is) in
+            let number : 0 + i ≡ i = omega arith in
+            ap (λ n. told_of (switch_state OfRun n (past w.journal))) number ∙ ap told_of (from_some (switch_state OfRun i (past w.journal)) x (sym (runs.switches i there) ∙ found))
+
+  pub is_done : (count primary : ℕ) (output : Output) (told : Record) (written : List ℕ) (played : HasPlayed (scene_in byte_bodies start kinds) scenario.steps count (schedule.Done primary) w) →
+      majority start.setup.controllers ≤ length (up_in w.controllers) → told ≡ told_by w (length scenario.steps) count → written ≡ told_text output told → IfReport output (FitsRecord told) →
+      IsDone kinds (StablesTell pair faults stables stables_after) scenario output written
+  unfolding has_run
+  is_done count primary output told written played up is wrote fits =
+      let group : start.setup.controllers ≡ scenario.setup.controllers = ap (λ (s : Setup). s.controllers) begins.setup_is in
+      let same = states_are controls OfRun w runs Results none_yet in
+      record {
+        primary = primary;
+        ran = has_run count (schedule.Done primary) played;
+        rested = rested count (schedule.Done primary) played primary refl;
+        up = subst (λ n. majority n ≤ count_up OfRun Results (past w.journal)) group (subst (λ l. majority start.setup.controllers ≤ length (members_up l)) (sym same) up);
+        told = told;
+        shows = shows count (schedule.Done primary) played told is;
+        wrote = wrote;
+        one_record = one_record output told written wrote fits (subst (λ (t : Record). IsWritable t) (sym is) (told_writable OfRun Results scenario.steps played.front played.rest (schedule.Done primary) w
+            (subst (λ (s : Setup). IsSetup s) (sym same_setup) runs.setup) same_setup played.joined (follows count (schedule.Done primary) played) (closes count (schedule.Done primary) played) runs.count runs.switches
+            (subst (λ (s : Setup). decided (record { setup = s; kinds = kinds; sealing = byte_bodies }) Results (past w.journal) ≡ w.decided) same_setup (now_holds.decided Results (as_group count (schedule.Done primary) played)))
+            (told_law OfRun Results (past w.journal) runs.setup bytes_again runs.legal.possible) (length scenario.steps) count));
+      }
+
+  pub is_left : (count up needed : ℕ) (played : HasPlayed (scene_in byte_bodies start kinds) scenario.steps count (schedule.NoQuorum up needed) w) → IsLeft kinds (StablesTell pair faults stables stables_after) scenario up needed
+  unfolding has_run
+  is_left count up needed played = record {
+    ran = has_run count (schedule.NoQuorum up needed) played;
+    few = λ saved. elim (cases_lt (count_up OfRun Results (past played.front)) (majority scenario.setup.controllers)) [
+      | inl less ↦ less
+      | inr most ↦
+          absurd (quorum_law OfRun Results (past played.front) played.rest up needed most (λ c i there low. each_saved (results_of Results c) (saved c there) i) (closes count (schedule.NoQuorum up needed) played))
+    ];
+  }
+
+  pub is_overfull : (count : ℕ) (limit : LogFull) (played : HasPlayed (scene_in byte_bodies start kinds) scenario.steps count (schedule.Overfull limit) w) → IsOverfull kinds (StablesTell pair faults stables stables_after) scenario limit
+  unfolding has_run
+  is_overfull count limit played =
+      let at = limits_law OfRun Results (past played.front) played.rest limit runs.setup bytes_again (subst (λ (l : List (JournalEntry (List ℕ))). IsPossible OfRun Results l) (whole count (schedule.Overfull limit) played) runs.legal.possible)
+      (closes count (schedule.Overfull limit) played) in
+      record {
+        ran = has_run count (schedule.Overfull limit) played;
+        controller = at.0;
+        entry = at.1;
+        full = subst (λ (l : List (JournalEntry (List ℕ))). IsAtLimit OfRun Results l limit at.0 at.1) (sym (whole count (schedule.Overfull limit) played)) at.2;
+      }
+
+  pub is_unposted : (bytes letters : ℕ) → IsBegun (scene_in byte_bodies start kinds) Results scenario.steps bytes letters (past w.journal) → IsUnposted kinds (StablesTell pair faults stables stables_after) scenario bytes letters
+  is_unposted bytes letters begun = record {
+    results = Results;
+    journal = w.journal;
+    run = record {
+      legal = runs.legal;
+      within = within;
+      begun = subst (λ (s : Setup). IsBegun (record { setup = s; kinds = kinds; sealing = byte_bodies }) Results scenario.steps bytes letters (past w.journal)) begins.setup_is begun;
+      lawful = lawful;
+    };
+    saved = stables_tell;
+  }
+
+-- how a call ends, by how playing ended
+module _ {A W : Type 0} (controls : Controlling A → List ℕ → Type 0) (pair : W → ℕ × ℕ) (faults : W → ℕ) (scenario : Scenario) (kinds : List ℕ)
+    (start : Worlding (List ℕ) A) (stables : List W) (w : Worlding (List ℕ) A) (stables_after : List W)
+    (begins : StartsAs scenario.setup start) (holds : Holds controls byte_bodies start kinds) (pairs : PairsStand pair stables start.controllers)
+    (within : IsWithinLimits byte_bodies.size (past w.journal)) (taken : List Turn) (same : taken ≡ scenario.steps) where
+  abbrev Kept : Type 0
+  Kept = Keeps controls pair faults byte_bodies start stables w stables_after
+
+  abbrev Ends : Output → Ending → Type 0
+  Ends output e = EndsRun kinds (StablesTell pair faults stables stables_after) output scenario e
+
+  one_ending : (closed : Closed) (count : ℕ) (output : Output) → Kept → HasPlayed (scene_in byte_bodies start kinds) scenario.steps count (answer_of closed) w →
+      HasMajority closed start.setup.controllers (up_in w.controllers) → IfDone closed (IfReport output (FitsRecord (told_by w (length scenario.steps) count))) → Ends output (ending_by closed (told_text output (told_by w (length scenario.steps) count)))
+  one_ending (closed.Done primary) count output k played up fits =
+      is_done controls pair faults scenario kinds start stables w stables_after begins holds pairs k within count primary output (told_by w (length scenario.steps) count) (told_text output (told_by w (length scenario.steps) count)) played up refl refl fits
+  one_ending (closed.NoQuorum up needed) count output k played most fits = is_left controls pair faults scenario kinds start stables w stables_after begins holds pairs k within count up needed played
+  one_ending (closed.Overfull limit) count output k played most fits = is_overfull controls pair faults scenario kinds start stables w stables_after begins holds pairs k within count limit played
+
+  ok_ending : {X : Type 0} (closed : Closed) (count : ℕ) (output : Output) (steps : ℕ) (ended : Result Ending X) → steps ≡ length scenario.steps → Kept → HasPlayed (scene_in byte_bodies start kinds) taken count (answer_of closed) w →
+      HasMajority closed start.setup.controllers (up_in w.controllers) → IfOk ended (λ e. e ≡ ending_by closed (told_text output (told_by w steps count))) → IfOk ended (λ _. IfDone closed (IfReport output (FitsRecord (told_by w steps count)))) → IfOk ended (λ e. Ends output e)
+  ok_ending closed count output steps (Err x) long k played up is fits = tt
+  ok_ending closed count output steps (Ok e) long k played up is fits =
+      subst (λ x. Ends output x) (sym (is ∙ ap (λ n. ending_by closed (told_text output (told_by w n count))) long))
+      (one_ending closed count output k (subst (λ (l : List Turn). HasPlayed (scene_in byte_bodies start kinds) l count (answer_of closed) w) same played) up (subst (λ (n : ℕ). IfDone closed (IfReport output (FitsRecord (told_by w n count)))) long fits))
+
+  -- it came to the end of its closing
+  pub ends_closed : {X : Type 0} (result : Result (Closed × ℕ) Stop) (closed : Closed) (count : ℕ) (output : Output) (steps : ℕ) (ended : Result Ending X) → result ≡ Ok (closed, count) → steps ≡ length scenario.steps →
+      IfMemory result Kept → IfOk result (λ played. HasPlayed (scene_in byte_bodies start kinds) taken played.1 (answer_of played.0) w) → IfOk result (λ played. HasMajority played.0 start.setup.controllers (up_in w.controllers)) →
+      IfOk ended (λ e. e ≡ ending_by closed (told_text output (told_by w steps count))) → IfOk ended (λ _. IfDone closed (IfReport output (FitsRecord (told_by w steps count)))) → IfOk ended (λ e. Ends output e)
+  ends_closed result closed count output steps ended is long k played up ending_is fits =
+      ok_ending closed count output steps ended long
+      (subst (λ (r : Result (Closed × ℕ) Stop). IfMemory r Kept) is k)
+      (subst (λ (r : Result (Closed × ℕ) Stop). IfOk r (λ played. HasPlayed (scene_in byte_bodies start kinds) taken played.1 (answer_of played.0) w)) is played)
+      (subst (λ (r : Result (Closed × ℕ) Stop). IfOk r (λ played. HasMajority played.0 start.setup.controllers (up_in w.controllers))) is up)
+      ending_is fits
+
+  one_stop : {X : Type 0} (stop : Stop) (output : Output) (ended : Result Ending X) → IfMemory {T = Closed × ℕ} (Err stop) Kept → RunStops (scene_in byte_bodies start kinds) taken w stop →
+      IfOk ended (λ e. StopsAs stop e) → IfOk ended (λ e. Ends output e)
+  one_stop stop output (Err x) k stops is = tt
+  one_stop OutOfMemory output (Ok e) k stops never = absurd never
+  one_stop (JournalFull bytes letters) output (Ok e) k stops is =
+      subst (λ x. Ends output x) (sym is)
+      (is_unposted controls pair faults scenario kinds start stables w stables_after begins holds pairs k within bytes letters
+      (subst (λ (l : List Turn). IsBegun (scene_in byte_bodies start kinds) (results_in w.controllers) l bytes letters (past w.journal)) same stops))
+
+  -- or it stopped
+  pub ends_stopped : {X : Type 0} (result : Result (Closed × ℕ) Stop) (stop : Stop) (output : Output) (ended : Result Ending X) → result ≡ Err stop → IfMemory result Kept →
+      IfErr result (RunStops (scene_in byte_bodies start kinds) taken w) → IfOk ended (λ e. StopsAs stop e) → IfOk ended (λ e. Ends output e)
+  ends_stopped result stop output ended is k stops ending_is =
+      one_stop stop output ended (subst (λ (r : Result (Closed × ℕ) Stop). IfMemory r Kept) is k)
+      (subst (λ (r : Result (Closed × ℕ) Stop). IfErr r (RunStops (scene_in byte_bodies start kinds) taken w)) is stops) ending_is
+
+-- the script's part is not longer than the journal
+pub script_within : {A : Type 0} (scene : Scene (List ℕ)) (taken : List Turn) (w : Worlding (List ℕ) A) (result : Result (Closed × ℕ) Stop) (closed : Closed) (count : ℕ) → result ≡ Ok (closed, count) →
+    IfOk result (λ played. HasPlayed scene taken played.1 (answer_of played.0) w) → count ≤ length w.journal
+script_within scene taken w result closed count is played =
+    within_journal scene taken count (answer_of closed) w (subst (λ (r : Result (Closed × ℕ) Stop). IfOk r (λ p. HasPlayed scene taken p.1 (answer_of p.0) w)) is played)

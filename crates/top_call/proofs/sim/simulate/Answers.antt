@@ -1,0 +1,62 @@
+use Rattle.std.proofs.Common.{List, sym, subst}
+use Rattle.std.specs.List.{AllByRecursion}
+use Rattle.of_types.specs.declared.setup.Setup.{Setup}
+use Rattle.rv_base.specs.declared.journal.Turn.{Turn}
+use Rattle.rv_base.specs.Actors.{IsActor}
+use Rattle.rv_base.specs.Turns.{turn_actor}
+use Rattle.group_controller.specs.Turns.{Controls}
+use Rattle.rv_runs.specs.Bodies.{byte_bodies}
+use Rattle.rv_world.specs.World.{scene_in}
+use Rattle.top_call.proofs.Ran.{ends_closed, ends_stopped, fresh_pairs, script_within}
+use Rattle.playing.specs.Played.{StepSuspectsUpTo}
+use Rattle.top_call.proofs.Playing.{views_up_to}
+use Rattle.top_call.proofs.sim.simulate.Goals as goal
+
+pub play-ended-requires-clause-holds : goal.play-ended-requires-clause-holds
+play-ended-requires-clause-holds g c = (c.requires.stocked.0, c.in_ok-world.ensures.holds c.requires.stocked.0 c.requires.stocked.1)
+
+pub play-ended-requires-clause-pairs : goal.play-ended-requires-clause-pairs
+play-ended-requires-clause-pairs g c =
+    let controls = Controls g.A.App.kinds g.A.App.most g.A.App.states g.A.App.suits in
+    fresh_pairs controls g.W.Stable.pair c.args.stables.now c.args.scenario.now.setup c.in_ok-world.world c.requires.stocked.0 c.requires.fresh c.in_ok-world.ensures.starts
+    (c.in_ok-world.ensures.holds c.requires.stocked.0 c.requires.stocked.1)
+
+pub play-ended-requires-clause-named : goal.play-ended-requires-clause-named
+play-ended-requires-clause-named g c =
+    subst (λ (l : List Turn). AllByRecursion (λ t. IsActor c.in_ok-world.world.setup (turn_actor t)) l) (sym c.as_slice.ensures)
+    (subst (λ (s : Setup). AllByRecursion (λ t. IsActor s (turn_actor t)) c.args.scenario.now.steps) (sym c.in_ok-world.ensures.starts.setup_is) c.requires.is.actors)
+
+pub rested-requires : goal.rested-requires
+rested-requires g c =
+    let kinds = c.requires.stocked.0 in
+    let holds = c.in_ok-world.ensures.holds kinds c.requires.stocked.1 in
+    script_within (scene_in byte_bodies c.in_ok-world.world kinds) c.as_slice.result.now c.play-ended.new.world c.play-ended.result c.in-Ok.closed c.in-Ok.script c.in-Ok.is (c.play-ended.ensures.played kinds holds)
+
+pub returns-in-Ok : goal.returns-in-Ok
+returns-in-Ok g c =
+    let controls = Controls g.A.App.kinds g.A.App.most g.A.App.states g.A.App.suits in
+    let scenario = c.args.scenario.now in
+    let start = c.in_ok-world.world in
+    let starts = c.in_ok-world.ensures.starts in
+    λ kinds stocked.
+    let holds = c.in_ok-world.ensures.holds kinds stocked in
+    ends_closed controls g.W.Stable.pair g.W.Stable.faults scenario kinds start c.args.stables.now c.play-ended.new.world c.play-ended.new.stables starts holds
+    (fresh_pairs controls g.W.Stable.pair c.args.stables.now scenario.setup start kinds c.requires.fresh starts holds) c.lawful.ensures.within c.as_slice.result.now c.as_slice.ensures
+    c.play-ended.result c.in-Ok.closed c.in-Ok.script c.args.output c.len.result c.rested.result c.in-Ok.is c.len.ensures
+    c.play-ended.ensures.keeps (c.play-ended.ensures.played kinds holds) c.play-ended.ensures.up c.rested.ensures.ending c.rested.ensures.fits
+
+pub returns : goal.returns
+returns g c =
+    let controls = Controls g.A.App.kinds g.A.App.most g.A.App.states g.A.App.suits in
+    let scenario = c.args.scenario.now in
+    let start = c.in_ok-world.world in
+    let starts = c.in_ok-world.ensures.starts in
+    λ kinds stocked.
+    let holds = c.in_ok-world.ensures.holds kinds stocked in
+    ends_stopped controls g.W.Stable.pair g.W.Stable.faults scenario kinds start c.args.stables.now c.play-ended.new.world c.play-ended.new.stables starts holds
+    (fresh_pairs controls g.W.Stable.pair c.args.stables.now scenario.setup start kinds c.requires.fresh starts holds) c.lawful.ensures.within c.as_slice.result.now c.as_slice.ensures
+    c.play-ended.result c.in-Err.stop c.args.output c.stopped.result c.in-Err.is c.play-ended.ensures.keeps (c.play-ended.ensures.stops kinds holds) c.stopped.ensures
+
+pub play-ended-requires-clause-views : goal.play-ended-requires-clause-views
+play-ended-requires-clause-views g c =
+    subst (λ (l : List Turn). AllByRecursion (λ t. StepSuspectsUpTo 4000000000 t) l) (sym c.as_slice.ensures) (views_up_to c.args.scenario.now.steps c.requires.is.views)

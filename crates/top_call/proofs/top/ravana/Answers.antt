@@ -1,0 +1,82 @@
+use Rattle.std.proofs.Common.{sym, ◌∙◌, refl, arith}
+use Rattle.top_call.proofs.Complete.{calm_saves, complete}
+use Rattle.top_call.proofs.Endings.{in_range}
+use Rattle.top_call.proofs.Tellings.{served, cut, nothing}
+use Rattle.top_call.specs.Runs.{StablesTell}
+use Rattle.top_call.proofs.top.ravana.Goals as goal
+
+pub returns-in_default-clause-answer : goal.returns-in_default-clause-answer
+returns-in_default-clause-answer g c = λ kinds chains. nothing kinds (StablesTell g.W.Stable.pair g.W.Stable.faults c.args.stables.now c.outcome.new.stables) _ _ _ _ _ _
+
+pub returns-in_default-clause-audit : goal.returns-in_default-clause-audit
+returns-in_default-clause-audit g c = λ _. (4, omega arith, refl)
+
+pub returns-in_default-clause-complete : goal.returns-in_default-clause-complete
+returns-in_default-clause-complete g c =
+    λ kinds chains.
+    let saves = StablesTell g.W.Stable.pair g.W.Stable.faults c.args.stables.now c.outcome.new.stables in
+    complete kinds saves _ _ _ _ (calm_saves g.W.Stable.pair g.W.Stable.faults c.args.stables.now c.outcome.new.stables) _ _ _ _ _ (nothing kinds saves _ _ _ _ _ _)
+
+pub returns-in_default-clause-range : goal.returns-in_default-clause-range
+returns-in_default-clause-range g c = (5, omega arith, refl)
+
+pub returns-in_default-into_text-clause-answer : goal.returns-in_default-into_text-clause-answer
+returns-in_default-into_text-clause-answer g c = λ kinds chains. nothing kinds (StablesTell g.W.Stable.pair g.W.Stable.faults c.args.stables.now c.outcome.new.stables) _ _ _ _ _ _
+
+pub returns-in_default-into_text-clause-audit : goal.returns-in_default-into_text-clause-audit
+returns-in_default-into_text-clause-audit g c = λ _. (4, omega arith, refl)
+
+pub returns-in_default-into_text-clause-complete : goal.returns-in_default-into_text-clause-complete
+returns-in_default-into_text-clause-complete g c =
+    λ kinds chains.
+    let saves = StablesTell g.W.Stable.pair g.W.Stable.faults c.args.stables.now c.outcome.new.stables in
+    complete kinds saves _ _ _ _ (calm_saves g.W.Stable.pair g.W.Stable.faults c.args.stables.now c.outcome.new.stables) _ _ _ _ _ (nothing kinds saves _ _ _ _ _ _)
+
+pub returns-in_default-into_text-clause-range : goal.returns-in_default-into_text-clause-range
+returns-in_default-into_text-clause-range g c = (5, omega arith, refl)
+
+pub returns-in-Ok-write_all-clause-answer : goal.returns-in-Ok-write_all-clause-answer
+returns-in-Ok-write_all-clause-answer g c =
+    let saves = StablesTell g.W.Stable.pair g.W.Stable.faults c.args.stables.now c.outcome.new.stables in
+    λ kinds chains. rw c.status-status.ensures (served kinds saves _ _ _ _ _ _ _ c.in-Ok.ending _ (c.in-Ok.ensures.cause kinds chains) (c.as_slice.ensures ∙ c.in-Ok-into_text.ensures.ok) c.in-Ok-write_all.ensures.ok)
+
+pub returns-in-Ok-write_all-clause-complete : goal.returns-in-Ok-write_all-clause-complete
+returns-in-Ok-write_all-clause-complete g c =
+    λ kinds chains.
+    let saves = StablesTell g.W.Stable.pair g.W.Stable.faults c.args.stables.now c.outcome.new.stables in
+    rw c.status-status.ensures (complete kinds saves _ _ _ _ (calm_saves g.W.Stable.pair g.W.Stable.faults c.args.stables.now c.outcome.new.stables) _ _ _ _ _ (served kinds saves _ _ _ _ _ _ _ c.in-Ok.ending _ (c.in-Ok.ensures.cause kinds chains) (c.as_slice.ensures ∙ c.in-Ok-into_text.ensures.ok) c.in-Ok-write_all.ensures.ok))
+
+pub returns-in-Ok-write_all-clause-audit : goal.returns-in-Ok-write_all-clause-audit
+returns-in-Ok-write_all-clause-audit g c = λ is. rw c.status-status.ensures (c.in-Ok.ensures.told.audit is)
+
+pub returns-in-Ok-write_all-clause-usage : goal.returns-in-Ok-write_all-clause-usage
+returns-in-Ok-write_all-clause-usage g c = λ is. c.in-Ok.ensures.told.usage (sym c.status-status.ensures ∙ is)
+
+pub returns-in-Ok-write_all-clause-words : goal.returns-in-Ok-write_all-clause-words
+returns-in-Ok-write_all-clause-words g c = λ other. rw (c.status-status.ensures, c.in-Ok.ensures.told.others other) (0, omega arith, refl)
+
+pub returns-in-Ok-write_all-clause-unread : goal.returns-in-Ok-write_all-clause-unread
+returns-in-Ok-write_all-clause-unread g c = λ is. c.in-Ok.ensures.told.failed (sym c.status-status.ensures ∙ is)
+
+pub returns-in-Ok-write_all-clause-range : goal.returns-in-Ok-write_all-clause-range
+returns-in-Ok-write_all-clause-range g c = rw c.status-status.ensures (in_range c.in-Ok.ending)
+
+pub returns-clause-answer : goal.returns-clause-answer
+returns-clause-answer g c =
+    let saves = StablesTell g.W.Stable.pair g.W.Stable.faults c.args.stables.now c.outcome.new.stables in
+    λ kinds chains. cut kinds saves _ _ _ _ _ _ _ c.in-Ok.ending _ (c.in-Ok.ensures.cause kinds chains) (c.as_slice.ensures ∙ c.in-Ok-into_text.ensures.ok) c.in-Err.ensures.cause.failed c.in-Err.ensures.err
+
+pub returns-clause-complete : goal.returns-clause-complete
+returns-clause-complete g c =
+    λ kinds chains.
+    let saves = StablesTell g.W.Stable.pair g.W.Stable.faults c.args.stables.now c.outcome.new.stables in
+    complete kinds saves _ _ _ _ (calm_saves g.W.Stable.pair g.W.Stable.faults c.args.stables.now c.outcome.new.stables) _ _ _ _ _ (cut kinds saves _ _ _ _ _ _ _ c.in-Ok.ending _ (c.in-Ok.ensures.cause kinds chains) (c.as_slice.ensures ∙ c.in-Ok-into_text.ensures.ok) c.in-Err.ensures.cause.failed c.in-Err.ensures.err)
+
+pub returns-clause-audit : goal.returns-clause-audit
+returns-clause-audit g c = λ _. (3, omega arith, refl)
+
+pub returns-clause-range : goal.returns-clause-range
+returns-clause-range g c = (4, omega arith, refl)
+
+pub returns-clause-words : goal.returns-clause-words
+returns-clause-words g c = λ _. (1, omega arith, refl)

@@ -1,0 +1,25 @@
+-- The cause of an ending, where it is told what was read.
+use Rattle.std.specs.Prelude.{◌≡◌, ◌≢◌, ℕ, List, Option, Some, Contains}
+use Rattle.top_call.specs.declared.ending.Ending.{Ending}
+use Rattle.top_call.specs.Ending.{ending_status, ending_text}
+use Rattle.top_call.specs.Runs.{Telling}
+use Rattle.top_call.specs.Outcome.{Outcome, IsUnserved, IsAudit, statuses_of_audit}
+
+-- a claim on what a source had left at first and has left at the end, where it tells both
+abbrev pub IsReadOf : Option (List ℕ) → Option (List ℕ) → (List ℕ → List ℕ → Type 0) → Type 0
+IsReadOf (Some input) (Some rest) P = P input rest
+IsReadOf _ _ P = Unit {0}
+
+-- an ending has a cause
+abbrev pub HasEndingCause : List ℕ → Telling → List (List ℕ) → Type 0 → Option (List ℕ) → Option (List ℕ) → Ending → Type 0
+HasEndingCause kinds saves words unread before after ending =
+    IsReadOf before after (λ input rest. Outcome kinds saves words input rest unread (ending_status ending) (ending_text ending))
+
+-- what the status of an ending tells, whatever is known of the bytes: which words were not served, that a read
+-- failed, and else that none did; and how an audit may end
+pub record Tells (words : List (List ℕ)) (unread unfailed : Type 0) (ending : Ending) : Type 0 where
+  pub usage : ending_status ending ≡ 2 → IsUnserved words
+  pub others : IsUnserved words → ending_status ending ≡ 2
+  pub failed : ending_status ending ≡ 4 → unread
+  pub served : ending_status ending ≢ 4 → unfailed
+  pub audit : IsAudit words → Contains statuses_of_audit (ending_status ending)

@@ -1,0 +1,110 @@
+-- Which status comes when, and what is written with it.
+use Rattle.std.specs.Prelude.{◌≡◌, ◌≤◌, ◌+◌, ℕ, nat_lt, Bool, true, false, if◌then◌else◌, List, [], ◌∷◌, ◌++◌, length, Option, Some, None, is_some, Ok, Err, Contains}
+use Rattle.vr_log.specs.declared.entry.LogFull.{LogFull}
+use Rattle.scenario.specs.declared.scenario.Fault.{Fault}
+use Rattle.scenario.specs.declared.scenario.Scenario.{Scenario}
+use Rattle.scenario.specs.Scenario.{scenario_of, scenario_limit}
+use Rattle.scenario.specs.Generated.{generated}
+use Rattle.top_call.specs.declared.sim.Output.{Output}
+use Rattle.top_call.specs.declared.sim.Output.TheVariants.{Report, LastLine}
+use Rattle.words.specs.declared.Job.{Job}
+use Rattle.words.specs.declared.Job.TheVariants.{Sim, Audit, Gen}
+use Rattle.words.specs.Words.{job_of}
+use Rattle.endings.specs.Lines.{unread_line, differs_line}
+use Rattle.top_call.specs.Lines.{usage_line, fault_line, no_quorum_line, overfull_line, unposted_line, same_line}
+use Rattle.audit.specs.Audit.{differs}
+use Rattle.top_call.specs.declared.service.Service.{Service}
+use Rattle.top_call.specs.Audited.{report_limit, too_large}
+use Rattle.top_call.specs.Service.{service_of}
+use Rattle.top_call.specs.Runs.{IsDone, IsInLimits, IsLeft, IsOverfull, IsUnposted, Telling}
+
+-- a claim on what is read and written, where both ends tell it: what the source had left at first, what
+-- it has left at the end, and what the sink took
+abbrev pub IsTold : Option (List ℕ) → Option (List ℕ) → Option (List ℕ) → Option (List ℕ) → (List ℕ → List ℕ → List ℕ → Type 0) → Type 0
+IsTold (Some input) (Some rest) (Some before) after P = (written : List ℕ) × (after ≡ Some (before ++ written)) × P input rest written
+IsTold _ _ _ _ P = Unit {0}
+
+-- the source was read to its end, or one byte past a limit
+pub data HasRead (limit : ℕ) (input : List ℕ) : List ℕ → Type 0 where
+  To_the_end : HasRead limit input []
+  Past_the_limit : {rest : List ℕ} → length rest + (limit + 1) ≡ length input → HasRead limit input rest
+
+-- what serves the job that was found
+abbrev pub service_for : Option Job → Option Service
+service_for None = None
+service_for (Some job) = service_of job
+
+-- whether a job was found and is served
+abbrev pub is_served_job : Option Job → Bool
+is_served_job job = is_some (service_for job)
+
+-- words that are not accepted, or ask for what is not served yet
+abbrev pub IsUnserved : List (List ℕ) → Type 0
+IsUnserved words = is_served_job (job_of words) ≡ false
+
+-- words that ask for an audit
+abbrev pub IsAudit : List (List ℕ) → Type 0
+IsAudit words = job_of words ≡ Some Audit
+
+-- the scenario that words ask to play, and what is told of its run at rest: of bytes that were all read, its report; of
+-- four numbers, the report's last line
+pub data IsAsked (words : List (List ℕ)) (input rest : List ℕ) : Scenario → Output → Type 0 where
+  Of_bytes : {scenario : Scenario} → job_of words ≡ Some Sim → rest ≡ [] → scenario_of input ≡ Ok scenario → IsAsked words input rest scenario Report
+  Of_numbers : (number controllers switches frames : ℕ) → job_of words ≡ Some (Gen number controllers switches frames) → rest ≡ input →
+      IsAsked words input rest (generated number controllers switches frames) LastLine
+
+-- what a call has to write, with its status, by the cause of it: one case for each
+pub data Outcome (kinds : List ℕ) (saves : Telling) (words : List (List ℕ)) (input rest : List ℕ) (unread : Type 0) : ℕ → List ℕ → Type 0 where
+  Usage : IsUnserved words → Outcome kinds saves words input rest unread 2 usage_line
+  Refused : (fault : Fault) → job_of words ≡ Some Sim → HasRead scenario_limit input rest → scenario_of input ≡ Err fault → Outcome kinds saves words input rest unread 3 (fault_line fault)
+  Unread : is_served_job (job_of words) ≡ true → unread → Outcome kinds saves words input rest unread 4 unread_line
+  Closed : (scenario : Scenario) (output : Output) {written : List ℕ} → IsAsked words input rest scenario output → IsDone kinds saves scenario output written →
+      Outcome kinds saves words input rest unread 0 written
+  Left : (scenario : Scenario) (output : Output) (up needed : ℕ) → IsAsked words input rest scenario output → IsLeft kinds saves scenario up needed →
+      Outcome kinds saves words input rest unread 7 (no_quorum_line up needed)
+  Overfull : (scenario : Scenario) (output : Output) (limit : LogFull) → IsAsked words input rest scenario output → IsOverfull kinds saves scenario limit →
+      Outcome kinds saves words input rest unread 9 (overfull_line limit)
+  Unposted : (scenario : Scenario) (output : Output) (bytes letters : ℕ) → IsAsked words input rest scenario output → IsUnposted kinds saves scenario bytes letters →
+      Outcome kinds saves words input rest unread 10 (unposted_line bytes letters)
+  Oversized : IsAudit words → length rest + (report_limit + 1) ≡ length input → Outcome kinds saves words input rest unread 3 (fault_line too_large)
+  Same : IsAudit words → rest ≡ [] → length input ≤ report_limit → differs kinds input ≡ None → Outcome kinds saves words input rest unread 0 same_line
+  Differs : (n : ℕ) → IsAudit words → rest ≡ [] → length input ≤ report_limit → differs kinds input ≡ Some n → Outcome kinds saves words input rest unread 8 (differs_line n)
+
+-- what was taken is the front of what an outcome writes
+pub record IsCut (kinds : List ℕ) (saves : Telling) (words : List (List ℕ)) (input rest : List ℕ) (unread : Type 0) (written : List ℕ) : Type 0 where
+  pub status : ℕ
+  pub whole : List ℕ
+  pub behind : List ℕ
+  pub outcome : Outcome kinds saves words input rest unread status whole
+  pub front : whole ≡ written ++ behind
+
+-- a status and what was written with it: that of an outcome, or a write failed, or there was no memory
+pub data Answers (kinds : List ℕ) (saves : Telling) (words : List (List ℕ)) (input rest : List ℕ) (unread unwritten : Type 0) (written : List ℕ) : ℕ → Type 0 where
+  Served : {status : ℕ} → Outcome kinds saves words input rest unread status written → Answers kinds saves words input rest unread unwritten written status
+  Write_failed : unwritten → IsCut kinds saves words input rest unread written → Answers kinds saves words input rest unread unwritten written 5
+  No_memory : written ≡ [] → Answers kinds saves words input rest unread unwritten written 6
+
+-- the answers that there are, those to words that are not served, and those to an audit
+abbrev pub statuses : List ℕ
+statuses = 0 ∷ 2 ∷ 3 ∷ 4 ∷ 5 ∷ 6 ∷ 7 ∷ 8 ∷ 9 ∷ 10 ∷ []
+
+abbrev pub statuses_of_usage : List ℕ
+statuses_of_usage = 2 ∷ 5 ∷ 6 ∷ []
+
+abbrev pub statuses_of_audit : List ℕ
+statuses_of_audit = 0 ∷ 3 ∷ 4 ∷ 5 ∷ 6 ∷ 8 ∷ []
+
+-- the status that the bytes of a report have, for controllers with applications of these kinds
+abbrev pub audit_status : List ℕ → List ℕ → ℕ
+audit_status kinds input = if nat_lt report_limit (length input) then 3 else elim (differs kinds input) [ None ↦ 0 | Some n ↦ 8 ]
+
+-- words ask to play this scenario: of the bytes that are read, or of four numbers
+pub data AsksFor (words : List (List ℕ)) (input : List ℕ) : Scenario → Type 0 where
+  Its_bytes : {scenario : Scenario} → job_of words ≡ Some Sim → scenario_of input ≡ Ok scenario → AsksFor words input scenario
+  Its_numbers : (number controllers switches frames : ℕ) → job_of words ≡ Some (Gen number controllers switches frames) → AsksFor words input (generated number controllers switches frames)
+
+-- An audit in which nothing failed ends by that, or finds no memory. A scenario that keeps within the limits comes to rest, where
+-- nothing failed and the stable pairs are calm, or finds no memory.
+pub record IsComplete (kinds : List ℕ) (words : List (List ℕ)) (input : List ℕ) (unread unwritten calm : Type 0) (status : ℕ) : Type 0 where
+  pub ends : IsAudit words → (unread → ⊥) → (unwritten → ⊥) → Contains (audit_status kinds input ∷ 6 ∷ []) status
+  pub rests : (scenario : Scenario) → AsksFor words input scenario → IsInLimits kinds scenario → calm → (unread → ⊥) → (unwritten → ⊥) → Contains (0 ∷ 6 ∷ []) status

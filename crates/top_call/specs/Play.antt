@@ -1,0 +1,57 @@
+-- What a run starts from, and how a call ends by it.
+use Rattle.std.specs.Prelude.{◌≡◌, ℕ, ◌*◌, ◌+◌, List, [], ◌∷◌, length}
+use Rattle.std.specs.List.{AllByRecursion}
+use Rattle.rv_base.specs.declared.wire.Stop.{Stop}
+use Rattle.rv_base.specs.declared.wire.Stop.TheVariants.{OutOfMemory, JournalFull}
+use Rattle.of_types.specs.Lives.{last_life}
+use Rattle.app_core.specs.Chain.{firewall, learning}
+use Rattle.group_controller.specs.Turns.{AreAlike}
+use Rattle.report.specs.declared.record.Record.{Record}
+use Rattle.report.specs.Report.{end_line, text}
+use Rattle.closing.specs.declared.closed.Closed.{Closed}
+use Rattle.closing.specs.declared.closed.Closed.TheVariants as closed
+use Rattle.top_call.specs.declared.ending.Ending.{Ending}
+use Rattle.top_call.specs.declared.ending.Ending.TheVariants as ending
+use Rattle.top_call.specs.declared.sim.Output.{Output}
+use Rattle.top_call.specs.declared.sim.Output.TheVariants.{Report, LastLine}
+
+-- the stable pairs of a group as it starts: one for each of the most controllers, with no view promised, in the first life
+pub record AreFresh {W : Type 0} (pair : W → ℕ × ℕ) (stables : List W) : Type 0 where
+  pub count : length stables ≡ 7
+  pub each : AllByRecursion (λ stable. pair stable ≡ (0, 0)) stables
+
+-- the applications of the lives of the most controllers, in order, all of these kinds
+pub record AreChains {A : Type 0} (kinds_of : A → List ℕ) (most_of : A → ℕ) (kinds : List ℕ) (chains : List A) : Type 0 where
+  pub count : length chains ≡ 7 * (last_life + 1)
+  pub alike : AreAlike kinds_of most_of kinds chains
+
+-- the kinds of the parts that the program gives each life of a controller, in order: a firewall before a learning
+abbrev pub program_kinds : List ℕ
+program_kinds = firewall ∷ learning ∷ []
+
+-- what is told of a run at rest: its report, or the report's last line
+abbrev pub told_text : Output → Record → List ℕ
+told_text Report told = text told
+told_text LastLine told = end_line told
+
+-- a claim on what is told as a report
+abbrev pub IfReport : Output → Type 0 → Type 0
+IfReport Report claim = claim
+IfReport LastLine claim = Unit {0}
+
+-- a claim on what is told of a closing that came to rest
+abbrev pub IfDone : Closed → Type 0 → Type 0
+IfDone (closed.Done primary) claim = claim
+IfDone (closed.NoQuorum up needed) claim = Unit {0}
+IfDone (closed.Overfull limit) claim = Unit {0}
+
+-- how a call ends by the end of a closing, with what is told of a run at rest
+abbrev pub ending_by : Closed → List ℕ → Ending
+ending_by (closed.Done primary) words = ending.Report words
+ending_by (closed.NoQuorum up needed) words = ending.NoQuorum up needed
+ending_by (closed.Overfull limit) words = ending.Overfull limit
+
+-- and where playing stopped at a full journal
+abbrev pub StopsAs : Stop → Ending → Type 0
+StopsAs OutOfMemory e = ⊥
+StopsAs (JournalFull bytes letters) e = e ≡ ending.Unposted bytes letters

@@ -1,0 +1,14 @@
+//! The top call: what is read and asked for, the run that it plays or the report that it audits, and how it ends.
+#![tactic(auto)]
+
+mod auditing;
+mod ending;
+mod group;
+mod service;
+mod shelves;
+mod sim;
+mod top;
+
+pub use group::{Life, chains, stables};
+pub use shelves::{CONTROLLERS, LIVES, push_life};
+pub use top::ravana;

@@ -1,0 +1,114 @@
+//! Playing a scenario from its first step to its report.
+ghost use Rattle.std.specs.Prelude.{◌≡◌, ◌≤◌, ℕ, List, length, IfOk};
+ghost use Rattle.std.specs.List.{AllByRecursion};
+ghost use Rattle.rv_world.specs.World.{IsStocked};
+ghost use Rattle.rv_record.specs.Shows.{told_by};
+ghost use Rattle.scenario.specs.Scenario.{IsScenario};
+ghost use Rattle.top_call.specs.Ending.{EndsRun};
+ghost use Rattle.report.specs.Fits.{FitsRecord};
+ghost use Rattle.top_call.specs.Play.{AreFresh, IfDone, IfReport, StopsAs, ending_by, told_text};
+ghost use Rattle.top_call.specs.Runs.{StablesTell};
+
+use crate::ending::Ending;
+use app_core::App;
+use closing::Closed;
+use of_types::Octets;
+use playing::play;
+use report::{last_line, record_fits, text};
+use rv_actors::Bytes;
+use rv_base::{Stable, Stop};
+use rv_record::{record_of, sums_of};
+use rv_world::World;
+use scenario::Scenario;
+use std::alloc::{AllocError, Global};
+
+/// What is told of a run that came to rest: its report, or the report's last line alone.
+#[derive(Clone, Copy)]
+pub enum Output {
+    Report,
+    LastLine,
+}
+
+impl Output {
+    /// What is told of a world, in bytes, with so many steps of a script, which made so many of its entries.
+    fn text_of<A: App>(
+        self,
+        alloc: Global,
+        world: &World<Bytes, A>,
+        steps: usize,
+        script: usize,
+    ) -> Result<Octets, AllocError>
+        requires { script ≤ length world.now.journal }
+        ensures text { IfOk result (λ bytes. bytes ≡ told_text self (told_by world.now steps script)) }
+        ensures fits { IfOk result (λ _. IfReport self (FitsRecord (told_by world.now steps script))) }
+    {
+        match self {
+            Output::Report => {
+                let told = record_of(alloc, world, steps, script)?;
+                record_fits(&told);
+                text(alloc, &told)
+            }
+            Output::LastLine => {
+                let told = sums_of(alloc, world, steps, script)?;
+                last_line(alloc, &told)
+            }
+        }
+    }
+}
+
+/// How a call ends by the end of a closing.
+fn rested<A: App>(
+    alloc: Global,
+    world: &World<Bytes, A>,
+    output: Output,
+    ended: Closed,
+    steps: usize,
+    script: usize,
+) -> Result<Ending, AllocError>
+    requires { script ≤ length world.now.journal }
+    ensures ending { IfOk result (λ ending. ending ≡ ending_by ended (told_text output (told_by world.now steps script))) }
+    ensures fits { IfOk result (λ _. IfDone ended (IfReport output (FitsRecord (told_by world.now steps script)))) }
+{
+    match ended {
+        Closed::Done { .. } => {
+            let words = output.text_of(alloc, world, steps, script)?;
+            Ok(Ending::Report(words))
+        }
+        Closed::NoQuorum { up, needed } => Ok(Ending::NoQuorum { up, needed }),
+        Closed::Overfull(limit) => Ok(Ending::Overfull(limit)),
+    }
+}
+
+/// How a call ends where playing stopped.
+fn stopped(stop: Stop) -> Result<Ending, AllocError>
+    ensures { IfOk result (λ ending. StopsAs stop ending) }
+{
+    match stop {
+        Stop::OutOfMemory => Err(AllocError),
+        Stop::JournalFull { bytes, letters } => Ok(Ending::Unposted { bytes, letters }),
+    }
+}
+
+/// Plays a scenario with the applications of the lives of each controller.
+pub fn simulate<A: App, W: Stable>(
+    alloc: Global,
+    scenario: &Scenario,
+    output: Output,
+    stables: &mut [W],
+    shelves: Vec<Vec<A>>,
+) -> Result<Ending, AllocError>
+    requires is { IsScenario scenario.now }
+    requires each { length shelves.items ≡ scenario.now.setup.controllers }
+    requires stocked { (kinds : List ℕ) × AllByRecursion (λ shelf. IsStocked A.kinds A.most kinds shelf.items) shelves.items }
+    requires fresh { AreFresh W.pair stables.old }
+    ensures { (kinds : List ℕ) → AllByRecursion (λ shelf. IsStocked A.kinds A.most kinds shelf.items) shelves.items →
+        IfOk result (EndsRun kinds (StablesTell W.pair W.faults stables.old stables.new) output scenario.now) }
+{
+    let mut world = World::<Bytes, A>::new(alloc, &scenario.setup, shelves)?;
+    let ended = play(alloc, &mut world, stables, scenario.steps.as_slice());
+    world.lawful();
+    match ended {
+        Ok((closed, script)) => rested(alloc, &world, output, closed, scenario.steps.len(), script),
+        Err(stop) => stopped(stop),
+    }
+}

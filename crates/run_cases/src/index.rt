@@ -1,0 +1,80 @@
+//! The index: a line names a case that is kept in files, or a table of rows.
+
+use crate::difference::{Difference, shown};
+use crate::files::read_text;
+use crate::kept::{Kind, read_case};
+use crate::row::{name_of, read_row};
+use crate::tally::Tally;
+use std::io;
+use std::rt::Files;
+
+/// What a line of an index names, and its path.
+enum Entry<'a> {
+    Case(Kind, &'a str),
+    Rows(&'a str),
+}
+
+impl<'a> Entry<'a> {
+    fn of(line: &'a str) -> Option<Entry<'a>> {
+        match line.split_once(' ')? {
+            ("sim", path) => Some(Entry::Case(Kind::Sim, path)),
+            ("saves", path) => Some(Entry::Case(Kind::Saves, path)),
+            ("audit", path) => Some(Entry::Case(Kind::Audit, path)),
+            ("rows", path) => Some(Entry::Rows(path)),
+            _ => None,
+        }
+    }
+}
+
+/// Plays all that an index names.
+pub fn play_index<R: Files + AllocGlobal + Print>(
+    rt: &R,
+    path: &str,
+    tally: &mut Tally,
+) -> io::Result<()> {
+    let text = match read_text(rt, path) {
+        Ok(text) => text,
+        Err(difference) => return tally.count(rt, path, Err(difference)),
+    };
+    let mut number = 0usize;
+    for line in text.lines() {
+        number = number.saturating_add(1);
+        match Entry::of(line) {
+            Some(Entry::Case(kind, path)) => tally.count(rt, path, play_case(rt, kind, path))?,
+            Some(Entry::Rows(path)) => play_table(rt, path, tally)?,
+            None => {
+                let line = shown(rt.alloc(), Some(line))?;
+                tally.count(rt, path, Err(Difference::Grammar { number, line }))?;
+            }
+        }
+    }
+    Ok(())
+}
+
+fn play_case<R: Files + AllocGlobal>(rt: &R, kind: Kind, path: &str) -> Result<(), Difference> {
+    read_case(rt, kind, path)?.play(rt.alloc())
+}
+
+fn play_row<R: Files + AllocGlobal>(rt: &R, block: &str, before: usize) -> Result<(), Difference> {
+    read_row(rt, block, before)?.play(rt.alloc())
+}
+
+/// Plays the rows of a table, which are parted by one empty line.
+fn play_table<R: Files + AllocGlobal + Print>(
+    rt: &R,
+    path: &str,
+    tally: &mut Tally,
+) -> io::Result<()> {
+    let text = match read_text(rt, path) {
+        Ok(text) => text,
+        Err(difference) => return tally.count(rt, path, Err(difference)),
+    };
+    let mut before = 0usize;
+    for block in text.split("\n\n") {
+        tally.count(rt, name_of(block, path), play_row(rt, block, before))?;
+        before = before
+            .saturating_add(block.lines().count())
+            .saturating_add(1);
+    }
+    Ok(())
+}

@@ -1,0 +1,36 @@
+//! The program: plays the cases that an index names, each a call of the whole program with its ends in memory, and tells
+//! those that differ.
+#![tactic(auto)]
+
+mod call;
+mod case;
+mod difference;
+mod files;
+mod index;
+mod kept;
+mod row;
+mod tally;
+mod wanted;
+
+use crate::index::play_index;
+use crate::tally::Tally;
+use std::process::ExitCode;
+use std::{env, io};
+
+/// Plays the index that each word names, and tells whether all is as it is to be.
+fn run(rt: &HostRuntime) -> io::Result<bool> {
+    let mut tally = Tally::new();
+    for path in env::args(rt)?.skip(1) {
+        play_index(rt, path.as_str(), &mut tally)?;
+    }
+    tally.print(rt)?;
+    Ok(tally.is_sound())
+}
+
+fn main(rt: HostRuntime) -> io::Result<ExitCode> {
+    if run(&rt)? {
+        Ok(ExitCode::SUCCESS)
+    } else {
+        Ok(ExitCode::FAILURE)
+    }
+}

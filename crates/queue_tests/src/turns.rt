@@ -88,11 +88,10 @@ fn a_full_journal(rt: HostRuntime) -> Result<(), Fail> {
     let alloc = rt.alloc();
     let mut wire = Wire::new(alloc);
     for (bytes, refusal) in [(67_108_863, None), (2, Some(FULL)), (1, None)] {
-        let refused = wire.post(CONTROLLER, letters(alloc, 1, bytes)?).err();
-        assert!(rt;
-            refused.map(|refused| refused.cause) == refusal,
-            "at {bytes}"
-        );
+        match wire.post(CONTROLLER, letters(alloc, 1, bytes)?) {
+            Ok(()) => assert!(rt; refusal.is_none(), "at {bytes}"),
+            Err(refused) => assert!(rt; refusal == Some(refused.cause), "at {bytes}"),
+        }
     }
     assert_eq!(rt; wire.entries().len(), 2);
     Ok(())

@@ -1,9 +1,8 @@
-//! The tests of `audit`, and of what `report` writes, apart from them, so that they are proved once.
+//! The tests of `write_report`, apart from `report`, so that it is proved once. What an audit finds stands in the cases that
+//! `run_cases` plays.
 #![tactic(auto)]
 
 #[cfg(test)]
 mod reports;
-#[cfg(test)]
-mod verdicts;
 #[cfg(test)]
 mod written;

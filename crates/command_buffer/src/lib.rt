@@ -2,7 +2,5 @@
 #![tactic(auto)]
 
 mod buffer;
-#[cfg(test)]
-mod tests;
 
 pub use buffer::{CommandBuffer, MOST_KEPT, Offer};

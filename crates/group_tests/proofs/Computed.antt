@@ -9,7 +9,7 @@ use Rattle.of_types.specs.declared.message.Outcome.TheVariants as outcome
 use Rattle.of_types.specs.declared.message.PacketIn.{PacketIn}
 use Rattle.of_types.specs.declared.message.Spoken.TheVariants as spoken
 use Rattle.of_types.specs.declared.setup.Setup.{Setup}
-use Rattle.rv_base.specs.declared.journal.Actor.TheVariants.{Controller}
+use Rattle.rv_base.specs.declared.journal.Actor.TheVariants.{Controller, Switch}
 use Rattle.rv_base.specs.declared.journal.Letter.{Letter}
 use Rattle.rv_base.specs.declared.journal.Local.TheVariants as local
 use Rattle.vr_log.specs.declared.entry.Entry.{Entry}
@@ -18,6 +18,7 @@ use Rattle.vr_log.specs.declared.message.VrMessage.{VrMessage}
 use Rattle.vr_log.specs.declared.message.VrMessage.TheVariants as vr
 use Rattle.vr_log.specs.declared.state.Collected.{Collected}
 use Rattle.vr_log.specs.declared.state.Status.TheVariants as status
+use Rattle.vr_log.specs.declared.state.VrState.{VrState}
 use Rattle.vr_log.specs.Valid.{starting_state}
 use Rattle.vr_core.specs.Step.{on_vr}
 use Rattle.app_core.specs.Chain.{part_next, reactions}
@@ -27,7 +28,7 @@ use Rattle.group_controller.specs.declared.messages.ControllerSays.{ControllerSa
 use Rattle.group_controller.specs.declared.messages.ControllerSays.TheVariants as says
 use Rattle.group_controller.specs.Rules.{after_step, controller_work}
 use Rattle.group_controller.specs.Settling.{finishing, settling}
-use Rattle.group_controller.specs.State.{fresh, to_switch}
+use Rattle.group_controller.specs.State.{Work, fresh, to_switch}
 
 -- ---- the parts of what follows
 
@@ -130,3 +131,37 @@ ticks = refl
 acknowledges : controller_work (1 ∷ 2 ∷ []) (group 1 (4 ∷ [])) (record (fresh (starting_state 0 1)) { marks = (record { confirmed = 0 ∷ []; acked = [] }) }) (input.Of 0 0 (spoken.Ravana (extension.Event 1 0 (happening.PortStatus (record { reason = 0; port = 4294967295; up = true }))))) ≡ record { state = (record (fresh (record (starting_state 0 1) { log = (entry.Received (record { switch = 0; life = 1; number = 0; what = happening.PortStatus (record { reason = 0; port = 4294967295; up = true }) })) ∷ (entry.Processed 0) ∷ []; commit = 2 })) { marks = (record { confirmed = 0 ∷ []; acked = [] }); last_told = Some 0 }); save = None; letters = (to_switch 0 0 (spoken.Ravana (extension.EventAck 1 1))) ∷ [] }
 unfolding controller_work after_step settling finishing on_vr issues reactions part_next
 acknowledges = refl
+
+-- ---- turns that no run of a group reaches. By the rules, by hand
+
+-- what changes nothing and says nothing
+abbrev rests : VrState → Work
+rests s = record { state = fresh s; save = None; letters = [] }
+
+-- An echo, to a backup: it is answered with the same bytes and number
+echoes : controller_work (1 ∷ 2 ∷ []) (group 3 (2 ∷ [])) (fresh (starting_state 1 3)) (input.Of 0 7 (spoken.Plain (plain.EchoRequest (1 ∷ 2 ∷ [])))) ≡ record { state = fresh (starting_state 1 3); save = None; letters = (to_switch 0 7 (spoken.Plain (plain.EchoReply (1 ∷ 2 ∷ [])))) ∷ [] }
+unfolding controller_work after_step settling finishing on_vr issues reactions part_next
+echoes = refl
+
+-- None that is down or that recovers answers it
+echoes_down : controller_work (1 ∷ 2 ∷ []) (group 3 (2 ∷ [])) (fresh (record (starting_state 1 3) { status = status.Down })) (input.Of 0 7 (spoken.Plain (plain.EchoRequest []))) ≡ rests (record (starting_state 1 3) { status = status.Down })
+unfolding controller_work after_step settling finishing on_vr issues reactions part_next
+echoes_down = refl
+
+echoes_recovering : controller_work (1 ∷ 2 ∷ []) (group 3 (2 ∷ [])) (fresh (record (starting_state 1 3) { status = status.Recovering; life = 1 })) (input.Of 0 7 (spoken.Plain (plain.EchoRequest []))) ≡ rests (record (starting_state 1 3) { status = status.Recovering; life = 1 })
+unfolding controller_work after_step settling finishing on_vr issues reactions part_next
+echoes_recovering = refl
+
+-- A body that spells nothing, and a restart of one that is up
+hears_nothing : controller_work (1 ∷ 2 ∷ []) (group 1 (2 ∷ [])) (fresh (starting_state 0 1)) (input.Malformed (Switch 0)) ≡ rests (starting_state 0 1)
+unfolding controller_work after_step settling finishing on_vr issues reactions part_next
+hears_nothing = refl
+
+is_up_already : controller_work (1 ∷ 2 ∷ []) (group 1 (2 ∷ [])) (fresh (starting_state 0 1)) (input.Local local.Restart) ≡ rests (starting_state 0 1)
+unfolding controller_work after_step settling finishing on_vr issues reactions part_next
+is_up_already = refl
+
+-- An event of a switch that the group does not have gives no command, also where a rule denies its frame
+elsewhere : reactions (1 ∷ 2 ∷ []) (record { controllers = 1; ports = 2 ∷ []; links = []; deny = (record { proto = 0; src = record { address = 0; length = 0 }; dst = record { address = 0; length = 0 }; port = None }) ∷ [] }) ((record { switch = 1; life = 0; number = 0; what = happening.PacketIn (packet 1 (frame 2 1 (8 ∷ 0 ∷ []))) }) ∷ []) ≡ [] ∷ []
+unfolding issues reactions part_next
+elsewhere = refl

@@ -1,15 +1,2 @@
-//! The tests of what a primary makes of the committed log, and of the turns of a group's controllers.
+//! Turns of a group's controllers, computed (`proofs/Computed.antt`).
 #![tactic(auto)]
-
-#[cfg(test)]
-mod dispatching;
-#[cfg(test)]
-mod inputs;
-#[cfg(test)]
-mod recovery;
-#[cfg(test)]
-mod seat;
-#[cfg(test)]
-mod told;
-#[cfg(test)]
-mod turns;

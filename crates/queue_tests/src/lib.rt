@@ -1,7 +1,7 @@
-//! Tests of the queues of what waits, and of streams.
+//! Tests of what no run of the program reaches of `rv_base`: the limits of a pool and of a journal's bytes, refused memory,
+//! and streams that fail or end.
 #![tactic(auto)]
 
-mod callers;
 #[cfg(test)]
 mod streams;
 #[cfg(test)]

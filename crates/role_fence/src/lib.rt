@@ -2,7 +2,5 @@
 #![tactic(auto)]
 
 mod fence;
-#[cfg(test)]
-mod tests;
 
 pub use fence::{RoleAnswer, RoleFence};

@@ -2,7 +2,5 @@
 #![tactic(auto)]
 
 mod single;
-#[cfg(test)]
-mod tests;
 
 pub use single::Single;

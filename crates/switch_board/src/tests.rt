@@ -1,11 +1,10 @@
-ghost use Rattle.std.specs.Prelude.{◌≡◌, ◌∷◌, [], IfOk, IfSome, IsSome};
-ghost use Rattle.rv_base.specs.Places.{packet_at};
+ghost use Rattle.std.specs.Prelude.{◌≡◌, ◌∷◌, [], IfOk};
 ghost use Rattle.rv_base.specs.declared.journal.Actor.TheVariants as actor;
 ghost use Rattle.switch_board.specs.Places.{fresh, IsSamePlace};
 
 use crate::{Board, Place};
 use of_types::{Items, Octets};
-use rv_base::{Actor, JournalEntry, Letter, Letters, Local, PacketPlace, Stop, Weight, Wire};
+use rv_base::{Actor, JournalEntry, Letter, Letters, Local, PacketPlace, Weight, Wire};
 use std::alloc::{AllocError, Global};
 use std::sync::Wait;
 use std::sync::atomic::{AtomicU64, Ordering};
@@ -49,24 +48,6 @@ fn one_letter<B: Drop>(alloc: Global, to: Actor, body: B) -> Result<Letters<B>, 
     Ok(letters)
 }
 
-/// A copy of the body of a packet. Where there was no memory, the call is made once more.
-fn copy_again<B: Weight, R: Wait>(
-    rt: &R,
-    board: &Board<B>,
-    place: &mut Place<B>,
-    packet: PacketPlace,
-) -> Result<B, AllocError>
-    requires board { place.old.board ≡ board.now.id }
-    requires seen { IsSome (packet_at packet place.old.seen) }
-    ensures place { IsSamePlace place.old place.new }
-    ensures copied { IfOk result (λ body. IfSome (packet_at packet place.old.seen) (λ p. body ≡ p.body)) }
-{
-    match board.copy_body(rt, place, packet) {
-        Ok(body) => Ok(body),
-        Err(_) => board.copy_body(rt, place, packet),
-    }
-}
-
 /// Posts an outbox and draws, and tells the packet that was found, with its body.
 fn reads<R: Wait>(
     rt: &R,
@@ -80,7 +61,7 @@ fn reads<R: Wait>(
 {
     match board.draw(rt, place, post, 7, keep) {
         Ok(Some(packet)) => {
-            let body = copy_again(rt, board, place, packet)?;
+            let body = board.copy_body(rt, place, packet)?;
             Ok(Some((packet, body)))
         }
         Ok(None) => Ok(None),
@@ -134,58 +115,6 @@ fn are_of_kinds(entries: &[JournalEntry<Octets>], kinds: &[u8]) -> bool {
             .iter()
             .zip(kinds)
             .all(|(entry, kind)| kind_of(entry) == *kind)
-}
-
-/// A body that says what it weighs.
-#[derive(Drop)]
-struct Stated {
-    bytes: u64,
-}
-
-impl Weight for Stated {
-    ghost size = { λ s. s.bytes };
-
-    fn size(&self) -> u64 {
-        self.bytes
-    }
-
-    fn copy(&self) -> Result<Stated, AllocError> {
-        Ok(Stated { bytes: self.bytes })
-    }
-}
-
-/// Posts a letter of so many bytes, and tells the cause of a refusal that gave the letter back.
-fn refusal<R: Wait>(
-    rt: &R,
-    alloc: Global,
-    board: &Board<Stated>,
-    place: &mut Place<Stated>,
-    bytes: u64,
-) -> Option<Stop>
-    requires { place.old.board ≡ board.now.id }
-    ensures { IsSamePlace place.old place.new }
-{
-    let post = one_letter(alloc, Actor::Switch(0), Stated { bytes }).ok()?;
-    let refused = board.post(rt, place, post).err()?;
-    let is_back = matches!(refused.post.as_slice(), [letter] if letter.body.bytes == bytes);
-    is_back.then_some(refused.cause)
-}
-
-#[test]
-fn a_full_journal(rt: HostRuntime) -> Result<(), Fail> {
-    let alloc = rt.alloc();
-    let (board, mut controller, switch) = board_of_two(alloc)?;
-    let full = Stop::JournalFull {
-        bytes: 67_108_865,
-        letters: 2,
-    };
-    let first = refusal(&rt, alloc, &board, &mut controller, 67_108_863);
-    let second = refusal(&rt, alloc, &board, &mut controller, 2);
-    let third = refusal(&rt, alloc, &board, &mut controller, 1);
-    assert_eq!(rt; (first, second, third), (None, Some(full), None));
-    let wire = close_two(board, controller, switch, alloc)?;
-    assert_eq!(rt; wire.entries().len(), 2);
-    Ok(())
 }
 
 /// How often a thread looks for the other's flag.

@@ -1,11 +1,8 @@
-//! The tests of `of_switch`, apart from it, so that it is proved once; and turns of it, computed.
+//! Turns of `of_switch`, computed, and the tests of `role_fence`, `event_buffer` and `command_buffer`, apart from these, so
+//! that each is proved once.
 #![tactic(auto)]
 
 #[cfg(test)]
-mod commands;
+mod buffers;
 #[cfg(test)]
-mod events;
-#[cfg(test)]
-mod messages;
-#[cfg(test)]
-mod samples;
+mod fence;

@@ -1,8 +1,8 @@
 use flow_index::FlowIndex;
 use flow_table::{FlowTable, Rows, TableFault};
 use of_types::{
-    ANY_GROUP, ANY_PORT, Fields, FlowCommand, FlowMod, Items, Masked48, Match, NO_BUFFER, ONES48,
-    TO_CONTROLLER, any_match, fields,
+    ANY_GROUP, ANY_PORT, Actions, Fields, FlowCommand, FlowMod, Masked48, Match, NO_BUFFER, ONES48,
+    Row, TO_CONTROLLER, fields,
 };
 use std::alloc::{AllocError, Global};
 use std::process::Abort;
@@ -25,26 +25,72 @@ struct Change {
     matching: Match,
 }
 
-/// A row for every frame, to port 1.
-fn add(priority: u16) -> Change {
-    Change {
-        command: FlowCommand::Add,
-        table: 0,
-        flags: 0,
-        idle: 0,
-        hard: 0,
-        buffer: NO_BUFFER,
-        output: 1,
-        out_port: ANY_PORT,
-        priority,
-        cookie: 0,
-        cookie_mask: 0,
-        matching: any_match(),
-    }
-}
+/// The match of all frames.
+const ANY: Match = Match {
+    in_port: None,
+    eth_dst: None,
+    eth_src: None,
+    eth_type: None,
+    ip_proto: None,
+    ipv4_src: None,
+    ipv4_dst: None,
+    tcp_src: None,
+    tcp_dst: None,
+    udp_src: None,
+    udp_dst: None,
+};
 
-fn flow_mod(alloc: Global, change: Change) -> Result<FlowMod, AllocError> {
-    let mut actions = Items::new(alloc);
+/// The match of all frames to 02:00:00:00:00:01.
+const TO_FIRST: Match = Match {
+    eth_dst: Some(Masked48 {
+        value: 0x0200_0000_0001,
+        mask: ONES48,
+    }),
+    ..ANY
+};
+
+/// The match of all frames to an address that begins with 02:00.
+const TO_NEAR: Match = Match {
+    eth_dst: Some(Masked48 {
+        value: 0x0200_0000_0000,
+        mask: 0xffff_0000_0000,
+    }),
+    ..ANY
+};
+
+const FROM_PORT_1: Match = Match {
+    in_port: Some(1),
+    ..ANY
+};
+
+const FROM_PORT_2: Match = Match {
+    in_port: Some(2),
+    ..ANY
+};
+
+/// A row for every frame, to port 1.
+const ADD: Change = Change {
+    command: FlowCommand::Add,
+    table: 0,
+    flags: 0,
+    idle: 0,
+    hard: 0,
+    buffer: NO_BUFFER,
+    output: 1,
+    out_port: ANY_PORT,
+    priority: 0,
+    cookie: 0,
+    cookie_mask: 0,
+    matching: ANY,
+};
+
+const DELETE: Change = Change {
+    command: FlowCommand::Delete,
+    ..ADD
+};
+
+fn flow_mod(alloc: Global, change: &Change) -> Result<FlowMod, AllocError> {
+    let mut actions = Actions::new(alloc);
     actions.push(change.output)?;
     Ok(FlowMod {
         cookie: change.cookie,
@@ -63,54 +109,80 @@ fn flow_mod(alloc: Global, change: Change) -> Result<FlowMod, AllocError> {
     })
 }
 
-/// Each refusal, in the order of the tests: a case has the later faults too. A table has 2,048 rows at most.
+/// One row more than a full table has. Each change below has one fault more, which is told first.
+const FULL: Change = Change {
+    priority: 2048,
+    ..ADD
+};
+
+const BAD_PORT: Change = Change { output: 3, ..FULL };
+
+const BAD_BUFFER: Change = Change {
+    buffer: 7,
+    ..BAD_PORT
+};
+
+const BAD_HARD: Change = Change {
+    hard: 1,
+    ..BAD_BUFFER
+};
+
+const BAD_IDLE: Change = Change {
+    idle: 1,
+    ..BAD_BUFFER
+};
+
+const BAD_FLAGS: Change = Change {
+    flags: 1,
+    ..BAD_IDLE
+};
+
+const BAD_TABLE: Change = Change {
+    table: 0xff,
+    ..BAD_FLAGS
+};
+
+/// A row that is there.
+const AGAIN: Change = Change { priority: 9, ..ADD };
+
+/// A deletion of that row from any table. It is not asked for its output.
+const DELETE_IT: Change = Change {
+    command: FlowCommand::DeleteStrict,
+    table: 0xff,
+    output: 3,
+    ..AGAIN
+};
+
+/// Changes of a full table, and the answers.
+const ANSWERS: &[(Change, Result<(), TableFault>)] = &[
+    (BAD_TABLE, Err(TableFault::BadTable)),
+    (BAD_FLAGS, Err(TableFault::BadFlags)),
+    (BAD_IDLE, Err(TableFault::BadTimeout)),
+    (BAD_HARD, Err(TableFault::BadTimeout)),
+    (BAD_BUFFER, Err(TableFault::BadBuffer)),
+    (BAD_PORT, Err(TableFault::BadPort)),
+    (FULL, Err(TableFault::TableFull)),
+    (AGAIN, Ok(())),
+    (DELETE_IT, Ok(())),
+    (FULL, Ok(())),
+    (AGAIN, Err(TableFault::TableFull)),
+];
+
+/// A table has 2,048 rows at most.
 fn refuses(rt: &impl Abort, alloc: Global, table: &mut impl Rows) -> Result<(), Fail> {
-    for priority in 1..2048u16 {
-        let change = flow_mod(alloc, add(priority))?;
+    for priority in 1..2048 {
+        let change = flow_mod(alloc, &Change { priority, ..ADD })?;
         assert!(rt; table.apply(&change, 2).is_ok());
     }
-    let full = add(2048);
-    let port = Change { output: 3, ..full };
-    let buffer = Change { buffer: 7, ..port };
-    let hard = Change { hard: 1, ..buffer };
-    let idle = Change { idle: 1, ..buffer };
-    let flags = Change { flags: 1, ..idle };
-    let known = Change {
-        table: 0xff,
-        ..flags
-    };
-    let delete = Change {
-        command: FlowCommand::DeleteStrict,
-        table: 0xff,
-        priority: 9,
-        ..port
-    };
-    let cases = [
-        (known, Err(TableFault::BadTable)),
-        (flags, Err(TableFault::BadFlags)),
-        (idle, Err(TableFault::BadTimeout)),
-        (hard, Err(TableFault::BadTimeout)),
-        (buffer, Err(TableFault::BadBuffer)),
-        (port, Err(TableFault::BadPort)),
-        (full, Err(TableFault::TableFull)),
-        (add(9), Ok(())),
-        (delete, Ok(())),
-        (full, Ok(())),
-        (add(9), Err(TableFault::TableFull)),
-    ];
-    for (change, want) in cases {
-        assert!(rt; table.apply(&flow_mod(alloc, change)?, 2) == want);
+    for (change, want) in ANSWERS {
+        assert!(rt; table.apply(&flow_mod(alloc, change)?, 2) == *want);
     }
     Ok(())
 }
 
 #[test]
-fn list_refuses_in_order(rt: HostRuntime) -> Result<(), Fail> {
-    refuses(&rt, rt.alloc(), &mut FlowTable::new(rt.alloc())?)
-}
-
-#[test]
-fn index_refuses_in_order(rt: HostRuntime) -> Result<(), Fail> {
+fn tables_refuse_in_order(rt: HostRuntime) -> Result<(), Fail> {
+    refuses(&rt, rt.alloc(), &mut FlowTable::new(rt.alloc())?)?;
     refuses(&rt, rt.alloc(), &mut FlowIndex::new(rt.alloc())?)
 }
 
@@ -123,167 +195,163 @@ fn at_port(port: u32) -> Fields {
     }
 }
 
-/// The match of all frames to 02:00:00:00:00:01, or of those whose destination has these bits.
-fn to_first(mask: u64) -> Match {
-    Match {
-        eth_dst: Some(Masked48 {
-            value: 0x0200_0000_0001 & mask,
-            mask,
-        }),
-        ..any_match()
+/// The frame meets a row of this cookie and output.
+fn meets(rt: &impl Abort, table: &impl Rows, port: u32, cookie: u64, output: u32) {
+    match table.look_up(&at_port(port)) {
+        Some(row) => {
+            assert_eq!(rt; row.cookie, cookie);
+            assert!(rt; row.actions.as_slice() == [output].as_slice());
+        }
+        None => assert!(rt; false),
     }
 }
 
-fn from_port(port: u32) -> Match {
-    Match {
-        in_port: Some(port),
-        ..any_match()
+/// Rows have these cookies, in their order.
+fn have_cookies(rt: &impl Abort, rows: &[Row], cookies: &[u64]) {
+    assert_eq!(rt; rows.len(), cookies.len());
+    for (row, cookie) in rows.iter().zip(cookies) {
+        assert_eq!(rt; row.cookie, *cookie);
     }
 }
 
-/// Changes that are accepted, and the cookie and output of the row that the frame then meets at port 1.
-fn meets(
+/// A change that is accepted, and the cookie and output of the row that the frame then meets at port 1.
+type Met = (Change, u64, u32);
+
+/// Plays such changes. Then the rows have these cookies.
+fn plays(
     rt: &impl Abort,
     alloc: Global,
     table: &mut impl Rows,
-    steps: &[(Change, u64, u32)],
+    steps: &[Met],
+    cookies: &[u64],
 ) -> Result<(), Fail> {
     for (change, cookie, output) in steps {
-        assert!(rt; table.apply(&flow_mod(alloc, *change)?, 2).is_ok());
-        let row = table.look_up(&at_port(1));
-        assert_eq!(rt; row.map(|row| row.cookie), Some(*cookie));
-        assert!(rt; row.is_some_and(|row| row.actions.as_slice() == [*output].as_slice()));
+        assert!(rt; table.apply(&flow_mod(alloc, change)?, 2).is_ok());
+        meets(rt, table, 1, *cookie, *output);
     }
+    have_cookies(rt, table.rows()?.as_slice(), cookies);
     Ok(())
 }
+
+const BY_PORT: Change = Change {
+    priority: 5,
+    cookie: 1,
+    matching: FROM_PORT_1,
+    ..ADD
+};
+
+const BY_ADDRESS: Change = Change {
+    cookie: 2,
+    matching: TO_FIRST,
+    ..BY_PORT
+};
+
+/// The first of these once more.
+const IN_ITS_PLACE: Change = Change {
+    cookie: 3,
+    output: TO_CONTROLLER,
+    ..BY_PORT
+};
+
+const OTHER_OUTPUT: Change = Change {
+    command: FlowCommand::ModifyStrict,
+    output: 2,
+    ..BY_ADDRESS
+};
+
+const WITHOUT_IT: Change = Change {
+    command: FlowCommand::DeleteStrict,
+    ..BY_PORT
+};
 
 /// Of two rows of one priority the first is chosen, whether it asks for the input port or for the
 /// destination; an ADD of its match and priority takes its place.
-fn ties(rt: &impl Abort, alloc: Global, table: &mut impl Rows) -> Result<(), Fail> {
-    let by_port = Change {
-        cookie: 1,
-        matching: from_port(1),
-        ..add(5)
-    };
-    let by_address = Change {
-        cookie: 2,
-        matching: to_first(ONES48),
-        ..add(5)
-    };
-    let again = Change {
-        cookie: 3,
-        output: TO_CONTROLLER,
-        ..by_port
-    };
-    let modify = Change {
-        command: FlowCommand::ModifyStrict,
-        output: 2,
-        ..by_address
-    };
-    let delete = Change {
-        command: FlowCommand::DeleteStrict,
-        ..by_port
-    };
-    meets(
-        rt,
-        alloc,
-        table,
-        &[
-            (by_port, 1, 1),
-            (by_address, 1, 1),
-            (again, 3, TO_CONTROLLER),
-            (modify, 3, TO_CONTROLLER),
-            (delete, 2, 2),
-            (by_port, 2, 2),
-        ],
-    )?;
-    let rows = table.rows()?;
-    assert!(rt;
-        rows.len() == 3 && rows[0].cookie == 0 && rows[1].cookie == 2 && rows[2].cookie == 1
-    );
-    Ok(())
-}
+const TIES: &[Met] = &[
+    (BY_PORT, 1, 1),
+    (BY_ADDRESS, 1, 1),
+    (IN_ITS_PLACE, 3, TO_CONTROLLER),
+    (OTHER_OUTPUT, 3, TO_CONTROLLER),
+    (WITHOUT_IT, 2, 2),
+    (BY_PORT, 2, 2),
+];
 
 #[test]
-fn list_chooses_the_first_of_equals(rt: HostRuntime) -> Result<(), Fail> {
-    ties(&rt, rt.alloc(), &mut FlowTable::new(rt.alloc())?)
+fn tables_choose_the_first_of_equals(rt: HostRuntime) -> Result<(), Fail> {
+    let alloc = rt.alloc();
+    plays(&rt, alloc, &mut FlowTable::new(alloc)?, TIES, &[0, 2, 1])?;
+    plays(&rt, alloc, &mut FlowIndex::new(alloc)?, TIES, &[0, 2, 1])
 }
 
-#[test]
-fn index_chooses_the_first_of_equals(rt: HostRuntime) -> Result<(), Fail> {
-    ties(&rt, rt.alloc(), &mut FlowIndex::new(rt.alloc())?)
-}
+const OPEN: Change = Change {
+    priority: 1,
+    cookie: 0x11,
+    ..ADD
+};
+
+const EXACT: Change = Change {
+    priority: 2,
+    cookie: 0x12,
+    matching: TO_FIRST,
+    ..ADD
+};
+
+const MASKED: Change = Change {
+    priority: 3,
+    cookie: 0x21,
+    matching: TO_NEAR,
+    ..ADD
+};
+
+const ELSEWHERE: Change = Change {
+    priority: 9,
+    cookie: 0x22,
+    matching: FROM_PORT_2,
+    ..ADD
+};
+
+/// The rows whose cookies begin so.
+const MODIFY: Change = Change {
+    command: FlowCommand::Modify,
+    cookie: 0x20,
+    cookie_mask: 0xf0,
+    output: 2,
+    ..ADD
+};
+
+/// Those of them that have an output to port 2 and whose frames all go to such addresses.
+const DELETE_MASKED: Change = Change {
+    command: FlowCommand::Delete,
+    out_port: 2,
+    matching: TO_NEAR,
+    ..MODIFY
+};
+
+const DELETE_EXACT: Change = Change {
+    matching: TO_FIRST,
+    ..DELETE
+};
 
 /// Rows of higher priority are met first, whatever they ask for. A MODIFY and a DELETE name rows by a match
 /// that covers theirs, by the cookie under the mask, and a DELETE by an output.
+const NAMED: &[Met] = &[
+    (OPEN, 0x11, 1),
+    (EXACT, 0x12, 1),
+    (MASKED, 0x21, 1),
+    (ELSEWHERE, 0x21, 1),
+    (MODIFY, 0x21, 2),
+    (DELETE_MASKED, 0x12, 1),
+    (DELETE_EXACT, 0x11, 1),
+];
+
+/// The row of port 2 has its new output.
 fn names(rt: &impl Abort, alloc: Global, table: &mut impl Rows) -> Result<(), Fail> {
-    let open = Change {
-        cookie: 0x11,
-        ..add(1)
-    };
-    let exact = Change {
-        cookie: 0x12,
-        matching: to_first(ONES48),
-        ..add(2)
-    };
-    let masked = Change {
-        cookie: 0x21,
-        matching: to_first(0xffff_0000_0000),
-        ..add(3)
-    };
-    let elsewhere = Change {
-        cookie: 0x22,
-        matching: from_port(2),
-        ..add(9)
-    };
-    let modify = Change {
-        command: FlowCommand::Modify,
-        cookie: 0x20,
-        cookie_mask: 0xf0,
-        output: 2,
-        ..add(0)
-    };
-    let delete = Change {
-        command: FlowCommand::Delete,
-        out_port: 2,
-        matching: to_first(0xffff_0000_0000),
-        ..modify
-    };
-    let delete_exact = Change {
-        command: FlowCommand::Delete,
-        matching: to_first(ONES48),
-        ..add(0)
-    };
-    meets(
-        rt,
-        alloc,
-        table,
-        &[
-            (open, 0x11, 1),
-            (exact, 0x12, 1),
-            (masked, 0x21, 1),
-            (elsewhere, 0x21, 1),
-            (modify, 0x21, 2),
-            (delete, 0x12, 1),
-            (delete_exact, 0x11, 1),
-        ],
-    )?;
-    assert_eq!(rt;
-        table.look_up(&at_port(2)).map(|row| row.cookie),
-        Some(0x22)
-    );
-    let rows = table.rows()?;
-    assert!(rt; rows.len() == 3 && rows[1].cookie == 0x11 && rows[2].cookie == 0x22);
-    assert!(rt; rows[2].actions.as_slice() == [2].as_slice());
+    plays(rt, alloc, table, NAMED, &[0, 0x11, 0x22])?;
+    meets(rt, table, 2, 0x22, 2);
     Ok(())
 }
 
 #[test]
-fn list_names_rows(rt: HostRuntime) -> Result<(), Fail> {
-    names(&rt, rt.alloc(), &mut FlowTable::new(rt.alloc())?)
-}
-
-#[test]
-fn index_names_rows(rt: HostRuntime) -> Result<(), Fail> {
+fn tables_name_rows(rt: HostRuntime) -> Result<(), Fail> {
+    names(&rt, rt.alloc(), &mut FlowTable::new(rt.alloc())?)?;
     names(&rt, rt.alloc(), &mut FlowIndex::new(rt.alloc())?)
 }

@@ -1,18 +1,12 @@
-//! The tests of `vr_log`, `two_stage_log`, `vr_normal`, `view_change`, `vr_recovery`, `vr_core` and `vr_codec`,
-//! apart from them, so that each of these is proved once.
+//! The tests of `vr_log`, `vr_normal` and `vr_codec`, apart from them, so that each of these is proved once: what no run
+//! of the program reaches, which are refusals by a caller's fault, and limits.
 #![tactic(auto)]
 
 #[cfg(test)]
-mod cluster;
+mod entries;
 #[cfg(test)]
-mod codec;
-#[cfg(test)]
-mod group;
+mod limits;
 #[cfg(test)]
 mod log;
 #[cfg(test)]
 mod normal;
-#[cfg(test)]
-mod recovery;
-#[cfg(test)]
-mod two_stage;

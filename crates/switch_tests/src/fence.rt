@@ -1,0 +1,129 @@
+use of_types::{EQUAL, MASTER, NO_CHANGE, SLAVE};
+use role_fence::{RoleAnswer, RoleFence};
+use std::process::Abort;
+
+/// Requests by controller, role and generation, and the answers.
+type Asked = (u8, u32, u64, RoleAnswer);
+
+fn asks(rt: &impl Abort, fence: &mut RoleFence, cases: &[Asked]) {
+    for (from, role, generation, want) in cases {
+        assert_eq!(rt; fence.role(*from, *role, *generation), *want);
+    }
+}
+
+/// A second controller asks with an older generation.
+const OLDER: &[Asked] = &[
+    (
+        1,
+        MASTER,
+        3,
+        RoleAnswer::Reply {
+            role: MASTER,
+            generation: 3,
+        },
+    ),
+    (0, MASTER, 2, RoleAnswer::Stale { seen: 3, asked: 2 }),
+    (
+        1,
+        MASTER,
+        3,
+        RoleAnswer::Reply {
+            role: MASTER,
+            generation: 3,
+        },
+    ),
+];
+
+/// It is refused, and the first one may ask again, and may command.
+#[test]
+fn fences_an_older_generation(rt: HostRuntime) {
+    let mut fence = RoleFence::new();
+    asks(&rt, &mut fence, OLDER);
+    assert!(rt; fence.may_execute(1, 3));
+    assert!(rt; !fence.may_execute(1, 2) && !fence.may_execute(0, 3));
+    assert_eq!(rt; (fence.master(), fence.generation()), (Some(1), Some(3)));
+}
+
+/// Roles before and after a change of master, and the end of 64 bits, past which generations go on.
+const CHANGES: &[Asked] = &[
+    (
+        0,
+        NO_CHANGE,
+        0,
+        RoleAnswer::Reply {
+            role: EQUAL,
+            generation: u64::MAX,
+        },
+    ),
+    (0, 4, 0, RoleAnswer::BadRole),
+    (
+        0,
+        MASTER,
+        u64::MAX,
+        RoleAnswer::Reply {
+            role: MASTER,
+            generation: u64::MAX,
+        },
+    ),
+    (
+        1,
+        SLAVE,
+        0,
+        RoleAnswer::Reply {
+            role: SLAVE,
+            generation: 0,
+        },
+    ),
+    (
+        2,
+        MASTER,
+        1,
+        RoleAnswer::Reply {
+            role: MASTER,
+            generation: 1,
+        },
+    ),
+    (
+        0,
+        NO_CHANGE,
+        0,
+        RoleAnswer::Reply {
+            role: SLAVE,
+            generation: 1,
+        },
+    ),
+    (
+        0,
+        EQUAL,
+        0,
+        RoleAnswer::Reply {
+            role: EQUAL,
+            generation: 1,
+        },
+    ),
+    (
+        2,
+        SLAVE,
+        u64::MAX,
+        RoleAnswer::Stale {
+            seen: 1,
+            asked: u64::MAX,
+        },
+    ),
+    (
+        2,
+        EQUAL,
+        0,
+        RoleAnswer::Reply {
+            role: EQUAL,
+            generation: 1,
+        },
+    ),
+];
+
+#[test]
+fn changes_roles(rt: HostRuntime) {
+    let mut fence = RoleFence::new();
+    asks(&rt, &mut fence, CHANGES);
+    assert_eq!(rt; fence.master(), None);
+}

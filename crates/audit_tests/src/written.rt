@@ -1,9 +1,10 @@
 //! Reports as they are written to a sink.
 use crate::reports::NOTHING;
-use report::{WriteFault, read_report, write_report};
+use report::{read_report, write_report};
 use rv_base::MemorySink;
 use std::alloc::{AllocError, Global};
 use std::test::Fail;
+use streams::StreamFault;
 
 /// A sink that takes seven bytes a call, of which the calls of these numbers fail.
 fn sink_of(alloc: Global, failing: &[u64]) -> Result<MemorySink, AllocError> {
@@ -27,7 +28,7 @@ fn stops_at_a_write_that_fails(rt: HostRuntime) -> Result<(), Fail> {
     let record = read_report(rt.alloc(), NOTHING.as_bytes())?;
     let mut sink = sink_of(rt.alloc(), &[4])?;
     let written = write_report(rt.alloc(), &record, &mut sink);
-    assert!(rt; written == Err(WriteFault::Failed));
+    assert!(rt; written == Err(StreamFault::Failed));
     assert!(rt; sink.taken() == "ravana report 1\nsetup 1 1\npo".as_bytes());
     assert!(rt; sink.faults() == 1);
     Ok(())

@@ -1,14 +1,14 @@
 //! A call of the program, with what it is given in memory.
-ghost use Rattle.std.specs.Prelude.{◌≡◌, map, sum, IfOk};
-ghost use Rattle.top_call.specs.Play.{AreChains, AreFresh, program_kinds};
+ghost use Rattle.std.specs.Prelude.{◌≡◌, IfOk};
+ghost use Rattle.top_call.specs.Play.{AreFresh};
 
-use app_core::{App, Part};
+use app_core::Part;
 use firewall_app::Firewall;
 use learning_app::{Learning, PlainLearning};
 use of_types::Octets;
 use rv_base::{FailingSave, MemorySink, MemorySource, MemoryStable, Stable};
 use std::alloc::{AllocError, Global};
-use top_call::{CONTROLLERS, LIVES, Life, chains, push_life, ravana};
+use top_call::{CONTROLLERS, LIVES, push_life, ravana};
 
 /// A save that fails, and its controller.
 #[derive(Clone, Copy)]
@@ -55,7 +55,7 @@ pub struct Way {
     /// The number of the write that fails, from 0.
     pub failing_write: Option<u64>,
     /// The controllers from this one on learn in a list, and those before it in a map.
-    pub lists: Option<usize>,
+    pub lists: usize,
 }
 
 /// Reads and writes don't fail, and all controllers learn in maps.
@@ -63,7 +63,7 @@ pub const PLAIN: Way = Way {
     most: 65_536,
     failing_read: None,
     failing_write: None,
-    lists: None,
+    lists: CONTROLLERS,
 };
 
 /// The status of a call, what it wrote, and how many saves failed in it.
@@ -87,17 +87,25 @@ impl Call {
         matches!(self.words.as_slice(), [word] if word.as_str() == "sim")
     }
 
-    /// Serves it, by the applications of the program, or by those that learn in lists.
+    /// Serves it. Each controller runs a firewall before a learning.
     pub fn serve(&self, alloc: Global, way: Way) -> Result<Answer, AllocError> {
         let bytes = Octets::from_slice(alloc, self.input.as_slice())?;
         let most = way.most.max(1);
         let mut source = MemorySource::new(bytes, most, listed(alloc, way.failing_read)?);
         let mut sink = MemorySink::new(alloc, most, listed(alloc, way.failing_write)?);
         let mut stables = stables(alloc, &self.saves)?;
-        let chains = match way.lists {
-            None => chains(alloc)?,
-            Some(first) => chains_in_lists(alloc, first)?,
-        };
+        let mut chains = Vec::new(alloc);
+        'making: for number in 0..(CONTROLLERS * LIVES) as u8 {
+            let mut parts: Vec<Box<dyn Part + Send>> = Vec::new(alloc);
+            parts.push(Box::new(alloc, Firewall::new(alloc))?)?;
+            if usize::from(number) / LIVES < way.lists {
+                parts.push(Box::new(alloc, Learning::new(alloc))?)?;
+                push_life(&mut chains, number, parts)?;
+            } else {
+                parts.push(Box::new(alloc, PlainLearning::new(alloc))?)?;
+                push_life(&mut chains, number, parts)?;
+            }
+        }
         let status = ravana(
             alloc,
             &self.words,
@@ -165,23 +173,4 @@ fn failed_of(stables: &[MemoryStable]) -> u64 {
         failed = failed.saturating_add(stable.faults());
     }
     failed
-}
-
-/// The applications of each life of the most controllers, of which those from a first one on learn in a list.
-fn chains_in_lists(alloc: Global, lists: usize) -> Result<Vec<Life>, AllocError>
-    ensures { IfOk result (λ chains. AreChains ⟦<Life as App>⟧.kinds ⟦<Life as App>⟧.most program_kinds chains.items) }
-{
-    let mut chains = Vec::new(alloc);
-    'making: for number in 0..(CONTROLLERS * LIVES) as u8 {
-        let mut parts: Vec<Box<dyn Part + Send>> = Vec::new(alloc);
-        parts.push(Box::new(alloc, Firewall::new(alloc))?)?;
-        if usize::from(number) / LIVES < lists {
-            parts.push(Box::new(alloc, Learning::new(alloc))?)?;
-            push_life(&mut chains, number, parts)?;
-        } else {
-            parts.push(Box::new(alloc, PlainLearning::new(alloc))?)?;
-            push_life(&mut chains, number, parts)?;
-        }
-    }
-    Ok(chains)
 }

@@ -49,7 +49,7 @@ impl Case {
             return Ok(());
         };
         let in_lists = Way {
-            lists: Some(from),
+            lists: from,
             ..PLAIN
         };
         if self.call.serve(alloc, in_lists)?.is_same(answer) {

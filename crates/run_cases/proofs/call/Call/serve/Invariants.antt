@@ -3,9 +3,9 @@ use Rattle.std.specs.Prelude.{sum}
 use Rattle.app_core.specs.contracts.part.BoxDynPartSendPart.TheImpl.{ghosts}
 use Rattle.top_call.specs.Play.{program_kinds}
 use Rattle.group_controller.specs.Turns.{AreAlike}
-use Rattle.run_cases.proofs.call.chains_in_lists.OwnLists.{own-1, lawful-own-1}
-use Rattle.run_cases.proofs.call.chains_in_lists.Hidden.{sends-own-1}
-use Rattle.run_cases.proofs.call.chains_in_lists.Given as goal
+use Rattle.run_cases.proofs.call.Call.serve.OwnLists.{own-1, lawful-own-1}
+use Rattle.run_cases.proofs.call.Call.serve.Hidden.{sends-own-1}
+use Rattle.run_cases.proofs.call.Call.serve.Given as goal
 
 abbrev pub invariant-making : goal.invariant-making
 invariant-making l =

@@ -9,6 +9,6 @@ mod shelves;
 mod sim;
 mod top;
 
-pub use group::{Life, chains, stables};
+pub use group::stables;
 pub use shelves::{CONTROLLERS, LIVES, push_life};
 pub use top::ravana;

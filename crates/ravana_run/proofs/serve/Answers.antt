@@ -1,6 +1,6 @@
 use Rattle.std.proofs.Common.{◌≡◌, length, arith}
 use Rattle.top_call.specs.Play.{program_kinds}
-use Rattle.top_call.proofs.group.chains.Goals as goal
+use Rattle.ravana_run.proofs.serve.Goals as goal
 
 pub ravana-requires-clause-chains : goal.ravana-requires-clause-chains
 ravana-requires-clause-chains c =

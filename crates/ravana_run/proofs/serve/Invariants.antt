@@ -3,9 +3,9 @@ use Rattle.std.specs.Prelude.{sum}
 use Rattle.app_core.specs.contracts.part.BoxDynPartSendPart.TheImpl.{ghosts}
 use Rattle.top_call.specs.Play.{program_kinds}
 use Rattle.group_controller.specs.Turns.{AreAlike}
-use Rattle.top_call.proofs.group.chains.OwnLists.{own-1, lawful-own-1}
-use Rattle.top_call.proofs.group.chains.Hidden.{sends-own-1}
-use Rattle.top_call.proofs.group.chains.Given as goal
+use Rattle.ravana_run.proofs.serve.OwnLists.{own-1, lawful-own-1}
+use Rattle.ravana_run.proofs.serve.Hidden.{sends-own-1}
+use Rattle.ravana_run.proofs.serve.Given as goal
 
 abbrev pub invariant-making : goal.invariant-making
 invariant-making l =

@@ -1,11 +1,6 @@
-//! Tests of bodies of any bytes: what they say on each way, through `rv_actors` and the readers below it.
+//! The tests of the bodies of `rv_actors`, apart from it, so that it is proved once. What bytes say stands in the lines of
+//! `run_codecs`; here stands what a way adds: the head of what is refused, and the lengths of a link.
 #![tactic(auto)]
 
 #[cfg(test)]
-mod answers;
-#[cfg(test)]
 mod bodies;
-#[cfg(test)]
-mod cuts;
-#[cfg(test)]
-mod kinds;

@@ -1,6 +1,7 @@
 //! A chain of parts.
-ghost use Rattle.std.specs.Prelude.{◌≡◌, ◌≤◌, map, sum, IfOk};
-ghost use Rattle.app_core.specs.Parts.{AllFit};
+ghost use Rattle.std.specs.Prelude.{◌≡◌, ◌≤◌, map, IfOk};
+ghost use Rattle.app_core.specs.Chain.{given_by};
+ghost use Rattle.app_core.specs.Law.{chain_law};
 
 use app_core::{App, Part, joined_reactions, start_parts};
 use of_types::{Commands, Event, Setup};
@@ -30,7 +31,7 @@ impl<P> Model for ChainOf<P> {
 impl<P: Part> ChainOf<P> {
     /// A chain of these parts, in order.
     pub fn new(parts: Vec<P>) -> ChainOf<P>
-        requires { sum (map P.most_of parts.items) ≤ MOST_COMMANDS }
+        requires { given_by (map P.kind_of parts.items) ≤ MOST_COMMANDS }
         ensures { result ≡ parts.items }
     {
         ChainOf { parts }
@@ -49,13 +50,7 @@ impl<P: Part> ChainOf<P> {
 }
 
 impl<P: Part> App for ChainOf<P> {
-    ghost kinds = { λ parts. map P.kind_of parts };
-
-    ghost most = { λ parts. sum (map P.most_of parts) };
-
-    ghost states = { λ parts. map P.numbers parts };
-
-    ghost suits = { λ parts setup. AllFit P.is_fit parts setup };
+    ghost law = { chain_law P.kind_of P.numbers P.is_fit (λ parts. parts) };
 
     fn start(&mut self, alloc: Global, setup: &Setup) -> Result<(), AllocError> {
         start_parts(alloc, self.parts.as_mut_slice(), setup)

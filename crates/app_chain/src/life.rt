@@ -1,6 +1,5 @@
 //! The chain of one life of a controller.
-ghost use Rattle.std.specs.Prelude.{map, sum};
-ghost use Rattle.app_core.specs.Parts.{AllFit};
+ghost use Rattle.app_core.specs.Law.{chain_law};
 
 use app_core::{App, Part, joined_reactions, start_parts};
 use of_types::{Commands, Event, Setup};
@@ -18,13 +17,7 @@ pub struct LifeOf<P> {
 pub type LifeChain = LifeOf<Box<dyn Part + Send>>;
 
 impl<P: Part> App for LifeOf<P> {
-    ghost kinds = { λ life. map P.kind_of life.parts.items };
-
-    ghost most = { λ life. sum (map P.most_of life.parts.items) };
-
-    ghost states = { λ life. map P.numbers life.parts.items };
-
-    ghost suits = { λ life setup. AllFit P.is_fit life.parts.items setup };
+    ghost law = { chain_law P.kind_of P.numbers P.is_fit (λ life. life.parts.items) };
 
     fn start(&mut self, alloc: Global, setup: &Setup) -> Result<(), AllocError> {
         start_parts(alloc, self.parts.as_mut_slice(), setup)

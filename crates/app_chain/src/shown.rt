@@ -1,5 +1,6 @@
 //! What a caller shows of its parts before it makes a chain of them.
-ghost use Rattle.std.specs.Prelude.{◌≡◌, ◌≤◌, ◌↔◌, IsTrue, map, sum};
+ghost use Rattle.std.specs.Prelude.{◌≡◌, ◌≤◌, ◌↔◌, IsTrue, map};
+ghost use Rattle.app_core.specs.Chain.{given_by};
 
 use app_core::Part;
 
@@ -18,7 +19,7 @@ pub fn has_kinds<P: Part>(parts: &[P], kinds: &[u8]) -> bool
 
 /// Whether parts give at most so many commands for an event, all together.
 pub fn is_within<P: Part>(parts: &[P], most: u32) -> bool
-    ensures { IsTrue result ↔ (sum (map P.most_of parts.now) ≤ most) }
+    ensures { IsTrue result ↔ (given_by (map P.kind_of parts.now) ≤ most) }
 {
     let Some((part, others)) = parts.split_first() else {
         return true;

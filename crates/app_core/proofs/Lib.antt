@@ -2,3 +2,10 @@ pub mod Hosts
 pub mod Denials
 pub mod Installed
 pub mod Issuing
+pub mod Singly
+pub mod All
+pub mod Spelled
+pub mod FirewallLaws
+pub mod LearningLaws
+pub mod Table
+pub mod Chains

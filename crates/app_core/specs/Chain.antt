@@ -1,8 +1,7 @@
 -- Applications, and the plain controller that never fails and runs them on a list of events.
-use Rattle.std.specs.Prelude.{ℕ, Bool, false, not, nat_eq, nat_lt, is_some, List, [], ◌∷◌, ◌++◌, length, map, if◌then◌else◌}
+use Rattle.std.specs.Prelude.{ℕ, Bool, false, not, nat_eq, nat_lt, is_some, List, [], ◌∷◌, ◌+◌, ◌++◌, length, map, if◌then◌else◌}
 use Rattle.of_types.specs.declared.message.Command.{Command}
 use Rattle.of_types.specs.declared.message.Event.{Event}
-use Rattle.of_types.specs.declared.message.Order.{Order}
 use Rattle.of_types.specs.declared.setup.Setup.{Setup}
 use Rattle.app_core.specs.declared.host.Host.{Host}
 use Rattle.of_types.specs.Lives.{is_switch_up}
@@ -61,14 +60,44 @@ firewall = 1
 abbrev pub learning : ℕ
 learning = 2
 
--- one step of a part of a kind. An event of a switch that the setup does not have passes on, and so does
--- every event at a kind that there is not
+-- the rule of a kind: what a part of it does with an event at a switch of the setup, the state in which it starts, and the
+-- most commands that it gives for an event
+pub record PartRule : Type 0 where
+  pub next : Setup → List ℕ → Event → PartStep
+  pub starts : List ℕ
+  pub most : ℕ
+
+-- a firewall has at most 16 rules, and a setup at most 64 switches, each of which gets a row
+abbrev pub firewall_rule : PartRule
+firewall_rule = record { next = λ setup state event. firewall_step setup state event; starts = []; most = 64 }
+
+-- a row and a frame
+abbrev pub learning_rule : PartRule
+learning_rule = record { next = λ setup state event. learning_step (hosts_of state) event; starts = []; most = 2 }
+
+-- at a kind that there is not every event passes on
+abbrev pub no_rule : PartRule
+no_rule = record { next = λ setup state event. passes_on state; starts = []; most = 0 }
+
+-- the table of kinds. That each rule in it keeps its laws is in proofs/Table.antt
+abbrev pub rule_of : ℕ → PartRule
+rule_of kind = if nat_eq kind firewall then firewall_rule else if nat_eq kind learning then learning_rule else no_rule
+
+-- at most so many commands does a part of a kind give for an event, and so many do the parts of a chain together
+abbrev pub most_given : ℕ → ℕ
+most_given kind = (rule_of kind).most
+
+abbrev pub given_by : List ℕ → ℕ
+given_by [] = 0
+given_by (kind ∷ kinds) = most_given kind + given_by kinds
+
+-- one step of a rule. An event of a switch that the setup does not have passes on
+abbrev pub rule_step : PartRule → Setup → List ℕ → Event → PartStep
+rule_step rule setup state event = if not (nat_lt event.switch (length setup.ports)) then passes_on state else rule.next setup state event
+
+-- one step of a part of a kind
 unfoldable pub part_next : ℕ → Setup → List ℕ → Event → PartStep
-part_next kind setup state event =
-    if not (nat_lt event.switch (length setup.ports)) then passes_on state
-    else if nat_eq kind firewall then firewall_step setup state event
-    else if nat_eq kind learning then learning_step (hosts_of state) event
-    else passes_on state
+part_next kind setup state event = rule_step (rule_of kind) setup state event
 
 pub record ChainStep : Type 0 where
   pub states : List (List ℕ)
@@ -83,9 +112,9 @@ chain_next (kind ∷ kinds) setup (state ∷ states) event =
     else record { states = step.state ∷ others.states; commands = step.commands ++ others.commands }
 chain_next kinds setup states event = record { states = states; commands = [] }
 
--- a part of each kind starts with nothing
+-- the state in which a part of a kind starts
 abbrev pub starting : ℕ → List ℕ
-starting kind = []
+starting kind = (rule_of kind).starts
 
 abbrev pub starting_chain : List ℕ → List (List ℕ)
 starting_chain kinds = map starting kinds
@@ -108,12 +137,3 @@ reactions kinds setup events = reactions_from kinds setup (starting_chain kinds)
 -- its commands, joined
 abbrev pub single : List ℕ → Setup → List Event → List Command
 single kinds setup events = concat (reactions kinds setup events)
-
--- the orders for a switch among commands
-abbrev pub orders_for : ℕ → List Command → List Order
-orders_for switch [] = []
-orders_for switch (c ∷ commands) = if nat_eq c.switch switch then c.order ∷ orders_for switch commands else orders_for switch commands
-
--- the orders that it issues to a switch
-abbrev pub issued : List ℕ → Setup → ℕ → List Event → List Order
-issued kinds setup switch events = orders_for switch (single kinds setup events)

@@ -7,9 +7,11 @@ mod commands;
 mod host;
 mod issued;
 mod part;
+mod rules;
 
 pub use app::App;
 pub use commands::{flow_mod, packet_out};
 pub use host::Host;
-pub use issued::Issued;
+pub use issued::{Issued, issued_is_single};
 pub use part::{Part, joined_reactions, start_parts};
+pub use rules::rules_keep_their_laws;

@@ -63,8 +63,8 @@ fn gather<A: App>(
     app: &mut A,
 ) -> Result<(Evidence, Committed), AllocError>
     requires { IsSetup lines.now.setup }
-    ensures evidence { IfOk result (λ x. IsEvidence (A.kinds app.old) lines.now x.0) }
-    ensures committed { IfOk result (λ x. IsCommitted (A.kinds app.old) lines.now x.1) }
+    ensures evidence { IfOk result (λ x. IsEvidence (A.law.kinds app.old) lines.now x.0) }
+    ensures committed { IfOk result (λ x. IsCommitted (A.law.kinds app.old) lines.now x.1) }
 {
     app.start(alloc, &lines.setup)?;
     let received = events_of(alloc, lines.log.as_slice())?;
@@ -94,7 +94,7 @@ fn first_of_record<A: App>(
     app: &mut A,
 ) -> Result<Option<u64>, AllocError>
     requires { IsSetup lines.now.setup }
-    ensures { IfOk result (λ first. first ≡ first_failing 1 (lines_fail (A.kinds app.old) lines.now)) }
+    ensures { IfOk result (λ first. first ≡ first_failing 1 (lines_fail (A.law.kinds app.old) lines.now)) }
 {
     let (evidence, committed) = gather(alloc, lines, app)?;
     let entries = add(lines_before(lines)?, 1)?;
@@ -120,7 +120,7 @@ fn verdict_of(first: Option<u64>) -> Verdict
 /// At want of memory it is to be dropped.
 #[tactic(auto, unfolding(crate::specs::Audit::differs))]
 pub fn check<A: App>(alloc: Global, bytes: &[u8], app: &mut A) -> Result<Verdict, AllocError>
-    ensures { IfOk result (λ verdict. verdict ≡ verdict_of (differs (A.kinds app.old) bytes.now)) }
+    ensures { IfOk result (λ verdict. verdict ≡ verdict_of (differs (A.law.kinds app.old) bytes.now)) }
 {
     match read_report(alloc, bytes) {
         Ok(record) => Ok(verdict_of(first_of_record(alloc, &record, app)?)),

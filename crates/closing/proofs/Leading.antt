@@ -15,7 +15,8 @@ use Rattle.rv_base.specs.Actors.{actor_of, is_input, IsActor}
 use Rattle.rv_base.specs.Limits.{letters_limit}
 use Rattle.rv_base.specs.Pool.{past, pool, without, numbered, fitting, letters_posted}
 use Rattle.rv_base.specs.Turns.{entry_of, turn_actor}
-use Rattle.group_controller.specs.Turns.{Controlling}
+use Rattle.rv_base.specs.Stables.{Saving}
+use Rattle.app_core.specs.Law.{AppLaw}
 use Rattle.rv_runs.specs.States.{Sealing}
 use Rattle.rv_runs.specs.Schedule.{Phase}
 use Rattle.rv_world.specs.declared.debt.Debt.{Debt}
@@ -32,19 +33,19 @@ IsOwing None = ⊥
 IsOwing (Some x) = Unit {0}
 
 -- the scene of a world whose setup is another's
-pub runs_again : {B A : Type 0} (controls : Controlling A → List ℕ → Type 0) (sealing : Sealing B) (old new : Worlding B A) (kinds : List ℕ) → new.setup ≡ old.setup → Holds controls sealing new kinds →
-    Runs controls (scene_in sealing old kinds) new
-runs_again controls sealing old new kinds same holds = subst (λ (s : Setup). Runs controls (record { setup = s; kinds = kinds; sealing = sealing }) new) same holds.run
+pub runs_again : {B A : Type 0} (law : AppLaw A) (sealing : Sealing B) (old new : Worlding B A) (kinds : List ℕ) → new.setup ≡ old.setup → Holds law sealing new kinds →
+    Runs law (scene_in sealing old kinds) new
+runs_again law sealing old new kinds same holds = subst (λ (s : Setup). Runs law (record { setup = s; kinds = kinds; sealing = sealing }) new) same holds.run
 
-module _ {B A W : Type 0} (controls : Controlling A → List ℕ → Type 0) (pair : W → ℕ × ℕ) (faults : W → ℕ) (sealing : Sealing B)
+module _ {B A W : Type 0} (law : AppLaw A) (saving : Saving W) (sealing : Sealing B)
     (old : Worlding B A) (stables : List W) (new : Worlding B A) (stables_after : List W) (step : Turn) (e : JournalEntry B)
-    (rested : old.owed ≡ None) (pairs : PairsStand pair stables old.controllers)
+    (rested : old.owed ≡ None) (pairs : PairsStand saving stables old.controllers)
     (is : entry_of step (past old.journal) ≡ e) (mine : turn_actor step ≡ actor_of e) (named : IsActor old.setup (actor_of e)) (input : is_input e ≡ true) where
-  pub turned_by : (kinds : List ℕ) → Holds controls sealing old kinds → Keeps controls pair faults sealing old stables new stables_after → Added step old new → Turned controls (scene_in sealing old kinds) e old new
+  pub turned_by : (kinds : List ℕ) → Holds law sealing old kinds → Keeps law saving sealing old stables new stables_after → Added step old new → Turned law (scene_in sealing old kinds) e old new
   turned_by kinds holds k a = record {
     was = holds.run;
-    is = runs_again controls sealing old new kinds k.setup (k.holds kinds holds);
-    more = more_told controls (scene_in sealing old kinds) pair faults old new stables stables_after holds.run pairs k.told;
+    is = runs_again law sealing old new kinds k.setup (k.holds kinds holds);
+    more = more_told law (scene_in sealing old kinds) saving old new stables stables_after holds.run pairs k.told;
     rested = rested;
     named = named;
     input = input;
@@ -54,13 +55,13 @@ module _ {B A W : Type 0} (controls : Controlling A → List ℕ → Type 0) (pa
   }
 
   -- a turn that was taken
-  pub turned : (kinds : List ℕ) → Holds controls sealing old kinds → Keeps controls pair faults sealing old stables new stables_after → Applies sealing.size step old new →
-      Turned controls (scene_in sealing old kinds) e old new
+  pub turned : (kinds : List ℕ) → Holds law sealing old kinds → Keeps law saving sealing old stables new stables_after → Applies sealing.size step old new →
+      Turned law (scene_in sealing old kinds) e old new
   turned kinds holds k t = turned_by kinds holds k (added sealing.size step old new rested t)
 
   -- and one that was cut short
   abbrev pub Cuts : Stage B A → Type 0
-  Cuts first = (kinds : List ℕ) → Turned controls (scene_in sealing old kinds) e old new → (start : Worlding B A) → first (scene_in sealing old kinds) start old →
+  Cuts first = (kinds : List ℕ) → Turned law (scene_in sealing old kinds) e old new → (start : Worlding B A) → first (scene_in sealing old kinds) start old →
       (phase : Phase) × ClosesIn phase (scene_in sealing old kinds) start new
 
   never_stuck : (bytes letters : ℕ) → IsStuck sealing.size new bytes letters → new ≡ old → ⊥
@@ -70,8 +71,8 @@ module _ {B A W : Type 0} (controls : Controlling A → List ℕ → Type 0) (pa
       by_owed None is = absurd (rw is at stuck)
       by_owed (Some d) is = tt
 
-  pub stop_leads : {T : Type 0} (first : Stage B A) (next : T → Stage B A) → Cuts first → (stop : Stop) → IfMemory {T = T} (Err stop) (Keeps controls pair faults sealing old stables new stables_after) →
-      TurnStops sealing.size step old new stop → Leads controls sealing first (StandsAt next (Err stop)) old new
+  pub stop_leads : {T : Type 0} (first : Stage B A) (next : T → Stage B A) → Cuts first → (stop : Stop) → IfMemory {T = T} (Err stop) (Keeps law saving sealing old stables new stables_after) →
+      TurnStops sealing.size step old new stop → Leads law sealing first (StandsAt next (Err stop)) old new
   stop_leads first next cuts OutOfMemory k stops kinds holds start c = tt
   stop_leads first next cuts (JournalFull bytes letters) k (stuck, inl same) kinds holds start c = absurd (never_stuck bytes letters stuck same)
   stop_leads first next cuts (JournalFull bytes letters) k (stuck, inr grown) kinds holds start c =
@@ -80,9 +81,9 @@ module _ {B A W : Type 0} (controls : Controlling A → List ℕ → Type 0) (pa
 
   -- both
   pub turn_leads : {T : Type 0} (first : Stage B A) (next : T → Stage B A) → Cuts first →
-      ((x : T) (kinds : List ℕ) → Turned controls (scene_in sealing old kinds) e old new → (start : Worlding B A) → first (scene_in sealing old kinds) start old → next x (scene_in sealing old kinds) start new) →
-      (result : Result T Stop) → OnOk result (Applies sealing.size step old new) → IfMemory result (Keeps controls pair faults sealing old stables new stables_after) →
-      IfErr result (λ stop. TurnStops sealing.size step old new stop) → Leads controls sealing first (StandsAt next result) old new
+      ((x : T) (kinds : List ℕ) → Turned law (scene_in sealing old kinds) e old new → (start : Worlding B A) → first (scene_in sealing old kinds) start old → next x (scene_in sealing old kinds) start new) →
+      (result : Result T Stop) → OnOk result (Applies sealing.size step old new) → IfMemory result (Keeps law saving sealing old stables new stables_after) →
+      IfErr result (λ stop. TurnStops sealing.size step old new stop) → Leads law sealing first (StandsAt next result) old new
   turn_leads first next cuts goes (Ok x) t k stops kinds holds start c = goes x kinds (turned kinds holds k t) start c
   turn_leads first next cuts goes (Err OutOfMemory) t k stops kinds holds start c = tt
   turn_leads first next cuts goes (Err (JournalFull bytes letters)) t k stops kinds holds start c = stop_leads first next cuts (JournalFull bytes letters) k stops kinds holds start c
@@ -155,8 +156,8 @@ takes_less place e old new posts a f of grown counts pools within =
     omega (arith, fewer, waits, first, less, same, counts)
 
 -- one part of a closing after another
-pub leads_then : {B A : Type 0} (controls : Controlling A → List ℕ → Type 0) (sealing : Sealing B) (first next last : Stage B A) (old mid new : Worlding B A) → mid.setup ≡ old.setup →
-    ((kinds : List ℕ) → Holds controls sealing old kinds → Holds controls sealing mid kinds) → Leads controls sealing first next old mid → Leads controls sealing next last mid new → Leads controls sealing first last old new
-leads_then controls sealing first next last old mid new same keeps a b kinds holds start c =
+pub leads_then : {B A : Type 0} (law : AppLaw A) (sealing : Sealing B) (first next last : Stage B A) (old mid new : Worlding B A) → mid.setup ≡ old.setup →
+    ((kinds : List ℕ) → Holds law sealing old kinds → Holds law sealing mid kinds) → Leads law sealing first next old mid → Leads law sealing next last mid new → Leads law sealing first last old new
+leads_then law sealing first next last old mid new same keeps a b kinds holds start c =
     subst (λ (s : Setup). last (record { setup = s; kinds = kinds; sealing = sealing }) start new) same
     (b kinds (keeps kinds holds) start (subst (λ (s : Setup). next (record { setup = s; kinds = kinds; sealing = sealing }) start mid) (sym same) (a kinds holds start c)))

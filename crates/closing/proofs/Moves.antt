@@ -19,8 +19,9 @@ use Rattle.rv_base.specs.Pool.{past, pool, pick, waiting, chosen}
 use Rattle.rv_base.specs.Turns.{entry_of, drawn_entry, lost_entry}
 use Rattle.vr_log.specs.declared.entry.LogFull.{LogFull}
 use Rattle.vr_log.specs.Members.{is_up}
+use Rattle.app_core.specs.Law.{AppLaw}
 use Rattle.group_controller.specs.State.{ControllerState}
-use Rattle.group_controller.specs.Turns.{Controlling, state_of}
+use Rattle.group_controller.specs.Turns.{Controlling, state_of, Controls}
 use Rattle.rv_runs.specs.States.{Scene}
 use Rattle.rv_runs.specs.Committed.{controller_state, states_of}
 use Rattle.rv_runs.specs.Schedule.{Phase, Losing, Suspecting, Draining, Met, IsMove, is_drawn, drained, next_lost, next_drained, after_move, after_turn, after_member, met_by}
@@ -146,95 +147,95 @@ ups_by view n c s before after same less = by_up (is_up s.vr) refl
     by_up true up = by_primary up (nat_eq (view % n) c) refl
     by_up false up = rw up (less up)
 
-module _ {B A : Type 0} (controls : Controlling A → List ℕ → Type 0) (scene : Scene B) (old new : Worlding B A) where
+module _ {B A : Type 0} (law : AppLaw A) (scene : Scene B) (old new : Worlding B A) where
   -- the first packet is lost
-  module _ (place : PacketPlace) (f : First place (past old.journal)) (t : Turned controls scene (Lose place.to place.id) old new) where
+  module _ (place : PacketPlace) (f : First place (past old.journal)) (t : Turned law scene (Lose place.to place.id) old new) where
     pub loses : (start : Worlding B A) → ClosesIn Losing scene start old → ClosesIn Losing scene start new
     loses start c =
-        closes_turn controls scene (Lose place.to place.id) old new t Losing Losing Losing start c
+        closes_turn law scene (Lose place.to place.id) old new t Losing Losing Losing start c
         (λ later more. lost_move place (past old.journal) f scene.setup.controllers (states_of scene later (past old.journal))) (λ later more. refl)
 
     pub loses_drained : (view : ℕ) (quorum : List ℕ) → is_drawn quorum place.from place.to ≡ false → (start : Worlding B A) → Drains view quorum scene start old → Drains view quorum scene start new
     loses_drained view quorum drawn start c = record {
       phase = Draining view quorum;
-      closes = closes_turn controls scene (Lose place.to place.id) old new t c.phase (Draining view quorum) (Draining view quorum) start c.closes
-          (λ later more. subst (λ m. IsMove m (Lose place.to place.id) (Draining view quorum)) (sym (c.next later (more_before controls scene (Lose place.to place.id) old new t later more)))
+      closes = closes_turn law scene (Lose place.to place.id) old new t c.phase (Draining view quorum) (Draining view quorum) start c.closes
+          (λ later more. subst (λ m. IsMove m (Lose place.to place.id) (Draining view quorum)) (sym (c.next later (more_before law scene (Lose place.to place.id) old new t later more)))
           (drained_lost place (past old.journal) f scene.setup.controllers view quorum drawn))
           (λ later more. refl);
       next = λ later more. refl;
     }
 
-    pub lost_ups : (knows : (x : Controlling A) → controls x scene.kinds → KnowsItself x) → up_in new.controllers ≡ up_in old.controllers
-    lost_ups knows = same_ups controls scene (Lose place.to place.id) old new t (λ i within. (ap (λ s. is_up s.vr) (sym (same i)), ap (λ s. s.vr.me) (sym (same i))))
+    pub lost_ups : (knows : (x : Controlling A) → Controls law x scene.kinds → KnowsItself x) → up_in new ≡ up_in old
+    lost_ups knows = same_ups law scene (Lose place.to place.id) old new t (λ i within. (ap (λ s. is_up s.vr) (sym (same i)), ap (λ s. s.vr.me) (sym (same i))))
       where
         same : (i : ℕ) → controller_state scene (results_in new.controllers) i (past new.journal) ≡ controller_state scene (results_in new.controllers) i (past old.journal)
-        same i = state_behind controls scene (Lose place.to place.id) old new t (results_in new.controllers) i ∙ lost_state scene (results_in new.controllers) i place.to place.id (past old.journal)
+        same i = state_behind law scene (Lose place.to place.id) old new t (results_in new.controllers) i ∙ lost_state scene (results_in new.controllers) i place.to place.id (past old.journal)
 
   -- a controller took a turn
-  module _ (knows : (x : Controlling A) → controls x scene.kinds → KnowsItself x) (view c : ℕ) (x : Controlling A) (found : slice_get new.controllers c ≡ Some x) (is_new : Runs controls scene new) where
+  module _ (knows : (x : Controlling A) → Controls law x scene.kinds → KnowsItself x) (view c : ℕ) (x : Controlling A) (found : slice_get new.controllers c ≡ Some x) (is_new : Runs law scene new) where
     turned_phase : (next : Phase) → after_member view (state_of x) next ≡ phase_of (came_of view scene.setup.controllers c (state_of x)) next
     turned_phase next =
-        let m = member_of controls scene new is_new c x found in
+        let m = member_of law scene new is_new c x found in
         let k = knows x m.0 in
         member_phase view scene.setup.controllers c (state_of x) next (k.group ∙ ap (λ s. s.controllers) m.2) (k.me ∙ m.1)
 
     -- its member suspected
-    pub suspects_turn : (input : LocalInput) (quorum members : List ℕ) → input ≡ local.Suspect view → Turned controls scene (Local (actor.Controller c) input) old new → (start : Worlding B A) →
+    pub suspects_turn : (input : LocalInput) (quorum members : List ℕ) → input ≡ local.Suspect view → Turned law scene (Local (actor.Controller c) input) old new → (start : Worlding B A) →
         Suspects view quorum (c ∷ members) scene start old → CameTo (Suspects view quorum members) (came_of view scene.setup.controllers c (state_of x)) scene start new
     suspects_turn input quorum members is t start s =
         let e = Local (actor.Controller c) input in
         let next = Suspecting view quorum members in
         came_stands (Suspects view quorum members) scene start new next (came_of view scene.setup.controllers c (state_of x))
-        (closes_turn controls scene e old new t s.phase next (phase_of (came_of view scene.setup.controllers c (state_of x)) next) start s.closes
-        (λ later more. subst (λ m. IsMove m e next) (sym (s.next later (more_before controls scene e old new t later more))) (ap (λ i. Local (actor.Controller c) i) is, refl))
-        (λ later more. ap (λ y. after_turn y next) (turned_state controls scene e old new t later more c x found) ∙ turned_phase next))
+        (closes_turn law scene e old new t s.phase next (phase_of (came_of view scene.setup.controllers c (state_of x)) next) start s.closes
+        (λ later more. subst (λ m. IsMove m e next) (sym (s.next later (more_before law scene e old new t later more))) (ap (λ i. Local (actor.Controller c) i) is, refl))
+        (λ later more. ap (λ y. after_turn y next) (turned_state law scene e old new t later more c x found) ∙ turned_phase next))
         (λ done. record { phase = next; closes = done; next = λ later more. refl })
 
     -- it drew the first packet
     pub draws_turn : (place : PacketPlace) (quorum : List ℕ) → place.to ≡ actor.Controller c → First place (past old.journal) → is_drawn quorum place.from place.to ≡ true →
-        Turned controls scene (Draw place.to place.id false) old new → (start : Worlding B A) →
+        Turned law scene (Draw place.to place.id false) old new → (start : Worlding B A) →
         Drains view quorum scene start old → CameTo (Drains view quorum) (came_of view scene.setup.controllers c (state_of x)) scene start new
     draws_turn place quorum mine f drawn t start s =
         let e = Draw place.to place.id false in
         let next = Draining view quorum in
         came_stands (Drains view quorum) scene start new next (came_of view scene.setup.controllers c (state_of x))
-        (closes_turn controls scene e old new t s.phase next (phase_of (came_of view scene.setup.controllers c (state_of x)) next) start s.closes
-        (λ later more. subst (λ m. IsMove m e next) (sym (s.next later (more_before controls scene e old new t later more))) (drained_drawn place (past old.journal) f scene.setup.controllers view quorum drawn))
+        (closes_turn law scene e old new t s.phase next (phase_of (came_of view scene.setup.controllers c (state_of x)) next) start s.closes
+        (λ later more. subst (λ m. IsMove m e next) (sym (s.next later (more_before law scene e old new t later more))) (drained_drawn place (past old.journal) f scene.setup.controllers view quorum drawn))
         (λ later more. ap (λ a. after_move scene later (Draw a place.id false) (past old.journal) next) mine ∙
         ap (λ a. after_turn (controller_state scene later c (Draw a place.id false ∷ past old.journal)) next) (sym mine) ∙
-        ap (λ y. after_turn y next) (turned_state controls scene e old new t later more c x found) ∙ turned_phase next))
+        ap (λ y. after_turn y next) (turned_state law scene e old new t later more c x found) ∙ turned_phase next))
         (λ done. record { phase = next; closes = done; next = λ later more. refl })
 
     -- who takes part then
-    pub turn_ups : (e : JournalEntry B) (t : Turned controls scene e old new) → same_actor (actor_of e) (actor.Controller c) ≡ true → ((i : ℕ) → (i ≡ c → ⊥) → same_actor (actor_of e) (actor.Controller i) ≡ false) →
-        has (up_in old.controllers) c ≡ true → UpBy (came_of view scene.setup.controllers c (state_of x)) (up_in old.controllers) (up_in new.controllers)
+    pub turn_ups : (e : JournalEntry B) (t : Turned law scene e old new) → same_actor (actor_of e) (actor.Controller c) ≡ true → ((i : ℕ) → (i ≡ c → ⊥) → same_actor (actor_of e) (actor.Controller i) ≡ false) →
+        has (up_in old) c ≡ true → UpBy (came_of view scene.setup.controllers c (state_of x)) (up_in old) (up_in new)
     turn_ups e t mine others up =
-        let was = was_up controls scene e old new t knows c up in
+        let was = was_up law scene e old new t knows c up in
         let results = results_in new.controllers in
-        let after : controller_state scene results c (past new.journal) ≡ state_of x = state_behind controls scene e old new t results c ∙ turned_state controls scene e old new t results (newest_more t) c x found in
-        let rest : Others controls scene e old new t knows c = λ i within other. state_behind controls scene e old new t results i ∙ other_state scene results i e (past old.journal) (others i other) in
-        ups_by view scene.setup.controllers c (state_of x) (up_in old.controllers) (up_in new.controllers)
-        (λ h. still_up controls scene e old new t knows c rest was.1 (ap (λ s. is_up s.vr) after ∙ h))
-        (λ h. one_down controls scene e old new t knows c was.0 rest was.1 (ap (λ s. is_up s.vr) after ∙ h))
+        let after : controller_state scene results c (past new.journal) ≡ state_of x = state_behind law scene e old new t results c ∙ turned_state law scene e old new t results (newest_more t) c x found in
+        let rest : Others law scene e old new t knows c = λ i within other. state_behind law scene e old new t results i ∙ other_state scene results i e (past old.journal) (others i other) in
+        ups_by view scene.setup.controllers c (state_of x) (up_in old) (up_in new)
+        (λ h. still_up law scene e old new t knows c rest was.1 (ap (λ s. is_up s.vr) after ∙ h))
+        (λ h. one_down law scene e old new t knows c was.0 rest was.1 (ap (λ s. is_up s.vr) after ∙ h))
       where
-        newest_more : Turned controls scene e old new → AreMore scene.setup.controllers (results_in new.controllers) (results_in new.controllers)
+        newest_more : Turned law scene e old new → AreMore scene.setup.controllers (results_in new.controllers) (results_in new.controllers)
         newest_more t = no_more scene.setup.controllers (results_in new.controllers)
 
   -- a switch drew the first packet
   pub draws_switch : (view s : ℕ) (place : PacketPlace) (quorum : List ℕ) → place.to ≡ actor.Switch s → First place (past old.journal) → is_drawn quorum place.from place.to ≡ true →
-      Turned controls scene (Draw place.to place.id false) old new → (start : Worlding B A) → Drains view quorum scene start old → Drains view quorum scene start new
+      Turned law scene (Draw place.to place.id false) old new → (start : Worlding B A) → Drains view quorum scene start old → Drains view quorum scene start new
   draws_switch view s place quorum mine f drawn t start c = record {
     phase = Draining view quorum;
-    closes = closes_turn controls scene (Draw place.to place.id false) old new t c.phase (Draining view quorum) (Draining view quorum) start c.closes
-        (λ later more. subst (λ m. IsMove m (Draw place.to place.id false) (Draining view quorum)) (sym (c.next later (more_before controls scene (Draw place.to place.id false) old new t later more)))
+    closes = closes_turn law scene (Draw place.to place.id false) old new t c.phase (Draining view quorum) (Draining view quorum) start c.closes
+        (λ later more. subst (λ m. IsMove m (Draw place.to place.id false) (Draining view quorum)) (sym (c.next later (more_before law scene (Draw place.to place.id false) old new t later more)))
         (drained_drawn place (past old.journal) f scene.setup.controllers view quorum drawn))
         (λ later more. ap (λ a. after_move scene later (Draw a place.id false) (past old.journal) (Draining view quorum)) mine);
     next = λ later more. refl;
   }
 
-  pub switch_ups : (s : ℕ) (place : PacketPlace) → place.to ≡ actor.Switch s → Turned controls scene (Draw place.to place.id false) old new → up_in new.controllers ≡ up_in old.controllers
-  switch_ups s place mine t = same_ups controls scene (Draw place.to place.id false) old new t (λ i within. (ap (λ y. is_up y.vr) (sym (same i)), ap (λ y. y.vr.me) (sym (same i))))
+  pub switch_ups : (s : ℕ) (place : PacketPlace) → place.to ≡ actor.Switch s → Turned law scene (Draw place.to place.id false) old new → up_in new ≡ up_in old
+  switch_ups s place mine t = same_ups law scene (Draw place.to place.id false) old new t (λ i within. (ap (λ y. is_up y.vr) (sym (same i)), ap (λ y. y.vr.me) (sym (same i))))
     where
       same : (i : ℕ) → controller_state scene (results_in new.controllers) i (past new.journal) ≡ controller_state scene (results_in new.controllers) i (past old.journal)
-      same i = state_behind controls scene (Draw place.to place.id false) old new t (results_in new.controllers) i ∙
+      same i = state_behind law scene (Draw place.to place.id false) old new t (results_in new.controllers) i ∙
           other_state scene (results_in new.controllers) i (Draw place.to place.id false) (past old.journal) (ap (λ a. same_actor a (actor.Controller i)) mine)

@@ -3,6 +3,7 @@ use Rattle.std.proofs.Common.{◌≡◌, ◌≤◌, ◌<◌, ℕ, ◌+◌, Bool,
 use Rattle.std.specs.Prelude.{◌%◌, ◌/◌, nat_lt, reverse, slice_get, Contains, Option, Some, None, OnOk, Result, Ok, Err, if◌then◌else◌}
 use Rattle.std.proofs.lemmas.Bool.{ltb-true, ltb-false}
 use Rattle.std.proofs.lemmas.List.{length-map}
+use Rattle.of_types.specs.declared.setup.Setup.{Setup}
 use Rattle.rv_base.specs.declared.journal.Actor.{Actor}
 use Rattle.rv_base.specs.declared.journal.JournalEntry.{JournalEntry}
 use Rattle.rv_base.specs.declared.journal.JournalEntry.TheVariants.{Post, Draw, Lose, Local, Idle, Refused}
@@ -17,10 +18,12 @@ use Rattle.rv_base.specs.declared.wire.Stop.TheVariants.{OutOfMemory, JournalFul
 use Rattle.rv_base.specs.Places.{IsFound}
 use Rattle.rv_base.specs.Pool.{past, pool}
 use Rattle.rv_base.specs.Turns.{posting}
+use Rattle.rv_base.specs.Stables.{Saving}
 use Rattle.vr_log.specs.declared.entry.LogFull.{LogFull}
 use Rattle.vr_log.specs.Members.{is_up}
+use Rattle.app_core.specs.Law.{AppLaw}
 use Rattle.group_controller.specs.State.{ControllerState}
-use Rattle.group_controller.specs.Turns.{Controlling, state_of}
+use Rattle.group_controller.specs.Turns.{state_of}
 use Rattle.rv_runs.specs.States.{Scene, Sealing}
 use Rattle.rv_runs.specs.Committed.{members_up, states_of}
 use Rattle.rv_runs.specs.Schedule.{Phase, Losing, Met, Move, Answer, Ends, IsPosted, IsEnd, closing_view, majority, quorum_of, next_drained, next_lost, next_move, next_suspicion, next_view, ClosesTo}
@@ -32,6 +35,7 @@ use Rattle.closing.specs.declared.closed.Came.{Came}
 use Rattle.closing.specs.declared.closed.Came.TheVariants as came
 use Rattle.rv_laws.specs.Laws.{IsSuspectedUpTo, SuspectsUpTo}
 use Rattle.closing.specs.Closing.{CameTo, ClosesIn, ClosingStops, Drained, EndsBy, HasClosed, is_over, Leads, Rests, Stage, StandsAt, states_in, Suspects, up_in}
+use Rattle.closing.specs.Views.{views_of_an_attempt}
 use Rattle.closing.proofs.Worlds.{Runs, posted_is, states_are}
 use Rattle.closing.proofs.Turned.{joins, past_joined}
 
@@ -88,49 +92,52 @@ rests_result limit more old mid new (Ok x) low a b = rests_then limit more old m
 rests_result limit more old mid new (Err stop) low a b = tt
 
 pub views_result : {T B A : Type 0} (result : Result T Stop) (old mid new : Worlding B A) → ((limit : ℕ) → IsSuspectedUpTo limit (past old.journal) → IsSuspectedUpTo limit (past mid.journal)) →
-    OnOk result ((limit : ℕ) → IsSuspectedUpTo limit (past mid.journal) → IsSuspectedUpTo (limit + 8) (past new.journal)) → OnOk result ((limit : ℕ) → IsSuspectedUpTo limit (past old.journal) → IsSuspectedUpTo (limit + 8) (past new.journal))
+    OnOk result ((limit : ℕ) → IsSuspectedUpTo limit (past mid.journal) → IsSuspectedUpTo (limit + views_of_an_attempt) (past new.journal)) → OnOk result ((limit : ℕ) → IsSuspectedUpTo limit (past old.journal) → IsSuspectedUpTo (limit + views_of_an_attempt) (past new.journal))
 views_result (Ok x) old mid new first next = λ limit h. next limit (first limit h)
 views_result (Err stop) old mid new first next = tt
 
-module _ {B A W : Type 0} (controls : Controlling A → List ℕ → Type 0) (pair : W → ℕ × ℕ) (faults : W → ℕ) (sealing : Sealing B) where
+module _ {B A W : Type 0} (law : AppLaw A) (saving : Saving W) (sealing : Sealing B) where
   -- a world that was kept, and kept again
-  pub keeps_none : (w : Worlding B A) (stables : List W) → PairsStand pair stables w.controllers → Keeps controls pair faults sealing w stables w stables
+  pub keeps_none : (w : Worlding B A) (stables : List W) → PairsStand saving stables w.controllers → Keeps law saving sealing w stables w stables
   keeps_none w stables pairs = record {
     setup = refl;
     holds = λ kinds h. h;
     pairs = pairs;
-    told = λ c x stable found stands. (x, stable, found, stands, unsaved_told (faults stable) x.results);
+    told = λ c x stable found stands. (x, stable, found, stands, unsaved_told (saving.faults stable) x.results);
+    beyond = λ i past. refl;
   }
 
-  pub keeps_then : (a b c : Worlding B A) (s0 s1 s2 : List W) → Keeps controls pair faults sealing a s0 b s1 → Keeps controls pair faults sealing b s1 c s2 → Keeps controls pair faults sealing a s0 c s2
+  pub keeps_then : (a b c : Worlding B A) (s0 s1 s2 : List W) → Keeps law saving sealing a s0 b s1 → Keeps law saving sealing b s1 c s2 → Keeps law saving sealing a s0 c s2
   keeps_then a b c s0 s1 s2 first next = record {
     setup = next.setup ∙ first.setup;
     holds = λ kinds h. next.holds kinds (first.holds kinds h);
     pairs = next.pairs;
-    told = each_told_then faults s0 s1 s2 a.controllers b.controllers c.controllers first.told next.told;
+    told = each_told_then saving s0 s1 s2 a.controllers b.controllers c.controllers first.told next.told;
+    beyond = λ i past. next.beyond i (subst (λ (s : Setup). s.controllers ≤ i) (sym first.setup) past) ∙ first.beyond i past;
   }
 
-  pub keeps_result : {T : Type 0} (a b c : Worlding B A) (s0 s1 s2 : List W) (result : Result T Stop) → Keeps controls pair faults sealing a s0 b s1 → IfMemory result (Keeps controls pair faults sealing b s1 c s2) →
-      IfMemory result (Keeps controls pair faults sealing a s0 c s2)
+  pub keeps_result : {T : Type 0} (a b c : Worlding B A) (s0 s1 s2 : List W) (result : Result T Stop) → Keeps law saving sealing a s0 b s1 → IfMemory result (Keeps law saving sealing b s1 c s2) →
+      IfMemory result (Keeps law saving sealing a s0 c s2)
   keeps_result a b c s0 s1 s2 (Ok x) first next = keeps_then a b c s0 s1 s2 first next
   keeps_result a b c s0 s1 s2 (Err OutOfMemory) first next = tt
   keeps_result a b c s0 s1 s2 (Err (JournalFull bytes letters)) first next = keeps_then a b c s0 s1 s2 first next
 
-  pub keeps_err : (T U : Type 0) (a b c : Worlding B A) (s0 s1 s2 : List W) (stop : Stop) → Keeps controls pair faults sealing a s0 b s1 → IfMemory {T = T} (Err stop) (Keeps controls pair faults sealing b s1 c s2) →
-      IfMemory {T = U} (Err stop) (Keeps controls pair faults sealing a s0 c s2)
+  pub keeps_err : (T U : Type 0) (a b c : Worlding B A) (s0 s1 s2 : List W) (stop : Stop) → Keeps law saving sealing a s0 b s1 → IfMemory {T = T} (Err stop) (Keeps law saving sealing b s1 c s2) →
+      IfMemory {T = U} (Err stop) (Keeps law saving sealing a s0 c s2)
   keeps_err T U a b c s0 s1 s2 OutOfMemory first next = tt
   keeps_err T U a b c s0 s1 s2 (JournalFull bytes letters) first next = keeps_then a b c s0 s1 s2 first next
 
   -- what was owed is posted
-  module _ (old new : Worlding B A) (stables : List W) (pairs : PairsStand pair stables old.controllers) (is : new ≡ record old { journal = old.journal ++ posts_of sealing.size old.owed old.journal; owed = None }) where
-    pub post_keeps : ((kinds : List ℕ) → Holds controls sealing old kinds → Holds controls sealing new kinds) → Keeps controls pair faults sealing old stables new stables
+  module _ (old new : Worlding B A) (stables : List W) (pairs : PairsStand saving stables old.controllers) (is : new ≡ record old { journal = old.journal ++ posts_of sealing.size old.owed old.journal; owed = None }) where
+    pub post_keeps : ((kinds : List ℕ) → Holds law sealing old kinds → Holds law sealing new kinds) → Keeps law saving sealing old stables new stables
     post_keeps holds =
         let none = keeps_none old stables pairs in
         record {
           setup = ap (λ w. w.setup) is;
           holds = holds;
-          pairs = subst (λ l. PairsStand pair stables l) (sym (ap (λ w. w.controllers) is)) pairs;
-          told = subst (λ l. AreTold faults stables stables old.controllers l) (sym (ap (λ w. w.controllers) is)) none.told;
+          pairs = subst (λ l. PairsStand saving stables l) (sym (ap (λ w. w.controllers) is)) pairs;
+          told = subst (λ l. AreTold saving stables stables old.controllers l) (sym (ap (λ w. w.controllers) is)) none.told;
+          beyond = λ i past. refl;
         }
 
     post_views : (most : ℕ) (owed : Option (Debt B)) → IsSuspectedUpTo most (past old.journal) → IsSuspectedUpTo most (past (old.journal ++ posts_of sealing.size owed old.journal))
@@ -158,7 +165,7 @@ module _ {B A W : Type 0} (controls : Controlling A → List ℕ → Type 0) (pa
         by_letters [] = refl
         by_letters (l ∷ letters) = (debtor, refl)
 
-    pub post_leads : Leads controls sealing (ClosesIn Losing) (ClosesIn Losing) old new
+    pub post_leads : Leads law sealing (ClosesIn Losing) (ClosesIn Losing) old new
     post_leads kinds holds start c =
         let scene = scene_in sealing old kinds in
         let posts = posts_of sealing.size old.owed old.journal in
@@ -171,9 +178,9 @@ module _ {B A W : Type 0} (controls : Controlling A → List ℕ → Type 0) (pa
               (subst (λ l. ClosesTo scene later Losing l posts Losing) (ap past c.joined ∙ past_joined start.journal c.entries) (posts_close scene later old.owed holds.run.debtor));
         }
 
-  pub post_stops : (T : Type 0) (old new : Worlding B A) (stables : List W) → PairsStand pair stables old.controllers → (stop : Stop) → new ≡ old → IfMemory {T = T} (Err stop) (Keeps controls pair faults sealing old stables new stables)
+  pub post_stops : (T : Type 0) (old new : Worlding B A) (stables : List W) → PairsStand saving stables old.controllers → (stop : Stop) → new ≡ old → IfMemory {T = T} (Err stop) (Keeps law saving sealing old stables new stables)
   post_stops T old new stables pairs OutOfMemory same = tt
-  post_stops T old new stables pairs (JournalFull bytes letters) same = subst (λ w. Keeps controls pair faults sealing old stables w stables) (sym same) (keeps_none old stables pairs)
+  post_stops T old new stables pairs (JournalFull bytes letters) same = subst (λ w. Keeps law saving sealing old stables w stables) (sym same) (keeps_none old stables pairs)
 
 -- a closing begins where nothing waits
 few : {X : Type 0} (a b : ℕ) (x y : X) → b ≤ a → (if nat_lt a b then x else y) ≡ y
@@ -190,16 +197,16 @@ many a b x y less = by_less (nat_lt a b) refl
     by_less true is = rw is refl
     by_less false is = let more = ltb-false a b is in absurd (omega (arith, less, more))
 
-module _ {B A : Type 0} (controls : Controlling A → List ℕ → Type 0) (scene : Scene B) (start now : Worlding B A) (runs : Runs controls scene now) where
+module _ {B A : Type 0} (law : AppLaw A) (scene : Scene B) (start now : Worlding B A) (runs : Runs law scene now) where
   abbrev pub Later : List (List SaveResult) → Type 0
   Later later = AreMore scene.setup.controllers (results_in now.controllers) later
 
   cleared_move : pool (past now.journal) ≡ [] → (later : List (List SaveResult)) → Later later → next_move scene later Losing (past now.journal) ≡ next_view {B = B} scene.setup.controllers (states_in now.controllers)
   cleared_move empty later more =
       ap (λ l. next_lost scene.setup.controllers (states_of scene later (past now.journal)) l) empty ∙
-      ap (λ s. next_view {B = B} scene.setup.controllers s) (states_are controls scene now runs later more)
+      ap (λ s. next_view {B = B} scene.setup.controllers s) (states_are law scene now runs later more)
 
-  pub begins : (view : ℕ) (up quorum : List ℕ) → pool (past now.journal) ≡ [] → up ≡ up_in now.controllers → majority scene.setup.controllers ≤ length up →
+  pub begins : (view : ℕ) (up quorum : List ℕ) → pool (past now.journal) ≡ [] → up ≡ up_in now → majority scene.setup.controllers ≤ length up →
       view ≡ closing_view (states_in now.controllers) scene.setup.controllers → quorum ≡ quorum_of (view % scene.setup.controllers) (scene.setup.controllers / 2) up →
       ClosesIn Losing scene start now → Suspects view quorum quorum scene start now
   begins view up quorum empty up_is most view_is quorum_is c = record {
@@ -234,7 +241,7 @@ module _ {B A : Type 0} (controls : Controlling A → List ℕ → Type 0) (scen
     closes = λ later more. record {
       last = phase;
       steps = c.steps later more;
-      posted = subst (λ l. IsPosted scene later l) (ap past c.joined ∙ past_joined start.journal c.entries) (posted_is controls scene now runs later more rests);
+      posted = subst (λ l. IsPosted scene later l) (ap past c.joined ∙ past_joined start.journal c.entries) (posted_is law scene now runs later more rests);
       ends = subst (λ l. IsEnd (next_move scene later phase l) answer) (ap past c.joined ∙ past_joined start.journal c.entries) (ends later more);
     };
   }
@@ -247,14 +254,14 @@ module _ {B A : Type 0} (controls : Controlling A → List ℕ → Type 0) (scen
   pub ends_met : now.owed ≡ None → (limit : LogFull) → ClosesIn (Met limit) scene start now → HasClosed scene (schedule.Overfull limit) start now
   ends_met rests limit c = closed_at rests (Met limit) (schedule.Overfull limit) c (λ later more. refl)
 
-  pub ends_few : now.owed ≡ None → pool (past now.journal) ≡ [] → (up needed : ℕ) → up ≡ length (up_in now.controllers) → needed ≡ majority scene.setup.controllers → up < needed →
+  pub ends_few : now.owed ≡ None → pool (past now.journal) ≡ [] → (up needed : ℕ) → up ≡ length (up_in now) → needed ≡ majority scene.setup.controllers → up < needed →
       ClosesIn Losing scene start now → HasClosed scene (schedule.NoQuorum up needed) start now
   ends_few rests empty up needed up_is needed_is less c =
       closed_at rests Losing (schedule.NoQuorum up needed) c
-      (λ later more. subst (λ m. IsEnd m (schedule.NoQuorum up needed)) (sym (cleared_move empty later more ∙ fewer)) (ap (λ n. schedule.NoQuorum n needed) up_is ∙ ap (λ n. schedule.NoQuorum (length (up_in now.controllers)) n) needed_is))
+      (λ later more. subst (λ m. IsEnd m (schedule.NoQuorum up needed)) (sym (cleared_move empty later more ∙ fewer)) (ap (λ n. schedule.NoQuorum n needed) up_is ∙ ap (λ n. schedule.NoQuorum (length (up_in now)) n) needed_is))
     where
-      fewer : next_view {B = B} scene.setup.controllers (states_in now.controllers) ≡ Ends (schedule.NoQuorum (length (up_in now.controllers)) (majority scene.setup.controllers))
-      fewer = many (length (up_in now.controllers)) (majority scene.setup.controllers) _ _ (subst (λ a. a < majority scene.setup.controllers) up_is (subst (λ b. up < b) needed_is less))
+      fewer : next_view {B = B} scene.setup.controllers (states_in now.controllers) ≡ Ends (schedule.NoQuorum (length (up_in now)) (majority scene.setup.controllers))
+      fewer = many (length (up_in now)) (majority scene.setup.controllers) _ _ (subst (λ a. a < majority scene.setup.controllers) up_is (subst (λ b. up < b) needed_is less))
 
 -- a group has up to seven controllers, and no more take part
 seven_at_most : (n : ℕ) → Contains (1 ∷ 3 ∷ 5 ∷ 7 ∷ []) n → n ≤ 7
@@ -272,11 +279,11 @@ up_short (s ∷ states) = by_up (is_up s.vr) refl (up_short states)
     by_up true is rest = rw is (omega (arith, rest))
     by_up false is rest = rw is (omega (arith, rest))
 
-module _ {B A : Type 0} {controls : Controlling A → List ℕ → Type 0} (scene : Scene B) (now : Worlding B A) (runs : Runs controls scene now) where
+module _ {B A : Type 0} {law : AppLaw A} (scene : Scene B) (now : Worlding B A) (runs : Runs law scene now) where
   pub few_members : scene.setup.controllers ≤ 7
   few_members = seven_at_most scene.setup.controllers runs.setup.group
 
-  pub few_up : length (up_in now.controllers) ≤ 7
+  pub few_up : length (up_in now) ≤ 7
   few_up =
       let short = up_short (states_in now.controllers) in
       let mapped = length-map now.controllers (λ c. state_of c) in
@@ -288,6 +295,6 @@ module _ {B A : Type 0} {controls : Controlling A → List ℕ → Type 0} (scen
 pub closes_first : {B A : Type 0} (scene : Scene B) (start : Worlding B A) → ClosesIn Losing scene start start
 closes_first scene start = record { entries = []; joined = sym (append-nil start.journal); steps = λ later more. refl }
 
-pub stops_by : {B A : Type 0} (scene : Scene B) (stop : Stop) (start now : Worlding B A) → StandsAt EndsBy (Err stop) scene start now → ClosingStops scene stop start now
+pub stops_by : {B A : Type 0} (scene : Scene B) (stop : Stop) (start now : Worlding B A) → StandsAt EndsBy (Err stop) scene start now → ClosingStops scene start now stop
 stops_by scene OutOfMemory start now c = tt
 stops_by scene (JournalFull bytes letters) start now c = c

@@ -14,7 +14,9 @@ use Rattle.rv_base.specs.declared.wire.Stop.{Stop}
 use Rattle.rv_base.specs.Actors.{same_actor, IsActor}
 use Rattle.rv_base.specs.Pool.{past, pool}
 use Rattle.rv_base.specs.Turns.{IsWithinLimits}
-use Rattle.group_controller.specs.Turns.{Controlling, state_of}
+use Rattle.rv_base.specs.Stables.{Saving}
+use Rattle.app_core.specs.Law.{AppLaw}
+use Rattle.group_controller.specs.Turns.{Controlling, state_of, Controls}
 use Rattle.rv_runs.specs.States.{Sealing}
 use Rattle.rv_runs.specs.Committed.{states_of}
 use Rattle.rv_runs.specs.Schedule.{Losing, Suspecting, Draining, IsMove, is_drawn, after_move}
@@ -35,11 +37,11 @@ other_number : (c i : ℕ) (b : Bool) → nat_eq c i ≡ b → (i ≡ c → ⊥)
 other_number c i true is other = absurd (other (sym (eqb-true c i is)))
 other_number c i false is other = is
 
-module _ {B A W : Type 0} (controls : Controlling A → List ℕ → Type 0) (knows : (x : Controlling A) (kinds : List ℕ) → controls x kinds → KnowsItself x)
-    (pair : W → ℕ × ℕ) (faults : W → ℕ) (sealing : Sealing B) (old : Worlding B A) (stables : List W) (new : Worlding B A) (stables_after : List W)
-    (rested : old.owed ≡ None) (pairs : PairsStand pair stables old.controllers) where
+module _ {B A W : Type 0} (law : AppLaw A) (knows : (x : Controlling A) (kinds : List ℕ) → Controls law x kinds → KnowsItself x)
+    (saving : Saving W) (sealing : Sealing B) (old : Worlding B A) (stables : List W) (new : Worlding B A) (stables_after : List W)
+    (rested : old.owed ≡ None) (pairs : PairsStand saving stables old.controllers) where
   abbrev pub Kept : Type 0
-  Kept = Keeps controls pair faults sealing old stables new stables_after
+  Kept = Keeps law saving sealing old stables new stables_after
 
   -- the first packet is lost
   module _ (place : PacketPlace) (first : IsFirst place old.journal) (addressed : AllByRecursion (λ p. IsActor old.setup p.to) (pool (past old.journal))) where
@@ -53,35 +55,35 @@ module _ {B A W : Type 0} (controls : Controlling A → List ℕ → Type 0) (kn
     named = first_named (λ a. IsActor old.setup a) place (past old.journal) found addressed
 
     pub lose_closes : {T : Type 0} (result : Result T Stop) → OnOk result (Applies sealing.size (turn.Lose place.to 0) old new) → IfMemory result Kept → IfErr result (λ stop. TurnStops sealing.size (turn.Lose place.to 0) old new stop) →
-        Leads controls sealing (ClosesIn Losing) (StandsAt (λ _. ClosesIn Losing) result) old new
+        Leads law sealing (ClosesIn Losing) (StandsAt (λ _. ClosesIn Losing) result) old new
     lose_closes result t k stops =
-        turn_leads controls pair faults sealing old stables new stables_after (turn.Lose place.to 0) Lost rested pairs (took_lose place (past old.journal) found) refl named refl (ClosesIn Losing) (λ _. ClosesIn Losing)
+        turn_leads law saving sealing old stables new stables_after (turn.Lose place.to 0) Lost rested pairs (took_lose place (past old.journal) found) refl named refl (ClosesIn Losing) (λ _. ClosesIn Losing)
         (λ kinds turn start c.
         let scene = scene_in sealing old kinds in
-        (Losing, cut_turn controls scene Lost old new turn Losing Losing start c (λ later more. lost_move place (past old.journal) found scene.setup.controllers (states_of scene later (past old.journal)))))
-        (λ x kinds turn start c. loses controls (scene_in sealing old kinds) old new place found turn start c)
+        (Losing, cut_turn law scene Lost old new turn Losing Losing start c (λ later more. lost_move place (past old.journal) found scene.setup.controllers (states_of scene later (past old.journal)))))
+        (λ x kinds turn start c. loses law (scene_in sealing old kinds) old new place found turn start c)
         result t k stops
 
     pub lose_drains : (view : ℕ) (quorum : List ℕ) → is_drawn quorum place.from place.to ≡ false →
         {T : Type 0} (result : Result T Stop) → OnOk result (Applies sealing.size (turn.Lose place.to 0) old new) → IfMemory result Kept → IfErr result (λ stop. TurnStops sealing.size (turn.Lose place.to 0) old new stop) →
-        Leads controls sealing (Drains view quorum) (StandsAt (λ _. Drains view quorum) result) old new
+        Leads law sealing (Drains view quorum) (StandsAt (λ _. Drains view quorum) result) old new
     lose_drains view quorum drawn result t k stops =
-        turn_leads controls pair faults sealing old stables new stables_after (turn.Lose place.to 0) Lost rested pairs (took_lose place (past old.journal) found) refl named refl (Drains view quorum) (λ _. Drains view quorum)
+        turn_leads law saving sealing old stables new stables_after (turn.Lose place.to 0) Lost rested pairs (took_lose place (past old.journal) found) refl named refl (Drains view quorum) (λ _. Drains view quorum)
         (λ kinds turn start c.
         let scene = scene_in sealing old kinds in (
           Draining view quorum,
-          cut_turn controls scene Lost old new turn c.phase (Draining view quorum) start c.closes
-              (λ later more. subst (λ m. IsMove m Lost (Draining view quorum)) (sym (c.next later (more_before controls scene Lost old new turn later more)))
+          cut_turn law scene Lost old new turn c.phase (Draining view quorum) start c.closes
+              (λ later more. subst (λ m. IsMove m Lost (Draining view quorum)) (sym (c.next later (more_before law scene Lost old new turn later more)))
               (drained_lost place (past old.journal) found scene.setup.controllers view quorum drawn)),
         ))
-        (λ x kinds turn start c. loses_drained controls (scene_in sealing old kinds) old new place found turn view quorum drawn start c)
+        (λ x kinds turn start c. loses_drained law (scene_in sealing old kinds) old new place found turn view quorum drawn start c)
         result t k stops
 
-    pub lose_up : (kinds : List ℕ) → Holds controls sealing old kinds → {T : Type 0} (result : Result T Stop) → OnOk result (Applies sealing.size (turn.Lose place.to 0) old new) → IfMemory result Kept →
-        OnOk result (up_in new.controllers ≡ up_in old.controllers)
+    pub lose_up : (kinds : List ℕ) → Holds law sealing old kinds → {T : Type 0} (result : Result T Stop) → OnOk result (Applies sealing.size (turn.Lose place.to 0) old new) → IfMemory result Kept →
+        OnOk result (up_in new ≡ up_in old)
     lose_up kinds holds (Ok x) t k =
-        lost_ups controls (scene_in sealing old kinds) old new place found
-        (turned controls pair faults sealing old stables new stables_after (turn.Lose place.to 0) Lost rested pairs (took_lose place (past old.journal) found) refl named refl kinds holds k t) (λ y h. knows y kinds h)
+        lost_ups law (scene_in sealing old kinds) old new place found
+        (turned law saving sealing old stables new stables_after (turn.Lose place.to 0) Lost rested pairs (took_lose place (past old.journal) found) refl named refl kinds holds k t) (λ y h. knows y kinds h)
     lose_up kinds holds (Err stop) t k = tt
 
     pub lose_less : {T : Type 0} (result : Result T Stop) → OnOk result (Applies sealing.size (turn.Lose place.to 0) old new) → IsWithinLimits sealing.size (past new.journal) →
@@ -102,48 +104,48 @@ module _ {B A W : Type 0} (controls : Controlling A → List ℕ → Type 0) (kn
 
     module _ (view : ℕ) (quorum : List ℕ) (drawn : is_drawn quorum place.from place.to ≡ true) where
       pub draw_cut : {T : Type 0} (next : T → Stage B A) (stop : Stop) → IfMemory {T = T} (Err stop) Kept → TurnStops sealing.size (turn.Draw place.to 0 false) old new stop →
-          Leads controls sealing (Drains view quorum) (StandsAt next (Err stop)) old new
+          Leads law sealing (Drains view quorum) (StandsAt next (Err stop)) old new
       draw_cut next stop k stops =
-          stop_leads controls pair faults sealing old stables new stables_after (turn.Draw place.to 0 false) Drawn rested pairs (took_draw place (past old.journal) found) refl named refl (Drains view quorum) next
+          stop_leads law saving sealing old stables new stables_after (turn.Draw place.to 0 false) Drawn rested pairs (took_draw place (past old.journal) found) refl named refl (Drains view quorum) next
           (λ kinds turn start c.
           let scene = scene_in sealing old kinds in (
             after_move scene (results_in new.controllers) Drawn (past old.journal) (Draining view quorum),
-            cut_turn controls scene Drawn old new turn c.phase (Draining view quorum) start c.closes
-                (λ later more. subst (λ m. IsMove m Drawn (Draining view quorum)) (sym (c.next later (more_before controls scene Drawn old new turn later more)))
+            cut_turn law scene Drawn old new turn c.phase (Draining view quorum) start c.closes
+                (λ later more. subst (λ m. IsMove m Drawn (Draining view quorum)) (sym (c.next later (more_before law scene Drawn old new turn later more)))
                 (drained_drawn place (past old.journal) found scene.setup.controllers view quorum drawn)),
           ))
           stop k stops
 
       module _ (t : Applies sealing.size (turn.Draw place.to 0 false) old new) (k : Kept) where
-        took : (kinds : List ℕ) → Holds controls sealing old kinds → Turned controls (scene_in sealing old kinds) Drawn old new
-        took kinds holds = turned controls pair faults sealing old stables new stables_after (turn.Draw place.to 0 false) Drawn rested pairs (took_draw place (past old.journal) found) refl named refl kinds holds k t
+        took : (kinds : List ℕ) → Holds law sealing old kinds → Turned law (scene_in sealing old kinds) Drawn old new
+        took kinds holds = turned law saving sealing old stables new stables_after (turn.Draw place.to 0 false) Drawn rested pairs (took_draw place (past old.journal) found) refl named refl kinds holds k t
 
-        pub draw_leads : (a : Actor) → place.to ≡ a → (cause : Came) → CameAt view new a cause → Leads controls sealing (Drains view quorum) (CameTo (Drains view quorum) cause) old new
+        pub draw_leads : (a : Actor) → place.to ≡ a → (cause : Came) → CameAt view new a cause → Leads law sealing (Drains view quorum) (CameTo (Drains view quorum) cause) old new
         draw_leads (actor.Controller c) mine cause at kinds holds start s =
             let scene = scene_in sealing old kinds in
             let turn = took kinds holds in
             let m = turn.is.controllers c (subst (λ a. IsActor old.setup a) mine named) in
             let came_is = at m.member m.stands ∙ ap (λ (n : ℕ). came_of view n c (state_of m.member)) (ap (λ y. y.controllers) k.setup) in
             subst (λ x. CameTo (Drains view quorum) x scene start new) (sym came_is)
-            (draws_turn controls scene old new (λ y h. knows y kinds h) view c m.member m.stands turn.is place quorum mine found drawn turn start s)
+            (draws_turn law scene old new (λ y h. knows y kinds h) view c m.member m.stands turn.is place quorum mine found drawn turn start s)
         draw_leads (actor.Switch n) mine cause at kinds holds start s =
             let scene = scene_in sealing old kinds in
-            subst (λ x. CameTo (Drains view quorum) x scene start new) (sym at) (draws_switch controls scene old new view n place quorum mine found drawn (took kinds holds) start s)
+            subst (λ x. CameTo (Drains view quorum) x scene start new) (sym at) (draws_switch law scene old new view n place quorum mine found drawn (took kinds holds) start s)
 
-        pub draw_up : (kinds : List ℕ) → Holds controls sealing old kinds → ((n : ℕ) → has quorum n ≡ true → has (up_in old.controllers) n ≡ true) →
-            (a : Actor) → place.to ≡ a → (cause : Came) → CameAt view new a cause → UpBy cause (up_in old.controllers) (up_in new.controllers)
+        pub draw_up : (kinds : List ℕ) → Holds law sealing old kinds → ((n : ℕ) → has quorum n ≡ true → has (up_in old) n ≡ true) →
+            (a : Actor) → place.to ≡ a → (cause : Came) → CameAt view new a cause → UpBy cause (up_in old) (up_in new)
         draw_up kinds holds up (actor.Controller c) mine cause at =
             let scene = scene_in sealing old kinds in
             let turn = took kinds holds in
             let m = turn.is.controllers c (subst (λ a. IsActor old.setup a) mine named) in
             let came_is = at m.member m.stands ∙ ap (λ (n : ℕ). came_of view n c (state_of m.member)) (ap (λ y. y.controllers) k.setup) in
-            subst (λ x. UpBy x (up_in old.controllers) (up_in new.controllers)) (sym came_is)
-            (turn_ups controls scene old new (λ y h. knows y kinds h) view c m.member m.stands turn.is Drawn turn
+            subst (λ x. UpBy x (up_in old) (up_in new)) (sym came_is)
+            (turn_ups law scene old new (λ y h. knows y kinds h) view c m.member m.stands turn.is Drawn turn
             (ap (λ a. same_actor a (actor.Controller c)) mine ∙ eq-eqb c c refl)
             (λ i other. ap (λ a. same_actor a (actor.Controller i)) mine ∙ other_number c i (nat_eq c i) refl other)
             (up c (drawn_has quorum place.from c (subst (λ a. is_drawn quorum place.from a ≡ true) mine drawn))))
         draw_up kinds holds up (actor.Switch n) mine cause at =
-            subst (λ x. UpBy x (up_in old.controllers) (up_in new.controllers)) (sym at) (switch_ups controls (scene_in sealing old kinds) old new n place mine (took kinds holds))
+            subst (λ x. UpBy x (up_in old) (up_in new)) (sym at) (switch_ups law (scene_in sealing old kinds) old new n place mine (took kinds holds))
 
   -- a member suspects a view
   module _ (view c : ℕ) (there : c < old.setup.controllers) where
@@ -151,37 +153,37 @@ module _ {B A W : Type 0} (controls : Controlling A → List ℕ → Type 0) (kn
     Suspicion = Local (actor.Controller c) (local.Suspect view)
 
     pub suspect_cut : (quorum members : List ℕ) {T : Type 0} (next : T → Stage B A) (stop : Stop) → IfMemory {T = T} (Err stop) Kept → TurnStops sealing.size (turn.Local (actor.Controller c) (local.Suspect view)) old new stop →
-        Leads controls sealing (Suspects view quorum (c ∷ members)) (StandsAt next (Err stop)) old new
+        Leads law sealing (Suspects view quorum (c ∷ members)) (StandsAt next (Err stop)) old new
     suspect_cut quorum members next stop k stops =
-        stop_leads controls pair faults sealing old stables new stables_after (turn.Local (actor.Controller c) (local.Suspect view)) Suspicion rested pairs refl refl there refl (Suspects view quorum (c ∷ members)) next
+        stop_leads law saving sealing old stables new stables_after (turn.Local (actor.Controller c) (local.Suspect view)) Suspicion rested pairs refl refl there refl (Suspects view quorum (c ∷ members)) next
         (λ kinds turn start s.
         let scene = scene_in sealing old kinds in
         let to = Suspecting view quorum members in (
           after_move scene (results_in new.controllers) Suspicion (past old.journal) to,
-          cut_turn controls scene Suspicion old new turn s.phase to start s.closes
-              (λ later more. subst (λ m. IsMove m Suspicion to) (sym (s.next later (more_before controls scene Suspicion old new turn later more))) (refl, refl)),
+          cut_turn law scene Suspicion old new turn s.phase to start s.closes
+              (λ later more. subst (λ m. IsMove m Suspicion to) (sym (s.next later (more_before law scene Suspicion old new turn later more))) (refl, refl)),
         ))
         stop k stops
 
     module _ (t : Applies sealing.size (turn.Local (actor.Controller c) (local.Suspect view)) old new) (k : Kept) (cause : Came) (at : CameAt view new (actor.Controller c) cause) where
-      suspected : (kinds : List ℕ) → Holds controls sealing old kinds → Turned controls (scene_in sealing old kinds) Suspicion old new
-      suspected kinds holds = turned controls pair faults sealing old stables new stables_after (turn.Local (actor.Controller c) (local.Suspect view)) Suspicion rested pairs refl refl there refl kinds holds k t
+      suspected : (kinds : List ℕ) → Holds law sealing old kinds → Turned law (scene_in sealing old kinds) Suspicion old new
+      suspected kinds holds = turned law saving sealing old stables new stables_after (turn.Local (actor.Controller c) (local.Suspect view)) Suspicion rested pairs refl refl there refl kinds holds k t
 
-      pub suspect_leads : (quorum members : List ℕ) → Leads controls sealing (Suspects view quorum (c ∷ members)) (CameTo (Suspects view quorum members) cause) old new
+      pub suspect_leads : (quorum members : List ℕ) → Leads law sealing (Suspects view quorum (c ∷ members)) (CameTo (Suspects view quorum members) cause) old new
       suspect_leads quorum members kinds holds start s =
           let scene = scene_in sealing old kinds in
           let turn = suspected kinds holds in
           let m = turn.is.controllers c there in
           let came_is = at m.member m.stands ∙ ap (λ (n : ℕ). came_of view n c (state_of m.member)) (ap (λ y. y.controllers) k.setup) in
           subst (λ x. CameTo (Suspects view quorum members) x scene start new) (sym came_is)
-          (suspects_turn controls scene old new (λ y h. knows y kinds h) view c m.member m.stands turn.is (local.Suspect view) quorum members refl turn start s)
+          (suspects_turn law scene old new (λ y h. knows y kinds h) view c m.member m.stands turn.is (local.Suspect view) quorum members refl turn start s)
 
-      pub suspect_up : (kinds : List ℕ) → Holds controls sealing old kinds → has (up_in old.controllers) c ≡ true → UpBy cause (up_in old.controllers) (up_in new.controllers)
+      pub suspect_up : (kinds : List ℕ) → Holds law sealing old kinds → has (up_in old) c ≡ true → UpBy cause (up_in old) (up_in new)
       suspect_up kinds holds up =
           let scene = scene_in sealing old kinds in
           let turn = suspected kinds holds in
           let m = turn.is.controllers c there in
           let came_is = at m.member m.stands ∙ ap (λ (n : ℕ). came_of view n c (state_of m.member)) (ap (λ y. y.controllers) k.setup) in
-          subst (λ x. UpBy x (up_in old.controllers) (up_in new.controllers)) (sym came_is)
-          (turn_ups controls scene old new (λ y h. knows y kinds h) view c m.member m.stands turn.is Suspicion turn
+          subst (λ x. UpBy x (up_in old) (up_in new)) (sym came_is)
+          (turn_ups law scene old new (λ y h. knows y kinds h) view c m.member m.stands turn.is Suspicion turn
           (eq-eqb c c refl) (λ i other. other_number c i (nat_eq c i) refl other) up)

@@ -15,9 +15,11 @@ use Rattle.rv_base.specs.Actors.{same_actor, actor_of, is_input, IsActor}
 use Rattle.rv_base.specs.Part.{part, drawn}
 use Rattle.rv_base.specs.Pool.{past}
 use Rattle.rv_base.specs.Turns.{entry_of, posting, turn_actor}
+use Rattle.rv_base.specs.Stables.{Saving}
 use Rattle.vr_log.specs.Members.{is_up}
+use Rattle.app_core.specs.Law.{AppLaw}
 use Rattle.group_controller.specs.State.{ControllerState}
-use Rattle.group_controller.specs.Turns.{Controlling, state_of}
+use Rattle.group_controller.specs.Turns.{Controlling, state_of, Controls}
 use Rattle.rv_runs.specs.States.{Scene, controller_at}
 use Rattle.rv_runs.specs.Legal.{results_of}
 use Rattle.rv_runs.specs.Committed.{controller_state, members_up}
@@ -66,9 +68,9 @@ pub added_alone : {B A : Type 0} (size : B → ℕ) (turn : Turn) (old new : Wor
 added_alone size turn old new rests grown = record { posts = []; grown = grown ∙ ap (λ l. taken turn l) (owed_nothing size old rests); of = No_post }
 
 -- an entry and its post
-pub record Turned {B A : Type 0} (controls : Controlling A → List ℕ → Type 0) (scene : Scene B) (e : JournalEntry B) (old new : Worlding B A) : Type 0 where
-  pub was : Runs controls scene old
-  pub is : Runs controls scene new
+pub record Turned {B A : Type 0} (law : AppLaw A) (scene : Scene B) (e : JournalEntry B) (old new : Worlding B A) : Type 0 where
+  pub was : Runs law scene old
+  pub is : Runs law scene new
   pub more : AreMore scene.setup.controllers (results_in old.controllers) (results_in new.controllers)
   pub rested : old.owed ≡ None
   pub named : IsActor scene.setup (actor_of e)
@@ -78,10 +80,10 @@ pub record Turned {B A : Type 0} (controls : Controlling A → List ℕ → Type
   pub of : PostsOf (actor_of e) posts
 
 -- saves were made in a turn
-pub more_told : {B A W : Type 0} (controls : Controlling A → List ℕ → Type 0) (scene : Scene B) (pair : W → ℕ × ℕ) (faults : W → ℕ) (old new : Worlding B A) (stables stables_after : List W) →
-    Runs controls scene old → PairsStand pair stables old.controllers → AreTold faults stables stables_after old.controllers new.controllers →
+pub more_told : {B A W : Type 0} (law : AppLaw A) (scene : Scene B) (saving : Saving W) (old new : Worlding B A) (stables stables_after : List W) →
+    Runs law scene old → PairsStand saving stables old.controllers → AreTold saving stables stables_after old.controllers new.controllers →
     AreMore scene.setup.controllers (results_in old.controllers) (results_in new.controllers)
-more_told controls scene pair faults old new stables stables_after runs pairs told c there =
+more_told law scene saving old new stables stables_after runs pairs told c there =
     let m = runs.controllers c there in
     let p = pairs c m.member m.stands in
     let t = told c m.member p.0 m.stands p.1 in
@@ -165,7 +167,7 @@ module _ {B : Type 0} (scene : Scene B) (results : List (List SaveResult)) where
       by_actor true h = ap (λ p. (controller_at scene (results_of results c) c p).now) (part_mine (actor.Controller c) (Lose a id) entries h)
       by_actor false h = other_state c (Lose a id) entries h
 
-module _ {B A : Type 0} (controls : Controlling A → List ℕ → Type 0) (scene : Scene B) (e : JournalEntry B) (old new : Worlding B A) (t : Turned controls scene e old new) where
+module _ {B A : Type 0} (law : AppLaw A) (scene : Scene B) (e : JournalEntry B) (old new : Worlding B A) (t : Turned law scene e old new) where
   pub past_new : past new.journal ≡ reverse t.posts ++ e ∷ past old.journal
   past_new = past_added old.journal new.journal e t.posts t.grown
 
@@ -180,7 +182,7 @@ module _ {B A : Type 0} (controls : Controlling A → List ℕ → Type 0) (scen
 
   -- the state of the controller that took the turn
   pub turned_state : (later : List (List SaveResult)) → Later later → (c : ℕ) (x : Controlling A) → slice_get new.controllers c ≡ Some x → controller_state scene later c (e ∷ past old.journal) ≡ state_of x
-  turned_state later more c x found = sym (state_behind later c) ∙ state_is controls scene new t.is later more c x found
+  turned_state later more c x found = sym (state_behind later c) ∙ state_is law scene new t.is later more c x found
 
   -- a closing goes on
   pub closes_turn : (phase next settled : Phase) (start : Worlding B A) → ClosesIn phase scene start old →
@@ -192,7 +194,7 @@ module _ {B A : Type 0} (controls : Controlling A → List ℕ → Type 0) (scen
     steps = λ later more. joins scene later Losing phase settled (past start.journal) c.entries (e ∷ t.posts) (c.steps later (more_before later more))
         (subst (λ l. ClosesTo scene later phase l (e ∷ t.posts) settled) (ap past c.joined ∙ past_joined start.journal c.entries)
         (subst (λ p. ClosesTo scene later phase (past old.journal) (e ∷ t.posts) p) (after later more)
-        (one_move scene later phase next (past old.journal) e t.posts t.input (posted_is controls scene old t.was later (more_before later more) t.rested) (move later more) t.of)));
+        (one_move scene later phase next (past old.journal) e t.posts t.input (posted_is law scene old t.was later (more_before later more) t.rested) (move later more) t.of)));
   }
 
   -- where it stands behind the turn of a controller, and of a switch
@@ -234,28 +236,28 @@ module _ {B A : Type 0} (controls : Controlling A → List ℕ → Type 0) (scen
   abbrev after_at : ℕ → ControllerState
   after_at i = controller_state scene Newest i (past new.journal)
 
-  ups_before : up_in old.controllers ≡ members_up (map before_at (range_with_len 0 scene.setup.controllers))
-  ups_before = ap members_up (sym (states_are controls scene old t.was Newest (more_before Newest newest)))
+  ups_before : up_in old ≡ members_up (map before_at (range_with_len 0 scene.setup.controllers))
+  ups_before = ap members_up (sym (states_are law scene old t.was Newest (more_before Newest newest)))
 
-  ups_after : up_in new.controllers ≡ members_up (map after_at (range_with_len 0 scene.setup.controllers))
-  ups_after = ap members_up (sym (states_are controls scene new t.is Newest newest))
+  ups_after : up_in new ≡ members_up (map after_at (range_with_len 0 scene.setup.controllers))
+  ups_after = ap members_up (sym (states_are law scene new t.is Newest newest))
 
-  pub same_ups : ((i : ℕ) → i < scene.setup.controllers → (is_up (before_at i).vr ≡ is_up (after_at i).vr) × ((before_at i).vr.me ≡ (after_at i).vr.me)) → up_in new.controllers ≡ up_in old.controllers
+  pub same_ups : ((i : ℕ) → i < scene.setup.controllers → (is_up (before_at i).vr ≡ is_up (after_at i).vr) × ((before_at i).vr.me ≡ (after_at i).vr.me)) → up_in new ≡ up_in old
   same_ups same = ups_after ∙ sym (members_same before_at after_at 0 scene.setup.controllers (λ i low high. same i (omega (arith, high)))) ∙ sym ups_before
 
-  module _ (knows : (x : Controlling A) → controls x scene.kinds → KnowsItself x) where
+  module _ (knows : (x : Controlling A) → Controls law x scene.kinds → KnowsItself x) where
     pub me_before : (i : ℕ) → i < scene.setup.controllers → (before_at i).vr.me ≡ i
     me_before i within =
         let m = t.was.controllers i within in
-        ap (λ s. s.vr.me) (state_is controls scene old t.was Newest (more_before Newest newest) i m.member m.stands) ∙ (knows m.member m.keeps).me ∙ m.me
+        ap (λ s. s.vr.me) (state_is law scene old t.was Newest (more_before Newest newest) i m.member m.stands) ∙ (knows m.member m.keeps).me ∙ m.me
 
     pub me_after : (i : ℕ) → i < scene.setup.controllers → (after_at i).vr.me ≡ i
     me_after i within =
         let m = t.is.controllers i within in
-        ap (λ s. s.vr.me) (state_is controls scene new t.is Newest newest i m.member m.stands) ∙ (knows m.member m.keeps).me ∙ m.me
+        ap (λ s. s.vr.me) (state_is law scene new t.is Newest newest i m.member m.stands) ∙ (knows m.member m.keeps).me ∙ m.me
 
     -- one that takes part in the old world
-    pub was_up : (c : ℕ) → has (up_in old.controllers) c ≡ true → (c < scene.setup.controllers) × (is_up (before_at c).vr ≡ true)
+    pub was_up : (c : ℕ) → has (up_in old) c ≡ true → (c < scene.setup.controllers) × (is_up (before_at c).vr ≡ true)
     was_up c found =
         let r = member_there before_at 0 scene.setup.controllers c (λ i low high. me_before i (omega (arith, high))) (ap (λ l. has l c) (sym ups_before) ∙ found) in
         let within = r.0 in (omega (arith, within), r.1)
@@ -263,14 +265,14 @@ module _ {B A : Type 0} (controls : Controlling A → List ℕ → Type 0) (scen
     abbrev pub Others : ℕ → Type 0
     Others c = (i : ℕ) → i < scene.setup.controllers → (i ≡ c → ⊥) → after_at i ≡ before_at i
 
-    pub still_up : (c : ℕ) → Others c → is_up (before_at c).vr ≡ true → is_up (after_at c).vr ≡ true → up_in new.controllers ≡ up_in old.controllers
+    pub still_up : (c : ℕ) → Others c → is_up (before_at c).vr ≡ true → is_up (after_at c).vr ≡ true → up_in new ≡ up_in old
     still_up c others was is = same_ups (λ i within. (by_number i within (nat_eq i c) refl, me_before i within ∙ sym (me_after i within)))
       where
         by_number : (i : ℕ) → i < scene.setup.controllers → (b : Bool) → nat_eq i c ≡ b → is_up (before_at i).vr ≡ is_up (after_at i).vr
         by_number i within true h = let same = eqb-true i c h in subst (λ k. is_up (before_at k).vr ≡ is_up (after_at k).vr) (sym same) (was ∙ sym is)
         by_number i within false h = ap (λ s. is_up s.vr) (sym (others i within (eqb-false i c h)))
 
-    pub one_down : (c : ℕ) → c < scene.setup.controllers → Others c → is_up (before_at c).vr ≡ true → is_up (after_at c).vr ≡ false → length (up_in new.controllers) < length (up_in old.controllers)
+    pub one_down : (c : ℕ) → c < scene.setup.controllers → Others c → is_up (before_at c).vr ≡ true → is_up (after_at c).vr ≡ false → length (up_in new) < length (up_in old)
     one_down c there others was is =
         let less = members_less before_at after_at 0 scene.setup.controllers c (λ i low high up. by_number i (omega (arith, high)) (nat_eq i c) refl up) (omega arith) (omega (arith, there)) was is in
         let first = ap length ups_after in

@@ -3,7 +3,6 @@ use Rattle.std.proofs.Common.{◌≡◌, ◌≤◌, ◌<◌, ℕ, ◌+◌, true,
 use Rattle.std.specs.Prelude.{max, option_map, slice_get, Option, Some, None, IfSome}
 use Rattle.std.specs.List.{range_with_len}
 use Rattle.std.proofs.lemmas.Option.{slice_get_within, slice_get-map}
-use Rattle.of_types.specs.declared.setup.Setup.{Setup}
 use Rattle.rv_base.specs.declared.journal.Actor.{Actor}
 use Rattle.rv_base.specs.declared.journal.Actor.TheVariants as actor
 use Rattle.rv_base.specs.declared.journal.JournalEntry.{JournalEntry}
@@ -14,6 +13,7 @@ use Rattle.group_controller.specs.State.{ControllerState, fresh}
 use Rattle.group_controller.specs.Turns.{Controlling, Controls, Stands, state_of, state_or}
 use Rattle.group_controller.specs.Acting.{Acting}
 use Rattle.vr_log.specs.Valid.{down_state}
+use Rattle.app_core.specs.Law.{AppLaw}
 use Rattle.rv_laws.specs.Laws.{IsSuspectedUpTo}
 use Rattle.rv_laws.proofs.Views.{views_up_to}
 use Rattle.rv_runs.specs.States.{IsFaithful, Scene, Sealing}
@@ -32,7 +32,7 @@ state_at controllers i x found = slice_get-map (λ c. state_of c) controllers i 
 
 -- one more controller was counted
 pub counted : {A : Type 0} (up more : List ℕ) (i : ℕ) (controllers : List (Controlling A)) (x : Controlling A) → slice_get controllers i ≡ Some x → more ≡ up ++ member_in (state_of x) →
-    up ++ members_up (drop i (states_in controllers)) ≡ up_in controllers → more ++ members_up (drop (i + 1) (states_in controllers)) ≡ up_in controllers
+    up ++ members_up (drop i (states_in controllers)) ≡ members_up (states_in controllers) → more ++ members_up (drop (i + 1) (states_in controllers)) ≡ members_up (states_in controllers)
 counted up more i controllers x found is before =
     ap (λ l. l ++ members_up (drop (i + 1) (states_in controllers))) is ∙ members_next up i (states_in controllers) (state_of x) (state_at controllers i x found) ∙ before
 
@@ -54,8 +54,8 @@ bound_near {A = A} limit controllers views = bound_limit limit (states_in contro
     each i s found = by_found i s (slice_get controllers i) refl (sym (slice_get-map (λ c. state_of c) controllers i) ∙ found)
 
 -- the world of a run
-abbrev pub Runs : {B A : Type 0} → (Controlling A → List ℕ → Type 0) → Scene B → Worlding B A → Type 0
-Runs controls scene w = HoldsAt controls scene (results_in w.controllers) (past w.journal) w
+abbrev pub Runs : {B A : Type 0} → AppLaw A → Scene B → Worlding B A → Type 0
+Runs law scene w = HoldsAt law scene (results_in w.controllers) (past w.journal) w
 
 -- what a controller knows of itself
 pub record KnowsItself {A : Type 0} (x : Controlling A) : Type 0 where
@@ -63,8 +63,8 @@ pub record KnowsItself {A : Type 0} (x : Controlling A) : Type 0 where
   pub group : (state_of x).vr.controllers ≡ x.setup.controllers
   pub promise : (state_of x).vr.promise ≡ x.promise
 
-module _ {A : Type 0} (kinds_of : A → List ℕ) (most_of : A → ℕ) (app_states : A → List (List ℕ)) (suits : A → Setup → Type 0) where
-  pub knows_itself : (x : Controlling A) (kinds : List ℕ) → Controls kinds_of most_of app_states suits x kinds → KnowsItself x
+module _ {A : Type 0} (law : AppLaw A) where
+  pub knows_itself : (x : Controlling A) (kinds : List ℕ) → Controls law x kinds → KnowsItself x
   knows_itself x kinds controls = by_acting x.acting refl
     where
       below : ControllerState
@@ -77,14 +77,14 @@ module _ {A : Type 0} (kinds_of : A → List ℕ) (most_of : A → ℕ) (app_sta
         promise = ap (λ o. (state_or below o).vr.promise) is;
       }
       by_acting (Some a) is =
-          let stands = subst (λ o. IfSome o (Stands kinds_of most_of app_states suits x kinds)) is controls.acting in
+          let stands = subst (λ o. IfSome o (Stands law x kinds)) is controls.acting in
           record {
             me = ap (λ o. (state_or below o).vr.me) is ∙ stands.me;
             group = ap (λ o. (state_or below o).vr.controllers) is ∙ stands.controllers;
             promise = ap (λ o. (state_or below o).vr.promise) is ∙ stands.promise;
           }
 
-module _ {B A : Type 0} (controls : Controlling A → List ℕ → Type 0) (scene : Scene B) (w : Worlding B A) (runs : Runs controls scene w) where
+module _ {B A : Type 0} (law : AppLaw A) (scene : Scene B) (w : Worlding B A) (runs : Runs law scene w) where
   -- each controller is one that the run has
   pub there : (c : ℕ) (x : Controlling A) → slice_get w.controllers c ≡ Some x → c < scene.setup.controllers
   there c x found = let within = slice_get_within w.controllers c x found in let group = runs.group in omega (arith, within, group)
@@ -122,14 +122,14 @@ module _ {B A : Type 0} (controls : Controlling A → List ℕ → Type 0) (scen
     posted_is rests = posted_by rests (past w.journal) refl
 
   -- who each controller is
-  pub member_of : (c : ℕ) (x : Controlling A) → slice_get w.controllers c ≡ Some x → controls x scene.kinds × (x.me ≡ c) × (x.setup ≡ scene.setup)
+  pub member_of : (c : ℕ) (x : Controlling A) → slice_get w.controllers c ≡ Some x → Controls law x scene.kinds × (x.me ≡ c) × (x.setup ≡ scene.setup)
   member_of c x found =
       let m = runs.controllers c (there c x found) in
       let one : m.member ≡ x = from_some m.member x (sym m.stands ∙ found) in
-      (subst (λ y. controls y scene.kinds) one m.keeps, ap (λ y. y.me) (sym one) ∙ m.me, ap (λ y. y.setup) (sym one) ∙ m.setup)
+      (subst (λ y. Controls law y scene.kinds) one m.keeps, ap (λ y. y.me) (sym one) ∙ m.me, ap (λ y. y.setup) (sym one) ∙ m.setup)
 
   -- those that take part are of the group
-  pub up_within : ((x : Controlling A) → controls x scene.kinds → KnowsItself x) → (c : ℕ) → has (up_in w.controllers) c ≡ true → c < scene.setup.controllers
+  pub up_within : ((x : Controlling A) → Controls law x scene.kinds → KnowsItself x) → (c : ℕ) → has (up_in w) c ≡ true → c < scene.setup.controllers
   up_within knows c found =
       let results = results_in w.controllers in
       let more = no_more scene.setup.controllers results in
@@ -139,9 +139,9 @@ module _ {B A : Type 0} (controls : Controlling A → List ℕ → Type 0) (scen
       let within = r.0 in omega (arith, within)
 
 -- no controller of a world has, or has promised, a view above the greatest that was suspected
-pub views_known : {B A : Type 0} (controls : Controlling A → List ℕ → Type 0) (sealing : Sealing B) → IsFaithful sealing → (w : Worlding B A) (kinds : List ℕ) → Holds controls sealing w kinds →
+pub views_known : {B A : Type 0} (law : AppLaw A) (sealing : Sealing B) → IsFaithful sealing → (w : Worlding B A) (kinds : List ℕ) → Holds law sealing w kinds →
     (limit : ℕ) → IsSuspectedUpTo limit (past w.journal) → AreViewsUpTo limit w.controllers
-views_known controls sealing faithful w kinds h limit suspected c x found =
+views_known law sealing faithful w kinds h limit suspected c x found =
     let run = h.run in
     let within = slice_get_within w.controllers c x found in
     let group = run.group in

@@ -15,6 +15,7 @@ use Rattle.rv_base.specs.Places.{IsFound}
 use Rattle.rv_base.specs.Pool.{past, pool, letters_posted}
 use Rattle.vr_log.specs.declared.entry.LogFull.{LogFull}
 use Rattle.vr_log.specs.Members.{is_up}
+use Rattle.app_core.specs.Law.{AppLaw}
 use Rattle.group_controller.specs.State.{ControllerState}
 use Rattle.group_controller.specs.Turns.{Controlling, state_of}
 use Rattle.rv_runs.specs.States.{Scene, Sealing}
@@ -34,26 +35,30 @@ answer_of (closed.Done primary) = schedule.Done primary
 answer_of (closed.NoQuorum up needed) = schedule.NoQuorum up needed
 answer_of (closed.Overfull limit) = schedule.Overfull limit
 
--- a closing that is done has a majority that takes part
-abbrev pub HasMajority : Closed → ℕ → List ℕ → Type 0
-HasMajority (closed.Done primary) group up = majority group ≤ length up
-HasMajority (closed.NoQuorum up needed) group numbers = Unit {0}
-HasMajority (closed.Overfull limit) group up = Unit {0}
-
 -- whether a number is one of these
 abbrev pub has : List ℕ → ℕ → Bool
 has numbers n = list_any (λ m. nat_eq m n) numbers
 
--- the states of controllers, and the numbers of those that take part
+-- the states of controllers, and the numbers of those that take part in a world
 abbrev pub states_in : {A : Type 0} → List (Controlling A) → List ControllerState
 states_in controllers = map (λ c. state_of c) controllers
 
-abbrev pub up_in : {A : Type 0} → List (Controlling A) → List ℕ
-up_in controllers = members_up (states_in controllers)
+abbrev pub up_in : {B A : Type 0} → Worlding B A → List ℕ
+up_in w = members_up (states_in w.controllers)
+
+-- of the group of one world a majority takes part in another, where a closing is done
+abbrev pub HasMajority : {B A : Type 0} → Closed → Worlding B A → Worlding B A → Type 0
+HasMajority (closed.Done primary) old new = majority old.setup.controllers ≤ length (up_in new)
+HasMajority (closed.NoQuorum up needed) old new = Unit {0}
+HasMajority (closed.Overfull limit) old new = Unit {0}
+
+-- the least view above the view and the promise of a controller
+abbrev pub view_above : ControllerState → ℕ
+view_above c = suc (max c.vr.view c.vr.promise)
 
 -- a bound above a controller too, if it takes part, and its number
 abbrev pub bound_with : ℕ → ControllerState → ℕ
-bound_with bound c = if is_up c.vr then max bound (suc (max c.vr.view c.vr.promise)) else bound
+bound_with bound c = if is_up c.vr then max bound (view_above c) else bound
 
 abbrev pub member_in : ControllerState → List ℕ
 member_in c = if is_up c.vr then c.vr.me ∷ [] else []
@@ -61,6 +66,10 @@ member_in c = if is_up c.vr then c.vr.me ∷ [] else []
 -- what is left to do: the letters that a journal may still post, and the packets that wait
 abbrev pub work_left : {B : Type 0} → List (JournalEntry B) → ℕ
 work_left entries = (letters_limit - letters_posted entries) + length (pool entries)
+
+-- and less of it in a later world
+abbrev pub HasLessLeft : {B A : Type 0} → Worlding B A → Worlding B A → Type 0
+HasLessLeft old new = work_left (past new.journal) < work_left (past old.journal)
 
 -- no controller has a view, or has promised one, above a limit
 abbrev pub AreViewsUpTo : {A : Type 0} → ℕ → List (Controlling A) → Type 0
@@ -144,14 +153,46 @@ StandsAt stage (Err OutOfMemory) scene start now = Unit {0}
 StandsAt stage (Err (JournalFull bytes letters)) scene start now = IsCutAt bytes letters scene start now
 
 -- wherever it began, a closing at one stage in a world is at another stage in a later world
-abbrev pub Leads : {B A : Type 0} → (Controlling A → List ℕ → Type 0) → Sealing B → Stage B A → Stage B A → Worlding B A → Worlding B A → Type 0
-Leads {B = B} {A = A} controls sealing first next old new = (kinds : List ℕ) → Holds controls sealing old kinds → (start : Worlding B A) →
+abbrev pub Leads : {B A : Type 0} → AppLaw A → Sealing B → Stage B A → Stage B A → Worlding B A → Worlding B A → Type 0
+Leads {B = B} {A = A} law sealing first next old new = (kinds : List ℕ) → Holds law sealing old kinds → (start : Worlding B A) →
     first (scene_in sealing old kinds) start old → next (scene_in sealing old kinds) start new
+
+-- Where the calls of a closing lead it. Each may stop instead, and each that tells what it came to may come to a failed save,
+-- or to the limit of the log.
+
+-- it stays at its stage
+abbrev pub StaysAt : {T B A : Type 0} → AppLaw A → Sealing B → Stage B A → Result T Stop → Worlding B A → Worlding B A → Type 0
+StaysAt law sealing stage result old new = Leads law sealing stage (StandsAt (λ _. stage) result) old new
+
+-- the next member suspects, and these are still to
+abbrev pub NextSuspects : {B A : Type 0} → AppLaw A → Sealing B → ℕ → List ℕ → ℕ → List ℕ → Result Came Stop → Worlding B A → Worlding B A → Type 0
+NextSuspects law sealing view quorum number members result old new =
+    Leads law sealing (Suspects view quorum (number ∷ members)) (StandsAt (CameTo (Suspects view quorum members)) result) old new
+
+-- all members suspect, and what waits is to be drained
+abbrev pub AllSuspect : {B A : Type 0} → AppLaw A → Sealing B → ℕ → List ℕ → Result Came Stop → Worlding B A → Worlding B A → Type 0
+AllSuspect law sealing view quorum result old new = Leads law sealing (Suspects view quorum quorum) (StandsAt (CameTo (Drains view quorum)) result) old new
+
+-- one packet is drained, and what waits still is to be
+abbrev pub DrainsOne : {B A : Type 0} → AppLaw A → Sealing B → ℕ → List ℕ → Result Came Stop → Worlding B A → Worlding B A → Type 0
+DrainsOne law sealing view quorum result old new = Leads law sealing (Drains view quorum) (StandsAt (CameTo (Drains view quorum)) result) old new
+
+-- all that waits is drained, and is gone
+abbrev pub DrainsAll : {B A : Type 0} → AppLaw A → Sealing B → ℕ → List ℕ → Result Came Stop → Worlding B A → Worlding B A → Type 0
+DrainsAll law sealing view quorum result old new = Leads law sealing (Drains view quorum) (StandsAt (CameTo (Drained view quorum)) result) old new
+
+-- all members suspect, and all that waits is drained, and is gone
+abbrev pub ClosesBy : {B A : Type 0} → AppLaw A → Sealing B → ℕ → List ℕ → Result Came Stop → Worlding B A → Worlding B A → Type 0
+ClosesBy law sealing view quorum result old new = Leads law sealing (Suspects view quorum quorum) (StandsAt (CameTo (Drained view quorum)) result) old new
 
 -- what a part of a closing keeps of a world: nothing is owed, and no view above a limit was suspected
 pub record Rests {B A : Type 0} (limit : ℕ) (old new : Worlding B A) : Type 0 where
   pub owed : new.owed ≡ None
   pub views : (most : ℕ) → limit ≤ most → IsSuspectedUpTo most (past old.journal) → IsSuspectedUpTo most (past new.journal)
+
+-- the greatest view that was suspected grew by no more than this
+abbrev pub RaisesViewsBy : {B A : Type 0} → ℕ → Worlding B A → Worlding B A → Type 0
+RaisesViewsBy more old new = (limit : ℕ) → IsSuspectedUpTo limit (past old.journal) → IsSuspectedUpTo (limit + more) (past new.journal)
 
 -- a closing that began in one world has ended in another with this answer, whatever becomes of later saves
 pub record HasClosed {B A : Type 0} (scene : Scene B) (answer : Answer) (start now : Worlding B A) : Type 0 where
@@ -160,17 +201,25 @@ pub record HasClosed {B A : Type 0} (scene : Scene B) (answer : Answer) (start n
   pub closes : (later : List (List SaveResult)) → AreMore scene.setup.controllers (results_in now.controllers) later →
       Closes scene later (past start.journal) entries answer
 
+-- and so by what a call tells of its end
+abbrev pub HasEnded : {B A : Type 0} → Scene B → Worlding B A → Worlding B A → Closed → Type 0
+HasEnded scene start now ended = HasClosed scene (answer_of ended) start now
+
 -- it has ended, or begins again
 abbrev pub EndsBy : {B A : Type 0} → Option Closed → Stage B A
 EndsBy None scene start now = ClosesIn Losing scene start now
-EndsBy (Some ended) scene start now = HasClosed scene (answer_of ended) start now
+EndsBy (Some ended) scene start now = HasEnded scene start now ended
+
+-- an attempt leads a closing to its end, or to where it begins again
+abbrev pub Attempts : {B A : Type 0} → AppLaw A → Sealing B → Result (Option Closed) Stop → Worlding B A → Worlding B A → Type 0
+Attempts law sealing result old new = Leads law sealing (ClosesIn Losing) (StandsAt EndsBy result) old new
 
 -- who takes part then: at its end a majority, and one less where it begins again
-abbrev pub UpTo : Option Closed → ℕ → List ℕ → List ℕ → Type 0
-UpTo None group before after = length after < length before
-UpTo (Some ended) group before after = HasMajority ended group after
+abbrev pub UpTo : {B A : Type 0} → Option Closed → Worlding B A → Worlding B A → Type 0
+UpTo None old new = length (up_in new) < length (up_in old)
+UpTo (Some ended) old new = HasMajority ended old new
 
 -- why a closing stopped
-abbrev pub ClosingStops : {B A : Type 0} → Scene B → Stop → Worlding B A → Worlding B A → Type 0
-ClosingStops scene OutOfMemory start now = Unit {0}
-ClosingStops scene (JournalFull bytes letters) start now = IsCutAt bytes letters scene start now
+abbrev pub ClosingStops : {B A : Type 0} → Scene B → Worlding B A → Worlding B A → Stop → Type 0
+ClosingStops scene start now OutOfMemory = Unit {0}
+ClosingStops scene start now (JournalFull bytes letters) = IsCutAt bytes letters scene start now

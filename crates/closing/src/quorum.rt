@@ -1,10 +1,11 @@
 //! Who closes.
-ghost use Rattle.std.specs.Prelude.{◌≡◌, ◌≤◌, ◌+◌, ◌<◌, ℕ, suc, max, true, List, IfOk, OnOk, ◌++◌, length};
+ghost use Rattle.std.specs.Prelude.{◌≡◌, ◌≤◌, ◌+◌, ◌<◌, ℕ, true, List, IfOk, OnOk, ◌++◌, length};
 ghost use Rattle.vr_log.specs.Members.{is_up};
 ghost use Rattle.group_controller.specs.Turns.{Controls, state_of};
 ghost use Rattle.rv_runs.specs.Schedule.{bound_of, closing_view, first_view, quorum_of};
-ghost use Rattle.rv_world.specs.World.{Holds, sealing_by};
-ghost use Rattle.closing.specs.Closing.{AreViewsUpTo, bound_with, has, member_in, states_in, up_in};
+ghost use Rattle.rv_world.specs.World.{Holds};
+ghost use Rattle.closing.specs.Closing.{AreViewsUpTo, bound_with, has, member_in, states_in, up_in, view_above};
+ghost use Rattle.closing.specs.Views.{most_view_of_a_closing, most_view_to_look_from, views_of_an_attempt};
 
 use app_core::App;
 use group_controller::Controller;
@@ -39,8 +40,8 @@ pub fn members_up<B: Body, A: App>(
     alloc: Global,
     world: &World<B, A>,
 ) -> Result<Vec<u8>, AllocError>
-    requires { (kinds : List ℕ) × Holds (Controls A.kinds A.most A.states A.suits) (sealing_by B.sealed B.spelled B.size) world.now kinds }
-    ensures { IfOk result (λ up. up.items ≡ up_in world.now.controllers) }
+    requires { (kinds : List ℕ) × Holds A.law B.sealing world.now kinds }
+    ensures { IfOk result (λ up. up.items ≡ up_in world.now) }
 {
     let mut up = Vec::new(alloc);
     'counting: for number in 0..world.setup().controllers {
@@ -51,11 +52,11 @@ pub fn members_up<B: Body, A: App>(
 
 /// The least view above the view and the promise of a controller.
 fn above<A: App>(controller: &Controller<A>) -> u32
-    requires controls { (kinds : List ℕ) × Controls A.kinds A.most A.states A.suits controller.now kinds }
+    requires controls { (kinds : List ℕ) × Controls A.law controller.now kinds }
     requires up { is_up (state_of controller.now).vr ≡ true }
-    requires view { (state_of controller.now).vr.view ≤ 4100000000 }
-    requires promise { (state_of controller.now).vr.promise ≤ 4100000000 }
-    ensures { result ≡ suc (max (state_of controller.now).vr.view (state_of controller.now).vr.promise) }
+    requires view { (state_of controller.now).vr.view ≤ most_view_of_a_closing }
+    requires promise { (state_of controller.now).vr.promise ≤ most_view_of_a_closing }
+    ensures { result ≡ view_above (state_of controller.now) }
 {
     let view = controller.view().unwrap_or(0);
     view.max(controller.promise()) + 1
@@ -63,9 +64,9 @@ fn above<A: App>(controller: &Controller<A>) -> u32
 
 /// The bound with one controller more.
 fn bound_with<A: App>(bound: u32, controller: &Controller<A>) -> u32
-    requires controls { (kinds : List ℕ) × Controls A.kinds A.most A.states A.suits controller.now kinds }
-    requires view { (state_of controller.now).vr.view ≤ 4100000000 }
-    requires promise { (state_of controller.now).vr.promise ≤ 4100000000 }
+    requires controls { (kinds : List ℕ) × Controls A.law controller.now kinds }
+    requires view { (state_of controller.now).vr.view ≤ most_view_of_a_closing }
+    requires promise { (state_of controller.now).vr.promise ≤ most_view_of_a_closing }
     ensures { result ≡ bound_with bound (state_of controller.now) }
 {
     if takes_part(controller) {
@@ -77,8 +78,8 @@ fn bound_with<A: App>(bound: u32, controller: &Controller<A>) -> u32
 
 /// The least view above all views and promises of the controllers that take part.
 pub fn bound_of<B: Body, A: App>(world: &World<B, A>) -> u32
-    requires holds { (kinds : List ℕ) × Holds (Controls A.kinds A.most A.states A.suits) (sealing_by B.sealed B.spelled B.size) world.now kinds }
-    requires views { AreViewsUpTo 4100000000 world.now.controllers }
+    requires holds { (kinds : List ℕ) × Holds A.law B.sealing world.now kinds }
+    requires views { AreViewsUpTo most_view_of_a_closing world.now.controllers }
     ensures { result ≡ bound_of (states_in world.now.controllers) }
 {
     let mut bound = 0;
@@ -92,7 +93,7 @@ pub fn bound_of<B: Body, A: App>(world: &World<B, A>) -> u32
 /// The least view from here on whose primary takes part.
 pub fn first_view(group: u8, up: &[u8], from: u32) -> u32
     requires group { 0 < group }
-    requires room { from ≤ 4200000000 }
+    requires room { from ≤ most_view_to_look_from }
     ensures first { result ≡ first_view group group up.now from }
     ensures near { result ≤ from + group }
 {
@@ -108,11 +109,13 @@ pub fn first_view(group: u8, up: &[u8], from: u32) -> u32
 
 /// The view of a closing: the least above all views and promises, whose primary takes part.
 pub fn closing_view<B: Body, A: App>(world: &World<B, A>, up: &[u8]) -> u32
-    requires holds { (kinds : List ℕ) × Holds (Controls A.kinds A.most A.states A.suits) (sealing_by B.sealed B.spelled B.size) world.now kinds }
-    requires views { AreViewsUpTo 4100000000 world.now.controllers }
-    requires up { up.now ≡ up_in world.now.controllers }
-    ensures view { result ≡ closing_view (states_in world.now.controllers) world.now.setup.controllers }
-    ensures near { (limit : ℕ) → AreViewsUpTo limit world.now.controllers → result ≤ limit + 8 }
+    requires holds { (kinds : List ℕ) × Holds A.law B.sealing world.now kinds }
+    requires views { AreViewsUpTo most_view_of_a_closing world.now.controllers }
+    requires up { up.now ≡ up_in world.now }
+    ensures view { result ≡
+        closing_view (states_in world.now.controllers) world.now.setup.controllers }
+    ensures near { (limit : ℕ) →
+        AreViewsUpTo limit world.now.controllers → result ≤ limit + views_of_an_attempt }
 {
     first_view(world.setup().controllers, up, bound_of(world))
 }

@@ -1,11 +1,11 @@
 //! A whole closing.
 ghost use Rattle.std.specs.Prelude.{◌≡◌, ◌≤◌, ◌+◌, ◌%◌, ◌/◌, [], true, false, ℕ, List, None, length, OnOk, IfOk, IfErr};
 ghost use Rattle.rv_base.specs.Pool.{past, pool};
-ghost use Rattle.group_controller.specs.Turns.{Controls, ForEachKinds};
 ghost use Rattle.rv_runs.specs.Schedule.{Losing, closing_view, majority, quorum_of};
-ghost use Rattle.rv_world.specs.World.{Holds, IfMemory, Keeps, PairsStand, scene_in, sealing_by};
+ghost use Rattle.rv_world.specs.World.{ForEachScene, Holds, IfMemory, Keeps, PairsStand};
 ghost use Rattle.rv_laws.specs.Laws.{IsSuspectedUpTo};
-ghost use Rattle.closing.specs.Closing.{answer_of, CameTo, ClosesIn, ClosingStops, Drained, Drains, EndsBy, has, HasClosed, HasMajority, Leads, Rests, StandsAt, states_in, Suspects, UpBy, UpTo, up_in};
+ghost use Rattle.closing.specs.Closing.{AllSuspect, Attempts, ClosesBy, ClosesIn, ClosingStops, DrainsAll, has, HasEnded, HasMajority, RaisesViewsBy, Rests, StaysAt, UpBy, UpTo, up_in};
+ghost use Rattle.closing.specs.Views.{most_view_of_a_closing, most_view_of_a_script, views_of_an_attempt};
 
 use crate::closed::{Came, Closed};
 use crate::quorum::{closing_view, members_up, quorum_of};
@@ -22,12 +22,13 @@ fn lose_all<B: Body, A: App, W: Stable>(
     stables: &mut [W],
 ) -> Result<(), Stop>
     requires rests { world.old.owed ≡ None }
-    requires holds { (kinds : List ℕ) × Holds (Controls A.kinds A.most A.states A.suits) (sealing_by B.sealed B.spelled B.size) world.old kinds }
-    requires pairs { PairsStand W.pair stables.old world.old.controllers }
-    ensures keeps { IfMemory result (Keeps (Controls A.kinds A.most A.states A.suits) W.pair W.faults (sealing_by B.sealed B.spelled B.size) world.old stables.old world.new stables.new) }
+    requires holds { (kinds : List ℕ) × Holds A.law B.sealing world.old kinds }
+    requires pairs { PairsStand W.saving stables.old world.old.controllers }
+    ensures keeps { IfMemory result
+        (Keeps A.law W.saving B.sealing world.old stables.old world.new stables.new) }
     ensures rests { OnOk result (Rests 0 world.old world.new) }
-    ensures closes { Leads (Controls A.kinds A.most A.states A.suits) (sealing_by B.sealed B.spelled B.size) (ClosesIn Losing) (StandsAt (λ _. ClosesIn Losing) result) world.old world.new }
-    ensures up { OnOk result (up_in world.new.controllers ≡ up_in world.old.controllers) }
+    ensures closes { StaysAt A.law B.sealing (ClosesIn Losing) result world.old world.new }
+    ensures up { OnOk result (up_in world.new ≡ up_in world.old) }
     ensures empty { OnOk result (pool (past world.new.journal) ≡ []) }
 {
     'losing: while let Some(place) = world.first() {
@@ -38,12 +39,13 @@ fn lose_all<B: Body, A: App, W: Stable>(
 
 /// What is owed is posted, and then every packet that waits is lost.
 fn clear<B: Body, A: App, W: Stable>(world: &mut World<B, A>, stables: &mut [W]) -> Result<(), Stop>
-    requires holds { (kinds : List ℕ) × Holds (Controls A.kinds A.most A.states A.suits) (sealing_by B.sealed B.spelled B.size) world.old kinds }
-    requires pairs { PairsStand W.pair stables.old world.old.controllers }
-    ensures keeps { IfMemory result (Keeps (Controls A.kinds A.most A.states A.suits) W.pair W.faults (sealing_by B.sealed B.spelled B.size) world.old stables.old world.new stables.new) }
+    requires holds { (kinds : List ℕ) × Holds A.law B.sealing world.old kinds }
+    requires pairs { PairsStand W.saving stables.old world.old.controllers }
+    ensures keeps { IfMemory result
+        (Keeps A.law W.saving B.sealing world.old stables.old world.new stables.new) }
     ensures rests { OnOk result (Rests 0 world.old world.new) }
-    ensures closes { Leads (Controls A.kinds A.most A.states A.suits) (sealing_by B.sealed B.spelled B.size) (ClosesIn Losing) (StandsAt (λ _. ClosesIn Losing) result) world.old world.new }
-    ensures up { OnOk result (up_in world.new.controllers ≡ up_in world.old.controllers) }
+    ensures closes { StaysAt A.law B.sealing (ClosesIn Losing) result world.old world.new }
+    ensures up { OnOk result (up_in world.new ≡ up_in world.old) }
     ensures empty { OnOk result (pool (past world.new.journal) ≡ []) }
 {
     world.post_owed()?;
@@ -58,13 +60,14 @@ fn suspect<B: Body, A: App, W: Stable>(
     quorum: &[u8],
 ) -> Result<Came, Stop>
     requires rests { world.old.owed ≡ None }
-    requires holds { (kinds : List ℕ) × Holds (Controls A.kinds A.most A.states A.suits) (sealing_by B.sealed B.spelled B.size) world.old kinds }
-    requires pairs { PairsStand W.pair stables.old world.old.controllers }
-    requires up { (n : ℕ) → has quorum.now n ≡ true → has (up_in world.old.controllers) n ≡ true }
-    ensures keeps { IfMemory result (Keeps (Controls A.kinds A.most A.states A.suits) W.pair W.faults (sealing_by B.sealed B.spelled B.size) world.old stables.old world.new stables.new) }
+    requires holds { (kinds : List ℕ) × Holds A.law B.sealing world.old kinds }
+    requires pairs { PairsStand W.saving stables.old world.old.controllers }
+    requires up { (n : ℕ) → has quorum.now n ≡ true → has (up_in world.old) n ≡ true }
+    ensures keeps { IfMemory result
+        (Keeps A.law W.saving B.sealing world.old stables.old world.new stables.new) }
     ensures rests { OnOk result (Rests view world.old world.new) }
-    ensures suspects { Leads (Controls A.kinds A.most A.states A.suits) (sealing_by B.sealed B.spelled B.size) (Suspects view quorum.now quorum.now) (StandsAt (CameTo (Drains view quorum.now)) result) world.old world.new }
-    ensures up { IfOk result (λ came. UpBy came (up_in world.old.controllers) (up_in world.new.controllers)) }
+    ensures suspects { AllSuspect A.law B.sealing view quorum.now result world.old world.new }
+    ensures up { IfOk result (λ came. UpBy came (up_in world.old) (up_in world.new)) }
 {
     'suspecting: for number in quorum {
         let came = suspect_next(world, stables, view, *number)?;
@@ -83,13 +86,14 @@ fn drain<B: Body, A: App, W: Stable>(
     quorum: &[u8],
 ) -> Result<Came, Stop>
     requires rests { world.old.owed ≡ None }
-    requires holds { (kinds : List ℕ) × Holds (Controls A.kinds A.most A.states A.suits) (sealing_by B.sealed B.spelled B.size) world.old kinds }
-    requires pairs { PairsStand W.pair stables.old world.old.controllers }
-    requires up { (n : ℕ) → has quorum.now n ≡ true → has (up_in world.old.controllers) n ≡ true }
-    ensures keeps { IfMemory result (Keeps (Controls A.kinds A.most A.states A.suits) W.pair W.faults (sealing_by B.sealed B.spelled B.size) world.old stables.old world.new stables.new) }
+    requires holds { (kinds : List ℕ) × Holds A.law B.sealing world.old kinds }
+    requires pairs { PairsStand W.saving stables.old world.old.controllers }
+    requires up { (n : ℕ) → has quorum.now n ≡ true → has (up_in world.old) n ≡ true }
+    ensures keeps { IfMemory result
+        (Keeps A.law W.saving B.sealing world.old stables.old world.new stables.new) }
     ensures rests { OnOk result (Rests 0 world.old world.new) }
-    ensures drains { Leads (Controls A.kinds A.most A.states A.suits) (sealing_by B.sealed B.spelled B.size) (Drains view quorum.now) (StandsAt (CameTo (Drained view quorum.now)) result) world.old world.new }
-    ensures up { IfOk result (λ came. UpBy came (up_in world.old.controllers) (up_in world.new.controllers)) }
+    ensures drains { DrainsAll A.law B.sealing view quorum.now result world.old world.new }
+    ensures up { IfOk result (λ came. UpBy came (up_in world.old) (up_in world.new)) }
 {
     'draining: while let Some(place) = world.first() {
         let came = drain_first(world, stables, view, quorum, place)?;
@@ -108,13 +112,14 @@ fn close_by<B: Body, A: App, W: Stable>(
     quorum: &[u8],
 ) -> Result<Came, Stop>
     requires rests { world.old.owed ≡ None }
-    requires holds { (kinds : List ℕ) × Holds (Controls A.kinds A.most A.states A.suits) (sealing_by B.sealed B.spelled B.size) world.old kinds }
-    requires pairs { PairsStand W.pair stables.old world.old.controllers }
-    requires up { (n : ℕ) → has quorum.now n ≡ true → has (up_in world.old.controllers) n ≡ true }
-    ensures keeps { IfMemory result (Keeps (Controls A.kinds A.most A.states A.suits) W.pair W.faults (sealing_by B.sealed B.spelled B.size) world.old stables.old world.new stables.new) }
+    requires holds { (kinds : List ℕ) × Holds A.law B.sealing world.old kinds }
+    requires pairs { PairsStand W.saving stables.old world.old.controllers }
+    requires up { (n : ℕ) → has quorum.now n ≡ true → has (up_in world.old) n ≡ true }
+    ensures keeps { IfMemory result
+        (Keeps A.law W.saving B.sealing world.old stables.old world.new stables.new) }
     ensures rests { OnOk result (Rests view world.old world.new) }
-    ensures closes { Leads (Controls A.kinds A.most A.states A.suits) (sealing_by B.sealed B.spelled B.size) (Suspects view quorum.now quorum.now) (StandsAt (CameTo (Drained view quorum.now)) result) world.old world.new }
-    ensures up { IfOk result (λ came. UpBy came (up_in world.old.controllers) (up_in world.new.controllers)) }
+    ensures closes { ClosesBy A.law B.sealing view quorum.now result world.old world.new }
+    ensures up { IfOk result (λ came. UpBy came (up_in world.old) (up_in world.new)) }
 {
     let came = suspect(world, stables, view, quorum)?;
     if is_over(came) {
@@ -131,17 +136,18 @@ fn close_cleared<B: Body, A: App, W: Stable>(
     up: &[u8],
 ) -> Result<Option<Closed>, Stop>
     requires rests { world.old.owed ≡ None }
-    requires holds { (kinds : List ℕ) × Holds (Controls A.kinds A.most A.states A.suits) (sealing_by B.sealed B.spelled B.size) world.old kinds }
-    requires pairs { PairsStand W.pair stables.old world.old.controllers }
+    requires holds { (kinds : List ℕ) × Holds A.law B.sealing world.old kinds }
+    requires pairs { PairsStand W.saving stables.old world.old.controllers }
     requires empty { pool (past world.old.journal) ≡ [] }
-    requires up { up.now ≡ up_in world.old.controllers }
+    requires up { up.now ≡ up_in world.old }
     requires most { majority world.old.setup.controllers ≤ length up.now }
-    requires views { IsSuspectedUpTo 4100000000 (past world.old.journal) }
-    ensures keeps { IfMemory result (Keeps (Controls A.kinds A.most A.states A.suits) W.pair W.faults (sealing_by B.sealed B.spelled B.size) world.old stables.old world.new stables.new) }
+    requires views { IsSuspectedUpTo most_view_of_a_closing (past world.old.journal) }
+    ensures keeps { IfMemory result
+        (Keeps A.law W.saving B.sealing world.old stables.old world.new stables.new) }
     ensures owed { OnOk result (world.new.owed ≡ None) }
-    ensures views { OnOk result ((limit : ℕ) → IsSuspectedUpTo limit (past world.old.journal) → IsSuspectedUpTo (limit + 8) (past world.new.journal)) }
-    ensures closes { Leads (Controls A.kinds A.most A.states A.suits) (sealing_by B.sealed B.spelled B.size) (ClosesIn Losing) (StandsAt EndsBy result) world.old world.new }
-    ensures up { IfOk result (λ closed. UpTo closed world.old.setup.controllers (up_in world.old.controllers) (up_in world.new.controllers)) }
+    ensures views { OnOk result (RaisesViewsBy views_of_an_attempt world.old world.new) }
+    ensures closes { Attempts A.law B.sealing result world.old world.new }
+    ensures up { IfOk result (λ closed. UpTo closed world.old world.new) }
 {
     lawful(world);
     let group = world.setup().controllers;
@@ -161,14 +167,15 @@ fn close_once<B: Body, A: App, W: Stable>(
     world: &mut World<B, A>,
     stables: &mut [W],
 ) -> Result<Option<Closed>, Stop>
-    requires holds { (kinds : List ℕ) × Holds (Controls A.kinds A.most A.states A.suits) (sealing_by B.sealed B.spelled B.size) world.old kinds }
-    requires pairs { PairsStand W.pair stables.old world.old.controllers }
-    requires views { IsSuspectedUpTo 4100000000 (past world.old.journal) }
-    ensures keeps { IfMemory result (Keeps (Controls A.kinds A.most A.states A.suits) W.pair W.faults (sealing_by B.sealed B.spelled B.size) world.old stables.old world.new stables.new) }
+    requires holds { (kinds : List ℕ) × Holds A.law B.sealing world.old kinds }
+    requires pairs { PairsStand W.saving stables.old world.old.controllers }
+    requires views { IsSuspectedUpTo most_view_of_a_closing (past world.old.journal) }
+    ensures keeps { IfMemory result
+        (Keeps A.law W.saving B.sealing world.old stables.old world.new stables.new) }
     ensures owed { OnOk result (world.new.owed ≡ None) }
-    ensures views { OnOk result ((limit : ℕ) → IsSuspectedUpTo limit (past world.old.journal) → IsSuspectedUpTo (limit + 8) (past world.new.journal)) }
-    ensures closes { Leads (Controls A.kinds A.most A.states A.suits) (sealing_by B.sealed B.spelled B.size) (ClosesIn Losing) (StandsAt EndsBy result) world.old world.new }
-    ensures up { IfOk result (λ closed. UpTo closed world.old.setup.controllers (up_in world.old.controllers) (up_in world.new.controllers)) }
+    ensures views { OnOk result (RaisesViewsBy views_of_an_attempt world.old world.new) }
+    ensures closes { Attempts A.law B.sealing result world.old world.new }
+    ensures up { IfOk result (λ closed. UpTo closed world.old world.new) }
 {
     clear(world, stables)?;
     let members = members_up(alloc, world)?;
@@ -191,16 +198,14 @@ pub fn run<B: Body, A: App, W: Stable>(
     world: &mut World<B, A>,
     stables: &mut [W],
 ) -> Result<Closed, Stop>
-    requires holds { (kinds : List ℕ) × Holds (Controls A.kinds A.most A.states A.suits) (sealing_by B.sealed B.spelled B.size) world.old kinds }
-    requires pairs { PairsStand W.pair stables.old world.old.controllers }
-    requires views { IsSuspectedUpTo 4000000000 (past world.old.journal) }
-    ensures keeps { IfMemory result (Keeps (Controls A.kinds A.most A.states A.suits) W.pair W.faults (sealing_by B.sealed B.spelled B.size) world.old stables.old world.new stables.new) }
+    requires holds { (kinds : List ℕ) × Holds A.law B.sealing world.old kinds }
+    requires pairs { PairsStand W.saving stables.old world.old.controllers }
+    requires views { IsSuspectedUpTo most_view_of_a_script (past world.old.journal) }
+    ensures keeps { IfMemory result (Keeps A.law W.saving B.sealing world.old stables.old world.new stables.new) }
     ensures rests { OnOk result (world.new.owed ≡ None) }
-    ensures closes { ForEachKinds (Holds (Controls A.kinds A.most A.states A.suits) (sealing_by B.sealed B.spelled B.size) world.old)
-        (λ kinds. IfOk result (λ closed. HasClosed (scene_in (sealing_by B.sealed B.spelled B.size) world.old kinds) (answer_of closed) world.old world.new)) }
-    ensures up { IfOk result (λ closed. HasMajority closed world.old.setup.controllers (up_in world.new.controllers)) }
-    ensures stops { ForEachKinds (Holds (Controls A.kinds A.most A.states A.suits) (sealing_by B.sealed B.spelled B.size) world.old)
-        (λ kinds. IfErr result (λ stop. ClosingStops (scene_in (sealing_by B.sealed B.spelled B.size) world.old kinds) stop world.old world.new)) }
+    ensures closes { ForEachScene A.law B.sealing world.old (λ scene. IfOk result (HasEnded scene world.old world.new)) }
+    ensures up { IfOk result (λ closed. HasMajority closed world.old world.new) }
+    ensures stops { ForEachScene A.law B.sealing world.old (λ scene. IfErr result (ClosingStops scene world.old world.new)) }
 {
     'closing: loop {
         if let Some(closed) = close_once(alloc, world, stables)? {

@@ -1,13 +1,13 @@
 //! One turn of a closing.
-ghost use Rattle.std.specs.Prelude.{◌≡◌, ◌<◌, ◌∷◌, true, false, ℕ, List, None, OnOk, IfOk};
+ghost use Rattle.std.specs.Prelude.{◌≡◌, ◌<◌, true, false, ℕ, List, None, OnOk, IfOk};
 ghost use Rattle.std.specs.List.{AllByRecursion};
 ghost use Rattle.rv_base.specs.Actors.{IsActor};
 ghost use Rattle.rv_base.specs.Pool.{past, pool};
-ghost use Rattle.group_controller.specs.Turns.{Controls, state_of};
+ghost use Rattle.group_controller.specs.Turns.{state_of};
 ghost use Rattle.rv_runs.specs.Schedule.{Losing, is_drawn};
-ghost use Rattle.rv_world.specs.World.{Holds, IfMemory, Keeps, PairsStand, sealing_by};
+ghost use Rattle.rv_world.specs.World.{Holds, IfMemory, Keeps, PairsStand};
 ghost use Rattle.rv_laws.specs.Laws.{IsSuspectedUpTo};
-ghost use Rattle.closing.specs.Closing.{AreViewsUpTo, CameAt, CameTo, came_of, ClosesIn, Drains, has, IsFirst, is_over, Leads, Rests, StandsAt, Suspects, UpBy, up_in, work_left};
+ghost use Rattle.closing.specs.Closing.{AreViewsUpTo, CameAt, came_of, ClosesIn, Drains, DrainsOne, has, HasLessLeft, IsFirst, is_over, NextSuspects, Rests, StaysAt, UpBy, up_in};
 
 use crate::closed::Came;
 use crate::quorum::has;
@@ -20,9 +20,11 @@ use rv_world::{World, takes_part};
 /// What the laws of every run say of a world: no view is above the greatest that was suspected, and what waits goes to
 /// actors of the setup.
 pub fn lawful<B: Body, A: App>(world: &World<B, A>)
-    requires { (kinds : List ℕ) × Holds (Controls A.kinds A.most A.states A.suits) (sealing_by B.sealed B.spelled B.size) world.now kinds }
-    ensures views { (limit : ℕ) → IsSuspectedUpTo limit (past world.now.journal) → AreViewsUpTo limit world.now.controllers }
-    ensures addressed { AllByRecursion (λ p. IsActor world.now.setup p.to) (pool (past world.now.journal)) }
+    requires { (kinds : List ℕ) × Holds A.law B.sealing world.now kinds }
+    ensures views { (limit : ℕ) →
+        IsSuspectedUpTo limit (past world.now.journal) → AreViewsUpTo limit world.now.controllers }
+    ensures addressed { AllByRecursion
+        (λ p. IsActor world.now.setup p.to) (pool (past world.now.journal)) }
 {
     let _ = world;
 }
@@ -53,7 +55,7 @@ fn came<A: App>(view: u32, group: u8, number: u8, controller: &Controller<A>) ->
 
 /// What the turn of an actor came to.
 fn came_at<B: Body, A: App>(world: &World<B, A>, view: u32, actor: Actor) -> Came
-    requires holds { (kinds : List ℕ) × Holds (Controls A.kinds A.most A.states A.suits) (sealing_by B.sealed B.spelled B.size) world.now kinds }
+    requires holds { (kinds : List ℕ) × Holds A.law B.sealing world.now kinds }
     requires named { IsActor world.now.setup actor }
     ensures { CameAt view world.now actor result }
 {
@@ -75,16 +77,17 @@ pub fn lose_first<B: Body, A: App, W: Stable>(
     place: PacketPlace,
 ) -> Result<(), Stop>
     requires rests { world.old.owed ≡ None }
-    requires holds { (kinds : List ℕ) × Holds (Controls A.kinds A.most A.states A.suits) (sealing_by B.sealed B.spelled B.size) world.old kinds }
-    requires pairs { PairsStand W.pair stables.old world.old.controllers }
+    requires holds { (kinds : List ℕ) × Holds A.law B.sealing world.old kinds }
+    requires pairs { PairsStand W.saving stables.old world.old.controllers }
     requires first { IsFirst place world.old.journal }
-    ensures keeps { IfMemory result (Keeps (Controls A.kinds A.most A.states A.suits) W.pair W.faults (sealing_by B.sealed B.spelled B.size) world.old stables.old world.new stables.new) }
+    ensures keeps { IfMemory result
+        (Keeps A.law W.saving B.sealing world.old stables.old world.new stables.new) }
     ensures rests { OnOk result (Rests 0 world.old world.new) }
-    ensures closes { Leads (Controls A.kinds A.most A.states A.suits) (sealing_by B.sealed B.spelled B.size) (ClosesIn Losing) (StandsAt (λ _. ClosesIn Losing) result) world.old world.new }
+    ensures closes { StaysAt A.law B.sealing (ClosesIn Losing) result world.old world.new }
     ensures drains { (view : ℕ) (quorum : List ℕ) → is_drawn quorum place.from place.to ≡ false →
-        Leads (Controls A.kinds A.most A.states A.suits) (sealing_by B.sealed B.spelled B.size) (Drains view quorum) (StandsAt (λ _. Drains view quorum) result) world.old world.new }
-    ensures up { OnOk result (up_in world.new.controllers ≡ up_in world.old.controllers) }
-    ensures less { OnOk result (work_left (past world.new.journal) < work_left (past world.old.journal)) }
+        StaysAt A.law B.sealing (Drains view quorum) result world.old world.new }
+    ensures up { OnOk result (up_in world.new ≡ up_in world.old) }
+    ensures less { OnOk result (HasLessLeft world.old world.new) }
 {
     lawful(world);
     let turn = Turn::Lose {
@@ -104,14 +107,15 @@ pub fn suspect_next<B: Body, A: App, W: Stable>(
     number: u8,
 ) -> Result<Came, Stop>
     requires rests { world.old.owed ≡ None }
-    requires holds { (kinds : List ℕ) × Holds (Controls A.kinds A.most A.states A.suits) (sealing_by B.sealed B.spelled B.size) world.old kinds }
-    requires pairs { PairsStand W.pair stables.old world.old.controllers }
-    requires up { has (up_in world.old.controllers) number ≡ true }
-    ensures keeps { IfMemory result (Keeps (Controls A.kinds A.most A.states A.suits) W.pair W.faults (sealing_by B.sealed B.spelled B.size) world.old stables.old world.new stables.new) }
+    requires holds { (kinds : List ℕ) × Holds A.law B.sealing world.old kinds }
+    requires pairs { PairsStand W.saving stables.old world.old.controllers }
+    requires up { has (up_in world.old) number ≡ true }
+    ensures keeps { IfMemory result
+        (Keeps A.law W.saving B.sealing world.old stables.old world.new stables.new) }
     ensures rests { OnOk result (Rests view world.old world.new) }
     ensures suspects { (quorum members : List ℕ) →
-        Leads (Controls A.kinds A.most A.states A.suits) (sealing_by B.sealed B.spelled B.size) (Suspects view quorum (number ∷ members)) (StandsAt (CameTo (Suspects view quorum members)) result) world.old world.new }
-    ensures up { IfOk result (λ came. UpBy came (up_in world.old.controllers) (up_in world.new.controllers)) }
+        NextSuspects A.law B.sealing view quorum number members result world.old world.new }
+    ensures up { IfOk result (λ came. UpBy came (up_in world.old) (up_in world.new)) }
 {
     let actor = Actor::Controller(number);
     let input = Local::Suspect { view };
@@ -128,16 +132,17 @@ pub fn draw_first<B: Body, A: App, W: Stable>(
     place: PacketPlace,
 ) -> Result<Came, Stop>
     requires rests { world.old.owed ≡ None }
-    requires holds { (kinds : List ℕ) × Holds (Controls A.kinds A.most A.states A.suits) (sealing_by B.sealed B.spelled B.size) world.old kinds }
-    requires pairs { PairsStand W.pair stables.old world.old.controllers }
+    requires holds { (kinds : List ℕ) × Holds A.law B.sealing world.old kinds }
+    requires pairs { PairsStand W.saving stables.old world.old.controllers }
     requires first { IsFirst place world.old.journal }
     requires drawn { is_drawn quorum.now place.from place.to ≡ true }
-    requires up { (n : ℕ) → has quorum.now n ≡ true → has (up_in world.old.controllers) n ≡ true }
-    ensures keeps { IfMemory result (Keeps (Controls A.kinds A.most A.states A.suits) W.pair W.faults (sealing_by B.sealed B.spelled B.size) world.old stables.old world.new stables.new) }
+    requires up { (n : ℕ) → has quorum.now n ≡ true → has (up_in world.old) n ≡ true }
+    ensures keeps { IfMemory result
+        (Keeps A.law W.saving B.sealing world.old stables.old world.new stables.new) }
     ensures rests { OnOk result (Rests 0 world.old world.new) }
-    ensures drains { Leads (Controls A.kinds A.most A.states A.suits) (sealing_by B.sealed B.spelled B.size) (Drains view quorum.now) (StandsAt (CameTo (Drains view quorum.now)) result) world.old world.new }
-    ensures up { IfOk result (λ came. UpBy came (up_in world.old.controllers) (up_in world.new.controllers)) }
-    ensures less { OnOk result (work_left (past world.new.journal) < work_left (past world.old.journal)) }
+    ensures drains { DrainsOne A.law B.sealing view quorum.now result world.old world.new }
+    ensures up { IfOk result (λ came. UpBy came (up_in world.old) (up_in world.new)) }
+    ensures less { OnOk result (HasLessLeft world.old world.new) }
 {
     lawful(world);
     let actor = place.to;
@@ -170,15 +175,16 @@ pub fn drain_first<B: Body, A: App, W: Stable>(
     place: PacketPlace,
 ) -> Result<Came, Stop>
     requires rests { world.old.owed ≡ None }
-    requires holds { (kinds : List ℕ) × Holds (Controls A.kinds A.most A.states A.suits) (sealing_by B.sealed B.spelled B.size) world.old kinds }
-    requires pairs { PairsStand W.pair stables.old world.old.controllers }
+    requires holds { (kinds : List ℕ) × Holds A.law B.sealing world.old kinds }
+    requires pairs { PairsStand W.saving stables.old world.old.controllers }
     requires first { IsFirst place world.old.journal }
-    requires up { (n : ℕ) → has quorum.now n ≡ true → has (up_in world.old.controllers) n ≡ true }
-    ensures keeps { IfMemory result (Keeps (Controls A.kinds A.most A.states A.suits) W.pair W.faults (sealing_by B.sealed B.spelled B.size) world.old stables.old world.new stables.new) }
+    requires up { (n : ℕ) → has quorum.now n ≡ true → has (up_in world.old) n ≡ true }
+    ensures keeps { IfMemory result
+        (Keeps A.law W.saving B.sealing world.old stables.old world.new stables.new) }
     ensures rests { OnOk result (Rests 0 world.old world.new) }
-    ensures drains { Leads (Controls A.kinds A.most A.states A.suits) (sealing_by B.sealed B.spelled B.size) (Drains view quorum.now) (StandsAt (CameTo (Drains view quorum.now)) result) world.old world.new }
-    ensures up { IfOk result (λ came. UpBy came (up_in world.old.controllers) (up_in world.new.controllers)) }
-    ensures less { OnOk result (work_left (past world.new.journal) < work_left (past world.old.journal)) }
+    ensures drains { DrainsOne A.law B.sealing view quorum.now result world.old world.new }
+    ensures up { IfOk result (λ came. UpBy came (up_in world.old) (up_in world.new)) }
+    ensures less { OnOk result (HasLessLeft world.old world.new) }
 {
     if is_drawn(quorum, place.from, place.to) {
         return draw_first(world, stables, view, quorum, place);

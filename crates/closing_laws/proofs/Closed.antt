@@ -26,13 +26,13 @@ use Rattle.rv_runs.specs.Laws.{IsAtRest, events_from_life}
 use Rattle.rv_laws.proofs.Laws.{always, once_law}
 use Rattle.rv_laws.proofs.Members.{up_leads}
 use Rattle.closing_laws.specs.Following.{Start}
-use Rattle.closing_laws.specs.Serving.{IsTrueOf, IsTruePrimary}
+use Rattle.closing_laws.specs.Serving.{AreFew, IsTrueOf, IsTruePrimary}
 use Rattle.closing_laws.specs.Ends.{HasRested}
 use Rattle.closing_laws.proofs.Drained as drained_by
 use Rattle.closing_laws.proofs.Resting as resting
 use Rattle.closing_laws.proofs.Growth.{processed_within}
 
-module _ {B : Type 0} (scene : Scene B) (results : List (List SaveResult)) (setup : IsSetup scene.setup) (faithful : IsFaithful scene.sealing) (P : List (JournalEntry B)) (possible : IsPossible scene results P)
+module _ {B : Type 0} (scene : Scene B) (results : List (List SaveResult)) (setup : IsSetup scene.setup) (faithful : IsFaithful scene.sealing) (few : AreFew scene.kinds scene.setup) (P : List (JournalEntry B)) (possible : IsPossible scene results P)
     (w p : ℕ) (quorum : List ℕ) (start : Start) (leader : p ≡ w % scene.setup.controllers) (small : p < scene.setup.controllers) (members : ℕ → VrState) (switches : ℕ → SwitchState)
     (d : drained_by.Drains scene.kinds scene.setup w p quorum start (controller_state scene results p P) members switches [])
     (same : (s : ℕ) → s < length scene.setup.ports → switch_state scene s P ≡ switches s) (is_true : IsTruePrimary (controller_state scene results p P))
@@ -87,7 +87,7 @@ module _ {B : Type 0} (scene : Scene B) (results : List (List SaveResult)) (setu
         subst (λ (x : SwitchState). IsPrefix (events_from_life s (life_of sw) (received log)) (events_in x (life_of sw))) (same s there) (once.ordered.made s (life_of sw) there) in
         let count = length-filter (λ (e : Event). nat_eq e.switch s && nat_eq e.life (life_of sw)) (received log) in
         let in_log = ap (λ (l : List Event). count_by (λ (e : Event). nat_eq e.switch s && nat_eq e.life (life_of sw)) l) received_is in
-        let all_logged = resting.logged_is scene.kinds scene.setup c all d.primary.settled switches d.served true_of lives s there in
+        let all_logged = resting.logged_is scene.kinds scene.setup c all d.primary.settled few switches d.served true_of lives s there in
         prefix_equal made (omega (arith, count, in_log, all_logged))
 
     executed : length (executed_in sw (life_of sw)) ≡ length (issued scene.kinds scene.setup s (life_of sw) (received log))
@@ -97,22 +97,22 @@ module _ {B : Type 0} (scene : Scene B) (results : List (List SaveResult)) (setu
         let mapped = length-map (executed_in (switch_state scene s P) (life_of sw)) (λ x. x.order) in
         let own = ap (λ (x : SwitchState). length (executed_in x (life_of sw))) (same s there) in
         let well = subst (λ (x : SwitchState). x.results.executed ≡ length (executed_in x (life_of x))) (same s there) ((always scene results setup faithful P possible 0).switches s there).now.well.count in
-        let settled = resting.settled_is scene.kinds scene.setup c all d.primary.settled switches d.served true_of lives s there in
+        let settled = resting.settled_is scene.kinds scene.setup c all d.primary.settled few switches d.served true_of lives s there in
         let done = (true_of s there).settled in
         let in_log = ap (λ (l : List Event). length (issued scene.kinds scene.setup s (life_of sw) l)) received_is in
         omega (arith, most, mapped, own, well, settled, done, in_log)
 
     at_rest : IsAtRest scene log s (switch_state scene s P)
     at_rest = subst (λ (x : SwitchState). IsAtRest scene log s x) (sym (same s there)) (record {
-      cleared = resting.held_none scene.kinds scene.setup c all d.primary.settled switches d.served true_of lives s there;
-      remembered = resting.dirty_none scene.kinds scene.setup c all d.primary.settled switches d.served true_of lives s there;
+      cleared = resting.held_none scene.kinds scene.setup c all d.primary.settled few switches d.served true_of lives s there;
+      remembered = resting.dirty_none scene.kinds scene.setup c all d.primary.settled few switches d.served true_of lives s there;
       logged = logged;
       executed = executed;
     })
 
   all_processed : processed (decided scene results P) ≡ length (received (decided scene results P))
   all_processed =
-      let none = resting.all_processed scene.kinds scene.setup c all d.primary.settled switches d.served true_of lives in
+      let none = resting.all_processed scene.kinds scene.setup c all d.primary.settled few switches d.served true_of lives in
       let least = ltb-false (processed (committed c)) (length (received (committed c))) none in
       let most = processed_within c.vr.log is_true.one in
       let a = ap processed (decided_is ∙ sym all) in

@@ -45,7 +45,7 @@ module _ (kinds : List ℕ) (setup : Setup) (c : ControllerState) where
   pub few_beyond : AreFew kinds setup → (x : Issued) → IsIn x due → x.number < settled_commands kinds setup (committed c) x.switch x.life + most_commands
   few_beyond few x h =
       let high = (command_within kinds setup first (received (committed c)) x h).1 in
-      let small = few (received (committed c)) first in
+      let small = few.few (received (committed c)) first in
       let same = ap (λ (z : List (List Issued)). count_issued x.switch x.life (concat z)) (issues-take kinds setup first (received (committed c))) in
       omega (arith, high, small, same)
 

@@ -242,7 +242,7 @@ module _ {B : Type 0} (scene : Scene B) (results : List (List SaveResult)) (setu
       HasRested scene results primary (later P entries)
   ends entries P last primary room phase draining mode closes possible posted end =
       subst (λ (k : ℕ). HasRested scene results k Q) (sym done.who)
-      (closed_by.has_closed scene results setup faithful Q possible w p quorum start refl (small p picked.primary) done.stands.members done.stands.switches done.stands.drains done.stands.switches_are true_now.primary true_now.each
+      (closed_by.has_closed scene results setup faithful few Q possible w p quorum start refl (small p picked.primary) done.stands.members done.stands.switches done.stands.drains done.stands.switches_are true_now.primary true_now.each
       led.0 led.1 done.empty)
     where
       Q : Past

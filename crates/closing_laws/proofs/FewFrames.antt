@@ -1,8 +1,8 @@
 -- What a command puts on links: its frames stand before its result, and are no more than the ports of a switch.
-use Rattle.std.proofs.Common.{◌≡◌, ◌≤◌, ℕ, zero, suc, ◌*◌, Bool, true, false, ◌&&◌, List, [], ◌∷◌, ◌++◌, length, map, drop, refl, sym, ap, subst, arith, length-append}
+use Rattle.std.proofs.Common.{◌≡◌, ◌≤◌, ◌<◌, ◌⊎◌, inl, inr, ℕ, zero, suc, ◌+◌, ◌-◌, ◌*◌, Bool, true, false, ◌&&◌, List, [], ◌∷◌, ◌++◌, length, map, drop, refl, sym, ap, subst, arith, length-append}
 use Rattle.std.specs.Prelude.{nat_eq, not, ◌||◌, flat_map, filter, if◌then◌else◌}
 use Rattle.std.specs.List.{list_any, range_with_len}
-use Rattle.std.proofs.lemmas.Bool.{and_parts, cond_both, eqb-true, or_parts}
+use Rattle.std.proofs.lemmas.Bool.{and_parts, cases_lt, cond_both, eqb-true, or_parts}
 use Rattle.std.proofs.lemmas.List.{length-map, map-append}
 use Rattle.std.proofs.lemmas.List.FromFn.{length-range_with_len}
 use Rattle.std.proofs.lemmas.List.Sums.{count_by-le-length}
@@ -20,15 +20,15 @@ use Rattle.command_buffer.specs.declared.buffer.Offer.{Offer}
 use Rattle.command_buffer.specs.declared.buffer.Offer.TheVariants.{Ahead, Execute, Full, Repeat}
 use Rattle.command_buffer.specs.Results.{offer_of}
 use Rattle.of_switch.specs.declared.says.SwitchSays.{SwitchSays}
-use Rattle.of_switch.specs.State.{SwitchState, SwitchTurn, number_of, ports_up, quiet, refuses}
+use Rattle.app_core.specs.Orders.{Ascend, HasFewOutputs, most_ports}
+use Rattle.of_switch.specs.State.{SwitchState, SwitchTurn, number_of, ports_up, quiet, refuses, then_turn}
 use Rattle.of_switch.specs.Commands.{done_as, executes, on_command, on_offer, result_letter, result_of, settled}
 use Rattle.of_switch.specs.Events.{is_down}
-use Rattle.of_switch.specs.Forwarding.{over_link, over_links, sends_to, targets}
+use Rattle.of_switch.specs.Forwarding.{over_link, over_links, puts_all, puts_out, sends_to, targets}
 use Rattle.role_fence.specs.Fence.{may_execute}
 use Rattle.rv_runs.specs.States.{switch_message}
 use Rattle.closing_laws.specs.Ways.{Sent, sent_by}
 use Rattle.closing_laws.proofs.CommandCounts.{fewer_filter}
-use Rattle.closing_laws.proofs.FewOutputs.{HasFewOutputs}
 use Rattle.closing_laws.proofs.Rooms.{is_frame, is_result, waits}
 use Rattle.closing_laws.proofs.Waiting.{waits_append, waits_cons}
 use Rattle.closing_laws.proofs.Wires.{is_end}
@@ -104,16 +104,114 @@ few_sent s frame (port ∷ ports) apart =
     let parts = length-append (over_links s frame port) (flat_map (over_links s frame) ports) in
     omega (arith, one, rest, parts)
 
--- what an order of one output at most puts on links
+-- ---- ports, each once
+
+-- a port stands once at most among numbers, and not at all where it is none of them
+none_of : (test : ℕ → Bool) (output a n : ℕ) → (output < a) ⊎ (a + n ≤ output) → length (filter (λ p. nat_eq p output) (filter test (range_with_len a n))) ≡ 0
+none_of test output a zero apart = refl
+none_of test output a (suc n) apart =
+    by_tests (test a) (nat_eq a output) refl
+    (none_of test output (a + 1) n (elim apart [ inl below ↦ inl (omega (arith, below)) | inr above ↦ inr (omega (arith, above)) ]))
+  where
+    rest : List ℕ
+    rest = filter test (range_with_len (a + 1) n)
+
+    here : nat_eq a output ≡ true → ⊥
+    here e = let same = eqb-true a output e in elim apart [ inl below ↦ omega (arith, same, below) | inr above ↦ omega (arith, same, above) ]
+
+    by_tests : (t e : Bool) → nat_eq a output ≡ e → length (filter (λ p. nat_eq p output) rest) ≡ 0 → length (filter (λ p. nat_eq p output) (if t then a ∷ rest else rest)) ≡ 0
+    by_tests false e is others = others
+    by_tests true true is others = absurd (here is)
+    by_tests true false is others = rw is others
+
+one_of : (test : ℕ → Bool) (output a n : ℕ) → length (filter (λ p. nat_eq p output) (filter test (range_with_len a n))) ≤ 1
+one_of test output a zero = omega arith
+one_of test output a (suc n) = by_tests (test a) (nat_eq a output) refl (one_of test output (a + 1) n)
+  where
+    rest : List ℕ
+    rest = filter test (range_with_len (a + 1) n)
+
+    by_tests : (t e : Bool) → nat_eq a output ≡ e → length (filter (λ p. nat_eq p output) rest) ≤ 1 → length (filter (λ p. nat_eq p output) (if t then a ∷ rest else rest)) ≤ 1
+    by_tests false e is others = others
+    by_tests true true is others =
+        let same = eqb-true a output is in
+        let none = none_of test output (a + 1) n (inl (omega (arith, same))) in
+        rw is (omega (arith, none))
+    by_tests true false is others = rw is others
+
+-- so an output that is a port stands for that port at most
+module _ (s : SwitchState) (port output : ℕ) (is_port : output ≤ most_ports) where
+  abbrev up : ℕ → Bool
+  up p = not (list_any (λ d. nat_eq d p) s.down)
+
+  -- with as many ports as there are in what is bounded
+  by_targets : (most : ℕ) → length (filter (λ p. nat_eq p output) (filter up (range_with_len 1 s.ports))) ≤ most → length (targets s port output) ≤ most
+  by_targets most few =
+      cond_both (nat_eq output FLOOD || nat_eq output ALL_PORTS) _ _ Few (λ all. absurd (no_flood (nat_eq output FLOOD) (nat_eq output ALL_PORTS) refl refl all))
+      (λ _. cond_both (nat_eq output IN_PORT) _ _ Few (λ own. absurd (let same = eqb-true output IN_PORT own in omega (arith, same, is_port)))
+      (λ _. cond_both (nat_eq output port) _ _ Few (λ _. omega arith) (λ _. few)))
+    where
+      Few : List ℕ → Type 0
+      Few ports = length ports ≤ most
+
+      no_flood : (a b : Bool) → nat_eq output FLOOD ≡ a → nat_eq output ALL_PORTS ≡ b → (a || b) ≡ true → ⊥
+      no_flood true b is_a is_b h = let same = eqb-true output FLOOD is_a in omega (arith, same, is_port)
+      no_flood false true is_a is_b h = let same = eqb-true output ALL_PORTS is_b in omega (arith, same, is_port)
+      no_flood false false is_a is_b h = absurd cc
+
+  one_target : length (targets s port output) ≤ 1
+  one_target = by_targets 1 (one_of up output 1 s.ports)
+
+  no_target : s.ports < output → length (targets s port output) ≤ 0
+  no_target above = by_targets 0 (let none = none_of up output 1 s.ports (inr (omega (arith, above))) in omega (arith, none))
+
+-- what one output of a command puts on links
+few_put : (s : SwitchState) (port output : ℕ) (frame : List ℕ) (most : ℕ) → AreApart (ends_of s.links) → length (targets s port output) ≤ most → length (puts_out quiet port frame output s).letters ≤ most
+few_put s port output frame most apart few =
+    cond_both (nat_eq output TO_CONTROLLER) (quiet s) (sends_to frame (targets s port output) s) (λ (t : SwitchTurn). length t.letters ≤ most) (λ _. omega arith)
+    (λ _. let sent = few_sent s frame (targets s port output) apart in omega (arith, sent, few))
+
+-- a switch with these ports, whose wires are apart
+record IsLike (ports : ℕ) (s : SwitchState) : Type 0 where
+  pub ports_are : s.ports ≡ ports
+  pub apart : AreApart (ends_of s.links)
+
+still_like : (ports : ℕ) (s : SwitchState) (port output : ℕ) (frame : List ℕ) → IsLike ports s → IsLike ports (puts_out quiet port frame output s).state
+still_like ports s port output frame like =
+    cond_both (nat_eq output TO_CONTROLLER) (quiet s) (sends_to frame (targets s port output) s) (λ (t : SwitchTurn). IsLike ports t.state) (λ _. like)
+    (λ _. record { ports_are = like.ports_are; apart = like.apart })
+
+-- ports that ascend: from the least one on each of the switch gets the frame once at most
+ascending_put : (ports port : ℕ) (frame outputs : List ℕ) (least : ℕ) (t : SwitchTurn) → IsLike ports t.state → Ascend least outputs →
+    length (puts_all quiet port frame outputs t).letters ≤ length t.letters + (suc ports - least)
+ascending_put ports port frame [] least t like ascend = omega arith
+ascending_put ports port frame (output ∷ outputs) least t like ascend =
+    let here = puts_out quiet port frame output t.state in
+    let rest = ascending_put ports port frame outputs (suc output) (then_turn t (puts_out quiet port frame output)) (still_like ports t.state port output frame like) ascend.2 in
+    let joined = length-append t.letters here.letters in
+    let low = ascend.0 in
+    let high = ascend.1 in
+    let are = like.ports_are in
+    elim (cases_lt ports output) [
+      | inl above ↦
+          let none = few_put t.state port output frame 0 like.apart (no_target t.state port output high (omega (arith, above, are))) in
+          omega (arith, rest, joined, none, above)
+      | inr within ↦
+          let one = few_put t.state port output frame 1 like.apart (one_target t.state port output high) in
+          omega (arith, rest, joined, one, within, low)
+    ]
+
+-- what an order of few outputs puts on links
 pub few_done : (s : SwitchState) (result : Outcome) (what : Order) → AreApart (ends_of s.links) → HasFewOutputs what → length (done_as result what s).letters ≤ s.ports
-few_done s outcome.Done (order.PacketOut out) apart few = by_actions out.actions few
+few_done s outcome.Done (order.PacketOut out) apart (inl few) = by_actions out.actions few
   where
     by_actions : (outputs : List ℕ) → length outputs ≤ 1 → length (done_as outcome.Done (order.PacketOut (record out { actions = outputs })) s).letters ≤ s.ports
     by_actions [] few = omega arith
-    by_actions (output ∷ []) few =
-        cond_both (nat_eq output TO_CONTROLLER) (quiet s) (sends_to out.payload (targets s out.in_port output) s) (λ (t : SwitchTurn). length t.letters ≤ s.ports) (λ _. omega arith)
-        (λ _. let sent = few_sent s out.payload (targets s out.in_port output) apart in let few = few_targets s out.in_port output in omega (arith, sent, few))
+    by_actions (output ∷ []) few = few_put s out.in_port output out.payload s.ports apart (few_targets s out.in_port output)
     by_actions (output ∷ next ∷ outputs) few = absurd (omega (arith, few))
+few_done s outcome.Done (order.PacketOut out) apart (inr ascend) =
+    let sent = ascending_put s.ports out.in_port out.payload out.actions 1 (quiet s) (record { ports_are = refl; apart = apart }) ascend in
+    omega (arith, sent)
 few_done s outcome.Done (order.FlowMod change) apart few = omega arith
 few_done s (outcome.Failed kind code) what apart few = omega arith
 few_done s outcome.Cleared what apart few = omega arith

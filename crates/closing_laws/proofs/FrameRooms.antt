@@ -11,6 +11,7 @@ use Rattle.of_types.specs.Setups.{AreApart, IsSetup, ends_of}
 use Rattle.rv_base.specs.declared.journal.Actor.{Actor}
 use Rattle.rv_base.specs.declared.journal.Actor.TheVariants as actor
 use Rattle.rv_base.specs.declared.journal.Letter.{Letter}
+use Rattle.app_core.specs.Orders.{HasFewOutputs}
 use Rattle.lists.specs.Lists.{IsIn}
 use Rattle.lists.proofs.Elements.{in_append, in_map}
 use Rattle.vr_log.specs.declared.entry.Entry.{Entry}
@@ -38,7 +39,6 @@ use Rattle.closing_laws.specs.Views.{IsCovered, IsReadyMember}
 use Rattle.closing_laws.specs.Ways.{Sent, sent_by}
 use Rattle.closing_laws.proofs.Drained.{heard_of, put}
 use Rattle.closing_laws.proofs.FewFrames.{AreFollowed, command_follows, followed_append, followed_none, none_follow}
-use Rattle.closing_laws.proofs.FewOutputs.{HasFewOutputs}
 use Rattle.closing_laws.proofs.OpeningTurn as opens
 use Rattle.closing_laws.proofs.Picked.{IsPicked}
 use Rattle.closing_laws.proofs.PrimaryPosts.{Ack, Clear, Command, Prepare, IsPosted}
@@ -49,13 +49,13 @@ use Rattle.closing_laws.proofs.TurnPosts.{primary_posts, switch_turns}
 use Rattle.closing_laws.proofs.Waiting.{members_none, posts_cons, posts_never, posts_none}
 use Rattle.closing_laws.proofs.Wires.{IsWired, wired_apart, wired_turn}
 
--- a message is no command, or one with one output at most
+-- a message is no command, or one with few outputs
 abbrev pub SendsFew : Message → Type 0
 SendsFew (message.Of xid (spoken.Ravana (extension.Command life generation number settled what))) = HasFewOutputs what
 SendsFew _ = Unit {0}
 
 -- A turn of a switch posts its frames before its one result, so that at each place of what waits there is a result for each 48 frames:
--- each switch has its wires and at most 48 ports, and each command on its way has one output at most.
+-- each switch has its wires and at most 48 ports, and each command on its way has few outputs.
 pub record FrameRoom (setup : Setup) (c : ControllerState) (members : ℕ → VrState) (switches : ℕ → SwitchState) (waiting : List Sent) : Type 0 where
   pub suffixes : (k : ℕ) → waits is_frame (drop k waiting) ≤ 48 * waits is_result (drop k waiting)
   pub wired : (s : ℕ) → s < length setup.ports → IsWired setup (switches s)

@@ -139,7 +139,7 @@ pub mod TurnCases
 pub mod WantedCommands
 pub mod CommandPosts
 pub mod FewFrames
-pub mod FewOutputs
 pub mod FrameRooms
 pub mod Wires
 pub mod Sums
+pub mod Kept

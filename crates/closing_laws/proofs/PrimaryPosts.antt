@@ -24,6 +24,7 @@ use Rattle.vr_log.specs.Steps.{letter, quiet, to_others}
 use Rattle.two_stage_log.specs.Counts.{processed_of}
 use Rattle.app_core.specs.declared.issued.Issued.{Issued}
 use Rattle.app_core.specs.Issued.{commands_of}
+use Rattle.app_core.specs.Orders.{HasFewOutputs}
 use Rattle.controller_laws.proofs.Logs.{processed-append, processed_count, processed_prefix}
 use Rattle.dispatcher.specs.declared.answers.Through.{Through}
 use Rattle.dispatcher.specs.declared.answers.Wish.TheVariants.{Propose, Acknowledge, Nothing}
@@ -35,15 +36,15 @@ use Rattle.group_controller.specs.State.{ControllerState, Work, committed, leavi
 use Rattle.group_controller.specs.Settling.{ack_letter, after_finishing, after_proposal, answers_at, clear_letter, command_letter, command_letters, finishing, goes_on, is_alone, is_settled, is_untold, processing, proposing, settling, with_answers, with_commands}
 use Rattle.group_controller.specs.Rules.{on_master, on_result, on_wish}
 use Rattle.rv_runs.specs.States.{controller_message}
+use Rattle.closing_laws.specs.Serving.{AreFew}
 use Rattle.closing_laws.proofs.Agreed.{agreed_no_less, agreed_within, marked}
 use Rattle.closing_laws.proofs.AnswerWorths.{acknowledges_few}
-use Rattle.closing_laws.proofs.FewOutputs.{HasFewOutputs, few_outputs}
 use Rattle.closing_laws.proofs.Finishing.{Grows, grows_committed, grows_none, grows_then}
 use Rattle.closing_laws.proofs.Proposing.{commands_vr, committed_same, proposal, proposed_as, pushed}
 use Rattle.closing_laws.proofs.Rooms.{is_event}
 use Rattle.closing_laws.proofs.Waiting.{members_none, posts_always, posts_append, posts_cons, posts_never, posts_of}
 
--- a letter, by what is committed: an acknowledgement names processed events alone, and a command sends by one output at most
+-- a letter, by what is committed: an acknowledgement names processed events alone, and a command has few outputs
 pub data IsPosted (log : List Entry) : Letter ControllerSays → Type 0 where
   Ack : (t : Through) → t.through ≤ processed_of log t.switch t.life → IsPosted log (ack_letter t)
   Clear : (t : Through) → IsPosted log (clear_letter t)
@@ -84,10 +85,10 @@ commands_each kinds setup c log xs few l among =
     subst (λ (z : Letter ControllerSays). IsPosted log z) (sym y.2) (Command c.vr.view (numbered kinds setup (committed c) y.0) (few y.0 y.1))
 
 -- those that are due are of the applications
-due_few : (kinds : List ℕ) (setup : Setup) (c : ControllerState) (x : Issued) → IsIn x (outstanding kinds setup (committed c) c.marks) → HasFewOutputs x.order
-due_few kinds setup c x among =
+due_few : (kinds : List ℕ) (setup : Setup) → AreFew kinds setup → (c : ControllerState) (x : Issued) → IsIn x (outstanding kinds setup (committed c) c.marks) → HasFewOutputs x.order
+due_few kinds setup few c x among =
     let wants = in_filter (λ x. is_confirmed c.marks x.switch) (wanted kinds setup (committed c) c.marks) x among in
-    few_outputs kinds setup (received (committed c)) (processed (committed c)) x
+    few.outputs (received (committed c)) (processed (committed c)) x
     (in_filter (is_wanted (committed c) c.marks) (commands_of kinds setup (received (committed c)) (processed (committed c))) x wants)
 
 module _ (me : ℕ) where
@@ -146,7 +147,7 @@ module _ (me : ℕ) where
     view = q.view ∙ p.view;
   }
 
-  module _ (kinds : List ℕ) (setup : Setup) where
+  module _ (kinds : List ℕ) (setup : Setup) (few : AreFew kinds setup) where
     -- what is newly committed as processed is answered
     answers_post : (old : ControllerState) (work : Work) (before : ℕ) → Grows old.vr work.state.vr → work.state.vr.view ≡ old.vr.view → before ≡ length (committed old) →
         Posts (leaving work old) (with_answers kinds setup before work)
@@ -182,7 +183,7 @@ module _ (me : ℕ) where
         (λ _. record {
           letters = command_letters kinds setup work.state (outstanding kinds setup (committed work.state) work.state.marks);
           joined = refl;
-          each = commands_each kinds setup work.state (committed work.state) (outstanding kinds setup (committed work.state) work.state.marks) (due_few kinds setup work.state);
+          each = commands_each kinds setup work.state (committed work.state) (outstanding kinds setup (committed work.state) work.state.marks) (due_few kinds setup few work.state);
           events = let none = commands_counted kinds setup work.state (outstanding kinds setup (committed work.state) work.state.marks) in omega (arith, none);
           grows = grows_none work.state.vr within;
           view = refl;
@@ -304,7 +305,7 @@ module _ (me : ℕ) where
           let now : ControllerState = record d { marks = confirmed_by d.marks s } in
           let its = filter (λ x. nat_eq x.switch s) (outstanding kinds setup (committed now) now.marks) in
           record {
-            each = commands_each kinds setup now (committed now) its (λ x among. due_few kinds setup now x (in_filter (λ x. nat_eq x.switch s) (outstanding kinds setup (committed now) now.marks) x among));
+            each = commands_each kinds setup now (committed now) its (λ x among. due_few kinds setup few now x (in_filter (λ x. nat_eq x.switch s) (outstanding kinds setup (committed now) now.marks) x among));
             events = let none = commands_counted kinds setup now its in omega (arith, none);
             grows = grows_none c.vr within;
             view = refl;

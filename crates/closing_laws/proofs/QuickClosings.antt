@@ -1,5 +1,5 @@
 -- A closing is quick as a whole: what is posted and lost before its first view takes no turn, and leaves all as it was.
-use Rattle.std.proofs.Common.{◌≡◌, ◌≤◌, inl, inr, ℕ, ◌/◌, ◌%◌, Bool, true, false, List, [], ◌∷◌, map, length, refl, sym, ◌∙◌, ap, subst, arith, zero, suc, ◌+◌, ◌<◌}
+use Rattle.std.proofs.Common.{◌≡◌, ◌≤◌, inl, inr, ℕ, ◌/◌, ◌%◌, Bool, true, false, List, [], ◌∷◌, map, length, refl, sym, ◌∙◌, ap, subst, arith, zero, suc, ◌<◌}
 use Rattle.std.specs.Prelude.{nat_eq, nat_lt, filter, drop, if◌then◌else◌, slice_index_or, reverse, ◌++◌}
 use Rattle.std.specs.List.{list_any, range_with_len}
 use Rattle.std.proofs.Math.Path.{fun_ext}
@@ -25,7 +25,7 @@ use Rattle.rv_runs.specs.Committed.{count_up, decided, kept, kept_of, longest, m
 use Rattle.rv_runs.specs.Legal.{IsPossible}
 use Rattle.rv_runs.specs.Schedule.{ClosesTo, IsMove, IsPosted, Losing, Phase, after_move, closing_view, count_turns, is_turn, majority, next_lost, next_move, quorum_of}
 use Rattle.rv_runs.specs.States.{Scene, IsFaithful}
-use Rattle.closing_laws.specs.Given.{given_by}
+use Rattle.app_core.specs.Chain.{given_by}
 use Rattle.closing_laws.specs.Quick.{ClosingsAreQuick, ClosingsAreSharplyBounded}
 use Rattle.closing_laws.specs.Starts.{SavesSucceed}
 use Rattle.closing_laws.proofs.Carrying.{IsIdle, Loses, Posts, controllers_stay, switches_stay}

@@ -24,7 +24,7 @@ use Rattle.dispatcher.specs.Marks.{has_result, is_confirmed, is_finished, is_wan
 use Rattle.group_controller.specs.State.{ControllerState, committed}
 use Rattle.closing_laws.specs.Quorum.{has}
 use Rattle.closing_laws.specs.Following.{Start, KeepsUp, IsAgreed, Leads}
-use Rattle.closing_laws.specs.Serving.{IsAttended, IsSettled, IsTrueOf, IsMastered, AreEventsTold, events_told, logged_of, processed_by, sent_of, settled_by, told_by, told_through}
+use Rattle.closing_laws.specs.Serving.{AreFew, IsAttended, IsSettled, IsTrueOf, IsMastered, AreEventsTold, events_told, logged_of, processed_by, sent_of, settled_by, told_by, told_through}
 use Rattle.closing_laws.proofs.CommandsNamed.{command_named}
 use Rattle.closing_laws.proofs.Followers.{rests, drop_none}
 
@@ -102,7 +102,7 @@ module _ (kinds : List ℕ) (setup : Setup) (c : ControllerState) (all : committ
     all_marked i least most = elim ((h.confirmed confirmed).accounted i least most) [ inl e ↦ e | inr w ↦ elim w [ inl e ↦ absurd e | inr e ↦ absurd e ] ]
 
   -- of all switches
-  module _ (switches : ℕ → SwitchState) (served : (s : ℕ) → s < length setup.ports → IsAttended kinds setup c s (switches s) [] []) (true_of : (s : ℕ) → s < length setup.ports → IsTrueOf kinds setup c s (switches s))
+  module _ (few : AreFew kinds setup) (switches : ℕ → SwitchState) (served : (s : ℕ) → s < length setup.ports → IsAttended kinds setup c s (switches s) [] []) (true_of : (s : ℕ) → s < length setup.ports → IsTrueOf kinds setup c s (switches s))
       (lives : (e : Event) → IsIn e (received c.vr.log) → (s : ℕ) → s < length setup.ports → e.switch ≡ s → e.life ≤ life_of (switches s)) where
     abbrev events : List Event
     events = received c.vr.log
@@ -118,7 +118,7 @@ module _ (kinds : List ℕ) (setup : Setup) (c : ControllerState) (all : committ
         let chosen = filter_passes (is_wanted (committed c) c.marks) (commands_of kinds setup es place) x among in
         let of_event = in_filter (is_wanted (committed c) c.marks) (commands_of kinds setup es place) x among in
         let at = command_between kinds setup es place x of_event in
-        let named = command_named kinds setup es place x of_event in
+        let named = command_named kinds setup few es place x of_event in
         let parts = and_parts (not (has_result c.marks x.switch x.life x.number)) (not (has_ended x.switch x.life es)) chosen in
         let goes_on = not-true (has_ended x.switch x.life es) parts.1 in
         let there = named.there in

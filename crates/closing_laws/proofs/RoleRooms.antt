@@ -147,7 +147,7 @@ module _ (kinds : List ℕ) (setup : Setup) (few : AreFew kinds setup) (w : ℕ)
   -- what the turn posts behind the requests for roles
   pub opening_posts : Posts p asking end
   opening_posts =
-      settling_posts p kinds setup asking.state asking leader.commit
+      settling_posts p kinds setup few asking.state asking leader.commit
       (grows_none leader (opens.within kinds setup few w quorum at best picked small ready covered chosen voters promise sw older)) refl
       (sym (length-take-le leader.commit leader.log (opens.within kinds setup few w quorum at best picked small ready covered chosen voters promise sw older)))
 

@@ -79,7 +79,7 @@ module _ (kinds : List ℕ) (setup : Setup) where
       where
         by_told : (b : Bool) → (if b then 0 else count_by (stands log marks) (due_in log)) ≤ most_commands
         by_told true = omega arith
-        by_told false = let a = count_by-le-length (stands log marks) (due_in log) in let b = few (received log) (processed log) in omega (arith, a, b)
+        by_told false = let a = count_by-le-length (stands log marks) (due_in log) in let b = few.few (received log) (processed log) in omega (arith, a, b)
 
     pub sent_none : (log : List Entry) (marks : Marks) (last : Option ℕ) → wanted kinds setup log marks ≡ [] → sent_in log marks last ≡ 0
     sent_none log marks last none = by_told (has_unprocessed log && not (is_some_of (processed log) last))
@@ -219,7 +219,7 @@ module _ (kinds : List ℕ) (setup : Setup) where
           ]
 
       named : (x : Issued) → IsIn x (due_in front) → x.switch < length setup.ports
-      named x among = (command_named kinds setup (received front) (processed front) x among).there
+      named x among = (command_named kinds setup few (received front) (processed front) x among).there
 
       by_processed : (Q : Type 0) → (processed log ≡ processed front → Q) → (processed front < processed log → Q) → Q
       by_processed Q same more = elim (cases_lt (processed front) (processed log)) [

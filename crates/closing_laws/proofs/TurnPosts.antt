@@ -57,18 +57,18 @@ module _ (kinds : List ℕ) (setup : Setup) (few : AreFew kinds setup) (w p : �
   -- the primary
   module _ (to : m.to ≡ actor.Controller p) (t : AreTrue kinds setup c switches) where
     abbrev Posted : Work → Type 0
-    Posted work = HasPosted p kinds setup c (if is_event m.said then 1 else 0) work
+    Posted work = HasPosted p kinds setup few c (if is_event m.said then 1 else 0) work
 
-    as_said : (x : Message) (work : Work) → m.said ≡ x → HasPosted p kinds setup c (if is_event x then 1 else 0) work → Posted work
-    as_said x work says h = subst (λ (y : Message). HasPosted p kinds setup c (if is_event y then 1 else 0) work) (sym says) h
+    as_said : (x : Message) (work : Work) → m.said ≡ x → HasPosted p kinds setup few c (if is_event x then 1 else 0) work → Posted work
+    as_said x work says h = subst (λ (y : Message). HasPosted p kinds setup few c (if is_event y then 1 else 0) work) (sym says) h
 
     of_turns : OfTurns kinds setup few w p quorum start picked inside leader small c members switches m rest d to t.each t.primary Posted
     of_turns = record {
-      reply = λ k xid there from is none. as_said _ _ is (master_posts p kinds setup c t.primary.commit k);
-      event = λ k xid number what there from is. as_said _ _ is (event_posts p kinds setup c t.primary.commit (record { switch = k; life = life_of (switches k); number = number; what = what }));
-      result = λ k xid number result there from is. as_said _ _ is (result_posts p kinds setup c t.primary.commit k (life_of (switches k)) number);
-      agreed = λ b op from chosen apart is several more. as_said _ _ is (agreed_posts p kinds setup c t.primary.commit b op);
-      counted = λ b op from chosen apart is same. as_said _ _ is (counted_posts p kinds setup c t.primary.commit b op);
+      reply = λ k xid there from is none. as_said _ _ is (master_posts p kinds setup few c t.primary.commit k);
+      event = λ k xid number what there from is. as_said _ _ is (event_posts p kinds setup few c t.primary.commit (record { switch = k; life = life_of (switches k); number = number; what = what }));
+      result = λ k xid number result there from is. as_said _ _ is (result_posts p kinds setup few c t.primary.commit k (life_of (switches k)) number);
+      agreed = λ b op from chosen apart is several more. as_said _ _ is (agreed_posts p kinds setup few c t.primary.commit b op);
+      counted = λ b op from chosen apart is same. as_said _ _ is (counted_posts p kinds setup few c t.primary.commit b op);
     }
 
     pub primary_posts : IsHeard setup p quorum m → Posted (controller_work kinds setup c (heard_of m))

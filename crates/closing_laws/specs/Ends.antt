@@ -10,7 +10,7 @@ use Rattle.rv_runs.specs.Committed.{decided, kept}
 use Rattle.rv_runs.specs.Laws.{IsClosed}
 use Rattle.rv_runs.specs.Schedule.{Closes, Done}
 use Rattle.dispatcher.specs.Ledger.{most_commands}
-use Rattle.closing_laws.specs.Given.{given_by}
+use Rattle.app_core.specs.Chain.{given_by}
 
 -- all is done, and what the primary that closed has committed is what is decided
 pub record HasRested {B : Type 0} (scene : Scene B) (results : List (List SaveResult)) (primary : ℕ) (entries : List (JournalEntry B)) : Type 0 where

@@ -8,5 +8,5 @@ pub mod Serving
 pub mod Ends
 pub mod Quick
 pub mod Measure
-pub mod Given
 pub mod Stops
+pub mod Held

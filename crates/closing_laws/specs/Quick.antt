@@ -9,7 +9,7 @@ use Rattle.rv_runs.specs.Bound.{IsQuick, IsSharplyBounded}
 use Rattle.rv_runs.specs.Legal.{IsPossible}
 use Rattle.rv_runs.specs.Schedule.{ClosesTo, Losing, Phase, IsPosted}
 use Rattle.rv_runs.specs.States.{Scene, IsFaithful}
-use Rattle.closing_laws.specs.Given.{given_by}
+use Rattle.app_core.specs.Chain.{given_by}
 use Rattle.closing_laws.specs.Starts.{SavesSucceed}
 
 -- A claim on each closing in which each save succeeds, whose journal is within the limits, and whose applications give no more commands for

@@ -20,7 +20,9 @@ use Rattle.vr_log.specs.Log.{is_log, received, processed}
 use Rattle.vr_log.specs.Members.{leads, most_failures}
 use Rattle.two_stage_log.specs.Counts.{has_unprocessed, processed_of}
 use Rattle.app_core.specs.Chain.{concat}
+use Rattle.app_core.specs.declared.issued.Issued.{Issued}
 use Rattle.app_core.specs.Issued.{count_issued, commands_of, issues}
+use Rattle.app_core.specs.Orders.{HasFewOutputs}
 use Rattle.event_buffer.specs.Buffer.{most_held, next_number}
 use Rattle.of_switch.specs.State.{SwitchState, events_in, life_of, number_of}
 use Rattle.of_switch.specs.Events.{window}
@@ -218,6 +220,9 @@ pub record Extends (old : ControllerState) (more : List Entry) (new : Controller
   pub members : (b : ℕ) → b < old.vr.controllers → (b ≡ old.vr.me → ⊥) →
       ArePrepares old.vr.view new.vr.commit (length old.vr.log) more (told_to controller_message (actor.Controller b) letters)
 
--- no event has more commands than an application may give
-abbrev pub AreFew : List ℕ → Setup → Type 0
-AreFew kinds setup = (events : List Event) (j : ℕ) → length (commands_of kinds setup events j) ≤ most_commands
+-- What the applications ask of switches for an event: no more commands than they may give, each of a switch of the setup, and
+-- with few outputs
+pub record AreFew (kinds : List ℕ) (setup : Setup) : Type 0 where
+  pub few : (events : List Event) (j : ℕ) → length (commands_of kinds setup events j) ≤ most_commands
+  pub named : (events : List Event) (j : ℕ) (x : Issued) → IsIn x (commands_of kinds setup events j) → x.switch < length setup.ports
+  pub outputs : (events : List Event) (j : ℕ) (x : Issued) → IsIn x (commands_of kinds setup events j) → HasFewOutputs x.order

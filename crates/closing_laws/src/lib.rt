@@ -18,6 +18,7 @@ ghost use Rattle.vr_core.specs.declared.input.VrInput.TheVariants as vr_input;
 ghost use Rattle.vr_core.specs.Step.{vr_step};
 ghost use Rattle.closing_laws.specs.Quorum.{HasAQuorum, HasTheLeastView, IsQuorum, WhereMostAreUp, has, members_that_close};
 ghost use Rattle.closing_laws.specs.Draining.{all_suspected, drains, resting};
+ghost use Rattle.closing_laws.specs.Held.{EventsAreKept};
 ghost use Rattle.closing_laws.specs.Starts.{ViewsStartInTime};
 ghost use Rattle.closing_laws.specs.Ends.{ClosingsRest};
 ghost use Rattle.closing_laws.specs.Stops.{ClosingsFindAQuorum, ClosingsMeetLimits};
@@ -138,4 +139,9 @@ pub fn closings_meet_limits<B>()
 pub fn closings_are_quick<B>()
     ensures sharp { ClosingsAreSharplyBounded B }
     ensures quick { ClosingsAreQuick B }
+{}
+
+/// Each switch holds the events that it made in its present life, but for so many of the first as have left.
+pub fn events_are_kept<B>()
+    ensures { EventsAreKept B }
 {}

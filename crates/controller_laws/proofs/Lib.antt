@@ -13,5 +13,3 @@ pub mod Views
 pub mod Letters
 pub mod Sources
 pub mod Restarts
-pub mod Truths
-pub mod WholeTurns

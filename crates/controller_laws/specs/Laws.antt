@@ -1,5 +1,5 @@
 -- The laws of a turn of a controller.
-use Rattle.std.specs.Prelude.{[], ◌≡◌, ◌<◌, ◌≤◌, ◌⊎◌, ℕ, ◌+◌, true, false, List, ◌∷◌, ◌++◌, length, take, filter, slice_get, Some}
+use Rattle.std.specs.Prelude.{◌≡◌, ◌<◌, ◌≤◌, ◌⊎◌, ℕ, ◌+◌, true, false, List, ◌∷◌, ◌++◌, length, take, filter, slice_get, Some}
 use Rattle.of_types.specs.declared.message.Event.{Event}
 use Rattle.of_types.specs.declared.setup.Setup.{Setup}
 use Rattle.of_types.specs.Lives.{count_in}
@@ -23,12 +23,11 @@ use Rattle.group_controller.specs.State.{ControllerState, Work, committed, down,
 use Rattle.controller_laws.specs.Letters as told
 use Rattle.lists.specs.Lists.{IsIn, IsPrefix}
 use Rattle.controller_laws.specs.CommitNumbers.{IsKnownCommit, WorkCommits}
-use Rattle.controller_laws.specs.Entries.{EachFrom, IsConsistent, SaysHold, WorkHolds}
+use Rattle.controller_laws.specs.Entries.{IsConsistent, WorkHolds}
 use Rattle.controller_laws.specs.Events.{IsNextOfLife, is_event_of}
 use Rattle.controller_laws.specs.Moves.{Chain, IsSaid}
 use Rattle.controller_laws.specs.Sources.{ComesFrom, StoodBeside}
 use Rattle.controller_laws.specs.Views.{IsKnownView, StateViews}
-use Rattle.controller_laws.specs.Truths.{Facts, IsLater, IsDoneAt, IsTrueAt, IsOneAhead, MarksAreDone, IsHonest, HearsTruth, IsTrueLetter}
 use Rattle.controller_laws.specs.Turns.{beginning, IsReached}
 use Rattle.controller_laws.specs.Finished.{IsFinished}
 
@@ -115,57 +114,6 @@ CommitsComeFrom =
     (kinds : List ℕ) (setup : Setup) (x : ControllerInput) (c : ControllerState) (w : Work) → IsConsistent c.vr → Chain kinds setup x (beginning c) w →
     WorkCommits (λ k. IsKnownCommit x c w.state k) w
 
--- what a controller holds, marks and says is true, where it was and heard the truth, and what it has committed is decided
-abbrev pub TurnsTellTruth : Type 0
-TurnsTellTruth =
-    (kinds : List ℕ) (setup : Setup) (f : Facts) (x : ControllerInput) (c : ControllerState) (w : Work) → IsConsistent c.vr → IsHonest kinds setup f c → HearsTruth kinds setup f x →
-    Chain kinds setup x (beginning c) w → IsPrefix (committed w.state) f.decided → WorkHolds (λ n e. IsTrueAt kinds setup f n e) (λ k n e. IsOneAhead f k n e) w × MarksAreDone f w.state
-
--- and what its letters tell to switches is true of the decided log
-abbrev pub TurnsSayTruth : Type 0
-TurnsSayTruth =
-    (kinds : List ℕ) (setup : Setup) (f : Facts) (x : ControllerInput) (c : ControllerState) (w : Work) → IsConsistent c.vr → Chain kinds setup x (beginning c) w →
-    IsPrefix (committed w.state) f.decided → (l : Letter ControllerSays) → IsIn l w.letters → IsTrueLetter kinds setup f x c l
-
 -- each event of a log is the next of its life
 abbrev pub LogsNumberByLife : Type 0
 LogsNumberByLife = (log front back : List Entry) (e : Event) → is_log log ≡ true → log ≡ front ++ Received e ∷ back → IsNextOfLife front e
-
--- what is true stays true
-pub record StaysTrue (kinds : List ℕ) (setup : Setup) (f g : Facts) : Type 0 where
-  pub entries : (n : ℕ) (e : Entry) → IsTrueAt kinds setup f n e → IsTrueAt kinds setup g n e
-  pub ahead : (k n : ℕ) (e : Entry) → IsOneAhead f k n e → IsOneAhead g k n e
-  pub marks : (c : ControllerState) → MarksAreDone f c → MarksAreDone g c
-  pub letters : (x : ControllerInput) (c : ControllerState) (l : Letter ControllerSays) → IsTrueLetter kinds setup f x c l → IsTrueLetter kinds setup g x c l
-  pub honest : (c : ControllerState) → IsHonest kinds setup f c → IsHonest kinds setup g c
-  pub hears : (x : ControllerInput) → HearsTruth kinds setup f x → HearsTruth kinds setup g x
-
--- over later facts
-abbrev pub TruthsLast : Type 0
-TruthsLast = (kinds : List ℕ) (setup : Setup) (f g : Facts) → IsLater f g → StaysTrue kinds setup f g
-
--- What a turn leaves, beside the facts: a controller that is consistent and honest, letters that are true, and what was
--- committed, unless it was down, or is and posts nothing.
-pub record TurnKeeps (kinds : List ℕ) (setup : Setup) (f : Facts) (x : ControllerInput) (c : ControllerState) (w : Work) : Type 0 where
-  pub consistent : IsConsistent w.state.vr
-  pub honest : IsHonest kinds setup f w.state
-  pub letters : (l : Letter ControllerSays) → IsIn l w.letters →
-      IsTrueLetter kinds setup f x c l × SaysHold (λ n e. IsTrueAt kinds setup f n e) (λ k n e. IsOneAhead f k n e) l.body
-  pub lasts : IsPrefix (committed c) (committed w.state) ⊎ (is_down c ≡ true) ⊎ ((is_down w.state ≡ true) × (w.letters ≡ []))
-
--- whole turns of controllers keep what is true
-abbrev pub TurnsKeep : Type 0
-TurnsKeep =
-    (kinds : List ℕ) (setup : Setup) (f g : Facts) (x : ControllerInput) (c : ControllerState) → IsConsistent c.vr → IsHonest kinds setup f c → HearsTruth kinds setup f x → IsLater f g →
-    IsPrefix (committed (controller_work kinds setup c x).state) g.decided → TurnKeeps kinds setup g x c (controller_work kinds setup c x)
-
--- where the entries of the decided log are true: the events of a life are the first that its switch made, and where an
--- event is told as processed, all commands up to it are carried out, but those of lives that were over before that place
-pub record IsDecidedTruly (kinds : List ℕ) (setup : Setup) (f : Facts) : Type 0 where
-  pub events : (switch life : ℕ) → filter (is_event_of switch life) (received f.decided) ≡ take (count_in switch life (received f.decided)) (f.events switch life)
-  pub processed_are_done : (j : ℕ) → j < processed f.decided → (place : ℕ) × (slice_get f.decided place ≡ Some (Processed j)) × IsDoneAt kinds setup f place j
-
--- every decided log of true entries
-abbrev pub DecidedAreTrue : Type 0
-DecidedAreTrue =
-    (kinds : List ℕ) (setup : Setup) (f : Facts) → is_log f.decided ≡ true → EachFrom (λ n e. IsTrueAt kinds setup f n e) 0 f.decided → IsDecidedTruly kinds setup f

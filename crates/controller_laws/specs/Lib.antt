@@ -8,5 +8,4 @@ pub mod Turns
 pub mod Finished
 pub mod Letters
 pub mod Sources
-pub mod Truths
 pub mod Laws

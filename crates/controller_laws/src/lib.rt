@@ -5,7 +5,7 @@
 //! facts that only grow it stays true: that is one half of exactly once, the other half is the switch's.
 #![tactic(auto)]
 
-ghost use Rattle.controller_laws.specs.Laws.{TurnsAreChains, DownRestsOrRestarts, ChainsReach, EntriesComeFrom, SettledAreFinished, LettersTell, ViewsComeFrom, EmptyAreConsistent, IssuedLasts, CountsLast, LogsProcessInOrder, LogsReceiveInOrder, CommitsComeFrom, TurnsTellTruth, TurnsSayTruth, LogsNumberByLife, TruthsLast, TurnsKeep, DecidedAreTrue};
+ghost use Rattle.controller_laws.specs.Laws.{TurnsAreChains, DownRestsOrRestarts, ChainsReach, EntriesComeFrom, SettledAreFinished, LettersTell, ViewsComeFrom, EmptyAreConsistent, IssuedLasts, CountsLast, LogsProcessInOrder, LogsReceiveInOrder, CommitsComeFrom, LogsNumberByLife};
 
 /// A turn of a controller that is not down is a chain of moves, or a crash, which leaves the stable pair alone and posts
 /// nothing.
@@ -81,32 +81,4 @@ pub fn logs_receive_in_order()
 /// Each event of a log has the next number of its life, and the lives of a switch never fall.
 pub fn logs_number_by_life()
     ensures { LogsNumberByLife }
-{}
-
-/// What a controller holds and marks after a chain of moves is true, and what it says, where it was true before and the
-/// input is true.
-pub fn turns_tell_truth()
-    ensures { TurnsTellTruth }
-{}
-
-/// What the letters of a chain tell is true of the decided log.
-pub fn turns_say_truth()
-    ensures { TurnsSayTruth }
-{}
-
-/// What is true stays true when the facts grow.
-pub fn truths_last()
-    ensures { TruthsLast }
-{}
-
-/// A whole turn of any kind keeps all of it: a controller that is consistent and honest stays so, and its letters are
-/// true.
-pub fn turns_keep()
-    ensures { TurnsKeep }
-{}
-
-/// A decided log of true entries says: the events of each life are the first that its switch made, and where an event
-/// stands as processed, its commands are carried out, or their life was over before.
-pub fn decided_are_true()
-    ensures { DecidedAreTrue }
 {}

@@ -106,14 +106,6 @@ pub record Issuing (start now : Ledger) (commands rest : List Command) (given : 
   pub each : (events done : List Event) (before settled : List Issued) → AreLives events start.lives → AreCounts done before settled start.counts → length before + length commands < 2 ^ 64 →
       (issue_each events before commands ≡ given ++ issue_each events (before ++ given) rest) × AreCounts done (before ++ given) settled now.counts
 
-pub issuing_starts : (start : Ledger) (commands : List Command) → Issuing start start commands commands []
-issuing_starts start commands =
-    record {
-      same = refl;
-      long = omega arith;
-      each = λ events done before settled lives counts short. (ap (λ (b : List Issued). issue_each events b commands) (sym (append-nil before)), subst (λ (b : List Issued). AreCounts done b settled start.counts) (sym (append-nil before)) counts);
-    }
-
 -- the one that is issued next
 pub record IsNext (old : Ledger) (c : Command) (x : Issued) (new : Ledger) : Type 0 where
   pub given : x ≡ record { switch = c.switch; life = get_or old.lives c.switch 0; number = (counts_of old.counts c.switch (get_or old.lives c.switch 0)).issued; order = c.order }

@@ -14,17 +14,18 @@ use Rattle.vr_log.specs.Log.{received, processed}
 use Rattle.two_stage_log.specs.Counts.{has_unprocessed, processed_of}
 use Rattle.app_core.specs.declared.issued.Issued.{Issued}
 use Rattle.app_core.specs.Issued.{issues, commands_of}
-use Rattle.app_core.specs.Chain.{chain_next, chain_after, starting_chain}
+use Rattle.app_core.specs.Chain.{chain_next, chain_after, starting_chain, given_by}
 use Rattle.app_core.specs.Parts.{ChainSteps}
 use Rattle.app_core.proofs.Issuing.{length-issues, chain_after_push}
 use Rattle.of_types.specs.declared.message.Command.{Command}
 use Rattle.vr_log.specs.declared.entry.Entry.TheVariants.{Received, Processed}
 use Rattle.vr_log.proofs.Logs.{received-append}
+use Rattle.app_core.specs.Law.{AppLaw}
 use Rattle.dispatcher.specs.declared.answers.Handled.{Handled}
 use Rattle.dispatcher.specs.declared.counts.Counts.{Counts}
 use Rattle.dispatcher.specs.declared.ledger.Ledger.{Ledger}
 use Rattle.dispatcher.specs.Folding.{numbered, is_told, clears}
-use Rattle.dispatcher.specs.Ledger.{Dispatching, IsLedger, StandsFor, as_numbered, cleared, counts_of, first_commands, handled_of, has_told, is_outstanding, wants}
+use Rattle.dispatcher.specs.Ledger.{Dispatching, IsLedger, StandsFor, as_numbered, cleared, counts_of, first_commands, handled_of, has_told, is_outstanding, wants, most_commands}
 use Rattle.dispatcher.specs.Marks.{Marks, is_confirmed, is_finished, is_wanted, outstanding, settled_commands, wanted}
 use Rattle.dispatcher.proofs.Ledgers.{length-handled_of}
 
@@ -161,24 +162,24 @@ module _ (kinds : List ℕ) (setup : Setup) (log : List Entry) (ledger : Ledger)
       ∙ map_same (cleared ledger) _ (filter (is_told log commands) (range_with_len 0 (length setup.ports))) cleared_is
 
 -- a dispatcher after one entry more
-module _ {A : Type 0} (kinds_of : A → List ℕ) (most_of : A → ℕ) (states_of : A → List (List ℕ)) (suits : A → Setup → Type 0) (kinds : List ℕ) (setup : Setup) (log : List Entry) where
+module _ {A : Type 0} (law : AppLaw A) (kinds : List ℕ) (setup : Setup) (log : List Entry) where
   -- what the application gives is what is issued
-  pub reacts_is : (d : Dispatching A) (e : Event) (states : List (List ℕ)) (commands : List Command) → StandsFor kinds_of most_of states_of suits d kinds setup log →
-      ChainSteps (chain_next (kinds_of d.app) setup (states_of d.app) e) states [] commands → commands ≡ (chain_next kinds setup (chain_after kinds setup (starting_chain kinds) (received log)) e).commands
+  pub reacts_is : (d : Dispatching A) (e : Event) (states : List (List ℕ)) (commands : List Command) → StandsFor law d kinds setup log →
+      ChainSteps (chain_next (law.kinds d.app) setup (law.states d.app) e) states [] commands → commands ≡ (chain_next kinds setup (chain_after kinds setup (starting_chain kinds) (received log)) e).commands
   reacts_is d e states commands stands steps =
-      steps.commands_are ∙ ap (λ (ks : List ℕ). (chain_next ks setup (states_of d.app) e).commands) stands.kind ∙ ap (λ (s : List (List ℕ)). (chain_next kinds setup s e).commands) stands.states
+      steps.commands_are ∙ ap (λ (ks : List ℕ). (chain_next ks setup (law.states d.app) e).commands) stands.kind ∙ ap (λ (s : List (List ℕ)). (chain_next kinds setup s e).commands) stands.states
 
-  pub with_received : (d : Dispatching A) (app : A) (ledger : Ledger) (entry : Entry) (e : Event) (commands : List Command) → entry ≡ Received e → StandsFor kinds_of most_of states_of suits d kinds setup log →
-      kinds_of app ≡ kinds_of d.app → most_of app ≡ most_of d.app → suits app setup → ChainSteps (chain_next (kinds_of d.app) setup (states_of d.app) e) (states_of app) [] commands →
-      IsLedger kinds setup (log ++ Received e ∷ []) ledger → StandsFor kinds_of most_of states_of suits (record d { app = app; ledger = ledger }) kinds setup (log ++ entry ∷ [])
-  with_received d app ledger entry e commands is stands same most fit steps kept =
-      subst (λ (x : Entry). StandsFor kinds_of most_of states_of suits (record d { app = app; ledger = ledger }) kinds setup (log ++ x ∷ [])) (sym is)
+  pub with_received : (d : Dispatching A) (app : A) (ledger : Ledger) (entry : Entry) (e : Event) (commands : List Command) → entry ≡ Received e → StandsFor law d kinds setup log →
+      law.kinds app ≡ law.kinds d.app → law.suits app setup → ChainSteps (chain_next (law.kinds d.app) setup (law.states d.app) e) (law.states app) [] commands →
+      IsLedger kinds setup (log ++ Received e ∷ []) ledger → StandsFor law (record d { app = app; ledger = ledger }) kinds setup (log ++ entry ∷ [])
+  with_received d app ledger entry e commands is stands same fit steps kept =
+      subst (λ (x : Entry). StandsFor law (record d { app = app; ledger = ledger }) kinds setup (log ++ x ∷ [])) (sym is)
       (record {
         kind = same ∙ stands.kind;
-        few = let few = stands.few in omega (arith, most, few);
+        few = subst (λ (ks : List ℕ). given_by ks ≤ most_commands) (sym same) stands.few;
         suited = fit;
         states = steps.states_are
-            ∙ ap (λ (ks : List ℕ). (chain_next ks setup (states_of d.app) e).states) stands.kind
+            ∙ ap (λ (ks : List ℕ). (chain_next ks setup (law.states d.app) e).states) stands.kind
             ∙ ap (λ (s : List (List ℕ)). (chain_next kinds setup s e).states) stands.states
             ∙ sym (chain_after_push kinds setup (starting_chain kinds) (received log) e)
             ∙ ap (λ (es : List Event). chain_after kinds setup (starting_chain kinds) es) (sym (received-append log (Received e ∷ [])));
@@ -186,10 +187,10 @@ module _ {A : Type 0} (kinds_of : A → List ℕ) (most_of : A → ℕ) (states_
         ledger = kept;
       })
 
-  pub with_processed : (d : Dispatching A) (ledger : Ledger) (entry : Entry) (j : ℕ) → entry ≡ Processed j → StandsFor kinds_of most_of states_of suits d kinds setup log →
-      IsLedger kinds setup (log ++ Processed j ∷ []) ledger → StandsFor kinds_of most_of states_of suits (record d { ledger = ledger }) kinds setup (log ++ entry ∷ [])
+  pub with_processed : (d : Dispatching A) (ledger : Ledger) (entry : Entry) (j : ℕ) → entry ≡ Processed j → StandsFor law d kinds setup log →
+      IsLedger kinds setup (log ++ Processed j ∷ []) ledger → StandsFor law (record d { ledger = ledger }) kinds setup (log ++ entry ∷ [])
   with_processed d ledger entry j is stands kept =
-      subst (λ (x : Entry). StandsFor kinds_of most_of states_of suits (record d { ledger = ledger }) kinds setup (log ++ x ∷ [])) (sym is)
+      subst (λ (x : Entry). StandsFor law (record d { ledger = ledger }) kinds setup (log ++ x ∷ [])) (sym is)
       (record {
         kind = stands.kind;
         few = stands.few;

@@ -9,8 +9,9 @@ use Rattle.vr_log.specs.declared.entry.Entry.{Entry}
 use Rattle.vr_log.specs.declared.entry.Entry.TheVariants.{Received, Processed}
 use Rattle.vr_log.specs.Log.{received, processed}
 use Rattle.app_core.specs.declared.issued.Issued.{Issued}
-use Rattle.app_core.specs.Chain.{concat, chain_after, starting_chain}
+use Rattle.app_core.specs.Chain.{concat, chain_after, starting_chain, given_by}
 use Rattle.app_core.specs.Issued.{count_issued, issues}
+use Rattle.app_core.specs.Law.{AppLaw}
 use Rattle.dispatcher.specs.declared.answers.Handled.{Handled}
 use Rattle.dispatcher.specs.declared.answers.Through.{Through}
 use Rattle.dispatcher.specs.declared.counts.Counts.{Counts}
@@ -97,12 +98,12 @@ pub record Dispatching (A : Type 0) : Type 0 where
   pub marks : Marks
 
 -- it stands for a committed log: its application has taken the events of that log, and no others
-pub record StandsFor {A : Type 0} (kinds_of : A → List ℕ) (most_of : A → ℕ) (states_of : A → List (List ℕ)) (suits : A → Setup → Type 0)
+pub record StandsFor {A : Type 0} (law : AppLaw A)
     (d : Dispatching A) (kinds : List ℕ) (setup : Setup) (log : List Entry) : Type 0 where
-  pub kind : kinds_of d.app ≡ kinds
-  pub few : most_of d.app ≤ most_commands
-  pub suited : suits d.app setup
-  pub states : states_of d.app ≡ chain_after kinds setup (starting_chain kinds) (received log)
+  pub kind : law.kinds d.app ≡ kinds
+  pub few : given_by (law.kinds d.app) ≤ most_commands
+  pub suited : law.suits d.app setup
+  pub states : law.states d.app ≡ chain_after kinds setup (starting_chain kinds) (received log)
   pub size : d.switches ≡ length setup.ports
   pub ledger : IsLedger kinds setup log d.ledger
 

@@ -1,8 +1,9 @@
 //! The dispatcher of a primary.
-ghost use Rattle.std.specs.Prelude.{◌≡◌, ◌≤◌, ◌∷◌, ◌++◌, ℕ, [], List, Option, Some, None, map, filter, nat_eq, nat_lt, ◌&&◌, true, IfOk, OnOk, if◌then◌else◌};
+ghost use Rattle.std.specs.Prelude.{◌≡◌, ◌≤◌, ◌∷◌, ◌++◌, [], Option, Some, None, map, filter, nat_eq, nat_lt, ◌&&◌, true, IfOk, OnOk, if◌then◌else◌};
 ghost use Rattle.of_types.specs.declared.setup.Setup.{Setup};
 ghost use Rattle.of_types.specs.Setups.{IsSetup};
 ghost use Rattle.of_types.specs.Lives.{has_ended, is_switch_up};
+ghost use Rattle.app_core.specs.Chain.{given_by};
 ghost use Rattle.vr_log.specs.declared.entry.Entry.{Entry};
 ghost use Rattle.vr_log.specs.Log.{fits, follows, received, processed};
 ghost use Rattle.two_stage_log.specs.Counts as counts;
@@ -58,8 +59,8 @@ impl<A: App> Dispatcher<A> {
     /// Owns the application of a life, which starts here. No entry is committed.
     pub fn new(alloc: Global, app: A, setup: &Setup) -> Result<Dispatcher<A>, AllocError>
         requires setup { IsSetup setup.now }
-        requires few { A.most app ≤ most_commands }
-        ensures stands { IfOk result (λ d. StandsFor A.kinds A.most A.states A.suits d (A.kinds app) setup.now []) }
+        requires few { given_by (A.law.kinds app) ≤ most_commands }
+        ensures stands { IfOk result (λ d. StandsFor A.law d (A.law.kinds app) setup.now []) }
         ensures marks { IfOk result (λ d. d.marks ≡ no_marks) }
     {
         let mut app = app;
@@ -83,8 +84,8 @@ impl<A: App> Dispatcher<A> {
     /// One entry more is committed: the application reacts to an event that is received. What is processed
     /// comes back.
     pub fn fold(&mut self, entry: &Entry) -> Result<Option<Handled>, AllocError>
-        ensures folds { ForEachLog (StandsFor A.kinds A.most A.states A.suits self.old) (λ kinds setup log. fits log entry.now ≡ true →
-            IfOk result (λ handled. (handled ≡ handled_by kinds setup log entry.now) × StandsFor A.kinds A.most A.states A.suits self.new kinds setup (log ++ entry.now ∷ []))) }
+        ensures folds { ForEachLog (StandsFor A.law self.old) (λ kinds setup log. fits log entry.now ≡ true →
+            IfOk result (λ handled. (handled ≡ handled_by kinds setup log entry.now) × StandsFor A.law self.new kinds setup (log ++ entry.now ∷ []))) }
         ensures marks { self.new.marks ≡ self.old.marks }
     {
         match entry {
@@ -99,8 +100,8 @@ impl<A: App> Dispatcher<A> {
 
     /// These entries more are committed. What they have as processed comes back, in order.
     pub fn fold_each(&mut self, entries: &[Entry]) -> Result<Vec<Handled>, AllocError>
-        ensures folds { ForEachLog (StandsFor A.kinds A.most A.states A.suits self.old) (λ kinds setup log. follows log entries.now ≡ true →
-            IfOk result (λ list. AreHandledAt kinds setup (log ++ entries.now) (places_processed entries.now) list.items × StandsFor A.kinds A.most A.states A.suits self.new kinds setup (log ++ entries.now))) }
+        ensures folds { ForEachLog (StandsFor A.law self.old) (λ kinds setup log. follows log entries.now ≡ true →
+            IfOk result (λ list. AreHandledAt kinds setup (log ++ entries.now) (places_processed entries.now) list.items × StandsFor A.law self.new kinds setup (log ++ entries.now))) }
         ensures marks { self.new.marks ≡ self.old.marks }
     {
         let mut processed = Vec::new(self.alloc);
@@ -121,7 +122,7 @@ impl<A: App> Dispatcher<A> {
 
     /// What is done with an event from a switch, by the log and what is committed of it.
     pub fn on_event(&self, event: &Event, log: &Log) -> Wish
-        ensures { ForEachLog (StandsFor A.kinds A.most A.states A.suits self.now) (λ kinds setup committed. result ≡ wish log.now committed event.now) }
+        ensures { ForEachLog (StandsFor A.law self.now) (λ kinds setup committed. result ≡ wish log.now committed event.now) }
     {
         let (life, next) = log.next_place(event.switch);
         if may_follow(event, life, next) {
@@ -138,8 +139,8 @@ impl<A: App> Dispatcher<A> {
     /// A result of a command came: it counts where the command is of an event that is not processed, and tells
     /// whether it is.
     pub fn on_result(&mut self, switch: u8, life: u32, number: u64) -> Result<bool, AllocError>
-        ensures pending { ForEachLog (StandsFor A.kinds A.most A.states A.suits self.old) (λ kinds setup log. IfOk result (λ b. b ≡ is_pending kinds setup log switch life number)) }
-        ensures marks { ForEachLog (StandsFor A.kinds A.most A.states A.suits self.old) (λ kinds setup log. OnOk result (self.new.marks ≡ with_result kinds setup log self.old.marks switch life number)) }
+        ensures pending { ForEachLog (StandsFor A.law self.old) (λ kinds setup log. IfOk result (λ b. b ≡ is_pending kinds setup log switch life number)) }
+        ensures marks { ForEachLog (StandsFor A.law self.old) (λ kinds setup log. OnOk result (self.new.marks ≡ with_result kinds setup log self.old.marks switch life number)) }
         ensures same { self.new ≡ record self.old { marks = self.new.marks } }
     {
         let counts = self.ledger.counts_of(switch, life);
@@ -180,21 +181,21 @@ impl<A: App> Dispatcher<A> {
 
     /// How many events are processed: the place of the first one that is not.
     pub fn processed(&self) -> u64
-        ensures { ForEachLog (StandsFor A.kinds A.most A.states A.suits self.now) (λ kinds setup log. result ≡ processed log) }
+        ensures { ForEachLog (StandsFor A.law self.now) (λ kinds setup log. result ≡ processed log) }
     {
         self.ledger.processed()
     }
 
     /// Whether an event is received and not processed.
     pub fn has_unprocessed(&self) -> bool
-        ensures { ForEachLog (StandsFor A.kinds A.most A.states A.suits self.now) (λ kinds setup log. result ≡ counts.has_unprocessed log) }
+        ensures { ForEachLog (StandsFor A.law self.now) (λ kinds setup log. result ≡ counts.has_unprocessed log) }
     {
         self.ledger.has_unprocessed()
     }
 
     /// The commands of the first unprocessed event that want a result, on confirmed switches, in the order of issue.
     pub fn outstanding(&self) -> Result<Vec<Numbered>, AllocError>
-        ensures { ForEachLog (StandsFor A.kinds A.most A.states A.suits self.now) (λ kinds setup log.
+        ensures { ForEachLog (StandsFor A.law self.now) (λ kinds setup log.
             IfOk result (λ list. list.items ≡ map (numbered kinds setup log) (marks.outstanding kinds setup log self.now.marks))) }
     {
         commands::outstanding(self.alloc, &self.ledger, &self.marks)
@@ -202,7 +203,7 @@ impl<A: App> Dispatcher<A> {
 
     /// Those of them on one switch.
     pub fn outstanding_on(&self, switch: u8) -> Result<Vec<Numbered>, AllocError>
-        ensures { ForEachLog (StandsFor A.kinds A.most A.states A.suits self.now) (λ kinds setup log.
+        ensures { ForEachLog (StandsFor A.law self.now) (λ kinds setup log.
             IfOk result (λ list. list.items ≡ map (numbered kinds setup log) (filter (λ x. nat_eq x.switch switch) (marks.outstanding kinds setup log self.now.marks)))) }
     {
         commands::outstanding_on(self.alloc, switch, &self.ledger, &self.marks)
@@ -210,14 +211,14 @@ impl<A: App> Dispatcher<A> {
 
     /// Whether there is a first unprocessed event, and none of its commands wants a result.
     pub fn finished(&self) -> bool
-        ensures { ForEachLog (StandsFor A.kinds A.most A.states A.suits self.now) (λ kinds setup log. result ≡ is_finished kinds setup log self.now.marks) }
+        ensures { ForEachLog (StandsFor A.law self.now) (λ kinds setup log. result ≡ is_finished kinds setup log self.now.marks) }
     {
         self.ledger.has_unprocessed() && commands::count_wanted(&self.ledger, &self.marks) == 0
     }
 
     /// What acknowledges an event that is processed: so many events of its life are, while that life goes on.
     pub fn acknowledgement(&self, handled: &Handled) -> Option<Through>
-        ensures { ForEachLog (StandsFor A.kinds A.most A.states A.suits self.now) (λ kinds setup log.
+        ensures { ForEachLog (StandsFor A.law self.now) (λ kinds setup log.
             result ≡ (if has_ended handled.now.switch handled.now.life (received log) then None else Some (folding.acknowledgement log handled.now.switch handled.now.life))) }
     {
         if self.ledger.has_ended(handled.switch, handled.life) {
@@ -236,7 +237,7 @@ impl<A: App> Dispatcher<A> {
     /// What is told to each switch whose present life has a command of an event that is processed, ascending: so
     /// many commands of that life are settled.
     pub fn clears(&self, handled: &Handled) -> Result<Vec<Through>, AllocError>
-        ensures { ForEachLog (StandsFor A.kinds A.most A.states A.suits self.now) (λ kinds setup log.
+        ensures { ForEachLog (StandsFor A.law self.now) (λ kinds setup log.
             IfOk result (λ list. list.items ≡ folding.clears kinds setup log handled.now.commands)) }
     {
         commands::clears(

@@ -10,6 +10,7 @@ use Rattle.of_types.specs.declared.message.OfMessage.TheVariants as plain
 use Rattle.of_types.specs.declared.message.Spoken.{Spoken}
 use Rattle.of_types.specs.declared.message.Spoken.TheVariants as spoken
 use Rattle.of_types.specs.declared.setup.Setup.{Setup}
+use Rattle.of_types.specs.Setups.{IsSetup}
 use Rattle.of_types.specs.Lives.{life_after, life_in, has_ended}
 use Rattle.rv_base.specs.declared.journal.Letter.{Letter}
 use Rattle.lists.proofs.Places.{get_prefix}
@@ -94,7 +95,7 @@ pub valid_prefix : (log whole : List Entry) → IsPrefix log whole → IsValidLo
 valid_prefix log whole p valid front back e is =
     valid front (back ++ p.rest) e (p.joined ∙ ap (λ (l : List Entry). l ++ p.rest) is ∙ append_assoc front (e ∷ back) p.rest)
 
-module _ (kinds : List ℕ) (setup : Setup) (f g : PastFacts) (later : Later f g) (me : ℕ) (c : ControllerState) (x : ControllerInput)
+module _ (kinds : List ℕ) (setup : Setup) (within : IsSetup setup) (f g : PastFacts) (later : Later f g) (me : ℕ) (c : ControllerState) (x : ControllerInput)
     (heard : IsHeardByController kinds setup f x) (honest : IsHonest kinds setup f c) (turn : IsGoodTurn kinds setup me c x)
     (front : is_up (controller_work kinds setup c x).state.vr ≡ true → IsPrefix (committed (controller_work kinds setup c x).state) g.decided)
     (valid : is_up (controller_work kinds setup c x).state.vr ≡ true → IsValidLog (committed (controller_work kinds setup c x).state)) where
@@ -208,7 +209,7 @@ module _ (kinds : List ℕ) (setup : Setup) (f g : PastFacts) (later : Later f g
       let b : IsBetween kinds setup (received log) j y = command_between kinds setup (received log) j y among in
       let there = b.there in
       let front_is = moment_front log m in
-      let sendable = commands_of_sendable kinds setup (received log) (moment_good log m) j y among in
+      let sendable = commands_of_sendable kinds setup within (received log) (moment_good log m) j y among in
       let p = received_prefix front_is in
       let before = take_same j (omega (arith, there)) p in
       let with_it = take_same (j + 1) (omega (arith, there)) p in

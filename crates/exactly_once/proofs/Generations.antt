@@ -1,9 +1,10 @@
 -- The fence of a switch has accepted the greatest generation that asked it in its life, and lets only its master's
 -- commands of that generation pass.
 use Rattle.std.proofs.Common.{◌≡◌, ◌≤◌, ◌<◌, ℕ, ◌+◌, ◌-◌, ◌*◌, ◌%◌, ◌^◌, Bool, true, false, List, [], ◌∷◌, ◌++◌, length, zero, suc, refl, sym, ◌∙◌, ap, subst, inl, inr, ◌⊎◌, arith, le_trans, length-append, mod-eq_of_lt}
-use Rattle.std.specs.Prelude.{slice_index_or, nat_eq, nat_lt, Option, Some, None, if◌then◌else◌}
+use Rattle.std.specs.Prelude.{drop, slice_index_or, nat_eq, nat_lt, Option, Some, None, if◌then◌else◌}
 use Rattle.std.proofs.lemmas.Bool.{cases_lt, eqb-true, and_parts, le-leb, lt-leb}
-use Rattle.std.proofs.lemmas.List.{append_cancel_left}
+use Rattle.std.specs.List.{AllByRecursion}
+use Rattle.std.proofs.Math.Seq.{drop-append_seam, drop-length}
 use Rattle.std.proofs.lemmas.Nat.{mod_low}
 use Rattle.of_types.specs.declared.message.Executed.{Executed}
 use Rattle.of_types.specs.declared.message.Extension.{Extension}
@@ -23,7 +24,7 @@ use Rattle.of_switch.specs.declared.says.SwitchInput.TheVariants as switch_input
 use Rattle.of_switch.specs.State.{SwitchState, SwitchTurn, quiet, posts, then_turn, greetings, life_of}
 use Rattle.of_switch.specs.Events.{raised, next_life, tells_ports, on_restart}
 use Rattle.of_switch.specs.Rules.{switch_turn}
-use Rattle.exactly_once.proofs.SwitchMoves.{Move, Raises, Says, Notes, Clears, Executes, Masters, Fences, Restarts, fenced, turn_keeps}
+use Rattle.exactly_once.proofs.SwitchMoves.{Move, Raises, Says, Notes, Changes, Clears, Executes, Masters, Fences, Restarts, fenced, turn_keeps}
 use Rattle.rv_runs.specs.declared.messages.Message.TheVariants as message
 use Rattle.rv_runs.specs.declared.messages.Unsealed.TheVariants as unsealed
 use Rattle.rv_runs.specs.Laws.{master_asked, IsGreatest, Heard, heard_local}
@@ -42,7 +43,8 @@ life_stays x start other = turn_keeps x (λ (t : SwitchTurn). life_of t.state �
     stays : (t t' : SwitchTurn) → Move x t t' → life_of t.state ≡ life_of start → life_of t'.state ≡ life_of start
     stays t t' (Raises what raised is) h = ap (λ (y : SwitchTurn). life_of y.state) is ∙ h
     stays t t' (Says ls all is) h = ap (λ (y : SwitchTurn). life_of y.state) is ∙ h
-    stays t t' (Notes down sent rows outcomes dirty is) h = ap (λ (y : SwitchTurn). life_of y.state) is ∙ h
+    stays t t' (Notes down sent outcomes dirty is) h = ap (λ (y : SwitchTurn). life_of y.state) is ∙ h
+    stays t t' (Changes c xid life generation number through change asks is) h = ap (λ (y : SwitchTurn). life_of y.state) is ∙ h
     stays t t' (Clears c xid life through asks own is) h = ap (λ (y : SwitchTurn). life_of y.state) is ∙ h
     stays t t' (Executes c xid life generation number through what result asks own may next is) h = ap (λ (y : SwitchTurn). life_of y.state) is ∙ h
     stays t t' (Masters c xid role generation asks master fresh first is) h = ap (λ (y : SwitchTurn). life_of y.state) is ∙ h
@@ -56,7 +58,8 @@ fence_stays x start calm = turn_keeps x (λ (t : SwitchTurn). t.state.fence ≡ 
     stays : (t t' : SwitchTurn) → Move x t t' → t.state.fence ≡ start.fence → t'.state.fence ≡ start.fence
     stays t t' (Raises what raised is) h = ap (λ (y : SwitchTurn). y.state.fence) is ∙ h
     stays t t' (Says ls all is) h = ap (λ (y : SwitchTurn). y.state.fence) is ∙ h
-    stays t t' (Notes down sent rows outcomes dirty is) h = ap (λ (y : SwitchTurn). y.state.fence) is ∙ h
+    stays t t' (Notes down sent outcomes dirty is) h = ap (λ (y : SwitchTurn). y.state.fence) is ∙ h
+    stays t t' (Changes c xid life generation number through change asks is) h = ap (λ (y : SwitchTurn). y.state.fence) is ∙ h
     stays t t' (Clears c xid life through asks own is) h = ap (λ (y : SwitchTurn). y.state.fence) is ∙ h
     stays t t' (Executes c xid life generation number through what result asks own may next is) h = ap (λ (y : SwitchTurn). y.state.fence) is ∙ h
     stays t t' (Masters c xid role generation asks master fresh first is) h = absurd (calm.asks c xid role generation asks)
@@ -135,7 +138,8 @@ module _ (x : SwitchInput) (start : SwitchState) where
   carries_move : (t t' : SwitchTurn) → Move x t t' → Carries x start t → Carries x start t'
   carries_move t t' (Raises what raised is) h = same_carries t t' _ (ap (λ (y : SwitchTurn). y.state) is) refl refl refl refl h
   carries_move t t' (Says ls all is) h = same_carries t t' _ (ap (λ (y : SwitchTurn). y.state) is) refl refl refl refl h
-  carries_move t t' (Notes down sent rows outcomes dirty is) h = same_carries t t' _ (ap (λ (y : SwitchTurn). y.state) is) refl refl refl refl h
+  carries_move t t' (Notes down sent outcomes dirty is) h = same_carries t t' _ (ap (λ (y : SwitchTurn). y.state) is) refl refl refl refl h
+  carries_move t t' (Changes c xid life generation number through change asks is) h = same_carries t t' _ (ap (λ (y : SwitchTurn). y.state) is) refl refl refl refl h
   carries_move t t' (Clears c xid life through asks own is) h = same_carries t t' _ (ap (λ (y : SwitchTurn). y.state) is) refl refl refl refl h
   carries_move t t' (Masters c xid role generation asks master fresh first is) h = role_carries t t' _ c xid role generation is asks h
   carries_move t t' (Fences c xid role generation fence asks otherwise first is) h = role_carries t t' fence c xid role generation is asks h
@@ -187,18 +191,23 @@ module _ (x : SwitchInput) (start : SwitchState) where
   pub turn_carries : Carries x start (switch_turn start x)
   turn_carries = turn_keeps x (Carries x start) carries_move start (record { life = λ other. refl; fence = λ other. refl; grown = inl (record { is = refl; count = λ calm. refl }) })
 
-  -- what a turn carries out the fence lets pass
-  pub may_pass : (new : Executed) → (switch_turn start x).state.executed ≡ start.executed ++ new ∷ [] → may_execute start.fence new.from new.generation ≡ true
-  may_pass new is =
-      let h = turn_carries in
-      elim h.grown [
-        | inl same ↦
-            let l : length start.executed ≡ length start.executed + 1 = ap (λ (l : List Executed). length l) (sym same.is ∙ is) ∙ length-append start.executed (new ∷ []) in
-            absurd (omega (arith, l))
-        | inr g ↦
-            let tail : g.new ∷ [] ≡ new ∷ [] = append_cancel_left start.executed (g.new ∷ []) (new ∷ []) (sym g.is ∙ is) in
-            let it : g.new ≡ new = cc in
-            subst (λ (y : Executed). may_execute start.fence y.from y.generation ≡ true) it g.may
+  -- what a turn carries out, each the fence lets pass
+  abbrev MayPass : List Executed → Type 0
+  MayPass new = AllByRecursion (λ y. may_execute start.fence y.from y.generation ≡ true) new
+
+  pub may_pass : MayPass (drop (length start.executed) (switch_turn start x).state.executed)
+  may_pass =
+      elim turn_carries.grown [
+        | inl same ↦ subst (λ (l : List Executed). MayPass (drop (length start.executed) l)) (sym same.is) (subst MayPass (sym (drop-length start.executed)) tt)
+        | inr g ↦ subst (λ (l : List Executed). MayPass (drop (length start.executed) l)) (sym g.is) (subst MayPass (sym (drop-append_seam start.executed (g.new ∷ []))) (g.may, tt))
+      ]
+
+  -- and no fewer than before are carried out
+  pub no_fewer : length start.executed ≤ length (switch_turn start x).state.executed
+  no_fewer =
+      elim turn_carries.grown [
+        | inl same ↦ let l = ap (λ (l : List Executed). length l) same.is in omega (arith, l)
+        | inr g ↦ let l = ap (λ (l : List Executed). length l) g.is ∙ length-append start.executed (g.new ∷ []) in omega (arith, l)
       ]
 
 -- a fence by the generations that asked to be master, of so many controllers

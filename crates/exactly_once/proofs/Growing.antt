@@ -177,6 +177,7 @@ module _ (kinds : List ℕ) (setup : Setup) {f g : PastFacts} (later : Later f g
         good = h.good;
         issued = λ life i x at. numbered_more s life i x.order (h.issued life i x at);
         dropped = λ life. le_trans (h.dropped life) (processed_count s life later.decided);
+        rows = h.rows;
       }
 
   pub sound_at_more : (s : ℕ) (w : SwitchAt) → IsSoundAt kinds setup f s w → IsSoundAt kinds setup g s w

@@ -43,6 +43,7 @@ use Rattle.exactly_once.specs.Truths.{IsTrueEntry, IsAhead}
 use Rattle.exactly_once.proofs.Growing.{sound_more, order_more, sound_at_more, honest_at_more, between_more}
 use Rattle.exactly_once.proofs.Switches.{switch_keeps}
 use Rattle.exactly_once.proofs.ControllerTurns.{controller_keeps}
+use Rattle.exactly_once.proofs.TableRows.{opening_valid}
 use Rattle.rv_runs.proofs.Pools.{one_actor, drawn_found, IsPosted, Was, New, pool_after}
 use Rattle.exactly_once.proofs.Packets.{heard_by_switch, heard_by_controller, switch_packet, controller_packet}
 
@@ -145,7 +146,7 @@ module _ {B : Type 0} (scene : Scene B) (results : List (List SaveResult)) (fait
         (heard_by_switch scene.kinds scene.setup (facts_of scene results before) s p.from p.to (content scene.sealing p) goes
         (holds.packets p (subst (λ (y : Packet B). IsIn y (pool before)) it r.among)))
     switch_hears_truth s x same (From_local a input is hears) =
-        subst (λ (y : SwitchInput). IsHeardBySwitch scene.kinds scene.setup (facts_of scene results before) s y) (sym hears) (subst (λ (y : JournalEntry B). EntryFits y) is legal.views.0)
+        subst (λ (y : SwitchInput). IsHeardBySwitch scene.kinds scene.setup (facts_of scene results before) s y) (sym hears) (subst (λ (y : JournalEntry B). EntryFits y) is legal.fits.0)
 
     pub controller_hears_truth : (c : ℕ) (x : ControllerInput) → same_actor (actor_of e) (actor.Controller c) ≡ true → IsHeard scene e (drawn e before) x → IsHeardByController scene.kinds scene.setup (facts_of scene results before) x
     controller_hears_truth c x same (By_draw a id keep p is found hears) =
@@ -157,7 +158,7 @@ module _ {B : Type 0} (scene : Scene B) (results : List (List SaveResult)) (fait
         (heard_by_controller scene.kinds scene.setup (facts_of scene results before) c p.from p.to (content scene.sealing p) goes
         (holds.packets p (subst (λ (y : Packet B). IsIn y (pool before)) it r.among)))
     controller_hears_truth c x same (By_local a input is hears) =
-        subst (λ (y : ControllerInput). IsHeardByController scene.kinds scene.setup (facts_of scene results before) y) (sym hears) (subst (λ (y : JournalEntry B). EntryFits y) is legal.views.0)
+        subst (λ (y : ControllerInput). IsHeardByController scene.kinds scene.setup (facts_of scene results before) y) (sym hears) (subst (λ (y : JournalEntry B). EntryFits y) is legal.fits.0)
 
     -- a switch after an entry of its own
     sound_goes : (s : ℕ) (w' : SwitchAt) → same_actor (actor_of e) (actor.Switch s) ≡ true → SwitchGoes scene e (drawn e before) (switch_at scene s (part (actor.Switch s) before)) w' →
@@ -233,7 +234,7 @@ module _ {B : Type 0} (scene : Scene B) (results : List (List SaveResult)) (fait
         let h = holds.controllers c there in
         let hears = controller_hears_truth c x same heard in
         let goes = sides.turns e before legal trust c there same x heard h.now hears in
-        let k = controller_keeps scene.kinds scene.setup (facts_of scene results before) (facts_of scene results (e ∷ before)) later c w.now x hears h.now goes
+        let k = controller_keeps scene.kinds scene.setup sides.setup (facts_of scene results before) (facts_of scene results (e ∷ before)) later c w.now x hears h.now goes
         (λ up. (work_front c (controller_work scene.kinds scene.setup w.now x).state there now up).0) (λ up. (work_front c (controller_work scene.kinds scene.setup w.now x).state there now up).1) in
         record {
           now = subst (λ (y : ControllerState). IsHonest scene.kinds scene.setup (facts_of scene results (e ∷ before)) y) (sym now) k.now;
@@ -342,6 +343,7 @@ module _ {B : Type 0} (scene : Scene B) (results : List (List SaveResult)) (fait
         good = λ x k. absurd k;
         issued = λ l i x at. absurd (none_at i x at);
         dropped = λ l. let none = get_zero [] l in omega (arith, none);
+        rows = opening_valid;
       }
 
       none_held : (c i : ℕ) (y : Entry) → HoldsEntry (starting_controller c scene.setup.controllers).vr i y → IsTrueEntry scene.kinds scene.setup (facts_of scene results []) i y

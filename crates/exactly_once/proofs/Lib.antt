@@ -14,3 +14,4 @@ pub mod Spelling
 pub mod Marks
 pub mod Views
 pub mod SwitchMoves
+pub mod TableRows

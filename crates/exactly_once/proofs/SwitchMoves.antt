@@ -6,6 +6,7 @@ use Rattle.std.proofs.lemmas.Bool.{and_parts, cond_both, ltb-true, eqb-true}
 use Rattle.of_types.specs.declared.message.Event.{Event}
 use Rattle.of_types.specs.declared.message.Extension.{Extension}
 use Rattle.of_types.specs.declared.message.Extension.TheVariants as extension
+use Rattle.of_types.specs.declared.message.FlowMod.{FlowMod}
 use Rattle.of_types.specs.declared.message.Happening.{Happening}
 use Rattle.of_types.specs.declared.message.Happening.TheVariants as happening
 use Rattle.of_types.specs.declared.message.OfMessage.{OfMessage}
@@ -71,10 +72,14 @@ pub data IsSaid (x : SwitchInput) (s : SwitchState) (l : Letter SwitchSays) : Ty
   Greets : (c : ℕ) → l ≡ to_controller c 0 (spoken.Plain plain.Hello) → IsSaid x s l
   Forwards : (peer port : ℕ) (frame : List ℕ) → BringsFrame x frame → is_frame frame ≡ true → l ≡ frame_letter frame peer port → IsSaid x s l
 
--- a switch with other ports down, count of frames, rows, kept results and ports remembered
-abbrev pub noted : SwitchState → List ℕ → ℕ → List Row → List Outcome → List ℕ → SwitchState
-noted s down sent rows outcomes dirty =
-    record s { down = down; sent = sent; rows = rows; results = record s.results { outcomes = outcomes }; buffer = record s.buffer { dirty = dirty } }
+-- a switch with other ports down, count of frames, kept results and ports remembered
+abbrev pub noted : SwitchState → List ℕ → ℕ → List Outcome → List ℕ → SwitchState
+noted s down sent outcomes dirty =
+    record s { down = down; sent = sent; results = record s.results { outcomes = outcomes }; buffer = record s.buffer { dirty = dirty } }
+
+-- and one whose rows a FLOW_MOD has changed
+abbrev pub changed : SwitchState → FlowMod → SwitchState
+changed s change = record s { rows = table_step s.rows change }
 
 abbrev pub fenced : SwitchState → Fence → SwitchState
 fenced s fence = record s { fence = fence }
@@ -83,7 +88,9 @@ fenced s fence = record s { fence = fence }
 pub data Move (x : SwitchInput) (t t' : SwitchTurn) : Type 0 where
   Raises : (what : Happening) → IsRaised x what → t' ≡ record t { state = with_event t.state what } → Move x t t'
   Says : (ls : List (Letter SwitchSays)) → ((l : Letter SwitchSays) → IsIn l ls → IsSaid x t.state l) → t' ≡ record t { letters = t.letters ++ ls } → Move x t t'
-  Notes : (down : List ℕ) (sent : ℕ) (rows : List Row) (outcomes : List Outcome) (dirty : List ℕ) → t' ≡ record t { state = noted t.state down sent rows outcomes dirty } → Move x t t'
+  Notes : (down : List ℕ) (sent : ℕ) (outcomes : List Outcome) (dirty : List ℕ) → t' ≡ record t { state = noted t.state down sent outcomes dirty } → Move x t t'
+  Changes : (c xid life generation number through : ℕ) (change : FlowMod) → x ≡ switch_input.Of c xid (spoken.Ravana (extension.Command life generation number through (order.FlowMod change))) →
+      t' ≡ record t { state = changed t.state change } → Move x t t'
   Clears : (c xid life through : ℕ) → x ≡ switch_input.Of c xid (spoken.Ravana (extension.EventAck life through)) → nat_eq life (life_of t.state) ≡ true →
       t' ≡ record t { state = cleared t.state through } → Move x t t'
   Executes : (c xid life generation number through : ℕ) (what : Order) (result : Outcome) → x ≡ switch_input.Of c xid (spoken.Ravana (extension.Command life generation number through what)) →
@@ -136,8 +143,8 @@ module _ (x : SwitchInput) (P : SwitchTurn → Type 0) (step : (t t' : SwitchTur
   silent : (t : SwitchTurn) → P t → P (record t { letters = t.letters ++ [] })
   silent t h = said t [] (λ l m. absurd m) h
 
-  notes : (t : SwitchTurn) (down : List ℕ) (sent : ℕ) (rows : List Row) (outcomes : List Outcome) (dirty : List ℕ) → P t → P (record t { state = noted t.state down sent rows outcomes dirty })
-  notes t down sent rows outcomes dirty h = step t _ (Notes down sent rows outcomes dirty refl) h
+  notes : (t : SwitchTurn) (down : List ℕ) (sent : ℕ) (outcomes : List Outcome) (dirty : List ℕ) → P t → P (record t { state = noted t.state down sent outcomes dirty })
+  notes t down sent outcomes dirty h = step t _ (Notes down sent outcomes dirty refl) h
 
   -- an event is raised
   raised_keeps : (what : Happening) → IsRaised x what → (t : SwitchTurn) → P t → P (then_turn t (raised what))
@@ -165,7 +172,7 @@ module _ (x : SwitchInput) (P : SwitchTurn → Type 0) (step : (t t' : SwitchTur
       let b = among_flat (over_link frame (number_of t.state) a.0) t.state.links l a.1 in
       let c = over_is frame (number_of t.state) a.0 b.0 l b.1 in
       Forwards c.0 c.1 frame brings fits c.2)
-      (notes t t.state.down after.state.sent t.state.rows t.state.results.outcomes t.state.buffer.dirty h)
+      (notes t t.state.down after.state.sent t.state.results.outcomes t.state.buffer.dirty h)
 
   -- each output in order
   outputs_keep : (Q : SwitchTurn → Type 0) (tells : SwitchState → SwitchTurn) (port : ℕ) (frame : List ℕ) → ((t : SwitchTurn) → Q t → Q (then_turn t tells)) →
@@ -191,7 +198,7 @@ module _ (x : SwitchInput) (P : SwitchTurn → Type 0) (step : (t t' : SwitchTur
       either P (is_full t.state.buffer) _ _ (λ _. h)
       (λ _. remembered_keep ports _
       (raised_keeps (port_status t.state port) (Ports _ refl) (record t { state = record t.state { buffer = without_dirty t.state.buffer port } })
-      (notes t t.state.down t.state.sent t.state.rows t.state.results.outcomes (without_dirty t.state.buffer port).dirty h)))
+      (notes t t.state.down t.state.sent t.state.results.outcomes (without_dirty t.state.buffer port).dirty h)))
 
   module _ (s : SwitchState) (h : P (quiet s)) where
     frame_keeps : (port : ℕ) (frame : List ℕ) → BringsFrame x frame → P (on_frame s port frame)
@@ -204,8 +211,8 @@ module _ (x : SwitchInput) (P : SwitchTurn → Type 0) (step : (t t' : SwitchTur
     port_keeps port up =
         either P (is_port s port && (if up then is_down s port else not (is_down s port))) _ _
         (λ _. either P (is_full (with_port s port up).buffer) _ _
-        (λ _. notes (quiet s) (with_port s port up).down s.sent s.rows s.results.outcomes (with_dirty s.buffer port).dirty h)
-        (λ _. raised_keeps (port_status (with_port s port up) port) (Ports _ refl) (quiet (with_port s port up)) (notes (quiet s) (with_port s port up).down s.sent s.rows s.results.outcomes s.buffer.dirty h)))
+        (λ _. notes (quiet s) (with_port s port up).down s.sent s.results.outcomes (with_dirty s.buffer port).dirty h)
+        (λ _. raised_keeps (port_status (with_port s port up) port) (Ports _ refl) (quiet (with_port s port up)) (notes (quiet s) (with_port s port up).down s.sent s.results.outcomes s.buffer.dirty h)))
         (λ _. h)
 
     greets : (t : SwitchTurn) → P t → P (record t { letters = t.letters ++ greetings t.state })
@@ -287,7 +294,7 @@ module _ (x : SwitchInput) (P : SwitchTurn → Type 0) (step : (t t' : SwitchTur
 
     -- results are dropped at the front
     settled_keeps : (through : ℕ) → P (quiet (settled s through))
-    settled_keeps through = notes (quiet s) s.down s.sent s.rows (without_results_below s.results through).outcomes s.buffer.dirty h
+    settled_keeps through = notes (quiet s) s.down s.sent (without_results_below s.results through).outcomes s.buffer.dirty h
 
     acked_keeps : (c xid life through : ℕ) → x ≡ switch_input.Of c xid (spoken.Ravana (extension.EventAck life through)) → nat_eq life (life_of s) ≡ true → P (on_event_ack s through)
     acked_keeps c xid life through is own =
@@ -305,8 +312,10 @@ module _ (x : SwitchInput) (P : SwitchTurn → Type 0) (step : (t t' : SwitchTur
     kept_silent s t k = (silent t k.0, record { life = k.1.life; fence = k.1.fence; count = k.1.count })
 
     does_keeps : (s : SwitchState) (o : Order) → o ≡ what → P (quiet s) → result_of s o ≡ outcome.Done → Kept s (does o s)
-    does_keeps s (order.FlowMod change) same h done =
-        (notes (quiet s) s.down s.sent (table_step s.rows change) s.results.outcomes s.buffer.dirty h, record { life = refl; fence = refl; count = refl })
+    does_keeps s (order.FlowMod change) same h done = (
+      step (quiet s) _ (Changes c xid life generation number through change (is ∙ ap (λ (o : Order). switch_input.Of c xid (spoken.Ravana (extension.Command life generation number through o))) (sym same)) refl) h,
+      record { life = refl; fence = refl; count = refl },
+    )
     does_keeps s (order.PacketOut out) same h done =
         outputs_keep (Kept s) quiet out.in_port out.payload (kept_silent s)
         (λ ports t k. (sends_keeps out.payload brings fits ports t k.0, record { life = k.1.life; fence = k.1.fence; count = k.1.count }))

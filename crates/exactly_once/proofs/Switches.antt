@@ -14,6 +14,7 @@ use Rattle.of_types.specs.declared.message.Order.TheVariants as order
 use Rattle.of_types.specs.declared.message.Outcome.{Outcome}
 use Rattle.of_types.specs.declared.message.Spoken.TheVariants as spoken
 use Rattle.of_types.specs.declared.setup.Setup.{Setup}
+use Rattle.of_types.specs.Valid.{IsValidMatch}
 use Rattle.rv_base.specs.declared.journal.Letter.{Letter}
 use Rattle.rv_base.specs.declared.journal.Local.TheVariants as local
 use Rattle.lists.proofs.Elements.{filter_has, in_append, in_drop, in_left, in_right}
@@ -30,9 +31,11 @@ use Rattle.of_switch.specs.Events.{with_event, cleared, next_life}
 use Rattle.of_switch.specs.Commands.{counted}
 use Rattle.of_switch.specs.Rules.{switch_turn}
 use Rattle.exactly_once.specs.SwitchTurns.{BringsFrame, Wire, Peer, Output}
-use Rattle.exactly_once.proofs.SwitchMoves.{is_question, IsRaised, Ports, Packets, IsSaid, Tells, Reports, Roles, Refuses, Answers, Explains, Greets, Forwards, Move, Raises, Says, Notes, Clears, Executes, Masters, Fences, Restarts, turn_keeps}
+use Rattle.exactly_once.proofs.TableRows.{all_changed, opening_valid}
+use Rattle.exactly_once.proofs.SwitchMoves.{is_question, IsRaised, Ports, Packets, IsSaid, Tells, Reports, Roles, Refuses, Answers, Explains, Greets, Forwards, Move, Raises, Says, Notes, Changes, Clears, Executes, Masters, Fences, Restarts, turn_keeps}
 use Rattle.exactly_once.specs.Facts.{PastFacts, events_of, executed_of}
-use Rattle.exactly_once.specs.Truths.{AreBytes, IsGoodHappening, IsMade, IsNumbered, IsTold}
+use Rattle.app_core.specs.Orders.{AreBytes}
+use Rattle.exactly_once.specs.Truths.{IsGoodHappening, IsMade, IsNumbered, IsTold}
 use Rattle.exactly_once.specs.Invariant.{IsWell, IsSound, IsReport, Reported, Forwarded, IsHeardBySwitch}
 use Rattle.exactly_once.proofs.Growing.{report_more}
 
@@ -172,7 +175,9 @@ module _ (s : ℕ) where
   pub well_move : (x : SwitchInput) (t t' : SwitchTurn) → Move x t t' → IsWell s t.state → IsWell s t'.state
   well_move x t t' (Raises what raised is) h = subst (λ (y : SwitchTurn). IsWell s y.state) (sym is) (well_raises t.state what h)
   well_move x t t' (Says ls all is) h = subst (λ (y : SwitchTurn). IsWell s y.state) (sym is) h
-  well_move x t t' (Notes down sent rows outcomes dirty is) h =
+  well_move x t t' (Notes down sent outcomes dirty is) h =
+      subst (λ (y : SwitchTurn). IsWell s y.state) (sym is) (record { number_is = h.number_is; lives = h.lives; made = h.made; held = h.held; next = h.next; done = h.done; count = h.count })
+  well_move x t t' (Changes c xid life generation number through change asks is) h =
       subst (λ (y : SwitchTurn). IsWell s y.state) (sym is) (record { number_is = h.number_is; lives = h.lives; made = h.made; held = h.held; next = h.next; done = h.done; count = h.count })
   well_move x t t' (Clears c xid life through asks own is) h = subst (λ (y : SwitchTurn). IsWell s y.state) (sym is) (well_clears t.state through h)
   well_move x t t' (Executes c xid life generation number through what result asks own may next is) h =
@@ -239,6 +244,7 @@ module _ (kinds : List ℕ) (setup : Setup) (f : PastFacts) (s : ℕ) (x : Switc
           ];
           issued = h.issued;
           dropped = h.dropped;
+          rows = h.rows;
         }
 
     -- events leave
@@ -258,6 +264,7 @@ module _ (kinds : List ℕ) (setup : Setup) (f : PastFacts) (s : ℕ) (x : Switc
                 omega (arith, is, now, old, most)
             | inr other ↦ let old = h.dropped l in omega (arith, other, old)
           ];
+          rows = h.rows;
         }
 
     -- a command is carried out
@@ -280,6 +287,7 @@ module _ (kinds : List ℕ) (setup : Setup) (f : PastFacts) (s : ℕ) (x : Switc
             | inr other ↦ h.issued l i y (ap (λ (k : List Executed). slice_get k i) (sym other) ∙ at)
           ];
           dropped = h.dropped;
+          rows = h.rows;
         }
 
     -- a life begins
@@ -290,6 +298,7 @@ module _ (kinds : List ℕ) (setup : Setup) (f : PastFacts) (s : ℕ) (x : Switc
           good = h.good;
           issued = h.issued;
           dropped = λ l. let same = get_zero (state.ended ++ state.buffer.cleared ∷ []) l in let old = h.dropped l in omega (arith, same, old);
+          rows = opening_valid;
         }
 
     kept_by : (t t' : SwitchTurn) → Move x t t' → SwitchKeeps kinds setup f s start t → SwitchKeeps kinds setup f s start t'
@@ -303,9 +312,21 @@ module _ (kinds : List ℕ) (setup : Setup) (f : PastFacts) (s : ℕ) (x : Switc
           executed = h.executed;
           said = λ l k. elim (in_append l t.letters ls k) [ inl m ↦ h.said l m | inr m ↦ report t.state l h.sound (all l m) ];
         })
-    kept_by t t' (Notes down sent rows outcomes dirty is) h =
+    kept_by t t' (Notes down sent outcomes dirty is) h =
         to_state t t' _ is
-        (record { well = well_move s x t _ (Notes down sent rows outcomes dirty refl) h.sound.well; good = h.sound.good; issued = h.sound.issued; dropped = h.sound.dropped })
+        (record { well = well_move s x t _ (Notes down sent outcomes dirty refl) h.sound.well; good = h.sound.good; issued = h.sound.issued; dropped = h.sound.dropped; rows = h.sound.rows })
+        (prefix_refl t.state.events) (prefix_refl t.state.executed) h
+    kept_by t t' (Changes c xid life generation number through change asks is) h =
+        let told : IsTold kinds setup f c s (spoken.Ravana (extension.Command life generation number through (order.FlowMod change))) =
+        hears (switch_input.Of c xid (spoken.Ravana (extension.Command life generation number through (order.FlowMod change)))) asks in
+        to_state t t' _ is
+        (record {
+          well = well_move s x t _ (Changes c xid life generation number through change asks refl) h.sound.well;
+          good = h.sound.good;
+          issued = h.sound.issued;
+          dropped = h.sound.dropped;
+          rows = all_changed (λ r. IsValidMatch r.matching) t.state.rows change h.sound.rows told.2.0 (λ r valid. valid);
+        })
         (prefix_refl t.state.events) (prefix_refl t.state.executed) h
     kept_by t t' (Clears c xid life through asks own is) h =
         let told : IsTold kinds setup f c s (spoken.Ravana (extension.EventAck life through)) = hears (switch_input.Of c xid (spoken.Ravana (extension.EventAck life through))) asks in
@@ -318,11 +339,11 @@ module _ (kinds : List ℕ) (setup : Setup) (f : PastFacts) (s : ℕ) (x : Switc
         (prefix_refl t.state.events) (prefix_push t.state.executed new) h
     kept_by t t' (Masters c xid role generation asks master fresh first is) h =
         to_state t t' _ is
-        (record { well = well_move s x t _ (Masters c xid role generation asks master fresh first refl) h.sound.well; good = h.sound.good; issued = h.sound.issued; dropped = h.sound.dropped })
+        (record { well = well_move s x t _ (Masters c xid role generation asks master fresh first refl) h.sound.well; good = h.sound.good; issued = h.sound.issued; dropped = h.sound.dropped; rows = h.sound.rows })
         (prefix_refl t.state.events) (prefix_refl t.state.executed) h
     kept_by t t' (Fences c xid role generation fence asks other first is) h =
         to_state t t' _ is
-        (record { well = well_move s x t _ (Fences c xid role generation fence asks other first refl) h.sound.well; good = h.sound.good; issued = h.sound.issued; dropped = h.sound.dropped })
+        (record { well = well_move s x t _ (Fences c xid role generation fence asks other first refl) h.sound.well; good = h.sound.good; issued = h.sound.issued; dropped = h.sound.dropped; rows = h.sound.rows })
         (prefix_refl t.state.events) (prefix_refl t.state.executed) h
     kept_by t t' (Restarts asks further first is) h =
         to_state t t' _ is (sound_restarts t.state h.sound) (prefix_refl t.state.events) (prefix_refl t.state.executed) h

@@ -1,10 +1,12 @@
 -- What holds after each past, clause by clause: of each switch, of each controller, and of each packet. Each
 -- clause is about one entry of a log with its place, one letter or one switch, wherever it stands.
 use Rattle.std.specs.Prelude.{◌≡◌, ◌<◌, ◌≤◌, ◌^◌, ℕ, ◌+◌, true, List, [], ◌∷◌, length, slice_get, Some}
+use Rattle.std.specs.List.{AllByRecursion}
 use Rattle.of_types.specs.declared.message.Event.{Event}
 use Rattle.of_types.specs.declared.message.Executed.{Executed}
 use Rattle.of_types.specs.declared.message.Spoken.{Spoken}
 use Rattle.of_types.specs.declared.setup.Setup.{Setup}
+use Rattle.of_types.specs.Valid.{IsValidMatch}
 use Rattle.rv_base.specs.declared.journal.Actor.{Actor}
 use Rattle.rv_base.specs.declared.journal.Actor.TheVariants as actor
 use Rattle.rv_base.specs.declared.journal.JournalEntry.{JournalEntry}
@@ -95,12 +97,13 @@ pub record IsWell (s : ℕ) (state : SwitchState) : Type 0 where
   pub count : state.results.executed ≡ length (executed_of (life_of state) state.executed)
 
 -- a switch holds the events that it made, life after life and in order; it carried out the commands that were issued
--- to each of its lives, in order; and only processed events have left its buffer
+-- to each of its lives, in order; only processed events have left its buffer; and the matches of its rows can be spelled
 pub record IsSound (kinds : List ℕ) (setup : Setup) (f : PastFacts) (s : ℕ) (state : SwitchState) : Type 0 where
   pub well : IsWell s state
   pub good : (e : Event) → IsIn e state.events → IsGoodHappening e.what
   pub issued : (life i : ℕ) (x : Executed) → slice_get (executed_of life state.executed) i ≡ Some x → IsNumbered kinds setup f s life i x.order
   pub dropped : (life : ℕ) → cleared_in state life ≤ processed_of f.decided s life
+  pub rows : AllByRecursion (λ r. IsValidMatch r.matching) state.rows
 
 -- a letter of a switch with these lists goes to a controller and tells the truth, or is a good frame for another switch
 pub data IsReport (s : ℕ) (events : List Event) (executed : List Executed) (l : Letter SwitchSays) : Type 0 where

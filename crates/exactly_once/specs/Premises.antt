@@ -10,6 +10,7 @@ use Rattle.of_types.specs.declared.message.Spoken.TheVariants as spoken
 use Rattle.of_types.specs.declared.numbers.TheConstants.{MASTER}
 use Rattle.of_types.specs.declared.setup.Setup.{Setup}
 use Rattle.of_types.specs.Lives.{has_ended}
+use Rattle.of_types.specs.Setups.{IsSetup}
 use Rattle.rv_base.specs.declared.journal.Actor.TheVariants as actor
 use Rattle.rv_base.specs.declared.journal.JournalEntry.{JournalEntry}
 use Rattle.rv_base.specs.declared.journal.Letter.{Letter}
@@ -102,8 +103,9 @@ pub record IsGoodTurn (kinds : List ℕ) (setup : Setup) (me : ℕ) (c : Control
 abbrev pub IsValidLog : List Entry → Type 0
 IsValidLog log = (front back : List Entry) (e : Entry) → log ≡ front ++ e ∷ back → may_follow front e ≡ true
 
--- the controllers' side of a world. Each of its facts may use that the invariant holds after every earlier past
+-- the controllers' side of a world, whose setup is within the limits. Each of its facts may use that the invariant holds after every earlier past
 pub record AreControllers {B : Type 0} (scene : Scene B) (results : List (List SaveResult)) : Type 0 where
+  pub setup : IsSetup scene.setup
   pub agree : (e : JournalEntry B) (before : List (JournalEntry B)) → IsPossible scene results (e ∷ before) → ((i : ℕ) → Holds scene results (drop i before)) →
       (c d i j : ℕ) → c < scene.setup.controllers → d < scene.setup.controllers → AreOne (kept scene results c (drop i (e ∷ before))) (kept scene results d (drop j (e ∷ before)))
   pub valid : (e : JournalEntry B) (before : List (JournalEntry B)) → IsPossible scene results (e ∷ before) → ((i : ℕ) → Holds scene results (drop i before)) →

@@ -1,7 +1,6 @@
 -- When an entry of a log, and a message on its way, tells the truth: what it says is among the facts, and
 -- stays so.
 use Rattle.std.specs.Prelude.{◌≡◌, ◌<◌, ◌≤◌, ◌⊎◌, ℕ, ◌+◌, ◌%◌, ◌^◌, true, List, [], length, take, slice_get, Some}
-use Rattle.std.specs.List.{AllByRecursion}
 use Rattle.of_types.specs.declared.message.Event.{Event}
 use Rattle.of_types.specs.declared.message.Executed.{Executed}
 use Rattle.of_types.specs.declared.message.Extension.TheVariants as extension
@@ -9,7 +8,6 @@ use Rattle.of_types.specs.declared.message.Happening.{Happening}
 use Rattle.of_types.specs.declared.message.Happening.TheVariants as happening
 use Rattle.of_types.specs.declared.message.OfMessage.TheVariants as plain
 use Rattle.of_types.specs.declared.message.Order.{Order}
-use Rattle.of_types.specs.declared.message.Order.TheVariants as order
 use Rattle.of_types.specs.declared.message.Spoken.{Spoken}
 use Rattle.of_types.specs.declared.message.Spoken.TheVariants as spoken
 use Rattle.of_types.specs.declared.numbers.TheConstants.{MASTER}
@@ -21,24 +19,17 @@ use Rattle.vr_log.specs.declared.entry.Entry.TheVariants.{Received, Processed}
 use Rattle.vr_log.specs.Log.{received, processed}
 use Rattle.two_stage_log.specs.Counts.{processed_of}
 use Rattle.app_core.specs.Issued.{issued}
+use Rattle.app_core.specs.Orders.{AreBytes, IsGoodOrder}
 use Rattle.of_switch.specs.Forwarding.{is_frame}
 use Rattle.exactly_once.specs.Facts.{PastFacts, events_of, executed_of}
 
 -- a frame that may be taken, of bytes
-abbrev pub AreBytes : List ℕ → Type 0
-AreBytes frame = AllByRecursion (λ b. b < 2 ^ 8) frame
-
 abbrev pub IsGoodFrame : List ℕ → Type 0
 IsGoodFrame frame = (is_frame frame ≡ true) × AreBytes frame
 
 abbrev pub IsGoodHappening : Happening → Type 0
 IsGoodHappening (happening.PacketIn p) = IsGoodFrame p.payload
 IsGoodHappening (happening.PortStatus p) = Unit {0}
-
--- what an order has as a frame is of bytes
-abbrev pub IsGoodOrder : Order → Type 0
-IsGoodOrder (order.PacketOut out) = AreBytes out.payload
-IsGoodOrder (order.FlowMod change) = Unit {0}
 
 -- an event of a life of a switch at this place of its events
 pub record IsMade (s life i : ℕ) (e : Event) : Type 0 where

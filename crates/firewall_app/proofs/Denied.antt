@@ -1,5 +1,5 @@
 -- The rows of a rule meet exactly the frames that it denies.
-use Rattle.std.proofs.Common.{rules, add-zero, ◌≡◌, inl, inr, nat_le, zero, suc, ℕ, ◌+◌, ◌-◌, ◌%◌, ◌^◌, ◌==◌, [], ◌∷◌, Bool, true, false, nat_eq, ◌&&◌, List, length, drop, Option, Some, None, refl, sym, ap, subst, ◌∙◌, arith}
+use Rattle.std.proofs.Common.{add-zero, ◌≡◌, inl, inr, nat_le, zero, suc, ℕ, ◌+◌, ◌-◌, ◌%◌, ◌^◌, ◌==◌, [], ◌∷◌, Bool, true, false, nat_eq, ◌&&◌, List, length, drop, Option, Some, None, refl, sym, ap, subst, ◌∙◌, arith}
 use Rattle.std.specs.Prelude.{bit_and, Contains, slice_index, if◌then◌else◌}
 use Rattle.std.specs.Option.{option_or}
 use Rattle.std.proofs.lemmas.Bool.{cases_Bool, eqb-true}
@@ -10,8 +10,8 @@ use Rattle.std.proofs.lemmas.Nat.Bits.{and_high_mask_twice}
 use Rattle.of_types.specs.declared.numbers.TheConstants.{IPV4, TCP, UDP}
 use Rattle.of_types.specs.declared.setup.Prefix.{Prefix}
 use Rattle.of_types.specs.declared.setup.Rule.{Rule}
-use Rattle.of_types.specs.Header.{fields_of, has_ipv4, has_ports, number_at, number_within, transport_place}
-use Rattle.of_types.specs.Matching.{matches, has_value, has_address32, agrees_under}
+use Rattle.of_types.specs.Header.{fields_of, has_ipv4, has_ports, number_within, transport_place}
+use Rattle.of_types.specs.Matching.{matches, has_value, has_address32}
 use Rattle.of_types.specs.Setups.{IsRule}
 use Rattle.app_core.specs.Firewall.{is_within, prefix_mask, matched_prefix, asked_protocol, asked_port, destination_port, denied_match, denies}
 
@@ -37,11 +37,6 @@ prefix_asks p found =
       | inl any ↦ rw any (sym (any_asks p found (eqb-true p.length 0 any)))
       | inr some ↦ rw some (some_asks p found some)
     ]
-
--- the second of two tests counts only where the first one passes
-and_if : (b x y : Bool) → (b ≡ true → x ≡ y) → (b && x) ≡ (b && y)
-and_if true x y same = same refl
-and_if false x y same = refl
 
 -- the byte that a number of one byte is
 value_is : (header within : Bool) (asked n : ℕ) → has_value (Some asked) (if header then (if within then Some n else None) else None) ≡ true → n ≡ asked

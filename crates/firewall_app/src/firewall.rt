@@ -65,8 +65,6 @@ impl Firewall {
 impl Part for Firewall {
     ghost kind_of = { λ _. 1 };
 
-    ghost most_of = { λ _. 64 };
-
     ghost numbers = { λ f. f.installed.items };
 
     // A setup with these rules, and so many switches. Each installed rule is one of them, once.

@@ -1,2 +1,3 @@
 pub mod Modified
 mod Tables
+mod Chosen

@@ -24,6 +24,7 @@ use Rattle.vr_core.specs.Lasting.{CollectsItsOwn, Lasts}
 use Rattle.vr_core.specs.Step.{Stepped, vr_step}
 use Rattle.vr_core.proofs.Lasting.{lasts_on, lasts_same, later_of_three, later_than_none, proposal_stays, step_stays, tick_same}
 use Rattle.two_stage_log.specs.Counts.{has_unprocessed}
+use Rattle.app_core.specs.Law.{AppLaw}
 use Rattle.dispatcher.specs.declared.answers.Handled.{Handled}
 use Rattle.dispatcher.specs.declared.numbered.Numbered.{Numbered}
 use Rattle.dispatcher.specs.Folding.{numbered}
@@ -63,18 +64,18 @@ module _ {A : Type 0} where
       let more = asked_more p view n ∙ ap (λ (b : Bool). asked ++ map (role_letter view) (if b then n ∷ [] else [])) no_n ∙ append-nil asked in
       before ∙ ap (λ (l : List (Letter ControllerSays)). posts start l) (sym more)
 
-module _ {A : Type 0} (kinds_of : A → List ℕ) (most_of : A → ℕ) (states_of : A → List (List ℕ)) (suits : A → Setup → Type 0) (kinds : List ℕ) (setup : Setup) where
+module _ {A : Type 0} (law : AppLaw A) (kinds : List ℕ) (setup : Setup) where
   abbrev IsActing : Acting A → Type 0
-  IsActing a = Acts kinds_of most_of states_of suits a kinds setup
+  IsActing a = Acts law a kinds setup
 
   abbrev Does : Acting A → Work → Acting A → Type 0
-  Does a work b = Works kinds_of most_of states_of suits kinds setup a work b
+  Does a work b = Works law kinds setup a work b
 
   -- the dispatcher takes what was committed behind a place
-  pub folded_acts : (a b : Acting A) (place : ℕ) → ActsUpTo kinds_of most_of states_of suits place a kinds setup → b.work ≡ a.work → b.promise ≡ a.promise → b.dispatcher.marks ≡ a.dispatcher.marks →
-      StandsFor kinds_of most_of states_of suits b.dispatcher kinds setup (take place a.work.state.vr.log ++ drop place (take a.work.state.vr.commit a.work.state.vr.log)) → IsActing b
+  pub folded_acts : (a b : Acting A) (place : ℕ) → ActsUpTo law place a kinds setup → b.work ≡ a.work → b.promise ≡ a.promise → b.dispatcher.marks ≡ a.dispatcher.marks →
+      StandsFor law b.dispatcher kinds setup (take place a.work.state.vr.log ++ drop place (take a.work.state.vr.commit a.work.state.vr.log)) → IsActing b
   folded_acts a b place h work promise marks stands =
-      let joined = subst (λ (l : List Entry). StandsFor kinds_of most_of states_of suits b.dispatcher kinds setup l) (parts_join place a.work.state.vr.commit a.work.state.vr.log h.reach) stands in
+      let joined = subst (λ (l : List Entry). StandsFor law b.dispatcher kinds setup l) (parts_join place a.work.state.vr.commit a.work.state.vr.log h.reach) stands in
       let base : IsActing (record a { dispatcher = b.dispatcher }) =
       record { valid = h.valid; own = h.own; reach = omega arith; stands = joined; marks = h.marks ∙ sym marks; saves = h.saves } in
       subst (λ (x : Acting A). IsActing x) (sym (same_parts b a work promise)) base
@@ -160,12 +161,12 @@ module _ {A : Type 0} (kinds_of : A → List ℕ) (most_of : A → ℕ) (states_
 
   -- a step of the member
   pub record Stepping (a b : Acting A) (step : VrStep) : Type 0 where
-    pub acts : ActsUpTo kinds_of most_of states_of suits a.work.state.vr.commit b kinds setup
+    pub acts : ActsUpTo law a.work.state.vr.commit b kinds setup
     pub work_is : b.work ≡ stepped a.work.state step
     pub lasts : Lasts a.work.state.vr step.promise b.work.state.vr
     pub promise_is : b.promise ≡ later_of a.promise step.promise
 
-  pub steps : (a b : Acting A) (x : VrInput) (r : VrState) (out : VrOut) → Begins kinds_of most_of states_of suits a kinds setup → IsValid r → Stepped (vr_step a.work.state.vr x) r out →
+  pub steps : (a b : Acting A) (x : VrInput) (r : VrState) (out : VrOut) → Begins law a kinds setup → IsValid r → Stepped (vr_step a.work.state.vr x) r out →
       b ≡ with_out (with_state a (record a.work.state { vr = r })) out → Stepping a b (vr_step a.work.state.vr x)
   steps a b x r out h valid did is =
       let c = a.work.state in
@@ -180,8 +181,8 @@ module _ {A : Type 0} (kinds_of : A → List ℕ) (most_of : A → ℕ) (states_
           valid = valid;
           own = subst (λ (v : VrState). CollectsItsOwn v) (sym did.state_is) s.own;
           reach = subst (λ (v : VrState). c.vr.commit ≤ v.commit) (sym did.state_is) s.lasts.rises;
-          stands = subst (λ (v : VrState). StandsFor kinds_of most_of states_of suits a.dispatcher kinds setup (take c.vr.commit v.log)) (sym did.state_is)
-              (subst (λ (l : List Entry). StandsFor kinds_of most_of states_of suits a.dispatcher kinds setup l) (sym s.lasts.stays) h.acts.stands);
+          stands = subst (λ (v : VrState). StandsFor law a.dispatcher kinds setup (take c.vr.commit v.log)) (sym did.state_is)
+              (subst (λ (l : List Entry). StandsFor law a.dispatcher kinds setup l) (sym s.lasts.stays) h.acts.stands);
           marks = h.acts.marks;
           saves = refl;
         };
@@ -207,11 +208,11 @@ module _ {A : Type 0} (kinds_of : A → List ℕ) (most_of : A → ℕ) (states_
   pub still_acts : (a b : Acting A) (step : VrStep) → Stepping a b step → step.state ≡ a.work.state.vr → IsActing b
   still_acts a b step s same =
       let e : a.work.state.vr.commit ≡ b.work.state.vr.commit = ap (λ (v : VrState). v.commit) (sym same) ∙ ap (λ (w : Work). w.state.vr.commit) (sym s.work_is) in
-      subst (λ (n : ℕ). ActsUpTo kinds_of most_of states_of suits n b kinds setup) e s.acts
+      subst (λ (n : ℕ). ActsUpTo law n b kinds setup) e s.acts
 
   -- an entry was proposed
   pub record Proposing (a b : Acting A) (entry : Entry) : Type 0 where
-    pub acts : ActsUpTo kinds_of most_of states_of suits a.work.state.vr.commit b kinds setup
+    pub acts : ActsUpTo law a.work.state.vr.commit b kinds setup
     pub work_is : b.work ≡ with_proposal a.work entry
     pub lasts : Lasts a.work.state.vr None b.work.state.vr
     pub promise_is : b.promise ≡ a.promise
@@ -230,8 +231,8 @@ module _ {A : Type 0} (kinds_of : A → List ℕ) (most_of : A → ℕ) (states_
           valid = valid;
           own = subst (λ (v : VrState). CollectsItsOwn v) (sym did.state_is) s.own;
           reach = subst (λ (v : VrState). c.vr.commit ≤ v.commit) (sym did.state_is) s.lasts.rises;
-          stands = subst (λ (v : VrState). StandsFor kinds_of most_of states_of suits a.dispatcher kinds setup (take c.vr.commit v.log)) (sym did.state_is)
-              (subst (λ (l : List Entry). StandsFor kinds_of most_of states_of suits a.dispatcher kinds setup l) (sym s.lasts.stays) h.stands);
+          stands = subst (λ (v : VrState). StandsFor law a.dispatcher kinds setup (take c.vr.commit v.log)) (sym did.state_is)
+              (subst (λ (l : List Entry). StandsFor law a.dispatcher kinds setup l) (sym s.lasts.stays) h.stands);
           marks = h.marks;
           saves = refl;
         };
@@ -249,13 +250,13 @@ module _ {A : Type 0} (kinds_of : A → List ℕ) (most_of : A → ℕ) (states_
       ∙ ap (λ (m : Marks). posts start (map (role_letter start.work.state.vr.view) (filter (λ s. not (is_confirmed m s)) (range_with_len 0 (length setup.ports))))) (sym h.marks)
 
   -- marks change nothing of what a dispatcher stands for
-  pub marked_stands : (d e : Dispatching A) (marks : Marks) (log : List Entry) → StandsFor kinds_of most_of states_of suits d kinds setup log → e ≡ record d { marks = marks } → StandsFor kinds_of most_of states_of suits e kinds setup log
+  pub marked_stands : (d e : Dispatching A) (marks : Marks) (log : List Entry) → StandsFor law d kinds setup log → e ≡ record d { marks = marks } → StandsFor law e kinds setup log
   marked_stands d e marks log h is =
-      subst (λ (x : Dispatching A). StandsFor kinds_of most_of states_of suits x kinds setup log) (sym is)
+      subst (λ (x : Dispatching A). StandsFor law x kinds setup log) (sym is)
       (record { kind = h.kind; few = h.few; suited = h.suited; states = h.states; size = h.size; ledger = h.ledger })
 
   -- a switch takes this controller as master
-  pub master_does : (a b : Acting A) (d : Dispatching A) (switch role generation : ℕ) (commands : List Numbered) → Begins kinds_of most_of states_of suits a kinds setup →
+  pub master_does : (a b : Acting A) (d : Dispatching A) (switch role generation : ℕ) (commands : List Numbered) → Begins law a kinds setup →
       role ≡ MASTER → generation ≡ a.work.state.vr.view → d ≡ record a.dispatcher { marks = confirmed_by a.dispatcher.marks switch } →
       commands ≡ map (numbered kinds setup (committed a.work.state)) (filter (λ x. nat_eq x.switch switch) (outstanding kinds setup (committed a.work.state) d.marks)) →
       b ≡ posts (record a { work = record a.work { state = record a.work.state { marks = d.marks } }; dispatcher = d }) (map (command_letter a.work.state.vr.view) commands) →

@@ -10,7 +10,7 @@ use Rattle.vr_log.specs.declared.message.VrLetter.{VrLetter}
 use Rattle.vr_log.specs.declared.state.VrOut.{VrOut}
 use Rattle.vr_recovery.specs.Recovering.{restarted}
 use Rattle.vr_core.specs.Step.{Stepped}
-use Rattle.app_core.specs.Chain.{chain_after, starting_chain}
+use Rattle.app_core.specs.Chain.{chain_after, given_by, starting_chain}
 use Rattle.dispatcher.specs.Ledger.{most_commands}
 use Rattle.group_controller.specs.declared.messages.ControllerSays.{ControllerSays}
 use Rattle.of_types.specs.declared.setup.Setup.{Setup}
@@ -28,6 +28,7 @@ use Rattle.vr_log.specs.Steps.{later_of}
 use Rattle.vr_log.specs.Valid.{down_state, starting_state}
 use Rattle.vr_core.specs.Lasting.{Lasts, promised}
 use Rattle.vr_core.proofs.Lasting.{later_than_none}
+use Rattle.app_core.specs.Law.{AppLaw}
 use Rattle.group_controller.specs.declared.messages.ControllerInput.{ControllerInput}
 use Rattle.group_controller.specs.declared.messages.ControllerInput.TheVariants as controller_input
 use Rattle.group_controller.specs.Acting.{Acting, Acts, Begins, pair_with, with_out, with_state, Works}
@@ -94,18 +95,18 @@ drop_rule c (controller_input.Of switch xid said) h = refl
 drop_rule c (controller_input.Malformed sender) h = refl
 drop_rule c (controller_input.Vr from message) h = refl
 
-module _ {A : Type 0} (kinds_of : A → List ℕ) (most_of : A → ℕ) (states_of : A → List (List ℕ)) (suits : A → Setup → Type 0) (kinds : List ℕ) where
+module _ {A : Type 0} (law : AppLaw A) (kinds : List ℕ) where
   -- what a turn left stands again, beside the pair that is stable then
-  pub stands_again : (c new : Controlling A) (a began left : Acting A) (work : Work) → Stands kinds_of most_of states_of suits c kinds a →
-      began.work.state.vr ≡ a.work.state.vr → began.promise ≡ None → Works kinds_of most_of states_of suits kinds c.setup began work left →
+  pub stands_again : (c new : Controlling A) (a began left : Acting A) (work : Work) → Stands law c kinds a →
+      began.work.state.vr ≡ a.work.state.vr → began.promise ≡ None → Works law kinds c.setup began work left →
       new.setup ≡ c.setup → new.me ≡ c.me → new.promise ≡ promised c.promise left.promise → new.life ≡ c.life →
-      Stands kinds_of most_of states_of suits new kinds (record left { work = resting left.work.state; promise = None })
+      Stands law new kinds (record left { work = resting left.work.state; promise = None })
   stands_again c new a began left work h same unsaved w setup me promise life =
       let l = subst (λ (s : VrState). Lasts s w.saved left.work.state.vr) same w.lasts in
       let saved : left.promise ≡ w.saved = w.promise_is ∙ ap (λ (p : Option ℕ). later_of p w.saved) unsaved ∙ later_than_none w.saved in
       record {
         begins = record {
-          acts = subst (λ (s : Setup). Acts kinds_of most_of states_of suits (record left { work = resting left.work.state; promise = None }) kinds s) (sym setup)
+          acts = subst (λ (s : Setup). Acts law (record left { work = resting left.work.state; promise = None }) kinds s) (sym setup)
               (record { valid = w.acts.valid; own = w.acts.own; reach = w.acts.reach; stands = w.acts.stands; marks = w.acts.marks; saves = refl });
           rests = refl;
           unsaved = refl;
@@ -118,35 +119,35 @@ module _ {A : Type 0} (kinds_of : A → List ℕ) (most_of : A → ℕ) (states_
       }
 
   -- one that goes down knows its stable pair alone
-  pub down_is : (c : Controlling A) (a : Acting A) (promise life : ℕ) → Stands kinds_of most_of states_of suits c kinds a → fresh (down_state c.me c.setup.controllers promise life) ≡ down a.work.state promise life
+  pub down_is : (c : Controlling A) (a : Acting A) (promise life : ℕ) → Stands law c kinds a → fresh (down_state c.me c.setup.controllers promise life) ≡ down a.work.state promise life
   down_is c a promise life h = ap (λ (n : ℕ). fresh (down_state n c.setup.controllers promise life)) (sym h.me) ∙ ap (λ (n : ℕ). fresh (down_state a.work.state.vr.me n promise life)) (sym h.controllers)
 
   last_of : {X : Type 0} (P : X → Type 0) (xs : List X) (x : X) → AllByRecursion P (xs ++ x ∷ []) → P x
   last_of P [] x h = h.0
   last_of P (y ∷ xs) x h = last_of P xs x h.1
 
-  pub last_alike : (all rest : List A) (last : Option A) (app : A) → AreAlike kinds_of most_of kinds all → all ≡ rest ++ option_to_list last → last ≡ Some app → (kinds_of app ≡ kinds) × (most_of app ≤ most_commands)
+  pub last_alike : (all rest : List A) (last : Option A) (app : A) → AreAlike law kinds all → all ≡ rest ++ option_to_list last → last ≡ Some app → (law.kinds app ≡ kinds) × (given_by (law.kinds app) ≤ most_commands)
   last_alike all rest last app h items is =
-      last_of (λ x. (kinds_of x ≡ kinds) × (most_of x ≤ most_commands)) rest app
-      (subst (λ (l : List A). AreAlike kinds_of most_of kinds l) (items ∙ ap (λ (o : Option A). rest ++ option_to_list o) is) h)
+      last_of (λ x. (law.kinds x ≡ kinds) × (given_by (law.kinds x) ≤ most_commands)) rest app
+      (subst (λ (l : List A). AreAlike law kinds l) (items ∙ ap (λ (o : Option A). rest ++ option_to_list o) is) h)
 
   front_of : {X : Type 0} (P : X → Type 0) (xs ys : List X) → AllByRecursion P (xs ++ ys) → AllByRecursion P xs
   front_of P [] ys h = tt
   front_of P (x ∷ xs) ys h = (h.0, front_of P xs ys h.1)
 
-  pub rest_alike : (all rest : List A) (last : Option A) → AreAlike kinds_of most_of kinds all → all ≡ rest ++ option_to_list last → AreAlike kinds_of most_of kinds rest
+  pub rest_alike : (all rest : List A) (last : Option A) → AreAlike law kinds all → all ≡ rest ++ option_to_list last → AreAlike law kinds rest
   rest_alike all rest last h items =
-      front_of (λ x. (kinds_of x ≡ kinds) × (most_of x ≤ most_commands)) rest (option_to_list last) (subst (λ (l : List A). AreAlike kinds_of most_of kinds l) items h)
+      front_of (λ x. (law.kinds x ≡ kinds) × (given_by (law.kinds x) ≤ most_commands)) rest (option_to_list last) (subst (λ (l : List A). AreAlike law kinds l) items h)
 
   -- the member of a life that begins
-  pub born_is : (c : Controlling A) (life : ℕ) (a b : Acting A) (r : VrState) (out : VrOut) → Begins kinds_of most_of states_of suits a kinds c.setup → a.work.state ≡ fresh r →
-      Stepped (restarted c.me c.setup.controllers c.promise life) r out → b ≡ with_out a out → Born kinds_of most_of states_of suits c kinds life b
+  pub born_is : (c : Controlling A) (life : ℕ) (a b : Acting A) (r : VrState) (out : VrOut) → Begins law a kinds c.setup → a.work.state ≡ fresh r →
+      Stepped (restarted c.me c.setup.controllers c.promise life) r out → b ≡ with_out a out → Born law c kinds life b
   born_is c life a b r out h state did is =
       let step = restarted c.me c.setup.controllers c.promise life in
       let fresh_is : a.work.state ≡ fresh step.state = state ∙ ap (λ (v : VrState). fresh v) did.state_is in
       let none : later_of a.promise out.promise ≡ None = ap (λ (p : Option ℕ). later_of p out.promise) h.unsaved ∙ later_than_none out.promise ∙ did.promise_is in
       let letters : a.work.letters ++ to_members out.letters ≡ to_members step.letters = ap (λ (w : Work). w.letters ++ to_members out.letters) h.rests ∙ ap (λ (l : List VrLetter). to_members l) did.letters_are in
-      subst (λ (x : Acting A). Born kinds_of most_of states_of suits c kinds life x) (sym is)
+      subst (λ (x : Acting A). Born law c kinds life x) (sym is)
       (record {
         acts = record { valid = h.acts.valid; own = h.acts.own; reach = h.acts.reach; stands = h.acts.stands; marks = h.acts.marks; saves = refl };
         work_is = ap (λ (s : ControllerState). record { state = s; save = pair_with s.vr.life (later_of a.promise out.promise); letters = a.work.letters ++ to_members out.letters }) fresh_is
@@ -156,7 +157,7 @@ module _ {A : Type 0} (kinds_of : A → List ℕ) (most_of : A → ℕ) (states_
       })
 
   -- what a rule left, whose promise was saved
-  left_is : (c : Controlling A) (a left : Acting A) (promise : ℕ) (r : SaveResult) (new : Controlling A) → Stands kinds_of most_of states_of suits c kinds a →
+  left_is : (c : Controlling A) (a left : Acting A) (promise : ℕ) (r : SaveResult) (new : Controlling A) → Stands law c kinds a →
       new ≡ record c { promise = (standing r (promise, c.life) (c.promise, c.life)).0; life = (standing r (promise, c.life) (c.promise, c.life)).1; results = c.results ++ r ∷ []; acting = acting_by r left } →
       state_of new ≡ left_by r a.work.state left.work (promise, c.life)
   left_is c a left promise Saved new h is = ap (λ (x : Controlling A). state_of x) is
@@ -164,14 +165,14 @@ module _ {A : Type 0} (kinds_of : A → List ℕ) (most_of : A → ℕ) (states_
       ap (λ (x : Controlling A). state_of x) is ∙ down_is c a c.promise c.life h ∙ ap (λ (n : ℕ). down a.work.state n c.life) (sym h.promise) ∙ ap (λ (n : ℕ). down a.work.state a.work.state.vr.promise n) (sym h.life)
   left_is c a left promise KeptNew new h is = ap (λ (x : Controlling A). state_of x) is ∙ down_is c a promise c.life h
 
-  rule_is : (c : Controlling A) (a left : Acting A) (input : ControllerInput) → Stands kinds_of most_of states_of suits c kinds a →
-      Works kinds_of most_of states_of suits kinds c.setup (with_state a (with_no_met_limit a.work.state)) (on_input kinds c.setup (with_no_met_limit a.work.state) input) left →
+  rule_is : (c : Controlling A) (a left : Acting A) (input : ControllerInput) → Stands law c kinds a →
+      Works law kinds c.setup (with_state a (with_no_met_limit a.work.state)) (on_input kinds c.setup (with_no_met_limit a.work.state) input) left →
       left.work ≡ controller_work kinds c.setup a.work.state input
   rule_is c a left input h w = w.work_is ∙ sym (awake_work kinds c.setup a.work.state input h.awake)
 
   pub act_saved : (c : Controlling A) (a left : Acting A) (input : ControllerInput) (promise : ℕ) (letters : List (Letter ControllerSays)) (new : Controlling A) (pb pa : ℕ × ℕ) (fb fa : ℕ) →
-      Stands kinds_of most_of states_of suits c kinds a →
-      Works kinds_of most_of states_of suits kinds c.setup (with_state a (with_no_met_limit a.work.state)) (on_input kinds c.setup (with_no_met_limit a.work.state) input) left →
+      Stands law c kinds a →
+      Works law kinds c.setup (with_state a (with_no_met_limit a.work.state)) (on_input kinds c.setup (with_no_met_limit a.work.state) input) left →
       left.promise ≡ Some promise → Keeps left (promise, c.life) letters c new pb pa fb fa → Turns kinds (record c { acting = Some a }) input letters new pb pa fb fa
   act_saved c a left input promise letters new pb pa fb fa h w is k =
       let life : left.work.state.vr.life ≡ c.life = w.lasts.life ∙ h.life in
@@ -181,8 +182,8 @@ module _ {A : Type 0} (kinds_of : A → List ℕ) (most_of : A → ℕ) (states_
       (record { result = k.result; kept = ap (λ (x : Controlling A). x.results) k.left; saves = k.saves; state_is = left_is c a left promise k.result new h k.left; letters_are = k.letters_are }))
 
   pub act_unsaved : (c : Controlling A) (a left : Acting A) (input : ControllerInput) (letters : List (Letter ControllerSays)) (new : Controlling A) (pair : ℕ × ℕ) (faults : ℕ) →
-      Stands kinds_of most_of states_of suits c kinds a →
-      Works kinds_of most_of states_of suits kinds c.setup (with_state a (with_no_met_limit a.work.state)) (on_input kinds c.setup (with_no_met_limit a.work.state) input) left →
+      Stands law c kinds a →
+      Works law kinds c.setup (with_state a (with_no_met_limit a.work.state)) (on_input kinds c.setup (with_no_met_limit a.work.state) input) left →
       left.promise ≡ None → letters ≡ left.work.letters → new ≡ record c { acting = Some (record left { work = resting left.work.state; promise = None }) } →
       Turns kinds (record c { acting = Some a }) input letters new pair pair faults faults
   act_unsaved c a left input letters new pair faults h w is letters_is new_is =
@@ -192,7 +193,7 @@ module _ {A : Type 0} (kinds_of : A → List ℕ) (most_of : A → ℕ) (states_
       (record { kept = ap (λ (x : Controlling A). x.results) new_is; pair_is = refl; faults_are = refl; state_is = ap (λ (x : Controlling A). state_of x) new_is; letters_are = letters_is }))
 
   pub act_crashed : (c : Controlling A) (a : Acting A) (input : ControllerInput) (letters : List (Letter ControllerSays)) (pair : ℕ × ℕ) (faults : ℕ) →
-      Stands kinds_of most_of states_of suits c kinds a → c.acting ≡ None → is_crash input ≡ true → letters ≡ [] →
+      Stands law c kinds a → c.acting ≡ None → is_crash input ≡ true → letters ≡ [] →
       Turns kinds (record c { acting = Some a }) input letters c pair pair faults faults
   act_crashed c a input letters pair faults h off crash none =
       let work = resting (down a.work.state a.work.state.vr.promise a.work.state.vr.life) in
@@ -202,10 +203,10 @@ module _ {A : Type 0} (kinds_of : A → List ℕ) (most_of : A → ℕ) (states_
       subst (λ (w : Work). Done a.work.state w w.save (state_of c) letters c.results c.results pair pair faults faults) rule
       (record { kept = refl; pair_is = refl; faults_are = refl; state_is = state; letters_are = none })
 
-  pub began_begins : (c : Controlling A) (a b : Acting A) → Stands kinds_of most_of states_of suits c kinds a → b ≡ with_state a (with_no_met_limit a.work.state) → Begins kinds_of most_of states_of suits b kinds c.setup
+  pub began_begins : (c : Controlling A) (a b : Acting A) → Stands law c kinds a → b ≡ with_state a (with_no_met_limit a.work.state) → Begins law b kinds c.setup
   began_begins c a b h is =
       let s = h.begins in
-      subst (λ (x : Acting A). Begins kinds_of most_of states_of suits x kinds c.setup) (sym is)
+      subst (λ (x : Acting A). Begins law x kinds c.setup) (sym is)
       (record {
         acts = record { valid = s.acts.valid; own = s.acts.own; reach = s.acts.reach; stands = s.acts.stands; marks = s.acts.marks; saves = s.acts.saves };
         rests = ap (λ (w : Work). record w { state = with_no_met_limit a.work.state }) s.rests;
@@ -213,12 +214,12 @@ module _ {A : Type 0} (kinds_of : A → List ℕ) (most_of : A → ℕ) (states_
       })
 
   -- what is kept of a controller after a turn
-  pub controls_kept : (c new : Controlling A) (a left : Acting A) (work : Work) → Controls kinds_of most_of states_of suits c kinds → Stands kinds_of most_of states_of suits c kinds a →
-      Works kinds_of most_of states_of suits kinds c.setup (with_state a (with_no_met_limit a.work.state)) work left → left.promise ≡ None →
-      new ≡ record c { acting = Some (record left { work = resting left.work.state; promise = None }) } → Controls kinds_of most_of states_of suits new kinds
+  pub controls_kept : (c new : Controlling A) (a left : Acting A) (work : Work) → Controls law c kinds → Stands law c kinds a →
+      Works law kinds c.setup (with_state a (with_no_met_limit a.work.state)) work left → left.promise ≡ None →
+      new ≡ record c { acting = Some (record left { work = resting left.work.state; promise = None }) } → Controls law new kinds
   controls_kept c new a left work k h w is new_is =
       let now : Controlling A = record c { acting = Some (record left { work = resting left.work.state; promise = None }) } in
-      subst (λ (x : Controlling A). Controls kinds_of most_of states_of suits x kinds) (sym new_is)
+      subst (λ (x : Controlling A). Controls law x kinds) (sym new_is)
       (record {
         setup = k.setup;
         member = k.member;
@@ -230,12 +231,12 @@ module _ {A : Type 0} (kinds_of : A → List ℕ) (most_of : A → ℕ) (states_
   kept_by c left promise r =
       record c { promise = (standing r (promise, c.life) (c.promise, c.life)).0; life = (standing r (promise, c.life) (c.promise, c.life)).1; results = c.results ++ r ∷ []; acting = acting_by r left }
 
-  pub controls_saved : (c new : Controlling A) (a left : Acting A) (work : Work) (promise : ℕ) (letters : List (Letter ControllerSays)) (pb pa : ℕ × ℕ) (fb fa : ℕ) → Controls kinds_of most_of states_of suits c kinds →
-      Stands kinds_of most_of states_of suits c kinds a → Works kinds_of most_of states_of suits kinds c.setup (with_state a (with_no_met_limit a.work.state)) work left → left.promise ≡ Some promise →
-      Keeps left (promise, c.life) letters c new pb pa fb fa → Controls kinds_of most_of states_of suits new kinds
-  controls_saved c new a left work promise letters pb pa fb fa k h w is s = by_result s.result (subst (λ (x : Controlling A). Controls kinds_of most_of states_of suits x kinds) (sym s.left))
+  pub controls_saved : (c new : Controlling A) (a left : Acting A) (work : Work) (promise : ℕ) (letters : List (Letter ControllerSays)) (pb pa : ℕ × ℕ) (fb fa : ℕ) → Controls law c kinds →
+      Stands law c kinds a → Works law kinds c.setup (with_state a (with_no_met_limit a.work.state)) work left → left.promise ≡ Some promise →
+      Keeps left (promise, c.life) letters c new pb pa fb fa → Controls law new kinds
+  controls_saved c new a left work promise letters pb pa fb fa k h w is s = by_result s.result (subst (λ (x : Controlling A). Controls law x kinds) (sym s.left))
     where
-      by_result : (r : SaveResult) → (Controls kinds_of most_of states_of suits (kept_by c left promise r) kinds → Controls kinds_of most_of states_of suits new kinds) → Controls kinds_of most_of states_of suits new kinds
+      by_result : (r : SaveResult) → (Controls law (kept_by c left promise r) kinds → Controls law new kinds) → Controls law new kinds
       by_result Saved go = go (record {
         setup = k.setup;
         member = k.member;
@@ -277,7 +278,7 @@ module _ {A : Type 0} (kinds_of : A → List ℕ) (most_of : A → ℕ) (states_
 
   -- a restart whose pair was saved: the member of the life that begins is kept
   pub restart_saved : (c mid after new : Controlling A) (a : Acting A) (letters : List (Letter ControllerSays)) (life : ℕ) (r : SaveResult) (pb pa : ℕ × ℕ) (fb fa : ℕ) → c.acting ≡ None → c.life < last_life → life ≡ c.life + 1 → mid ≡ record c { shelf = mid.shelf } →
-      r ≡ Saved → Saves r (mid.promise, life) pb pa fb fa → Born kinds_of most_of states_of suits c kinds life a → after.results ≡ mid.results ++ r ∷ [] → letters ≡ a.work.letters →
+      r ≡ Saved → Saves r (mid.promise, life) pb pa fb fa → Born law c kinds life a → after.results ≡ mid.results ++ r ∷ [] → letters ≡ a.work.letters →
       new ≡ record after { acting = Some (record a { work = resting a.work.state; promise = None }) } → Restarts c letters new pb pa fb fa
   restart_saved c mid after new a letters life r pb pa fb fa off low life_is mid_is result_is saves born results letters_is new_is =
       let below = fresh (down_state c.me c.setup.controllers c.promise c.life) in
@@ -299,11 +300,11 @@ module _ {A : Type 0} (kinds_of : A → List ℕ) (most_of : A → ℕ) (states_
 
   -- a controller as its group starts
   pub starts_controlled : (me : ℕ) (setup copied : Setup) (a : Acting A) (r : VrState) (shelf : List A) (results : List SaveResult) → copied ≡ setup → IsSetup setup → me < setup.controllers →
-      Begins kinds_of most_of states_of suits a kinds setup → a.work.state ≡ fresh r → r ≡ starting_state me setup.controllers → AreAlike kinds_of most_of kinds shelf →
-      Controls kinds_of most_of states_of suits (record { setup = copied; me = me; promise = 0; life = 0; acting = Some a; shelf = shelf; results = results }) kinds
+      Begins law a kinds setup → a.work.state ≡ fresh r → r ≡ starting_state me setup.controllers → AreAlike law kinds shelf →
+      Controls law (record { setup = copied; me = me; promise = 0; life = 0; acting = Some a; shelf = shelf; results = results }) kinds
   starts_controlled me setup copied a r shelf results copied_is right member begins state is alike =
       let starts : a.work.state ≡ fresh (starting_state me setup.controllers) = state ∙ ap (λ (v : VrState). fresh v) is in
-      subst (λ (s : Setup). Controls kinds_of most_of states_of suits (record { setup = s; me = me; promise = 0; life = 0; acting = Some a; shelf = shelf; results = results }) kinds) (sym copied_is)
+      subst (λ (s : Setup). Controls law (record { setup = s; me = me; promise = 0; life = 0; acting = Some a; shelf = shelf; results = results }) kinds) (sym copied_is)
       (record {
         setup = right;
         member = member;
@@ -323,33 +324,33 @@ module _ {A : Type 0} (kinds_of : A → List ℕ) (most_of : A → ℕ) (states_
   all_push P (y ∷ xs) x h p = (h.0, all_push P xs x h.1 p)
 
   -- an application is put back
-  pub pushed_alike : (b : Bool) (xs ys : List A) (app : A) → AreAlike kinds_of most_of kinds xs → kinds_of app ≡ kinds → most_of app ≤ most_commands → ys ≡ (if b then xs ++ app ∷ [] else xs) → AreAlike kinds_of most_of kinds ys
-  pushed_alike true xs ys app h k m is = subst (λ (l : List A). AreAlike kinds_of most_of kinds l) (sym is) (all_push _ xs app h (k, m))
-  pushed_alike false xs ys app h k m is = subst (λ (l : List A). AreAlike kinds_of most_of kinds l) (sym is) h
+  pub pushed_alike : (b : Bool) (xs ys : List A) (app : A) → AreAlike law kinds xs → law.kinds app ≡ kinds → given_by (law.kinds app) ≤ most_commands → ys ≡ (if b then xs ++ app ∷ [] else xs) → AreAlike law kinds ys
+  pushed_alike true xs ys app h k m is = subst (λ (l : List A). AreAlike law kinds l) (sym is) (all_push _ xs app h (k, m))
+  pushed_alike false xs ys app h k m is = subst (λ (l : List A). AreAlike law kinds l) (sym is) h
 
-  pub controls_back : (c after : Controlling A) (shelf : List A) → Controls kinds_of most_of states_of suits c kinds → after.setup ≡ c.setup → after.me ≡ c.me → after.acting ≡ None → AreAlike kinds_of most_of kinds shelf →
-      Controls kinds_of most_of states_of suits (record after { shelf = shelf }) kinds
+  pub controls_back : (c after : Controlling A) (shelf : List A) → Controls law c kinds → after.setup ≡ c.setup → after.me ≡ c.me → after.acting ≡ None → AreAlike law kinds shelf →
+      Controls law (record after { shelf = shelf }) kinds
   controls_back c after shelf h setup me off alike =
       record {
         setup = subst (λ (s : Setup). IsSetup s) (sym setup) h.setup;
         member = subst (λ (n : ℕ). n < after.setup.controllers) (sym me) (subst (λ (s : Setup). c.me < s.controllers) (sym setup) h.member);
-        acting = subst (λ (o : Option (Acting A)). IfSome o (Stands kinds_of most_of states_of suits (record after { shelf = shelf }) kinds)) (sym off) tt;
+        acting = subst (λ (o : Option (Acting A)). IfSome o (Stands law (record after { shelf = shelf }) kinds)) (sym off) tt;
         shelf = alike;
       }
 
-  pair_by : (c : Controlling A) (o : Option (Acting A)) → IfSome o (Stands kinds_of most_of states_of suits c kinds) → pair_in (state_or (fresh (down_state c.me c.setup.controllers c.promise c.life)) o) ≡ (c.promise, c.life)
+  pair_by : (c : Controlling A) (o : Option (Acting A)) → IfSome o (Stands law c kinds) → pair_in (state_or (fresh (down_state c.me c.setup.controllers c.promise c.life)) o) ≡ (c.promise, c.life)
   pair_by c None h = refl
   pair_by c (Some a) h = ap (λ (n : ℕ). (n, a.work.state.vr.life)) h.promise ∙ ap (λ (n : ℕ). (c.promise, n)) h.life
 
   -- the stable pair of a controller is that of its state
-  pub pair_known : (c : Controlling A) → Controls kinds_of most_of states_of suits c kinds → pair_in (state_of c) ≡ (c.promise, c.life)
+  pub pair_known : (c : Controlling A) → Controls law c kinds → pair_in (state_of c) ≡ (c.promise, c.life)
   pair_known c h = pair_by c c.acting h.acting
 
   -- what was taken out stands
-  pub taken_stands : (c : Controlling A) (a : Acting A) → Controls kinds_of most_of states_of suits c kinds → c.acting ≡ Some a →
-      Controls kinds_of most_of states_of suits (record c { acting = None }) kinds × Stands kinds_of most_of states_of suits (record c { acting = None }) kinds a
+  pub taken_stands : (c : Controlling A) (a : Acting A) → Controls law c kinds → c.acting ≡ Some a →
+      Controls law (record c { acting = None }) kinds × Stands law (record c { acting = None }) kinds a
   taken_stands c a h is =
-      let s = subst (λ (o : Option (Acting A)). IfSome o (Stands kinds_of most_of states_of suits c kinds)) is h.acting in (
+      let s = subst (λ (o : Option (Acting A)). IfSome o (Stands law c kinds)) is h.acting in (
         record { setup = h.setup; member = h.member; acting = tt; shelf = h.shelf },
         record { begins = s.begins; me = s.me; controllers = s.controllers; promise = s.promise; life = s.life; awake = s.awake },
       )
@@ -423,50 +424,50 @@ module _ {A : Type 0} (c : Controlling A) (input : ControllerInput) where
   restart_begins off told =
       ap (λ (o : Option (Acting A)). is_none o && is_restart input && nat_lt c.life last_life) off ∙ ap (λ (b : Bool). b && nat_lt c.life last_life) told
 
-module _ {A : Type 0} (kinds_of : A → List ℕ) (states_of : A → List (List ℕ)) where
+module _ {A : Type 0} (law : AppLaw A) where
   -- the shelf of one that was told to restart
   pub restart_leaves : {X E : Type 0} (r : Result X E) (c new : Controlling A) (b again : Bool) → b ≡ again → c.acting ≡ None →
-      IfOk r (λ _. LeavesShelf kinds_of states_of again (record c { acting = None }) new) → IfOk r (λ _. LeavesShelf kinds_of states_of b c new)
+      IfOk r (λ _. LeavesShelf law again (record c { acting = None }) new) → IfOk r (λ _. LeavesShelf law b c new)
   restart_leaves r c new b again same off h =
-      subst (λ (x : Bool). IfOk r (λ _. LeavesShelf kinds_of states_of x c new)) (sym same)
-      (subst (λ (o : Option (Acting A)). IfOk r (λ _. LeavesShelf kinds_of states_of again (record c { acting = o }) new)) (sym off) h)
+      subst (λ (x : Bool). IfOk r (λ _. LeavesShelf law x c new)) (sym same)
+      (subst (λ (o : Option (Acting A)). IfOk r (λ _. LeavesShelf law again (record c { acting = o }) new)) (sym off) h)
 
   -- the member of a life that begins took no event
-  pub born_fresh : (most_of : A → ℕ) (suits : A → Setup → Type 0) (c : Controlling A) (kinds : List ℕ) (life : ℕ) (a : Acting A) → Born kinds_of most_of states_of suits c kinds life a →
-      states_of a.dispatcher.app ≡ starting_chain (kinds_of a.dispatcher.app)
-  born_fresh most_of suits c kinds life a b =
+  pub born_fresh : (c : Controlling A) (kinds : List ℕ) (life : ℕ) (a : Acting A) → Born law c kinds life a →
+      law.states a.dispatcher.app ≡ starting_chain (law.kinds a.dispatcher.app)
+  born_fresh c kinds life a b =
       b.acts.stands.states
       ∙ ap (λ (w : Work). chain_after kinds c.setup (starting_chain kinds) (received (take w.state.vr.commit w.state.vr.log))) b.work_is
       ∙ ap (λ (ks : List ℕ). starting_chain ks) (sym b.acts.stands.kind)
 
   -- the application of a life that did not begin is put back
-  pub puts_back : (b : Bool) (between new : List A) (app : A) → states_of app ≡ starting_chain (kinds_of app) → new ≡ (if b then between ++ app ∷ [] else between) → PutsBack kinds_of states_of between new
+  pub puts_back : (b : Bool) (between new : List A) (app : A) → law.states app ≡ starting_chain (law.kinds app) → new ≡ (if b then between ++ app ∷ [] else between) → PutsBack law between new
   puts_back true between new app fresh is = (Some app, is, fresh)
   puts_back false between new app fresh is = (None, is ∙ sym (append-nil between), tt)
 
   -- whatever a turn answers that begins no life
-  pub keeps_shelf : {X E : Type 0} (r : Result X E) (c new : Controlling A) (b : Bool) → b ≡ false → new.shelf ≡ c.shelf → IfOk r (λ _. LeavesShelf kinds_of states_of b c new)
-  keeps_shelf (Ok x) c new b off same = subst (λ (b : Bool). LeavesShelf kinds_of states_of b c new) (sym off) same
+  pub keeps_shelf : {X E : Type 0} (r : Result X E) (c new : Controlling A) (b : Bool) → b ≡ false → new.shelf ≡ c.shelf → IfOk r (λ _. LeavesShelf law b c new)
+  keeps_shelf (Ok x) c new b off same = subst (λ (b : Bool). LeavesShelf law b c new) (sym off) same
   keeps_shelf (Err e) c new b off same = tt
 
   -- a restart took an application, and its save had this result
-  pub restart_takes : (c mid new : Controlling A) (r : SaveResult) → c.life < last_life → mid ≡ record c { shelf = mid.shelf } → new.results ≡ mid.results ++ r ∷ [] → TakesBy kinds_of states_of r c.shelf new.shelf →
-      LeavesShelf kinds_of states_of (nat_lt c.life last_life) c new
+  pub restart_takes : (c mid new : Controlling A) (r : SaveResult) → c.life < last_life → mid ≡ record c { shelf = mid.shelf } → new.results ≡ mid.results ++ r ∷ [] → TakesBy law r c.shelf new.shelf →
+      LeavesShelf law (nat_lt c.life last_life) c new
   restart_takes c mid new r low mid_is results takes =
-      subst (λ (b : Bool). LeavesShelf kinds_of states_of b c new) (sym (lt-ltb c.life last_life low))
+      subst (λ (b : Bool). LeavesShelf law b c new) (sym (lt-ltb c.life last_life low))
       (r, results ∙ ap (λ (x : Controlling A). x.results ++ r ∷ []) mid_is, takes)
 
-  pub takes_saved : (r : SaveResult) (old between new : List A) → r ≡ Saved → TakesOne old between → new ≡ between → TakesBy kinds_of states_of r old new
+  pub takes_saved : (r : SaveResult) (old between new : List A) → r ≡ Saved → TakesOne old between → new ≡ between → TakesBy law r old new
   takes_saved r old between new is takes same =
-      subst (λ (x : SaveResult). TakesBy kinds_of states_of x old new) (sym is) (subst (λ (l : List A). TakesOne old l) (sym same) takes)
+      subst (λ (x : SaveResult). TakesBy law x old new) (sym is) (subst (λ (l : List A). TakesOne old l) (sym same) takes)
 
-  pub takes_kept_new : (r : SaveResult) (old between new : List A) → r ≡ KeptNew → TakesOne old between → new ≡ between → TakesBy kinds_of states_of r old new
+  pub takes_kept_new : (r : SaveResult) (old between new : List A) → r ≡ KeptNew → TakesOne old between → new ≡ between → TakesBy law r old new
   takes_kept_new r old between new is takes same =
-      subst (λ (x : SaveResult). TakesBy kinds_of states_of x old new) (sym is) (subst (λ (l : List A). TakesOne old l) (sym same) takes)
+      subst (λ (x : SaveResult). TakesBy law x old new) (sym is) (subst (λ (l : List A). TakesOne old l) (sym same) takes)
 
-  pub takes_kept_old : (r : SaveResult) (old between new : List A) → r ≡ KeptOld → TakesOne old between → PutsBack kinds_of states_of between new → TakesBy kinds_of states_of r old new
+  pub takes_kept_old : (r : SaveResult) (old between new : List A) → r ≡ KeptOld → TakesOne old between → PutsBack law between new → TakesBy law r old new
   takes_kept_old r old between new is takes back =
-      subst (λ (x : SaveResult). TakesBy kinds_of states_of x old new) (sym is) (between, takes, back)
+      subst (λ (x : SaveResult). TakesBy law x old new) (sym is) (between, takes, back)
 
 module _ {A : Type 0} where
   -- the same at want of memory

@@ -9,6 +9,7 @@ use Rattle.vr_core.proofs.Lasting.{lasts_same}
 use Rattle.dispatcher.specs.Folding.{wish}
 use Rattle.dispatcher.specs.Ledger.{Dispatching}
 use Rattle.of_types.specs.declared.message.Event.{Event}
+use Rattle.app_core.specs.Law.{AppLaw}
 use Rattle.dispatcher.specs.declared.answers.Wish.{Wish}
 use Rattle.dispatcher.specs.declared.answers.Wish.TheVariants.{Propose, Acknowledge, Nothing}
 use Rattle.dispatcher.specs.Marks.{Marks, is_pending, with_mark, with_result}
@@ -18,52 +19,52 @@ use Rattle.group_controller.specs.Settling.{after_finishing, settling, ack_lette
 use Rattle.group_controller.specs.State.{ControllerState, Work, committed, posting, resting, stepped}
 use Rattle.group_controller.proofs.Acting.{does_as, marked_stands, posts_does, stays, then_does}
 
-module _ {A : Type 0} (kinds_of : A → List ℕ) (most_of : A → ℕ) (states_of : A → List (List ℕ)) (suits : A → Setup → Type 0) (kinds : List ℕ) (setup : Setup) where
+module _ {A : Type 0} (law : AppLaw A) (kinds : List ℕ) (setup : Setup) where
   abbrev IsActing : Acting A → Type 0
-  IsActing a = Acts kinds_of most_of states_of suits a kinds setup
+  IsActing a = Acts law a kinds setup
 
   abbrev Does : Acting A → Work → Acting A → Type 0
-  Does a work b = Works kinds_of most_of states_of suits kinds setup a work b
+  Does a work b = Works law kinds setup a work b
 
   -- an event
   event_rule : (a : Acting A) (event : Event) (w : Wish) → wish a.work.state.vr.log (committed a.work.state) event ≡ w → on_event kinds setup a.work.state event ≡ on_wish kinds setup a.work.state event w
   event_rule a event w is = ap (λ (x : Wish). on_wish kinds setup a.work.state event x) is
 
-  pub event_more : (a b n : Acting A) (event : Event) → Begins kinds_of most_of states_of suits a kinds setup → wish a.work.state.vr.log (committed a.work.state) event ≡ Propose → goes_on a.work.state (Received event) ≡ true →
+  pub event_more : (a b n : Acting A) (event : Event) → Begins law a kinds setup → wish a.work.state.vr.log (committed a.work.state) event ≡ Propose → goes_on a.work.state (Received event) ≡ true →
       Does a (after_proposal kinds setup a.work (Received event)) b → Does b (after_finishing kinds setup b.work) n → Does a (on_event kinds setup a.work.state event) n
   event_more a b n event h is again first rest =
       let c = a.work.state in
       let next = after_proposal kinds setup (resting c) (Received event) in
       let left = first.work_is ∙ ap (λ (w : Work). after_proposal kinds setup w (Received event)) h.rests in
-      does_as kinds_of most_of states_of suits kinds setup a n (after_finishing kinds setup b.work) (on_event kinds setup c event)
+      does_as law kinds setup a n (after_finishing kinds setup b.work) (on_event kinds setup c event)
       (ap (λ (w : Work). after_finishing kinds setup w) left ∙ sym (event_rule a event Propose is ∙ ap (λ (b : Bool). if b then after_finishing kinds setup next else next) again))
-      (then_does kinds_of most_of states_of suits kinds setup a b n (after_proposal kinds setup a.work (Received event)) (after_finishing kinds setup b.work) first rest)
+      (then_does law kinds setup a b n (after_proposal kinds setup a.work (Received event)) (after_finishing kinds setup b.work) first rest)
 
-  pub event_last : (a b : Acting A) (event : Event) → Begins kinds_of most_of states_of suits a kinds setup → wish a.work.state.vr.log (committed a.work.state) event ≡ Propose → goes_on a.work.state (Received event) ≡ false →
+  pub event_last : (a b : Acting A) (event : Event) → Begins law a kinds setup → wish a.work.state.vr.log (committed a.work.state) event ≡ Propose → goes_on a.work.state (Received event) ≡ false →
       Does a (after_proposal kinds setup a.work (Received event)) b → Does a (on_event kinds setup a.work.state event) b
   event_last a b event h is again first =
       let c = a.work.state in
       let next = after_proposal kinds setup (resting c) (Received event) in
-      does_as kinds_of most_of states_of suits kinds setup a b (after_proposal kinds setup a.work (Received event)) (on_event kinds setup c event)
+      does_as law kinds setup a b (after_proposal kinds setup a.work (Received event)) (on_event kinds setup c event)
       (ap (λ (w : Work). after_proposal kinds setup w (Received event)) h.rests ∙ sym (event_rule a event Propose is ∙ ap (λ (b : Bool). if b then after_finishing kinds setup next else next) again)) first
 
-  pub event_acknowledged : (a b : Acting A) (event : Event) (through : ℕ) → Begins kinds_of most_of states_of suits a kinds setup → wish a.work.state.vr.log (committed a.work.state) event ≡ Acknowledge through →
+  pub event_acknowledged : (a b : Acting A) (event : Event) (through : ℕ) → Begins law a kinds setup → wish a.work.state.vr.log (committed a.work.state) event ≡ Acknowledge through →
       b ≡ posts a (ack_letter (record { switch = event.switch; life = event.life; through = through }) ∷ []) → Does a (on_event kinds setup a.work.state event) b
   event_acknowledged a b event through h is sent =
       let letters = ack_letter (record { switch = event.switch; life = event.life; through = through }) ∷ [] in
-      does_as kinds_of most_of states_of suits kinds setup a b (posting a.work letters) (on_event kinds setup a.work.state event) (ap (λ (w : Work). posting w letters) h.rests ∙ sym (event_rule a event (Acknowledge through) is)) (posts_does kinds_of most_of states_of suits kinds setup a b letters h.acts sent)
+      does_as law kinds setup a b (posting a.work letters) (on_event kinds setup a.work.state event) (ap (λ (w : Work). posting w letters) h.rests ∙ sym (event_rule a event (Acknowledge through) is)) (posts_does law kinds setup a b letters h.acts sent)
 
-  pub event_nothing : (a : Acting A) (event : Event) → Begins kinds_of most_of states_of suits a kinds setup → wish a.work.state.vr.log (committed a.work.state) event ≡ Nothing → Does a (on_event kinds setup a.work.state event) a
-  event_nothing a event h is = does_as kinds_of most_of states_of suits kinds setup a a a.work (on_event kinds setup a.work.state event) (h.rests ∙ sym (event_rule a event Nothing is)) (stays kinds_of most_of states_of suits kinds setup a h.acts)
+  pub event_nothing : (a : Acting A) (event : Event) → Begins law a kinds setup → wish a.work.state.vr.log (committed a.work.state) event ≡ Nothing → Does a (on_event kinds setup a.work.state event) a
+  event_nothing a event h is = does_as law kinds setup a a a.work (on_event kinds setup a.work.state event) (h.rests ∙ sym (event_rule a event Nothing is)) (stays law kinds setup a h.acts)
 
   -- a result
   pub result_acts : (a b : Acting A) (d : Dispatching A) → IsActing a → d ≡ record a.dispatcher { marks = d.marks } →
       b ≡ record a { work = record a.work { state = record a.work.state { marks = d.marks } }; dispatcher = d } → IsActing b
   result_acts a b d h marked is =
       subst (λ (x : Acting A). IsActing x) (sym is)
-      (record { valid = h.valid; own = h.own; reach = h.reach; stands = marked_stands kinds_of most_of states_of suits kinds setup a.dispatcher d d.marks (committed a.work.state) h.stands marked; marks = refl; saves = h.saves })
+      (record { valid = h.valid; own = h.own; reach = h.reach; stands = marked_stands law kinds setup a.dispatcher d d.marks (committed a.work.state) h.stands marked; marks = refl; saves = h.saves })
 
-  pub result_finishes : (a b n : Acting A) (d : Dispatching A) (switch life number : ℕ) → Begins kinds_of most_of states_of suits a kinds setup → is_pending kinds setup (committed a.work.state) switch life number ≡ true →
+  pub result_finishes : (a b n : Acting A) (d : Dispatching A) (switch life number : ℕ) → Begins law a kinds setup → is_pending kinds setup (committed a.work.state) switch life number ≡ true →
       d ≡ record a.dispatcher { marks = d.marks } → d.marks ≡ with_result kinds setup (committed a.work.state) a.dispatcher.marks switch life number →
       b ≡ record a { work = record a.work { state = record a.work.state { marks = d.marks } }; dispatcher = d } → Does b (after_finishing kinds setup b.work) n → Does a (on_result kinds setup a.work.state switch life number) n
   result_finishes a b n d switch life number h pending marked marks is rest =
@@ -74,11 +75,11 @@ module _ {A : Type 0} (kinds_of : A → List ℕ) (most_of : A → ℕ) (states_
       let work : b.work ≡ resting now =
       ap (λ (x : Acting A). x.work) is ∙ ap (λ (w : Work). record w { state = record c { marks = d.marks } }) h.rests ∙ ap (λ (m : Marks). resting (record c { marks = m })) marks' in
       let first : Does a b.work b = subst (λ (x : Acting A). IsActing x → Does a x.work x) (sym is) (λ k. record { acts = k; work_is = refl; saved = None; lasts = lasts_same c.vr; promise_is = refl }) acts in
-      does_as kinds_of most_of states_of suits kinds setup a n (after_finishing kinds setup b.work) (on_result kinds setup c switch life number)
+      does_as law kinds setup a n (after_finishing kinds setup b.work) (on_result kinds setup c switch life number)
       (ap (λ (w : Work). after_finishing kinds setup w) work ∙ sym (ap (λ (b : Bool). if b then after_finishing kinds setup (resting now) else resting c) pending))
-      (then_does kinds_of most_of states_of suits kinds setup a b n b.work (after_finishing kinds setup b.work) first rest)
+      (then_does law kinds setup a b n b.work (after_finishing kinds setup b.work) first rest)
 
-  pub result_rests : (a b : Acting A) (d : Dispatching A) (switch life number : ℕ) → Begins kinds_of most_of states_of suits a kinds setup → is_pending kinds setup (committed a.work.state) switch life number ≡ false →
+  pub result_rests : (a b : Acting A) (d : Dispatching A) (switch life number : ℕ) → Begins law a kinds setup → is_pending kinds setup (committed a.work.state) switch life number ≡ false →
       d ≡ record a.dispatcher { marks = d.marks } → d.marks ≡ with_result kinds setup (committed a.work.state) a.dispatcher.marks switch life number →
       b ≡ record a { work = record a.work { state = record a.work.state { marks = d.marks } }; dispatcher = d } → Does a (on_result kinds setup a.work.state switch life number) b
   result_rests a b d switch life number h off marked marks is =
@@ -89,7 +90,7 @@ module _ {A : Type 0} (kinds_of : A → List ℕ) (most_of : A → ℕ) (states_
       let work : b.work ≡ resting c =
       ap (λ (x : Acting A). x.work) is ∙ ap (λ (w : Work). record w { state = record c { marks = d.marks } }) h.rests ∙ ap (λ (m : Marks). resting (record c { marks = m })) same in
       let first : Does a b.work b = subst (λ (x : Acting A). IsActing x → Does a x.work x) (sym is) (λ k. record { acts = k; work_is = refl; saved = None; lasts = lasts_same c.vr; promise_is = refl }) acts in
-      does_as kinds_of most_of states_of suits kinds setup a b b.work (on_result kinds setup c switch life number) (work ∙ sym (ap (λ (b : Bool). if b then after_finishing kinds setup (resting now) else resting c) off)) first
+      does_as law kinds setup a b b.work (on_result kinds setup c switch life number) (work ∙ sym (ap (λ (b : Bool). if b then after_finishing kinds setup (resting now) else resting c) off)) first
 
   -- a step of the member, whether it leads or not
   step_rule : (a : Acting A) (step : VrStep) (started settled : Bool) → has_started a.work.state.vr step.state ≡ started → (leads step.state && nat_lt a.work.state.vr.commit step.state.commit) ≡ settled →
@@ -100,18 +101,18 @@ module _ {A : Type 0} (kinds_of : A → List ℕ) (most_of : A → ℕ) (states_
 
   pub step_rests : (a d : Acting A) (step : VrStep) → Does a (stepped a.work.state step) d → has_started a.work.state.vr step.state ≡ false → (leads step.state && nat_lt a.work.state.vr.commit step.state.commit) ≡ false →
       Does a (after_step kinds setup a.work.state step) d
-  step_rests a d step first s1 s2 = does_as kinds_of most_of states_of suits kinds setup a d (stepped a.work.state step) (after_step kinds setup a.work.state step) (sym (step_rule a step false false s1 s2)) first
+  step_rests a d step first s1 s2 = does_as law kinds setup a d (stepped a.work.state step) (after_step kinds setup a.work.state step) (sym (step_rule a step false false s1 s2)) first
 
   pub step_settles : (a d n : Acting A) (step : VrStep) → Does a (stepped a.work.state step) d → has_started a.work.state.vr step.state ≡ false → (leads step.state && nat_lt a.work.state.vr.commit step.state.commit) ≡ true →
       Does d (settling kinds setup a.work.state.vr.commit d.work) n → Does a (after_step kinds setup a.work.state step) n
   step_settles a d n step first s1 s2 rest =
-      does_as kinds_of most_of states_of suits kinds setup a n (settling kinds setup a.work.state.vr.commit d.work) (after_step kinds setup a.work.state step)
+      does_as law kinds setup a n (settling kinds setup a.work.state.vr.commit d.work) (after_step kinds setup a.work.state step)
       (ap (λ (w : Work). settling kinds setup a.work.state.vr.commit w) first.work_is ∙ sym (step_rule a step false true s1 s2))
-      (then_does kinds_of most_of states_of suits kinds setup a d n (stepped a.work.state step) (settling kinds setup a.work.state.vr.commit d.work) first rest)
+      (then_does law kinds setup a d n (stepped a.work.state step) (settling kinds setup a.work.state.vr.commit d.work) first rest)
 
   pub step_starts : (a d n : Acting A) (step : VrStep) → Does a (stepped a.work.state step) d → has_started a.work.state.vr step.state ≡ true → Does d (starting_view kinds setup d.work) n →
       Does a (after_step kinds setup a.work.state step) n
   step_starts a d n step first s1 rest =
-      does_as kinds_of most_of states_of suits kinds setup a n (starting_view kinds setup d.work) (after_step kinds setup a.work.state step)
+      does_as law kinds setup a n (starting_view kinds setup d.work) (after_step kinds setup a.work.state step)
       (ap (λ (w : Work). starting_view kinds setup w) first.work_is ∙ sym (step_rule a step true (leads step.state && nat_lt a.work.state.vr.commit step.state.commit) s1 refl))
-      (then_does kinds_of most_of states_of suits kinds setup a d n (stepped a.work.state step) (starting_view kinds setup d.work) first rest)
+      (then_does law kinds setup a d n (stepped a.work.state step) (starting_view kinds setup d.work) first rest)

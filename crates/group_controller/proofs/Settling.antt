@@ -10,6 +10,7 @@ use Rattle.vr_log.specs.declared.entry.Entry.TheVariants.{Processed}
 use Rattle.vr_normal.specs.Proposing.{proposed}
 use Rattle.vr_core.specs.Lasting.{Lasts}
 use Rattle.vr_core.proofs.Lasting.{lasts_on, lasts_same, later_of_three}
+use Rattle.app_core.specs.Law.{AppLaw}
 use Rattle.dispatcher.specs.declared.answers.Handled.{Handled}
 use Rattle.dispatcher.specs.Folding.{places_processed}
 use Rattle.dispatcher.specs.Ledger.{Dispatching}
@@ -23,12 +24,12 @@ use Rattle.group_controller.proofs.Acting.{Proposing, does_as, marked_stands, po
 use Rattle.group_controller.proofs.Answering.{answers_new}
 use Rattle.group_controller.proofs.Finishing.{filter_all, finishing_last, finishing_more, finishing_none, finishing_rests}
 
-module _ {A : Type 0} (kinds_of : A → List ℕ) (most_of : A → ℕ) (states_of : A → List (List ℕ)) (suits : A → Setup → Type 0) (kinds : List ℕ) (setup : Setup) where
+module _ {A : Type 0} (law : AppLaw A) (kinds : List ℕ) (setup : Setup) where
   abbrev IsActing : Acting A → Type 0
-  IsActing a = Acts kinds_of most_of states_of suits a kinds setup
+  IsActing a = Acts law a kinds setup
 
   abbrev Does : Acting A → Work → Acting A → Type 0
-  Does a work b = Works kinds_of most_of states_of suits kinds setup a work b
+  Does a work b = Works law kinds setup a work b
 
   -- the dispatcher followed: the turn is as it was
   pub refolded : (a f : Acting A) → IsActing f → f.work ≡ a.work → f.promise ≡ a.promise → Does a a.work f
@@ -39,19 +40,19 @@ module _ {A : Type 0} (kinds_of : A → List ℕ) (most_of : A → ℕ) (states_
   pub answers_do : (f b : Acting A) (before : ℕ) (list : List Handled) → IsActing f → AreNew kinds setup f.work.state before list → b ≡ posts f (flat_map (answers_to kinds setup f.work.state) list) →
       Does f (with_answers kinds setup before f.work) b
   answers_do f b before list h new is =
-      posts_does kinds_of most_of states_of suits kinds setup f b (flat_map (answers_at kinds setup f.work.state) (places_processed (drop before (committed f.work.state)))) h
+      posts_does law kinds setup f b (flat_map (answers_at kinds setup f.work.state) (places_processed (drop before (committed f.work.state)))) h
       (is ∙ ap (λ (l : List (Letter ControllerSays)). posts f l) (answers_new kinds setup f.work.state before list new))
 
   pub follow_does : (a f b n : Acting A) (before : ℕ) → Does a a.work f → Does f (with_answers kinds setup before f.work) b → Does b (with_commands kinds setup b.work) n →
       Does a (with_commands kinds setup (with_answers kinds setup before a.work)) n
   follow_does a f b n before first second third =
       let answered_is = second.work_is ∙ ap (λ (w : Work). with_answers kinds setup before w) first.work_is in
-      does_as kinds_of most_of states_of suits kinds setup a n (with_commands kinds setup b.work) (with_commands kinds setup (with_answers kinds setup before a.work)) (ap (λ (w : Work). with_commands kinds setup w) answered_is)
-      (then_does kinds_of most_of states_of suits kinds setup a f n a.work (with_commands kinds setup b.work) first (then_does kinds_of most_of states_of suits kinds setup f b n (with_answers kinds setup before f.work) (with_commands kinds setup b.work) second third))
+      does_as law kinds setup a n (with_commands kinds setup b.work) (with_commands kinds setup (with_answers kinds setup before a.work)) (ap (λ (w : Work). with_commands kinds setup w) answered_is)
+      (then_does law kinds setup a f n a.work (with_commands kinds setup b.work) first (then_does law kinds setup f b n (with_answers kinds setup before f.work) (with_commands kinds setup b.work) second third))
 
   -- what a proposal left: the entry joined the log, or met its limit
   pub data Proposed (a m : Acting A) (entry : Entry) : Type 0 where
-    Joined : is_past_limits a.work.state.vr.log entry ≡ false → Proposing kinds_of most_of states_of suits kinds setup a m entry → Proposed a m entry
+    Joined : is_past_limits a.work.state.vr.log entry ≡ false → Proposing law kinds setup a m entry → Proposed a m entry
     Full : is_past_limits a.work.state.vr.log entry ≡ true → m ≡ with_state a (met_limit a.work.state entry) → Proposed a m entry
 
   alone_grows : (c : ControllerState) (entry : Entry) → c.vr.commit ≤ length c.vr.log → is_alone c ≡ true → (proposed c.vr entry).state.commit ≡ c.vr.commit → ⊥
@@ -92,7 +93,7 @@ module _ {A : Type 0} (kinds_of : A → List ℕ) (most_of : A → ℕ) (states_
           let e : a.work.state.vr.commit ≡ m.work.state.vr.commit = sym same in (
             sym off,
             record {
-              acts = subst (λ (n : ℕ). ActsUpTo kinds_of most_of states_of suits n m kinds setup) e p.acts;
+              acts = subst (λ (n : ℕ). ActsUpTo law n m kinds setup) e p.acts;
               work_is = p.work_is ∙ sym rule;
               saved = None;
               lasts = p.lasts;
@@ -101,7 +102,7 @@ module _ {A : Type 0} (kinds_of : A → List ℕ) (most_of : A → ℕ) (states_
           )
 
   pub proposed_grows : (a m n : Acting A) (entry : Entry) (before : ℕ) → Proposed a m entry → before ≡ a.work.state.vr.commit → (m.work.state.vr.commit ≡ a.work.state.vr.commit → ⊥) →
-      (ActsUpTo kinds_of most_of states_of suits before m kinds setup → Does m (with_commands kinds setup (with_answers kinds setup before m.work)) n) →
+      (ActsUpTo law before m kinds setup → Does m (with_commands kinds setup (with_answers kinds setup before m.work)) n) →
       (true ≡ goes_on a.work.state entry) × Does a (after_proposal kinds setup a.work entry) n
   proposed_grows a m n entry before (Full past is) at grows follow = absurd (grows (ap (λ (x : Acting A). x.work.state.vr.commit) is))
   proposed_grows a m n entry before (Joined within p) at grows follow = by_alone (is_alone a.work.state) refl
@@ -116,7 +117,7 @@ module _ {A : Type 0} (kinds_of : A → List ℕ) (most_of : A → ℕ) (states_
           let on = with_commands kinds setup (with_answers kinds setup c.vr.commit (with_proposal a.work entry)) in
           let rule : after_proposal kinds setup a.work entry ≡ on =
           ap (λ (b : Bool). if b then leaving a.work (met_limit c entry) else if is_alone c then on else with_proposal a.work entry) within ∙ ap (λ (b : Bool). if b then on else with_proposal a.work entry) alone in
-          let f = follow (subst (λ (k : ℕ). ActsUpTo kinds_of most_of states_of suits k m kinds setup) (sym at) p.acts) in (
+          let f = follow (subst (λ (k : ℕ). ActsUpTo law k m kinds setup) (sym at) p.acts) in (
             sym yes_on,
             record {
               acts = f.acts;
@@ -129,23 +130,23 @@ module _ {A : Type 0} (kinds_of : A → List ℕ) (most_of : A → ℕ) (states_
 
   -- Settle, third step
   pub finish_rests : (a : Acting A) (more : ℕ) → IsActing a → (more ≡ 0) ⊎ (is_settled kinds setup a.work.state ≡ false) → Does a (finishing more kinds setup a.work) a
-  finish_rests a more h (inl none) = does_as kinds_of most_of states_of suits kinds setup a a a.work (finishing more kinds setup a.work) (sym (finishing_none kinds setup more a.work none)) (stays kinds_of most_of states_of suits kinds setup a h)
-  finish_rests a more h (inr off) = does_as kinds_of most_of states_of suits kinds setup a a a.work (finishing more kinds setup a.work) (sym (finishing_rests kinds setup more a.work off)) (stays kinds_of most_of states_of suits kinds setup a h)
+  finish_rests a more h (inl none) = does_as law kinds setup a a a.work (finishing more kinds setup a.work) (sym (finishing_none kinds setup more a.work none)) (stays law kinds setup a h)
+  finish_rests a more h (inr off) = does_as law kinds setup a a a.work (finishing more kinds setup a.work) (sym (finishing_rests kinds setup more a.work off)) (stays law kinds setup a h)
 
   pub finish_more : (a b n : Acting A) (more place : ℕ) → place ≡ processed (committed a.work.state) → (more ≡ 0 → ⊥) → is_settled kinds setup a.work.state ≡ true → goes_on a.work.state (Processed place) ≡ true →
       Does a (after_proposal kinds setup a.work (Processed place)) b → Does b (finishing (more - 1) kinds setup b.work) n → Does a (finishing more kinds setup a.work) n
   finish_more a b n more place at some on again first rest =
       let entry : Processed place ≡ processing a.work.state = ap (λ (k : ℕ). Processed k) at in
       let left = first.work_is ∙ ap (λ (e : Entry). after_proposal kinds setup a.work e) entry in
-      does_as kinds_of most_of states_of suits kinds setup a n (finishing (more - 1) kinds setup b.work) (finishing more kinds setup a.work)
+      does_as law kinds setup a n (finishing (more - 1) kinds setup b.work) (finishing more kinds setup a.work)
       (ap (λ (w : Work). finishing (more - 1) kinds setup w) left ∙ sym (finishing_more kinds setup more a.work some on (ap (λ (e : Entry). goes_on a.work.state e) (sym entry) ∙ again)))
-      (then_does kinds_of most_of states_of suits kinds setup a b n (after_proposal kinds setup a.work (Processed place)) (finishing (more - 1) kinds setup b.work) first rest)
+      (then_does law kinds setup a b n (after_proposal kinds setup a.work (Processed place)) (finishing (more - 1) kinds setup b.work) first rest)
 
   pub finish_last : (a b : Acting A) (more place : ℕ) → place ≡ processed (committed a.work.state) → (more ≡ 0 → ⊥) → is_settled kinds setup a.work.state ≡ true → goes_on a.work.state (Processed place) ≡ false →
       Does a (after_proposal kinds setup a.work (Processed place)) b → Does a (finishing more kinds setup a.work) b
   finish_last a b more place at some on again first =
       let entry : Processed place ≡ processing a.work.state = ap (λ (k : ℕ). Processed k) at in
-      does_as kinds_of most_of states_of suits kinds setup a b (after_proposal kinds setup a.work (Processed place)) (finishing more kinds setup a.work)
+      does_as law kinds setup a b (after_proposal kinds setup a.work (Processed place)) (finishing more kinds setup a.work)
       (ap (λ (e : Entry). after_proposal kinds setup a.work e) entry ∙ sym (finishing_last kinds setup more a.work some on (ap (λ (e : Entry). goes_on a.work.state e) (sym entry) ∙ again))) first
 
   -- Settle
@@ -155,8 +156,8 @@ module _ {A : Type 0} (kinds_of : A → List ℕ) (most_of : A → ℕ) (states_
   settle_does a b c n before first second third =
       let w = with_answers kinds setup before a.work in
       let told : c.work ≡ with_commands kinds setup w = second.work_is ∙ ap (λ (x : Work). with_commands kinds setup x) first.work_is in
-      does_as kinds_of most_of states_of suits kinds setup a n (after_finishing kinds setup c.work) (settling kinds setup before a.work) (ap (λ (x : Work). after_finishing kinds setup x) told)
-      (then_does kinds_of most_of states_of suits kinds setup a b n w (after_finishing kinds setup c.work) first (then_does kinds_of most_of states_of suits kinds setup b c n (with_commands kinds setup b.work) (after_finishing kinds setup c.work) second third))
+      does_as law kinds setup a n (after_finishing kinds setup c.work) (settling kinds setup before a.work) (ap (λ (x : Work). after_finishing kinds setup x) told)
+      (then_does law kinds setup a b n w (after_finishing kinds setup c.work) first (then_does law kinds setup b c n (with_commands kinds setup b.work) (after_finishing kinds setup c.work) second third))
 
   -- a view starts
   pub begin_does : (a b c n : Acting A) (d : Dispatching A) → IsActing a → d ≡ record a.dispatcher { marks = no_marks } →
@@ -167,19 +168,19 @@ module _ {A : Type 0} (kinds_of : A → List ℕ) (most_of : A → ℕ) (states_
       let first : Acting A = record a { work = leaving a.work s; dispatcher = d } in
       let marks : d.marks ≡ no_marks = ap (λ (x : Dispatching A). x.marks) marked in
       let begins : b ≡ first = is ∙ ap (λ (m : Marks). record a { work = leaving a.work (record a.work.state { marks = m; last_told = None }); dispatcher = d }) marks in
-      let acts : IsActing first = record { valid = h.valid; own = h.own; reach = h.reach; stands = marked_stands kinds_of most_of states_of suits kinds setup a.dispatcher d no_marks (committed a.work.state) h.stands marked; marks = sym marks; saves = h.saves } in
+      let acts : IsActing first = record { valid = h.valid; own = h.own; reach = h.reach; stands = marked_stands law kinds setup a.dispatcher d no_marks (committed a.work.state) h.stands marked; marks = sym marks; saves = h.saves } in
       let letters = map (role_letter a.work.state.vr.view) (switches setup) in
       let all : c ≡ posts first letters =
       asked ∙ ap (λ (x : Acting A). posts x (map (role_letter x.work.state.vr.view) (unconfirmed setup x.work.state))) begins
       ∙ ap (λ (l : List ℕ). posts first (map (role_letter a.work.state.vr.view) l)) (filter_all (switches setup)) in
-      let second = posts_does kinds_of most_of states_of suits kinds setup first c letters acts all in
+      let second = posts_does law kinds setup first c letters acts all in
       let left : Does a (leaving a.work s) first = record { acts = acts; work_is = refl; saved = None; lasts = lasts_same a.work.state.vr; promise_is = refl } in
-      does_as kinds_of most_of states_of suits kinds setup a n (settling kinds setup c.work.state.vr.commit c.work) (starting_view kinds setup a.work)
+      does_as law kinds setup a n (settling kinds setup c.work.state.vr.commit c.work) (starting_view kinds setup a.work)
       (ap (λ (w : Work). settling kinds setup w.state.vr.commit w) second.work_is)
-      (then_does kinds_of most_of states_of suits kinds setup a first n (leaving a.work s) (settling kinds setup c.work.state.vr.commit c.work) left (then_does kinds_of most_of states_of suits kinds setup first c n (posting first.work letters) (settling kinds setup c.work.state.vr.commit c.work) second settled))
+      (then_does law kinds setup a first n (leaving a.work s) (settling kinds setup c.work.state.vr.commit c.work) left (then_does law kinds setup first c n (posting first.work letters) (settling kinds setup c.work.state.vr.commit c.work) second settled))
 
   pub begun_acts : (a b : Acting A) (d : Dispatching A) → IsActing a → d ≡ record a.dispatcher { marks = no_marks } →
       b ≡ record a { work = record a.work { state = record a.work.state { marks = d.marks; last_told = None } }; dispatcher = d } → IsActing b
   begun_acts a b d h marked is =
       subst (λ (x : Acting A). IsActing x) (sym is)
-      (record { valid = h.valid; own = h.own; reach = h.reach; stands = marked_stands kinds_of most_of states_of suits kinds setup a.dispatcher d no_marks (committed a.work.state) h.stands marked; marks = refl; saves = h.saves })
+      (record { valid = h.valid; own = h.own; reach = h.reach; stands = marked_stands law kinds setup a.dispatcher d no_marks (committed a.work.state) h.stands marked; marks = refl; saves = h.saves })

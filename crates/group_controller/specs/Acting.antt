@@ -8,6 +8,7 @@ use Rattle.vr_log.specs.Log.{received}
 use Rattle.vr_log.specs.Steps.{later_of}
 use Rattle.vr_log.specs.Valid.{IsValid}
 use Rattle.vr_core.specs.Lasting.{CollectsItsOwn, Lasts}
+use Rattle.app_core.specs.Law.{AppLaw}
 use Rattle.dispatcher.specs.declared.answers.Handled.{Handled}
 use Rattle.dispatcher.specs.declared.answers.Through.{Through}
 use Rattle.dispatcher.specs.Folding.{acknowledgement, clears, places_processed}
@@ -53,23 +54,23 @@ abbrev pub AreNew : List ℕ → Setup → ControllerState → ℕ → List Hand
 AreNew kinds setup c before handled = AreHandledAt kinds setup (committed c) (places_processed (drop before (committed c))) handled
 
 -- The member is valid, and the dispatcher stands for its log up to a place.
-pub record ActsUpTo {A : Type 0} (kinds_of : A → List ℕ) (most_of : A → ℕ) (states_of : A → List (List ℕ)) (suits : A → Setup → Type 0)
+pub record ActsUpTo {A : Type 0} (law : AppLaw A)
     (place : ℕ) (a : Acting A) (kinds : List ℕ) (setup : Setup) : Type 0 where
   pub valid : IsValid a.work.state.vr
   pub own : CollectsItsOwn a.work.state.vr
   pub reach : place ≤ a.work.state.vr.commit
-  pub stands : StandsFor kinds_of most_of states_of suits a.dispatcher kinds setup (take place a.work.state.vr.log)
+  pub stands : StandsFor law a.dispatcher kinds setup (take place a.work.state.vr.log)
   pub marks : a.work.state.marks ≡ a.dispatcher.marks
   pub saves : a.work.save ≡ pair_with a.work.state.vr.life a.promise
 
 -- The dispatcher stands for all that is committed: so it is where a rule begins, and where it ends.
-abbrev pub Acts : {A : Type 0} → (A → List ℕ) → (A → ℕ) → (A → List (List ℕ)) → (A → Setup → Type 0) → Acting A → List ℕ → Setup → Type 0
-Acts kinds_of most_of states_of suits a kinds setup = ActsUpTo kinds_of most_of states_of suits a.work.state.vr.commit a kinds setup
+abbrev pub Acts : {A : Type 0} → AppLaw A → Acting A → List ℕ → Setup → Type 0
+Acts law a kinds setup = ActsUpTo law a.work.state.vr.commit a kinds setup
 
 -- the turn begins: nothing is saved or posted
-pub record Begins {A : Type 0} (kinds_of : A → List ℕ) (most_of : A → ℕ) (states_of : A → List (List ℕ)) (suits : A → Setup → Type 0)
+pub record Begins {A : Type 0} (law : AppLaw A)
     (a : Acting A) (kinds : List ℕ) (setup : Setup) : Type 0 where
-  pub acts : Acts kinds_of most_of states_of suits a kinds setup
+  pub acts : Acts law a kinds setup
   pub rests : a.work ≡ resting a.work.state
   pub unsaved : a.promise ≡ None
 
@@ -81,9 +82,9 @@ abbrev pub InSomeGroup : (List ℕ → Setup → Type 0) → Type 0
 InSomeGroup acts = (kinds : List ℕ) × (setup : Setup) × acts kinds setup
 
 -- A rule was done: this is its work, and what was committed stays.
-pub record Works {A : Type 0} (kinds_of : A → List ℕ) (most_of : A → ℕ) (states_of : A → List (List ℕ)) (suits : A → Setup → Type 0)
+pub record Works {A : Type 0} (law : AppLaw A)
     (kinds : List ℕ) (setup : Setup) (old : Acting A) (work : Work) (new : Acting A) : Type 0 where
-  pub acts : Acts kinds_of most_of states_of suits new kinds setup
+  pub acts : Acts law new kinds setup
   pub work_is : new.work ≡ work
   pub saved : Option ℕ
   pub lasts : Lasts old.work.state.vr saved new.work.state.vr

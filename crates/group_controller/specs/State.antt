@@ -80,8 +80,3 @@ stepped c step =
       save = option_map (λ promise. (promise, step.state.life)) step.promise;
       letters = to_members step.letters;
     }
-
--- a rule left this state and wants to post these letters
-pub record Worked (work : Work) (state : ControllerState) (letters : List (Letter ControllerSays)) : Type 0 where
-  pub state_is : state ≡ work.state
-  pub letters_are : letters ≡ work.letters

@@ -12,7 +12,8 @@ use Rattle.rv_base.specs.Stables.{standing}
 use Rattle.vr_log.specs.declared.state.Status.TheVariants.{Down}
 use Rattle.vr_log.specs.Valid.{down_state}
 use Rattle.vr_recovery.specs.Recovering.{restarted}
-use Rattle.app_core.specs.Chain.{starting_chain}
+use Rattle.app_core.specs.Chain.{given_by, starting_chain}
+use Rattle.app_core.specs.Law.{AppLaw}
 use Rattle.dispatcher.specs.Ledger.{most_commands}
 use Rattle.group_controller.specs.declared.messages.ControllerInput.{ControllerInput}
 use Rattle.group_controller.specs.declared.messages.ControllerSays.{ControllerSays}
@@ -48,9 +49,9 @@ abbrev pub KnowsPair : {A : Type 0} → Controlling A → Controlling A → ℕ 
 KnowsPair old new pair_before pair_after = pair_before ≡ (old.promise, old.life) → pair_after ≡ (new.promise, new.life)
 
 -- A member between two turns: its stable pair is the controller's.
-pub record Stands {A : Type 0} (kinds_of : A → List ℕ) (most_of : A → ℕ) (states_of : A → List (List ℕ)) (suits : A → Setup → Type 0)
+pub record Stands {A : Type 0} (law : AppLaw A)
     (c : Controlling A) (kinds : List ℕ) (a : Acting A) : Type 0 where
-  pub begins : Begins kinds_of most_of states_of suits a kinds c.setup
+  pub begins : Begins law a kinds c.setup
   pub me : a.work.state.vr.me ≡ c.me
   pub controllers : a.work.state.vr.controllers ≡ c.setup.controllers
   pub promise : a.work.state.vr.promise ≡ c.promise
@@ -58,17 +59,17 @@ pub record Stands {A : Type 0} (kinds_of : A → List ℕ) (most_of : A → ℕ)
   pub awake : a.work.state.vr.status ≡ Down → ⊥
 
 -- applications of these kinds, with at most so many commands for an event
-abbrev pub AreAlike : {A : Type 0} → (A → List ℕ) → (A → ℕ) → List ℕ → List A → Type 0
-AreAlike kinds_of most_of kinds apps = AllByRecursion (λ app. (kinds_of app ≡ kinds) × (most_of app ≤ most_commands)) apps
+abbrev pub AreAlike : {A : Type 0} → AppLaw A → List ℕ → List A → Type 0
+AreAlike law kinds apps = AllByRecursion (λ app. (law.kinds app ≡ kinds) × (given_by (law.kinds app) ≤ most_commands)) apps
 
 -- A controller of applications of these kinds. Where it is not down, the state of its application is the fold over its
 -- committed log.
-pub record Controls {A : Type 0} (kinds_of : A → List ℕ) (most_of : A → ℕ) (states_of : A → List (List ℕ)) (suits : A → Setup → Type 0)
+pub record Controls {A : Type 0} (law : AppLaw A)
     (c : Controlling A) (kinds : List ℕ) : Type 0 where
   pub setup : IsSetup c.setup
   pub member : c.me < c.setup.controllers
-  pub acting : IfSome c.acting (Stands kinds_of most_of states_of suits c kinds)
-  pub shelf : AreAlike kinds_of most_of kinds c.shelf
+  pub acting : IfSome c.acting (Stands law c kinds)
+  pub shelf : AreAlike law kinds c.shelf
 
 -- whatever these kinds are
 abbrev pub ForEachKinds : (List ℕ → Type 0) → (List ℕ → Type 0) → Type 0
@@ -93,7 +94,7 @@ posted_by KeptOld work = []
 posted_by KeptNew work = []
 
 -- The work of a rule was done: what it wants to be saved was saved first, once, and the result is kept.
-pub record Saving (c : ControllerState) (work : Work) (saved : ℕ × ℕ) (state : ControllerState) (letters : List (Letter ControllerSays))
+pub record SavedFirst (c : ControllerState) (work : Work) (saved : ℕ × ℕ) (state : ControllerState) (letters : List (Letter ControllerSays))
     (old new : List SaveResult) (pair_before pair_after : ℕ × ℕ) (before after : ℕ) : Type 0 where
   pub result : SaveResult
   pub kept : new ≡ old ++ result ∷ []
@@ -112,7 +113,7 @@ pub record Unsaved (work : Work) (state : ControllerState) (letters : List (Lett
 
 abbrev pub Done : ControllerState → Work → Option (ℕ × ℕ) → ControllerState → List (Letter ControllerSays) → List SaveResult → List SaveResult → ℕ × ℕ → ℕ × ℕ → ℕ → ℕ → Type 0
 Done c work None state letters old new pair_before pair_after before after = Unsaved work state letters old new pair_before pair_after before after
-Done c work (Some saved) state letters old new pair_before pair_after before after = Saving c work saved state letters old new pair_before pair_after before after
+Done c work (Some saved) state letters old new pair_before pair_after before after = SavedFirst c work saved state letters old new pair_before pair_after before after
 
 -- one turn of a controller
 abbrev pub Turns : {A : Type 0} → List ℕ → Controlling A → ControllerInput → List (Letter ControllerSays) → Controlling A → ℕ × ℕ → ℕ × ℕ → ℕ → ℕ → Type 0
@@ -145,9 +146,9 @@ pub record Keeps {A : Type 0} (a : Acting A) (saved : ℕ × ℕ) (letters : Lis
   pub letters_are : letters ≡ posted_by result a.work
 
 -- the member of a life that begins: nothing is committed, and it asks the others
-pub record Born {A : Type 0} (kinds_of : A → List ℕ) (most_of : A → ℕ) (states_of : A → List (List ℕ)) (suits : A → Setup → Type 0)
+pub record Born {A : Type 0} (law : AppLaw A)
     (c : Controlling A) (kinds : List ℕ) (life : ℕ) (a : Acting A) : Type 0 where
-  pub acts : Acts kinds_of most_of states_of suits a kinds c.setup
+  pub acts : Acts law a kinds c.setup
   pub work_is : a.work ≡ stepped (fresh (down_state c.me c.setup.controllers c.promise c.life)) (restarted c.me c.setup.controllers c.promise life)
   pub unsaved : a.promise ≡ None
 
@@ -169,25 +170,25 @@ abbrev pub TakesOneAtMost : {A : Type 0} → List A → List A → Type 0
 TakesOneAtMost {A} old new = (app : Option A) × (old ≡ new ++ option_to_list app)
 
 -- an application that has taken no event was put back, or there was no room for it
-abbrev pub PutsBack : {A : Type 0} → (A → List ℕ) → (A → List (List ℕ)) → List A → List A → Type 0
-PutsBack {A} kinds_of states_of old new =
-    (app : Option A) × (new ≡ old ++ option_to_list app) × IfSome app (λ app. states_of app ≡ starting_chain (kinds_of app))
+abbrev pub PutsBack : {A : Type 0} → AppLaw A → List A → List A → Type 0
+PutsBack {A} law old new =
+    (app : Option A) × (new ≡ old ++ option_to_list app) × IfSome app (λ app. law.states app ≡ starting_chain (law.kinds app))
 
 -- A life was to begin, and its save had this result: its application was taken, and is put back only where the old
 -- pair stands.
-abbrev pub TakesBy : {A : Type 0} → (A → List ℕ) → (A → List (List ℕ)) → SaveResult → List A → List A → Type 0
-TakesBy kinds_of states_of Saved old new = TakesOne old new
-TakesBy kinds_of states_of KeptNew old new = TakesOne old new
-TakesBy {A} kinds_of states_of KeptOld old new = (between : List A) × TakesOne old between × PutsBack kinds_of states_of between new
+abbrev pub TakesBy : {A : Type 0} → AppLaw A → SaveResult → List A → List A → Type 0
+TakesBy law Saved old new = TakesOne old new
+TakesBy law KeptNew old new = TakesOne old new
+TakesBy {A} law KeptOld old new = (between : List A) × TakesOne old between × PutsBack law between new
 
-abbrev pub Takes : {A : Type 0} → (A → List ℕ) → (A → List (List ℕ)) → Controlling A → Controlling A → Type 0
-Takes kinds_of states_of old new =
-    (result : SaveResult) × (new.results ≡ old.results ++ result ∷ []) × TakesBy kinds_of states_of result old.shelf new.shelf
+abbrev pub Takes : {A : Type 0} → AppLaw A → Controlling A → Controlling A → Type 0
+Takes law old new =
+    (result : SaveResult) × (new.results ≡ old.results ++ result ∷ []) × TakesBy law result old.shelf new.shelf
 
 -- A turn leaves the shelf of later lives as it was, but a restart that begins a life takes its application from there.
-abbrev pub LeavesShelf : {A : Type 0} → (A → List ℕ) → (A → List (List ℕ)) → Bool → Controlling A → Controlling A → Type 0
-LeavesShelf kinds_of states_of false old new = new.shelf ≡ old.shelf
-LeavesShelf kinds_of states_of true old new = Takes kinds_of states_of old new
+abbrev pub LeavesShelf : {A : Type 0} → AppLaw A → Bool → Controlling A → Controlling A → Type 0
+LeavesShelf law false old new = new.shelf ≡ old.shelf
+LeavesShelf law true old new = Takes law old new
 
 -- So does a turn that wants memory: the application of a life that was to begin may be gone.
 abbrev pub MayTake : {A : Type 0} → Bool → Controlling A → Controlling A → Type 0

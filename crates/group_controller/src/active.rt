@@ -14,6 +14,7 @@ ghost use Rattle.group_controller.specs.Rules.{after_step, starting_view, unconf
 ghost use Rattle.group_controller.specs.Settling as settling;
 ghost use Rattle.group_controller.specs.Settling.{after_finishing, after_proposal, command_letter, finishing, goes_on, role_letter, with_commands};
 ghost use Rattle.group_controller.specs.State.{fresh, resting, with_no_met_limit};
+ghost use Rattle.app_core.specs.Chain.{given_by};
 
 use crate::letters::{ack_letter, add_clears, add_commands, add_members, role_letter, to_switch};
 use crate::messages::{ControllerInput, ControllerSays};
@@ -86,11 +87,11 @@ impl<A: App> Active<A> {
         app: A,
     ) -> Result<Active<A>, AllocError>
         requires setup { IsSetup setup.now }
-        requires few { A.most app ≤ most_commands }
+        requires few { given_by (A.law.kinds app) ≤ most_commands }
         requires valid { IsValid replica }
         requires own { CollectsItsOwn replica }
         requires none { replica.commit ≡ 0 }
-        ensures begins { IfOk result (λ a. Begins A.kinds A.most A.states A.suits a (A.kinds app) setup.now) }
+        ensures begins { IfOk result (λ a. Begins A.law a (A.law.kinds app) setup.now) }
         ensures state { IfOk result (λ a. a.work.state ≡ fresh replica) }
     {
         Ok(Active {
@@ -124,8 +125,8 @@ impl<A: App> Active<A> {
     fn fold_behind(&mut self, before: u64) -> Result<Vec<Handled>, AllocError>
         requires valid { IsValid self.old.work.state.vr }
         requires reach { before ≤ self.old.work.state.vr.commit }
-        ensures folds { ForEachGroup (ActsUpTo A.kinds A.most A.states A.suits before self.old) (λ kinds setup.
-            IfOk result (λ handled. AreNew kinds setup self.new.work.state before handled.items × Acts A.kinds A.most A.states A.suits self.new kinds setup)) }
+        ensures folds { ForEachGroup (ActsUpTo A.law before self.old) (λ kinds setup.
+            IfOk result (λ handled. AreNew kinds setup self.new.work.state before handled.items × Acts A.law self.new kinds setup)) }
         ensures work { self.new.work ≡ self.old.work }
         ensures promise { self.new.promise ≡ self.old.promise }
     {
@@ -136,7 +137,7 @@ impl<A: App> Active<A> {
 
     /// An event that is processed is answered.
     fn answer(&mut self, handled: &Handled) -> Result<(), AllocError>
-        ensures { ForEachGroup (Acts A.kinds A.most A.states A.suits self.old) (λ kinds setup. OnOk result (self.new ≡ posts self.old (answers_to kinds setup self.old.work.state handled.now))) }
+        ensures { ForEachGroup (Acts A.law self.old) (λ kinds setup. OnOk result (self.new ≡ posts self.old (answers_to kinds setup self.old.work.state handled.now))) }
     {
         if let Some(told) = self.dispatcher.acknowledgement(handled) {
             self.post(ack_letter(told))?;
@@ -147,7 +148,7 @@ impl<A: App> Active<A> {
 
     /// Settle, first step: events that are processed are answered.
     fn answer_each(&mut self, processed: &[Handled]) -> Result<(), AllocError>
-        ensures { ForEachGroup (Acts A.kinds A.most A.states A.suits self.old) (λ kinds setup. OnOk result (self.new ≡ posts self.old (flat_map (answers_to kinds setup self.old.work.state) processed.now))) }
+        ensures { ForEachGroup (Acts A.law self.old) (λ kinds setup. OnOk result (self.new ≡ posts self.old (flat_map (answers_to kinds setup self.old.work.state) processed.now))) }
     {
         'processed: for handled in processed {
             self.answer(handled)?;
@@ -174,7 +175,7 @@ impl<A: App> Active<A> {
     /// Settle, second step: the commands of the first unprocessed event go out, where they were not the last that did
     /// in this view.
     fn send_untold(&mut self) -> Result<(), AllocError>
-        ensures { ForEachGroup (Acts A.kinds A.most A.states A.suits self.old) (λ kinds setup. OnOk result (Works A.kinds A.most A.states A.suits kinds setup self.old (with_commands kinds setup self.old.work) self.new)) }
+        ensures { ForEachGroup (Acts A.law self.old) (λ kinds setup. OnOk result (Works A.law kinds setup self.old (with_commands kinds setup self.old.work) self.new)) }
     {
         let place = self.dispatcher.processed();
         if self.dispatcher.has_unprocessed() && !self.was_told(place) {
@@ -187,7 +188,7 @@ impl<A: App> Active<A> {
 
     /// The first unprocessed event is finished, and not yet proposed as processed.
     fn is_settled(&self) -> bool
-        ensures { ForEachGroup (Acts A.kinds A.most A.states A.suits self.now) (λ kinds setup. result ≡ settling.is_settled kinds setup self.now.work.state) }
+        ensures { ForEachGroup (Acts A.law self.now) (λ kinds setup. result ≡ settling.is_settled kinds setup self.now.work.state) }
     {
         self.dispatcher.finished() && self.replica.log().processed() <= self.dispatcher.processed()
     }
@@ -196,8 +197,8 @@ impl<A: App> Active<A> {
     fn follow(&mut self, before: u64) -> Result<(), AllocError>
         requires valid { IsValid self.old.work.state.vr }
         requires reach { before ≤ self.old.work.state.vr.commit }
-        ensures { ForEachGroup (ActsUpTo A.kinds A.most A.states A.suits before self.old) (λ kinds setup.
-            OnOk result (Works A.kinds A.most A.states A.suits kinds setup self.old (with_commands kinds setup (settling.with_answers kinds setup before self.old.work)) self.new)) }
+        ensures { ForEachGroup (ActsUpTo A.law before self.old) (λ kinds setup.
+            OnOk result (Works A.law kinds setup self.old (with_commands kinds setup (settling.with_answers kinds setup before self.old.work)) self.new)) }
     {
         let processed = self.fold_behind(before)?;
         self.answer_each(&processed)?;
@@ -207,11 +208,11 @@ impl<A: App> Active<A> {
     /// Proposes an entry. A controller alone in its group commits it at once: then there may be more to settle, which
     /// is told. Past the limits of the log it doesn't join.
     fn propose(&mut self, entry: Entry) -> Result<bool, AllocError>
-        requires acts { InSomeGroup (Acts A.kinds A.most A.states A.suits self.old) }
+        requires acts { InSomeGroup (Acts A.law self.old) }
         requires leads { members.leads self.old.work.state.vr ≡ true }
         requires follows { may_follow self.old.work.state.vr.log entry ≡ true }
-        ensures { ForEachGroup (Acts A.kinds A.most A.states A.suits self.old) (λ kinds setup. IfOk result (λ again.
-            (again ≡ goes_on self.old.work.state entry) × Works A.kinds A.most A.states A.suits kinds setup self.old (after_proposal kinds setup self.old.work entry) self.new)) }
+        ensures { ForEachGroup (Acts A.law self.old) (λ kinds setup. IfOk result (λ again.
+            (again ≡ goes_on self.old.work.state entry) × Works A.law kinds setup self.old (after_proposal kinds setup self.old.work entry) self.new)) }
     {
         let before = self.replica.committed();
         match self.replica.propose(entry) {
@@ -230,9 +231,9 @@ impl<A: App> Active<A> {
     /// Settle, third step: the first unprocessed event is proposed as processed where it is finished, so many times at
     /// most.
     fn finish(&mut self, more: u64) -> Result<(), AllocError>
-        requires acts { InSomeGroup (Acts A.kinds A.most A.states A.suits self.old) }
+        requires acts { InSomeGroup (Acts A.law self.old) }
         requires leads { members.leads self.old.work.state.vr ≡ true }
-        ensures { ForEachGroup (Acts A.kinds A.most A.states A.suits self.old) (λ kinds setup. OnOk result (Works A.kinds A.most A.states A.suits kinds setup self.old (finishing more kinds setup self.old.work) self.new)) }
+        ensures { ForEachGroup (Acts A.law self.old) (λ kinds setup. OnOk result (Works A.law kinds setup self.old (finishing more kinds setup self.old.work) self.new)) }
     {
         if more == 0 || !self.is_settled() {
             return Ok(());
@@ -246,9 +247,9 @@ impl<A: App> Active<A> {
     }
 
     fn finish_all(&mut self) -> Result<(), AllocError>
-        requires acts { InSomeGroup (Acts A.kinds A.most A.states A.suits self.old) }
+        requires acts { InSomeGroup (Acts A.law self.old) }
         requires leads { members.leads self.old.work.state.vr ≡ true }
-        ensures { ForEachGroup (Acts A.kinds A.most A.states A.suits self.old) (λ kinds setup. OnOk result (Works A.kinds A.most A.states A.suits kinds setup self.old (after_finishing kinds setup self.old.work) self.new)) }
+        ensures { ForEachGroup (Acts A.law self.old) (λ kinds setup. OnOk result (Works A.law kinds setup self.old (after_finishing kinds setup self.old.work) self.new)) }
     {
         let most = self.replica.log().received();
         self.finish(most)
@@ -256,10 +257,10 @@ impl<A: App> Active<A> {
 
     /// Settle: these events were newly committed as processed.
     fn settle(&mut self, processed: &[Handled]) -> Result<(), AllocError>
-        requires acts { InSomeGroup (Acts A.kinds A.most A.states A.suits self.old) }
+        requires acts { InSomeGroup (Acts A.law self.old) }
         requires leads { members.leads self.old.work.state.vr ≡ true }
-        ensures { ForEachGroup (Acts A.kinds A.most A.states A.suits self.old) (λ kinds setup. (before : ℕ) → AreNew kinds setup self.old.work.state before processed.now →
-            OnOk result (Works A.kinds A.most A.states A.suits kinds setup self.old (settling.settling kinds setup before self.old.work) self.new)) }
+        ensures { ForEachGroup (Acts A.law self.old) (λ kinds setup. (before : ℕ) → AreNew kinds setup self.old.work.state before processed.now →
+            OnOk result (Works A.law kinds setup self.old (settling.settling kinds setup before self.old.work) self.new)) }
     {
         self.answer_each(processed)?;
         self.send_untold()?;
@@ -268,7 +269,7 @@ impl<A: App> Active<A> {
 
     /// Each switch that did not take this controller as master in this view is asked for its role.
     fn ask_unconfirmed(&mut self) -> Result<(), AllocError>
-        ensures { ForEachGroup (Acts A.kinds A.most A.states A.suits self.old) (λ kinds setup. OnOk result (self.new ≡ posts self.old (map (role_letter self.old.work.state.vr.view) (unconfirmed setup self.old.work.state)))) }
+        ensures { ForEachGroup (Acts A.law self.old) (λ kinds setup. OnOk result (self.new ≡ posts self.old (map (role_letter self.old.work.state.vr.view) (unconfirmed setup self.old.work.state)))) }
     {
         'switches: for switch in 0..self.dispatcher.switches() {
             if !self.dispatcher.confirmed(switch) {
@@ -282,9 +283,9 @@ impl<A: App> Active<A> {
     /// The member started a view: what came in earlier ones is forgotten, and each switch is asked for its role. What
     /// the view begins with as processed is not answered.
     fn start_view(&mut self) -> Result<(), AllocError>
-        requires acts { InSomeGroup (Acts A.kinds A.most A.states A.suits self.old) }
+        requires acts { InSomeGroup (Acts A.law self.old) }
         requires leads { members.leads self.old.work.state.vr ≡ true }
-        ensures { ForEachGroup (Acts A.kinds A.most A.states A.suits self.old) (λ kinds setup. OnOk result (Works A.kinds A.most A.states A.suits kinds setup self.old (starting_view kinds setup self.old.work) self.new)) }
+        ensures { ForEachGroup (Acts A.law self.old) (λ kinds setup. OnOk result (Works A.law kinds setup self.old (starting_view kinds setup self.old.work) self.new)) }
     {
         self.dispatcher.begin_view();
         self.last_told = None;
@@ -294,9 +295,9 @@ impl<A: App> Active<A> {
 
     /// A step of the member: a primary settles where it started a view, and where more is committed.
     fn step(&mut self, input: &VrInput) -> Result<(), AllocError>
-        requires begins { InSomeGroup (Begins A.kinds A.most A.states A.suits self.old) }
-        ensures { ForEachGroup (Begins A.kinds A.most A.states A.suits self.old) (λ kinds setup.
-            OnOk result (Works A.kinds A.most A.states A.suits kinds setup self.old (after_step kinds setup self.old.work.state (vr_step self.old.work.state.vr input.now)) self.new)) }
+        requires begins { InSomeGroup (Begins A.law self.old) }
+        ensures { ForEachGroup (Begins A.law self.old) (λ kinds setup.
+            OnOk result (Works A.law kinds setup self.old (after_step kinds setup self.old.work.state (vr_step self.old.work.state.vr input.now)) self.new)) }
     {
         let led = self.replica.leads();
         let view = self.replica.view();
@@ -321,8 +322,8 @@ impl<A: App> Active<A> {
 
     /// Time passes: what switches have not answered is sent again.
     fn tick(&mut self) -> Result<(), AllocError>
-        requires begins { InSomeGroup (Begins A.kinds A.most A.states A.suits self.old) }
-        ensures { ForEachGroup (Begins A.kinds A.most A.states A.suits self.old) (λ kinds setup. OnOk result (Works A.kinds A.most A.states A.suits kinds setup self.old (rules.on_tick kinds setup self.old.work.state) self.new)) }
+        requires begins { InSomeGroup (Begins A.law self.old) }
+        ensures { ForEachGroup (Begins A.law self.old) (λ kinds setup. OnOk result (Works A.law kinds setup self.old (rules.on_tick kinds setup self.old.work.state) self.new)) }
     {
         let out = self.replica.step(&VrInput::Tick)?;
         self.take(out)?;
@@ -336,9 +337,9 @@ impl<A: App> Active<A> {
 
     /// An event comes: one that may follow is proposed, and one that was processed is acknowledged.
     fn on_event(&mut self, event: Event) -> Result<(), AllocError>
-        requires begins { InSomeGroup (Begins A.kinds A.most A.states A.suits self.old) }
+        requires begins { InSomeGroup (Begins A.law self.old) }
         requires leads { members.leads self.old.work.state.vr ≡ true }
-        ensures { ForEachGroup (Begins A.kinds A.most A.states A.suits self.old) (λ kinds setup. OnOk result (Works A.kinds A.most A.states A.suits kinds setup self.old (rules.on_event kinds setup self.old.work.state event) self.new)) }
+        ensures { ForEachGroup (Begins A.law self.old) (λ kinds setup. OnOk result (Works A.law kinds setup self.old (rules.on_event kinds setup self.old.work.state event) self.new)) }
     {
         match self.dispatcher.on_event(&event, self.replica.log()) {
             Wish::Propose => {
@@ -359,9 +360,9 @@ impl<A: App> Active<A> {
 
     /// A result comes: where its command waits for one, the event may be finished.
     fn on_result(&mut self, switch: u8, life: u32, number: u64) -> Result<(), AllocError>
-        requires begins { InSomeGroup (Begins A.kinds A.most A.states A.suits self.old) }
+        requires begins { InSomeGroup (Begins A.law self.old) }
         requires leads { members.leads self.old.work.state.vr ≡ true }
-        ensures { ForEachGroup (Begins A.kinds A.most A.states A.suits self.old) (λ kinds setup. OnOk result (Works A.kinds A.most A.states A.suits kinds setup self.old (rules.on_result kinds setup self.old.work.state switch life number) self.new)) }
+        ensures { ForEachGroup (Begins A.law self.old) (λ kinds setup. OnOk result (Works A.law kinds setup self.old (rules.on_result kinds setup self.old.work.state switch life number) self.new)) }
     {
         if self.dispatcher.on_result(switch, life, number)? {
             self.finish_all()
@@ -372,7 +373,7 @@ impl<A: App> Active<A> {
 
     /// A switch takes this controller as master: it gets its commands.
     fn on_role_reply(&mut self, switch: u8, role: u32, generation: u64) -> Result<(), AllocError>
-        ensures { ForEachGroup (Begins A.kinds A.most A.states A.suits self.old) (λ kinds setup. OnOk result (Works A.kinds A.most A.states A.suits kinds setup self.old (rules.on_role_reply kinds setup self.old.work.state switch role generation) self.new)) }
+        ensures { ForEachGroup (Begins A.law self.old) (λ kinds setup. OnOk result (Works A.law kinds setup self.old (rules.on_role_reply kinds setup self.old.work.state switch role generation) self.new)) }
     {
         if role != MASTER || generation != u64::from(self.replica.view()) {
             return Ok(());
@@ -384,7 +385,7 @@ impl<A: App> Active<A> {
 
     /// A switch greets: it may have lost its state, and is asked again.
     fn on_hello(&mut self, switch: u8) -> Result<(), AllocError>
-        ensures { ForEachGroup (Begins A.kinds A.most A.states A.suits self.old) (λ kinds setup. OnOk result (Works A.kinds A.most A.states A.suits kinds setup self.old (rules.on_hello self.old.work.state switch) self.new)) }
+        ensures { ForEachGroup (Begins A.law self.old) (λ kinds setup. OnOk result (Works A.law kinds setup self.old (rules.on_hello self.old.work.state switch) self.new)) }
     {
         self.dispatcher.off_role(switch);
         let view = self.replica.view();
@@ -393,9 +394,9 @@ impl<A: App> Active<A> {
 
     /// What a switch says to a primary.
     fn on_spoken(&mut self, switch: u8, message: Spoken) -> Result<(), AllocError>
-        requires begins { InSomeGroup (Begins A.kinds A.most A.states A.suits self.old) }
+        requires begins { InSomeGroup (Begins A.law self.old) }
         requires leads { members.leads self.old.work.state.vr ≡ true }
-        ensures { ForEachGroup (Begins A.kinds A.most A.states A.suits self.old) (λ kinds setup. OnOk result (Works A.kinds A.most A.states A.suits kinds setup self.old (rules.on_spoken kinds setup self.old.work.state switch message) self.new)) }
+        ensures { ForEachGroup (Begins A.law self.old) (λ kinds setup. OnOk result (Works A.law kinds setup self.old (rules.on_spoken kinds setup self.old.work.state switch message) self.new)) }
     {
         match message {
             Spoken::Plain(OfMessage::RoleReply { role, generation }) => {
@@ -426,7 +427,7 @@ impl<A: App> Active<A> {
     }
 
     fn echo(&mut self, switch: u8, xid: u32, body: Octets) -> Result<(), AllocError>
-        ensures { ForEachGroup (Begins A.kinds A.most A.states A.suits self.old) (λ kinds setup. OnOk result (Works A.kinds A.most A.states A.suits kinds setup self.old (rules.on_echo self.old.work.state switch xid body) self.new)) }
+        ensures { ForEachGroup (Begins A.law self.old) (λ kinds setup. OnOk result (Works A.law kinds setup self.old (rules.on_echo self.old.work.state switch xid body) self.new)) }
     {
         if self.is_up() {
             let reply = OfMessage::EchoReply { body };
@@ -438,8 +439,8 @@ impl<A: App> Active<A> {
 
     /// What a switch says. Each controller that is up answers an ECHO_REQUEST; all else is for a primary.
     fn on_switch(&mut self, switch: u8, xid: u32, message: Spoken) -> Result<(), AllocError>
-        requires begins { InSomeGroup (Begins A.kinds A.most A.states A.suits self.old) }
-        ensures { ForEachGroup (Begins A.kinds A.most A.states A.suits self.old) (λ kinds setup. OnOk result (Works A.kinds A.most A.states A.suits kinds setup self.old (rules.on_switch kinds setup self.old.work.state switch xid message) self.new)) }
+        requires begins { InSomeGroup (Begins A.law self.old) }
+        ensures { ForEachGroup (Begins A.law self.old) (λ kinds setup. OnOk result (Works A.law kinds setup self.old (rules.on_switch kinds setup self.old.work.state switch xid message) self.new)) }
     {
         match message {
             Spoken::Plain(OfMessage::EchoRequest { body }) => self.echo(switch, xid, body),
@@ -487,9 +488,9 @@ impl<A: App> Active<A> {
 
     /// What it does with an input. A crash is told by the caller, and takes no memory here.
     pub(crate) fn on_input(&mut self, input: ControllerInput) -> Result<(), AllocError>
-        requires begins { InSomeGroup (Begins A.kinds A.most A.states A.suits self.old) }
-        ensures works { ForEachGroup (Begins A.kinds A.most A.states A.suits self.old) (λ kinds setup. rules.is_crash input ≡ false →
-            OnOk result (Works A.kinds A.most A.states A.suits kinds setup self.old (rules.on_input kinds setup self.old.work.state input) self.new)) }
+        requires begins { InSomeGroup (Begins A.law self.old) }
+        ensures works { ForEachGroup (Begins A.law self.old) (λ kinds setup. rules.is_crash input ≡ false →
+            OnOk result (Works A.law kinds setup self.old (rules.on_input kinds setup self.old.work.state input) self.new)) }
         ensures crash { OnErr result (rules.is_crash input ≡ false) }
     {
         match input {

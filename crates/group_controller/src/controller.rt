@@ -8,6 +8,7 @@ ghost use Rattle.dispatcher.specs.Ledger.{most_commands};
 ghost use Rattle.group_controller.specs.Rules.{is_crash, is_restart};
 ghost use Rattle.group_controller.specs.State.{resting, starting_controller};
 ghost use Rattle.group_controller.specs.Turns.{AreAlike, begins_life, Born, Controls, ForEachKinds, Keeps, KnowsPair, LeavesShelf, MayTake, pair_in, Restarts, Saves, Stands, state_of, TakesOne, TakesOneAtMost, Turns, Wants};
+ghost use Rattle.app_core.specs.Chain.{given_by};
 
 use crate::active::Active;
 use crate::messages::{ControllerInput, ControllerSays};
@@ -87,9 +88,9 @@ impl<A: App> Controller<A> {
     ) -> Result<Controller<A>, AllocError>
         requires setup { IsSetup setup.now }
         requires member { me < setup.now.controllers }
-        requires few { A.most app ≤ most_commands }
-        requires alike { AreAlike A.kinds A.most (A.kinds app) shelf.items }
-        ensures controls { IfOk result (λ c. Controls A.kinds A.most A.states A.suits c (A.kinds app)) }
+        requires few { given_by (A.law.kinds app) ≤ most_commands }
+        requires alike { AreAlike A.law (A.law.kinds app) shelf.items }
+        ensures controls { IfOk result (λ c. Controls A.law c (A.law.kinds app)) }
         ensures starts { IfOk result (λ c. (c.setup ≡ setup.now) × (state_of c ≡ starting_controller me setup.now.controllers) × (c.results ≡ [])) }
     {
         let replica = Replica::new(alloc, me, setup.controllers)?;
@@ -176,13 +177,13 @@ impl<A: App> Controller<A> {
         life: u64,
         stable: &mut W,
     ) -> Result<SaveResult, AllocError>
-        ensures saves { IfOk result (λ r. Saves r (promise, life) (W.pair stable.old) (W.pair stable.new) (W.faults stable.old) (W.faults stable.new)) }
+        ensures saves { IfOk result (λ r. Saves r (promise, life) (W.saving.pair stable.old) (W.saving.pair stable.new) (W.saving.faults stable.old) (W.saving.faults stable.new)) }
         ensures left { IfOk result (λ r. self.new ≡ record self.old {
           promise = (standing r (promise, life) (self.old.promise, self.old.life)).0;
           life = (standing r (promise, life) (self.old.promise, self.old.life)).1;
           results = self.old.results ++ r ∷ [];
         }) }
-        ensures wants { OnErr result ((self.new ≡ self.old) × (W.pair stable.new ≡ W.pair stable.old) × (W.faults stable.new ≡ W.faults stable.old)) }
+        ensures wants { OnErr result ((self.new ≡ self.old) × (W.saving.pair stable.new ≡ W.saving.pair stable.old) × (W.saving.faults stable.new ≡ W.saving.faults stable.old)) }
     {
         self.results.reserve(1)?;
         let result = match stable.save(u64::from(promise), life) {
@@ -222,8 +223,8 @@ impl<A: App> Controller<A> {
         stable: &mut W,
     ) -> Result<Letters<ControllerSays>, AllocError>
         requires down { self.old.acting ≡ None }
-        ensures saves { IfOk result (λ letters. Keeps active (promise, self.old.life) letters self.old self.new (W.pair stable.old) (W.pair stable.new) (W.faults stable.old) (W.faults stable.new)) }
-        ensures wants { OnErr result ((self.new ≡ self.old) × (W.pair stable.new ≡ W.pair stable.old) × (W.faults stable.new ≡ W.faults stable.old)) }
+        ensures saves { IfOk result (λ letters. Keeps active (promise, self.old.life) letters self.old self.new (W.saving.pair stable.old) (W.saving.pair stable.new) (W.saving.faults stable.old) (W.saving.faults stable.new)) }
+        ensures wants { OnErr result ((self.new ≡ self.old) × (W.saving.pair stable.new ≡ W.saving.pair stable.old) × (W.saving.faults stable.new ≡ W.saving.faults stable.old)) }
     {
         match self.save(promise, self.life, stable)? {
             SaveResult::Saved => Ok(self.keep(active)),
@@ -240,12 +241,12 @@ impl<A: App> Controller<A> {
         stable: &mut W,
     ) -> Result<Letters<ControllerSays>, AllocError>
         requires down { self.old.acting ≡ None }
-        requires stands { (kinds : List ℕ) × Stands A.kinds A.most A.states A.suits self.old kinds active }
-        ensures turn { ForEachKinds (λ kinds. Stands A.kinds A.most A.states A.suits self.old kinds active) (λ kinds.
-            IfOk result (λ letters. Turns kinds (record self.old { acting = Some active }) input letters self.new (W.pair stable.old) (W.pair stable.new) (W.faults stable.old) (W.faults stable.new))) }
-        ensures wants { OnErr result (Wants (record self.old { acting = Some active }) self.new (W.pair stable.old) (W.pair stable.new) (W.faults stable.old) (W.faults stable.new)) }
-        ensures controls { ForEachKinds (λ kinds. Controls A.kinds A.most A.states A.suits self.old kinds × Stands A.kinds A.most A.states A.suits self.old kinds active) (λ kinds. Controls A.kinds A.most A.states A.suits self.new kinds) }
-        ensures pair { KnowsPair self.old self.new (W.pair stable.old) (W.pair stable.new) }
+        requires stands { (kinds : List ℕ) × Stands A.law self.old kinds active }
+        ensures turn { ForEachKinds (λ kinds. Stands A.law self.old kinds active) (λ kinds.
+            IfOk result (λ letters. Turns kinds (record self.old { acting = Some active }) input letters self.new (W.saving.pair stable.old) (W.saving.pair stable.new) (W.saving.faults stable.old) (W.saving.faults stable.new))) }
+        ensures wants { OnErr result (Wants (record self.old { acting = Some active }) self.new (W.saving.pair stable.old) (W.saving.pair stable.new) (W.saving.faults stable.old) (W.saving.faults stable.new)) }
+        ensures controls { ForEachKinds (λ kinds. Controls A.law self.old kinds × Stands A.law self.old kinds active) (λ kinds. Controls A.law self.new kinds) }
+        ensures pair { KnowsPair self.old self.new (W.saving.pair stable.old) (W.saving.pair stable.new) }
         ensures who { (self.new.setup ≡ self.old.setup) × (self.new.me ≡ self.old.me) }
         ensures crash { OnErr result (is_crash input ≡ false) }
         ensures shelf { self.new.shelf ≡ self.old.shelf }
@@ -266,10 +267,10 @@ impl<A: App> Controller<A> {
 
     /// The member of a life that begins, which asks the others, with the next application.
     fn born(&mut self, life: u64) -> Result<Active<A>, AllocError>
-        requires controls { (kinds : List ℕ) × Controls A.kinds A.most A.states A.suits self.old kinds }
+        requires controls { (kinds : List ℕ) × Controls A.law self.old kinds }
         ensures shelf { self.new ≡ record self.old { shelf = self.new.shelf } }
-        ensures alike { ForEachKinds (Controls A.kinds A.most A.states A.suits self.old) (λ kinds. AreAlike A.kinds A.most kinds self.new.shelf) }
-        ensures born { ForEachKinds (Controls A.kinds A.most A.states A.suits self.old) (λ kinds. IfOk result (Born A.kinds A.most A.states A.suits self.old kinds life)) }
+        ensures alike { ForEachKinds (Controls A.law self.old) (λ kinds. AreAlike A.law kinds self.new.shelf) }
+        ensures born { ForEachKinds (Controls A.law self.old) (λ kinds. IfOk result (Born A.law self.old kinds life)) }
         ensures takes { IfOk result (λ _. TakesOne self.old.shelf self.new.shelf) }
         ensures lost { OnErr result (TakesOneAtMost self.old.shelf self.new.shelf) }
     {
@@ -292,14 +293,14 @@ impl<A: App> Controller<A> {
     /// next try.
     fn restart<W: Stable>(&mut self, stable: &mut W) -> Result<Letters<ControllerSays>, AllocError>
         requires down { self.old.acting ≡ None }
-        requires controls { (kinds : List ℕ) × Controls A.kinds A.most A.states A.suits self.old kinds }
-        ensures turn { ForEachKinds (Controls A.kinds A.most A.states A.suits self.old) (λ kinds.
-            IfOk result (λ letters. Restarts self.old letters self.new (W.pair stable.old) (W.pair stable.new) (W.faults stable.old) (W.faults stable.new))) }
-        ensures wants { OnErr result (Wants self.old self.new (W.pair stable.old) (W.pair stable.new) (W.faults stable.old) (W.faults stable.new)) }
-        ensures controls { ForEachKinds (Controls A.kinds A.most A.states A.suits self.old) (λ kinds. Controls A.kinds A.most A.states A.suits self.new kinds) }
-        ensures pair { KnowsPair self.old self.new (W.pair stable.old) (W.pair stable.new) }
+        requires controls { (kinds : List ℕ) × Controls A.law self.old kinds }
+        ensures turn { ForEachKinds (Controls A.law self.old) (λ kinds.
+            IfOk result (λ letters. Restarts self.old letters self.new (W.saving.pair stable.old) (W.saving.pair stable.new) (W.saving.faults stable.old) (W.saving.faults stable.new))) }
+        ensures wants { OnErr result (Wants self.old self.new (W.saving.pair stable.old) (W.saving.pair stable.new) (W.saving.faults stable.old) (W.saving.faults stable.new)) }
+        ensures controls { ForEachKinds (Controls A.law self.old) (λ kinds. Controls A.law self.new kinds) }
+        ensures pair { KnowsPair self.old self.new (W.saving.pair stable.old) (W.saving.pair stable.new) }
         ensures who { (self.new.setup ≡ self.old.setup) × (self.new.me ≡ self.old.me) }
-        ensures shelf { IfOk result (λ _. LeavesShelf A.kinds A.states (nat_lt self.old.life last_life) self.old self.new) }
+        ensures shelf { IfOk result (λ _. LeavesShelf A.law (nat_lt self.old.life last_life) self.old self.new) }
         ensures lost { OnErr result (MayTake (nat_lt self.old.life last_life) self.old self.new) }
     {
         if self.life >= u64::from(LAST_LIFE) {
@@ -325,20 +326,20 @@ impl<A: App> Controller<A> {
         input: ControllerInput,
         stable: &mut W,
     ) -> Result<Letters<ControllerSays>, AllocError>
-        requires controls { (kinds : List ℕ) × Controls A.kinds A.most A.states A.suits self.old kinds }
-        requires pair { W.pair stable.old ≡ pair_in (state_of self.old) }
-        ensures turn { ForEachKinds (Controls A.kinds A.most A.states A.suits self.old) (λ kinds.
-            IfOk result (λ letters. Turns kinds self.old input letters self.new (W.pair stable.old) (W.pair stable.new) (W.faults stable.old) (W.faults stable.new))) }
-        ensures wants { OnErr result (Wants self.old self.new (W.pair stable.old) (W.pair stable.new) (W.faults stable.old) (W.faults stable.new)) }
-        ensures controls { ForEachKinds (Controls A.kinds A.most A.states A.suits self.old) (λ kinds. Controls A.kinds A.most A.states A.suits self.new kinds) }
-        ensures pair { W.pair stable.new ≡ pair_in (state_of self.new) }
+        requires controls { (kinds : List ℕ) × Controls A.law self.old kinds }
+        requires pair { W.saving.pair stable.old ≡ pair_in (state_of self.old) }
+        ensures turn { ForEachKinds (Controls A.law self.old) (λ kinds.
+            IfOk result (λ letters. Turns kinds self.old input letters self.new (W.saving.pair stable.old) (W.saving.pair stable.new) (W.saving.faults stable.old) (W.saving.faults stable.new))) }
+        ensures wants { OnErr result (Wants self.old self.new (W.saving.pair stable.old) (W.saving.pair stable.new) (W.saving.faults stable.old) (W.saving.faults stable.new)) }
+        ensures controls { ForEachKinds (Controls A.law self.old) (λ kinds. Controls A.law self.new kinds) }
+        ensures pair { W.saving.pair stable.new ≡ pair_in (state_of self.new) }
         ensures who { (self.new.setup ≡ self.old.setup) × (self.new.me ≡ self.old.me) }
 
         // A crash takes no memory.
         ensures crash { OnErr result (is_crash input ≡ false) }
 
         // The applications of later lives stay on their shelf, but a restart that begins a life takes its own.
-        ensures shelf { IfOk result (λ _. LeavesShelf A.kinds A.states (begins_life self.old input) self.old self.new) }
+        ensures shelf { IfOk result (λ _. LeavesShelf A.law (begins_life self.old input) self.old self.new) }
         ensures lost { OnErr result (MayTake (begins_life self.old input) self.old self.new) }
     {
         match self.active.take() {

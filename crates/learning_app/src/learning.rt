@@ -143,8 +143,6 @@ impl<H: Hosts> LearningOver<H> {
 impl<H: Hosts> Part for LearningOver<H> {
     ghost kind_of = { λ _. 2 };
 
-    ghost most_of = { λ _. 2 };
-
     ghost numbers = { λ l. flat (H.hosts l.hosts) };
 
     // A setup with so many switches.

@@ -20,10 +20,6 @@ pub in_right : {A : Type 0} (x : A) (xs ys : List A) → IsIn x ys → IsIn x (x
 in_right x [] ys h = h
 in_right x (y ∷ xs) ys h = inr (in_right x xs ys h)
 
-pub in_joined : {A : Type 0} (x : A) (xs ys : List A) → IsIn x xs ⊎ IsIn x ys → IsIn x (xs ++ ys)
-in_joined x xs ys (inl h) = in_left x xs ys h
-in_joined x xs ys (inr h) = in_right x xs ys h
-
 -- an element of a mapped list
 pub in_map : {A B : Type 0} (f : A → B) (xs : List A) (y : B) → IsIn y (map f xs) → (x : A) × IsIn x xs × (y ≡ f x)
 in_map f [] y h = absurd h

@@ -6,7 +6,8 @@ use Rattle.rv_base.specs.declared.journal.Turn.{Turn}
 use Rattle.rv_base.specs.declared.wire.Stop.{Stop}
 use Rattle.rv_base.specs.declared.wire.Stop.TheVariants.{OutOfMemory, JournalFull}
 use Rattle.rv_base.specs.Pool.{past}
-use Rattle.group_controller.specs.Turns.{Controlling}
+use Rattle.rv_base.specs.Stables.{Saving}
+use Rattle.app_core.specs.Law.{AppLaw}
 use Rattle.rv_runs.specs.Schedule.{Answer, Closes, ClosesTo, FollowsInOrder, IsBegun, In_the_closing, IsJournalFull, Losing}
 use Rattle.rv_runs.specs.States.{Scene, Sealing}
 use Rattle.rv_world.specs.World.{AreMore, Holds, IfMemory, Keeps, Worlding, results_in, scene_in}
@@ -18,19 +19,19 @@ use Rattle.closing.proofs.Turned.{more_told, past_joined}
 use Rattle.playing.specs.Played.{HasPlayed, Lastingly, RunStops}
 use Rattle.playing.proofs.Stopping.{stuck_full}
 
-module _ {B A W : Type 0} (controls : Controlling A → List ℕ → Type 0) (pair : W → ℕ × ℕ) (faults : W → ℕ) (sealing : Sealing B) (steps : List Turn)
+module _ {B A W : Type 0} (law : AppLaw A) (saving : Saving W) (sealing : Sealing B) (steps : List Turn)
     (first : Worlding B A) (stables : List W) (now : Worlding B A) (stables_now : List W) (last : Worlding B A) (stables_last : List W)
-    (keeps : Keeps controls pair faults sealing first stables now stables_now) where
+    (keeps : Keeps law saving sealing first stables now stables_now) where
   later_scene : (kinds : List ℕ) → scene_in sealing now kinds ≡ scene_in sealing first kinds
   later_scene kinds = ap (λ s. record { setup = s; kinds = kinds; sealing = sealing }) keeps.setup
 
-  module _ (kinds : List ℕ) (holds : Holds controls sealing first kinds)
+  module _ (kinds : List ℕ) (holds : Holds law sealing first kinds)
       (follows : Lastingly now (λ later. FollowsInOrder (scene_in sealing first kinds) later steps (past now.journal)))
-      (goes_on : Keeps controls pair faults sealing now stables_now last stables_last) where
+      (goes_on : Keeps law saving sealing now stables_now last stables_last) where
     -- what becomes of saves behind the closing becomes of them behind the script
     more_now : (later : List (List SaveResult)) → AreMore now.setup.controllers (results_in last.controllers) later → AreMore now.setup.controllers (results_in now.controllers) later
     more_now later more = more_then now.setup.controllers (results_in now.controllers) (results_in last.controllers) later
-        (more_told controls (scene_in sealing now kinds) pair faults now last stables_now stables_last (keeps.holds kinds holds).run keeps.pairs goes_on.told) more
+        (more_told law (scene_in sealing now kinds) saving now last stables_now stables_last (keeps.holds kinds holds).run keeps.pairs goes_on.told) more
 
     pub played : (script : ℕ) → script ≡ length now.journal → (answer : Answer) → HasClosed (scene_in sealing now kinds) answer now last → HasPlayed (scene_in sealing first kinds) steps script answer last
     played script counted answer closed = record {
@@ -49,25 +50,25 @@ module _ {B A W : Type 0} (controls : Controlling A → List ℕ → Type 0) (pa
         let results = results_in last.controllers in
         let more = no_more now.setup.controllers results in
         let past_is : past last.journal ≡ reverse c.closes.entries ++ past now.journal = ap past c.closes.joined ∙ past_joined now.journal c.closes.entries in
-        let runs = runs_again controls sealing first last kinds (goes_on.setup ∙ keeps.setup) (goes_on.holds kinds (keeps.holds kinds holds)) in
-        let full = stuck_full controls (scene_in sealing first kinds) last runs bytes letters c.stuck in
+        let runs = runs_again law sealing first last kinds (goes_on.setup ∙ keeps.setup) (goes_on.holds kinds (keeps.holds kinds holds)) in
+        let full = stuck_full law (scene_in sealing first kinds) last runs bytes letters c.stuck in
         subst (λ l. IsBegun (scene_in sealing first kinds) results steps bytes letters l) (sym past_is)
         (In_the_closing (past now.journal) c.closes.entries c.phase (follows results (more_now results more))
         (subst (λ (scene : Scene B). ClosesTo scene results Losing (past now.journal) c.closes.entries c.phase) (later_scene kinds) (c.closes.steps results more))
         (subst (λ l. IsJournalFull (scene_in sealing first kinds) results l bytes letters) past_is full))
 
-    pub closing_stops : (stop : Stop) → ClosingStops (scene_in sealing now kinds) stop now last → RunStops (scene_in sealing first kinds) steps last stop
+    pub closing_stops : (stop : Stop) → ClosingStops (scene_in sealing now kinds) now last stop → RunStops (scene_in sealing first kinds) steps last stop
     closing_stops OutOfMemory c = tt
     closing_stops (JournalFull bytes letters) c = cut bytes letters c
 
   -- what a closing that stopped keeps
-  pub closing_keeps : (stop : Stop) → IfMemory {T = Unit {0}} (Err stop) (Keeps controls pair faults sealing now stables_now last stables_last) → IfMemory {T = Unit {0}} (Err stop) (Keeps controls pair faults sealing first stables last stables_last)
+  pub closing_keeps : (stop : Stop) → IfMemory {T = Unit {0}} (Err stop) (Keeps law saving sealing now stables_now last stables_last) → IfMemory {T = Unit {0}} (Err stop) (Keeps law saving sealing first stables last stables_last)
   closing_keeps OutOfMemory k = tt
-  closing_keeps (JournalFull bytes letters) k = keeps_then controls pair faults sealing first now last stables stables_now stables_last keeps k
+  closing_keeps (JournalFull bytes letters) k = keeps_then law saving sealing first now last stables stables_now stables_last keeps k
 
   -- and where it stopped, if memory was there
-  pub closing_stops_at : (stop : Stop) → IfMemory {T = Unit {0}} (Err stop) (Keeps controls pair faults sealing now stables_now last stables_last) → (kinds : List ℕ) → Holds controls sealing first kinds →
+  pub closing_stops_at : (stop : Stop) → IfMemory {T = Unit {0}} (Err stop) (Keeps law saving sealing now stables_now last stables_last) → (kinds : List ℕ) → Holds law sealing first kinds →
       Lastingly now (λ later. FollowsInOrder (scene_in sealing first kinds) later steps (past now.journal)) →
-      ClosingStops (scene_in sealing now kinds) stop now last → RunStops (scene_in sealing first kinds) steps last stop
+      ClosingStops (scene_in sealing now kinds) now last stop → RunStops (scene_in sealing first kinds) steps last stop
   closing_stops_at OutOfMemory k kinds holds follows c = tt
   closing_stops_at (JournalFull bytes letters) k kinds holds follows c = closing_stops kinds holds follows k (JournalFull bytes letters) c

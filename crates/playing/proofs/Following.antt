@@ -14,7 +14,8 @@ use Rattle.rv_base.specs.declared.wire.Stop.TheVariants.{OutOfMemory, JournalFul
 use Rattle.rv_base.specs.Actors.{actor_of, is_input, same_actor, IsActor}
 use Rattle.rv_base.specs.Pool.{past, pick}
 use Rattle.rv_base.specs.Turns.{drawn_entry, entry_of, lost_entry, turn_actor}
-use Rattle.group_controller.specs.Turns.{Controlling}
+use Rattle.rv_base.specs.Stables.{Saving}
+use Rattle.app_core.specs.Law.{AppLaw}
 use Rattle.rv_laws.specs.Laws.{EntrySuspectsUpTo, IsSuspectedUpTo}
 use Rattle.rv_runs.specs.Schedule.{FollowsInOrder, IsBegun, In_the_script, IsStepOf, TakesInOrder, inputs}
 use Rattle.rv_runs.specs.States.{Scene, Sealing}
@@ -47,10 +48,10 @@ count_next : {X : Type 0} (p : X → Bool) (x : X) (xs : List X) (b : Bool) → 
 count_next p x xs true is = sum_by-append (λ y. if p y then 1 else 0) (x ∷ []) xs ∙ rw is refl
 count_next p x xs false is = sum_by-append (λ y. if p y then 1 else 0) (x ∷ []) xs ∙ rw is refl
 
-module _ {B A : Type 0} (controls : Controlling A → List ℕ → Type 0) (scene : Scene B) (e : JournalEntry B) (old new : Worlding B A) (t : Turned controls scene e old new) where
+module _ {B A : Type 0} (law : AppLaw A) (scene : Scene B) (e : JournalEntry B) (old new : Worlding B A) (t : Turned law scene e old new) where
   -- a step was taken
   pub inputs_next : inputs (past new.journal) ≡ inputs (past old.journal) + 1
-  inputs_next = ap inputs (past_new controls scene e old new t) ∙ by_posts t.posts (actor_of e) t.of
+  inputs_next = ap inputs (past_new law scene e old new t) ∙ by_posts t.posts (actor_of e) t.of
     where
       one : inputs (e ∷ past old.journal) ≡ inputs (past old.journal) + 1
       one = let n = count_next is_input e (past old.journal) true t.input in omega (arith, n)
@@ -64,13 +65,13 @@ module _ {B A : Type 0} (controls : Controlling A → List ℕ → Type 0) (scen
     pub takes_entry : TakesInOrder scene later steps (e ∷ past old.journal)
     takes_entry = (
       subst (λ x. IsStepOf steps x (past old.journal)) (sym is) (step_of steps step (past old.journal) next),
-      (λ _. posted_is controls scene old t.was later (more_before controls scene e old new t later more) t.rested),
+      (λ _. posted_is law scene old t.was later (more_before law scene e old new t later more) t.rested),
       takes,
     )
 
     -- and its outbox was posted
     pub takes_turn : TakesInOrder scene later steps (past new.journal)
-    takes_turn = subst (λ l. TakesInOrder scene later steps l) (sym (past_new controls scene e old new t)) (by_posts t.posts (actor_of e) refl t.of)
+    takes_turn = subst (λ l. TakesInOrder scene later steps l) (sym (past_new law scene e old new t)) (by_posts t.posts (actor_of e) refl t.of)
       where
         never : false ≡ true → ⊥
         never h = cc
@@ -93,10 +94,10 @@ suspects_entry {B = B} limit (turn.Lose a choice) before within = by_found (pick
     by_found (Some p) = tt
 suspects_entry {B = B} limit (turn.Local a input) before within = within
 
-pub suspects_turn : {B A : Type 0} (controls : Controlling A → List ℕ → Type 0) (scene : Scene B) (e : JournalEntry B) (old new : Worlding B A) (t : Turned controls scene e old new) (limit : ℕ) (step : Turn) → e ≡ entry_of step (past old.journal) →
+pub suspects_turn : {B A : Type 0} (law : AppLaw A) (scene : Scene B) (e : JournalEntry B) (old new : Worlding B A) (t : Turned law scene e old new) (limit : ℕ) (step : Turn) → e ≡ entry_of step (past old.journal) →
     StepSuspectsUpTo limit step → IsSuspectedUpTo limit (past old.journal) → IsSuspectedUpTo limit (past new.journal)
-suspects_turn controls scene e old new t limit step is within before =
-    subst (λ l. IsSuspectedUpTo limit l) (sym (past_new controls scene e old new t)) (by_posts t.posts (actor_of e) t.of)
+suspects_turn law scene e old new t limit step is within before =
+    subst (λ l. IsSuspectedUpTo limit l) (sym (past_new law scene e old new t)) (by_posts t.posts (actor_of e) t.of)
   where
     entry : EntrySuspectsUpTo limit e
     entry = subst (λ x. EntrySuspectsUpTo limit x) (sym is) (suspects_entry limit step (past old.journal) within)
@@ -106,18 +107,18 @@ suspects_turn controls scene e old new t limit step is within before =
     by_posts posts a (One_post first letters lost) = (tt, (entry, before))
 
 -- where a script stands in a world
-pub record Stands {B A W : Type 0} (controls : Controlling A → List ℕ → Type 0) (pair : W → ℕ × ℕ) (faults : W → ℕ) (sealing : Sealing B) (steps : List Turn) (limit count : ℕ)
+pub record Stands {B A W : Type 0} (law : AppLaw A) (saving : Saving W) (sealing : Sealing B) (steps : List Turn) (limit count : ℕ)
     (first : Worlding B A) (stables : List W) (now : Worlding B A) (stables_now : List W) : Type 0 where
-  pub keeps : Keeps controls pair faults sealing first stables now stables_now
+  pub keeps : Keeps law saving sealing first stables now stables_now
   pub rests : now.owed ≡ None
   pub views : IsSuspectedUpTo limit (past now.journal)
   pub counted : inputs (past now.journal) ≡ count
-  pub takes : (kinds : List ℕ) → Holds controls sealing first kinds → Lastingly now (λ later. TakesInOrder (scene_in sealing first kinds) later steps (past now.journal))
+  pub takes : (kinds : List ℕ) → Holds law sealing first kinds → Lastingly now (λ later. TakesInOrder (scene_in sealing first kinds) later steps (past now.journal))
 
-module _ {B A W : Type 0} (controls : Controlling A → List ℕ → Type 0) (pair : W → ℕ × ℕ) (faults : W → ℕ) (sealing : Sealing B) (steps : List Turn) (limit : ℕ) (first : Worlding B A) (stables : List W) where
-  pub stands_first : first.owed ≡ None → first.journal ≡ [] → PairsStand pair stables first.controllers → Stands controls pair faults sealing steps limit 0 first stables first stables
+module _ {B A W : Type 0} (law : AppLaw A) (saving : Saving W) (sealing : Sealing B) (steps : List Turn) (limit : ℕ) (first : Worlding B A) (stables : List W) where
+  pub stands_first : first.owed ≡ None → first.journal ≡ [] → PairsStand saving stables first.controllers → Stands law saving sealing steps limit 0 first stables first stables
   stands_first rests fresh pairs = record {
-    keeps = rests_keeps controls pair faults sealing first first stables refl refl (λ kinds h. h) pairs;
+    keeps = rests_keeps law saving sealing first first stables refl refl (λ kinds h. h) pairs;
     rests = rests;
     views = subst (λ l. IsSuspectedUpTo limit (past l)) (sym fresh) tt;
     counted = ap (λ l. inputs (past l)) fresh;
@@ -125,7 +126,7 @@ module _ {B A W : Type 0} (controls : Controlling A → List ℕ → Type 0) (pa
   }
 
   -- what is to be shown of one step of a world that holds
-  module _ (some : (kinds : List ℕ) × Holds controls sealing first kinds) (count : ℕ) (old new : Worlding B A) (stables_old stables_new : List W) (at : Stands controls pair faults sealing steps limit count first stables old stables_old)
+  module _ (some : (kinds : List ℕ) × Holds law sealing first kinds) (count : ℕ) (old new : Worlding B A) (stables_old stables_new : List W) (at : Stands law saving sealing steps limit count first stables old stables_old)
       (step : Turn) (next : slice_get steps count ≡ Some step) (named : IsActor first.setup (turn_actor step)) (within : StepSuspectsUpTo limit step) where
     abbrev e : JournalEntry B
     e = entry_of step (past old.journal)
@@ -152,28 +153,28 @@ module _ {B A W : Type 0} (controls : Controlling A → List ℕ → Type 0) (pa
     later_scene : (kinds : List ℕ) → scene_in sealing old kinds ≡ scene_in sealing first kinds
     later_scene kinds = ap (λ s. record { setup = s; kinds = kinds; sealing = sealing }) at.keeps.setup
 
-    turn_of : (kinds : List ℕ) → Holds controls sealing first kinds → Keeps controls pair faults sealing old stables_old new stables_new → Applies sealing.size step old new → Turned controls (scene_in sealing old kinds) e old new
+    turn_of : (kinds : List ℕ) → Holds law sealing first kinds → Keeps law saving sealing old stables_old new stables_new → Applies sealing.size step old new → Turned law (scene_in sealing old kinds) e old new
     turn_of kinds h k applied =
-        turned controls pair faults sealing old stables_old new stables_new step e at.rests at.keeps.pairs refl (sym (of_step step (past old.journal)).0) (subst (λ a. IsActor old.setup a) (sym (of_step step (past old.journal)).0) named_now) (of_step step (past old.journal)).1 kinds (at.keeps.holds kinds h) k applied
+        turned law saving sealing old stables_old new stables_new step e at.rests at.keeps.pairs refl (sym (of_step step (past old.journal)).0) (subst (λ a. IsActor old.setup a) (sym (of_step step (past old.journal)).0) named_now) (of_step step (past old.journal)).1 kinds (at.keeps.holds kinds h) k applied
 
-    pub stands_next : Keeps controls pair faults sealing old stables_old new stables_new → Applies sealing.size step old new → Stands controls pair faults sealing steps limit (count + 1) first stables new stables_new
+    pub stands_next : Keeps law saving sealing old stables_old new stables_new → Applies sealing.size step old new → Stands law saving sealing steps limit (count + 1) first stables new stables_new
     stands_next k applied =
         let t = turn_of some.0 some.1 k applied in
         record {
-          keeps = keeps_then controls pair faults sealing first old new stables stables_old stables_new at.keeps k;
+          keeps = keeps_then law saving sealing first old new stables stables_old stables_new at.keeps k;
           rests = applied.rests;
-          views = suspects_turn controls (scene_in sealing old some.0) e old new t limit step refl within at.views;
-          counted = inputs_next controls (scene_in sealing old some.0) e old new t ∙ ap (λ n. n + 1) at.counted;
+          views = suspects_turn law (scene_in sealing old some.0) e old new t limit step refl within at.views;
+          counted = inputs_next law (scene_in sealing old some.0) e old new t ∙ ap (λ n. n + 1) at.counted;
           takes = λ kinds h later more.
               let u = turn_of kinds h k applied in
               let more_now = subst (λ s. AreMore s.controllers (results_in new.controllers) later) k.setup more in
               subst (λ scene. TakesInOrder scene later steps (past new.journal)) (later_scene kinds)
-              (takes_turn controls (scene_in sealing old kinds) e old new u steps step refl next_now later more_now
-              (subst (λ scene. TakesInOrder scene later steps (past old.journal)) (sym (later_scene kinds)) (at.takes kinds h later (more_before controls (scene_in sealing old kinds) e old new u later more_now))));
+              (takes_turn law (scene_in sealing old kinds) e old new u steps step refl next_now later more_now
+              (subst (λ scene. TakesInOrder scene later steps (past old.journal)) (sym (later_scene kinds)) (at.takes kinds h later (more_before law (scene_in sealing old kinds) e old new u later more_now))));
         }
 
     -- the turn met the limit of the journal
-    pub stops_next : (stop : Stop) → Keeps controls pair faults sealing old stables_old new stables_new ⊎ (stop ≡ OutOfMemory) → TurnStops sealing.size step old new stop → (kinds : List ℕ) → Holds controls sealing first kinds →
+    pub stops_next : (stop : Stop) → Keeps law saving sealing old stables_old new stables_new ⊎ (stop ≡ OutOfMemory) → TurnStops sealing.size step old new stop → (kinds : List ℕ) → Holds law sealing first kinds →
         RunStops (scene_in sealing first kinds) steps new stop
     stops_next OutOfMemory k stops kinds h = tt
     stops_next (JournalFull bytes letters) (inr never) stops kinds h = cc
@@ -181,14 +182,14 @@ module _ {B A W : Type 0} (controls : Controlling A → List ℕ → Type 0) (pa
       where
         begun : Added step old new → RunStops (scene_in sealing first kinds) steps new (JournalFull bytes letters)
         begun a =
-            let u = turned_by controls pair faults sealing old stables_old new stables_new step e at.rests at.keeps.pairs refl (sym (of_step step (past old.journal)).0)
+            let u = turned_by law saving sealing old stables_old new stables_new step e at.rests at.keeps.pairs refl (sym (of_step step (past old.journal)).0)
             (subst (λ x. IsActor old.setup x) (sym (of_step step (past old.journal)).0) named_now) (of_step step (past old.journal)).1 kinds (at.keeps.holds kinds h) k a in
             let later = results_in new.controllers in
             let more = no_more old.setup.controllers later in
-            let takes = takes_turn controls (scene_in sealing old kinds) e old new u steps step refl next_now later more
-            (subst (λ scene. TakesInOrder scene later steps (past old.journal)) (sym (later_scene kinds)) (at.takes kinds h later (more_before controls (scene_in sealing old kinds) e old new u later more))) in
+            let takes = takes_turn law (scene_in sealing old kinds) e old new u steps step refl next_now later more
+            (subst (λ scene. TakesInOrder scene later steps (past old.journal)) (sym (later_scene kinds)) (at.takes kinds h later (more_before law (scene_in sealing old kinds) e old new u later more))) in
             subst (λ scene. IsBegun scene later steps bytes letters (past new.journal)) (later_scene kinds)
-            (In_the_script takes (stuck_full controls (scene_in sealing old kinds) new u.is bytes letters stuck))
+            (In_the_script takes (stuck_full law (scene_in sealing old kinds) new u.is bytes letters stuck))
 
         by_how : (new ≡ old) ⊎ (new.journal ≡ taken step (old.journal ++ posts_of sealing.size old.owed old.journal)) → RunStops (scene_in sealing first kinds) steps new (JournalFull bytes letters)
         by_how (inl same) = absurd (never_stuck same stuck)
@@ -202,21 +203,21 @@ module _ {B A W : Type 0} (controls : Controlling A → List ℕ → Type 0) (pa
         by_how (inr grown) = begun (added_alone sealing.size step old new at.rests grown)
 
     -- what a turn that stopped keeps
-    pub keeps_stop : (stop : Stop) → IfMemory {T = Unit {0}} (Err stop) (Keeps controls pair faults sealing old stables_old new stables_new) → IfMemory {T = Unit {0}} (Err stop) (Keeps controls pair faults sealing first stables new stables_new)
+    pub keeps_stop : (stop : Stop) → IfMemory {T = Unit {0}} (Err stop) (Keeps law saving sealing old stables_old new stables_new) → IfMemory {T = Unit {0}} (Err stop) (Keeps law saving sealing first stables new stables_new)
     keeps_stop OutOfMemory k = tt
-    keeps_stop (JournalFull bytes letters) k = keeps_then controls pair faults sealing first old new stables stables_old stables_new at.keeps k
+    keeps_stop (JournalFull bytes letters) k = keeps_then law saving sealing first old new stables stables_old stables_new at.keeps k
 
-    pub kept_or : (stop : Stop) → IfMemory {T = Unit {0}} (Err stop) (Keeps controls pair faults sealing old stables_old new stables_new) → Keeps controls pair faults sealing old stables_old new stables_new ⊎ (stop ≡ OutOfMemory)
+    pub kept_or : (stop : Stop) → IfMemory {T = Unit {0}} (Err stop) (Keeps law saving sealing old stables_old new stables_new) → Keeps law saving sealing old stables_old new stables_new ⊎ (stop ≡ OutOfMemory)
     kept_or OutOfMemory k = inr refl
     kept_or (JournalFull bytes letters) k = inl k
 
   -- all steps were taken
-  pub stands_last : (now : Worlding B A) (stables_now : List W) (count : ℕ) → Stands controls pair faults sealing steps limit count first stables now stables_now → count ≡ length steps → (kinds : List ℕ) → Holds controls sealing first kinds →
+  pub stands_last : (now : Worlding B A) (stables_now : List W) (count : ℕ) → Stands law saving sealing steps limit count first stables now stables_now → count ≡ length steps → (kinds : List ℕ) → Holds law sealing first kinds →
       Lastingly now (λ later. FollowsInOrder (scene_in sealing first kinds) later steps (past now.journal))
   stands_last now stables_now count at all kinds h later more =
-      let runs = runs_again controls sealing first now kinds at.keeps.setup (at.keeps.holds kinds h) in
+      let runs = runs_again law sealing first now kinds at.keeps.setup (at.keeps.holds kinds h) in
       record {
         takes = at.takes kinds h later more;
         all = at.counted ∙ all;
-        posted = posted_is controls (scene_in sealing first kinds) now runs later (subst (λ s. AreMore s.controllers (results_in now.controllers) later) at.keeps.setup more) at.rests;
+        posted = posted_is law (scene_in sealing first kinds) now runs later (subst (λ s. AreMore s.controllers (results_in now.controllers) later) at.keeps.setup more) at.rests;
       }

@@ -11,7 +11,7 @@ use Rattle.rv_base.specs.declared.journal.SaveResult.{SaveResult}
 use Rattle.rv_base.specs.Actors.{actor_of, same_actor, IsActor}
 use Rattle.rv_base.specs.Pool.{past}
 use Rattle.rv_base.specs.Turns.{IsFull}
-use Rattle.group_controller.specs.Turns.{Controlling}
+use Rattle.app_core.specs.Law.{AppLaw}
 use Rattle.rv_runs.specs.Schedule.{IsJournalFull, owed_of}
 use Rattle.rv_runs.specs.States.{Scene}
 use Rattle.rv_world.specs.declared.debt.Debt.{Debt}
@@ -29,7 +29,7 @@ pub same_self : (a : Actor) → same_actor a a ≡ true
 same_self (actor.Controller c) = eq-eqb c c refl
 same_self (actor.Switch s) = eq-eqb s s refl
 
-module _ {B A : Type 0} (controls : Controlling A → List ℕ → Type 0) (scene : Scene B) (w : Worlding B A) (runs : Runs controls scene w) where
+module _ {B A : Type 0} (law : AppLaw A) (scene : Scene B) (w : Worlding B A) (runs : Runs law scene w) where
   abbrev results : List (List SaveResult)
   results = results_in w.controllers
 

@@ -11,6 +11,8 @@ use Rattle.rv_laws.specs.Laws.{SuspectsUpTo}
 use Rattle.rv_runs.specs.Schedule.{Answer, Closes, FollowsInOrder, IsBegun}
 use Rattle.rv_runs.specs.States.{Scene}
 use Rattle.rv_world.specs.World.{AreMore, Worlding, results_in}
+use Rattle.closing.specs.declared.closed.Closed.{Closed}
+use Rattle.closing.specs.Closing.{answer_of}
 
 -- a step suspects a view up to this one, or none
 abbrev pub StepSuspectsUpTo : ℕ → Turn → Type 0
@@ -21,6 +23,10 @@ StepSuspectsUpTo limit _ = Unit {0}
 abbrev pub Lastingly : {B A : Type 0} → Worlding B A → (List (List SaveResult) → Type 0) → Type 0
 Lastingly w claim = (later : List (List SaveResult)) → AreMore w.setup.controllers (results_in w.controllers) later → claim later
 
+-- a script was followed in order
+abbrev pub HasFollowed : {B A : Type 0} → Scene B → List Turn → Worlding B A → Type 0
+HasFollowed scene steps w = Lastingly w (λ later. FollowsInOrder scene later steps (past w.journal))
+
 -- a script was followed in order, and a closing led to its answer
 pub record HasPlayed {B A : Type 0} (scene : Scene B) (steps : List Turn) (script : ℕ) (answer : Answer) (w : Worlding B A) : Type 0 where
   pub front : List (JournalEntry B)
@@ -29,6 +35,10 @@ pub record HasPlayed {B A : Type 0} (scene : Scene B) (steps : List Turn) (scrip
   pub counted : script ≡ length front
   pub follows : Lastingly w (λ later. FollowsInOrder scene later steps (past front))
   pub closes : Lastingly w (λ later. Closes scene later (past front) rest answer)
+
+-- and so by what a call tells: how the closing ended, and how many entries the script made
+abbrev pub HasPlayedTo : {B A : Type 0} → Scene B → List Turn → Worlding B A → Closed × ℕ → Type 0
+HasPlayedTo scene steps w played = HasPlayed scene steps played.1 (answer_of played.0) w
 
 -- why playing stopped: at a full journal the run is cut short where an outbox met the limit
 abbrev pub RunStops : {B A : Type 0} → Scene B → List Turn → Worlding B A → Stop → Type 0

@@ -6,12 +6,11 @@ ghost use Rattle.std.specs.List.{AllByRecursion};
 ghost use Rattle.rv_base.specs.Actors.{IsActor};
 ghost use Rattle.rv_base.specs.Pool.{past};
 ghost use Rattle.rv_base.specs.Turns.{turn_actor};
-ghost use Rattle.group_controller.specs.Turns.{Controls, ForEachKinds};
 ghost use Rattle.rv_laws.specs.Laws.{IsSuspectedUpTo};
-ghost use Rattle.rv_runs.specs.Schedule.{FollowsInOrder};
-ghost use Rattle.rv_world.specs.World.{Holds, IfMemory, Keeps, PairsStand, scene_in, sealing_by};
-ghost use Rattle.closing.specs.Closing.{HasMajority, answer_of, up_in};
-ghost use Rattle.playing.specs.Played.{HasPlayed, Lastingly, RunStops, StepSuspectsUpTo};
+ghost use Rattle.rv_world.specs.World.{ForEachScene, Holds, IfMemory, Keeps, PairsStand};
+ghost use Rattle.closing.specs.Closing.{HasMajority};
+ghost use Rattle.closing.specs.Views.{most_view_of_a_script};
+ghost use Rattle.playing.specs.Played.{HasFollowed, HasPlayedTo, RunStops, StepSuspectsUpTo};
 
 use app_core::App;
 use closing::Closed;
@@ -26,19 +25,20 @@ fn do_steps<B: Body, A: App, W: Stable>(
     stables: &mut [W],
     steps: &[Turn],
 ) -> Result<(), Stop>
-    requires holds { (kinds : List ℕ) × Holds (Controls A.kinds A.most A.states A.suits) (sealing_by B.sealed B.spelled B.size) world.old kinds }
-    requires pairs { PairsStand W.pair stables.old world.old.controllers }
+    requires holds { (kinds : List ℕ) × Holds A.law B.sealing world.old kinds }
+    requires pairs { PairsStand W.saving stables.old world.old.controllers }
     requires rests { world.old.owed ≡ None }
     requires fresh { world.old.journal ≡ [] }
     requires named { AllByRecursion (λ t. IsActor world.old.setup (turn_actor t)) steps.now }
-    requires views { AllByRecursion (λ t. StepSuspectsUpTo 4000000000 t) steps.now }
-    ensures keeps { IfMemory result (Keeps (Controls A.kinds A.most A.states A.suits) W.pair W.faults (sealing_by B.sealed B.spelled B.size) world.old stables.old world.new stables.new) }
+    requires views { AllByRecursion (λ t. StepSuspectsUpTo most_view_of_a_script t) steps.now }
+    ensures keeps { IfMemory result
+        (Keeps A.law W.saving B.sealing world.old stables.old world.new stables.new) }
     ensures rests { OnOk result (world.new.owed ≡ None) }
-    ensures views { OnOk result (IsSuspectedUpTo 4000000000 (past world.new.journal)) }
-    ensures follows { ForEachKinds (Holds (Controls A.kinds A.most A.states A.suits) (sealing_by B.sealed B.spelled B.size) world.old) (λ kinds.
-        OnOk result (Lastingly world.new (λ later. FollowsInOrder (scene_in (sealing_by B.sealed B.spelled B.size) world.old kinds) later steps.now (past world.new.journal)))) }
-    ensures stops { ForEachKinds (Holds (Controls A.kinds A.most A.states A.suits) (sealing_by B.sealed B.spelled B.size) world.old) (λ kinds.
-        IfErr result (RunStops (scene_in (sealing_by B.sealed B.spelled B.size) world.old kinds) steps.now world.new)) }
+    ensures views { OnOk result (IsSuspectedUpTo most_view_of_a_script (past world.new.journal)) }
+    ensures follows { ForEachScene A.law B.sealing world.old (λ scene.
+        OnOk result (HasFollowed scene steps.now world.new)) }
+    ensures stops { ForEachScene A.law B.sealing world.old (λ scene.
+        IfErr result (RunStops scene steps.now world.new)) }
 {
     for step in steps {
         world.apply(stables, step)?;
@@ -47,26 +47,24 @@ fn do_steps<B: Body, A: App, W: Stable>(
 }
 
 /// Does the steps of a script in a world with an empty journal, and brings it to rest. Tells how the closing ended, and how
-/// many entries the script made. No step suspects a view above 4,000,000,000.
+/// many entries the script made. No step suspects a view above 4,000,000,000 (`most_view_of_a_script`).
 pub fn play<B: Body, A: App, W: Stable>(
     alloc: Global,
     world: &mut World<B, A>,
     stables: &mut [W],
     steps: &[Turn],
 ) -> Result<(Closed, usize), Stop>
-    requires holds { (kinds : List ℕ) × Holds (Controls A.kinds A.most A.states A.suits) (sealing_by B.sealed B.spelled B.size) world.old kinds }
-    requires pairs { PairsStand W.pair stables.old world.old.controllers }
+    requires holds { (kinds : List ℕ) × Holds A.law B.sealing world.old kinds }
+    requires pairs { PairsStand W.saving stables.old world.old.controllers }
     requires rests { world.old.owed ≡ None }
     requires fresh { world.old.journal ≡ [] }
     requires named { AllByRecursion (λ t. IsActor world.old.setup (turn_actor t)) steps.now }
-    requires views { AllByRecursion (λ t. StepSuspectsUpTo 4000000000 t) steps.now }
-    ensures keeps { IfMemory result (Keeps (Controls A.kinds A.most A.states A.suits) W.pair W.faults (sealing_by B.sealed B.spelled B.size) world.old stables.old world.new stables.new) }
+    requires views { AllByRecursion (λ t. StepSuspectsUpTo most_view_of_a_script t) steps.now }
+    ensures keeps { IfMemory result (Keeps A.law W.saving B.sealing world.old stables.old world.new stables.new) }
     ensures rests { OnOk result (world.new.owed ≡ None) }
-    ensures played { ForEachKinds (Holds (Controls A.kinds A.most A.states A.suits) (sealing_by B.sealed B.spelled B.size) world.old) (λ kinds.
-        IfOk result (λ played. HasPlayed (scene_in (sealing_by B.sealed B.spelled B.size) world.old kinds) steps.now played.1 (answer_of played.0) world.new)) }
-    ensures up { IfOk result (λ played. HasMajority played.0 world.old.setup.controllers (up_in world.new.controllers)) }
-    ensures stops { ForEachKinds (Holds (Controls A.kinds A.most A.states A.suits) (sealing_by B.sealed B.spelled B.size) world.old) (λ kinds.
-        IfErr result (RunStops (scene_in (sealing_by B.sealed B.spelled B.size) world.old kinds) steps.now world.new)) }
+    ensures played { ForEachScene A.law B.sealing world.old (λ scene. IfOk result (HasPlayedTo scene steps.now world.new)) }
+    ensures up { IfOk result (λ played. HasMajority played.0 world.old world.new) }
+    ensures stops { ForEachScene A.law B.sealing world.old (λ scene. IfErr result (RunStops scene steps.now world.new)) }
 {
     do_steps(world, stables, steps)?;
     let script = world.journal().len();

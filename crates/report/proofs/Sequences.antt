@@ -16,10 +16,6 @@ abbrev pub with_front : {A : Type 0} → List A → Result (List A × List ℕ) 
 with_front front (Ok x) = Ok (front ++ x.0, x.1)
 with_front front (Err left) = Err left
 
-pub front_none : {A : Type 0} (read : Result (List A × List ℕ) ℕ) → with_front [] read ≡ read
-front_none (Ok x) = refl
-front_none (Err left) = refl
-
 abbrev pub joined : {A : Type 0} → A → Result (List A × List ℕ) ℕ → Result (List A × List ℕ) ℕ
 joined x read = read >>= λ others. Ok (x ∷ others.0, others.1)
 

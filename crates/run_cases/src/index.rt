@@ -1,10 +1,7 @@
 //! The index: a line names a case that is kept in files, or a table of rows.
 
-use crate::difference::{Difference, shown};
-use crate::files::read_text;
-use crate::kept::{Kind, read_case};
-use crate::row::{name_of, read_row};
-use crate::tally::Tally;
+use crate::play::play;
+use cases::{Difference, Kind, Tally, name_of, read_case, read_row, read_text, shown};
 use std::io;
 use std::rt::Files;
 
@@ -52,11 +49,11 @@ pub fn play_index<R: Files + AllocGlobal + Print>(
 }
 
 fn play_case<R: Files + AllocGlobal>(rt: &R, kind: Kind, path: &str) -> Result<(), Difference> {
-    read_case(rt, kind, path)?.play(rt.alloc())
+    play(rt.alloc(), &read_case(rt, kind, path)?)
 }
 
 fn play_row<R: Files + AllocGlobal>(rt: &R, block: &str, before: usize) -> Result<(), Difference> {
-    read_row(rt, block, before)?.play(rt.alloc())
+    play(rt.alloc(), &read_row(rt, block, before)?)
 }
 
 /// Plays the rows of a table, which are parted by one empty line.

@@ -2,18 +2,12 @@
 //! those that differ.
 #![tactic(auto)]
 
-mod call;
-mod case;
-mod difference;
-mod files;
 mod index;
-mod kept;
-mod row;
-mod tally;
-mod wanted;
+mod play;
+mod serving;
 
 use crate::index::play_index;
-use crate::tally::Tally;
+use cases::Tally;
 use std::process::ExitCode;
 use std::{env, io};
 

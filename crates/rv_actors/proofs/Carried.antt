@@ -293,13 +293,13 @@ module _ {B C : Type 0} (sealing : Sealing B) (other : Sealing C) (carry : Way �
   fits_same said a owed steps (Refused b) is can h = input_carried carry steps h
 
   pub possible_same : (entries : List (JournalEntry B)) → IsPossible From results entries → IsPossible Over results (carried carry entries)
-  possible_same [] possible = record { named = tt; views = tt; orderly = tt; switches = λ s there. tt; controllers = λ c there. tt }
+  possible_same [] possible = record { named = tt; fits = tt; orderly = tt; switches = λ s there. tt; controllers = λ c there. tt }
   possible_same (e ∷ before) possible =
       let earlier = possible_before From results e before possible in
       let old = possible_same before earlier in
       possible_after Over results (carried_entry carry e) (carried carry before) old
       (subst (λ (x : Actor). IsActor setup x) (sym (same_actors carry e)) possible.named.0)
-      (typed_same e possible.views.0)
+      (typed_same e possible.fits.0)
       (orderly_same e before possible old.orderly)
       (λ s there same. switch_fits s there earlier (subst (λ (x : Actor). same_actor x (actor.Switch s) ≡ true) (same_actors carry e) same))
       (λ c there same. controller_fits c there earlier (subst (λ (x : Actor). same_actor x (actor.Controller c) ≡ true) (same_actors carry e) same))

@@ -16,6 +16,7 @@ use Rattle.rv_base.specs.Turns.{entry_of}
 use Rattle.group_controller.specs.State.{ControllerState}
 use Rattle.group_controller.specs.Turns.{Controlling, state_of}
 use Rattle.of_switch.specs.State.{SwitchState}
+use Rattle.app_core.specs.Law.{AppLaw}
 use Rattle.rv_bodies.specs.declared.typed.Typed.{Typed}
 use Rattle.rv_runs.specs.declared.messages.Message.{Message}
 use Rattle.rv_runs.specs.Bodies.{byte_bodies, message_bytes}
@@ -58,7 +59,7 @@ sealed_bare : {A : Type 0} (said : A → Message) (owed : List (Letter A)) → b
 sealed_bare said [] = refl
 sealed_bare said (l ∷ owed) = ap (λ (ls : List (Letter (List ℕ))). record { to = l.to; body = message_bytes (said l.body) } ∷ ls) (sealed_bare said owed)
 
-module _ {A : Type 0} (controls : Controlling A → List ℕ → Type 0) (kinds : List ℕ) (said : Worlding Typed A) (spelled : Worlding (List ℕ) A) (twins : AreTwins controls kinds said spelled) where
+module _ {A : Type 0} (law : AppLaw A) (kinds : List ℕ) (said : Worlding Typed A) (spelled : Worlding (List ℕ) A) (twins : AreTwins law kinds said spelled) where
   abbrev Results : List (List SaveResult)
   Results = results_in said.controllers
 
@@ -78,11 +79,11 @@ module _ {A : Type 0} (controls : Controlling A → List ℕ → Type 0) (kinds 
   as_bytes : IsAsBytes kinds said.setup Results Past
   as_bytes = over_bytes kinds said.setup Results Past twins.over_messages.run.setup twins.over_messages.run.legal.possible
 
-  run_typed : HoldsAt controls (scene_typed kinds said.setup) Results Past said
+  run_typed : HoldsAt law (scene_typed kinds said.setup) Results Past said
   run_typed = twins.over_messages.run
 
-  run_bytes : HoldsAt controls (scene_bytes kinds said.setup) Results (bare Past) spelled
-  run_bytes = of_twin (λ s r l. HoldsAt controls (scene_bytes kinds s) r l spelled) twins.over_bytes.run
+  run_bytes : HoldsAt law (scene_bytes kinds said.setup) Results (bare Past) spelled
+  run_bytes = of_twin (λ s r l. HoldsAt law (scene_bytes kinds s) r l spelled) twins.over_bytes.run
 
   state_bytes : (c : ℕ) (x : Controlling A) → slice_get spelled.controllers c ≡ Some x → c < said.setup.controllers → state_of x ≡ controller_state (scene_bytes kinds said.setup) Results c (bare Past)
   state_bytes c x found there = let m = run_bytes.controllers c there in ap (λ (y : Controlling A). state_of y) (from_some x m.member (sym found ∙ m.stands)) ∙ m.state
@@ -133,5 +134,5 @@ module _ {A : Type 0} (controls : Controlling A → List ℕ → Type 0) (kinds 
     turns = λ t. ap (λ (l : List (JournalEntry (List ℕ))). entry_of t l) past_is ∙ as_bytes.turns t;
   }
 
-pub twins_law : {A : Type 0} (controls : Controlling A → List ℕ → Type 0) → TwinsTakeTheSameSteps controls
-twins_law controls kinds said spelled twins = same_steps controls kinds said spelled twins
+pub twins_law : {A : Type 0} (law : AppLaw A) → TwinsTakeTheSameSteps law
+twins_law law kinds said spelled twins = same_steps law kinds said spelled twins

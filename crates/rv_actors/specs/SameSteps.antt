@@ -12,8 +12,9 @@ use Rattle.rv_base.specs.Actors.{IsActor}
 use Rattle.rv_base.specs.Part.{part}
 use Rattle.rv_base.specs.Pool.{past, pool}
 use Rattle.rv_base.specs.Turns.{entry_of}
+use Rattle.app_core.specs.Law.{AppLaw}
 use Rattle.lists.specs.Lists.{IsIn}
-use Rattle.group_controller.specs.Turns.{Controlling, state_of}
+use Rattle.group_controller.specs.Turns.{state_of}
 use Rattle.rv_bodies.specs.declared.typed.Typed.{Typed}
 use Rattle.rv_runs.specs.Bodies.{byte_bodies}
 use Rattle.rv_runs.specs.Committed.{decided}
@@ -46,9 +47,9 @@ AreRunsOverMessages = (kinds : List ℕ) (setup : Setup) (results : List (List S
     (said : List (JournalEntry Typed)) × IsPossible (scene_typed kinds setup) results said × (entries ≡ bare said)
 
 -- a world over messages and one over bytes with the same journal, over the same setup and saves with the same results
-pub record AreTwins {A : Type 0} (controls : Controlling A → List ℕ → Type 0) (kinds : List ℕ) (said : Worlding Typed A) (spelled : Worlding (List ℕ) A) : Type 0 where
-  pub over_messages : Holds controls typed_bodies said kinds
-  pub over_bytes : Holds controls byte_bodies spelled kinds
+pub record AreTwins {A : Type 0} (law : AppLaw A) (kinds : List ℕ) (said : Worlding Typed A) (spelled : Worlding (List ℕ) A) : Type 0 where
+  pub over_messages : Holds law typed_bodies said kinds
+  pub over_bytes : Holds law byte_bodies spelled kinds
   pub setup : spelled.setup ≡ said.setup
   pub journal : spelled.journal ≡ bare said.journal
   pub results : results_in spelled.controllers ≡ results_in said.controllers
@@ -62,6 +63,6 @@ pub record TakeTheSameSteps {A : Type 0} (said : Worlding Typed A) (spelled : Wo
   pub decided_is : spelled.decided ≡ said.decided
   pub turns : (turn : Turn) → entry_of turn (past spelled.journal) ≡ bare_entry (entry_of turn (past said.journal))
 
-abbrev pub TwinsTakeTheSameSteps : {A : Type 0} → (Controlling A → List ℕ → Type 0) → Type 0
-TwinsTakeTheSameSteps {A = A} controls = (kinds : List ℕ) (said : Worlding Typed A) (spelled : Worlding (List ℕ) A) →
-    AreTwins controls kinds said spelled → TakeTheSameSteps said spelled
+abbrev pub TwinsTakeTheSameSteps : {A : Type 0} → AppLaw A → Type 0
+TwinsTakeTheSameSteps {A = A} law = (kinds : List ℕ) (said : Worlding Typed A) (spelled : Worlding (List ℕ) A) →
+    AreTwins law kinds said spelled → TakeTheSameSteps said spelled

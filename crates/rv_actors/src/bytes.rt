@@ -1,7 +1,7 @@
 //! A body that is bytes.
-ghost use Rattle.std.specs.Prelude.{◌≡◌, ◌++◌, length, IfOk};
+ghost use Rattle.std.specs.Prelude.{◌≡◌, refl, ◌++◌, length, IfOk};
 ghost use Rattle.of_bytes.specs.Numbers.{four};
-ghost use Rattle.rv_runs.specs.Bodies.{message_bytes, bytes_said};
+ghost use Rattle.rv_runs.specs.Bodies.{byte_bodies, message_bytes};
 ghost use Rattle.rv_runs.proofs.Bodies.{bytes_again};
 
 use crate::reading::{read_frame, read_spoken, read_vr};
@@ -83,11 +83,11 @@ fn message_bytes(alloc: Global, message: &Message) -> Result<Octets, AllocError>
 }
 
 impl Body for Bytes {
-    ghost sealed = { message_bytes };
-
-    ghost spelled = { bytes_said };
+    ghost sealing = { byte_bodies };
 
     ghost faithful = { bytes_again };
+
+    ghost weighed = { refl };
 
     fn seal(alloc: Global, message: Message) -> Result<Bytes, AllocError> {
         let bytes = message_bytes(alloc, &message)?;

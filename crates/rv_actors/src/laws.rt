@@ -1,7 +1,6 @@
 //! It makes no difference to a run whether its bodies are messages or their bytes. No code is here: each law is a function
 //! that does nothing, and whose clauses say it.
 ghost use Rattle.std.specs.Prelude.{◌≡◌, ℕ, List, Ok};
-ghost use Rattle.group_controller.specs.Turns.{Controls};
 ghost use Rattle.of_types.specs.declared.message.OfMessage.{OfMessage};
 ghost use Rattle.of_messages.specs.Reading.{message_at};
 ghost use Rattle.rv_actors.specs.SameSteps.{AreRunsOverBytes, AreRunsOverMessages, TwinsTakeTheSameSteps};
@@ -17,7 +16,7 @@ pub fn same_steps<A: App>()
     // Each run over bytes is that of one over messages.
     ensures over_messages { AreRunsOverMessages }
     // Two worlds of one journal, over messages and over bytes, take the same steps.
-    ensures worlds { TwinsTakeTheSameSteps (Controls A.kinds A.most A.states A.suits) }
+    ensures worlds { TwinsTakeTheSameSteps A.law }
 {}
 
 /// Bytes that say something between a controller and a switch are one message of a stream: a framer that was fed with them

@@ -48,4 +48,4 @@ spelled_invariant scene = record {
 
 pub all_spelled : {B : Type 0} (scene : Scene B) (results : List (List SaveResult)) → (faithful : IsFaithful scene.sealing) → (past : List (JournalEntry B)) → IsPossible scene results past → DrawsValidEvents scene past
     → HoldsAfter scene results faithful (λ e. EntryFits e) IsSpelled IsValidTo CanBeHeard (spelled_invariant scene) past
-all_spelled scene results faithful past legal valid = invariant_holds scene results faithful (λ e. EntryFits e) IsSpelled IsValidTo CanBeHeard (spelled_invariant scene) past legal valid legal.views
+all_spelled scene results faithful past legal valid = invariant_holds scene results faithful (λ e. EntryFits e) IsSpelled IsValidTo CanBeHeard (spelled_invariant scene) past legal valid legal.fits

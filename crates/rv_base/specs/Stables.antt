@@ -4,6 +4,12 @@ use Rattle.rv_base.specs.declared.journal.SaveResult.{SaveResult}
 use Rattle.rv_base.specs.declared.journal.SaveResult.TheVariants.{Saved, KeptOld, KeptNew}
 use Rattle.rv_base.specs.declared.stable.FailingSave.{FailingSave}
 
+-- what a stable pair is to contracts, as one value: the promise and the life that stand, and how often a save has failed,
+-- which never falls
+pub record Saving (W : Type 0) : Type 0 where
+  pub pair : W → ℕ × ℕ
+  pub faults : W → ℕ
+
 -- after a save that failed, the pair of before stands, or the new one does
 abbrev pub StandsAsItWasOr : ℕ × ℕ → ℕ × ℕ → ℕ × ℕ → Type 0
 StandsAsItWasOr saved old new = (new ≡ old) ⊎ (new ≡ saved)

@@ -3,7 +3,7 @@ ghost use Rattle.std.specs.Prelude.{◌≡◌, ◌≤◌, ◌+◌, ◌-◌, ◌^
 ghost use Rattle.std.specs.Io.{ReadsAtMost};
 ghost use Rattle.std.specs.Io.KnownBytes.{ReadConsumes, WriteAppends};
 ghost use Rattle.rv_base.specs.Causes.{HasCause, TakesSome};
-ghost use Rattle.rv_base.specs.Stables.{StandsAsItWasOr};
+ghost use Rattle.rv_base.specs.Stables.{Saving, StandsAsItWasOr};
 
 /// A call was not served, and a count of faults rose.
 #[derive(Clone, Copy, PartialEq, Eq, Debug)]
@@ -41,21 +41,19 @@ pub trait Sink {
 
 /// What is left of a controller that crashes: the greatest view that it promised, and its life.
 pub trait Stable {
-    /// The promise and the life that stand.
-    ghost pair: { Self → ℕ × ℕ };
-    /// How often a save has failed. It never falls.
-    ghost faults: { Self → ℕ };
+    /// The promise and the life that stand, and how often a save has failed. That never falls.
+    ghost saving: { Saving Self };
 
     /// The pair stands from now on. After `Failed` it stands, or the one before does: `load` tells
     /// which. The count of faults rises at `Failed` alone.
     fn save(&mut self, promise: u64, life: u64) -> Result<(), Failed>
-        ensures saved { OnOk result (pair self.new ≡ (promise, life)) }
-        ensures kept { OnErr result (StandsAsItWasOr (promise, life) (pair self.old) (pair self.new)) }
-        ensures cause { HasCause (faults self.old) (faults self.new) result };
+        ensures saved { OnOk result (saving.pair self.new ≡ (promise, life)) }
+        ensures kept { OnErr result (StandsAsItWasOr (promise, life) (saving.pair self.old) (saving.pair self.new)) }
+        ensures cause { HasCause (saving.faults self.old) (saving.faults self.new) result };
 
     /// The pair that stands.
     fn load(&self) -> (u64, u64)
-        ensures { result ≡ pair self.now };
+        ensures { result ≡ saving.pair self.now };
 }
 
 /// Counts a fault.

@@ -91,9 +91,7 @@ impl MemoryStable {
 }
 
 impl Stable for MemoryStable {
-    ghost pair = { pair_of };
-
-    ghost faults = { λ s. s.faults };
+    ghost saving = { record { pair = pair_of; faults = λ s. s.faults } };
 
     fn save(&mut self, promise: u64, life: u64) -> Result<(), Failed>
         ensures saved { OnOk result (pair_of self.new ≡ (promise, life)) }

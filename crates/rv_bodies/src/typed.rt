@@ -1,5 +1,5 @@
 //! A body that is its message.
-ghost use Rattle.std.specs.Prelude.{◌≡◌, ◌^◌, ◌-◌, ◌+◌, min, IfOk};
+ghost use Rattle.std.specs.Prelude.{◌≡◌, refl, ◌^◌, ◌-◌, ◌+◌, min, IfOk};
 ghost use Rattle.vr_log.specs.Log.{log_size};
 ghost use Rattle.vr_log.specs.Sizes.{vr_size, filled_size};
 ghost use Rattle.rv_runs.specs.Messages.{message_size, said_on};
@@ -113,11 +113,15 @@ fn said_on(alloc: Global, way: Way, message: &Message) -> Result<Unsealed, Alloc
 }
 
 impl Body for Typed {
-    ghost sealed = { λ m. record { message = m } };
-
-    ghost spelled = { λ way t. said_on way t.message };
+    ghost sealing = { record {
+      sealed = λ m. record { message = m };
+      spelled = λ way t. said_on way t.message;
+      size = λ t. message_size t.message;
+    } };
 
     ghost faithful = { own_again };
+
+    ghost weighed = { refl };
 
     fn seal(_alloc: Global, message: Message) -> Result<Typed, AllocError> {
         Ok(Typed { message })

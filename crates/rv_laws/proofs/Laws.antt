@@ -60,6 +60,7 @@ module _ {B : Type 0} (scene : Scene B) (results : List (List SaveResult)) where
 
     sides : AreControllers scene results
     sides = record {
+      setup = setup;
       agree = λ e before possible trust c d i j there there'. agreed (e ∷ before) possible trust c d i j there there';
       valid = λ e before possible trust c there. kept_valid (e ∷ before) c;
       turns = λ e before possible trust c there same x heard honest hears.

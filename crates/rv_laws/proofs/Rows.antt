@@ -1,14 +1,11 @@
 -- What a turn of a switch makes of the rows of its table: they change by the FLOW_MOD of a command that it carries out,
 -- and open anew with a life.
-use Rattle.std.proofs.Common.{◌≡◌, ℕ, Bool, not, ◌&&◌, List, [], ◌∷◌, map, filter, refl, sym, ap, subst, inl}
+use Rattle.std.proofs.Common.{◌≡◌, ℕ, Bool, not, ◌&&◌, List, [], ◌∷◌, refl, ap, inl}
 use Rattle.std.specs.Prelude.{nat_eq, nat_lt, Option, Some, None, if◌then◌else◌}
-use Rattle.std.specs.List.{AllByRecursion}
 use Rattle.std.proofs.lemmas.Bool.{cond_both}
 use Rattle.of_types.specs.declared.message.Executed.{Executed}
 use Rattle.of_types.specs.declared.message.Extension.{Extension}
 use Rattle.of_types.specs.declared.message.Extension.TheVariants as extension
-use Rattle.of_types.specs.declared.message.FlowCommand.{FlowCommand}
-use Rattle.of_types.specs.declared.message.FlowCommand.TheVariants.{Add, Modify, ModifyStrict, Delete, DeleteStrict}
 use Rattle.of_types.specs.declared.message.FlowMod.{FlowMod}
 use Rattle.of_types.specs.declared.message.Happening.{Happening}
 use Rattle.of_types.specs.declared.message.OfMessage.{OfMessage}
@@ -24,7 +21,6 @@ use Rattle.of_types.specs.Lives.{last_life, switch_up}
 use Rattle.rv_base.specs.declared.journal.Actor.TheVariants as actor
 use Rattle.rv_base.specs.declared.journal.Local.{Local}
 use Rattle.rv_base.specs.declared.journal.Local.TheVariants as local
-use Rattle.rv_base.proofs.All.{all_filter, all_map}
 use Rattle.lists.proofs.Elements.{in_right}
 use Rattle.lists.specs.Lists.{IsIn}
 use Rattle.role_fence.specs.declared.fence.RoleAnswer.{RoleAnswer}
@@ -34,7 +30,7 @@ use Rattle.event_buffer.specs.Buffer.{is_full, without_dirty}
 use Rattle.command_buffer.specs.declared.buffer.Offer.{Offer}
 use Rattle.command_buffer.specs.declared.buffer.Offer.TheVariants.{Execute, Repeat, Ahead, Full}
 use Rattle.command_buffer.specs.Results.{offer_of}
-use Rattle.flow_table.specs.Table.{opening_rows, chosen_row, row_of, same_key, with_row, is_named, is_deleted, modified, table_step}
+use Rattle.flow_table.specs.Table.{opening_rows, chosen_row, table_step}
 use Rattle.of_switch.specs.declared.says.SwitchInput.{SwitchInput}
 use Rattle.of_switch.specs.declared.says.SwitchInput.TheVariants as switch_input
 use Rattle.of_switch.specs.State.{SwitchState, SwitchTurn, quiet, posts, then_turn, life_of}
@@ -145,30 +141,3 @@ rows_after s (switch_input.Of from xid (spoken.Ravana said)) =
 rows_after s (switch_input.Malformed (actor.Controller c) kind code xid head) = Same refl
 rows_after s (switch_input.Malformed (actor.Switch t) kind code xid head) = Same refl
 rows_after s (switch_input.Frame from port frame) = Same (frame_keeps s.rows port frame s refl)
-
--- what holds of each row before a change, of the row that it tells of, and of rows with its actions, holds of each row after it
-module _ (P : Row → Type 0) where
-  joined : (rows : List Row) (row : Row) → AllByRecursion P rows → P row → AllByRecursion P (with_row rows row)
-  joined [] row h new = (new, tt)
-  joined (r ∷ rows) row (here, h) new =
-      cond_both (same_key r row) (row ∷ rows) (r ∷ with_row rows row) (λ (l : List Row). AllByRecursion P l) (λ _. (new, h)) (λ _. (here, joined rows row h new))
-
-  pub all_changed : (rows : List Row) (change : FlowMod) → AllByRecursion P rows → P (row_of change) → ((r : Row) → P r → P (record r { actions = change.actions })) →
-      AllByRecursion P (table_step rows change)
-  all_changed rows change h new acts = by_command change.command refl
-    where
-      all_modified : AllByRecursion P (map (modified change) rows)
-      all_modified = all_map (modified change) P P (λ r here. cond_both (is_named change r) (record r { actions = change.actions }) r P (λ _. acts r here) (λ _. here)) rows h
-
-      left : AllByRecursion P (filter (λ r. not (is_deleted change r)) rows)
-      left = all_filter P (λ r. not (is_deleted change r)) rows h
-
-      becomes : (l : List Row) → table_step rows change ≡ l → AllByRecursion P l → AllByRecursion P (table_step rows change)
-      becomes l is all = subst (λ (k : List Row). AllByRecursion P k) (sym is) all
-
-      by_command : (c : FlowCommand) → change.command ≡ c → AllByRecursion P (table_step rows change)
-      by_command Add e = becomes (with_row rows (row_of change)) (rw e refl) (joined rows (row_of change) h new)
-      by_command Modify e = becomes (map (modified change) rows) (rw e refl) all_modified
-      by_command ModifyStrict e = becomes (map (modified change) rows) (rw e refl) all_modified
-      by_command Delete e = becomes (filter (λ r. not (is_deleted change r)) rows) (rw e refl) left
-      by_command DeleteStrict e = becomes (filter (λ r. not (is_deleted change r)) rows) (rw e refl) left

@@ -14,6 +14,7 @@ use Rattle.of_types.specs.declared.message.Order.{Order}
 use Rattle.of_types.specs.declared.message.Order.TheVariants as order
 use Rattle.of_types.specs.declared.message.Row.{Row}
 use Rattle.of_types.specs.declared.setup.Setup.{Setup}
+use Rattle.of_types.specs.Setups.{IsSetup}
 use Rattle.of_types.specs.Sizes.{match_size, instruction_size}
 use Rattle.of_ravana.specs.Canonical.{happening_message, order_message}
 use Rattle.rv_base.specs.declared.journal.Actor.TheVariants as actor
@@ -48,12 +49,14 @@ use Rattle.exactly_once.specs.Premises.{AreControllers}
 use Rattle.exactly_once.proofs.ControllerTurns.{received_at}
 use Rattle.exactly_once.proofs.Executed.{holds_always, decided_true}
 use Rattle.exactly_once.proofs.Packets.{happening_short}
-use Rattle.exactly_once.proofs.Spelling.{IsSendable, commands_of_sendable}
+use Rattle.app_core.specs.Orders.{IsSendable}
+use Rattle.exactly_once.proofs.Spelling.{commands_of_sendable}
 use Rattle.exactly_once.proofs.Switches.{event_at}
 use Rattle.rv_laws.specs.Laws.{InEveryRun}
 use Rattle.rv_laws.specs.Told.{IsSpellable, IsSpellableEvent, IsSpellableOrder, IsSpellableRow, IsSpellableEntry, IsSpellableRun}
 use Rattle.rv_laws.proofs.Laws.{sides_law}
-use Rattle.rv_laws.proofs.Rows.{Same, Opening, Changed, rows_after, all_changed}
+use Rattle.exactly_once.proofs.TableRows.{all_changed}
+use Rattle.rv_laws.proofs.Rows.{Same, Opening, Changed, rows_after}
 
 -- what happened with a good frame, and an order that fits a command
 happening_spellable : (what : Happening) → IsGoodHappening what → IsSpellable (happening_message what)
@@ -82,14 +85,14 @@ executed_at : (xs : List Executed) (x : Executed) → IsIn x xs → (i : ℕ) ×
 executed_at xs x h = in_get (executed_of x.life xs) x (filter_has (λ (y : Executed). nat_eq y.life x.life) xs x h (eq-eqb x.life x.life refl))
 
 -- what is carried out can be spelled, where the decided log has good events
-order_issued : (kinds : List ℕ) (setup : Setup) (f : PastFacts) (s : ℕ) (state : SwitchState) → ((e : Event) → IsIn e (received f.decided) → IsGoodHappening e.what) → IsSound kinds setup f s state →
+order_issued : (kinds : List ℕ) (setup : Setup) → IsSetup setup → (f : PastFacts) (s : ℕ) (state : SwitchState) → ((e : Event) → IsIn e (received f.decided) → IsGoodHappening e.what) → IsSound kinds setup f s state →
     (x : Executed) → IsIn x state.executed → IsSpellableOrder x
-order_issued kinds setup f s state good sound x h =
+order_issued kinds setup within f s state good sound x h =
     let at = executed_at state.executed x h in
     let all = issues kinds setup (received f.decided) in
     let y = orders_among s x.life (concat all) x.order (get_in (orders_in s x.life (concat all)) x.order at.0 (sound.issued x.life at.0 x at.1)) in
     let j = place_among all y.0 y.1 in
-    subst (λ (what : Order). IsSpellable (order_message what)) (sym y.2) (order_spellable y.0.order (commands_of_sendable kinds setup (received f.decided) good j.0 y.0 j.1))
+    subst (λ (what : Order). IsSpellable (order_message what)) (sym y.2) (order_spellable y.0.order (commands_of_sendable kinds setup within (received f.decided) good j.0 y.0 j.1))
 
 -- events are of their switch
 event_made : (kinds : List ℕ) (setup : Setup) (f : PastFacts) (s : ℕ) (state : SwitchState) → IsSound kinds setup f s state → (e : Event) → IsIn e state.events → IsSpellableEvent s e
@@ -168,7 +171,7 @@ module _ {B : Type 0} (scene : Scene B) (results : List (List SaveResult)) (fait
   orders_told : (entries : List (JournalEntry B)) → IsPossible scene results entries → (s : ℕ) → s < length scene.setup.ports →
       (x : Executed) → IsIn x (switch_state scene s entries).executed → IsSpellableOrder x
   orders_told entries possible s there =
-      order_issued scene.kinds scene.setup (facts_of scene results entries) s (switch_state scene s entries)
+      order_issued scene.kinds scene.setup sides.setup (facts_of scene results entries) s (switch_state scene s entries)
       (λ e k. let at = received_at (decided scene results entries) e k in ((decided_true scene results faithful sides entries possible).entries_true at.0 (Received e) at.1).good)
       (sound_now entries possible s there)
 

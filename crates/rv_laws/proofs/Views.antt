@@ -93,7 +93,7 @@ pub views_up_to : {B : Type 0} (scene : Scene B) (results : List (List SaveResul
     → (limit : ℕ) → IsSuspectedUpTo limit entries → AreViewsUpTo scene results limit entries
 views_up_to {B = B} scene results entries setup faithful possible limit suspected c there =
     let valid : DrawsValidEvents scene entries = events_valid scene results entries possible (λ i. always scene results setup faithful entries possible (suc i)) in
-    let fine : AllByRecursion (λ (e : JournalEntry B). GoodEntry limit e) entries = all_both (λ (e : JournalEntry B). EntryFits e) (λ (e : JournalEntry B). EntrySuspectsUpTo limit e) entries possible.views suspected in
+    let fine : AllByRecursion (λ (e : JournalEntry B). GoodEntry limit e) entries = all_both (λ (e : JournalEntry B). EntryFits e) (λ (e : JournalEntry B). EntrySuspectsUpTo limit e) entries possible.fits suspected in
     let now = ((invariant_holds scene results faithful (λ e. GoodEntry limit e) (Good limit) (Said limit) (GoodInput limit) (views_invariant limit scene) entries possible valid fine).controllers c there).now in
     (now.1.0, now.1.1)
 

@@ -27,7 +27,7 @@ pub fn heard<P: Player, B: Body>(
     to: Actor,
     body: &B,
 ) -> Result<P::Input, AllocError>
-    ensures { IfOk result (λ input. input ≡ P.hears from (B.spelled (way_of from to) body.now)) }
+    ensures { IfOk result (λ input. input ≡ P.hears from (B.sealing.spelled (way_of from to) body.now)) }
 {
     let unsealed = body.unseal(alloc, way_between(from, to))?;
     Ok(P::hear(alloc, from, unsealed))

@@ -12,7 +12,7 @@ use std::alloc::{AllocError, Global};
 
 /// What an actor says, as a body. Each number of it fits its field.
 fn sealed_body<P: Player, B: Body>(alloc: Global, says: P::Says) -> Result<B, AllocError>
-    ensures body { IfOk result (λ body. body ≡ B.sealed (P.said says)) }
+    ensures body { IfOk result (λ body. body ≡ B.sealing.sealed (P.said says)) }
     ensures typed { FitsMessage (P.said says) }
 {
     let message = P::message(says);
@@ -25,7 +25,7 @@ pub fn sealed<P: Player, B: Body>(
     alloc: Global,
     letters: Letters<P::Says>,
 ) -> Result<Letters<B>, AllocError>
-    ensures { IfOk result (λ sealed. (sealed ≡ sealed_letters P.said (record { sealed = B.sealed; spelled = B.spelled; size = B.size }) letters) × AreTyped P.said letters) }
+    ensures { IfOk result (λ sealed. (sealed ≡ sealed_letters P.said B.sealing letters) × AreTyped P.said letters) }
 {
     let letters = letters.into_vec();
     let mut sealed = Items::from_vec(Vec::with_capacity(alloc, letters.len())?);

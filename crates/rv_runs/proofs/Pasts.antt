@@ -31,7 +31,7 @@ pub possible_before : {B : Type 0} (scene : Scene B) (results : List (List SaveR
 possible_before {B = B} scene results e before legal =
     record {
       named = legal.named.1;
-      views = legal.views.1;
+      fits = legal.fits.1;
       orderly = orderly_before scene.sealing.size e before legal.orderly;
       switches = λ s lt. elim (switch_after scene s e before) [
         | Mine same is ↦ (subst (λ (p : List (JournalEntry B × Option (Packet B))). IsSoundSwitch scene s p) is (legal.switches s lt)).1
@@ -74,7 +74,7 @@ pub possible_after : {B : Type 0} (scene : Scene B) (results : List (List SaveRe
 possible_after {B = B} scene results e before old named typed orderly switches controllers =
     record {
       named = (named, old.named);
-      views = (typed, old.views);
+      fits = (typed, old.fits);
       orderly = orderly;
       switches = λ s there. elim (switch_after scene s e before) [
         | Mine same is ↦ subst (λ (p : List (JournalEntry B × Option (Packet B))). IsSoundSwitch scene s p) (sym is) (switches s there same, old.switches s there)

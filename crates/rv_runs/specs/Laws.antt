@@ -1,6 +1,6 @@
 -- What holds of every legal journal, and of one at rest.
 use Rattle.std.specs.Prelude.{◌≡◌, ◌<◌, ◌≤◌, ◌⊎◌, ℕ, ◌+◌, ◌%◌, true, nat_eq, nat_lt, ◌&&◌, List, [], ◌∷◌, ◌++◌, length, map, drop, take, filter, Contains, All, AllPairs, slice_get, Option, Some, if◌then◌else◌}
-use Rattle.std.specs.List.{range_with_len}
+use Rattle.std.specs.List.{AllByRecursion, range_with_len}
 use Rattle.lists.specs.Lists.{IsPrefix}
 use Rattle.of_types.specs.declared.message.Event.{Event}
 use Rattle.of_types.specs.declared.message.Executed.{Executed}
@@ -107,12 +107,18 @@ pub record IsGreatest (n : ℕ) (ns : List ℕ) : Type 0 where
   pub among : Contains ns n
   pub bound : All (λ m. m ≤ n) ns
 
--- a command that a switch carried out with an entry has the greatest generation that asked this life, from its master
+-- what a switch carries out at an entry
+abbrev pub carried_out : {B : Type 0} → Scene B → ℕ → JournalEntry B → List (JournalEntry B) → List Executed
+carried_out scene s e before = drop (length (switch_state scene s before).executed) (switch_state scene s (e ∷ before)).executed
+
+-- a command has the greatest generation that asked a switch to be its master, in the life before an entry, and is from that master
+pub record IsOfMaster {B : Type 0} (scene : Scene B) (s : ℕ) (before : List (JournalEntry B)) (x : Executed) : Type 0 where
+  pub greatest : IsGreatest x.generation (masters_asked scene.sealing (part (actor.Switch s) before)).now.masters
+  pub master : x.from ≡ x.generation % scene.setup.controllers
+
+-- so has each command that a switch carries out at an entry, whatever the entry is
 abbrev pub IsFencedEntry : {B : Type 0} → Scene B → JournalEntry B → List (JournalEntry B) → Type 0
-IsFencedEntry scene (Draw (actor.Switch s) id keep) before =
-    (x : Executed) → (switch_state scene s (Draw (actor.Switch s) id keep ∷ before)).executed ≡ (switch_state scene s before).executed ++ x ∷ [] →
-    IsGreatest x.generation (masters_asked scene.sealing (part (actor.Switch s) before)).now.masters × (x.from ≡ x.generation % scene.setup.controllers)
-IsFencedEntry scene e before = Unit {0}
+IsFencedEntry scene e before = (s : ℕ) → AllByRecursion (λ x. IsOfMaster scene s before x) (carried_out scene s e before)
 
 abbrev pub IsFenced : {B : Type 0} → Scene B → List (JournalEntry B) → Type 0
 IsFenced scene [] = Unit {0}

@@ -69,7 +69,7 @@ results_of results c = slice_index_or results c []
 -- come. So is each part of it, without its newest entries
 pub record IsPossible {B : Type 0} (scene : Scene B) (results : List (List SaveResult)) (entries : List (JournalEntry B)) : Type 0 where
   pub named : AllByRecursion (λ e. IsActor scene.setup (actor_of e)) entries
-  pub views : AllByRecursion (λ e. EntryFits e) entries
+  pub fits : AllByRecursion (λ e. EntryFits e) entries
   pub orderly : IsOrderly scene.sealing.size entries
   pub switches : (s : ℕ) → s < length scene.setup.ports → IsSoundSwitch scene s (part (actor.Switch s) entries)
   pub controllers : (c : ℕ) → c < scene.setup.controllers → IsSoundController scene (results_of results c) c (part (actor.Controller c) entries)

@@ -3,10 +3,9 @@
 #![tactic(auto)]
 
 ghost use Rattle.rv_base.specs.Pool.{past};
-ghost use Rattle.group_controller.specs.Turns.{Controls, ForEachKinds};
 ghost use Rattle.rv_laws.specs.Laws.{AreAgreed};
 ghost use Rattle.rv_runs.specs.Laws.{IsExactlyOnce, IsFenced, IsLasting};
-ghost use Rattle.rv_world.specs.World.{Holds, results_in, scene_in, sealing_by};
+ghost use Rattle.rv_world.specs.World.{ForEachScene, results_in};
 
 use app_core::App;
 use rv_bodies::Body;
@@ -14,16 +13,16 @@ use rv_world::World;
 
 /// Of the logs that any two controllers have committed, at any two times, one begins the other.
 pub fn agreement<B: Body, A: App>(world: &World<B, A>)
-    ensures { ForEachKinds (Holds (Controls A.kinds A.most A.states A.suits) (sealing_by B.sealed B.spelled B.size) world.now)
-        (λ kinds. AreAgreed (scene_in (sealing_by B.sealed B.spelled B.size) world.now kinds) (results_in world.now.controllers) (past world.now.journal)) }
+    ensures { ForEachScene A.law B.sealing world.now (λ scene.
+        AreAgreed scene (results_in world.now.controllers) (past world.now.journal)) }
 {
     let _ = world;
 }
 
 /// What was decided stays decided.
 pub fn lasting<B: Body, A: App>(world: &World<B, A>)
-    ensures { ForEachKinds (Holds (Controls A.kinds A.most A.states A.suits) (sealing_by B.sealed B.spelled B.size) world.now)
-        (λ kinds. IsLasting (scene_in (sealing_by B.sealed B.spelled B.size) world.now kinds) (results_in world.now.controllers) (past world.now.journal)) }
+    ensures { ForEachScene A.law B.sealing world.now (λ scene.
+        IsLasting scene (results_in world.now.controllers) (past world.now.journal)) }
 {
     let _ = world;
 }
@@ -32,16 +31,16 @@ pub fn lasting<B: Body, A: App>(world: &World<B, A>)
 /// the decided log; what is processed is carried out, or its life was over by then; and an event was dropped only once it
 /// was processed.
 pub fn exactly_once<B: Body, A: App>(world: &World<B, A>)
-    ensures { ForEachKinds (Holds (Controls A.kinds A.most A.states A.suits) (sealing_by B.sealed B.spelled B.size) world.now)
-        (λ kinds. IsExactlyOnce (scene_in (sealing_by B.sealed B.spelled B.size) world.now kinds) (results_in world.now.controllers) (past world.now.journal)) }
+    ensures { ForEachScene A.law B.sealing world.now (λ scene.
+        IsExactlyOnce scene (results_in world.now.controllers) (past world.now.journal)) }
 {
     let _ = world;
 }
 
 /// No switch carried out a command of a stale generation, in any of its lives.
 pub fn fence<B: Body, A: App>(world: &World<B, A>)
-    ensures { ForEachKinds (Holds (Controls A.kinds A.most A.states A.suits) (sealing_by B.sealed B.spelled B.size) world.now)
-        (λ kinds. IsFenced (scene_in (sealing_by B.sealed B.spelled B.size) world.now kinds) (past world.now.journal)) }
+    ensures { ForEachScene A.law B.sealing world.now (λ scene.
+        IsFenced scene (past world.now.journal)) }
 {
     let _ = world;
 }

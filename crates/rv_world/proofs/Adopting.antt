@@ -6,7 +6,7 @@ use Rattle.rv_base.specs.declared.journal.Actor.TheVariants as actor
 use Rattle.rv_base.specs.declared.journal.Letter.{Letter}
 use Rattle.rv_base.specs.Part.{part}
 use Rattle.rv_base.specs.Pool.{past}
-use Rattle.group_controller.specs.Turns.{Controlling}
+use Rattle.app_core.specs.Law.{AppLaw}
 use Rattle.rv_runs.specs.declared.messages.Message.{Message}
 use Rattle.rv_runs.specs.Legal.{results_of}
 use Rattle.rv_runs.specs.States.{Sealing, controller_at, controller_message, switch_at, switch_message}
@@ -18,9 +18,9 @@ no_debt : {A B : Type 0} (said : A → Message) (sealing : Sealing B) (owed : Op
     IsOwed said sealing says (debt_of owed a)
 no_debt said sealing owed a says rests none = rw (rests, none) (record { sealed = refl; typed = tt })
 
-pub played_holds : {B A : Type 0} (controls : Controlling A → List ℕ → Type 0) (sealing : Sealing B) (w : Worlding B A) (kinds : List ℕ) → w.owed ≡ None →
-    IsPlayed controls sealing w kinds → Holds controls sealing w kinds
-played_holds controls sealing w kinds rests p = record {
+pub played_holds : {B A : Type 0} (law : AppLaw A) (sealing : Sealing B) (w : Worlding B A) (kinds : List ℕ) → w.owed ≡ None →
+    IsPlayed law sealing w kinds → Holds law sealing w kinds
+played_holds law sealing w kinds rests p = record {
   run = record {
     setup = p.setup;
     legal = p.legal;

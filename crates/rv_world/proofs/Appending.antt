@@ -72,24 +72,6 @@ take_fewer zero xs = omega arith
 take_fewer (suc n) [] = omega arith
 take_fewer (suc n) (x ∷ xs) = let rest = take_fewer n xs in omega (arith, rest)
 
-pub decided_all : {A : Type 0} (x : Controlling A) (committed : ℕ) (log decided : List Entry) → is_up (state_of x).vr ≡ true → Some committed ≡ option_map (λ a. a.work.state.vr.commit) x.acting →
-    Some log ≡ option_map (λ a. a.work.state.vr.log) x.acting → committed ≤ length decided → decided_with decided x ≡ decided
-decided_all x committed log decided up commit_is log_is long =
-    let kept_is = ap length (kept_by x committed log up commit_is log_is) in
-    let short = take_short committed log in
-    short_kept x decided (omega (arith, kept_is, short, long))
-
-pub decided_end : {A : Type 0} (x : Controlling A) (committed : ℕ) (log decided : List Entry) → is_up (state_of x).vr ≡ true → Some committed ≡ option_map (λ a. a.work.state.vr.commit) x.acting →
-    Some log ≡ option_map (λ a. a.work.state.vr.log) x.acting → length log ≤ length decided → decided_with decided x ≡ decided
-decided_end x committed log decided up commit_is log_is long =
-    let kept_is = ap length (kept_by x committed log up commit_is log_is) in
-    let short = take_fewer committed log in
-    short_kept x decided (omega (arith, kept_is, short, long))
-
 -- one that does not take part has committed nothing
 pub decided_none : {A : Type 0} (x : Controlling A) (decided : List Entry) → is_up (state_of x).vr ≡ false → decided_with decided x ≡ decided
 decided_none x decided off = short_kept x decided (rw off (omega arith))
-
--- one that is down
-pub decided_down : {A : Type 0} (x : Controlling A) (decided : List Entry) → x.acting ≡ None → decided_with decided x ≡ decided
-decided_down x decided down = short_kept x decided (rw down (omega arith))

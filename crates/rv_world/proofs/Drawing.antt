@@ -20,9 +20,10 @@ use Rattle.rv_base.specs.Turns.{entry_of, lost_entry, posted, turn_entries}
 use Rattle.rv_base.proofs.Pools.{Rising-pool, packet_of-at, waiting-at}
 use Rattle.of_switch.specs.declared.says.SwitchInput.{SwitchInput}
 use Rattle.of_switch.specs.declared.says.SwitchInput.TheVariants as switch_input
+use Rattle.rv_base.specs.Stables.{Saving}
+use Rattle.app_core.specs.Law.{AppLaw}
 use Rattle.group_controller.specs.declared.messages.ControllerInput.{ControllerInput}
 use Rattle.group_controller.specs.declared.messages.ControllerInput.TheVariants as controller_input
-use Rattle.group_controller.specs.Turns.{Controlling}
 use Rattle.rv_runs.specs.Inputs.{By_draw, By_local, From_draw, From_local}
 use Rattle.rv_runs.specs.Legal.{FitsTypes}
 use Rattle.rv_runs.specs.Messages.{way_of}
@@ -61,8 +62,8 @@ lost_idle a (Some p) = (tt, refl)
 body_of : {B : Type 0} (o : Option (Packet B)) (p : Packet B) (body : B) → o ≡ Some p → IfSome o (λ q. body ≡ q.body) → body ≡ p.body
 body_of o p body is h = subst (λ q. IfSome q (λ r. body ≡ r.body)) is h
 
-module _ {B A W : Type 0} (controls : Controlling A → List ℕ → Type 0) (pair : W → ℕ × ℕ) (faults : W → ℕ) (sealing : Sealing B) (faithful : IsFaithful sealing) (w : Worlding B A) (stables : List W)
-    (rests : w.owed ≡ None) (some : (kinds : List ℕ) × Holds controls sealing w kinds) (stand : PairsStand pair stables w.controllers) (journal : List (JournalEntry B)) (letters : List (Letter B)) (none : letters ≡ []) where
+module _ {B A W : Type 0} (law : AppLaw A) (saving : Saving W) (sealing : Sealing B) (faithful : IsFaithful sealing) (w : Worlding B A) (stables : List W)
+    (rests : w.owed ≡ None) (some : (kinds : List ℕ) × Holds law sealing w kinds) (stand : PairsStand saving stables w.controllers) (journal : List (JournalEntry B)) (letters : List (Letter B)) (none : letters ≡ []) where
   abbrev behind : Turn → List (JournalEntry B)
   behind t = w.journal ++ turn_entries sealing.size letters t (past w.journal)
 
@@ -73,22 +74,22 @@ module _ {B A W : Type 0} (controls : Controlling A → List ℕ → Type 0) (pa
   before a = ap (λ l. posted sealing.size a l (past w.journal)) none
 
   pub loss_steps : (a : Actor) (choice : ℕ) → journal ≡ behind (turn.Lose a choice) → IsOrderly sealing.size (past journal) → IsActor w.setup a →
-      Steps controls pair faults sealing (turn.Lose a choice) w stables (record w { journal = journal }) stables
+      Steps law saving sealing (turn.Lose a choice) w stables (record w { journal = journal }) stables
   loss_steps a choice is orderly named =
       let e : JournalEntry B = entry_of (turn.Lose a choice) (past w.journal) in
       let same = one_entry (turn.Lose a choice) is in
       let idle = lost_idle a (pick a choice (past w.journal)) in
-      idle_steps controls pair faults sealing faithful w stables rests some stand e (turn.Lose a choice) refl idle.0 (subst (λ b. IsActor w.setup b) (sym idle.1) named)
+      idle_steps law saving sealing faithful w stables rests some stand e (turn.Lose a choice) refl idle.0 (subst (λ b. IsActor w.setup b) (sym idle.1) named)
       (subst (λ l. IsOrderly sealing.size (past l)) same orderly) (record w { journal = journal }) (ap (λ l. record w { journal = l }) same)
 
   pub nothing_steps : (a : Actor) (choice : ℕ) (keep : Bool) → journal ≡ behind (turn.Draw a choice keep) → IsOrderly sealing.size (past journal) → IsActor w.setup a →
       IsFound journal None (pick a choice (posted sealing.size a letters (past w.journal))) →
-      Steps controls pair faults sealing (turn.Draw a choice keep) w stables (record w { journal = journal }) stables
+      Steps law saving sealing (turn.Draw a choice keep) w stables (record w { journal = journal }) stables
   nothing_steps a choice keep is orderly named found =
       let nothing : pick a choice (past w.journal) ≡ None = ap (λ l. pick a choice l) (sym (before a)) ∙ none_picked journal (pick a choice (posted sealing.size a letters (past w.journal))) found in
       let entry : Idle a ≡ entry_of (turn.Draw a choice keep) (past w.journal) = rw nothing refl in
       let same = one_entry (turn.Draw a choice keep) is ∙ ap (λ e. w.journal ++ e ∷ []) (sym entry) in
-      idle_steps controls pair faults sealing faithful w stables rests some stand (Idle a) (turn.Draw a choice keep) entry tt named
+      idle_steps law saving sealing faithful w stables rests some stand (Idle a) (turn.Draw a choice keep) entry tt named
       (subst (λ l. IsOrderly sealing.size (past l)) same orderly) (record w { journal = journal }) (ap (λ l. record w { journal = l }) same)
 
   module _ (a : Actor) (choice : ℕ) (keep : Bool) (is : journal ≡ behind (turn.Draw a choice keep)) (orderly : IsOrderly sealing.size (past journal))
@@ -116,17 +117,17 @@ module _ {B A W : Type 0} (controls : Controlling A → List ℕ → Type 0) (pa
         ap (λ x. sealing.spelled (way_of p.packet.from p.packet.to) x) (body_of (packet_at place journal) p.packet body p.stands body_is)
 
     pub controller_draws : (c : ℕ) → a ≡ actor.Controller c → c < w.setup.controllers → (x : ControllerInput) → x ≡ controller_hears place.from (sealing.spelled (way_of place.from place.to) body) →
-        (v : Worlding B A) (stables_after : List W) → ControllerOwes controls pair faults sealing x (record w { journal = journal }) stables c v stables_after →
-        Steps controls pair faults sealing (turn.Draw a choice keep) w stables v stables_after
+        (v : Worlding B A) (stables_after : List W) → ControllerOwes law saving sealing x (record w { journal = journal }) stables c v stables_after →
+        Steps law saving sealing (turn.Draw a choice keep) w stables v stables_after
     controller_draws c mine there x x_is v stables_after t =
-        controller_steps controls pair faults sealing faithful w stables rests some stand e (turn.Draw a choice keep) entry c there mine mine x stables_after v
+        controller_steps law saving sealing faithful w stables rests some stand e (turn.Draw a choice keep) entry c there mine mine x stables_after v
         (λ kinds. By_draw a p.packet.id keep p.packet refl drawn_is (x_is ∙ ap (λ y. controller_hears y (sealing.spelled (way_of place.from place.to) body)) p.from_is ∙ ap (λ y. controller_hears p.packet.from y) said_is))
-        tt (subst (λ l. IsOrderly sealing.size (past l)) same orderly) (subst (λ l. ControllerOwes controls pair faults sealing x (record w { journal = l }) stables c v stables_after) same t)
+        tt (subst (λ l. IsOrderly sealing.size (past l)) same orderly) (subst (λ l. ControllerOwes law saving sealing x (record w { journal = l }) stables c v stables_after) same t)
 
     pub switch_draws : (s : ℕ) → a ≡ actor.Switch s → s < length w.setup.ports → (x : SwitchInput) → x ≡ switch_hears place.from (sealing.spelled (way_of place.from place.to) body) →
-        (v : Worlding B A) → SwitchOwes sealing x (record w { journal = journal }) s v → Steps controls pair faults sealing (turn.Draw a choice keep) w stables v stables
+        (v : Worlding B A) → SwitchOwes sealing x (record w { journal = journal }) s v → Steps law saving sealing (turn.Draw a choice keep) w stables v stables
     switch_draws s mine there x x_is v t =
-        switch_steps controls pair faults sealing faithful w stables rests some stand e (turn.Draw a choice keep) entry s there mine mine x v
+        switch_steps law saving sealing faithful w stables rests some stand e (turn.Draw a choice keep) entry s there mine mine x v
         (λ kinds. From_draw a p.packet.id keep p.packet refl drawn_is (x_is ∙ ap (λ y. switch_hears y (sealing.spelled (way_of place.from place.to) body)) p.from_is ∙ ap (λ y. switch_hears p.packet.from y) said_is))
         tt (subst (λ l. IsOrderly sealing.size (past l)) same orderly) (subst (λ l. SwitchOwes sealing x (record w { journal = l }) s v) same t)
 
@@ -135,15 +136,15 @@ module _ {B A W : Type 0} (controls : Controlling A → List ℕ → Type 0) (pa
     same_local = one_entry (turn.Local a input) is
 
     pub controller_takes_local : (c : ℕ) → a ≡ actor.Controller c → c < w.setup.controllers → (x : ControllerInput) → x ≡ controller_input.Local input →
-        (v : Worlding B A) (stables_after : List W) → ControllerOwes controls pair faults sealing x (record w { journal = journal }) stables c v stables_after →
-        Steps controls pair faults sealing (turn.Local a input) w stables v stables_after
+        (v : Worlding B A) (stables_after : List W) → ControllerOwes law saving sealing x (record w { journal = journal }) stables c v stables_after →
+        Steps law saving sealing (turn.Local a input) w stables v stables_after
     controller_takes_local c mine there x x_is v stables_after t =
-        controller_steps controls pair faults sealing faithful w stables rests some stand (Local a input) (turn.Local a input) refl c there mine mine x stables_after v
+        controller_steps law saving sealing faithful w stables rests some stand (Local a input) (turn.Local a input) refl c there mine mine x stables_after v
         (λ kinds. By_local a input refl x_is) fits (subst (λ l. IsOrderly sealing.size (past l)) same_local orderly)
-        (subst (λ l. ControllerOwes controls pair faults sealing x (record w { journal = l }) stables c v stables_after) same_local t)
+        (subst (λ l. ControllerOwes law saving sealing x (record w { journal = l }) stables c v stables_after) same_local t)
 
     pub switch_takes_local : (s : ℕ) → a ≡ actor.Switch s → s < length w.setup.ports → (x : SwitchInput) → x ≡ switch_input.Local input →
-        (v : Worlding B A) → SwitchOwes sealing x (record w { journal = journal }) s v → Steps controls pair faults sealing (turn.Local a input) w stables v stables
+        (v : Worlding B A) → SwitchOwes sealing x (record w { journal = journal }) s v → Steps law saving sealing (turn.Local a input) w stables v stables
     switch_takes_local s mine there x x_is v t =
-        switch_steps controls pair faults sealing faithful w stables rests some stand (Local a input) (turn.Local a input) refl s there mine mine x v
+        switch_steps law saving sealing faithful w stables rests some stand (Local a input) (turn.Local a input) refl s there mine mine x v
         (λ kinds. From_local a input refl x_is) fits (subst (λ l. IsOrderly sealing.size (past l)) same_local orderly) (subst (λ l. SwitchOwes sealing x (record w { journal = l }) s v) same_local t)

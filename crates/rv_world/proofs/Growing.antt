@@ -28,7 +28,7 @@ module _ {B : Type 0} (scene : Scene B) (old new : List (List SaveResult)) (entr
       let p = legal.possible in
       record {
         named = p.named;
-        views = p.views;
+        fits = p.fits;
         orderly = p.orderly;
         switches = p.switches;
         controllers = λ c there.

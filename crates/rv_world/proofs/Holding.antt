@@ -10,10 +10,12 @@ use Rattle.rv_base.specs.declared.journal.SaveResult.{SaveResult}
 use Rattle.rv_base.specs.Actors.{actor_of, is_input, same_actor}
 use Rattle.rv_base.specs.Orderly.{IsOrderly}
 use Rattle.rv_base.specs.Part.{part, drawn}
+use Rattle.rv_base.specs.Stables.{Saving}
+use Rattle.app_core.specs.Law.{AppLaw}
 use Rattle.group_controller.specs.declared.messages.ControllerInput.{ControllerInput}
 use Rattle.group_controller.specs.declared.messages.ControllerSays.{ControllerSays}
 use Rattle.group_controller.specs.Rules.{controller_work}
-use Rattle.group_controller.specs.Turns.{Controlling, Done, state_of}
+use Rattle.group_controller.specs.Turns.{Done, state_of, Controls}
 use Rattle.rv_runs.specs.Inputs.{IsHeard, By_draw, By_local}
 use Rattle.rv_runs.specs.States.{Scene, controller_at, switch_at, controller_message, switch_message}
 use Rattle.rv_runs.specs.Legal.{EntryFits, results_of}
@@ -29,12 +31,12 @@ heard_input : {B : Type 0} (scene : Scene B) (e : JournalEntry B) (found : Optio
 heard_input scene e found x (By_draw a id keep p is finds says) = rw is refl
 heard_input scene e found x (By_local a input is says) = rw is refl
 
-module _ {B A W : Type 0} (controls : Controlling A → List ℕ → Type 0) (pair : W → ℕ × ℕ) (faults : W → ℕ) (scene : Scene B) (entries : List (JournalEntry B)) (w v : Worlding B A)
-    (holds : HoldsAt controls scene (results_in w.controllers) entries w) (rests : w.owed ≡ None)
+module _ {B A W : Type 0} (law : AppLaw A) (saving : Saving W) (scene : Scene B) (entries : List (JournalEntry B)) (w v : Worlding B A)
+    (holds : HoldsAt law scene (results_in w.controllers) entries w) (rests : w.owed ≡ None)
     (e : JournalEntry B) (c : ℕ) (there : c < scene.setup.controllers) (mine : actor_of e ≡ actor.Controller c) (x : ControllerInput)
     (heard : IsHeard scene e (drawn e entries) x) (typed : EntryFits e) (orderly : IsOrderly scene.sealing.size (e ∷ entries))
     (stables stables_after : List W) (letters : List (Letter ControllerSays)) (sealed : List (Letter B))
-    (t : ControllerTakes controls pair faults x w.controllers stables c v.controllers stables_after letters)
+    (t : ControllerTakes law saving x w.controllers stables c v.controllers stables_after letters)
     (switches_same : v.switches ≡ w.switches) (owed : v.owed ≡ Some (record { actor = actor.Controller c; letters = sealed }))
     (is_owed : IsOwed controller_message scene.sealing letters sealed) where
   abbrev old : List (List SaveResult)
@@ -43,7 +45,7 @@ module _ {B A W : Type 0} (controls : Controlling A → List ℕ → Type 0) (pa
   abbrev new : List (List SaveResult)
   new = results_in v.controllers
 
-  m : IsMember controls scene old entries w.controllers c
+  m : IsMember law scene old entries w.controllers c
   m = holds.controllers c there
 
   same_member : m.member ≡ t.old
@@ -64,8 +66,8 @@ module _ {B A W : Type 0} (controls : Controlling A → List ℕ → Type 0) (pa
   setup_same : t.old.setup ≡ scene.setup
   setup_same = ap (λ y. y.setup) (sym same_member) ∙ m.setup
 
-  keeps : controls t.old scene.kinds
-  keeps = subst (λ y. controls y scene.kinds) same_member m.keeps
+  keeps : Controls law t.old scene.kinds
+  keeps = subst (λ y. Controls law y scene.kinds) same_member m.keeps
 
   owes_none : (controller_at scene (results_of old c) c (part (actor.Controller c) entries)).owed ≡ []
   owes_none = none_sealed _ _ ((holds.controller_debts c there).sealed) (ap (λ o. debt_of o (actor.Controller c)) rests)
@@ -75,22 +77,22 @@ module _ {B A W : Type 0} (controls : Controlling A → List ℕ → Type 0) (pa
       none_sealed (l ∷ says) ls is none = cc
 
   goes : GoesOn scene old new entries e c (state_of t.new) letters
-  goes = controller_goes_on scene old new entries e c x (state_of t.new) letters (pair t.stable) (pair t.stable_after) (faults t.stable) (faults t.stable_after)
+  goes = controller_goes_on scene old new entries e c x (state_of t.new) letters (saving.pair t.stable) (saving.pair t.stable_after) (saving.faults t.stable) (saving.faults t.stable_after)
       holds.legal there mine heard typed orderly owes_none other_results done
     where
       done : let work = controller_work scene.kinds scene.setup (controller_state scene old c entries) x in
-          Done (controller_state scene old c entries) work work.save (state_of t.new) letters (results_of old c) (results_of new c) (pair t.stable) (pair t.stable_after) (faults t.stable) (faults t.stable_after)
+          Done (controller_state scene old c entries) work work.save (state_of t.new) letters (results_of old c) (results_of new c) (saving.pair t.stable) (saving.pair t.stable_after) (saving.faults t.stable) (saving.faults t.stable_after)
       done = rw (← state_same, ← setup_same, results_at w.controllers c t.old t.stood, results_at v.controllers c t.new new_stands) (t.turn scene.kinds keeps)
 
   switch_part : (s : ℕ) → part (actor.Switch s) (e ∷ entries) ≡ part (actor.Switch s) entries
   switch_part s = let other : same_actor (actor_of e) (actor.Switch s) ≡ false = rw mine refl in rw other refl
 
-  members : (d : ℕ) → d < scene.setup.controllers → IsMember controls scene new (e ∷ entries) v.controllers d
+  members : (d : ℕ) → d < scene.setup.controllers → IsMember law scene new (e ∷ entries) v.controllers d
   members d within = by_number (nat_eq c d) refl
     where
-      by_number : (b : Bool) → nat_eq c d ≡ b → IsMember controls scene new (e ∷ entries) v.controllers d
+      by_number : (b : Bool) → nat_eq c d ≡ b → IsMember law scene new (e ∷ entries) v.controllers d
       by_number true is =
-          subst (λ (n : ℕ). IsMember controls scene new (e ∷ entries) v.controllers n) (eqb-true c d is)
+          subst (λ (n : ℕ). IsMember law scene new (e ∷ entries) v.controllers n) (eqb-true c d is)
           (record {
             member = t.new;
             stands = new_stands;
@@ -122,7 +124,7 @@ module _ {B A W : Type 0} (controls : Controlling A → List ℕ → Type 0) (pa
       by_number false is = rw (owed, is, goes.others d within is) (rw rests at (holds.controller_debts d within))
 
   -- it holds of the world after the turn
-  pub controller_holds : HoldsAt controls scene new (e ∷ entries) v
+  pub controller_holds : HoldsAt law scene new (e ∷ entries) v
   controller_holds = record {
     setup = holds.setup;
     legal = goes.legal;

@@ -14,7 +14,7 @@ use Rattle.of_switch.specs.declared.says.SwitchInput.{SwitchInput}
 use Rattle.of_switch.specs.declared.says.SwitchSays.{SwitchSays}
 use Rattle.of_switch.specs.State.{SwitchState}
 use Rattle.of_switch.specs.Rules.{switch_turn}
-use Rattle.group_controller.specs.Turns.{Controlling}
+use Rattle.app_core.specs.Law.{AppLaw}
 use Rattle.rv_runs.specs.Inputs.{IsHeardAt, From_draw, From_local}
 use Rattle.rv_runs.specs.States.{Scene, controller_at, switch_at, controller_message, switch_message, sealed_letters}
 use Rattle.rv_runs.specs.Legal.{EntryFits, results_of}
@@ -35,8 +35,8 @@ pub none_said : {A B : Type 0} (sealing : Rattle.rv_runs.specs.States.Sealing B)
 none_said sealing said [] ls is none = refl
 none_said sealing said (l ∷ says) ls is none = cc
 
-module _ {B A : Type 0} (controls : Controlling A → List ℕ → Type 0) (scene : Scene B) (entries : List (JournalEntry B)) (w v : Worlding B A)
-    (holds : HoldsAt controls scene (results_in w.controllers) entries w) (rests : w.owed ≡ None)
+module _ {B A : Type 0} (law : AppLaw A) (scene : Scene B) (entries : List (JournalEntry B)) (w v : Worlding B A)
+    (holds : HoldsAt law scene (results_in w.controllers) entries w) (rests : w.owed ≡ None)
     (e : JournalEntry B) (s : ℕ) (there : s < length scene.setup.ports) (mine : actor_of e ≡ actor.Switch s) (x : SwitchInput)
     (heard : IsHeardAt scene e (drawn e entries) x) (typed : EntryFits e) (orderly : IsOrderly scene.sealing.size (e ∷ entries))
     (letters : List (Letter SwitchSays)) (sealed : List (Letter B)) (t : SwitchTakes x w.switches s v.switches letters)
@@ -80,7 +80,7 @@ module _ {B A : Type 0} (controls : Controlling A → List ℕ → Type 0) (scen
           (rw (owed, self_switch s, owed_now) is_owed)
       by_number false is = rw (owed, is, goes.others r is) (rw rests at (holds.switch_debts r within))
 
-  members : (d : ℕ) → d < scene.setup.controllers → IsMember controls scene results (e ∷ entries) v.controllers d
+  members : (d : ℕ) → d < scene.setup.controllers → IsMember law scene results (e ∷ entries) v.controllers d
   members d within =
       let n = holds.controllers d within in
       record {
@@ -92,7 +92,7 @@ module _ {B A : Type 0} (controls : Controlling A → List ℕ → Type 0) (scen
         state = n.state ∙ ap (λ (ps : List (JournalEntry B × Option (Packet B))). (controller_at scene (results_of results d) d ps).now) (sym (goes.controllers d));
       }
 
-  switch_holds_by : HoldsAt controls scene results (e ∷ entries) v
+  switch_holds_by : HoldsAt law scene results (e ∷ entries) v
   switch_holds_by = record {
     setup = holds.setup;
     legal = goes.legal;
@@ -106,5 +106,5 @@ module _ {B A : Type 0} (controls : Controlling A → List ℕ → Type 0) (scen
   }
 
   -- it holds of the world after the turn
-  pub switch_holds : HoldsAt controls scene (results_in v.controllers) (e ∷ entries) v
-  switch_holds = subst (λ l. HoldsAt controls scene (results_in l) (e ∷ entries) v) (sym controllers_same) switch_holds_by
+  pub switch_holds : HoldsAt law scene (results_in v.controllers) (e ∷ entries) v
+  switch_holds = subst (λ l. HoldsAt law scene (results_in l) (e ∷ entries) v) (sym controllers_same) switch_holds_by

@@ -8,7 +8,7 @@ use Rattle.rv_base.specs.declared.journal.SaveResult.{SaveResult}
 use Rattle.rv_base.specs.Actors.{actor_of, same_actor, IsActor}
 use Rattle.rv_base.specs.Orderly.{IsOrderly}
 use Rattle.rv_base.specs.Part.{part}
-use Rattle.group_controller.specs.Turns.{Controlling}
+use Rattle.app_core.specs.Law.{AppLaw}
 use Rattle.rv_runs.specs.States.{Scene, controller_at, switch_at, controller_message, switch_message}
 use Rattle.rv_runs.specs.Legal.{Fits, EntryFits, results_of}
 use Rattle.rv_runs.specs.Committed.{switch_state, controller_state}
@@ -16,8 +16,8 @@ use Rattle.rv_world.specs.World.{Worlding, HoldsAt, debt_of, results_in}
 use Rattle.rv_world.proofs.Keeping.{none_said}
 use Rattle.rv_world.proofs.Resting.{IsQuiet, owed_behind, own_controller, own_switch, other_controller, other_switch, quiet_legal}
 
-module _ {B A : Type 0} (controls : Controlling A → List ℕ → Type 0) (scene : Scene B) (entries : List (JournalEntry B)) (w v : Worlding B A)
-    (holds : HoldsAt controls scene (results_in w.controllers) entries w)
+module _ {B A : Type 0} (law : AppLaw A) (scene : Scene B) (entries : List (JournalEntry B)) (w v : Worlding B A)
+    (holds : HoldsAt law scene (results_in w.controllers) entries w)
     (e : JournalEntry B) (quiet : IsQuiet e) (named : IsActor scene.setup (actor_of e)) (typed : EntryFits e) (orderly : IsOrderly scene.sealing.size (e ∷ entries))
     (controllers_same : v.controllers ≡ w.controllers) (switches_same : v.switches ≡ w.switches) (owed : v.owed ≡ None)
     (fits_controller : (c : ℕ) → c < scene.setup.controllers → same_actor (actor_of e) (actor.Controller c) ≡ true →
@@ -62,7 +62,7 @@ module _ {B A : Type 0} (controls : Controlling A → List ℕ → Type 0) (scen
       by_actor false is = ap (λ y. y.owed) (other_switch scene results entries e quiet s is) ∙
           none_said scene.sealing switch_message _ _ ((holds.switch_debts s within).sealed) (others_rest (actor.Switch s) is)
 
-  quiet_holds_by : HoldsAt controls scene results (e ∷ entries) v
+  quiet_holds_by : HoldsAt law scene results (e ∷ entries) v
   quiet_holds_by = record {
     setup = holds.setup;
     legal = quiet_legal scene results entries e quiet holds.legal named typed orderly fits_switch fits_controller;
@@ -85,5 +85,5 @@ module _ {B A : Type 0} (controls : Controlling A → List ℕ → Type 0) (scen
   }
 
   -- it holds of the world after the entry
-  pub quiet_holds : HoldsAt controls scene (results_in v.controllers) (e ∷ entries) v
-  quiet_holds = subst (λ l. HoldsAt controls scene (results_in l) (e ∷ entries) v) (sym controllers_same) quiet_holds_by
+  pub quiet_holds : HoldsAt law scene (results_in v.controllers) (e ∷ entries) v
+  quiet_holds = subst (λ l. HoldsAt law scene (results_in l) (e ∷ entries) v) (sym controllers_same) quiet_holds_by

@@ -7,11 +7,13 @@ use Rattle.rv_base.specs.declared.journal.Letter.{Letter}
 use Rattle.rv_base.specs.declared.journal.SaveResult.{SaveResult}
 use Rattle.rv_base.specs.declared.journal.SaveResult.TheVariants.{Saved, KeptOld, KeptNew}
 use Rattle.rv_base.specs.Causes.{Rose}
+use Rattle.rv_base.specs.Stables.{Saving}
+use Rattle.app_core.specs.Law.{AppLaw}
 use Rattle.group_controller.specs.declared.messages.ControllerInput.{ControllerInput}
 use Rattle.group_controller.specs.declared.messages.ControllerSays.{ControllerSays}
 use Rattle.group_controller.specs.State.{ControllerState, Work}
 use Rattle.group_controller.specs.Rules.{controller_work}
-use Rattle.group_controller.specs.Turns.{Controlling, Done, Saves, state_of, pair_in}
+use Rattle.group_controller.specs.Turns.{Controlling, Done, Saves, state_of, pair_in, Controls}
 use Rattle.rv_runs.proofs.Pasts.{from_some}
 use Rattle.rv_world.specs.World.{AreTold, PairsStand, SavesTold, is_failed}
 use Rattle.rv_world.specs.Actors.{ControllerTakes}
@@ -53,19 +55,19 @@ told_then a b c xs ys zs first next = record {
     by_first (inl one) = by_then one next.rose
     by_first (inr end) = let later = next.later in inr (omega (arith, end, later))
 
-pub each_told_then : {A W : Type 0} (faults : W → ℕ) (s0 s1 s2 : List W) (c0 c1 c2 : List (Controlling A)) → AreTold faults s0 s1 c0 c1 → AreTold faults s1 s2 c1 c2 → AreTold faults s0 s2 c0 c2
-each_told_then faults s0 s1 s2 c0 c1 c2 first next c x stable found stands =
+pub each_told_then : {A W : Type 0} (saving : Saving W) (s0 s1 s2 : List W) (c0 c1 c2 : List (Controlling A)) → AreTold saving s0 s1 c0 c1 → AreTold saving s1 s2 c1 c2 → AreTold saving s0 s2 c0 c2
+each_told_then saving s0 s1 s2 c0 c1 c2 first next c x stable found stands =
     let a = first c x stable found stands in
     let b = next c a.0 a.1 a.2 a.3 in
-    (b.0, b.1, b.2, b.3, told_then (faults stable) (faults a.1) (faults b.1) x.results a.0.results b.0.results a.4 b.4)
+    (b.0, b.1, b.2, b.3, told_then (saving.faults stable) (saving.faults a.1) (saving.faults b.1) x.results a.0.results b.0.results a.4 b.4)
 
-module _ {A W : Type 0} (controls : Controlling A → List ℕ → Type 0) (pair : W → ℕ × ℕ) (faults : W → ℕ) (x : ControllerInput) (before after : List (Controlling A))
-    (stables stables_after : List W) (c : ℕ) (letters : List (Letter ControllerSays)) (t : ControllerTakes controls pair faults x before stables c after stables_after letters) where
+module _ {A W : Type 0} (law : AppLaw A) (saving : Saving W) (x : ControllerInput) (before after : List (Controlling A))
+    (stables stables_after : List W) (c : ℕ) (letters : List (Letter ControllerSays)) (t : ControllerTakes law saving x before stables c after stables_after letters) where
   -- each controller still knows what is stable
-  pub pairs_stand : PairsStand pair stables before → PairsStand pair stables_after after
+  pub pairs_stand : PairsStand saving stables before → PairsStand saving stables_after after
   pairs_stand stand d y found = by_number (nat_eq c d) refl
     where
-      mine : c ≡ d → (stable : W) × (slice_get stables_after d ≡ Some stable) × (pair stable ≡ pair_in (state_of y))
+      mine : c ≡ d → (stable : W) × (slice_get stables_after d ≡ Some stable) × (saving.pair stable ≡ pair_in (state_of y))
       mine same =
           let new_found : slice_get after c ≡ Some t.new = ap (λ l. slice_get l c) t.state ∙ got_set before c t.old t.new t.stood in
           let one : t.new ≡ y = from_some t.new y (sym new_found ∙ subst (λ (n : ℕ). slice_get after n ≡ Some y) (sym same) found) in (
@@ -74,21 +76,21 @@ module _ {A W : Type 0} (controls : Controlling A → List ℕ → Type 0) (pair
             t.stands ∙ ap (λ z. pair_in (state_of z)) one,
           )
 
-      by_number : (b : Bool) → nat_eq c d ≡ b → (stable : W) × (slice_get stables_after d ≡ Some stable) × (pair stable ≡ pair_in (state_of y))
+      by_number : (b : Bool) → nat_eq c d ≡ b → (stable : W) × (slice_get stables_after d ≡ Some stable) × (saving.pair stable ≡ pair_in (state_of y))
       by_number true is = mine (eqb-true c d is)
       by_number false is =
           let old_found : slice_get before d ≡ Some y = sym (ap (λ l. slice_get l d) t.state ∙ got_other before c d t.new (eqb-false c d is)) ∙ found in
           let s = stand d y old_found in
           (s.0, ap (λ l. slice_get l d) t.stables_are ∙ got_other stables c d t.stable_after (eqb-false c d is) ∙ s.1, s.2)
 
-  saved_told : (saved old_pair new_pair : ℕ × ℕ) (r : SaveResult) → Saves r saved old_pair new_pair (faults t.stable) (faults t.stable_after) →
-      (faults t.stable + count_by is_failed (r ∷ []) ≤ faults t.stable_after) ⊎ (2 ^ 64 - 1 ≤ faults t.stable_after)
+  saved_told : (saved old_pair new_pair : ℕ × ℕ) (r : SaveResult) → Saves r saved old_pair new_pair (saving.faults t.stable) (saving.faults t.stable_after) →
+      (saving.faults t.stable + count_by is_failed (r ∷ []) ≤ saving.faults t.stable_after) ⊎ (2 ^ 64 - 1 ≤ saving.faults t.stable_after)
   saved_told saved old_pair new_pair Saved s = let later = s.later in inl (omega (arith, later))
-  saved_told saved old_pair new_pair KeptOld s = one_more (faults t.stable) (faults t.stable_after) (s.failed (λ h. cc))
-  saved_told saved old_pair new_pair KeptNew s = one_more (faults t.stable) (faults t.stable_after) (s.failed (λ h. cc))
+  saved_told saved old_pair new_pair KeptOld s = one_more (saving.faults t.stable) (saving.faults t.stable_after) (s.failed (λ h. cc))
+  saved_told saved old_pair new_pair KeptNew s = one_more (saving.faults t.stable) (saving.faults t.stable_after) (s.failed (λ h. cc))
 
-  told_by : (state : ControllerState) (work : Work) (o : Option (ℕ × ℕ)) → Done state work o (state_of t.new) letters t.old.results t.new.results (pair t.stable) (pair t.stable_after) (faults t.stable) (faults t.stable_after) →
-      SavesTold (faults t.stable) (faults t.stable_after) t.old.results t.new.results
+  told_by : (state : ControllerState) (work : Work) (o : Option (ℕ × ℕ)) → Done state work o (state_of t.new) letters t.old.results t.new.results (saving.pair t.stable) (saving.pair t.stable_after) (saving.faults t.stable) (saving.faults t.stable_after) →
+      SavesTold (saving.faults t.stable) (saving.faults t.stable_after) t.old.results t.new.results
   told_by state work None d = let same = d.faults_are in record {
     more = [];
     joined = d.kept ∙ sym (append-nil t.old.results);
@@ -99,18 +101,18 @@ module _ {A W : Type 0} (controls : Controlling A → List ℕ → Type 0) (pair
     more = d.result ∷ [];
     joined = d.kept;
     later = d.saves.later;
-    rose = saved_told saved (pair t.stable) (pair t.stable_after) d.result d.saves;
+    rose = saved_told saved (saving.pair t.stable) (saving.pair t.stable_after) d.result d.saves;
   }
 
   -- the count of faults rises with each save that fails
-  pub saves_told : (kinds : List ℕ) → controls t.old kinds → SavesTold (faults t.stable) (faults t.stable_after) t.old.results t.new.results
+  pub saves_told : (kinds : List ℕ) → Controls law t.old kinds → SavesTold (saving.faults t.stable) (saving.faults t.stable_after) t.old.results t.new.results
   saves_told kinds keeps = told_by (state_of t.old) (controller_work kinds t.old.setup (state_of t.old) x) (controller_work kinds t.old.setup (state_of t.old) x).save (t.turn kinds keeps)
 
   -- those of the others stay
-  pub each_told : (kinds : List ℕ) → controls t.old kinds → AreTold faults stables stables_after before after
+  pub each_told : (kinds : List ℕ) → Controls law t.old kinds → AreTold saving stables stables_after before after
   each_told kinds keeps d y stable found stands = by_number (nat_eq c d) refl
     where
-      mine : c ≡ d → (z : Controlling A) × (stable_after : W) × (slice_get after d ≡ Some z) × (slice_get stables_after d ≡ Some stable_after) × SavesTold (faults stable) (faults stable_after) y.results z.results
+      mine : c ≡ d → (z : Controlling A) × (stable_after : W) × (slice_get after d ≡ Some z) × (slice_get stables_after d ≡ Some stable_after) × SavesTold (saving.faults stable) (saving.faults stable_after) y.results z.results
       mine same =
           let one : t.old ≡ y = from_some t.old y (sym t.stood ∙ subst (λ (n : ℕ). slice_get before n ≡ Some y) (sym same) found) in
           let other : t.stable ≡ stable = from_some t.stable stable (sym t.stable_stood ∙ subst (λ (n : ℕ). slice_get stables n ≡ Some stable) (sym same) stands) in (
@@ -118,16 +120,16 @@ module _ {A W : Type 0} (controls : Controlling A → List ℕ → Type 0) (pair
             t.stable_after,
             subst (λ (n : ℕ). slice_get after n ≡ Some t.new) same (ap (λ l. slice_get l c) t.state ∙ got_set before c t.old t.new t.stood),
             subst (λ (n : ℕ). slice_get stables_after n ≡ Some t.stable_after) same (ap (λ l. slice_get l c) t.stables_are ∙ got_set stables c t.stable t.stable_after t.stable_stood),
-            subst (λ (s : W). SavesTold (faults s) (faults t.stable_after) y.results t.new.results) other
-                (subst (λ (o : Controlling A). SavesTold (faults t.stable) (faults t.stable_after) o.results t.new.results) one (saves_told kinds keeps)),
+            subst (λ (s : W). SavesTold (saving.faults s) (saving.faults t.stable_after) y.results t.new.results) other
+                (subst (λ (o : Controlling A). SavesTold (saving.faults t.stable) (saving.faults t.stable_after) o.results t.new.results) one (saves_told kinds keeps)),
           )
 
-      by_number : (b : Bool) → nat_eq c d ≡ b → (z : Controlling A) × (stable_after : W) × (slice_get after d ≡ Some z) × (slice_get stables_after d ≡ Some stable_after) × SavesTold (faults stable) (faults stable_after) y.results z.results
+      by_number : (b : Bool) → nat_eq c d ≡ b → (z : Controlling A) × (stable_after : W) × (slice_get after d ≡ Some z) × (slice_get stables_after d ≡ Some stable_after) × SavesTold (saving.faults stable) (saving.faults stable_after) y.results z.results
       by_number true is = mine (eqb-true c d is)
       by_number false is = (
         y,
         stable,
         ap (λ l. slice_get l d) t.state ∙ got_other before c d t.new (eqb-false c d is) ∙ found,
         ap (λ l. slice_get l d) t.stables_are ∙ got_other stables c d t.stable_after (eqb-false c d is) ∙ stands,
-        unsaved_told (faults stable) y.results,
+        unsaved_told (saving.faults stable) y.results,
       )

@@ -9,6 +9,7 @@ use Rattle.rv_base.specs.declared.journal.JournalEntry.{JournalEntry}
 use Rattle.rv_base.specs.declared.journal.SaveResult.{SaveResult}
 use Rattle.rv_base.specs.Pool.{past}
 use Rattle.of_switch.specs.State.{starting_switch}
+use Rattle.app_core.specs.Law.{AppLaw}
 use Rattle.group_controller.specs.Turns.{Controlling, pair_in, state_of}
 use Rattle.rv_runs.specs.Committed.{decided}
 use Rattle.rv_runs.specs.States.{Scene, Sealing}
@@ -29,14 +30,14 @@ mapped_length f first (suc count) = ap suc (mapped_length f (first + 1) count)
 plus_none : (s : ℕ) → 0 + s ≡ s
 plus_none s = omega arith
 
-pub world_starts : {B A : Type 0} (controls : Controlling A → List ℕ → Type 0) (scene : Scene B) (w : Worlding B A) → IsSetup scene.setup → w.owed ≡ None →
-    AreNew controls scene.setup scene.kinds scene.setup.controllers w.controllers →
+pub world_starts : {B A : Type 0} (law : AppLaw A) (scene : Scene B) (w : Worlding B A) → IsSetup scene.setup → w.owed ≡ None →
+    AreNew law scene.setup scene.kinds scene.setup.controllers w.controllers →
     w.switches ≡ map (λ s. starting_switch s scene.setup) (range_with_len 0 (length scene.setup.ports)) →
-    HoldsAt controls scene (results_in w.controllers) [] w
-world_starts controls scene w setup rests members switches = record {
+    HoldsAt law scene (results_in w.controllers) [] w
+world_starts law scene w setup rests members switches = record {
   setup = setup;
   legal = record {
-    possible = record { named = tt; views = tt; orderly = tt; switches = λ s within. tt; controllers = λ c within. tt };
+    possible = record { named = tt; fits = tt; orderly = tt; switches = λ s within. tt; controllers = λ c within. tt };
     saves = λ c within. let m = members.each c within in ap length (results_at w.controllers c m.0 m.1 ∙ m.2.unsaved);
   };
   group = members.group;
@@ -51,9 +52,9 @@ world_starts controls scene w setup rests members switches = record {
 }
 
 -- no view is promised, and each is in its first life
-pub starts_pairs : {A : Type 0} (controls : Controlling A → List ℕ → Type 0) (setup : Setup) (kinds : List ℕ) (count : ℕ) (controllers : List (Controlling A)) → AreNew controls setup kinds count controllers →
+pub starts_pairs : {A : Type 0} (law : AppLaw A) (setup : Setup) (kinds : List ℕ) (count : ℕ) (controllers : List (Controlling A)) → AreNew law setup kinds count controllers →
     (c : ℕ) (x : Controlling A) → slice_get controllers c ≡ Some x → pair_in (state_of x) ≡ (0, 0)
-starts_pairs controls setup kinds count controllers news c x found =
+starts_pairs law setup kinds count controllers news c x found =
     let within = slice_get_within controllers c x found in
     let group = news.group in
     let n = news.each c (omega (arith, within, group)) in
@@ -64,13 +65,13 @@ unfolding decided
 nothing_decided scene later = refl
 
 -- the world holds, where it is of this setup
-pub world_holds : {B A : Type 0} (controls : Controlling A → List ℕ → Type 0) (sealing : Sealing B) (kinds : List ℕ) (w : Worlding B A) (setup : Setup) → w.setup ≡ setup → w.journal ≡ [] → w.owed ≡ None → w.decided ≡ [] →
-    IsSetup setup → AreNew controls setup kinds setup.controllers w.controllers → w.switches ≡ map (λ s. starting_switch s setup) (range_with_len 0 (length setup.ports)) → Holds controls sealing w kinds
-world_holds controls sealing kinds w setup setup_is journal rests undecided is news switches =
+pub world_holds : {B A : Type 0} (law : AppLaw A) (sealing : Sealing B) (kinds : List ℕ) (w : Worlding B A) (setup : Setup) → w.setup ≡ setup → w.journal ≡ [] → w.owed ≡ None → w.decided ≡ [] →
+    IsSetup setup → AreNew law setup kinds setup.controllers w.controllers → w.switches ≡ map (λ s. starting_switch s setup) (range_with_len 0 (length setup.ports)) → Holds law sealing w kinds
+world_holds law sealing kinds w setup setup_is journal rests undecided is news switches =
     let scene = scene_in sealing w kinds in
     record {
-      run = subst (λ (l : List (JournalEntry _)). HoldsAt controls scene (results_in w.controllers) l w) (sym (ap (λ l. past l) journal))
-          (world_starts controls scene w (subst (λ s. IsSetup s) (sym setup_is) is) rests (subst (λ s. AreNew controls s kinds s.controllers w.controllers) (sym setup_is) news)
+      run = subst (λ (l : List (JournalEntry _)). HoldsAt law scene (results_in w.controllers) l w) (sym (ap (λ l. past l) journal))
+          (world_starts law scene w (subst (λ s. IsSetup s) (sym setup_is) is) rests (subst (λ s. AreNew law s kinds s.controllers w.controllers) (sym setup_is) news)
           (subst (λ s. w.switches ≡ map (λ n. starting_switch n s) (range_with_len 0 (length s.ports))) (sym setup_is) switches));
       decided = λ later more. ap (λ l. decided scene later (past l)) journal ∙ nothing_decided scene later ∙ sym undecided;
     }

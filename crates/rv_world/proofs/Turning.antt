@@ -1,8 +1,9 @@
 -- What a world keeps through the step of an actor, and through the post of what it owes.
-use Rattle.std.proofs.Common.{◌≡◌, ◌<◌, ℕ, true, false, Bool, List, [], ◌∷◌, ◌++◌, length, drop, refl, sym, ◌∙◌, ap, subst, append-nil}
+use Rattle.std.proofs.Common.{◌≡◌, ◌<◌, ◌≤◌, ℕ, true, false, Bool, List, [], ◌∷◌, ◌++◌, length, drop, refl, sym, ◌∙◌, ap, subst, arith, append-nil}
 use Rattle.std.specs.Prelude.{slice_get, Option, Some, None, IfSome, Result, Ok, Err, OnOk, IfErr, if◌then◌else◌}
 use Rattle.std.specs.List.{AllByRecursion}
 use Rattle.std.proofs.lemmas.Bool.{eqb-true}
+use Rattle.of_types.specs.declared.setup.Setup.{Setup}
 use Rattle.rv_base.specs.declared.journal.Actor.{Actor}
 use Rattle.rv_base.specs.declared.journal.Actor.TheVariants as actor
 use Rattle.rv_base.specs.declared.journal.JournalEntry.{JournalEntry}
@@ -22,9 +23,11 @@ use Rattle.rv_base.proofs.Lists.{past-push}
 use Rattle.vr_log.specs.declared.entry.Entry.{Entry}
 use Rattle.of_switch.specs.State.{SwitchState}
 use Rattle.of_switch.specs.declared.says.SwitchInput.{SwitchInput}
+use Rattle.rv_base.specs.Stables.{Saving}
+use Rattle.app_core.specs.Law.{AppLaw}
 use Rattle.group_controller.specs.declared.messages.ControllerInput.{ControllerInput}
 use Rattle.group_controller.specs.declared.messages.ControllerSays.{ControllerSays}
-use Rattle.group_controller.specs.Turns.{Controlling, state_of}
+use Rattle.group_controller.specs.Turns.{Controlling, state_of, Controls}
 use Rattle.rv_runs.specs.declared.messages.Message.{Message}
 use Rattle.rv_runs.specs.Inputs.{IsHeard, IsHeardAt}
 use Rattle.rv_runs.specs.Legal.{EntryFits, Fits, results_of}
@@ -39,14 +42,14 @@ use Rattle.rv_world.proofs.Deciding.{decided_by_one, decided_same}
 use Rattle.rv_world.proofs.Growing.{more_then, possible_with_more, same_at}
 use Rattle.rv_world.proofs.Holding.{controller_holds}
 use Rattle.rv_world.proofs.Keeping.{none_said, switch_holds}
-use Rattle.rv_world.proofs.Places.{got_set, results_at}
+use Rattle.rv_world.proofs.Places.{got_other, got_set, results_at}
 use Rattle.rv_world.proofs.Quiet.{quiet_holds}
 use Rattle.rv_world.proofs.Resting.{IsQuiet, other_controller, own_controller, owed_behind}
 use Rattle.rv_world.proofs.Stables.{each_told, each_told_then, pairs_stand, unsaved_told}
 
 -- nothing is saved
-pub none_told : {A W : Type 0} (faults : W → ℕ) (stables : List W) (controllers : List (Controlling A)) → AreTold faults stables stables controllers controllers
-none_told faults stables controllers c x stable found stands = (x, stable, found, stands, unsaved_told (faults stable) x.results)
+pub none_told : {A W : Type 0} (saving : Saving W) (stables : List W) (controllers : List (Controlling A)) → AreTold saving stables stables controllers controllers
+none_told saving stables controllers c x stable found stands = (x, stable, found, stands, unsaved_told (saving.faults stable) x.results)
 
 -- an entry in which no actor takes or posts anything
 abbrev pub IsIdle : {B : Type 0} → JournalEntry B → Type 0
@@ -118,8 +121,8 @@ quiet_state scene later entries e quiet d = by_actor (same_actor (actor_of e) (a
     by_actor false is = ap (λ y. y.now) (other_controller scene later entries e quiet d is)
 
 -- the controller of a number behind its turn
-pub new_found : {A W : Type 0} {controls : Controlling A → List ℕ → Type 0} {pair : W → ℕ × ℕ} {faults : W → ℕ} {x : ControllerInput} {before after : List (Controlling A)} {stables stables_after : List W} {c : ℕ}
-    {letters : List (Letter ControllerSays)} (t : ControllerTakes controls pair faults x before stables c after stables_after letters) → slice_get after c ≡ Some t.new
+pub new_found : {A W : Type 0} {law : AppLaw A} {saving : Saving W} {x : ControllerInput} {before after : List (Controlling A)} {stables stables_after : List W} {c : ℕ}
+    {letters : List (Letter ControllerSays)} (t : ControllerTakes law saving x before stables c after stables_after letters) → slice_get after c ≡ Some t.new
 new_found {before = before} {c = c} t = ap (λ l. slice_get l c) t.state ∙ got_set before c t.old t.new t.stood
 
 -- a controller that an entry does not name has committed what it had
@@ -128,24 +131,24 @@ others_kept : {B : Type 0} (scene : Scene B) (later : List (List SaveResult)) (e
 others_kept scene later e entries d other = ap kept_of (other_state scene later e entries d other)
 
 -- each controller has the results that it had, and maybe more
-pub more_told : {A W : Type 0} (pair : W → ℕ × ℕ) (faults : W → ℕ) (group : ℕ) (stables stables_after : List W) (controllers controllers_after : List (Controlling A)) →
-    PairsStand pair stables controllers → ((c : ℕ) → c < group → (x : Controlling A) × (slice_get controllers c ≡ Some x)) →
-    AreTold faults stables stables_after controllers controllers_after → AreMore group (results_in controllers) (results_in controllers_after)
-more_told pair faults group stables stables_after controllers controllers_after stand each told c there =
+pub more_told : {A W : Type 0} (saving : Saving W) (group : ℕ) (stables stables_after : List W) (controllers controllers_after : List (Controlling A)) →
+    PairsStand saving stables controllers → ((c : ℕ) → c < group → (x : Controlling A) × (slice_get controllers c ≡ Some x)) →
+    AreTold saving stables stables_after controllers controllers_after → AreMore group (results_in controllers) (results_in controllers_after)
+more_told saving group stables stables_after controllers controllers_after stand each told c there =
     let x = each c there in
     let s = stand c x.0 x.1 in
     let t = told c x.0 s.0 x.1 s.1 in
     (t.4.more, results_at controllers_after c t.0 t.2 ∙ t.4.joined ∙ ap (λ (l : List SaveResult). l ++ t.4.more) (sym (results_at controllers c x.0 x.1)))
 
-module _ {B A W : Type 0} (controls : Controlling A → List ℕ → Type 0) (pair : W → ℕ × ℕ) (faults : W → ℕ) (sealing : Sealing B) (faithful : IsFaithful sealing) (w : Worlding B A) (stables : List W)
-    (rests : w.owed ≡ None) (some : (kinds : List ℕ) × Holds controls sealing w kinds) (stand : PairsStand pair stables w.controllers) (e : JournalEntry B) where
+module _ {B A W : Type 0} (law : AppLaw A) (saving : Saving W) (sealing : Sealing B) (faithful : IsFaithful sealing) (w : Worlding B A) (stables : List W)
+    (rests : w.owed ≡ None) (some : (kinds : List ℕ) × Holds law sealing w kinds) (stand : PairsStand saving stables w.controllers) (e : JournalEntry B) where
   -- the world with one more entry
   abbrev pub entered : Worlding B A
   entered = record w { journal = w.journal ++ e ∷ [] }
 
   -- what is decided, where this controller alone has changed
-  controller_decides : (c : ℕ) → c < w.setup.controllers → actor_of e ≡ actor.Controller c → (kinds : List ℕ) → Holds controls sealing w kinds → (u : Worlding B A) →
-      HoldsAt controls (scene_in sealing w kinds) (results_in u.controllers) (e ∷ past w.journal) u → (new : Controlling A) → slice_get u.controllers c ≡ Some new →
+  controller_decides : (c : ℕ) → c < w.setup.controllers → actor_of e ≡ actor.Controller c → (kinds : List ℕ) → Holds law sealing w kinds → (u : Worlding B A) →
+      HoldsAt law (scene_in sealing w kinds) (results_in u.controllers) (e ∷ past w.journal) u → (new : Controlling A) → slice_get u.controllers c ≡ Some new →
       AreMore w.setup.controllers (results_in w.controllers) (results_in u.controllers) →
       (later : List (List SaveResult)) → AreMore w.setup.controllers (results_in u.controllers) later → decided (scene_in sealing w kinds) later (e ∷ past w.journal) ≡ decided_with w.decided new
   controller_decides c there mine kinds h u held new stands are later more =
@@ -161,8 +164,8 @@ module _ {B A W : Type 0} (controls : Controlling A → List ℕ → Type 0) (pa
       ∙ ap (λ y. w.decided ++ drop (length w.decided) (kept_of y)) state
 
   -- what is decided, where no controller has changed
-  pub none_decides : (kinds : List ℕ) → Holds controls sealing w kinds → (u : Worlding B A) →
-      HoldsAt controls (scene_in sealing w kinds) (results_in w.controllers) (e ∷ past w.journal) u →
+  pub none_decides : (kinds : List ℕ) → Holds law sealing w kinds → (u : Worlding B A) →
+      HoldsAt law (scene_in sealing w kinds) (results_in w.controllers) (e ∷ past w.journal) u →
       ((later : List (List SaveResult)) (d : ℕ) → controller_state (scene_in sealing w kinds) later d (e ∷ past w.journal) ≡ controller_state (scene_in sealing w kinds) later d (past w.journal)) →
       (later : List (List SaveResult)) → AreMore w.setup.controllers (results_in w.controllers) later → decided (scene_in sealing w kinds) later (e ∷ past w.journal) ≡ w.decided
   none_decides kinds h u held same later more =
@@ -171,21 +174,21 @@ module _ {B A W : Type 0} (controls : Controlling A → List ℕ → Type 0) (pa
       (λ d within. ap kept_of (same later d)) ∙ h.decided later more
 
   -- all of what is kept, where no controller has changed
-  known_after : (kinds : List ℕ) → Holds controls sealing w kinds → (switches : List SwitchState) (owed : Option (Debt B)) →
-      HoldsAt controls (scene_in sealing w kinds) (results_in w.controllers) (e ∷ past w.journal) (record entered { switches = switches; owed = owed }) →
+  known_after : (kinds : List ℕ) → Holds law sealing w kinds → (switches : List SwitchState) (owed : Option (Debt B)) →
+      HoldsAt law (scene_in sealing w kinds) (results_in w.controllers) (e ∷ past w.journal) (record entered { switches = switches; owed = owed }) →
       ((later : List (List SaveResult)) (d : ℕ) → controller_state (scene_in sealing w kinds) later d (e ∷ past w.journal) ≡ controller_state (scene_in sealing w kinds) later d (past w.journal)) →
-      Holds controls sealing (record entered { switches = switches; owed = owed }) kinds
+      Holds law sealing (record entered { switches = switches; owed = owed }) kinds
   known_after kinds h switches owed held same =
       let u : Worlding B A = record entered { switches = switches; owed = owed } in
       record {
-        run = subst (λ (l : List (JournalEntry B)). HoldsAt controls (scene_in sealing w kinds) (results_in w.controllers) l u) (sym (past-push w.journal e)) held;
+        run = subst (λ (l : List (JournalEntry B)). HoldsAt law (scene_in sealing w kinds) (results_in w.controllers) l u) (sym (past-push w.journal e)) held;
         decided = λ later more. subst (λ (l : List (JournalEntry B)). decided (scene_in sealing w kinds) later l ≡ w.decided) (sym (past-push w.journal e)) (none_decides kinds h u held same later more);
       }
 
   -- a controller takes its input
   pub controller_keeps : (c : ℕ) → c < w.setup.controllers → actor_of e ≡ actor.Controller c → (x : ControllerInput) (stables_after : List W) (v : Worlding B A) →
       ((kinds : List ℕ) → IsHeard (scene_in sealing w kinds) e (drawn e (past w.journal)) x) → EntryFits e → IsOrderly sealing.size (e ∷ past w.journal) →
-      ControllerOwes controls pair faults sealing x entered stables c v stables_after → Keeps controls pair faults sealing w stables v stables_after
+      ControllerOwes law saving sealing x entered stables c v stables_after → Keeps law saving sealing w stables v stables_after
   controller_keeps c there mine x stables_after v heard typed orderly t =
       let u : Worlding B A = record entered {
         controllers = v.controllers;
@@ -193,45 +196,47 @@ module _ {B A W : Type 0} (controls : Controlling A → List ℕ → Type 0) (pa
         decided = decided_with w.decided t.takes.new;
       } in
       let m = some.1.run.controllers c there in
-      let keeps : controls t.takes.old some.0 = subst (λ y. controls y some.0) (from_some m.member t.takes.old (sym m.stands ∙ t.takes.stood)) m.keeps in
-      let told : AreTold faults stables stables_after w.controllers v.controllers = each_told controls pair faults x w.controllers v.controllers stables stables_after c t.letters t.takes some.0 keeps in
+      let keeps : Controls law t.takes.old some.0 = subst (λ y. Controls law y some.0) (from_some m.member t.takes.old (sym m.stands ∙ t.takes.stood)) m.keeps in
+      let told : AreTold saving stables stables_after w.controllers v.controllers = each_told law saving x w.controllers v.controllers stables stables_after c t.letters t.takes some.0 keeps in
       record {
         setup = ap (λ (z : Worlding B A). z.setup) t.left;
         holds = λ kinds h.
-            let held : HoldsAt controls (scene_in sealing w kinds) (results_in v.controllers) (e ∷ past w.journal) u =
-            controller_holds controls pair faults (scene_in sealing w kinds) (past w.journal) w u h.run rests e c there mine x (heard kinds) typed orderly stables stables_after t.letters t.sealed
+            let held : HoldsAt law (scene_in sealing w kinds) (results_in v.controllers) (e ∷ past w.journal) u =
+            controller_holds law saving (scene_in sealing w kinds) (past w.journal) w u h.run rests e c there mine x (heard kinds) typed orderly stables stables_after t.letters t.sealed
             t.takes refl refl t.owes in
-            subst (λ (z : Worlding B A). Holds controls sealing z kinds) (sym t.left)
+            subst (λ (z : Worlding B A). Holds law sealing z kinds) (sym t.left)
             (record {
-              run = subst (λ (l : List (JournalEntry B)). HoldsAt controls (scene_in sealing w kinds) (results_in v.controllers) l u) (sym (past-push w.journal e)) held;
+              run = subst (λ (l : List (JournalEntry B)). HoldsAt law (scene_in sealing w kinds) (results_in v.controllers) l u) (sym (past-push w.journal e)) held;
               decided = subst (λ (l : List (JournalEntry B)). (later : List (List SaveResult)) → AreMore w.setup.controllers (results_in v.controllers) later → decided (scene_in sealing w kinds) later l ≡ u.decided)
-                  (sym (past-push w.journal e)) (controller_decides c there mine kinds h u held t.takes.new (new_found t.takes) (more_told pair faults w.setup.controllers stables stables_after w.controllers v.controllers stand (λ d within. let n = h.run.controllers d within in (n.member, n.stands)) told));
+                  (sym (past-push w.journal e)) (controller_decides c there mine kinds h u held t.takes.new (new_found t.takes) (more_told saving w.setup.controllers stables stables_after w.controllers v.controllers stand (λ d within. let n = h.run.controllers d within in (n.member, n.stands)) told));
             });
-        pairs = pairs_stand controls pair faults x w.controllers v.controllers stables stables_after c t.letters t.takes stand;
+        pairs = pairs_stand law saving x w.controllers v.controllers stables stables_after c t.letters t.takes stand;
         told = told;
+        beyond = λ i past. ap (λ (l : List W). slice_get l i) t.takes.stables_are ∙ got_other stables c i t.takes.stable_after (λ same. omega (arith, there, past, same));
       }
 
   -- a switch takes its input
   pub switch_keeps : (s : ℕ) → s < length w.setup.ports → actor_of e ≡ actor.Switch s → (x : SwitchInput) (v : Worlding B A) →
       ((kinds : List ℕ) → IsHeardAt (scene_in sealing w kinds) e (drawn e (past w.journal)) x) → EntryFits e → IsOrderly sealing.size (e ∷ past w.journal) →
-      SwitchOwes sealing x entered s v → Keeps controls pair faults sealing w stables v stables
+      SwitchOwes sealing x entered s v → Keeps law saving sealing w stables v stables
   switch_keeps s there mine x v heard typed orderly t =
       let u : Worlding B A = record entered { switches = v.switches; owed = Some (record { actor = actor.Switch s; letters = t.sealed }) } in
       let same : v.controllers ≡ w.controllers = ap (λ (z : Worlding B A). z.controllers) t.left in
       record {
         setup = ap (λ (z : Worlding B A). z.setup) t.left;
         holds = λ kinds h.
-            let held : HoldsAt controls (scene_in sealing w kinds) (results_in w.controllers) (e ∷ past w.journal) u =
-            switch_holds controls (scene_in sealing w kinds) (past w.journal) w u h.run rests e s there mine x (heard kinds) typed orderly t.letters t.sealed t.takes refl refl t.owes in
-            subst (λ (z : Worlding B A). Holds controls sealing z kinds) (sym t.left)
+            let held : HoldsAt law (scene_in sealing w kinds) (results_in w.controllers) (e ∷ past w.journal) u =
+            switch_holds law (scene_in sealing w kinds) (past w.journal) w u h.run rests e s there mine x (heard kinds) typed orderly t.letters t.sealed t.takes refl refl t.owes in
+            subst (λ (z : Worlding B A). Holds law sealing z kinds) (sym t.left)
             (known_after kinds h v.switches (Some (record { actor = actor.Switch s; letters = t.sealed })) held (λ later d. other_state (scene_in sealing w kinds) later e (past w.journal) d (ap (λ a. same_actor a (actor.Controller d)) mine)));
         pairs = λ c x found. stand c x (ap (λ (l : List (Controlling A)). slice_get l c) (sym same) ∙ found);
-        told = subst (λ (l : List (Controlling A)). AreTold faults stables stables w.controllers l) (sym same) (none_told faults stables w.controllers);
+        told = subst (λ (l : List (Controlling A)). AreTold saving stables stables w.controllers l) (sym same) (none_told saving stables w.controllers);
+        beyond = λ i past. refl;
       }
 
   -- no actor takes anything
-  pub idle_keeps : IsIdle e → IsActor w.setup (actor_of e) → IsOrderly sealing.size (e ∷ past w.journal) → (v : Worlding B A) → v ≡ entered → Keeps controls pair faults sealing w stables v stables
-  idle_keeps idle named orderly v is = subst (λ (z : Worlding B A). Keeps controls pair faults sealing w stables z stables) (sym is) (record {
+  pub idle_keeps : IsIdle e → IsActor w.setup (actor_of e) → IsOrderly sealing.size (e ∷ past w.journal) → (v : Worlding B A) → v ≡ entered → Keeps law saving sealing w stables v stables
+  idle_keeps idle named orderly v is = subst (λ (z : Worlding B A). Keeps law saving sealing w stables z stables) (sym is) (record {
     setup = refl;
     holds = λ kinds h.
         let scene = scene_in sealing w kinds in
@@ -239,8 +244,8 @@ module _ {B A W : Type 0} (controls : Controlling A → List ℕ → Type 0) (pa
         (controller_at scene (results_of (results_in w.controllers) c) c (part (actor.Controller c) (past w.journal))).owed _ ((h.run.controller_debts c within).sealed) (ap (λ o. debt_of o (actor.Controller c)) rests) in
         let none_of_switch = λ (s : ℕ) (within : s < length w.setup.ports). none_said sealing switch_message
         (switch_at scene s (part (actor.Switch s) (past w.journal))).owed _ ((h.run.switch_debts s within).sealed) (ap (λ o. debt_of o (actor.Switch s)) rests) in
-        let held : HoldsAt controls scene (results_in w.controllers) (e ∷ past w.journal) entered =
-        quiet_holds controls scene (past w.journal) w entered h.run e (idle_quiet e idle) named (idle_fits e idle) orderly refl refl rests
+        let held : HoldsAt law scene (results_in w.controllers) (e ∷ past w.journal) entered =
+        quiet_holds law scene (past w.journal) w entered h.run e (idle_quiet e idle) named (idle_fits e idle) orderly refl refl rests
         (λ c within own. idle_stands controller_message sealing _ _ e idle (none_of_controller c within))
         (λ s within own. idle_stands switch_message sealing _ _ e idle (none_of_switch s within))
         (λ c within own. idle_behind e _ idle (none_of_controller c within))
@@ -248,12 +253,13 @@ module _ {B A W : Type 0} (controls : Controlling A → List ℕ → Type 0) (pa
         (λ a other. ap (λ o. debt_of o a) rests) in
         known_after kinds h w.switches w.owed held (λ later d. quiet_state scene later (past w.journal) e (idle_quiet e idle) d);
     pairs = stand;
-    told = none_told faults stables w.controllers;
+    told = none_told saving stables w.controllers;
+    beyond = λ i past. refl;
   })
 
   -- the entry of a loss, and of a draw that finds nothing
   pub idle_steps : (turn : Turn) → e ≡ entry_of turn (past w.journal) → IsIdle e → IsActor w.setup (actor_of e) → IsOrderly sealing.size (past (w.journal ++ e ∷ [])) → (v : Worlding B A) → v ≡ entered →
-      Steps controls pair faults sealing turn w stables v stables
+      Steps law saving sealing turn w stables v stables
   idle_steps turn entry idle named orderly v is = record {
     keeps = idle_keeps idle named (rw past-push at orderly) v is;
     journal = ap (λ (z : Worlding B A). z.journal) is ∙ ap (λ (x : JournalEntry B). w.journal ++ x ∷ []) entry;
@@ -263,7 +269,7 @@ module _ {B A W : Type 0} (controls : Controlling A → List ℕ → Type 0) (pa
   -- the entry of an input of a controller
   pub controller_steps : (turn : Turn) → e ≡ entry_of turn (past w.journal) → (c : ℕ) → c < w.setup.controllers → actor_of e ≡ actor.Controller c → turn_actor turn ≡ actor.Controller c → (x : ControllerInput) →
       (stables_after : List W) (v : Worlding B A) → ((kinds : List ℕ) → IsHeard (scene_in sealing w kinds) e (drawn e (past w.journal)) x) → EntryFits e → IsOrderly sealing.size (past (w.journal ++ e ∷ [])) →
-      ControllerOwes controls pair faults sealing x entered stables c v stables_after → Steps controls pair faults sealing turn w stables v stables_after
+      ControllerOwes law saving sealing x entered stables c v stables_after → Steps law saving sealing turn w stables v stables_after
   controller_steps turn entry c there mine takes x stables_after v heard typed orderly t = record {
     keeps = controller_keeps c there mine x stables_after v heard typed (rw past-push at orderly) t;
     journal = ap (λ (z : Worlding B A). z.journal) t.left ∙ ap (λ (y : JournalEntry B). w.journal ++ y ∷ []) entry;
@@ -273,7 +279,7 @@ module _ {B A W : Type 0} (controls : Controlling A → List ℕ → Type 0) (pa
   -- and of a switch
   pub switch_steps : (turn : Turn) → e ≡ entry_of turn (past w.journal) → (s : ℕ) → s < length w.setup.ports → actor_of e ≡ actor.Switch s → turn_actor turn ≡ actor.Switch s → (x : SwitchInput) →
       (v : Worlding B A) → ((kinds : List ℕ) → IsHeardAt (scene_in sealing w kinds) e (drawn e (past w.journal)) x) → EntryFits e → IsOrderly sealing.size (past (w.journal ++ e ∷ [])) →
-      SwitchOwes sealing x entered s v → Steps controls pair faults sealing turn w stables v stables
+      SwitchOwes sealing x entered s v → Steps law saving sealing turn w stables v stables
   switch_steps turn entry s there mine takes x v heard typed orderly t = record {
     keeps = switch_keeps s there mine x v heard typed (rw past-push at orderly) t;
     journal = ap (λ (z : Worlding B A). z.journal) t.left ∙ ap (λ (y : JournalEntry B). w.journal ++ y ∷ []) entry;
@@ -281,13 +287,13 @@ module _ {B A W : Type 0} (controls : Controlling A → List ℕ → Type 0) (pa
   }
 
 -- the post of what is owed
-module _ {B A : Type 0} (controls : Controlling A → List ℕ → Type 0) (sealing : Sealing B) (faithful : IsFaithful sealing) (w : Worlding B A) where
+module _ {B A : Type 0} (law : AppLaw A) (sealing : Sealing B) (faithful : IsFaithful sealing) (w : Worlding B A) where
   -- the world once it was posted
   abbrev pub rested : Worlding B A
   rested = record w { journal = w.journal ++ posts_of sealing.size w.owed w.journal; owed = None }
 
-  no_post : (d : Option (Debt B)) → w.owed ≡ d → posts_of sealing.size d w.journal ≡ [] → ((a : Actor) → debt_of d a ≡ []) → (kinds : List ℕ) → Holds controls sealing w kinds →
-      Holds controls sealing (record w { journal = w.journal ++ posts_of sealing.size d w.journal; owed = None }) kinds
+  no_post : (d : Option (Debt B)) → w.owed ≡ d → posts_of sealing.size d w.journal ≡ [] → ((a : Actor) → debt_of d a ≡ []) → (kinds : List ℕ) → Holds law sealing w kinds →
+      Holds law sealing (record w { journal = w.journal ++ posts_of sealing.size d w.journal; owed = None }) kinds
   no_post d is none nothing kinds h = rw (none, append-nil) (record {
     run = record {
       setup = h.run.setup;
@@ -305,33 +311,33 @@ module _ {B A : Type 0} (controls : Controlling A → List ℕ → Type 0) (seal
 
   one_post : (a : Actor) (l : Letter B) (ls : List (Letter B)) → w.owed ≡ Some (record { actor = a; letters = l ∷ ls }) →
       let e : JournalEntry B = Post a (letters_posted (past w.journal)) (l ∷ ls) (lost_of sealing.size (pool (past w.journal)) (l ∷ ls)) in
-      IsOrderly sealing.size (e ∷ past w.journal) → (kinds : List ℕ) → Holds controls sealing w kinds →
-      Holds controls sealing (record w { journal = w.journal ++ e ∷ []; owed = None }) kinds
+      IsOrderly sealing.size (e ∷ past w.journal) → (kinds : List ℕ) → Holds law sealing w kinds →
+      Holds law sealing (record w { journal = w.journal ++ e ∷ []; owed = None }) kinds
   one_post a l ls is orderly kinds h =
       let e : JournalEntry B = Post a (letters_posted (past w.journal)) (l ∷ ls) (lost_of sealing.size (pool (past w.journal)) (l ∷ ls)) in
       let v : Worlding B A = record w { journal = w.journal ++ e ∷ []; owed = None } in
       let scene = scene_in sealing w kinds in
-      let held : HoldsAt controls scene (results_in w.controllers) (e ∷ past w.journal) v =
-      quiet_holds controls scene (past w.journal) w v h.run e tt (named_debtor scene (past w.journal) a h.run.legal.possible.named (rw is at h.run.debtor)) tt orderly refl refl refl
+      let held : HoldsAt law scene (results_in w.controllers) (e ∷ past w.journal) v =
+      quiet_holds law scene (past w.journal) w v h.run e tt (named_debtor scene (past w.journal) a h.run.legal.possible.named (rw is at h.run.debtor)) tt orderly refl refl refl
       (λ c within own. let o = rw (is, own) at (h.run.controller_debts c within) in (o.sealed, (λ none. cc), o.typed))
       (λ s within own. let o = rw (is, own) at (h.run.switch_debts s within) in (o.sealed, (λ none. cc), o.typed))
       (λ c within own. refl)
       (λ s within own. refl)
       (λ b other. rw (is, other) refl) in
       record {
-        run = subst (λ (p : List (JournalEntry B)). HoldsAt controls scene (results_in w.controllers) p v) (sym (past-push w.journal e)) held;
+        run = subst (λ (p : List (JournalEntry B)). HoldsAt law scene (results_in w.controllers) p v) (sym (past-push w.journal e)) held;
         decided = λ later more. subst (λ (p : List (JournalEntry B)). decided scene later p ≡ w.decided) (sym (past-push w.journal e))
             (decided_same scene later h.run.setup faithful e (past w.journal) (possible_with_more scene (results_in w.controllers) later (e ∷ past w.journal) held.legal more)
             (λ d within. ap kept_of (quiet_state scene later (past w.journal) e tt d)) ∙ h.decided later more);
       }
 
   -- the world keeps its invariant
-  pub posts_hold : IsOrderly sealing.size (past (w.journal ++ posts_of sealing.size w.owed w.journal)) → (kinds : List ℕ) → Holds controls sealing w kinds → Holds controls sealing rested kinds
+  pub posts_hold : IsOrderly sealing.size (past (w.journal ++ posts_of sealing.size w.owed w.journal)) → (kinds : List ℕ) → Holds law sealing w kinds → Holds law sealing rested kinds
   posts_hold orderly kinds h = by_debt w.owed refl orderly
     where
       by_letters : (a : Actor) (ls : List (Letter B)) → w.owed ≡ Some (record { actor = a; letters = ls }) →
           IsOrderly sealing.size (past (w.journal ++ posts_of sealing.size (Some (record { actor = a; letters = ls })) w.journal)) →
-          Holds controls sealing (record w { journal = w.journal ++ posts_of sealing.size (Some (record { actor = a; letters = ls })) w.journal; owed = None }) kinds
+          Holds law sealing (record w { journal = w.journal ++ posts_of sealing.size (Some (record { actor = a; letters = ls })) w.journal; owed = None }) kinds
       by_letters a [] is o = no_post (Some (record { actor = a; letters = [] })) is refl (λ b. if_same (same_actor a b)) kinds h
         where
           if_same : (b : Bool) → ◌≡◌ {A = List (Letter B)} (if b then [] else []) []
@@ -340,44 +346,46 @@ module _ {B A : Type 0} (controls : Controlling A → List ℕ → Type 0) (seal
       by_letters a (l ∷ ls) is o = one_post a l ls is (rw past-push at o) kinds h
 
       by_debt : (d : Option (Debt B)) → w.owed ≡ d → IsOrderly sealing.size (past (w.journal ++ posts_of sealing.size d w.journal)) →
-          Holds controls sealing (record w { journal = w.journal ++ posts_of sealing.size d w.journal; owed = None }) kinds
+          Holds law sealing (record w { journal = w.journal ++ posts_of sealing.size d w.journal; owed = None }) kinds
       by_debt None is o = no_post None is refl (λ b. refl) kinds h
       by_debt (Some d) is o = by_letters d.actor d.letters is o
 
 -- what two calls keep, one after the other
-pub keeps_then : {B A W : Type 0} (controls : Controlling A → List ℕ → Type 0) (pair : W → ℕ × ℕ) (faults : W → ℕ) (sealing : Sealing B) (a b c : Worlding B A) (s0 s1 s2 : List W) →
-    Keeps controls pair faults sealing a s0 b s1 → Keeps controls pair faults sealing b s1 c s2 → Keeps controls pair faults sealing a s0 c s2
-keeps_then controls pair faults sealing a b c s0 s1 s2 first next = record {
+pub keeps_then : {B A W : Type 0} (law : AppLaw A) (saving : Saving W) (sealing : Sealing B) (a b c : Worlding B A) (s0 s1 s2 : List W) →
+    Keeps law saving sealing a s0 b s1 → Keeps law saving sealing b s1 c s2 → Keeps law saving sealing a s0 c s2
+keeps_then law saving sealing a b c s0 s1 s2 first next = record {
   setup = next.setup ∙ first.setup;
   holds = λ kinds h. next.holds kinds (first.holds kinds h);
   pairs = next.pairs;
-  told = each_told_then faults s0 s1 s2 a.controllers b.controllers c.controllers first.told next.told;
+  told = each_told_then saving s0 s1 s2 a.controllers b.controllers c.controllers first.told next.told;
+  beyond = λ i past. next.beyond i (subst (λ (s : Setup). s.controllers ≤ i) (sym first.setup) past) ∙ first.beyond i past;
 }
 
 -- of a world once what it owes was posted
-pub post_holds : {B A : Type 0} (controls : Controlling A → List ℕ → Type 0) (sealing : Sealing B) → IsFaithful sealing → (w : Worlding B A) (d : Debt B) → w.owed ≡ Some d → (journal : List (JournalEntry B)) →
+pub post_holds : {B A : Type 0} (law : AppLaw A) (sealing : Sealing B) → IsFaithful sealing → (w : Worlding B A) (d : Debt B) → w.owed ≡ Some d → (journal : List (JournalEntry B)) →
     journal ≡ w.journal ++ posting sealing.size d.actor d.letters (past w.journal) → IsOrderly sealing.size (past journal) → (owed : Option (Debt B)) → owed ≡ None →
-    (kinds : List ℕ) → Holds controls sealing w kinds → Holds controls sealing (record w { journal = journal; owed = owed }) kinds
-post_holds controls sealing faithful w d is journal journal_is orderly owed none kinds h =
+    (kinds : List ℕ) → Holds law sealing w kinds → Holds law sealing (record w { journal = journal; owed = owed }) kinds
+post_holds law sealing faithful w d is journal journal_is orderly owed none kinds h =
     let posted : journal ≡ w.journal ++ posts_of sealing.size w.owed w.journal = journal_is ∙ ap (λ o. w.journal ++ posts_of sealing.size o w.journal) (sym is) in
-    subst (λ o. Holds controls sealing (record w { journal = journal; owed = o }) kinds) (sym none)
-    (subst (λ l. Holds controls sealing (record w { journal = l; owed = None }) kinds) (sym posted)
-    (posts_hold controls sealing faithful w (subst (λ l. IsOrderly sealing.size (past l)) posted orderly) kinds h))
+    subst (λ o. Holds law sealing (record w { journal = journal; owed = o }) kinds) (sym none)
+    (subst (λ l. Holds law sealing (record w { journal = l; owed = None }) kinds) (sym posted)
+    (posts_hold law sealing faithful w (subst (λ l. IsOrderly sealing.size (past l)) posted orderly) kinds h))
 
 -- of a world whose parts are put back
-pub same_holds : {B A : Type 0} (controls : Controlling A → List ℕ → Type 0) (sealing : Sealing B) (w : Worlding B A) (journal : List (JournalEntry B)) (owed : Option (Debt B)) → journal ≡ w.journal → owed ≡ w.owed →
-    (kinds : List ℕ) → Holds controls sealing w kinds → Holds controls sealing (record w { journal = journal; owed = owed }) kinds
-same_holds controls sealing w journal owed journal_is owed_is kinds h =
-    subst (λ l. Holds controls sealing (record w { journal = l; owed = owed }) kinds) (sym journal_is) (subst (λ o. Holds controls sealing (record w { owed = o }) kinds) (sym owed_is) h)
+pub same_holds : {B A : Type 0} (law : AppLaw A) (sealing : Sealing B) (w : Worlding B A) (journal : List (JournalEntry B)) (owed : Option (Debt B)) → journal ≡ w.journal → owed ≡ w.owed →
+    (kinds : List ℕ) → Holds law sealing w kinds → Holds law sealing (record w { journal = journal; owed = owed }) kinds
+same_holds law sealing w journal owed journal_is owed_is kinds h =
+    subst (λ l. Holds law sealing (record w { journal = l; owed = owed }) kinds) (sym journal_is) (subst (λ o. Holds law sealing (record w { owed = o }) kinds) (sym owed_is) h)
 
 -- a call in which no actor takes a turn keeps a world that it keeps holding
-pub rests_keeps : {B A W : Type 0} (controls : Controlling A → List ℕ → Type 0) (pair : W → ℕ × ℕ) (faults : W → ℕ) (sealing : Sealing B) (w v : Worlding B A) (stables : List W) → v.setup ≡ w.setup → v.controllers ≡ w.controllers →
-    ((kinds : List ℕ) → Holds controls sealing w kinds → Holds controls sealing v kinds) → PairsStand pair stables w.controllers → Keeps controls pair faults sealing w stables v stables
-rests_keeps controls pair faults sealing w v stables setup same holds stand = record {
+pub rests_keeps : {B A W : Type 0} (law : AppLaw A) (saving : Saving W) (sealing : Sealing B) (w v : Worlding B A) (stables : List W) → v.setup ≡ w.setup → v.controllers ≡ w.controllers →
+    ((kinds : List ℕ) → Holds law sealing w kinds → Holds law sealing v kinds) → PairsStand saving stables w.controllers → Keeps law saving sealing w stables v stables
+rests_keeps law saving sealing w v stables setup same holds stand = record {
   setup = setup;
   holds = holds;
   pairs = λ c x found. stand c x (ap (λ (l : List (Controlling _)). slice_get l c) (sym same) ∙ found);
-  told = subst (λ (l : List (Controlling _)). AreTold faults stables stables w.controllers l) (sym same) (none_told faults stables w.controllers);
+  told = subst (λ (l : List (Controlling _)). AreTold saving stables stables w.controllers l) (sym same) (none_told saving stables w.controllers);
+  beyond = λ i past. refl;
 }
 
 -- the setup and the controllers behind a post, however it ended
@@ -397,11 +405,11 @@ on_ok (Ok x) P Q next h = next h
 on_ok (Err e) P Q next h = tt
 
 -- a controller took its turn, and what is decided goes on with what it has committed
-pub controller_owes : {B A W : Type 0} (controls : Controlling A → List ℕ → Type 0) (pair : W → ℕ × ℕ) (faults : W → ℕ) (sealing : Sealing B) (input : ControllerInput) (old : Worlding B A) (stables : List W) (number : ℕ)
+pub controller_owes : {B A W : Type 0} (law : AppLaw A) (saving : Saving W) (sealing : Sealing B) (input : ControllerInput) (old : Worlding B A) (stables : List W) (number : ℕ)
     (controllers : List (Controlling A)) (stables_after : List W) (letters : List (Letter ControllerSays)) (sealed : List (Letter B)) (log : List Entry) (x : Controlling A) →
-    ControllerTakes controls pair faults input old.controllers stables number controllers stables_after letters → IsOwed controller_message sealing letters sealed → slice_get controllers number ≡ Some x → log ≡ decided_with old.decided x →
-    ControllerOwes controls pair faults sealing input old stables number (record old { controllers = controllers; owed = Some (record { actor = actor.Controller number; letters = sealed }); decided = log }) stables_after
-controller_owes controls pair faults sealing input old stables number controllers stables_after letters sealed log x t owes found is = record {
+    ControllerTakes law saving input old.controllers stables number controllers stables_after letters → IsOwed controller_message sealing letters sealed → slice_get controllers number ≡ Some x → log ≡ decided_with old.decided x →
+    ControllerOwes law saving sealing input old stables number (record old { controllers = controllers; owed = Some (record { actor = actor.Controller number; letters = sealed }); decided = log }) stables_after
+controller_owes law saving sealing input old stables number controllers stables_after letters sealed log x t owes found is = record {
   letters = letters;
   sealed = sealed;
   takes = t;

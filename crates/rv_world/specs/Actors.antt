@@ -6,9 +6,11 @@ use Rattle.of_switch.specs.declared.says.SwitchInput.{SwitchInput}
 use Rattle.of_switch.specs.declared.says.SwitchSays.{SwitchSays}
 use Rattle.of_switch.specs.State.{SwitchState}
 use Rattle.of_switch.specs.Rules.{switch_turn}
+use Rattle.rv_base.specs.Stables.{Saving}
+use Rattle.app_core.specs.Law.{AppLaw}
 use Rattle.group_controller.specs.declared.messages.ControllerInput.{ControllerInput}
 use Rattle.group_controller.specs.declared.messages.ControllerSays.{ControllerSays}
-use Rattle.group_controller.specs.Turns.{Controlling, Turns, state_of, pair_in}
+use Rattle.group_controller.specs.Turns.{Controlling, Turns, state_of, pair_in, Controls}
 use Rattle.rv_runs.specs.States.{Sealing, switch_message, controller_message}
 use Rattle.rv_world.specs.World.{IsOwed, Worlding, decided_with}
 
@@ -20,12 +22,12 @@ pub record SwitchTakes (input : SwitchInput) (before : List SwitchState) (number
   pub says : letters ≡ (switch_turn old input).letters
 
 -- the controller of a number keeps to its invariant, and its stable pair stands at the number
-pub record IsServed {A W : Type 0} (controls : Controlling A → List ℕ → Type 0) (pair : W → ℕ × ℕ) (controllers : List (Controlling A)) (stables : List W) (number : ℕ) : Type 0 where
-  pub kept : (x : Controlling A) → slice_get controllers number ≡ Some x → (kinds : List ℕ) × controls x kinds
-  pub stands : (x : Controlling A) (stable : W) → slice_get controllers number ≡ Some x → slice_get stables number ≡ Some stable → pair stable ≡ pair_in (state_of x)
+pub record IsServed {A W : Type 0} (law : AppLaw A) (saving : Saving W) (controllers : List (Controlling A)) (stables : List W) (number : ℕ) : Type 0 where
+  pub kept : (x : Controlling A) → slice_get controllers number ≡ Some x → (kinds : List ℕ) × Controls law x kinds
+  pub stands : (x : Controlling A) (stable : W) → slice_get controllers number ≡ Some x → slice_get stables number ≡ Some stable → saving.pair stable ≡ pair_in (state_of x)
 
 -- the controller of a number takes a turn, whatever the kinds of its applications are, beside its stable pair
-pub record ControllerTakes {A W : Type 0} (controls : Controlling A → List ℕ → Type 0) (pair : W → ℕ × ℕ) (faults : W → ℕ) (input : ControllerInput)
+pub record ControllerTakes {A W : Type 0} (law : AppLaw A) (saving : Saving W) (input : ControllerInput)
     (before : List (Controlling A)) (stables : List W) (number : ℕ) (after : List (Controlling A)) (stables_after : List W) (letters : List (Letter ControllerSays)) : Type 0 where
   pub old : Controlling A
   pub new : Controlling A
@@ -37,9 +39,9 @@ pub record ControllerTakes {A W : Type 0} (controls : Controlling A → List ℕ
   pub stables_are : stables_after ≡ slice_set stables number stable_after
   pub setup : new.setup ≡ old.setup
   pub me : new.me ≡ old.me
-  pub turn : (kinds : List ℕ) → controls old kinds → Turns kinds old input letters new (pair stable) (pair stable_after) (faults stable) (faults stable_after)
-  pub kept : (kinds : List ℕ) → controls old kinds → controls new kinds
-  pub stands : pair stable_after ≡ pair_in (state_of new)
+  pub turn : (kinds : List ℕ) → Controls law old kinds → Turns kinds old input letters new (saving.pair stable) (saving.pair stable_after) (saving.faults stable) (saving.faults stable_after)
+  pub kept : (kinds : List ℕ) → Controls law old kinds → Controls law new kinds
+  pub stands : saving.pair stable_after ≡ pair_in (state_of new)
 
 -- a switch of a world takes a turn, and owes what it says
 pub record SwitchOwes {B A : Type 0} (sealing : Sealing B) (input : SwitchInput) (old : Worlding B A) (number : ℕ) (new : Worlding B A) : Type 0 where
@@ -50,11 +52,11 @@ pub record SwitchOwes {B A : Type 0} (sealing : Sealing B) (input : SwitchInput)
   pub left : new ≡ record old { switches = new.switches; owed = Some (record { actor = actor.Switch number; letters = sealed }) }
 
 -- a controller of a world takes a turn, beside its stable pair, and owes what it says
-pub record ControllerOwes {B A W : Type 0} (controls : Controlling A → List ℕ → Type 0) (pair : W → ℕ × ℕ) (faults : W → ℕ) (sealing : Sealing B) (input : ControllerInput)
+pub record ControllerOwes {B A W : Type 0} (law : AppLaw A) (saving : Saving W) (sealing : Sealing B) (input : ControllerInput)
     (old : Worlding B A) (stables : List W) (number : ℕ) (new : Worlding B A) (stables_after : List W) : Type 0 where
   pub letters : List (Letter ControllerSays)
   pub sealed : List (Letter B)
-  pub takes : ControllerTakes controls pair faults input old.controllers stables number new.controllers stables_after letters
+  pub takes : ControllerTakes law saving input old.controllers stables number new.controllers stables_after letters
   pub owes : IsOwed controller_message sealing letters sealed
   pub left : new ≡ record old {
     controllers = new.controllers;

@@ -1,5 +1,6 @@
 -- What a world is, what it keeps true of its parts, and what its turns do.
-use Rattle.std.specs.Prelude.{◌≡◌, ◌<◌, ◌≤◌, ◌⊎◌, ℕ, ◌+◌, ◌-◌, ◌^◌, Bool, true, false, List, [], ◌∷◌, ◌++◌, length, map, count_by, drop, slice_get, Option, Some, None, IfSome, Result, Err, if◌then◌else◌}
+use Rattle.std.specs.Prelude.{◌≡◌, ◌<◌, ◌≤◌, ◌⊎◌, ℕ, ◌+◌, ◌-◌, ◌^◌, Bool, true, false, List, [], ◌∷◌, ◌++◌, length, map, count_by, drop, slice_get, Option, Some, None, IfSome, Result, Err, Vec, if◌then◌else◌}
+use Rattle.std.specs.List.{AllByRecursion, range_with_len}
 use Rattle.of_types.specs.declared.setup.Setup.{Setup}
 use Rattle.of_types.specs.Setups.{IsSetup}
 use Rattle.rv_base.specs.declared.journal.Actor.{Actor}
@@ -16,12 +17,12 @@ use Rattle.rv_base.specs.Part.{part}
 use Rattle.rv_base.specs.Pool.{past}
 use Rattle.rv_base.specs.Turns.{entry_of, posting, turn_actor, IsFull}
 use Rattle.vr_log.specs.declared.entry.Entry.{Entry}
-use Rattle.of_switch.specs.State.{SwitchState}
+use Rattle.of_switch.specs.State.{SwitchState, starting_switch}
+use Rattle.rv_base.specs.Stables.{Saving}
+use Rattle.app_core.specs.Law.{AppLaw}
 use Rattle.group_controller.specs.State.{starting_controller}
-use Rattle.group_controller.specs.Turns.{AreAlike, Controlling, state_of, pair_in}
+use Rattle.group_controller.specs.Turns.{AreAlike, Controlling, state_of, pair_in, Controls}
 use Rattle.rv_runs.specs.declared.messages.Message.{Message}
-use Rattle.rv_runs.specs.declared.messages.Unsealed.{Unsealed}
-use Rattle.rv_runs.specs.declared.messages.Way.{Way}
 use Rattle.rv_runs.specs.States.{Scene, Sealing, switch_at, controller_at, sealed_letters, switch_message, controller_message}
 use Rattle.rv_runs.specs.Legal.{AreTyped, IsLegalPast, results_of}
 use Rattle.rv_runs.specs.Committed.{controller_state, decided, kept_of, switch_state}
@@ -37,10 +38,6 @@ pub record Worlding (B A : Type 0) : Type 0 where
   pub switches : List SwitchState
   pub owed : Option (Debt B)
   pub decided : List Entry
-
--- how the bodies of a kind stand for messages
-abbrev pub sealing_by : {B : Type 0} → (Message → B) → (Way → B → Unsealed) → (B → ℕ) → Sealing B
-sealing_by sealed spelled size = record { sealed = sealed; spelled = spelled; size = size }
 
 -- what its run is about, where its applications are of these kinds
 abbrev pub scene_in : {B A : Type 0} → Sealing B → Worlding B A → List ℕ → Scene B
@@ -66,23 +63,23 @@ pub record IsOwed {A B : Type 0} (said : A → Message) (sealing : Sealing B) (s
   pub typed : AreTyped said says
 
 -- the controller of a number is the one that the past gives
-pub record IsMember {B A : Type 0} (controls : Controlling A → List ℕ → Type 0) (scene : Scene B) (results : List (List SaveResult))
+pub record IsMember {B A : Type 0} (law : AppLaw A) (scene : Scene B) (results : List (List SaveResult))
     (entries : List (JournalEntry B)) (controllers : List (Controlling A)) (number : ℕ) : Type 0 where
   pub member : Controlling A
   pub stands : slice_get controllers number ≡ Some member
-  pub keeps : controls member scene.kinds
+  pub keeps : Controls law member scene.kinds
   pub setup : member.setup ≡ scene.setup
   pub me : member.me ≡ number
   pub state : state_of member ≡ controller_state scene results number entries
 
 -- the journal of a world is that of a run, and its actors and what they owe are those that the journal gives
-pub record HoldsAt {B A : Type 0} (controls : Controlling A → List ℕ → Type 0) (scene : Scene B) (results : List (List SaveResult))
+pub record HoldsAt {B A : Type 0} (law : AppLaw A) (scene : Scene B) (results : List (List SaveResult))
     (entries : List (JournalEntry B)) (w : Worlding B A) : Type 0 where
   pub setup : IsSetup scene.setup
   pub legal : IsLegalPast scene results entries
   pub group : length w.controllers ≡ scene.setup.controllers
   pub count : length w.switches ≡ length scene.setup.ports
-  pub controllers : (c : ℕ) → c < scene.setup.controllers → IsMember controls scene results entries w.controllers c
+  pub controllers : (c : ℕ) → c < scene.setup.controllers → IsMember law scene results entries w.controllers c
   pub switches : (s : ℕ) → s < length scene.setup.ports → slice_get w.switches s ≡ Some (switch_state scene s entries)
   pub controller_debts : (c : ℕ) → c < scene.setup.controllers →
       IsOwed controller_message scene.sealing (controller_at scene (results_of results c) c (part (actor.Controller c) entries)).owed (debt_of w.owed (actor.Controller c))
@@ -96,8 +93,8 @@ AreMore group old new = (c : ℕ) → c < group → (more : List SaveResult) × 
 
 -- what a world keeps true of its parts, where its applications are of these kinds: its run, and that it knows what is
 -- decided, whatever becomes of later saves
-pub record Holds {B A : Type 0} (controls : Controlling A → List ℕ → Type 0) (sealing : Sealing B) (w : Worlding B A) (kinds : List ℕ) : Type 0 where
-  pub run : HoldsAt controls (scene_in sealing w kinds) (results_in w.controllers) (past w.journal) w
+pub record Holds {B A : Type 0} (law : AppLaw A) (sealing : Sealing B) (w : Worlding B A) (kinds : List ℕ) : Type 0 where
+  pub run : HoldsAt law (scene_in sealing w kinds) (results_in w.controllers) (past w.journal) w
   pub decided : (later : List (List SaveResult)) → AreMore w.setup.controllers (results_in w.controllers) later →
       decided (scene_in sealing w kinds) later (past w.journal) ≡ w.decided
 
@@ -105,12 +102,12 @@ pub record Holds {B A : Type 0} (controls : Controlling A → List ℕ → Type 
 -- is legal: it is orderly, names actors of the setup alone, and gives each of them a sound part, with the results of the
 -- saves that the controllers kept. These are all actors of the setup, by number, in the states that their parts give them,
 -- and none of them owes a letter.
-pub record IsPlayed {B A : Type 0} (controls : Controlling A → List ℕ → Type 0) (sealing : Sealing B) (w : Worlding B A) (kinds : List ℕ) : Type 0 where
+pub record IsPlayed {B A : Type 0} (law : AppLaw A) (sealing : Sealing B) (w : Worlding B A) (kinds : List ℕ) : Type 0 where
   pub setup : IsSetup w.setup
   pub legal : IsLegalPast (scene_in sealing w kinds) (results_in w.controllers) (past w.journal)
   pub group : length w.controllers ≡ w.setup.controllers
   pub count : length w.switches ≡ length w.setup.ports
-  pub controllers : (c : ℕ) → c < w.setup.controllers → IsMember controls (scene_in sealing w kinds) (results_in w.controllers) (past w.journal) w.controllers c
+  pub controllers : (c : ℕ) → c < w.setup.controllers → IsMember law (scene_in sealing w kinds) (results_in w.controllers) (past w.journal) w.controllers c
   pub switches : (s : ℕ) → s < length w.setup.ports → slice_get w.switches s ≡ Some (switch_state (scene_in sealing w kinds) s (past w.journal))
   pub controllers_rest : (c : ℕ) → c < w.setup.controllers →
       (controller_at (scene_in sealing w kinds) (results_of (results_in w.controllers) c) c (part (actor.Controller c) (past w.journal))).owed ≡ []
@@ -118,10 +115,19 @@ pub record IsPlayed {B A : Type 0} (controls : Controlling A → List ℕ → Ty
   pub decided : (later : List (List SaveResult)) → AreMore w.setup.controllers (results_in w.controllers) later →
       decided (scene_in sealing w kinds) later (past w.journal) ≡ w.decided
 
+-- a claim on what the run of a world is about, for all kinds of which its applications may be
+abbrev pub ForEachScene : {B A : Type 0} → AppLaw A → Sealing B → Worlding B A → (Scene B → Type 0) → Type 0
+ForEachScene law sealing w claim = (kinds : List ℕ) → Holds law sealing w kinds → claim (scene_in sealing w kinds)
+
+-- a world of these parts, which owes nothing
+abbrev pub resting : {B A : Type 0} → Setup → List (JournalEntry B) → List (Controlling A) → List SwitchState → List Entry → Worlding B A
+resting setup journal controllers switches decided =
+    record { setup = setup; journal = journal; controllers = controllers; switches = switches; owed = None; decided = decided }
+
 -- the stable pair of each controller is the one that it knows
-abbrev pub PairsStand : {A W : Type 0} → (W → ℕ × ℕ) → List W → List (Controlling A) → Type 0
-PairsStand {A = A} {W = W} pair stables controllers = (c : ℕ) (x : Controlling A) → slice_get controllers c ≡ Some x →
-    (stable : W) × (slice_get stables c ≡ Some stable) × (pair stable ≡ pair_in (state_of x))
+abbrev pub PairsStand : {A W : Type 0} → Saving W → List W → List (Controlling A) → Type 0
+PairsStand {A = A} {W = W} saving stables controllers = (c : ℕ) (x : Controlling A) → slice_get controllers c ≡ Some x →
+    (stable : W) × (slice_get stables c ≡ Some stable) × (saving.pair stable ≡ pair_in (state_of x))
 
 -- whether a save failed
 abbrev pub is_failed : SaveResult → Bool
@@ -137,19 +143,21 @@ pub record SavesTold (before after : ℕ) (old new : List SaveResult) : Type 0 w
   pub rose : (before + count_by is_failed more ≤ after) ⊎ (2 ^ 64 - 1 ≤ after)
 
 -- and so of each controller
-abbrev pub AreTold : {A W : Type 0} → (W → ℕ) → List W → List W → List (Controlling A) → List (Controlling A) → Type 0
-AreTold {A = A} {W = W} faults stables stables_after controllers controllers_after = (c : ℕ) (x : Controlling A) (stable : W) →
+abbrev pub AreTold : {A W : Type 0} → Saving W → List W → List W → List (Controlling A) → List (Controlling A) → Type 0
+AreTold {A = A} {W = W} saving stables stables_after controllers controllers_after = (c : ℕ) (x : Controlling A) (stable : W) →
     slice_get controllers c ≡ Some x → slice_get stables c ≡ Some stable →
     (y : Controlling A) × (stable_after : W) × (slice_get controllers_after c ≡ Some y) × (slice_get stables_after c ≡ Some stable_after)
-    × SavesTold (faults stable) (faults stable_after) x.results y.results
+    × SavesTold (saving.faults stable) (saving.faults stable_after) x.results y.results
 
--- what a call keeps of a world and the stable pairs of its controllers, whatever the kinds of their applications
-pub record Keeps {B A W : Type 0} (controls : Controlling A → List ℕ → Type 0) (pair : W → ℕ × ℕ) (faults : W → ℕ) (sealing : Sealing B)
+-- what a call keeps of a world and the stable pairs of its controllers, whatever the kinds of their applications. Further stable
+-- pairs it leaves alone
+pub record Keeps {B A W : Type 0} (law : AppLaw A) (saving : Saving W) (sealing : Sealing B)
     (old : Worlding B A) (stables : List W) (new : Worlding B A) (stables_after : List W) : Type 0 where
   pub setup : new.setup ≡ old.setup
-  pub holds : (kinds : List ℕ) → Holds controls sealing old kinds → Holds controls sealing new kinds
-  pub pairs : PairsStand pair stables_after new.controllers
-  pub told : AreTold faults stables stables_after old.controllers new.controllers
+  pub holds : (kinds : List ℕ) → Holds law sealing old kinds → Holds law sealing new kinds
+  pub pairs : PairsStand saving stables_after new.controllers
+  pub told : AreTold saving stables stables_after old.controllers new.controllers
+  pub beyond : (i : ℕ) → old.setup.controllers ≤ i → slice_get stables_after i ≡ slice_get stables i
 
 -- what is decided once a controller has committed what it has now
 abbrev pub decided_with : {A : Type 0} → List Entry → Controlling A → List Entry
@@ -160,14 +168,18 @@ abbrev pub posts_of : {B : Type 0} → (B → ℕ) → Option (Debt B) → List 
 posts_of size None journal = []
 posts_of size (Some d) journal = posting size d.actor d.letters (past journal)
 
+-- a world once it has posted what it owes
+abbrev pub with_posts : {B A : Type 0} → (B → ℕ) → Worlding B A → Worlding B A
+with_posts size w = record w { journal = w.journal ++ posts_of size w.owed w.journal; owed = None }
+
 -- a turn was taken behind the post of what was owed
 abbrev pub taken : {B : Type 0} → Turn → List (JournalEntry B) → List (JournalEntry B)
 taken turn journal = journal ++ entry_of turn (past journal) ∷ []
 
 -- a world takes a step: its entry stands, and what its actor says then is owed
-pub record Steps {B A W : Type 0} (controls : Controlling A → List ℕ → Type 0) (pair : W → ℕ × ℕ) (faults : W → ℕ) (sealing : Sealing B) (turn : Turn)
+pub record Steps {B A W : Type 0} (law : AppLaw A) (saving : Saving W) (sealing : Sealing B) (turn : Turn)
     (old : Worlding B A) (stables : List W) (new : Worlding B A) (stables_after : List W) : Type 0 where
-  pub keeps : Keeps controls pair faults sealing old stables new stables_after
+  pub keeps : Keeps law saving sealing old stables new stables_after
   pub journal : new.journal ≡ taken turn old.journal
   pub owed : IfSome new.owed (λ d. d.actor ≡ turn_actor turn)
 
@@ -202,10 +214,14 @@ abbrev pub IfMemory : {T : Type 0} → Result T Stop → Type 0 → Type 0
 IfMemory (Err OutOfMemory) claim = Unit {0}
 IfMemory _ claim = claim
 
--- the applications of each controller, all of these kinds. One is there for its first life
-pub record IsStocked {A : Type 0} (kinds_of : A → List ℕ) (most_of : A → ℕ) (kinds : List ℕ) (shelf : List A) : Type 0 where
+-- the applications of a controller, all of these kinds. One is there for its first life
+pub record IsStocked {A : Type 0} (law : AppLaw A) (kinds : List ℕ) (shelf : List A) : Type 0 where
   pub some : 0 < length shelf
-  pub alike : AreAlike kinds_of most_of kinds shelf
+  pub alike : AreAlike law kinds shelf
+
+-- and so those of each controller
+abbrev pub AreStocked : {A G : Type 0} → AppLaw A → List ℕ → List (Vec A G) → Type 0
+AreStocked law kinds shelves = AllByRecursion (λ shelf. IsStocked law kinds shelf.items) shelves
 
 -- a world of a setup as its group starts: no controller has promised a view, and each is in its first life
 pub record StartsAs {B A : Type 0} (setup : Setup) (w : Worlding B A) : Type 0 where
@@ -215,15 +231,19 @@ pub record StartsAs {B A : Type 0} (setup : Setup) (w : Worlding B A) : Type 0 w
   pub undecided : w.decided ≡ []
   pub pairs : (c : ℕ) (x : Controlling A) → slice_get w.controllers c ≡ Some x → pair_in (state_of x) ≡ (0, 0)
 
+-- the switches of a setup as they start, by number
+abbrev pub starting_switches : Setup → List SwitchState
+starting_switches setup = map (λ s. starting_switch s setup) (range_with_len 0 (length setup.ports))
+
 -- a controller of a number as its group starts
-pub record IsNew {A : Type 0} (controls : Controlling A → List ℕ → Type 0) (setup : Setup) (kinds : List ℕ) (number : ℕ) (x : Controlling A) : Type 0 where
-  pub keeps : controls x kinds
+pub record IsNew {A : Type 0} (law : AppLaw A) (setup : Setup) (kinds : List ℕ) (number : ℕ) (x : Controlling A) : Type 0 where
+  pub keeps : Controls law x kinds
   pub setup_is : x.setup ≡ setup
   pub me : x.me ≡ number
   pub state : state_of x ≡ starting_controller number setup.controllers
   pub unsaved : x.results ≡ []
 
 -- and so many of them, by number
-pub record AreNew {A : Type 0} (controls : Controlling A → List ℕ → Type 0) (setup : Setup) (kinds : List ℕ) (count : ℕ) (controllers : List (Controlling A)) : Type 0 where
+pub record AreNew {A : Type 0} (law : AppLaw A) (setup : Setup) (kinds : List ℕ) (count : ℕ) (controllers : List (Controlling A)) : Type 0 where
   pub group : length controllers ≡ count
-  pub each : (c : ℕ) → c < count → (x : Controlling A) × (slice_get controllers c ≡ Some x) × IsNew controls setup kinds c x
+  pub each : (c : ℕ) → c < count → (x : Controlling A) × (slice_get controllers c ≡ Some x) × IsNew law setup kinds c x

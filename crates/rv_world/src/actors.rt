@@ -1,11 +1,10 @@
 //! The actors of a world: as they start, and one of them takes an input.
-ghost use Rattle.std.specs.Prelude.{◌≡◌, ◌<◌, ◌^◌, ℕ, List, length, map, slice_index_or, IfOk};
-ghost use Rattle.std.specs.List.{AllByRecursion, range_with_len};
+ghost use Rattle.std.specs.Prelude.{◌≡◌, ◌<◌, ◌^◌, ℕ, List, length, IfOk};
+ghost use Rattle.std.specs.List.{AllByRecursion};
 ghost use Rattle.of_types.specs.Setups.{IsSetup};
-ghost use Rattle.of_switch.specs.State.{starting_switch};
-ghost use Rattle.group_controller.specs.Turns.{AreAlike, Controls};
+ghost use Rattle.group_controller.specs.Turns.{AreAlike, ForEachKinds};
 ghost use Rattle.rv_runs.specs.Legal.{FitsTypes};
-ghost use Rattle.rv_world.specs.World.{AreNew, IsNew, IsStocked};
+ghost use Rattle.rv_world.specs.World.{AreNew, AreStocked, IsNew, IsStocked, starting_switches};
 ghost use Rattle.rv_world.specs.Actors.{SwitchTakes, ControllerTakes, IsServed};
 
 use app_core::App;
@@ -18,7 +17,8 @@ use std::alloc::{AllocError, Global};
 /// Applications in order, turned round: the next one is the last.
 fn shelf_of<A: App>(alloc: Global, lives: Vec<A>) -> Result<Vec<A>, AllocError>
     ensures long { IfOk result (λ shelf. length shelf.items ≡ length lives.items) }
-    ensures alike { (kinds : List ℕ) → AreAlike A.kinds A.most kinds lives.items → IfOk result (λ shelf. AreAlike A.kinds A.most kinds shelf.items) }
+    ensures alike { ForEachKinds (λ kinds. AreAlike A.law kinds lives.items)
+        (λ kinds. IfOk result (λ shelf. AreAlike A.law kinds shelf.items)) }
 {
     let mut lives = lives;
     let mut shelf = Vec::new(alloc);
@@ -37,9 +37,9 @@ fn controller_of<A: App>(
 ) -> Result<Controller<A>, AllocError>
     requires setup { IsSetup setup.now }
     requires member { number < setup.now.controllers }
-    requires stocked { (kinds : List ℕ) × IsStocked A.kinds A.most kinds lives.items }
-    ensures { (kinds : List ℕ) → IsStocked A.kinds A.most kinds lives.items →
-        IfOk result (λ controller. IsNew (Controls A.kinds A.most A.states A.suits) setup.now kinds number controller) }
+    requires stocked { (kinds : List ℕ) × IsStocked A.law kinds lives.items }
+    ensures { ForEachKinds (λ kinds. IsStocked A.law kinds lives.items)
+        (λ kinds. IfOk result (IsNew A.law setup.now kinds number)) }
 {
     let mut shelf = shelf_of(alloc, lives)?;
     match shelf.pop() {
@@ -56,9 +56,9 @@ pub fn controllers_of<A: App>(
 ) -> Result<Vec<Controller<A>>, AllocError>
     requires setup { IsSetup setup.now }
     requires each { length shelves.items ≡ setup.now.controllers }
-    requires stocked { (kinds : List ℕ) × AllByRecursion (λ shelf. IsStocked A.kinds A.most kinds shelf.items) shelves.items }
-    ensures { (kinds : List ℕ) → AllByRecursion (λ shelf. IsStocked A.kinds A.most kinds shelf.items) shelves.items →
-        IfOk result (λ controllers. AreNew (Controls A.kinds A.most A.states A.suits) setup.now kinds setup.now.controllers controllers.items) }
+    requires stocked { (kinds : List ℕ) × AreStocked A.law kinds shelves.items }
+    ensures { ForEachKinds (λ kinds. AreStocked A.law kinds shelves.items)
+        (λ kinds. IfOk result (λ group. AreNew A.law setup.now kinds setup.now.controllers group.items)) }
 {
     let mut controllers = Vec::new(alloc);
     let mut number = 0u8;
@@ -72,7 +72,7 @@ pub fn controllers_of<A: App>(
 /// The switches of a setup as they start.
 pub fn switches_of(alloc: Global, setup: &Setup) -> Result<Vec<Switch>, AllocError>
     requires { IsSetup setup.now }
-    ensures { IfOk result (λ switches. switches.items ≡ map (λ s. starting_switch s setup.now) (range_with_len 0 (length setup.now.ports))) }
+    ensures { IfOk result (λ switches. switches.items ≡ starting_switches setup.now) }
 {
     let mut switches = Vec::new(alloc);
     for number in 0..setup.ports.len() {
@@ -122,8 +122,9 @@ pub fn controller_takes<A: App, W: Stable>(
 ) -> Result<Letters<ControllerSays>, AllocError>
     requires there { number < length controllers.old }
     requires stable { number < length stables.old }
-    requires ready { IsServed (Controls A.kinds A.most A.states A.suits) W.pair controllers.old stables.old number }
-    ensures { IfOk result (λ letters. ControllerTakes (Controls A.kinds A.most A.states A.suits) W.pair W.faults input controllers.old stables.old number controllers.new stables.new letters) }
+    requires ready { IsServed A.law W.saving controllers.old stables.old number }
+    ensures { IfOk result (ControllerTakes A.law W.saving input
+        controllers.old stables.old number controllers.new stables.new) }
 {
     controllers[number as usize].turn(input, &mut stables[number as usize])
 }

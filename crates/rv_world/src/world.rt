@@ -1,6 +1,5 @@
 //! A world: its journal, its actors, and turns.
-ghost use Rattle.std.specs.Prelude.{◌≡◌, ◌<◌, ◌∷◌, ◌++◌, [], ℕ, List, Some, None, length, map, slice_get, OnOk, IfOk, IfErr};
-ghost use Rattle.std.specs.List.{AllByRecursion};
+ghost use Rattle.std.specs.Prelude.{◌≡◌, ◌<◌, ℕ, List, Some, None, length, map, slice_get, OnOk, IfOk, IfErr};
 ghost use Rattle.of_types.specs.Setups.{IsSetup};
 ghost use Rattle.rv_base.specs.Actors.{IsActor};
 ghost use Rattle.rv_base.specs.Orderly.{IsOrderly};
@@ -8,9 +7,9 @@ ghost use Rattle.rv_base.specs.Places.{IsFound};
 ghost use Rattle.rv_base.specs.Pool.{past, pool};
 ghost use Rattle.rv_base.specs.Turns.{turn_actor, IsWithinLimits};
 ghost use Rattle.rv_base.specs.declared.journal.Turn.TheVariants as turn;
-ghost use Rattle.group_controller.specs.Turns.{Controls, ForEachKinds, state_of};
+ghost use Rattle.group_controller.specs.Turns.{ForEachKinds, state_of};
 ghost use Rattle.rv_runs.specs.Committed.{members_up};
-ghost use Rattle.rv_world.specs.World.{Applies, Holds, IfMemory, IsPlayed, IsStocked, Keeps, PairsStand, PostStops, posts_of, sealing_by, StartsAs, Steps, TurnStops};
+ghost use Rattle.rv_world.specs.World.{Applies, AreStocked, Holds, IfMemory, IsPlayed, Keeps, PairsStand, PostStops, resting, StartsAs, Steps, TurnStops, with_posts};
 ghost use Rattle.rv_world.specs.Actors.{ControllerOwes, IsServed, SwitchOwes};
 
 use crate::actors::{controller_takes, controllers_of, fits_types, switch_takes, switches_of};
@@ -57,10 +56,10 @@ impl<B: Body, A: App> World<B, A> {
     ) -> Result<World<B, A>, AllocError>
         requires setup { IsSetup setup.now }
         requires each { length shelves.items ≡ setup.now.controllers }
-        requires stocked { (kinds : List ℕ) × AllByRecursion (λ shelf. IsStocked A.kinds A.most kinds shelf.items) shelves.items }
+        requires stocked { (kinds : List ℕ) × AreStocked A.law kinds shelves.items }
         ensures starts { IfOk result (λ world. StartsAs setup.now world) }
-        ensures holds { (kinds : List ℕ) → AllByRecursion (λ shelf. IsStocked A.kinds A.most kinds shelf.items) shelves.items →
-            IfOk result (λ world. Holds (Controls A.kinds A.most A.states A.suits) (sealing_by B.sealed B.spelled B.size) world kinds) }
+        ensures holds { ForEachKinds (λ kinds. AreStocked A.law kinds shelves.items)
+            (λ kinds. IfOk result (λ world. Holds A.law B.sealing world kinds)) }
     {
         Ok(World {
             alloc,
@@ -83,9 +82,8 @@ impl<B: Body, A: App> World<B, A> {
         switches: Vec<Switch>,
         decided: Vec<Entry>,
     ) -> World<B, A>
-        ensures is { result ≡ record { setup = setup; journal = wire; controllers = controllers.items; switches = switches.items; owed = None; decided = decided.items } }
-        ensures holds { ForEachKinds (IsPlayed (Controls A.kinds A.most A.states A.suits) (sealing_by B.sealed B.spelled B.size) result)
-            (Holds (Controls A.kinds A.most A.states A.suits) (sealing_by B.sealed B.spelled B.size) result) }
+        ensures is { result ≡ resting setup wire controllers.items switches.items decided.items }
+        ensures holds { ForEachKinds (IsPlayed A.law B.sealing result) (Holds A.law B.sealing result) }
     {
         World {
             alloc,
@@ -113,8 +111,8 @@ impl<B: Body, A: App> World<B, A> {
 
     /// Its journal is orderly, and within its limits.
     pub fn lawful(&self)
-        ensures orderly { IsOrderly B.size (past self.now.journal) }
-        ensures within { IsWithinLimits B.size (past self.now.journal) }
+        ensures orderly { IsOrderly B.sealing.size (past self.now.journal) }
+        ensures within { IsWithinLimits B.sealing.size (past self.now.journal) }
     {
         self.wire.lawful();
     }
@@ -171,10 +169,10 @@ impl<B: Body, A: App> World<B, A> {
 
     /// Posts what is owed. At a full journal, and at want of memory, it changed nothing.
     pub fn post_owed(&mut self) -> Result<(), Stop>
-        ensures posts { OnOk result (self.new ≡ record self.old { journal = self.old.journal ++ posts_of B.size self.old.owed self.old.journal; owed = None }) }
-        ensures holds { ForEachKinds (Holds (Controls A.kinds A.most A.states A.suits) (sealing_by B.sealed B.spelled B.size) self.old)
-            (λ kinds. Holds (Controls A.kinds A.most A.states A.suits) (sealing_by B.sealed B.spelled B.size) self.new kinds) }
-        ensures stops { IfErr result (λ stop. (self.new ≡ self.old) × PostStops B.size self.old stop) }
+        ensures posts { OnOk result (self.new ≡ with_posts B.sealing.size self.old) }
+        ensures holds { ForEachKinds (Holds A.law B.sealing self.old) (Holds A.law B.sealing self.new) }
+        ensures stops { IfErr result
+            (λ stop. (self.new ≡ self.old) × PostStops B.sealing.size self.old stop) }
     {
         match self.debt.take() {
             None => Ok(()),
@@ -203,8 +201,9 @@ impl<B: Body, A: App> World<B, A> {
     ) -> Result<(), AllocError>
         requires there { number < length self.old.controllers }
         requires stable { number < length stables.old }
-        requires ready { IsServed (Controls A.kinds A.most A.states A.suits) W.pair self.old.controllers stables.old number }
-        ensures { OnOk result (ControllerOwes (Controls A.kinds A.most A.states A.suits) W.pair W.faults (sealing_by B.sealed B.spelled B.size) input self.old stables.old number self.new stables.new) }
+        requires ready { IsServed A.law W.saving self.old.controllers stables.old number }
+        ensures { OnOk result
+            (ControllerOwes A.law W.saving B.sealing input self.old stables.old number self.new stables.new) }
     {
         let letters = controller_takes(&mut self.controllers, stables, number, input)?;
         append_committed(&mut self.decided, &self.controllers[number as usize])?;
@@ -219,7 +218,7 @@ impl<B: Body, A: App> World<B, A> {
     /// A switch takes an input. What it says is owed from then on.
     fn at_switch(&mut self, number: u8, input: SwitchInput) -> Result<(), AllocError>
         requires { number < length self.old.switches }
-        ensures { OnOk result (SwitchOwes (sealing_by B.sealed B.spelled B.size) input self.old number self.new) }
+        ensures { OnOk result (SwitchOwes B.sealing input self.old number self.new) }
     {
         let letters = switch_takes(&mut self.switches, number, input)?;
         let letters = sealed::<Switch, B>(self.alloc, letters)?;
@@ -240,10 +239,11 @@ impl<B: Body, A: App> World<B, A> {
         keep: bool,
     ) -> Result<(), AllocError>
         requires rests { self.old.owed ≡ None }
-        requires holds { (kinds : List ℕ) × Holds (Controls A.kinds A.most A.states A.suits) (sealing_by B.sealed B.spelled B.size) self.old kinds }
-        requires pairs { PairsStand W.pair stables.old self.old.controllers }
+        requires holds { (kinds : List ℕ) × Holds A.law B.sealing self.old kinds }
+        requires pairs { PairsStand W.saving stables.old self.old.controllers }
         requires named { IsActor self.old.setup actor }
-        ensures { OnOk result (Steps (Controls A.kinds A.most A.states A.suits) W.pair W.faults (sealing_by B.sealed B.spelled B.size) (turn.Draw actor choice keep) self.old stables.old self.new stables.new) }
+        ensures { OnOk result (Steps A.law W.saving B.sealing (turn.Draw actor choice keep)
+            self.old stables.old self.new stables.new) }
     {
         let found = match self.wire.draw(actor, Items::new(self.alloc), choice, keep) {
             Ok(found) => found,
@@ -274,10 +274,11 @@ impl<B: Body, A: App> World<B, A> {
         choice: u64,
     ) -> Result<(), AllocError>
         requires rests { self.old.owed ≡ None }
-        requires holds { (kinds : List ℕ) × Holds (Controls A.kinds A.most A.states A.suits) (sealing_by B.sealed B.spelled B.size) self.old kinds }
-        requires pairs { PairsStand W.pair stables.old self.old.controllers }
+        requires holds { (kinds : List ℕ) × Holds A.law B.sealing self.old kinds }
+        requires pairs { PairsStand W.saving stables.old self.old.controllers }
         requires named { IsActor self.old.setup actor }
-        ensures { OnOk result (Steps (Controls A.kinds A.most A.states A.suits) W.pair W.faults (sealing_by B.sealed B.spelled B.size) (turn.Lose actor choice) self.old stables.old self.new stables.new) }
+        ensures { OnOk result (Steps A.law W.saving B.sealing (turn.Lose actor choice)
+            self.old stables.old self.new stables.new) }
     {
         match self.wire.lose(actor, Items::new(self.alloc), choice) {
             Ok(_) => {
@@ -296,10 +297,11 @@ impl<B: Body, A: App> World<B, A> {
         input: &Local,
     ) -> Result<(), AllocError>
         requires rests { self.old.owed ≡ None }
-        requires holds { (kinds : List ℕ) × Holds (Controls A.kinds A.most A.states A.suits) (sealing_by B.sealed B.spelled B.size) self.old kinds }
-        requires pairs { PairsStand W.pair stables.old self.old.controllers }
+        requires holds { (kinds : List ℕ) × Holds A.law B.sealing self.old kinds }
+        requires pairs { PairsStand W.saving stables.old self.old.controllers }
         requires named { IsActor self.old.setup actor }
-        ensures { OnOk result (Steps (Controls A.kinds A.most A.states A.suits) W.pair W.faults (sealing_by B.sealed B.spelled B.size) (turn.Local actor input.now) self.old stables.old self.new stables.new) }
+        ensures { OnOk result (Steps A.law W.saving B.sealing (turn.Local actor input.now)
+            self.old stables.old self.new stables.new) }
     {
         fits_types(input);
         match self
@@ -322,10 +324,11 @@ impl<B: Body, A: App> World<B, A> {
     /// An actor takes a step.
     fn step<W: Stable>(&mut self, stables: &mut [W], turn: &Turn) -> Result<(), AllocError>
         requires rests { self.old.owed ≡ None }
-        requires holds { (kinds : List ℕ) × Holds (Controls A.kinds A.most A.states A.suits) (sealing_by B.sealed B.spelled B.size) self.old kinds }
-        requires pairs { PairsStand W.pair stables.old self.old.controllers }
+        requires holds { (kinds : List ℕ) × Holds A.law B.sealing self.old kinds }
+        requires pairs { PairsStand W.saving stables.old self.old.controllers }
         requires named { IsActor self.old.setup (turn_actor turn.now) }
-        ensures { OnOk result (Steps (Controls A.kinds A.most A.states A.suits) W.pair W.faults (sealing_by B.sealed B.spelled B.size) turn.now self.old stables.old self.new stables.new) }
+        ensures { OnOk result
+            (Steps A.law W.saving B.sealing turn.now self.old stables.old self.new stables.new) }
     {
         match turn {
             Turn::Draw {
@@ -341,12 +344,12 @@ impl<B: Body, A: App> World<B, A> {
     /// Does one turn: posts what is owed, takes the step, and posts its outbox. At a full journal the outbox stays
     /// unposted, and every later call answers the same. At want of memory the world is to be dropped.
     pub fn apply<W: Stable>(&mut self, stables: &mut [W], turn: &Turn) -> Result<(), Stop>
-        requires holds { (kinds : List ℕ) × Holds (Controls A.kinds A.most A.states A.suits) (sealing_by B.sealed B.spelled B.size) self.old kinds }
-        requires pairs { PairsStand W.pair stables.old self.old.controllers }
+        requires holds { (kinds : List ℕ) × Holds A.law B.sealing self.old kinds }
+        requires pairs { PairsStand W.saving stables.old self.old.controllers }
         requires named { IsActor self.old.setup (turn_actor turn.now) }
-        ensures applies { OnOk result (Applies B.size turn.now self.old self.new) }
-        ensures keeps { IfMemory result (Keeps (Controls A.kinds A.most A.states A.suits) W.pair W.faults (sealing_by B.sealed B.spelled B.size) self.old stables.old self.new stables.new) }
-        ensures stops { IfErr result (λ stop. TurnStops B.size turn.now self.old self.new stop) }
+        ensures applies { OnOk result (Applies B.sealing.size turn.now self.old self.new) }
+        ensures keeps { IfMemory result (Keeps A.law W.saving B.sealing self.old stables.old self.new stables.new) }
+        ensures stops { IfErr result (TurnStops B.sealing.size turn.now self.old self.new) }
     {
         self.post_owed()?;
         self.step(stables, turn)?;

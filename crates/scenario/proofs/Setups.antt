@@ -395,7 +395,7 @@ counts_are zero k d lt = absurd (omega (arith, lt))
 counts_are (suc count) zero d lt = (omega arith, omega arith)
 counts_are (suc count) (suc k) d lt = counts_are count k d (omega (arith, lt))
 
-some_member : (n : ℕ) → Contains (1 ∷ 3 ∷ 5 ∷ 7 ∷ []) n → 0 < n
+pub some_member : (n : ℕ) → Contains (1 ∷ 3 ∷ 5 ∷ 7 ∷ []) n → 0 < n
 some_member n (zero, below, is) = omega (arith, is)
 some_member n (suc zero, below, is) = omega (arith, is)
 some_member n (suc (suc zero), below, is) = omega (arith, is)

@@ -7,6 +7,7 @@ use Rattle.std.proofs.lemmas.List.Sums.{sum_by-cons}
 use Rattle.rv_base.specs.declared.journal.JournalEntry.{JournalEntry}
 use Rattle.rv_base.specs.declared.journal.SaveResult.{SaveResult}
 use Rattle.rv_base.specs.declared.journal.SaveResult.TheVariants.{Saved, KeptOld, KeptNew}
+use Rattle.rv_base.specs.Stables.{Saving}
 use Rattle.vr_log.specs.declared.entry.LogFull.{LogFull}
 use Rattle.rv_runs.specs.Legal.{results_of}
 use Rattle.rv_runs.specs.Schedule.{Answer}
@@ -22,7 +23,7 @@ use Rattle.words.specs.declared.Job.TheVariants.{Sim, Audit, Gen}
 use Rattle.words.specs.Words.{job_of}
 use Rattle.audit.specs.Audit.{differs}
 use Rattle.top_call.specs.Audited.{report_limit}
-use Rattle.top_call.specs.Outcome.{Answers, Served, Write_failed, No_memory, IsTold, Outcome, IsUnserved, IsAudit, IsAsked, Of_bytes, Of_numbers, AsksFor, Its_bytes, Its_numbers, IsComplete, audit_status, is_served_job}
+use Rattle.top_call.specs.Outcome.{Answers, Served, Write_failed, No_memory, IsTold, Outcome, IsUnserved, IsAudit, IsMade, IsAsked, Of_bytes, Of_numbers, AsksFor, Its_bytes, Its_numbers, IsComplete, audit_status, is_served_job}
 use Rattle.top_call.specs.Outcome as outcome
 use Rattle.top_call.specs.Runs.{AreCalm, AreSaved, HasRun, IsInLimits, IsLeft, IsOverfull, IsUnposted, StablesTell, Telling, scene_for}
 
@@ -45,6 +46,22 @@ never_served words unserved audit = absurd (apart (sym unserved ∙ ap (λ j. is
     apart : false ≡ true → ⊥
     apart e = cc
 
+pub never_made : {A : Type 0} (words : List (List ℕ)) → IsUnserved words → IsMade words → A
+never_made words unserved (number, controllers, switches, frames, made) = absurd (apart (sym unserved ∙ ap (λ j. is_served_job j) made))
+  where
+    apart : false ≡ true → ⊥
+    apart e = cc
+
+-- the words of a made scenario are none of a run and none of an audit
+pub made_no_run : {A : Type 0} (words : List (List ℕ)) → job_of words ≡ Some Sim → IsMade words → A
+made_no_run words run (number, controllers, switches, frames, made) = absurd (apart (sym run ∙ made))
+  where
+    apart : Some Sim ≡ Some (Gen number controllers switches frames) → ⊥
+    apart e = cc
+
+pub made_no_audit : {A : Type 0} (words : List (List ℕ)) → IsAudit words → IsMade words → A
+made_no_audit words audit (number, controllers, switches, frames, made) = no_audit_made words number controllers switches frames made audit
+
 never_asked : {A : Type 0} (words : List (List ℕ)) (input rest : List ℕ) (scenario : Scenario) (output : Output) → IsAsked words input rest scenario output → IsAudit words → A
 never_asked words input rest _ _ (Of_bytes run none is) audit = no_audit words run audit
 never_asked words input rest _ _ (Of_numbers number controllers switches frames run none) audit = no_audit_made words number controllers switches frames run audit
@@ -63,7 +80,7 @@ module _ (kinds : List ℕ) (saves : Telling) (words : List (List ℕ)) (input r
   served_complete : (status : ℕ) (written : List ℕ) → Outcome kinds saves words input rest unread status written → Ends status
   served_complete status written (outcome.Usage unserved) = λ audit read wrote. never_served words unserved audit
   served_complete status written (outcome.Refused fault run read is) = λ audit read wrote. no_audit words run audit
-  served_complete status written (outcome.Unread served failed) = λ audit read wrote. absurd (read failed)
+  served_complete status written (outcome.Unread reader served failed) = λ audit read wrote. absurd (read failed)
   served_complete status written (outcome.Closed scenario output asked done) = λ audit read wrote. never_asked words input rest scenario output asked audit
   served_complete status written (outcome.Left scenario output up needed asked left) = λ audit read wrote. never_asked words input rest scenario output asked audit
   served_complete status written (outcome.Overfull scenario output limit asked full) = λ audit read wrote. never_asked words input rest scenario output asked audit
@@ -133,7 +150,7 @@ module _ (kinds : List ℕ) (saves : Telling) (words : List (List ℕ)) (input r
   served_rests : (status : ℕ) (written : List ℕ) → Outcome kinds saves words input rest unread status written → Rests status
   served_rests status written (outcome.Usage unserved) = absurd (asked_served words input scenario asks unserved)
   served_rests status written (outcome.Refused fault run past is) = absurd (asked_read words input scenario fault asks run is)
-  served_rests status written (outcome.Unread served failed) = absurd (read failed)
+  served_rests status written (outcome.Unread reader served failed) = absurd (read failed)
   served_rests status written (outcome.Closed played output asked done) = (0, omega arith, refl)
   served_rests status written (outcome.Left played output up needed asked left) = absurd (never_left up needed (as_asked (λ s. IsLeft kinds saves s up needed) played output asked left))
   served_rests status written (outcome.Overfull played output limit asked full) = absurd (never_full limit (as_asked (λ s. IsOverfull kinds saves s limit) played output asked full))
@@ -154,10 +171,10 @@ none_failed (Saved ∷ rs) none = (refl, none_failed rs (let all = sum_by-cons (
 none_failed (KeptOld ∷ rs) none = let all = sum_by-cons (λ r. if is_failed r then 1 else 0) KeptOld rs in absurd (omega (arith, all, none))
 none_failed (KeptNew ∷ rs) none = let all = sum_by-cons (λ r. if is_failed r then 1 else 0) KeptNew rs in absurd (omega (arith, all, none))
 
-pub calm_saves : {W : Type 0} (pair : W → ℕ × ℕ) (faults : W → ℕ) (stables stables_after : List W) → AreCalm faults stables stables_after →
-    (scene : Scene (List ℕ)) (results : List (List SaveResult)) (journal : List (JournalEntry (List ℕ))) → StablesTell pair faults stables stables_after scene results journal → AreSaved scene.setup.controllers results
-calm_saves pair faults stables stables_after calm scene results journal tell c there =
-    let t = tell c there in
+pub calm_saves : {W : Type 0} (saving : Saving W) (stables stables_after : List W) → AreCalm saving stables stables_after →
+    (scene : Scene (List ℕ)) (results : List (List SaveResult)) (journal : List (JournalEntry (List ℕ))) → StablesTell saving stables stables_after scene results journal → AreSaved scene.setup.controllers results
+calm_saves saving stables stables_after calm scene results journal tell c there =
+    let t = tell.each c there in
     let quiet = calm c t.old t.new t.stood t.stands in
     let same = quiet.0 in
     let less = quiet.1 in

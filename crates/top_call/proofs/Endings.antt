@@ -2,7 +2,7 @@
 use Rattle.std.proofs.Common.{◌≡◌, ◌≢◌, ◌≤◌, ◌<◌, ◌⊎◌, inl, inr, ℕ, ◌+◌, true, false, List, [], ◌++◌, length, Some, None, Ok, Err, refl, sym, ◌∙◌, ap, subst, arith, append-nil, length-append}
 use Rattle.std.specs.Prelude.{Option, is_some, option_map, Result, IfOk, IfErr, Bool, Contains}
 use Rattle.std.specs.Io.KnownBytes.{Consumes, IsAtEnd}
-use Rattle.std.proofs.lemmas.Bool.{lt-leb}
+use Rattle.std.proofs.lemmas.Bool.{lt-leb, cases_lt}
 use Rattle.top_call.specs.declared.sim.Output.{Output}
 use Rattle.top_call.specs.declared.sim.Output.TheVariants as told_as
 use Rattle.scenario.specs.declared.scenario.Fault.{Fault}
@@ -14,7 +14,7 @@ use Rattle.words.specs.declared.Job.TheVariants.{Sim, Run, Audit, Gen}
 use Rattle.words.specs.Words.{job_of}
 use Rattle.top_call.specs.declared.ending.Ending.{Ending}
 use Rattle.top_call.specs.declared.ending.Ending.TheVariants as ending
-use Rattle.top_call.specs.Cause.{HasEndingCause, Tells}
+use Rattle.top_call.specs.Cause.{HasEndingCause, IsOfNumbers, Tells}
 use Rattle.top_call.specs.declared.service.Reader.{Reader}
 use Rattle.top_call.specs.declared.service.Reader.TheVariants as reader
 use Rattle.top_call.specs.declared.service.Service.{Service}
@@ -22,10 +22,10 @@ use Rattle.top_call.specs.declared.service.Service.TheVariants as service
 use Rattle.top_call.specs.Audited.{report_limit, too_large}
 use Rattle.top_call.specs.Ending.{ending_status, ending_text, EndsRead, EndsReport, EndsRun, EndsScenario}
 use Rattle.top_call.specs.Service.{limit_of}
-use Rattle.top_call.specs.Outcome.{Outcome, statuses, statuses_of_audit, HasRead, To_the_end, Past_the_limit, IsUnserved, IsAudit, IsAsked, Of_bytes, Of_numbers, service_for}
+use Rattle.top_call.specs.Outcome.{Outcome, statuses, statuses_of_audit, HasLine, HasRead, To_the_end, Past_the_limit, IsUnserved, IsAudit, IsMade, IsUnplayed, PlaysNothing, ReadsNothing, statuses_of_made, IsAsked, Of_bytes, Of_numbers, service_for}
 use Rattle.top_call.specs.Outcome as outcome
 use Rattle.top_call.specs.Runs.{Telling}
-use Rattle.top_call.proofs.Complete.{no_audit, no_audit_made, never_served}
+use Rattle.top_call.proofs.Complete.{no_audit, no_audit_made, never_served, never_made, made_no_run, made_no_audit}
 
 -- more bytes than a scenario has are refused
 pub too_long : (bytes : List ℕ) → scenario_limit < length bytes → scenario_of bytes ≡ Err too_large
@@ -99,33 +99,40 @@ module _ (words : List (List ℕ)) (unread unfailed : Type 0) where
   pub usage_tells : service_for (job_of words) ≡ None → unfailed → Tells words unread unfailed ending.Usage
   usage_tells none kept =
       let other : IsUnserved words = ap (λ x. is_some x) none in
-      record { usage = λ _. other; others = λ _. refl; failed = λ is. absurd (omega (arith, is)); served = λ _. kept; audit = λ is. never_served words other is }
+      record { usage = λ _. other; others = λ _. refl; failed = λ is. absurd (omega (arith, is)); served = λ _. kept; audit = λ is. never_served words other is; made = λ is. never_made words other is }
 
   -- an ending of a service that is none of words
   ends_tells : (s : Service) (e : Ending) → IsServed words s → ending_status e ≢ 2 → (ending_status e ≡ 4 → unread) → (ending_status e ≢ 4 → unfailed) →
-      (IsAudit words → Contains statuses_of_audit (ending_status e)) → Tells words unread unfailed e
-  ends_tells s e said no_usage failed served audit =
-      record { usage = λ is. absurd (no_usage is); others = λ other. absurd (never_both words s said other); failed = failed; served = served; audit = audit }
+      (IsAudit words → Contains statuses_of_audit (ending_status e)) → (IsMade words → Contains statuses_of_made (ending_status e)) → Tells words unread unfailed e
+  ends_tells s e said no_usage failed served audit made =
+      record { usage = λ is. absurd (no_usage is); others = λ other. absurd (never_both words s said other); failed = failed; served = served; audit = audit; made = made }
 
-  pub unread_tells : (s : Service) → IsServed words s → unread → Tells words unread unfailed ending.Unread
-  unread_tells s said rose = ends_tells s ending.Unread said (λ is. omega (arith, is)) (λ _. rose) (λ other. absurd (other refl)) (λ _. (2, omega arith, refl))
+  -- words for which something is read make no scenario of numbers
+  pub read_no_made : {A : Type 0} (r : Reader) → IsServed words (service.Reads r) → IsMade words → A
+  read_no_made reader.Sim said made = made_no_run words (job_served words (service.Reads reader.Sim) said) made
+  read_no_made reader.Audit said made = made_no_audit words (job_served words (service.Reads reader.Audit) said) made
+
+  pub unread_tells : (r : Reader) → IsServed words (service.Reads r) → unread → Tells words unread unfailed ending.Unread
+  unread_tells r said rose =
+      ends_tells (service.Reads r) ending.Unread said (λ is. omega (arith, is)) (λ _. rose) (λ other. absurd (other refl)) (λ _. (2, omega arith, refl)) (λ made. read_no_made r said made)
 
   -- an ending that is neither of these, of a run and of an audit
-  run_tells : (s : Service) (e : Ending) → IsServed words s → (IsAudit words → ⊥) → unfailed → ending_status e ≢ 2 → ending_status e ≢ 4 → Tells words unread unfailed e
-  run_tells s e said other kept no_usage no_failure = ends_tells s e said no_usage (λ is. absurd (no_failure is)) (λ _. kept) (λ audit. absurd (other audit))
+  run_tells : (s : Service) (e : Ending) → IsServed words s → (IsAudit words → ⊥) → unfailed → ending_status e ≢ 2 → ending_status e ≢ 4 → (IsMade words → Contains statuses_of_made (ending_status e)) →
+      Tells words unread unfailed e
+  run_tells s e said other kept no_usage no_failure range = ends_tells s e said no_usage (λ is. absurd (no_failure is)) (λ _. kept) (λ audit. absurd (other audit)) range
 
   audit_tells : (e : Ending) → IsServed words (service.Reads reader.Audit) → unfailed → ending_status e ≢ 2 → ending_status e ≢ 4 → Contains statuses_of_audit (ending_status e) → Tells words unread unfailed e
-  audit_tells e said kept no_usage no_failure range = ends_tells (service.Reads reader.Audit) e said no_usage (λ is. absurd (no_failure is)) (λ _. kept) (λ _. range)
+  audit_tells e said kept no_usage no_failure range = ends_tells (service.Reads reader.Audit) e said no_usage (λ is. absurd (no_failure is)) (λ _. kept) (λ _. range) (λ made. read_no_made reader.Audit said made)
 
   module _ (kinds : List ℕ) (saves : Telling) where
     tells_run : (s : Service) (e : Ending) (output : Output) (scenario : Scenario) → IsServed words s → (IsAudit words → ⊥) → unfailed → EndsRun kinds saves output scenario e → Tells words unread unfailed e
-    tells_run s (ending.Report written) output scenario said other kept ends = run_tells s (ending.Report written) said other kept (λ is. omega (arith, is)) (λ is. omega (arith, is))
+    tells_run s (ending.Report written) output scenario said other kept ends = run_tells s (ending.Report written) said other kept (λ is. omega (arith, is)) (λ is. omega (arith, is)) (λ _. (0, omega arith, refl))
     tells_run s ending.Usage output scenario said other kept never = absurd never
     tells_run s (ending.Refused fault) output scenario said other kept never = absurd never
     tells_run s ending.Unread output scenario said other kept never = absurd never
-    tells_run s (ending.NoQuorum up needed) output scenario said other kept ends = run_tells s (ending.NoQuorum up needed) said other kept (λ is. omega (arith, is)) (λ is. omega (arith, is))
-    tells_run s (ending.Overfull limit) output scenario said other kept ends = run_tells s (ending.Overfull limit) said other kept (λ is. omega (arith, is)) (λ is. omega (arith, is))
-    tells_run s (ending.Unposted count letters) output scenario said other kept ends = run_tells s (ending.Unposted count letters) said other kept (λ is. omega (arith, is)) (λ is. omega (arith, is))
+    tells_run s (ending.NoQuorum up needed) output scenario said other kept ends = run_tells s (ending.NoQuorum up needed) said other kept (λ is. omega (arith, is)) (λ is. omega (arith, is)) (λ _. (3, omega arith, refl))
+    tells_run s (ending.Overfull limit) output scenario said other kept ends = run_tells s (ending.Overfull limit) said other kept (λ is. omega (arith, is)) (λ is. omega (arith, is)) (λ _. (4, omega arith, refl))
+    tells_run s (ending.Unposted count letters) output scenario said other kept ends = run_tells s (ending.Unposted count letters) said other kept (λ is. omega (arith, is)) (λ is. omega (arith, is)) (λ _. (5, omega arith, refl))
     tells_run s ending.Same output scenario said other kept never = absurd never
     tells_run s (ending.Differs n) output scenario said other kept never = absurd never
 
@@ -134,7 +141,7 @@ module _ (words : List (List ℕ)) (unread unfailed : Type 0) where
         let other : IsAudit words → ⊥ = λ audit. no_audit words (job_served words (service.Reads reader.Sim) said) audit in
         elim (refused_or_ran kinds saves bytes e ends) [
           | inl refused ↦ subst (λ x. Tells words unread unfailed x) (sym refused.1)
-              (run_tells (service.Reads reader.Sim) (ending.Refused refused.0) said other kept (λ is. omega (arith, is)) (λ is. omega (arith, is)))
+              (run_tells (service.Reads reader.Sim) (ending.Refused refused.0) said other kept (λ is. omega (arith, is)) (λ is. omega (arith, is)) (λ made. read_no_made reader.Sim said made))
           | inr ran ↦ tells_run (service.Reads reader.Sim) e told_as.Report ran.0 said other kept ran.2
         ]
 
@@ -173,10 +180,10 @@ module _ (kinds : List ℕ) (saves : Telling) (words : List (List ℕ)) (unread 
   usage_caused (Some input) None none = tt
   usage_caused (Some input) (Some rest) none = outcome.Usage (ap (λ x. is_some x) none)
 
-  pub unread_caused : (s : Service) (before after : Option (List ℕ)) → IsServed words s → unread → HasEndingCause kinds saves words unread before after ending.Unread
-  unread_caused s None after said rose = tt
-  unread_caused s (Some input) None said rose = tt
-  unread_caused s (Some input) (Some rest) said rose = outcome.Unread (ap (λ x. is_some x) said) rose
+  pub unread_caused : (r : Reader) (before after : Option (List ℕ)) → IsServed words (service.Reads r) → unread → HasEndingCause kinds saves words unread before after ending.Unread
+  unread_caused r None after said rose = tt
+  unread_caused r (Some input) None said rose = tt
+  unread_caused r (Some input) (Some rest) said rose = outcome.Unread r said rose
 
   abbrev IsCaused : List ℕ → List ℕ → Ending → Type 0
   IsCaused input rest e = Outcome kinds saves words input rest unread (ending_status e) (ending_text e)
@@ -211,11 +218,34 @@ module _ (kinds : List ℕ) (saves : Telling) (words : List (List ℕ)) (unread 
       made_ended before after e number controllers switches frames said same (subst (λ s. EndsRun kinds saves told_as.LastLine s e) is ends)
   made_caused before after number controllers switches frames scenario (Err x) said same is ends = tt
 
+  -- the same, whatever the source tells
+  pub made_of_numbers : {X : Type 0} (number controllers switches frames : ℕ) (scenario : Scenario) (result : Result Ending X) → IsServed words (service.Gen number controllers switches frames) →
+      scenario ≡ generated number controllers switches frames → IfOk result (λ e. EndsRun kinds saves told_as.LastLine scenario e) → IfOk result (λ e. IsOfNumbers kinds saves words unread e)
+  made_of_numbers number controllers switches frames scenario (Ok e) said is ends =
+      λ made input. ran_caused input input e (generated number controllers switches frames) told_as.LastLine
+      (Of_numbers number controllers switches frames (job_served words (service.Gen number controllers switches frames) said) refl)
+      (subst (λ s. EndsRun kinds saves told_as.LastLine s e) is ends)
+  made_of_numbers number controllers switches frames scenario (Err x) said is ends = tt
+
+  pub usage_of_numbers : service_for (job_of words) ≡ None → IsOfNumbers kinds saves words unread ending.Usage
+  usage_of_numbers none made = never_made words (ap (λ x. is_some x) none) made
+
+  pub read_of_numbers : {X : Type 0} (r : Reader) (result : Result Ending X) → IsServed words (service.Reads r) → IfOk result (λ e. IsOfNumbers kinds saves words unread e)
+  read_of_numbers r (Ok e) said = λ made. read_no_made words unread unread r said made
+  read_of_numbers r (Err x) said = tt
+
   -- all that there was, was read
-  run_of_all : (input rest : List ℕ) (e : Ending) → job_of words ≡ Some Sim → rest ≡ [] → EndsScenario kinds saves input e → IsCaused input rest e
-  run_of_all input rest e said none ends =
+  read_whole : (limit : ℕ) (input rest : List ℕ) → rest ≡ [] → length input ≤ limit + 1 → HasRead limit input rest
+  read_whole limit input rest none most =
+      subst (λ r. HasRead limit input r) (sym none) (elim (cases_lt limit (length input)) [
+        | inl more ↦ Past_the_limit (omega (arith, more, most))
+        | inr within ↦ To_the_end within
+      ])
+
+  run_of_all : (input rest : List ℕ) (e : Ending) → job_of words ≡ Some Sim → rest ≡ [] → length input ≤ scenario_limit + 1 → EndsScenario kinds saves input e → IsCaused input rest e
+  run_of_all input rest e said none most ends =
       elim (refused_or_ran kinds saves input e ends) [
-        | inl refused ↦ subst (λ x. IsCaused input rest x) (sym refused.1) (outcome.Refused refused.0 said (subst (λ r. HasRead scenario_limit input r) (sym none) To_the_end) refused.2)
+        | inl refused ↦ subst (λ x. IsCaused input rest x) (sym refused.1) (outcome.Refused refused.0 said (read_whole scenario_limit input rest none most) refused.2)
         | inr ran ↦ ran_caused input rest e ran.0 told_as.Report (Of_bytes said none ran.1) ran.2
       ]
 
@@ -261,7 +291,7 @@ module _ (kinds : List ℕ) (saves : Telling) (words : List (List ℕ)) (unread 
   audit_past input rest bytes (ending.Differs n) said is long (few, differs) = absurd (omega (arith, long, few))
 
   read_all : (r : Reader) (input rest : List ℕ) (e : Ending) → IsServed words (service.Reads r) → rest ≡ [] → length input ≤ limit_of r + 1 → EndsRead kinds saves r input e → IsCaused input rest e
-  read_all reader.Sim input rest e said none most ends = run_of_all input rest e (job_served words (service.Reads reader.Sim) said) none ends
+  read_all reader.Sim input rest e said none most ends = run_of_all input rest e (job_served words (service.Reads reader.Sim) said) none most ends
   read_all reader.Audit input rest e said none most ends = audit_of_all input rest e (job_served words (service.Reads reader.Audit) said) none most ends
 
   read_past : (r : Reader) (input rest bytes : List ℕ) (e : Ending) → IsServed words (service.Reads r) → input ≡ bytes ++ rest → length bytes ≡ limit_of r + 1 → EndsRead kinds saves r bytes e → IsCaused input rest e
@@ -294,3 +324,69 @@ in_range (ending.Overfull limit) = (8, omega arith, refl)
 in_range (ending.Unposted count letters) = (9, omega arith, refl)
 in_range ending.Same = (0, omega arith, refl)
 in_range (ending.Differs n) = (7, omega arith, refl)
+
+-- what plays ends by none of the answers of what plays nothing
+played : (status : ℕ) → (status ≢ 2) → (status ≢ 3) → (status ≢ 4) → (status ≢ 8) → IsUnplayed status → ⊥
+played status two three four eight unplayed =
+    elim unplayed [
+      | inl is ↦ two is
+      | inr more ↦ elim more [
+        | inl is ↦ three is
+        | inr last ↦ elim last [
+          | inl is ↦ four is
+          | inr is ↦ eight is
+        ]
+      ]
+    ]
+
+run_played : (kinds : List ℕ) (saves : Telling) (output : Output) (scenario : Scenario) (e : Ending) → EndsRun kinds saves output scenario e → IsUnplayed (ending_status e) → ⊥
+run_played kinds saves output scenario (ending.Report written) ends = played 0 (λ is. omega (arith, is)) (λ is. omega (arith, is)) (λ is. omega (arith, is)) (λ is. omega (arith, is))
+run_played kinds saves output scenario ending.Usage never = absurd never
+run_played kinds saves output scenario (ending.Refused fault) never = absurd never
+run_played kinds saves output scenario ending.Unread never = absurd never
+run_played kinds saves output scenario (ending.NoQuorum up needed) ends = played 7 (λ is. omega (arith, is)) (λ is. omega (arith, is)) (λ is. omega (arith, is)) (λ is. omega (arith, is))
+run_played kinds saves output scenario (ending.Overfull limit) ends = played 9 (λ is. omega (arith, is)) (λ is. omega (arith, is)) (λ is. omega (arith, is)) (λ is. omega (arith, is))
+run_played kinds saves output scenario (ending.Unposted count letters) ends = played 10 (λ is. omega (arith, is)) (λ is. omega (arith, is)) (λ is. omega (arith, is)) (λ is. omega (arith, is))
+run_played kinds saves output scenario ending.Same never = absurd never
+run_played kinds saves output scenario (ending.Differs n) never = absurd never
+
+-- nor do a failed write and want of memory
+pub unwritten_played : IsUnplayed 5 → ⊥
+unwritten_played = played 5 (λ is. omega (arith, is)) (λ is. omega (arith, is)) (λ is. omega (arith, is)) (λ is. omega (arith, is))
+
+pub memoryless_played : IsUnplayed 6 → ⊥
+memoryless_played = played 6 (λ is. omega (arith, is)) (λ is. omega (arith, is)) (λ is. omega (arith, is)) (λ is. omega (arith, is))
+
+-- so the stable pairs that a run leaves need not be the first ones only where it ends otherwise
+pub run_untouched : {X W : Type 0} (kinds : List ℕ) (saves : Telling) (output : Output) (scenario : Scenario) (result : Result Ending X) (before after : List W) →
+    IfOk result (λ e. EndsRun kinds saves output scenario e) → IfOk result (λ e. IsUnplayed (ending_status e) → after ≡ before)
+run_untouched kinds saves output scenario (Ok e) before after ends = λ unplayed. absurd (run_played kinds saves output scenario e ends unplayed)
+run_untouched kinds saves output scenario (Err x) before after ends = tt
+
+-- a scenario that numbers make is played
+pub made_plays : {A : Type 0} (words : List (List ℕ)) (number controllers switches frames : ℕ) → IsServed words (service.Gen number controllers switches frames) → PlaysNothing words → A
+made_plays words number controllers switches frames said (inl other) = absurd (never_both words (service.Gen number controllers switches frames) said other)
+made_plays words number controllers switches frames said (inr audit) =
+    no_audit_made words number controllers switches frames (job_served words (service.Gen number controllers switches frames) said) audit
+
+-- words for which something is read, and nothing is played, ask for an audit
+pub reads_plays : (words : List (List ℕ)) (r : Reader) → IsServed words (service.Reads r) → PlaysNothing words → r ≡ reader.Audit
+reads_plays words r said (inl other) = absurd (never_both words (service.Reads r) said other)
+reads_plays words reader.Audit said (inr audit) = refl
+reads_plays words reader.Sim said (inr audit) = no_audit words (job_served words (service.Reads reader.Sim) said) audit
+
+pub reads_some : {A : Type 0} (words : List (List ℕ)) (r : Reader) → IsServed words (service.Reads r) → ReadsNothing words → A
+reads_some words r said (inl other) = absurd (never_both words (service.Reads r) said other)
+reads_some words r said (inr made) = read_no_made words (Unit {0}) (Unit {0}) r said made
+
+-- the line of an ending
+pub line_is : (e : Ending) → HasLine (ending_status e) (ending_text e)
+line_is (ending.Report written) = record { usage = λ is. absurd (omega (arith, is)); unread = λ is. absurd (omega (arith, is)); nothing = λ is. absurd (omega (arith, is)) }
+line_is ending.Usage = record { usage = λ is. refl; unread = λ is. absurd (omega (arith, is)); nothing = λ is. absurd (omega (arith, is)) }
+line_is (ending.Refused fault) = record { usage = λ is. absurd (omega (arith, is)); unread = λ is. absurd (omega (arith, is)); nothing = λ is. absurd (omega (arith, is)) }
+line_is ending.Unread = record { usage = λ is. absurd (omega (arith, is)); unread = λ is. refl; nothing = λ is. absurd (omega (arith, is)) }
+line_is (ending.NoQuorum up needed) = record { usage = λ is. absurd (omega (arith, is)); unread = λ is. absurd (omega (arith, is)); nothing = λ is. absurd (omega (arith, is)) }
+line_is (ending.Overfull limit) = record { usage = λ is. absurd (omega (arith, is)); unread = λ is. absurd (omega (arith, is)); nothing = λ is. absurd (omega (arith, is)) }
+line_is (ending.Unposted count letters) = record { usage = λ is. absurd (omega (arith, is)); unread = λ is. absurd (omega (arith, is)); nothing = λ is. absurd (omega (arith, is)) }
+line_is ending.Same = record { usage = λ is. absurd (omega (arith, is)); unread = λ is. absurd (omega (arith, is)); nothing = λ is. absurd (omega (arith, is)) }
+line_is (ending.Differs n) = record { usage = λ is. absurd (omega (arith, is)); unread = λ is. absurd (omega (arith, is)); nothing = λ is. absurd (omega (arith, is)) }

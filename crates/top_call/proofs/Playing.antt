@@ -8,6 +8,7 @@ use Rattle.rv_base.specs.declared.journal.Turn.TheVariants as turn
 use Rattle.rv_runs.specs.Schedule.{Answer}
 use Rattle.rv_runs.specs.States.{Scene}
 use Rattle.rv_world.specs.World.{Worlding}
+use Rattle.closing.specs.Views.{most_view_of_a_script}
 use Rattle.playing.specs.Played.{HasPlayed, StepSuspectsUpTo}
 use Rattle.scenario.specs.Scenario.{HasView}
 
@@ -19,7 +20,7 @@ module _ {B A : Type 0} (scene : Scene B) (steps : List Turn) (count : ℕ) (ans
   within_journal = let lengths = ap length h.joined ∙ length-append h.front h.rest in let counted = h.counted in omega (arith, lengths, counted)
 
 -- no step of a scenario suspects a view above what a closing can go beyond
-step_up_to : (t : Turn) → HasView t → StepSuspectsUpTo 4000000000 t
+step_up_to : (t : Turn) → HasView t → StepSuspectsUpTo most_view_of_a_script t
 step_up_to (turn.Local a (local.Suspect view)) within = omega (arith, within)
 step_up_to (turn.Local a (local.Frame port bytes)) within = tt
 step_up_to (turn.Local a (local.Port port up)) within = tt
@@ -29,6 +30,6 @@ step_up_to (turn.Local a local.Restart) within = tt
 step_up_to (turn.Draw a choice keep) within = tt
 step_up_to (turn.Lose a choice) within = tt
 
-pub views_up_to : (steps : List Turn) → AllByRecursion HasView steps → AllByRecursion (λ t. StepSuspectsUpTo 4000000000 t) steps
+pub views_up_to : (steps : List Turn) → AllByRecursion HasView steps → AllByRecursion (λ t. StepSuspectsUpTo most_view_of_a_script t) steps
 views_up_to [] all = tt
 views_up_to (t ∷ rest) (here, all) = (step_up_to t here, views_up_to rest all)

@@ -3,7 +3,7 @@ use Rattle.std.proofs.Common.{◌≡◌, ◌≤◌, ◌<◌, ◌⊎◌, inl, inr
 use Rattle.std.specs.Prelude.{◌-◌, ◌^◌, count_by, reverse, slice_get, slice_index_or, Some, IfOk, IfErr, Result, Ok, Err}
 use Rattle.std.specs.List.{AllByRecursion, range_with_len}
 use Rattle.std.proofs.lemmas.Bool.{cases_lt}
-use Rattle.std.proofs.lemmas.List.{length-map}
+use Rattle.std.proofs.lemmas.List.{length-map, reverse-reverse}
 use Rattle.std.proofs.lemmas.Option.{slice_get_within}
 use Rattle.of_types.specs.declared.setup.Setup.{Setup}
 use Rattle.rv_base.specs.declared.journal.JournalEntry.{JournalEntry}
@@ -17,7 +17,7 @@ use Rattle.group_controller.specs.Turns.{Controlling, state_of, pair_in}
 use Rattle.of_switch.specs.State.{SwitchState}
 use Rattle.of_types.specs.Setups.{IsSetup}
 use Rattle.rv_laws.proofs.Told.{told_law}
-use Rattle.rv_laws.proofs.Laws.{agreement_law, lasting_law, once_law, fence_law}
+use Rattle.rv_laws.proofs.Laws.{agreement_law, lasting_law, once_law, fence_law, valid_law}
 use Rattle.rv_runs.specs.Bound.{IsQuick, IsSharplyBounded}
 use Rattle.rv_runs.specs.Committed.{count_up, decided, members_up, switch_state}
 use Rattle.rv_runs.specs.Legal.{IsLegalPast, IsPossible, results_of}
@@ -29,9 +29,11 @@ use Rattle.rv_base.specs.Part.{part}
 use Rattle.rv_runs.specs.Bodies.{byte_bodies}
 use Rattle.rv_runs.proofs.Bodies.{bytes_again}
 use Rattle.rv_runs.proofs.Pasts.{from_some}
-use Rattle.rv_runs.proofs.Playing.{all_saved, the_one_journal}
+use Rattle.rv_runs.proofs.Playing.{IsWholeRun, all_saved, one_journal, the_one_journal}
+use Rattle.rv_runs.proofs.Playing as one_run
 use Rattle.rv_base.specs.declared.wire.Stop.{Stop}
 use Rattle.rv_base.specs.declared.wire.Stop.TheVariants.{OutOfMemory, JournalFull}
+use Rattle.rv_base.specs.Stables.{Saving}
 use Rattle.rv_world.specs.World.{AreMore, Holds, IfMemory, Keeps, PairsStand, StartsAs, Worlding, is_failed, results_in, scene_in}
 use Rattle.rv_world.proofs.Growing.{no_more}
 use Rattle.rv_world.proofs.Places.{results_at}
@@ -41,10 +43,12 @@ use Rattle.closing.specs.Closing.{HasMajority, answer_of, up_in}
 use Rattle.closing.proofs.Lists.{map_range}
 use Rattle.closing.proofs.Parts.{few_members}
 use Rattle.vr_log.specs.declared.entry.LogFull.{LogFull}
+use Rattle.app_core.specs.Law.{AppLaw}
 use Rattle.closing_laws.specs.Ends.{HasRested}
-use Rattle.closing_laws.specs.Given.{given_by}
+use Rattle.app_core.specs.Chain.{given_by}
 use Rattle.closing_laws.specs.Quick.{WhereSavesSucceed}
 use Rattle.closing_laws.specs.Stops.{IsAtLimit}
+use Rattle.closing_laws.proofs.Kept.{kept_law}
 use Rattle.closing_laws.proofs.Limits.{limits_law}
 use Rattle.closing_laws.proofs.QuickClosings.{quick_law, sharp_law}
 use Rattle.closing_laws.proofs.Quorate.{quorum_law}
@@ -63,7 +67,7 @@ use Rattle.top_call.specs.Play.{AreFresh, IfDone, IfReport, StopsAs, ending_by, 
 use Rattle.top_call.proofs.Recorded.{one_record, told_writable}
 use Rattle.top_call.specs.declared.ending.Ending.{Ending}
 use Rattle.top_call.specs.Ending.{EndsRun}
-use Rattle.top_call.specs.Runs.{AreSaved, HasRun, IsDone, IsLawful, IsLeft, IsOverfull, IsTheOne, IsUnposted, StablesTell, scene_for}
+use Rattle.top_call.specs.Runs.{AreSaved, HasRun, IsDone, IsLawful, IsLeft, IsOverfull, IsRun, IsTheOne, IsUnposted, StableTells, StablesTell, scene_for}
 use Rattle.top_call.proofs.Playing.{rest_is, within_journal}
 
 -- of the first stables
@@ -72,42 +76,46 @@ there_is [] i less = absurd (omega (arith, less))
 there_is (x ∷ xs) zero less = (x, refl)
 there_is (x ∷ xs) (suc i) less = there_is xs i (omega (arith, less))
 
-pub fresh_pairs : {A W : Type 0} (controls : Controlling A → List ℕ → Type 0) (pair : W → ℕ × ℕ) (stables : List W) (setup : Setup) (w : Worlding (List ℕ) A) (kinds : List ℕ) → AreFresh pair stables → StartsAs setup w →
-    Holds controls byte_bodies w kinds → PairsStand pair stables w.controllers
-fresh_pairs controls pair stables setup w kinds fresh starts holds c x found =
+pub fresh_pairs : {A W : Type 0} (law : AppLaw A) (saving : Saving W) (stables : List W) (setup : Setup) (w : Worlding (List ℕ) A) (kinds : List ℕ) → AreFresh saving stables → StartsAs setup w →
+    Holds law byte_bodies w kinds → PairsStand saving stables w.controllers
+fresh_pairs law saving stables setup w kinds fresh starts holds c x found =
     let within = slice_get_within w.controllers c x found in
     let group = holds.run.group in
     let few = few_members (scene_in byte_bodies w kinds) w holds.run in
     let count = fresh.count in
     let s = there_is stables c (omega (arith, within, few, count, group)) in
-    (s.0, s.1, all_get (λ stable. pair stable ≡ (0, 0)) stables c s.0 fresh.each s.1 ∙ sym (starts.pairs c x found))
+    (s.0, s.1, all_get (λ stable. saving.pair stable ≡ (0, 0)) stables c s.0 fresh.each s.1 ∙ sym (starts.pairs c x found))
+
+-- one past is that of one journal
+one_past : {B : Type 0} (a b : List (JournalEntry B)) → past a ≡ past b → a ≡ b
+one_past a b same = sym (reverse-reverse a) ∙ ap (λ l. reverse l) same ∙ reverse-reverse b
 
 none_left : {X : Type 0} (xs : List X) → length xs ≡ 0 → xs ≡ []
 none_left [] h = refl
 none_left (x ∷ xs) h = cc
 
-module _ {A W : Type 0} (controls : Controlling A → List ℕ → Type 0) (pair : W → ℕ × ℕ) (faults : W → ℕ) (scenario : Scenario) (kinds : List ℕ)
+module _ {A W : Type 0} (law : AppLaw A) (saving : Saving W) (scenario : Scenario) (kinds : List ℕ)
     (start : Worlding (List ℕ) A) (stables : List W) (w : Worlding (List ℕ) A) (stables_after : List W)
-    (begins : StartsAs scenario.setup start) (holds : Holds controls byte_bodies start kinds) (pairs : PairsStand pair stables start.controllers)
-    (k : Keeps controls pair faults byte_bodies start stables w stables_after) (within : IsWithinLimits byte_bodies.size (past w.journal)) where
+    (begins : StartsAs scenario.setup start) (holds : Holds law byte_bodies start kinds) (given : given_by kinds ≤ most_commands) (pairs : PairsStand saving stables start.controllers)
+    (k : Keeps law saving byte_bodies start stables w stables_after) (within : IsWithinLimits byte_bodies.size (past w.journal)) where
   abbrev OfRun : Scene (List ℕ)
   OfRun = scene_for kinds scenario
 
   abbrev Results : List (List SaveResult)
   Results = results_in w.controllers
 
-  now_holds : Holds controls byte_bodies w kinds
+  now_holds : Holds law byte_bodies w kinds
   now_holds = k.holds kinds holds
 
   same_setup : w.setup ≡ scenario.setup
   same_setup = k.setup ∙ begins.setup_is
 
   -- the world is that of a run of the scenario
-  runs : Runs controls OfRun w
-  runs = subst (λ (s : Setup). Runs controls (record { setup = s; kinds = kinds; sealing = byte_bodies }) w) same_setup now_holds.run
+  runs : Runs law OfRun w
+  runs = subst (λ (s : Setup). Runs law (record { setup = s; kinds = kinds; sealing = byte_bodies }) w) same_setup now_holds.run
 
-  first_runs : Runs controls OfRun start
-  first_runs = subst (λ (s : Setup). Runs controls (record { setup = s; kinds = kinds; sealing = byte_bodies }) start) begins.setup_is holds.run
+  first_runs : Runs law OfRun start
+  first_runs = subst (λ (s : Setup). Runs law (record { setup = s; kinds = kinds; sealing = byte_bodies }) start) begins.setup_is holds.run
 
   none_yet : AreMore scenario.setup.controllers Results Results
   none_yet = no_more scenario.setup.controllers Results
@@ -115,9 +123,11 @@ module _ {A W : Type 0} (controls : Controlling A → List ℕ → Type 0) (pair
   lawful : IsLawful OfRun Results (past w.journal)
   lawful = record {
     agreed = agreement_law OfRun Results (past w.journal) runs.setup bytes_again runs.legal.possible;
+    logged = valid_law OfRun Results (past w.journal) runs.setup bytes_again runs.legal.possible;
     exactly_once = once_law OfRun Results (past w.journal) runs.setup bytes_again runs.legal.possible;
     fenced = fence_law OfRun Results (past w.journal) runs.setup bytes_again runs.legal.possible;
     lasting = lasting_law OfRun Results (past w.journal) runs.setup bytes_again runs.legal.possible;
+    kept = kept_law OfRun (past w.journal) runs.setup;
   }
 
   -- no save was made before
@@ -126,8 +136,8 @@ module _ {A W : Type 0} (controls : Controlling A → List ℕ → Type 0) (pair
       none_left x.results (ap length (sym (results_at start.controllers c x found)) ∙ first_runs.legal.saves c there ∙ ap (λ l. (controller_at OfRun (results_of (results_in start.controllers) c) c (part (actor.Controller c) (past l))).saves) begins.journal)
 
   -- what the stable pairs tell
-  stables_tell : StablesTell pair faults stables stables_after OfRun Results w.journal
-  stables_tell c there =
+  each_tells : (c : ℕ) → c < scenario.setup.controllers → StableTells saving stables stables_after OfRun Results w.journal c
+  each_tells c there =
       let m = first_runs.controllers c there in
       let s = pairs c m.member m.stands in
       let t = k.told c m.member s.0 m.stands s.1 in
@@ -140,9 +150,12 @@ module _ {A W : Type 0} (controls : Controlling A → List ℕ → Type 0) (pair
         new = t.1;
         stood = s.1;
         stands = t.3;
-        rose = subst (λ l. (faults s.0 + count_by is_failed l ≤ faults t.1) ⊎ (2 ^ 64 - 1 ≤ faults t.1)) more t.4.rose;
-        pair_is = ap pair (from_some t.1 last.0 (sym t.3 ∙ last.1)) ∙ last.2 ∙ ap (λ x. pair_in (state_of x)) (from_some t.0 n.member (sym t.2 ∙ n.stands)) ∙ ap pair_in n.state;
+        rose = subst (λ l. (saving.faults s.0 + count_by is_failed l ≤ saving.faults t.1) ⊎ (2 ^ 64 - 1 ≤ saving.faults t.1)) more t.4.rose;
+        pair_is = ap saving.pair (from_some t.1 last.0 (sym t.3 ∙ last.1)) ∙ last.2 ∙ ap (λ x. pair_in (state_of x)) (from_some t.0 n.member (sym t.2 ∙ n.stands)) ∙ ap pair_in n.state;
       }
+
+  stables_tell : StablesTell saving stables stables_after OfRun Results w.journal
+  stables_tell = record { each = each_tells; beyond = λ c past. k.beyond c (subst (λ (s : Setup). s.controllers ≤ c) (sym begins.setup_is) past) }
 
   -- each save is made, so each succeeds
   each_saved : (rs : List SaveResult) → AllByRecursion (λ r. r ≡ Saved) rs → (i : ℕ) → slice_index_or rs i Saved ≡ Saved
@@ -166,26 +179,44 @@ module _ {A W : Type 0} (controls : Controlling A → List ℕ → Type 0) (pair
     whole : past w.journal ≡ reverse played.rest ++ past played.front
     whole = ap past played.joined ∙ past_joined played.front played.rest
 
-    one : AreSaved scenario.setup.controllers Results → IsTheOne OfRun scenario.steps w.journal answer
+    -- a run of the scenario in which every save is made is one whole run
+    is_whole : (results : List (List SaveResult)) (script closing journal : List (JournalEntry (List ℕ))) (end : Answer) → IsRun kinds scenario results script closing journal end →
+        AllByRecursion (λ saves. AllByRecursion (λ r. r ≡ Saved) saves) results → IsWholeRun OfRun scenario.steps (past script) closing end
+    is_whole results script closing journal end run saved = record {
+      results = results;
+      saved = one_run.each_saved results saved;
+      possible = subst (λ l. IsPossible OfRun results l) (ap past run.joined ∙ past_joined script closing) run.legal.possible;
+      follows = run.follows;
+      closes = run.closes;
+    }
+
+    one : AreSaved scenario.setup.controllers Results → IsTheOne kinds scenario w.journal answer
     one saved =
         let count_is = length-map w.controllers (λ c. c.results) ∙ runs.group in
-        let found = the_one_journal OfRun scenario.steps (past played.front) played.rest answer (record {
+        let run : IsWholeRun OfRun scenario.steps (past played.front) played.rest answer = record {
           results = Results;
           saved = all_saved Results (λ c less. saved c (omega (arith, less, count_is)));
           possible = subst (λ l. IsPossible OfRun Results l) whole runs.legal.possible;
           follows = follows;
           closes = closes;
-        }) in
-        record { most = found.0; plays_it = found.1 ∙ ap (λ l. record { entries = l; answer = Some answer }) (sym whole) }
+        } in
+        let found = the_one_journal OfRun scenario.steps (past played.front) played.rest answer run in
+        record {
+          most = found.0;
+          plays_it = found.1 ∙ ap (λ l. record { entries = l; answer = Some answer }) (sym whole);
+          only = λ results script closing other end ran each.
+              let same = one_journal OfRun scenario.steps (past script) closing end (past played.front) played.rest answer (is_whole results script closing other end ran each) run in
+              (one_past other w.journal (ap past ran.joined ∙ past_joined script closing ∙ same.0 ∙ sym whole), same.1);
+        }
 
     -- a law of closings tells of its closing
     of_closing : (claim : Scene (List ℕ) → List (List SaveResult) → List (JournalEntry (List ℕ)) → List (JournalEntry (List ℕ)) → Type 0) → WhereSavesSucceed (List ℕ) claim →
-        given_by kinds ≤ most_commands → AreSaved scenario.setup.controllers Results → claim OfRun Results (past played.front) played.rest
-    of_closing claim law given saved =
-        law OfRun Results (past played.front) played.rest closes.last runs.setup bytes_again given (subst (λ l. IsPossible OfRun Results l) whole runs.legal.possible)
+        AreSaved scenario.setup.controllers Results → claim OfRun Results (past played.front) played.rest
+    of_closing claim proved saved =
+        proved OfRun Results (past played.front) played.rest closes.last runs.setup bytes_again given (subst (λ l. IsPossible OfRun Results l) whole runs.legal.possible)
         (λ c i there low. each_saved (results_of Results c) (saved c there) i) (subst (λ l. IsWithinLimits byte_bodies.size l) whole within) closes.steps closes.posted
 
-    pub has_run : HasRun kinds (StablesTell pair faults stables stables_after) scenario answer
+    pub has_run : HasRun kinds (StablesTell saving stables stables_after) scenario answer
     has_run = record {
       results = Results;
       script = played.front;
@@ -199,8 +230,8 @@ module _ {A W : Type 0} (controls : Controlling A → List ℕ → Type 0) (pair
     }
 
     -- nothing is left undone
-    rested : (primary : ℕ) → answer ≡ schedule.Done primary → given_by kinds ≤ most_commands → HasRested OfRun Results primary (past w.journal)
-    rested primary is given =
+    rested : (primary : ℕ) → answer ≡ schedule.Done primary → HasRested OfRun Results primary (past w.journal)
+    rested primary is =
         subst (λ (l : List (JournalEntry (List ℕ))). HasRested OfRun Results primary l) (sym whole)
         (rest_law OfRun Results (past played.front) played.rest primary runs.setup bytes_again given (subst (λ (l : List (JournalEntry (List ℕ))). IsLegalPast OfRun Results l) whole runs.legal)
         (subst (λ (x : Answer). Closes OfRun Results (past played.front) played.rest x) is closes) (subst (λ l. IsWithinLimits byte_bodies.size l) whole within))
@@ -226,12 +257,12 @@ module _ {A W : Type 0} (controls : Controlling A → List ℕ → Type 0) (pair
             ap (λ n. told_of (switch_state OfRun n (past w.journal))) number ∙ ap told_of (from_some (switch_state OfRun i (past w.journal)) x (sym (runs.switches i there) ∙ found))
 
   pub is_done : (count primary : ℕ) (output : Output) (told : Record) (written : List ℕ) (played : HasPlayed (scene_in byte_bodies start kinds) scenario.steps count (schedule.Done primary) w) →
-      majority start.setup.controllers ≤ length (up_in w.controllers) → told ≡ told_by w (length scenario.steps) count → written ≡ told_text output told → IfReport output (FitsRecord told) →
-      IsDone kinds (StablesTell pair faults stables stables_after) scenario output written
+      majority start.setup.controllers ≤ length (up_in w) → told ≡ told_by w (length scenario.steps) count → written ≡ told_text output told → IfReport output (FitsRecord told) →
+      IsDone kinds (StablesTell saving stables stables_after) scenario output written
   unfolding has_run
   is_done count primary output told written played up is wrote fits =
       let group : start.setup.controllers ≡ scenario.setup.controllers = ap (λ (s : Setup). s.controllers) begins.setup_is in
-      let same = states_are controls OfRun w runs Results none_yet in
+      let same = states_are law OfRun w runs Results none_yet in
       record {
         primary = primary;
         ran = has_run count (schedule.Done primary) played;
@@ -246,7 +277,7 @@ module _ {A W : Type 0} (controls : Controlling A → List ℕ → Type 0) (pair
             (told_law OfRun Results (past w.journal) runs.setup bytes_again runs.legal.possible) (length scenario.steps) count));
       }
 
-  pub is_left : (count up needed : ℕ) (played : HasPlayed (scene_in byte_bodies start kinds) scenario.steps count (schedule.NoQuorum up needed) w) → IsLeft kinds (StablesTell pair faults stables stables_after) scenario up needed
+  pub is_left : (count up needed : ℕ) (played : HasPlayed (scene_in byte_bodies start kinds) scenario.steps count (schedule.NoQuorum up needed) w) → IsLeft kinds (StablesTell saving stables stables_after) scenario up needed
   unfolding has_run
   is_left count up needed played = record {
     ran = has_run count (schedule.NoQuorum up needed) played;
@@ -257,7 +288,7 @@ module _ {A W : Type 0} (controls : Controlling A → List ℕ → Type 0) (pair
     ];
   }
 
-  pub is_overfull : (count : ℕ) (limit : LogFull) (played : HasPlayed (scene_in byte_bodies start kinds) scenario.steps count (schedule.Overfull limit) w) → IsOverfull kinds (StablesTell pair faults stables stables_after) scenario limit
+  pub is_overfull : (count : ℕ) (limit : LogFull) (played : HasPlayed (scene_in byte_bodies start kinds) scenario.steps count (schedule.Overfull limit) w) → IsOverfull kinds (StablesTell saving stables stables_after) scenario limit
   unfolding has_run
   is_overfull count limit played =
       let at = limits_law OfRun Results (past played.front) played.rest limit runs.setup bytes_again (subst (λ (l : List (JournalEntry (List ℕ))). IsPossible OfRun Results l) (whole count (schedule.Overfull limit) played) runs.legal.possible)
@@ -269,7 +300,7 @@ module _ {A W : Type 0} (controls : Controlling A → List ℕ → Type 0) (pair
         full = subst (λ (l : List (JournalEntry (List ℕ))). IsAtLimit OfRun Results l limit at.0 at.1) (sym (whole count (schedule.Overfull limit) played)) at.2;
       }
 
-  pub is_unposted : (bytes letters : ℕ) → IsBegun (scene_in byte_bodies start kinds) Results scenario.steps bytes letters (past w.journal) → IsUnposted kinds (StablesTell pair faults stables stables_after) scenario bytes letters
+  pub is_unposted : (bytes letters : ℕ) → IsBegun (scene_in byte_bodies start kinds) Results scenario.steps bytes letters (past w.journal) → IsUnposted kinds (StablesTell saving stables stables_after) scenario bytes letters
   is_unposted bytes letters begun = record {
     results = Results;
     journal = w.journal;
@@ -283,25 +314,25 @@ module _ {A W : Type 0} (controls : Controlling A → List ℕ → Type 0) (pair
   }
 
 -- how a call ends, by how playing ended
-module _ {A W : Type 0} (controls : Controlling A → List ℕ → Type 0) (pair : W → ℕ × ℕ) (faults : W → ℕ) (scenario : Scenario) (kinds : List ℕ)
+module _ {A W : Type 0} (law : AppLaw A) (saving : Saving W) (scenario : Scenario) (kinds : List ℕ)
     (start : Worlding (List ℕ) A) (stables : List W) (w : Worlding (List ℕ) A) (stables_after : List W)
-    (begins : StartsAs scenario.setup start) (holds : Holds controls byte_bodies start kinds) (pairs : PairsStand pair stables start.controllers)
+    (begins : StartsAs scenario.setup start) (holds : Holds law byte_bodies start kinds) (given : given_by kinds ≤ most_commands) (pairs : PairsStand saving stables start.controllers)
     (within : IsWithinLimits byte_bodies.size (past w.journal)) (taken : List Turn) (same : taken ≡ scenario.steps) where
   abbrev Kept : Type 0
-  Kept = Keeps controls pair faults byte_bodies start stables w stables_after
+  Kept = Keeps law saving byte_bodies start stables w stables_after
 
   abbrev Ends : Output → Ending → Type 0
-  Ends output e = EndsRun kinds (StablesTell pair faults stables stables_after) output scenario e
+  Ends output e = EndsRun kinds (StablesTell saving stables stables_after) output scenario e
 
   one_ending : (closed : Closed) (count : ℕ) (output : Output) → Kept → HasPlayed (scene_in byte_bodies start kinds) scenario.steps count (answer_of closed) w →
-      HasMajority closed start.setup.controllers (up_in w.controllers) → IfDone closed (IfReport output (FitsRecord (told_by w (length scenario.steps) count))) → Ends output (ending_by closed (told_text output (told_by w (length scenario.steps) count)))
+      HasMajority closed start w → IfDone closed (IfReport output (FitsRecord (told_by w (length scenario.steps) count))) → Ends output (ending_by closed (told_text output (told_by w (length scenario.steps) count)))
   one_ending (closed.Done primary) count output k played up fits =
-      is_done controls pair faults scenario kinds start stables w stables_after begins holds pairs k within count primary output (told_by w (length scenario.steps) count) (told_text output (told_by w (length scenario.steps) count)) played up refl refl fits
-  one_ending (closed.NoQuorum up needed) count output k played most fits = is_left controls pair faults scenario kinds start stables w stables_after begins holds pairs k within count up needed played
-  one_ending (closed.Overfull limit) count output k played most fits = is_overfull controls pair faults scenario kinds start stables w stables_after begins holds pairs k within count limit played
+      is_done law saving scenario kinds start stables w stables_after begins holds given pairs k within count primary output (told_by w (length scenario.steps) count) (told_text output (told_by w (length scenario.steps) count)) played up refl refl fits
+  one_ending (closed.NoQuorum up needed) count output k played most fits = is_left law saving scenario kinds start stables w stables_after begins holds given pairs k within count up needed played
+  one_ending (closed.Overfull limit) count output k played most fits = is_overfull law saving scenario kinds start stables w stables_after begins holds given pairs k within count limit played
 
   ok_ending : {X : Type 0} (closed : Closed) (count : ℕ) (output : Output) (steps : ℕ) (ended : Result Ending X) → steps ≡ length scenario.steps → Kept → HasPlayed (scene_in byte_bodies start kinds) taken count (answer_of closed) w →
-      HasMajority closed start.setup.controllers (up_in w.controllers) → IfOk ended (λ e. e ≡ ending_by closed (told_text output (told_by w steps count))) → IfOk ended (λ _. IfDone closed (IfReport output (FitsRecord (told_by w steps count)))) → IfOk ended (λ e. Ends output e)
+      HasMajority closed start w → IfOk ended (λ e. e ≡ ending_by closed (told_text output (told_by w steps count))) → IfOk ended (λ _. IfDone closed (IfReport output (FitsRecord (told_by w steps count)))) → IfOk ended (λ e. Ends output e)
   ok_ending closed count output steps (Err x) long k played up is fits = tt
   ok_ending closed count output steps (Ok e) long k played up is fits =
       subst (λ x. Ends output x) (sym (is ∙ ap (λ n. ending_by closed (told_text output (told_by w n count))) long))
@@ -309,13 +340,13 @@ module _ {A W : Type 0} (controls : Controlling A → List ℕ → Type 0) (pair
 
   -- it came to the end of its closing
   pub ends_closed : {X : Type 0} (result : Result (Closed × ℕ) Stop) (closed : Closed) (count : ℕ) (output : Output) (steps : ℕ) (ended : Result Ending X) → result ≡ Ok (closed, count) → steps ≡ length scenario.steps →
-      IfMemory result Kept → IfOk result (λ played. HasPlayed (scene_in byte_bodies start kinds) taken played.1 (answer_of played.0) w) → IfOk result (λ played. HasMajority played.0 start.setup.controllers (up_in w.controllers)) →
+      IfMemory result Kept → IfOk result (λ played. HasPlayed (scene_in byte_bodies start kinds) taken played.1 (answer_of played.0) w) → IfOk result (λ played. HasMajority played.0 start w) →
       IfOk ended (λ e. e ≡ ending_by closed (told_text output (told_by w steps count))) → IfOk ended (λ _. IfDone closed (IfReport output (FitsRecord (told_by w steps count)))) → IfOk ended (λ e. Ends output e)
   ends_closed result closed count output steps ended is long k played up ending_is fits =
       ok_ending closed count output steps ended long
       (subst (λ (r : Result (Closed × ℕ) Stop). IfMemory r Kept) is k)
       (subst (λ (r : Result (Closed × ℕ) Stop). IfOk r (λ played. HasPlayed (scene_in byte_bodies start kinds) taken played.1 (answer_of played.0) w)) is played)
-      (subst (λ (r : Result (Closed × ℕ) Stop). IfOk r (λ played. HasMajority played.0 start.setup.controllers (up_in w.controllers))) is up)
+      (subst (λ (r : Result (Closed × ℕ) Stop). IfOk r (λ played. HasMajority played.0 start w)) is up)
       ending_is fits
 
   one_stop : {X : Type 0} (stop : Stop) (output : Output) (ended : Result Ending X) → IfMemory {T = Closed × ℕ} (Err stop) Kept → RunStops (scene_in byte_bodies start kinds) taken w stop →
@@ -324,7 +355,7 @@ module _ {A W : Type 0} (controls : Controlling A → List ℕ → Type 0) (pair
   one_stop OutOfMemory output (Ok e) k stops never = absurd never
   one_stop (JournalFull bytes letters) output (Ok e) k stops is =
       subst (λ x. Ends output x) (sym is)
-      (is_unposted controls pair faults scenario kinds start stables w stables_after begins holds pairs k within bytes letters
+      (is_unposted law saving scenario kinds start stables w stables_after begins holds given pairs k within bytes letters
       (subst (λ (l : List Turn). IsBegun (scene_in byte_bodies start kinds) (results_in w.controllers) l bytes letters (past w.journal)) same stops))
 
   -- or it stopped

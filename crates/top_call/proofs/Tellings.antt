@@ -1,13 +1,14 @@
 -- What was read and written, as the top call tells it.
-use Rattle.std.proofs.Common.{◌≡◌, ℕ, List, [], Some, None, refl, sym, ◌∙◌, ap, append-nil}
+use Rattle.std.proofs.Common.{◌≡◌, ◌++◌, ℕ, List, [], Some, None, refl, sym, ◌∙◌, ap, subst, arith, append-nil}
 use Rattle.std.specs.Prelude.{Option}
 use Rattle.std.specs.Io.KnownBytes.{Appends}
 use Rattle.streams.specs.Fronts.{AppendsFront}
 use Rattle.top_call.specs.declared.ending.Ending.{Ending}
-use Rattle.top_call.specs.Cause.{HasEndingCause}
+use Rattle.top_call.specs.Cause.{HasEndingCause, IsOfNumbers}
 use Rattle.top_call.specs.Ending.{ending_status, ending_text}
-use Rattle.top_call.specs.Outcome.{Answers, Served, Write_failed, No_memory, IsTold}
+use Rattle.top_call.specs.Outcome.{Answers, HasLine, IsMade, Served, Write_failed, No_memory, IsTold, IsWritten}
 use Rattle.top_call.specs.Runs.{Telling}
+use Rattle.top_call.proofs.Endings.{line_is}
 
 module _ (kinds : List ℕ) (saves : Telling) (words : List (List ℕ)) (unread unwritten : Type 0) where
   -- all of an outcome was written
@@ -36,3 +37,44 @@ module _ (kinds : List ℕ) (saves : Telling) (words : List (List ℕ)) (unread 
   nothing (Some input) None taken = tt
   nothing (Some input) (Some rest) None = tt
   nothing (Some input) (Some rest) (Some taken) = ([], ap (λ l. Some l) (sym (append-nil taken)), No_memory refl)
+
+-- what is told by the sink alone, where all of a text was written, a front of it, or nothing
+module _ (P : List ℕ → Type 0) where
+  pub all_written : (taken now : Option (List ℕ)) (text : List ℕ) → P text → Appends taken now text → IsWritten taken now P
+  all_written None now text holds a = tt
+  all_written (Some taken) None text holds a = absurd a
+  all_written (Some taken) (Some now) text holds a = (text, ap (λ l. Some l) a, holds)
+
+  pub front_written : (taken now : Option (List ℕ)) (text : List ℕ) → ((front behind : List ℕ) → text ≡ front ++ behind → P front) → AppendsFront taken now text → IsWritten taken now P
+  front_written None now text holds a = tt
+  front_written (Some taken) None text holds (front, behind, whole, a) = absurd a
+  front_written (Some taken) (Some now) text holds (front, behind, whole, a) = (front, ap (λ l. Some l) a, holds front behind whole)
+
+  pub none_written : (taken : Option (List ℕ)) → P [] → IsWritten taken taken P
+  none_written None holds = tt
+  none_written (Some taken) holds = ([], ap (λ l. Some l) (sym (append-nil taken)), holds)
+
+pub line_served : (taken now : Option (List ℕ)) (ending : Ending) (text : List ℕ) → text ≡ ending_text ending → Appends taken now text → IsWritten taken now (HasLine (ending_status ending))
+line_served taken now ending text e a = all_written (HasLine (ending_status ending)) taken now text (subst (λ t. HasLine (ending_status ending) t) (sym e) (line_is ending)) a
+
+pub line_cut : (taken now : Option (List ℕ)) (text : List ℕ) → AppendsFront taken now text → IsWritten taken now (HasLine 5)
+line_cut taken now text a =
+    front_written (HasLine 5) taken now text (λ front behind whole. record { usage = λ is. absurd (omega (arith, is)); unread = λ is. absurd (omega (arith, is)); nothing = λ is. absurd (omega (arith, is)) }) a
+
+pub line_nothing : (taken : Option (List ℕ)) → IsWritten taken taken (HasLine 6)
+line_nothing taken = none_written (HasLine 6) taken (record { usage = λ is. absurd (omega (arith, is)); unread = λ is. absurd (omega (arith, is)); nothing = λ _. refl })
+
+module _ (kinds : List ℕ) (saves : Telling) (words : List (List ℕ)) (unread unwritten : Type 0) where
+  pub numbers_served : (taken now : Option (List ℕ)) (ending : Ending) (text : List ℕ) → IsOfNumbers kinds saves words unread ending → text ≡ ending_text ending → Appends taken now text →
+      IsMade words → (input : List ℕ) → IsWritten taken now (λ written. Answers kinds saves words input input unread unwritten written (ending_status ending))
+  numbers_served taken now ending text holds e a made input =
+      all_written (λ written. Answers kinds saves words input input unread unwritten written (ending_status ending)) taken now text (Served (rw e (holds made input))) a
+
+  pub numbers_cut : (taken now : Option (List ℕ)) (ending : Ending) (text : List ℕ) → IsOfNumbers kinds saves words unread ending → text ≡ ending_text ending → unwritten → AppendsFront taken now text →
+      IsMade words → (input : List ℕ) → IsWritten taken now (λ written. Answers kinds saves words input input unread unwritten written 5)
+  numbers_cut taken now ending text holds e failed a made input =
+      front_written (λ written. Answers kinds saves words input input unread unwritten written 5) taken now text
+      (λ front behind whole. Write_failed failed (record { status = ending_status ending; whole = ending_text ending; behind = behind; outcome = holds made input; front = sym e ∙ whole })) a
+
+  pub numbers_nothing : (taken : Option (List ℕ)) → IsMade words → (input : List ℕ) → IsWritten taken taken (λ written. Answers kinds saves words input input unread unwritten written 6)
+  numbers_nothing taken made input = none_written (λ written. Answers kinds saves words input input unread unwritten written 6) taken (No_memory refl)

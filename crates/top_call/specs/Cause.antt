@@ -3,7 +3,7 @@ use Rattle.std.specs.Prelude.{◌≡◌, ◌≢◌, ℕ, List, Option, Some, Con
 use Rattle.top_call.specs.declared.ending.Ending.{Ending}
 use Rattle.top_call.specs.Ending.{ending_status, ending_text}
 use Rattle.top_call.specs.Runs.{Telling}
-use Rattle.top_call.specs.Outcome.{Outcome, IsUnserved, IsAudit, statuses_of_audit}
+use Rattle.top_call.specs.Outcome.{Outcome, IsUnserved, IsAudit, IsMade, statuses_of_audit, statuses_of_made}
 
 -- a claim on what a source had left at first and has left at the end, where it tells both
 abbrev pub IsReadOf : Option (List ℕ) → Option (List ℕ) → (List ℕ → List ℕ → Type 0) → Type 0
@@ -16,10 +16,16 @@ HasEndingCause kinds saves words unread before after ending =
     IsReadOf before after (λ input rest. Outcome kinds saves words input rest unread (ending_status ending) (ending_text ending))
 
 -- what the status of an ending tells, whatever is known of the bytes: which words were not served, that a read
--- failed, and else that none did; and how an audit may end
+-- failed, and else that none did; and how an audit and a made scenario may end
 pub record Tells (words : List (List ℕ)) (unread unfailed : Type 0) (ending : Ending) : Type 0 where
   pub usage : ending_status ending ≡ 2 → IsUnserved words
   pub others : IsUnserved words → ending_status ending ≡ 2
   pub failed : ending_status ending ≡ 4 → unread
   pub served : ending_status ending ≢ 4 → unfailed
   pub audit : IsAudit words → Contains statuses_of_audit (ending_status ending)
+  pub made : IsMade words → Contains statuses_of_made (ending_status ending)
+
+-- what is written at the words of a made scenario, whatever the source tells: nothing of it is read
+abbrev pub IsOfNumbers : List ℕ → Telling → List (List ℕ) → Type 0 → Ending → Type 0
+IsOfNumbers kinds saves words unread ending =
+    IsMade words → (input : List ℕ) → Outcome kinds saves words input input unread (ending_status ending) (ending_text ending)

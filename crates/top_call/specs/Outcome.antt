@@ -1,5 +1,5 @@
 -- Which status comes when, and what is written with it.
-use Rattle.std.specs.Prelude.{◌≡◌, ◌≤◌, ◌+◌, ℕ, nat_lt, Bool, true, false, if◌then◌else◌, List, [], ◌∷◌, ◌++◌, length, Option, Some, None, is_some, Ok, Err, Contains}
+use Rattle.std.specs.Prelude.{◌≡◌, ◌≤◌, ◌⊎◌, ◌+◌, ℕ, nat_lt, Bool, false, if◌then◌else◌, List, [], ◌∷◌, ◌++◌, length, Option, Some, None, is_some, Ok, Err, Contains}
 use Rattle.vr_log.specs.declared.entry.LogFull.{LogFull}
 use Rattle.scenario.specs.declared.scenario.Fault.{Fault}
 use Rattle.scenario.specs.declared.scenario.Scenario.{Scenario}
@@ -13,7 +13,9 @@ use Rattle.words.specs.Words.{job_of}
 use Rattle.endings.specs.Lines.{unread_line, differs_line}
 use Rattle.top_call.specs.Lines.{usage_line, fault_line, no_quorum_line, overfull_line, unposted_line, same_line}
 use Rattle.audit.specs.Audit.{differs}
+use Rattle.top_call.specs.declared.service.Reader.{Reader}
 use Rattle.top_call.specs.declared.service.Service.{Service}
+use Rattle.top_call.specs.declared.service.Service.TheVariants.{Reads}
 use Rattle.top_call.specs.Audited.{report_limit, too_large}
 use Rattle.top_call.specs.Service.{service_of}
 use Rattle.top_call.specs.Runs.{IsDone, IsInLimits, IsLeft, IsOverfull, IsUnposted, Telling}
@@ -24,9 +26,14 @@ abbrev pub IsTold : Option (List ℕ) → Option (List ℕ) → Option (List ℕ
 IsTold (Some input) (Some rest) (Some before) after P = (written : List ℕ) × (after ≡ Some (before ++ written)) × P input rest written
 IsTold _ _ _ _ P = Unit {0}
 
--- the source was read to its end, or one byte past a limit
+-- a claim on what is written, where the sink tells it
+abbrev pub IsWritten : Option (List ℕ) → Option (List ℕ) → (List ℕ → Type 0) → Type 0
+IsWritten None after P = Unit {0}
+IsWritten (Some before) after P = (written : List ℕ) × (after ≡ Some (before ++ written)) × P written
+
+-- the source was read to its end, which is within a limit, or one byte past the limit
 pub data HasRead (limit : ℕ) (input : List ℕ) : List ℕ → Type 0 where
-  To_the_end : HasRead limit input []
+  To_the_end : length input ≤ limit → HasRead limit input []
   Past_the_limit : {rest : List ℕ} → length rest + (limit + 1) ≡ length input → HasRead limit input rest
 
 -- what serves the job that was found
@@ -46,6 +53,17 @@ IsUnserved words = is_served_job (job_of words) ≡ false
 abbrev pub IsAudit : List (List ℕ) → Type 0
 IsAudit words = job_of words ≡ Some Audit
 
+-- words that ask for the scenario that four numbers make
+abbrev pub IsMade : List (List ℕ) → Type 0
+IsMade words = (number controllers switches frames : ℕ) × (job_of words ≡ Some (Gen number controllers switches frames))
+
+-- words for which nothing is read, and words for which nothing is played
+abbrev pub ReadsNothing : List (List ℕ) → Type 0
+ReadsNothing words = IsUnserved words ⊎ IsMade words
+
+abbrev pub PlaysNothing : List (List ℕ) → Type 0
+PlaysNothing words = IsUnserved words ⊎ IsAudit words
+
 -- the scenario that words ask to play, and what is told of its run at rest: of bytes that were all read, its report; of
 -- four numbers, the report's last line
 pub data IsAsked (words : List (List ℕ)) (input rest : List ℕ) : Scenario → Output → Type 0 where
@@ -57,7 +75,7 @@ pub data IsAsked (words : List (List ℕ)) (input rest : List ℕ) : Scenario �
 pub data Outcome (kinds : List ℕ) (saves : Telling) (words : List (List ℕ)) (input rest : List ℕ) (unread : Type 0) : ℕ → List ℕ → Type 0 where
   Usage : IsUnserved words → Outcome kinds saves words input rest unread 2 usage_line
   Refused : (fault : Fault) → job_of words ≡ Some Sim → HasRead scenario_limit input rest → scenario_of input ≡ Err fault → Outcome kinds saves words input rest unread 3 (fault_line fault)
-  Unread : is_served_job (job_of words) ≡ true → unread → Outcome kinds saves words input rest unread 4 unread_line
+  Unread : (reader : Reader) → service_for (job_of words) ≡ Some (Reads reader) → unread → Outcome kinds saves words input rest unread 4 unread_line
   Closed : (scenario : Scenario) (output : Output) {written : List ℕ} → IsAsked words input rest scenario output → IsDone kinds saves scenario output written →
       Outcome kinds saves words input rest unread 0 written
   Left : (scenario : Scenario) (output : Output) (up needed : ℕ) → IsAsked words input rest scenario output → IsLeft kinds saves scenario up needed →
@@ -93,6 +111,20 @@ statuses_of_usage = 2 ∷ 5 ∷ 6 ∷ []
 
 abbrev pub statuses_of_audit : List ℕ
 statuses_of_audit = 0 ∷ 3 ∷ 4 ∷ 5 ∷ 6 ∷ 8 ∷ []
+
+-- and those to the words of a made scenario
+abbrev pub statuses_of_made : List ℕ
+statuses_of_made = 0 ∷ 5 ∷ 6 ∷ 7 ∷ 9 ∷ 10 ∷ []
+
+-- the answers at which no scenario was played
+abbrev pub IsUnplayed : ℕ → Type 0
+IsUnplayed status = (status ≡ 2) ⊎ ((status ≡ 3) ⊎ ((status ≡ 4) ⊎ (status ≡ 8)))
+
+-- what is written at the answers that have one line, and for want of memory
+pub record HasLine (status : ℕ) (written : List ℕ) : Type 0 where
+  pub usage : status ≡ 2 → written ≡ usage_line
+  pub unread : status ≡ 4 → written ≡ unread_line
+  pub nothing : status ≡ 6 → written ≡ []
 
 -- the status that the bytes of a report have, for controllers with applications of these kinds
 abbrev pub audit_status : List ℕ → List ℕ → ℕ

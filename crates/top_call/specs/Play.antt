@@ -4,7 +4,9 @@ use Rattle.std.specs.List.{AllByRecursion}
 use Rattle.rv_base.specs.declared.wire.Stop.{Stop}
 use Rattle.rv_base.specs.declared.wire.Stop.TheVariants.{OutOfMemory, JournalFull}
 use Rattle.of_types.specs.Lives.{last_life}
+use Rattle.rv_base.specs.Stables.{Saving}
 use Rattle.app_core.specs.Chain.{firewall, learning}
+use Rattle.app_core.specs.Law.{AppLaw}
 use Rattle.group_controller.specs.Turns.{AreAlike}
 use Rattle.report.specs.declared.record.Record.{Record}
 use Rattle.report.specs.Report.{end_line, text}
@@ -16,14 +18,14 @@ use Rattle.top_call.specs.declared.sim.Output.{Output}
 use Rattle.top_call.specs.declared.sim.Output.TheVariants.{Report, LastLine}
 
 -- the stable pairs of a group as it starts: one for each of the most controllers, with no view promised, in the first life
-pub record AreFresh {W : Type 0} (pair : W → ℕ × ℕ) (stables : List W) : Type 0 where
+pub record AreFresh {W : Type 0} (saving : Saving W) (stables : List W) : Type 0 where
   pub count : length stables ≡ 7
-  pub each : AllByRecursion (λ stable. pair stable ≡ (0, 0)) stables
+  pub each : AllByRecursion (λ stable. saving.pair stable ≡ (0, 0)) stables
 
 -- the applications of the lives of the most controllers, in order, all of these kinds
-pub record AreChains {A : Type 0} (kinds_of : A → List ℕ) (most_of : A → ℕ) (kinds : List ℕ) (chains : List A) : Type 0 where
+pub record AreChains {A : Type 0} (law : AppLaw A) (kinds : List ℕ) (chains : List A) : Type 0 where
   pub count : length chains ≡ 7 * (last_life + 1)
-  pub alike : AreAlike kinds_of most_of kinds chains
+  pub alike : AreAlike law kinds chains
 
 -- the kinds of the parts that the program gives each life of a controller, in order: a firewall before a learning
 abbrev pub program_kinds : List ℕ

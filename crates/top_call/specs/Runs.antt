@@ -4,15 +4,15 @@ use Rattle.std.specs.List.{AllByRecursion}
 use Rattle.rv_base.specs.declared.journal.JournalEntry.{JournalEntry}
 use Rattle.rv_base.specs.declared.journal.SaveResult.{SaveResult}
 use Rattle.rv_base.specs.declared.journal.SaveResult.TheVariants.{Saved}
-use Rattle.rv_base.specs.declared.journal.Turn.{Turn}
 use Rattle.rv_base.specs.Pool.{past}
 use Rattle.rv_base.specs.Turns.{IsWithinLimits}
+use Rattle.rv_base.specs.Stables.{Saving}
 use Rattle.vr_log.specs.declared.entry.Entry.{Entry}
 use Rattle.vr_log.specs.declared.entry.LogFull.{LogFull}
 use Rattle.group_controller.specs.Turns.{pair_in}
 use Rattle.rv_runs.specs.Bound.{IsQuick, IsSharplyBounded}
 use Rattle.rv_runs.specs.Committed.{controller_state, count_up}
-use Rattle.rv_laws.specs.Laws.{AreAgreed}
+use Rattle.rv_laws.specs.Laws.{AreAgreed, AreValidLogs}
 use Rattle.rv_runs.specs.Laws.{IsExactlyOnce, IsFenced, IsLasting}
 use Rattle.rv_runs.specs.Legal.{IsLegal, results_of}
 use Rattle.rv_runs.specs.Play.{plays}
@@ -20,9 +20,8 @@ use Rattle.rv_runs.specs.Schedule.{Answer, Closes, FollowsInOrder, IsBegun, majo
 use Rattle.rv_runs.specs.Schedule as schedule
 use Rattle.rv_runs.specs.States.{Scene}
 use Rattle.closing_laws.specs.Ends.{HasRested}
-use Rattle.closing_laws.specs.Given.{given_by}
+use Rattle.closing_laws.specs.Held.{AreKept}
 use Rattle.closing_laws.specs.Stops.{FitALog, IsAtLimit, events_made}
-use Rattle.dispatcher.specs.Ledger.{most_commands}
 use Rattle.rv_world.specs.World.{is_failed}
 use Rattle.scenario.specs.declared.scenario.Scenario.{Scenario}
 use Rattle.report.specs.declared.record.Record.{Record}
@@ -37,26 +36,30 @@ use Rattle.top_call.specs.Play.{IfReport, told_text}
 abbrev pub scene_for : List ℕ → Scenario → Scene (List ℕ)
 scene_for kinds scenario = scene_bytes kinds scenario.setup
 
--- the headline: controllers agree, each event and each command exactly once, no command of a stale generation, and what was decided lasts
+-- the headline: controllers agree, their committed logs hold the events of a life by number and so each at most once, each event and
+-- each command exactly once, no command of a stale generation, what was decided lasts, and switches hold what has not left
 pub record IsLawful {B : Type 0} (scene : Scene B) (results : List (List SaveResult)) (entries : List (JournalEntry B)) : Type 0 where
   pub agreed : AreAgreed scene results entries
+  pub logged : AreValidLogs scene results entries
   pub exactly_once : IsExactlyOnce scene results entries
   pub fenced : IsFenced scene entries
   pub lasting : IsLasting scene results entries
+  pub kept : AreKept scene entries
 
 -- the stable pair of a controller is the one that the journal gives, and its count of faults rose with each of the
 -- controller's saves that failed, up to its end
-pub record StableTells {W : Type 0} (pair : W → ℕ × ℕ) (faults : W → ℕ) (stables stables_after : List W) (scene : Scene (List ℕ)) (results : List (List SaveResult)) (journal : List (JournalEntry (List ℕ))) (c : ℕ) : Type 0 where
+pub record StableTells {W : Type 0} (saving : Saving W) (stables stables_after : List W) (scene : Scene (List ℕ)) (results : List (List SaveResult)) (journal : List (JournalEntry (List ℕ))) (c : ℕ) : Type 0 where
   pub old : W
   pub new : W
   pub stood : slice_get stables c ≡ Some old
   pub stands : slice_get stables_after c ≡ Some new
-  pub rose : (faults old + count_by is_failed (results_of results c) ≤ faults new) ⊎ (2 ^ 64 - 1 ≤ faults new)
-  pub pair_is : pair new ≡ pair_in (controller_state scene results c (past journal))
+  pub rose : (saving.faults old + count_by is_failed (results_of results c) ≤ saving.faults new) ⊎ (2 ^ 64 - 1 ≤ saving.faults new)
+  pub pair_is : saving.pair new ≡ pair_in (controller_state scene results c (past journal))
 
-abbrev pub StablesTell : {W : Type 0} → (W → ℕ × ℕ) → (W → ℕ) → List W → List W → Scene (List ℕ) → List (List SaveResult) → List (JournalEntry (List ℕ)) → Type 0
-StablesTell pair faults stables stables_after scene results journal =
-    (c : ℕ) → c < scene.setup.controllers → StableTells pair faults stables stables_after scene results journal c
+-- so it is with those of all controllers, and further stable pairs are left alone
+pub record StablesTell {W : Type 0} (saving : Saving W) (stables stables_after : List W) (scene : Scene (List ℕ)) (results : List (List SaveResult)) (journal : List (JournalEntry (List ℕ))) : Type 0 where
+  pub each : (c : ℕ) → c < scene.setup.controllers → StableTells saving stables stables_after scene results journal c
+  pub beyond : (c : ℕ) → scene.setup.controllers ≤ c → slice_get stables_after c ≡ slice_get stables c
 
 -- a run of a scenario up to the answer of its closing: a legal journal within the limits, in which the script follows the
 -- steps in order, and the entries behind it are those of the closing schedule
@@ -79,17 +82,19 @@ pub record IsCutShort (kinds : List ℕ) (scenario : Scenario) (results : List (
 abbrev pub AreSaved : ℕ → List (List SaveResult) → Type 0
 AreSaved group results = (c : ℕ) → c < group → AllByRecursion (λ r. r ≡ Saved) (results_of results c)
 
--- the one journal that a scenario has where each save is made
-pub record IsTheOne (scene : Scene (List ℕ)) (steps : List Turn) (journal : List (JournalEntry (List ℕ))) (answer : Answer) : Type 0 where
+-- the one journal that a scenario has where each save is made: it can be computed, and each run of the scenario in which every
+-- save is made has this journal and this answer
+pub record IsTheOne (kinds : List ℕ) (scenario : Scenario) (journal : List (JournalEntry (List ℕ))) (answer : Answer) : Type 0 where
   pub most : ℕ
-  pub plays_it : plays most scene [] steps ≡ record { entries = past journal; answer = Some answer }
+  pub plays_it : plays most (scene_for kinds scenario) [] scenario.steps ≡ record { entries = past journal; answer = Some answer }
+  pub only : (results : List (List SaveResult)) (script closing other : List (JournalEntry (List ℕ))) (end : Answer) →
+      IsRun kinds scenario results script closing other end → AllByRecursion (λ saves. AllByRecursion (λ r. r ≡ Saved) saves) results → (other ≡ journal) × (end ≡ answer)
 
 -- what a call tells of the stable pairs, over a run's results and journal
 abbrev pub Telling : Type 1
 Telling = Scene (List ℕ) → List (List SaveResult) → List (JournalEntry (List ℕ)) → Type 0
 
--- A run up to this answer, and what its stable pairs tell. Its closing takes no more turns than the bounds say, where each save was made
--- and the applications give no more commands for an event than a ledger holds.
+-- A run up to this answer, and what its stable pairs tell. Its closing takes no more turns than the bounds say, where each save was made.
 pub record HasRun (kinds : List ℕ) (saves : Telling) (scenario : Scenario) (answer : Answer) : Type 0 where
   pub results : List (List SaveResult)
   pub script : List (JournalEntry (List ℕ))
@@ -97,21 +102,20 @@ pub record HasRun (kinds : List ℕ) (saves : Telling) (scenario : Scenario) (an
   pub journal : List (JournalEntry (List ℕ))
   pub run : IsRun kinds scenario results script closing journal answer
   pub saved : saves (scene_for kinds scenario) results journal
-  pub one : AreSaved scenario.setup.controllers results → IsTheOne (scene_for kinds scenario) scenario.steps journal answer
-  pub quick : given_by kinds ≤ most_commands → AreSaved scenario.setup.controllers results → IsQuick (scene_for kinds scenario) results (past script) closing
-  pub sharp : given_by kinds ≤ most_commands → AreSaved scenario.setup.controllers results → IsSharplyBounded (scene_for kinds scenario) results (past script) closing
+  pub one : AreSaved scenario.setup.controllers results → IsTheOne kinds scenario journal answer
+  pub quick : AreSaved scenario.setup.controllers results → IsQuick (scene_for kinds scenario) results (past script) closing
+  pub sharp : AreSaved scenario.setup.controllers results → IsSharplyBounded (scene_for kinds scenario) results (past script) closing
 
 -- what is told as a report is a record, and no other record has the text that was written
 abbrev pub IsOneRecord : Output → Record → List ℕ → Type 0
 IsOneRecord output told written = IfReport output (IsRecord told × ((other : Record) → IsRecord other → text other ≡ written → other ≡ told))
 
--- A run to its end and what is told of it. At least f + 1 of the 2 f + 1 controllers take part in the end. Nothing is left
--- undone, where the applications give no more commands for an event than a ledger holds.
+-- A run to its end and what is told of it. At least f + 1 of the 2 f + 1 controllers take part in the end. Nothing is left undone.
 pub record IsDone (kinds : List ℕ) (saves : Telling) (scenario : Scenario) (output : Output) (written : List ℕ) : Type 0 where
   pub primary : ℕ
   pub ran : HasRun kinds saves scenario (schedule.Done primary)
   pub up : majority scenario.setup.controllers ≤ count_up (scene_for kinds scenario) ran.results (past ran.journal)
-  pub rested : given_by kinds ≤ most_commands → HasRested (scene_for kinds scenario) ran.results primary (past ran.journal)
+  pub rested : HasRested (scene_for kinds scenario) ran.results primary (past ran.journal)
   pub told : Record
   pub shows : Shows (scene_for kinds scenario) ran.results (length scenario.steps) ran.closing ran.journal told
   pub wrote : written ≡ told_text output told
@@ -148,6 +152,6 @@ pub record IsInLimits (kinds : List ℕ) (scenario : Scenario) : Type 0 where
       IsRun kinds scenario results script closing journal answer → AreSaved scenario.setup.controllers results → FitALog (events_made (scene_for kinds scenario) (past journal))
 
 -- no count of the faults of stable pairs rose, nor stands at the greatest number
-abbrev pub AreCalm : {W : Type 0} → (W → ℕ) → List W → List W → Type 0
-AreCalm {W = W} faults stables stables_after =
-    (c : ℕ) (old new : W) → slice_get stables c ≡ Some old → slice_get stables_after c ≡ Some new → (faults new ≡ faults old) × (faults new < 2 ^ 64 - 1)
+abbrev pub AreCalm : {W : Type 0} → Saving W → List W → List W → Type 0
+AreCalm {W = W} saving stables stables_after =
+    (c : ℕ) (old new : W) → slice_get stables c ≡ Some old → slice_get stables_after c ≡ Some new → (saving.faults new ≡ saving.faults old) × (saving.faults new < 2 ^ 64 - 1)

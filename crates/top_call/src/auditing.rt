@@ -19,8 +19,9 @@ const TOO_LARGE: Fault = Fault {
 
 /// What the audit of a report finds, by the applications of the first life of the first controller.
 fn verdict_on<A: App>(alloc: Global, bytes: &[u8], chains: Vec<A>) -> Result<Verdict, AllocError>
-    requires chains { (kinds : List ℕ) × AreChains A.kinds A.most kinds chains.items }
-    ensures { (kinds : List ℕ) → AreChains A.kinds A.most kinds chains.items → IfOk result (λ verdict. verdict ≡ verdict_of (differs kinds bytes.now)) }
+    requires chains { (kinds : List ℕ) × AreChains A.law kinds chains.items }
+    ensures { (kinds : List ℕ) → AreChains A.law kinds chains.items →
+        IfOk result (λ verdict. verdict ≡ verdict_of (differs kinds bytes.now)) }
 {
     let mut chains = chains;
     check(alloc, bytes, &mut chains[0])
@@ -28,8 +29,9 @@ fn verdict_on<A: App>(alloc: Global, bytes: &[u8], chains: Vec<A>) -> Result<Ver
 
 /// How the bytes of a report end.
 pub fn audited<A: App>(alloc: Global, bytes: &[u8], chains: Vec<A>) -> Result<Ending, AllocError>
-    requires chains { (kinds : List ℕ) × AreChains A.kinds A.most kinds chains.items }
-    ensures { (kinds : List ℕ) → AreChains A.kinds A.most kinds chains.items → IfOk result (EndsReport kinds bytes.now) }
+    requires chains { (kinds : List ℕ) × AreChains A.law kinds chains.items }
+    ensures { (kinds : List ℕ) → AreChains A.law kinds chains.items →
+        IfOk result (EndsReport kinds bytes.now) }
 {
     if bytes.len() > REPORT_LIMIT {
         return Ok(Ending::Refused(TOO_LARGE));

@@ -8,7 +8,7 @@ use std::alloc::{AllocError, Global};
 
 /// The stable pairs of the most controllers. No save of theirs fails.
 pub fn stables(alloc: Global) -> Result<Vec<MemoryStable>, AllocError>
-    ensures { IfOk result (λ stables. AreFresh ⟦<MemoryStable as Stable>⟧.pair stables.items) }
+    ensures { IfOk result (λ stables. AreFresh ⟦<MemoryStable as Stable>⟧.saving stables.items) }
 {
     let mut stables = Vec::new(alloc);
     'making: for _ in 0..CONTROLLERS {

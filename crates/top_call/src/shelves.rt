@@ -1,9 +1,8 @@
 //! The applications of a group's controllers, life by life.
-ghost use Rattle.std.specs.Prelude.{◌≡◌, ◌≤◌, ◌+◌, ℕ, List, length, map, sum, IfOk, OnOk};
-ghost use Rattle.std.specs.List.{AllByRecursion};
-ghost use Rattle.dispatcher.specs.Ledger.{most_commands};
+ghost use Rattle.std.specs.Prelude.{◌≡◌, ◌≤◌, ◌+◌, ℕ, List, length, map, IfOk, OnOk};
+ghost use Rattle.app_core.specs.Law.{chain_law};
 ghost use Rattle.group_controller.specs.Turns.{AreAlike};
-ghost use Rattle.rv_world.specs.World.{IsStocked};
+ghost use Rattle.rv_world.specs.World.{AreStocked};
 ghost use Rattle.top_call.specs.Play.{AreChains, program_kinds};
 
 use app_chain::LifeOf;
@@ -24,10 +23,9 @@ pub fn push_life<P: Part>(
     parts: Vec<P>,
 ) -> Result<(), AllocError>
     requires kinds { map P.kind_of parts.items ≡ program_kinds }
-    requires most { sum (map P.most_of parts.items) ≤ most_commands }
     ensures count { OnOk result (length lives.new.items ≡ length lives.old.items + 1) }
-    ensures alike { AreAlike (λ life. map P.kind_of life.parts.items) (λ life. sum (map P.most_of life.parts.items)) program_kinds lives.old.items →
-        OnOk result (AreAlike (λ life. map P.kind_of life.parts.items) (λ life. sum (map P.most_of life.parts.items)) program_kinds lives.new.items) }
+    ensures alike { AreAlike (chain_law P.kind_of P.numbers P.is_fit (λ life. life.parts.items)) program_kinds lives.old.items →
+        OnOk result (AreAlike (chain_law P.kind_of P.numbers P.is_fit (λ life. life.parts.items)) program_kinds lives.new.items) }
 {
     lives.push(LifeOf {
         controller: number / LIVES as u8,
@@ -43,10 +41,11 @@ pub fn shelves_of<A: App>(
     chains: Vec<A>,
     controllers: u8,
 ) -> Result<Vec<Vec<A>>, AllocError>
-    requires chains { (kinds : List ℕ) × AreChains A.kinds A.most kinds chains.items }
+    requires chains { (kinds : List ℕ) × AreChains A.law kinds chains.items }
     requires few { controllers ≤ 7 }
     ensures each { IfOk result (λ shelves. length shelves.items ≡ controllers) }
-    ensures stocked { (kinds : List ℕ) → AreChains A.kinds A.most kinds chains.items → IfOk result (λ shelves. AllByRecursion (λ shelf. IsStocked A.kinds A.most kinds shelf.items) shelves.items) }
+    ensures stocked { (kinds : List ℕ) → AreChains A.law kinds chains.items →
+        IfOk result (λ shelves. AreStocked A.law kinds shelves.items) }
 {
     let mut shelves = Vec::new(alloc);
     let mut shelf = Vec::new(alloc);

@@ -1,7 +1,6 @@
 //! Playing a scenario from its first step to its report.
 ghost use Rattle.std.specs.Prelude.{◌≡◌, ◌≤◌, ℕ, List, length, IfOk};
-ghost use Rattle.std.specs.List.{AllByRecursion};
-ghost use Rattle.rv_world.specs.World.{IsStocked};
+ghost use Rattle.rv_world.specs.World.{AreStocked};
 ghost use Rattle.rv_record.specs.Shows.{told_by};
 ghost use Rattle.scenario.specs.Scenario.{IsScenario};
 ghost use Rattle.top_call.specs.Ending.{EndsRun};
@@ -99,10 +98,10 @@ pub fn simulate<A: App, W: Stable>(
 ) -> Result<Ending, AllocError>
     requires is { IsScenario scenario.now }
     requires each { length shelves.items ≡ scenario.now.setup.controllers }
-    requires stocked { (kinds : List ℕ) × AllByRecursion (λ shelf. IsStocked A.kinds A.most kinds shelf.items) shelves.items }
-    requires fresh { AreFresh W.pair stables.old }
-    ensures { (kinds : List ℕ) → AllByRecursion (λ shelf. IsStocked A.kinds A.most kinds shelf.items) shelves.items →
-        IfOk result (EndsRun kinds (StablesTell W.pair W.faults stables.old stables.new) output scenario.now) }
+    requires stocked { (kinds : List ℕ) × AreStocked A.law kinds shelves.items }
+    requires fresh { AreFresh W.saving stables.old }
+    ensures { (kinds : List ℕ) → AreStocked A.law kinds shelves.items →
+        IfOk result (EndsRun kinds (StablesTell W.saving stables.old stables.new) output scenario.now) }
 {
     let mut world = World::<Bytes, A>::new(alloc, &scenario.setup, shelves)?;
     let ended = play(alloc, &mut world, stables, scenario.steps.as_slice());

@@ -3,9 +3,10 @@ ghost use Rattle.std.specs.Prelude.{◌≡◌, ◌≢◌, ◌≤◌, ℕ, List, 
 ghost use Rattle.rv_base.specs.Causes.{Rose};
 ghost use Rattle.words.specs.Words.{job_of};
 ghost use Rattle.scenario.specs.Scenario.{IsScenario};
-ghost use Rattle.top_call.specs.Outcome.{Answers, IsTold, IsUnserved, IsAudit, IsComplete, service_for, statuses, statuses_of_usage, statuses_of_audit};
-ghost use Rattle.top_call.specs.Ending.{EndsRead, EndsScenario, EndsRun};
-ghost use Rattle.top_call.specs.Cause.{HasEndingCause, Tells};
+ghost use Rattle.top_call.specs.declared.service.Reader.TheVariants as readers;
+ghost use Rattle.top_call.specs.Outcome.{Answers, HasLine, IsTold, IsWritten, IsUnserved, IsAudit, IsMade, IsUnplayed, IsComplete, PlaysNothing, ReadsNothing, service_for, statuses, statuses_of_usage, statuses_of_audit, statuses_of_made};
+ghost use Rattle.top_call.specs.Ending.{ending_status, EndsRead, EndsScenario, EndsRun};
+ghost use Rattle.top_call.specs.Cause.{HasEndingCause, IsOfNumbers, Tells};
 ghost use Rattle.top_call.specs.Play.{AreChains, AreFresh};
 ghost use Rattle.top_call.specs.Runs.{AreCalm, StablesTell};
 
@@ -41,9 +42,11 @@ fn end_of_scenario<A: App, W: Stable>(
     chains: Vec<A>,
 ) -> Result<Ending, AllocError>
     requires is { IsScenario scenario.now }
-    requires chains { (kinds : List ℕ) × AreChains A.kinds A.most kinds chains.items }
-    requires fresh { AreFresh W.pair stables.old }
-    ensures { (kinds : List ℕ) → AreChains A.kinds A.most kinds chains.items → IfOk result (EndsRun kinds (StablesTell W.pair W.faults stables.old stables.new) output scenario.now) }
+    requires chains { (kinds : List ℕ) × AreChains A.law kinds chains.items }
+    requires fresh { AreFresh W.saving stables.old }
+    ensures ends { (kinds : List ℕ) → AreChains A.law kinds chains.items →
+        IfOk result (EndsRun kinds (StablesTell W.saving stables.old stables.new) output scenario.now) }
+    ensures unplayed { IfOk result (λ ending. IsUnplayed (ending_status ending) → stables.new ≡ stables.old) }
 {
     let shelves = shelves_of(alloc, chains, scenario.setup.controllers)?;
     simulate(alloc, scenario, output, stables, shelves)
@@ -56,9 +59,11 @@ fn simulated<A: App, W: Stable>(
     stables: &mut [W],
     chains: Vec<A>,
 ) -> Result<Ending, AllocError>
-    requires chains { (kinds : List ℕ) × AreChains A.kinds A.most kinds chains.items }
-    requires fresh { AreFresh W.pair stables.old }
-    ensures { (kinds : List ℕ) → AreChains A.kinds A.most kinds chains.items → IfOk result (EndsScenario kinds (StablesTell W.pair W.faults stables.old stables.new) bytes.now) }
+    requires chains { (kinds : List ℕ) × AreChains A.law kinds chains.items }
+    requires fresh { AreFresh W.saving stables.old }
+    ensures ends { (kinds : List ℕ) → AreChains A.law kinds chains.items →
+        IfOk result (EndsScenario kinds (StablesTell W.saving stables.old stables.new) bytes.now) }
+    ensures unplayed { IfOk result (λ ending. IsUnplayed (ending_status ending) → stables.new ≡ stables.old) }
 {
     match read_scenario(alloc, bytes) {
         Ok(scenario) => end_of_scenario(alloc, &scenario, Output::Report, stables, chains),
@@ -75,9 +80,12 @@ fn end_of_reading<A: App, W: Stable>(
     stables: &mut [W],
     chains: Vec<A>,
 ) -> Result<Ending, AllocError>
-    requires chains { (kinds : List ℕ) × AreChains A.kinds A.most kinds chains.items }
-    requires fresh { AreFresh W.pair stables.old }
-    ensures { (kinds : List ℕ) → AreChains A.kinds A.most kinds chains.items → IfOk result (EndsRead kinds (StablesTell W.pair W.faults stables.old stables.new) reader bytes.now) }
+    requires chains { (kinds : List ℕ) × AreChains A.law kinds chains.items }
+    requires fresh { AreFresh W.saving stables.old }
+    ensures ends { (kinds : List ℕ) → AreChains A.law kinds chains.items →
+        IfOk result (EndsRead kinds (StablesTell W.saving stables.old stables.new) reader bytes.now) }
+    ensures unplayed { IfOk result (λ ending. IsUnplayed (ending_status ending) → stables.new ≡ stables.old) }
+    ensures audited { reader ≡ readers.Audit → stables.new ≡ stables.old }
 {
     match reader {
         Reader::Sim => simulated(alloc, bytes, stables, chains),
@@ -93,11 +101,18 @@ fn outcome<A: App, S: Source, W: Stable>(
     stables: &mut [W],
     chains: Vec<A>,
 ) -> Result<Ending, AllocError>
-    requires chains { (kinds : List ℕ) × AreChains A.kinds A.most kinds chains.items }
-    requires fresh { AreFresh W.pair stables.old }
-    ensures cause { (kinds : List ℕ) → AreChains A.kinds A.most kinds chains.items →
-        IfOk result (HasEndingCause kinds (StablesTell W.pair W.faults stables.old stables.new) (map string_bytes words.now) (Rose (S.faults source.old) (S.faults source.new)) (S.left source.old) (S.left source.new)) }
-    ensures told { IfOk result (λ ending. Tells (map string_bytes words.now) (Rose (S.faults source.old) (S.faults source.new)) (S.faults source.new ≡ S.faults source.old) ending) }
+    requires chains { (kinds : List ℕ) × AreChains A.law kinds chains.items }
+    requires fresh { AreFresh W.saving stables.old }
+    ensures cause { (kinds : List ℕ) → AreChains A.law kinds chains.items →
+        IfOk result (HasEndingCause kinds (StablesTell W.saving stables.old stables.new) (map string_bytes words.now)
+        (Rose (S.faults source.old) (S.faults source.new)) (S.left source.old) (S.left source.new)) }
+    ensures told { IfOk result (Tells (map string_bytes words.now)
+        (Rose (S.faults source.old) (S.faults source.new)) (S.faults source.new ≡ S.faults source.old)) }
+    ensures numbers { (kinds : List ℕ) → AreChains A.law kinds chains.items →
+        IfOk result (IsOfNumbers kinds (StablesTell W.saving stables.old stables.new) (map string_bytes words.now) (Rose (S.faults source.old) (S.faults source.new))) }
+    ensures unread { ReadsNothing (map string_bytes words.now) → source.new ≡ source.old }
+    ensures unplayed { PlaysNothing (map string_bytes words.now) → stables.new ≡ stables.old }
+    ensures untouched { IfOk result (λ ending. IsUnplayed (ending_status ending) → stables.new ≡ stables.old) }
     ensures memory { OnErr result (S.faults source.new ≡ S.faults source.old) }
     ensures later { S.faults source.old ≤ S.faults source.new }
 {
@@ -137,15 +152,20 @@ pub fn ravana<A: App, S: Source, K: Sink, W: Stable>(
     stables: &mut [W],
     chains: Vec<A>,
 ) -> u8
-    requires chains { (kinds : List ℕ) × AreChains A.kinds A.most kinds chains.items }
-    requires fresh { AreFresh W.pair stables.old }
-    ensures answer { (kinds : List ℕ) → AreChains A.kinds A.most kinds chains.items →
+    requires chains { (kinds : List ℕ) × AreChains A.law kinds chains.items }
+    requires fresh { AreFresh W.saving stables.old }
+    ensures answer { (kinds : List ℕ) → AreChains A.law kinds chains.items →
         IsTold (S.left source.old) (S.left source.new) (K.taken sink.old) (K.taken sink.new) (λ input rest written.
-        Answers kinds (StablesTell W.pair W.faults stables.old stables.new) (map string_bytes words.now) input rest (Rose (S.faults source.old) (S.faults source.new)) (Rose (K.faults sink.old) (K.faults sink.new)) written result) }
+        Answers kinds (StablesTell W.saving stables.old stables.new) (map string_bytes words.now) input rest
+        (Rose (S.faults source.old) (S.faults source.new)) (Rose (K.faults sink.old) (K.faults sink.new)) written result) }
     ensures usage { result ≡ 2 → IsUnserved (map string_bytes words.now) }
     ensures words { IsUnserved (map string_bytes words.now) → Contains statuses_of_usage result }
     ensures audit { IsAudit (map string_bytes words.now) → Contains statuses_of_audit result }
-    ensures complete { (kinds : List ℕ) → AreChains A.kinds A.most kinds chains.items → IsTold (S.left source.old) (S.left source.new) (K.taken sink.old) (K.taken sink.new) (λ input rest written. IsComplete kinds (map string_bytes words.now) input (Rose (S.faults source.old) (S.faults source.new)) (Rose (K.faults sink.old) (K.faults sink.new)) (AreCalm W.faults stables.old stables.new) result) }
+    ensures complete { (kinds : List ℕ) → AreChains A.law kinds chains.items →
+        IsTold (S.left source.old) (S.left source.new) (K.taken sink.old) (K.taken sink.new) (λ input rest written.
+        IsComplete kinds (map string_bytes words.now) input (Rose (S.faults source.old) (S.faults source.new))
+        (Rose (K.faults sink.old) (K.faults sink.new)) (AreCalm W.saving stables.old stables.new) result) }
+    ensures made { IsMade (map string_bytes words.now) → Contains statuses_of_made result }
     ensures unread { result ≡ 4 → Rose (S.faults source.old) (S.faults source.new) }
     ensures unwritten { result ≡ 5 → Rose (K.faults sink.old) (K.faults sink.new) }
     ensures range { Contains statuses result }
@@ -155,6 +175,18 @@ pub fn ravana<A: App, S: Source, K: Sink, W: Stable>(
     // A call that failed is not tried again.
     ensures every_write { result ≢ 5 → K.faults sink.new ≡ K.faults sink.old }
     ensures every_read { result ≢ 4 → result ≢ 5 → S.faults source.new ≡ S.faults source.old }
+
+    // What is not asked for is not touched.
+    ensures unasked { ReadsNothing (map string_bytes words.now) → source.new ≡ source.old }
+    ensures unplayed { PlaysNothing (map string_bytes words.now) → stables.new ≡ stables.old }
+    ensures untouched { IsUnplayed result → stables.new ≡ stables.old }
+
+    // What needs no source is told by the sink alone.
+    ensures lines { IsWritten (K.taken sink.old) (K.taken sink.new) (HasLine result) }
+    ensures numbers { (kinds : List ℕ) → AreChains A.law kinds chains.items → IsMade (map string_bytes words.now) → (input : List ℕ) →
+        IsWritten (K.taken sink.old) (K.taken sink.new) (λ written.
+        Answers kinds (StablesTell W.saving stables.old stables.new) (map string_bytes words.now) input input
+        (Rose (S.faults source.old) (S.faults source.new)) (Rose (K.faults sink.old) (K.faults sink.new)) written result) }
 {
     let Ok(ending) = outcome(alloc, words, source, stables, chains) else {
         return NO_MEMORY;

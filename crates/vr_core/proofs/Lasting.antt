@@ -494,12 +494,6 @@ step_stays s x valid own = let k = vr_does s x (record { reach = valid.commit; o
 pub proposal_stays : (s : VrState) (entry : Entry) → IsValid s → CollectsItsOwn s → is_normal s ≡ true → Stays s (proposed s entry)
 proposal_stays s entry valid own normal = let k = proposed_does s entry normal (record { reach = valid.commit; own = own }) in record { lasts = k.lasts; own = k.holds.own }
 
-pub own_at_first : (me controllers : ℕ) → CollectsItsOwn (starting_state me controllers)
-own_at_first me controllers changing = tt
-
-pub own_at_restart : (me controllers promise life : ℕ) → CollectsItsOwn (recovering_state me controllers promise life)
-own_at_restart me controllers promise life changing = tt
-
 -- the promises of three steps
 pub later_of_three : (a b c : Option ℕ) → later_of (later_of a b) c ≡ later_of a (later_of b c)
 later_of_three a b None = refl

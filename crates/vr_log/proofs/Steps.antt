@@ -32,9 +32,6 @@ did_then first next middle state old between new a b =
 pub sound_here : (s t : VrState) → IsLog s.log → s.commit ≤ length s.log → t.log ≡ s.log → t.commit ≡ s.commit → is_sound s t ≡ true
 sound_here s t one le log commit = rw (log, commit, one.follow, le-leb s.commit (length s.log) le, entries_same (take s.commit s.log)) refl
 
-pub guarded_here : (s : VrState) (step : VrStep) → IsLog s.log → s.commit ≤ length s.log → step.state.log ≡ s.log → step.state.commit ≡ s.commit → guarded s step ≡ step
-guarded_here s step one le log commit = rw (sound_here s step.state one le log commit) refl
-
 -- What a log that takes the place of the own one is tested for: what stands behind the entries that stay.
 take_behind : (first k : ℕ) (log entries : List Entry) → first ≤ k → k ≤ length log → take k (take first log ++ entries) ≡ take first log ++ take (k - first) entries
 take_behind first k log entries a b =

@@ -89,9 +89,6 @@ pub record Best (s : VrState) (members best : ℕ) : Type 0 where
   pub from : (best ≡ s.commit) ⊎ ((0 < best) × (best ≤ length s.log) × (is_agreed s best ≡ true))
   pub each : (j : ℕ) → j < members → slice_index s.acked j < length s.log → is_agreed s (slice_index s.acked j) ≡ true → slice_index s.acked j ≤ best
 
-pub best_starts : (s : VrState) → Best s 0 s.commit
-best_starts s = record { least = omega arith; from = inl refl; each = λ j lt. absurd (omega arith) }
-
 pub best_rises : (s : VrState) (members best op : ℕ) → Best s members best → op ≡ slice_index s.acked members → best < op → op < length s.log → is_agreed s op ≡ true → Best s (members + 1) op
 best_rises s members best op b is more le e = record {
   least = let l = b.least in omega arith;

@@ -1,7 +1,5 @@
 use Rattle.std.proofs.Common.{length, ap}
 use Rattle.std.proofs.lemmas.Result.{err_from_is_err_and}
-use Rattle.group_controller.specs.Turns.{Controls}
-use Rattle.rv_world.specs.World.{sealing_by}
 use Rattle.rv_world.proofs.Turning.{keeps_then}
 use Rattle.closing.specs.Closing.{answer_of}
 use Rattle.playing.proofs.Ending.{closing_keeps, closing_stops_at, played}
@@ -16,22 +14,22 @@ run-requires-clause-holds g c = (c.requires.holds.0, c.in_ok-do_steps.ensures.ke
 pub returns-in_err-closed-clause-keeps : goal.returns-in_err-closed-clause-keeps
 returns-in_err-closed-clause-keeps g c =
     let p = err_from_is_err_and c.from_residual-in_err-closed.result c.from_residual-in_err-closed.ensures.1 in
-    rw (p.1, p.2) (closing_keeps (Controls g.A.App.kinds g.A.App.most g.A.App.states g.A.App.suits) g.W.Stable.pair g.W.Stable.faults (sealing_by g.B.Body.sealed g.B.Body.spelled g.B.Weight.size) c.args.steps.now c.args.world.now c.args.stables.now c.do_steps.new.world c.do_steps.new.stables c.run.new.world c.run.new.stables
+    rw (p.1, p.2) (closing_keeps g.A.App.law g.W.Stable.saving g.B.Body.sealing c.args.steps.now c.args.world.now c.args.stables.now c.do_steps.new.world c.do_steps.new.stables c.run.new.world c.run.new.stables
     c.in_ok-do_steps.ensures.keeps c.in_err-closed.field-0.0 c.in_err-closed.ensures.keeps)
 
 pub returns-in_err-closed-clause-stops : goal.returns-in_err-closed-clause-stops
 returns-in_err-closed-clause-stops g c =
     let p = err_from_is_err_and c.from_residual-in_err-closed.result c.from_residual-in_err-closed.ensures.1 in
-    λ kinds holds. rw (p.1, p.2) (closing_stops_at (Controls g.A.App.kinds g.A.App.most g.A.App.states g.A.App.suits) g.W.Stable.pair g.W.Stable.faults (sealing_by g.B.Body.sealed g.B.Body.spelled g.B.Weight.size) c.args.steps.now c.args.world.now c.args.stables.now c.do_steps.new.world c.do_steps.new.stables c.run.new.world c.run.new.stables
+    λ kinds holds. rw (p.1, p.2) (closing_stops_at g.A.App.law g.W.Stable.saving g.B.Body.sealing c.args.steps.now c.args.world.now c.args.stables.now c.do_steps.new.world c.do_steps.new.stables c.run.new.world c.run.new.stables
     c.in_ok-do_steps.ensures.keeps c.in_err-closed.field-0.0 c.in_err-closed.ensures.keeps kinds holds (c.in_ok-do_steps.ensures.follows kinds holds)
     (c.in_err-closed.ensures.stops kinds (c.in_ok-do_steps.ensures.keeps.holds kinds holds)))
 
 pub returns-clause-keeps : goal.returns-clause-keeps
-returns-clause-keeps g c = keeps_then (Controls g.A.App.kinds g.A.App.most g.A.App.states g.A.App.suits) g.W.Stable.pair g.W.Stable.faults (sealing_by g.B.Body.sealed g.B.Body.spelled g.B.Weight.size) c.args.world.now c.do_steps.new.world c.run.new.world c.args.stables.now c.do_steps.new.stables c.run.new.stables
+returns-clause-keeps g c = keeps_then g.A.App.law g.W.Stable.saving g.B.Body.sealing c.args.world.now c.do_steps.new.world c.run.new.world c.args.stables.now c.do_steps.new.stables c.run.new.stables
     c.in_ok-do_steps.ensures.keeps c.in_ok-closed.ensures.keeps
 
 pub returns-clause-played : goal.returns-clause-played
-returns-clause-played g c = λ kinds holds. played (Controls g.A.App.kinds g.A.App.most g.A.App.states g.A.App.suits) g.W.Stable.pair g.W.Stable.faults (sealing_by g.B.Body.sealed g.B.Body.spelled g.B.Weight.size) c.args.steps.now c.args.world.now c.args.stables.now c.do_steps.new.world c.do_steps.new.stables c.run.new.world c.run.new.stables
+returns-clause-played g c = λ kinds holds. played g.A.App.law g.W.Stable.saving g.B.Body.sealing c.args.steps.now c.args.world.now c.args.stables.now c.do_steps.new.world c.do_steps.new.stables c.run.new.world c.run.new.stables
     c.in_ok-do_steps.ensures.keeps kinds holds (c.in_ok-do_steps.ensures.follows kinds holds) c.in_ok-closed.ensures.keeps
     (length c.journal-script.result.now) (ap (λ l. length l) c.journal-script.ensures) (answer_of c.in_ok-closed.closed)
     (c.in_ok-closed.ensures.closes kinds (c.in_ok-do_steps.ensures.keeps.holds kinds holds))

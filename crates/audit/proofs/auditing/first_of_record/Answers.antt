@@ -10,14 +10,14 @@ use Rattle.audit.proofs.auditing.first_of_record.Goals as goal
 pub returns-in-Some : goal.returns-in-Some
 returns-in-Some g c =
     let r = c.args.lines.now in
-    let kinds = g.A.App.kinds c.args.app.now in
+    let kinds = g.A.App.law.kinds c.args.app.now in
     log_first kinds r c.in_ok-entries.entries c.in-Some.first c.in_ok-first.field-0 (c.in_ok-entries.ensures ∙ ap (λ (n : ℕ). n + 1) c.in_ok-lines_before.ensures)
     (c.in_ok-first.ensures kinds r c.in_ok-evidence.ensures.evidence (sym c.as_slice.ensures) ∙ ap (λ (l : List Entry). first_failing c.in_ok-entries.entries (log_fails kinds r [] l)) c.as_slice.ensures) c.in-Some.is
 
 pub returns : goal.returns
 returns g c =
     let r = c.args.lines.now in
-    let kinds = g.A.App.kinds c.args.app.now in
+    let kinds = g.A.App.law.kinds c.args.app.now in
     let next : c.in_ok-switches-in-None.switches ≡ c.in_ok-entries.entries + length r.log = let a = c.in_ok-switches-in-None.ensures in let b = c.len.ensures in omega (arith, a, b) in
     let all : first_failing c.in_ok-switches-in-None.switches (switches_fail_by c.in_ok-evidence.committed 0 c.as_slice-in-None.result.now) ≡ first_failing 1 (lines_fail kinds r) =
     ap (λ (l : List Told). first_failing c.in_ok-switches-in-None.switches (switches_fail_by c.in_ok-evidence.committed 0 l)) c.as_slice-in-None.ensures

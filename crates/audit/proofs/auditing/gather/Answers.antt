@@ -18,7 +18,7 @@ overflow_sub-processed g c =
 pub returns-clause-evidence : goal.returns-clause-evidence
 returns-clause-evidence g c =
     let r = c.args.lines.now in
-    let kinds = g.A.App.kinds c.args.app.now in
+    let kinds = g.A.App.law.kinds c.args.app.now in
     let events : c.in_ok-received.received ≡ received r.log = c.in_ok-received.ensures ∙ ap received c.as_slice.ensures in
     let lists : c.in_ok-lists.lists.items ≡ reactions kinds r.setup (received r.log) =
     c.in_ok-lists.ensures.each r.setup c.in_ok-start.ensures.suits
@@ -33,7 +33,7 @@ returns-clause-evidence g c =
 pub returns-clause-committed : goal.returns-clause-committed
 returns-clause-committed g c =
     let r = c.args.lines.now in
-    let kinds = g.A.App.kinds c.args.app.now in
+    let kinds = g.A.App.law.kinds c.args.app.now in
     let events : c.in_ok-received.received ≡ received r.log = c.in_ok-received.ensures ∙ ap received c.as_slice.ensures in
     let lists : c.in_ok-lists.lists.items ≡ reactions kinds r.setup (received r.log) =
     c.in_ok-lists.ensures.each r.setup c.in_ok-start.ensures.suits

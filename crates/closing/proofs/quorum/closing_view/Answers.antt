@@ -1,18 +1,19 @@
 use Rattle.std.proofs.Common.{ap, arith}
-use Rattle.rv_world.specs.World.{scene_in, sealing_by}
+use Rattle.rv_world.specs.World.{scene_in}
+use Rattle.closing.specs.Views.{most_view_of_a_closing}
 use Rattle.closing.proofs.Worlds.{bound_near}
 use Rattle.closing.proofs.Parts.{few_members}
 use Rattle.closing.proofs.quorum.closing_view.Goals as goal
 
 pub first_view-requires-clause-room : goal.first_view-requires-clause-room
 first_view-requires-clause-room g c =
-    let near = bound_near 4100000000 c.args.world.now.controllers c.requires.views in
+    let near = bound_near most_view_of_a_closing c.args.world.now.controllers c.requires.views in
     let is = c.bound_of.ensures in
     omega (arith, near, is)
 
 pub returns-clause-near : goal.returns-clause-near
 returns-clause-near g c =
-    let sealing = sealing_by g.B.Body.sealed g.B.Body.spelled g.B.Weight.size in
+    let sealing = g.B.Body.sealing in
     λ limit views.
     let near = bound_near limit c.args.world.now.controllers views in
     let is = c.bound_of.ensures in

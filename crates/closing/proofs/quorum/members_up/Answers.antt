@@ -1,15 +1,14 @@
 use Rattle.std.proofs.Common.{◌∙◌}
-use Rattle.rv_world.specs.World.{scene_in, sealing_by}
+use Rattle.rv_world.specs.World.{scene_in}
 use Rattle.closing.proofs.Worlds.{counted, knows_itself, member_of}
-use Rattle.group_controller.specs.Turns.{Controls}
 use Rattle.closing.proofs.quorum.members_up.Goals as goal
 
 pub push_member-requires : goal.push_member-requires
 push_member-requires g c =
     let holds = c.requires.1 in
-    let sealing = sealing_by g.B.Body.sealed g.B.Body.spelled g.B.Weight.size in
-    let m = member_of (Controls g.A.App.kinds g.A.App.most g.A.App.states g.A.App.suits) (scene_in sealing c.args.world.now c.requires.0) c.args.world.now holds.run c.counting.number c.controller.result.now c.controller.ensures in
-    (knows_itself g.A.App.kinds g.A.App.most g.A.App.states g.A.App.suits c.controller.result.now c.requires.0 m.0).me ∙ m.1
+    let sealing = g.B.Body.sealing in
+    let m = member_of g.A.App.law (scene_in sealing c.args.world.now c.requires.0) c.args.world.now holds.run c.counting.number c.controller.result.now c.controller.ensures in
+    (knows_itself g.A.App.law c.controller.result.now c.requires.0 m.0).me ∙ m.1
 
 pub counting-preserved : goal.counting-preserved
 counting-preserved g c =

@@ -4,4 +4,4 @@ use Rattle.closing.specs.Closing.{states_in, up_in}
 use Rattle.closing.proofs.quorum.members_up.Given as goal
 
 abbrev pub invariant-counting : goal.invariant-counting
-invariant-counting g l = l.up.items ++ members_up (drop l.number (states_in l.world.controllers)) ≡ up_in l.world.controllers
+invariant-counting g l = l.up.items ++ members_up (drop l.number (states_in l.world.controllers)) ≡ up_in l.world

@@ -1,8 +1,6 @@
 use Rattle.std.proofs.Common.{arith}
 use Rattle.std.proofs.lemmas.Result.{err_from_is_err_and}
-use Rattle.group_controller.specs.Turns.{Controls}
 use Rattle.rv_runs.specs.Schedule.{Losing}
-use Rattle.rv_world.specs.World.{sealing_by}
 use Rattle.closing.specs.Closing.{ClosesIn, StandsAt}
 use Rattle.closing.proofs.Leading.{leads_then}
 use Rattle.closing.proofs.Parts.{keeps_result, post_keeps, post_leads, post_rests, post_stops, rests_result}
@@ -10,10 +8,10 @@ use Rattle.closing.proofs.rest.clear.Goals as goal
 
 pub returns-in_err-post_owed-clause-keeps : goal.returns-in_err-post_owed-clause-keeps
 returns-in_err-post_owed-clause-keeps g c =
-    let controls = Controls g.A.App.kinds g.A.App.most g.A.App.states g.A.App.suits in
-    let sealing = sealing_by g.B.Body.sealed g.B.Body.spelled g.B.Weight.size in
+    let law = g.A.App.law in
+    let sealing = g.B.Body.sealing in
     let p = err_from_is_err_and c.from_residual.result c.from_residual.ensures.1 in
-    rw (p.1, p.2) (post_stops controls g.W.Stable.pair g.W.Stable.faults sealing (Unit {0}) c.args.world.now c.post_owed.new.self c.args.stables.now c.requires.pairs c.in_err-post_owed.field-0.0 c.in_err-post_owed.ensures.stops.0)
+    rw (p.1, p.2) (post_stops law g.W.Stable.saving sealing (Unit {0}) c.args.world.now c.post_owed.new.self c.args.stables.now c.requires.pairs c.in_err-post_owed.field-0.0 c.in_err-post_owed.ensures.stops.0)
 
 pub lose_all-requires-clause-holds : goal.lose_all-requires-clause-holds
 lose_all-requires-clause-holds g c =
@@ -21,20 +19,20 @@ lose_all-requires-clause-holds g c =
 
 pub returns-clause-keeps : goal.returns-clause-keeps
 returns-clause-keeps g c =
-    let controls = Controls g.A.App.kinds g.A.App.most g.A.App.states g.A.App.suits in
-    let sealing = sealing_by g.B.Body.sealed g.B.Body.spelled g.B.Weight.size in
-    let post = post_keeps controls g.W.Stable.pair g.W.Stable.faults sealing c.args.world.now c.post_owed.new.self c.args.stables.now c.requires.pairs c.in_ok-post_owed.ensures.posts c.post_owed.ensures.holds in
-    keeps_result controls g.W.Stable.pair g.W.Stable.faults sealing c.args.world.now c.post_owed.new.self c.lose_all.new.world c.args.stables.now c.args.stables.now c.lose_all.new.stables c.lose_all.result post c.lose_all.ensures.keeps
+    let law = g.A.App.law in
+    let sealing = g.B.Body.sealing in
+    let post = post_keeps law g.W.Stable.saving sealing c.args.world.now c.post_owed.new.self c.args.stables.now c.requires.pairs c.in_ok-post_owed.ensures.posts c.post_owed.ensures.holds in
+    keeps_result law g.W.Stable.saving sealing c.args.world.now c.post_owed.new.self c.lose_all.new.world c.args.stables.now c.args.stables.now c.lose_all.new.stables c.lose_all.result post c.lose_all.ensures.keeps
 
 pub returns-clause-rests : goal.returns-clause-rests
 returns-clause-rests g c =
-    let controls = Controls g.A.App.kinds g.A.App.most g.A.App.states g.A.App.suits in
-    let sealing = sealing_by g.B.Body.sealed g.B.Body.spelled g.B.Weight.size in
-    rests_result 0 0 c.args.world.now c.post_owed.new.self c.lose_all.new.world c.lose_all.result (omega arith) (post_rests controls g.W.Stable.pair g.W.Stable.faults sealing c.args.world.now c.post_owed.new.self c.args.stables.now c.requires.pairs c.in_ok-post_owed.ensures.posts) c.lose_all.ensures.rests
+    let law = g.A.App.law in
+    let sealing = g.B.Body.sealing in
+    rests_result 0 0 c.args.world.now c.post_owed.new.self c.lose_all.new.world c.lose_all.result (omega arith) (post_rests law g.W.Stable.saving sealing c.args.world.now c.post_owed.new.self c.args.stables.now c.requires.pairs c.in_ok-post_owed.ensures.posts) c.lose_all.ensures.rests
 
 pub returns-clause-closes : goal.returns-clause-closes
 returns-clause-closes g c =
-    let controls = Controls g.A.App.kinds g.A.App.most g.A.App.states g.A.App.suits in
-    let sealing = sealing_by g.B.Body.sealed g.B.Body.spelled g.B.Weight.size in
-    let post = post_keeps controls g.W.Stable.pair g.W.Stable.faults sealing c.args.world.now c.post_owed.new.self c.args.stables.now c.requires.pairs c.in_ok-post_owed.ensures.posts c.post_owed.ensures.holds in
-    leads_then controls sealing (ClosesIn Losing) (ClosesIn Losing) (StandsAt (λ _. ClosesIn Losing) c.lose_all.result) c.args.world.now c.post_owed.new.self c.lose_all.new.world post.setup post.holds (post_leads controls g.W.Stable.pair g.W.Stable.faults sealing c.args.world.now c.post_owed.new.self c.args.stables.now c.requires.pairs c.in_ok-post_owed.ensures.posts) c.lose_all.ensures.closes
+    let law = g.A.App.law in
+    let sealing = g.B.Body.sealing in
+    let post = post_keeps law g.W.Stable.saving sealing c.args.world.now c.post_owed.new.self c.args.stables.now c.requires.pairs c.in_ok-post_owed.ensures.posts c.post_owed.ensures.holds in
+    leads_then law sealing (ClosesIn Losing) (ClosesIn Losing) (StandsAt (λ _. ClosesIn Losing) c.lose_all.result) c.args.world.now c.post_owed.new.self c.lose_all.new.world post.setup post.holds (post_leads law g.W.Stable.saving sealing c.args.world.now c.post_owed.new.self c.args.stables.now c.requires.pairs c.in_ok-post_owed.ensures.posts) c.lose_all.ensures.closes

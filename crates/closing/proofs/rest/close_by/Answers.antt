@@ -1,6 +1,4 @@
 use Rattle.std.proofs.Common.{sym, ◌∙◌, subst, arith}
-use Rattle.group_controller.specs.Turns.{Controls}
-use Rattle.rv_world.specs.World.{sealing_by}
 use Rattle.closing.specs.Closing.{CameTo, Drained, Drains, Leads, StandsAt, Suspects}
 use Rattle.closing.proofs.Leading.{leads_then}
 use Rattle.closing.proofs.Parts.{keeps_result, not_over, rests_result}
@@ -11,20 +9,20 @@ drain-requires-clause-holds g c = (c.requires.holds.0, c.in_ok-came.ensures.keep
 
 pub returns-clause-keeps : goal.returns-clause-keeps
 returns-clause-keeps g c =
-    let controls = Controls g.A.App.kinds g.A.App.most g.A.App.states g.A.App.suits in
-    let sealing = sealing_by g.B.Body.sealed g.B.Body.spelled g.B.Weight.size in
-    keeps_result controls g.W.Stable.pair g.W.Stable.faults sealing c.args.world.now c.suspect.new.world c.drain.new.world c.args.stables.now c.suspect.new.stables c.drain.new.stables c.drain.result c.in_ok-came.ensures.keeps c.drain.ensures.keeps
+    let law = g.A.App.law in
+    let sealing = g.B.Body.sealing in
+    keeps_result law g.W.Stable.saving sealing c.args.world.now c.suspect.new.world c.drain.new.world c.args.stables.now c.suspect.new.stables c.drain.new.stables c.drain.result c.in_ok-came.ensures.keeps c.drain.ensures.keeps
 
 pub returns-clause-rests : goal.returns-clause-rests
 returns-clause-rests g c =
-    let controls = Controls g.A.App.kinds g.A.App.most g.A.App.states g.A.App.suits in
-    let sealing = sealing_by g.B.Body.sealed g.B.Body.spelled g.B.Weight.size in
+    let law = g.A.App.law in
+    let sealing = g.B.Body.sealing in
     rests_result c.args.view 0 c.args.world.now c.suspect.new.world c.drain.new.world c.drain.result (omega arith) c.in_ok-came.ensures.rests c.drain.ensures.rests
 
 pub returns-clause-closes : goal.returns-clause-closes
 returns-clause-closes g c =
-    let controls = Controls g.A.App.kinds g.A.App.most g.A.App.states g.A.App.suits in
-    let sealing = sealing_by g.B.Body.sealed g.B.Body.spelled g.B.Weight.size in
+    let law = g.A.App.law in
+    let sealing = g.B.Body.sealing in
     let rests = not_over c.in_ok-came.came (sym c.is_over.ensures ∙ c.if-is_over.false) in
-    leads_then controls sealing (Suspects c.args.view c.args.quorum.now c.args.quorum.now) (Drains c.args.view c.args.quorum.now) (StandsAt (CameTo (Drained c.args.view c.args.quorum.now)) c.drain.result) c.args.world.now c.suspect.new.world c.drain.new.world c.in_ok-came.ensures.keeps.setup c.in_ok-came.ensures.keeps.holds
-    (subst (λ x. Leads controls sealing (Suspects c.args.view c.args.quorum.now c.args.quorum.now) (CameTo (Drains c.args.view c.args.quorum.now) x) c.args.world.now c.suspect.new.world) rests c.in_ok-came.ensures.suspects) c.drain.ensures.drains
+    leads_then law sealing (Suspects c.args.view c.args.quorum.now c.args.quorum.now) (Drains c.args.view c.args.quorum.now) (StandsAt (CameTo (Drained c.args.view c.args.quorum.now)) c.drain.result) c.args.world.now c.suspect.new.world c.drain.new.world c.in_ok-came.ensures.keeps.setup c.in_ok-came.ensures.keeps.holds
+    (subst (λ x. Leads law sealing (Suspects c.args.view c.args.quorum.now c.args.quorum.now) (CameTo (Drains c.args.view c.args.quorum.now) x) c.args.world.now c.suspect.new.world) rests c.in_ok-came.ensures.suspects) c.drain.ensures.drains

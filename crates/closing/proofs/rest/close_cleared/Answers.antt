@@ -2,12 +2,12 @@ use Rattle.closing.specs.declared.closed.Came.{Came}
 use Rattle.std.proofs.Common.{◌≡◌, ◌+◌, true, ◌∙◌, ap, subst, arith}
 use Rattle.std.proofs.lemmas.Result.{err_from_is_err_and}
 use Rattle.rv_base.specs.Pool.{past}
-use Rattle.group_controller.specs.Turns.{Controls}
-use Rattle.rv_world.specs.World.{scene_in, sealing_by}
+use Rattle.rv_world.specs.World.{scene_in}
 use Rattle.std.specs.Prelude.{Option, ◌%◌, ◌/◌}
 use Rattle.rv_runs.specs.Schedule.{quorum_of}
 use Rattle.closing.specs.declared.closed.Closed.{Closed}
 use Rattle.closing.specs.Closing.{CameTo, Drained, EndsBy, has}
+use Rattle.closing.specs.Views.{most_view_of_a_closing, views_of_an_attempt}
 use Rattle.closing.proofs.Lists.{quorum_up}
 use Rattle.closing.proofs.Leading.{runs_again}
 use Rattle.closing.proofs.Parts.{begins, ends_done, ends_met, same_stop, suspected_more}
@@ -15,7 +15,7 @@ use Rattle.closing.proofs.rest.close_cleared.Goals as goal
 
 pub closing_view-view-requires-clause-views : goal.closing_view-view-requires-clause-views
 closing_view-view-requires-clause-views g c =
-    c.lawful.ensures.views 4100000000 c.requires.views
+    c.lawful.ensures.views most_view_of_a_closing c.requires.views
 
 pub close_by-requires-clause-up : goal.close_by-requires-clause-up
 close_by-requires-clause-up g c =
@@ -27,56 +27,56 @@ close_by-requires-clause-up g c =
 
 pub returns-in_err-close_by-clause-closes : goal.returns-in_err-close_by-clause-closes
 returns-in_err-close_by-clause-closes g c =
-    let controls = Controls g.A.App.kinds g.A.App.most g.A.App.states g.A.App.suits in
-    let sealing = sealing_by g.B.Body.sealed g.B.Body.spelled g.B.Weight.size in
+    let law = g.A.App.law in
+    let sealing = g.B.Body.sealing in
     let whole : c.setup.result.now.controllers ≡ c.args.world.now.setup.controllers = ap (λ s. s.controllers) c.setup.ensures in
     let named : c.from.result ≡ c.args.world.now.setup.controllers = c.from.ensures ∙ whole in
     let quorum_is : c.as_slice.result.now ≡ quorum_of (c.closing_view-view.result % c.args.world.now.setup.controllers) (c.args.world.now.setup.controllers / 2) c.args.up.now =
     c.as_slice.ensures.value ∙ c.in_ok-quorum.ensures ∙ ap (λ m. quorum_of (c.closing_view-view.result % m) (c.setup.result.now.controllers / 2) c.args.up.now) named ∙ ap (λ m. quorum_of (c.closing_view-view.result % c.args.world.now.setup.controllers) (m / 2) c.args.up.now) whole in
     let p = err_from_is_err_and c.from_residual-in_err-close_by.result c.from_residual-in_err-close_by.ensures.1 in
     rw (p.1, p.2) (λ kinds holds start s.
-    same_stop Came (Option Closed) (CameTo (Drained c.closing_view-view.result c.as_slice.result.now)) EndsBy c.in_err-close_by.field-0.0 (scene_in sealing c.args.world.now kinds) start c.close_by.new.world (c.in_err-close_by.ensures.closes kinds holds start (begins controls (scene_in sealing c.args.world.now kinds) start c.args.world.now holds.run c.closing_view-view.result c.args.up.now c.as_slice.result.now c.requires.empty c.requires.up c.requires.most c.closing_view-view.ensures.view quorum_is s)))
+    same_stop Came (Option Closed) (CameTo (Drained c.closing_view-view.result c.as_slice.result.now)) EndsBy c.in_err-close_by.field-0.0 (scene_in sealing c.args.world.now kinds) start c.close_by.new.world (c.in_err-close_by.ensures.closes kinds holds start (begins law (scene_in sealing c.args.world.now kinds) start c.args.world.now holds.run c.closing_view-view.result c.args.up.now c.as_slice.result.now c.requires.empty c.requires.up c.requires.most c.closing_view-view.ensures.view quorum_is s)))
 
 pub returns-in-ToRest-clause-views : goal.returns-in-ToRest-clause-views
 returns-in-ToRest-clause-views g c =
-    λ limit h. c.in_ok-close_by.ensures.rests.views (limit + 8) (c.closing_view-view.ensures.near limit (c.lawful.ensures.views limit h)) (suspected_more limit (limit + 8) (past c.args.world.now.journal) (omega arith) h)
+    λ limit h. c.in_ok-close_by.ensures.rests.views (limit + views_of_an_attempt) (c.closing_view-view.ensures.near limit (c.lawful.ensures.views limit h)) (suspected_more limit (limit + views_of_an_attempt) (past c.args.world.now.journal) (omega arith) h)
 
 pub returns-in-ToRest-clause-closes : goal.returns-in-ToRest-clause-closes
 returns-in-ToRest-clause-closes g c =
-    let controls = Controls g.A.App.kinds g.A.App.most g.A.App.states g.A.App.suits in
-    let sealing = sealing_by g.B.Body.sealed g.B.Body.spelled g.B.Weight.size in
+    let law = g.A.App.law in
+    let sealing = g.B.Body.sealing in
     let whole : c.setup.result.now.controllers ≡ c.args.world.now.setup.controllers = ap (λ s. s.controllers) c.setup.ensures in
     let named : c.from.result ≡ c.args.world.now.setup.controllers = c.from.ensures ∙ whole in
     let quorum_is : c.as_slice.result.now ≡ quorum_of (c.closing_view-view.result % c.args.world.now.setup.controllers) (c.args.world.now.setup.controllers / 2) c.args.up.now =
     c.as_slice.ensures.value ∙ c.in_ok-quorum.ensures ∙ ap (λ m. quorum_of (c.closing_view-view.result % m) (c.setup.result.now.controllers / 2) c.args.up.now) named ∙ ap (λ m. quorum_of (c.closing_view-view.result % c.args.world.now.setup.controllers) (m / 2) c.args.up.now) whole in
     λ kinds holds start s.
-    ends_done controls (scene_in sealing c.args.world.now kinds) start c.close_by.new.world (runs_again controls sealing c.args.world.now c.close_by.new.world kinds c.in_ok-close_by.ensures.keeps.setup (c.in_ok-close_by.ensures.keeps.holds kinds holds)) c.in_ok-close_by.ensures.rests.owed c.closing_view-view.result (c.closing_view-view.result % c.from.result) c.as_slice.result.now (ap (λ m. c.closing_view-view.result % m) named) (subst (λ x. CameTo (Drained c.closing_view-view.result c.as_slice.result.now) x (scene_in sealing c.args.world.now kinds) start c.close_by.new.world) c.in-ToRest.is (c.in_ok-close_by.ensures.closes kinds holds start (begins controls (scene_in sealing c.args.world.now kinds) start c.args.world.now holds.run c.closing_view-view.result c.args.up.now c.as_slice.result.now c.requires.empty c.requires.up c.requires.most c.closing_view-view.ensures.view quorum_is s)))
+    ends_done law (scene_in sealing c.args.world.now kinds) start c.close_by.new.world (runs_again law sealing c.args.world.now c.close_by.new.world kinds c.in_ok-close_by.ensures.keeps.setup (c.in_ok-close_by.ensures.keeps.holds kinds holds)) c.in_ok-close_by.ensures.rests.owed c.closing_view-view.result (c.closing_view-view.result % c.from.result) c.as_slice.result.now (ap (λ m. c.closing_view-view.result % m) named) (subst (λ x. CameTo (Drained c.closing_view-view.result c.as_slice.result.now) x (scene_in sealing c.args.world.now kinds) start c.close_by.new.world) c.in-ToRest.is (c.in_ok-close_by.ensures.closes kinds holds start (begins law (scene_in sealing c.args.world.now kinds) start c.args.world.now holds.run c.closing_view-view.result c.args.up.now c.as_slice.result.now c.requires.empty c.requires.up c.requires.most c.closing_view-view.ensures.view quorum_is s)))
 
 pub returns-in-ToAFailedSave-clause-views : goal.returns-in-ToAFailedSave-clause-views
 returns-in-ToAFailedSave-clause-views g c =
-    λ limit h. c.in_ok-close_by.ensures.rests.views (limit + 8) (c.closing_view-view.ensures.near limit (c.lawful.ensures.views limit h)) (suspected_more limit (limit + 8) (past c.args.world.now.journal) (omega arith) h)
+    λ limit h. c.in_ok-close_by.ensures.rests.views (limit + views_of_an_attempt) (c.closing_view-view.ensures.near limit (c.lawful.ensures.views limit h)) (suspected_more limit (limit + views_of_an_attempt) (past c.args.world.now.journal) (omega arith) h)
 
 pub returns-in-ToAFailedSave-clause-closes : goal.returns-in-ToAFailedSave-clause-closes
 returns-in-ToAFailedSave-clause-closes g c =
-    let controls = Controls g.A.App.kinds g.A.App.most g.A.App.states g.A.App.suits in
-    let sealing = sealing_by g.B.Body.sealed g.B.Body.spelled g.B.Weight.size in
+    let law = g.A.App.law in
+    let sealing = g.B.Body.sealing in
     let whole : c.setup.result.now.controllers ≡ c.args.world.now.setup.controllers = ap (λ s. s.controllers) c.setup.ensures in
     let named : c.from.result ≡ c.args.world.now.setup.controllers = c.from.ensures ∙ whole in
     let quorum_is : c.as_slice.result.now ≡ quorum_of (c.closing_view-view.result % c.args.world.now.setup.controllers) (c.args.world.now.setup.controllers / 2) c.args.up.now =
     c.as_slice.ensures.value ∙ c.in_ok-quorum.ensures ∙ ap (λ m. quorum_of (c.closing_view-view.result % m) (c.setup.result.now.controllers / 2) c.args.up.now) named ∙ ap (λ m. quorum_of (c.closing_view-view.result % c.args.world.now.setup.controllers) (m / 2) c.args.up.now) whole in
-    λ kinds holds start s. (subst (λ x. CameTo (Drained c.closing_view-view.result c.as_slice.result.now) x (scene_in sealing c.args.world.now kinds) start c.close_by.new.world) c.in-ToAFailedSave.is (c.in_ok-close_by.ensures.closes kinds holds start (begins controls (scene_in sealing c.args.world.now kinds) start c.args.world.now holds.run c.closing_view-view.result c.args.up.now c.as_slice.result.now c.requires.empty c.requires.up c.requires.most c.closing_view-view.ensures.view quorum_is s)))
+    λ kinds holds start s. (subst (λ x. CameTo (Drained c.closing_view-view.result c.as_slice.result.now) x (scene_in sealing c.args.world.now kinds) start c.close_by.new.world) c.in-ToAFailedSave.is (c.in_ok-close_by.ensures.closes kinds holds start (begins law (scene_in sealing c.args.world.now kinds) start c.args.world.now holds.run c.closing_view-view.result c.args.up.now c.as_slice.result.now c.requires.empty c.requires.up c.requires.most c.closing_view-view.ensures.view quorum_is s)))
 
 pub returns-clause-views : goal.returns-clause-views
 returns-clause-views g c =
-    λ limit h. c.in_ok-close_by.ensures.rests.views (limit + 8) (c.closing_view-view.ensures.near limit (c.lawful.ensures.views limit h)) (suspected_more limit (limit + 8) (past c.args.world.now.journal) (omega arith) h)
+    λ limit h. c.in_ok-close_by.ensures.rests.views (limit + views_of_an_attempt) (c.closing_view-view.ensures.near limit (c.lawful.ensures.views limit h)) (suspected_more limit (limit + views_of_an_attempt) (past c.args.world.now.journal) (omega arith) h)
 
 pub returns-clause-closes : goal.returns-clause-closes
 returns-clause-closes g c =
-    let controls = Controls g.A.App.kinds g.A.App.most g.A.App.states g.A.App.suits in
-    let sealing = sealing_by g.B.Body.sealed g.B.Body.spelled g.B.Weight.size in
+    let law = g.A.App.law in
+    let sealing = g.B.Body.sealing in
     let whole : c.setup.result.now.controllers ≡ c.args.world.now.setup.controllers = ap (λ s. s.controllers) c.setup.ensures in
     let named : c.from.result ≡ c.args.world.now.setup.controllers = c.from.ensures ∙ whole in
     let quorum_is : c.as_slice.result.now ≡ quorum_of (c.closing_view-view.result % c.args.world.now.setup.controllers) (c.args.world.now.setup.controllers / 2) c.args.up.now =
     c.as_slice.ensures.value ∙ c.in_ok-quorum.ensures ∙ ap (λ m. quorum_of (c.closing_view-view.result % m) (c.setup.result.now.controllers / 2) c.args.up.now) named ∙ ap (λ m. quorum_of (c.closing_view-view.result % c.args.world.now.setup.controllers) (m / 2) c.args.up.now) whole in
     λ kinds holds start s.
-    ends_met controls (scene_in sealing c.args.world.now kinds) start c.close_by.new.world (runs_again controls sealing c.args.world.now c.close_by.new.world kinds c.in_ok-close_by.ensures.keeps.setup (c.in_ok-close_by.ensures.keeps.holds kinds holds)) c.in_ok-close_by.ensures.rests.owed c.in-ToTheLimit.limit (subst (λ x. CameTo (Drained c.closing_view-view.result c.as_slice.result.now) x (scene_in sealing c.args.world.now kinds) start c.close_by.new.world) c.in-ToTheLimit.is (c.in_ok-close_by.ensures.closes kinds holds start (begins controls (scene_in sealing c.args.world.now kinds) start c.args.world.now holds.run c.closing_view-view.result c.args.up.now c.as_slice.result.now c.requires.empty c.requires.up c.requires.most c.closing_view-view.ensures.view quorum_is s)))
+    ends_met law (scene_in sealing c.args.world.now kinds) start c.close_by.new.world (runs_again law sealing c.args.world.now c.close_by.new.world kinds c.in_ok-close_by.ensures.keeps.setup (c.in_ok-close_by.ensures.keeps.holds kinds holds)) c.in_ok-close_by.ensures.rests.owed c.in-ToTheLimit.limit (subst (λ x. CameTo (Drained c.closing_view-view.result c.as_slice.result.now) x (scene_in sealing c.args.world.now kinds) start c.close_by.new.world) c.in-ToTheLimit.is (c.in_ok-close_by.ensures.closes kinds holds start (begins law (scene_in sealing c.args.world.now kinds) start c.args.world.now holds.run c.closing_view-view.result c.args.up.now c.as_slice.result.now c.requires.empty c.requires.up c.requires.most c.closing_view-view.ensures.view quorum_is s)))

@@ -1,11 +1,10 @@
 use Rattle.std.proofs.Common.{◌≡◌, ◌+◌, length, ◌∙◌, ap, arith}
 use Rattle.rv_base.specs.Pool.{past}
-use Rattle.group_controller.specs.Turns.{Controls}
-use Rattle.rv_runs.specs.Schedule.{Losing}
-use Rattle.rv_world.specs.World.{scene_in, sealing_by}
+use Rattle.rv_runs.specs.Schedule.{Losing, majority}
+use Rattle.rv_world.specs.World.{scene_in}
 use Rattle.std.specs.Prelude.{◌/◌}
-use Rattle.rv_runs.specs.Schedule.{majority}
 use Rattle.closing.specs.Closing.{ClosesIn, EndsBy, StandsAt, up_in}
+use Rattle.closing.specs.Views.{most_view_of_a_closing, views_of_an_attempt}
 use Rattle.closing.proofs.Leading.{leads_then, runs_again}
 use Rattle.closing.proofs.Parts.{ends_few, keeps_result, suspected_more, views_result}
 use Rattle.closing.proofs.rest.close_once.Goals as goal
@@ -15,18 +14,18 @@ members_up-requires g c = (c.requires.holds.0, c.in_ok-clear.ensures.keeps.holds
 
 pub returns-then-up-needed-clause-views : goal.returns-then-up-needed-clause-views
 returns-then-up-needed-clause-views g c =
-    λ limit h. c.in_ok-clear.ensures.rests.views (limit + 8) (omega arith) (suspected_more limit (limit + 8) (past c.args.world.now.journal) (omega arith) h)
+    λ limit h. c.in_ok-clear.ensures.rests.views (limit + views_of_an_attempt) (omega arith) (suspected_more limit (limit + views_of_an_attempt) (past c.args.world.now.journal) (omega arith) h)
 
 pub returns-then-up-needed-clause-closes : goal.returns-then-up-needed-clause-closes
 returns-then-up-needed-clause-closes g c =
-    let controls = Controls g.A.App.kinds g.A.App.most g.A.App.states g.A.App.suits in
-    let sealing = sealing_by g.B.Body.sealed g.B.Body.spelled g.B.Weight.size in
-    let up_is : c.as_slice-up.result.now ≡ up_in c.clear.new.world.controllers = c.as_slice-up.ensures.value ∙ c.in_ok-members.ensures in
+    let law = g.A.App.law in
+    let sealing = g.B.Body.sealing in
+    let up_is : c.as_slice-up.result.now ≡ up_in c.clear.new.world = c.as_slice-up.ensures.value ∙ c.in_ok-members.ensures in
     let same : c.setup.result.now.controllers ≡ c.args.world.now.setup.controllers = ap (λ s. s.controllers) c.setup.ensures ∙ ap (λ s. s.controllers) c.in_ok-clear.ensures.keeps.setup in
     let half : c.from-needed.result ≡ c.setup.result.now.controllers / 2 = c.from-needed.ensures in
     let less = c.if-up-needed.true in
     λ kinds holds start s.
-    ends_few controls (scene_in sealing c.args.world.now kinds) start c.clear.new.world (runs_again controls sealing c.args.world.now c.clear.new.world kinds c.in_ok-clear.ensures.keeps.setup (c.in_ok-clear.ensures.keeps.holds kinds holds)) c.in_ok-clear.ensures.rests.owed c.in_ok-clear.ensures.empty (length c.as_slice-up.result.now) (c.from-needed.result + 1)
+    ends_few law (scene_in sealing c.args.world.now kinds) start c.clear.new.world (runs_again law sealing c.args.world.now c.clear.new.world kinds c.in_ok-clear.ensures.keeps.setup (c.in_ok-clear.ensures.keeps.holds kinds holds)) c.in_ok-clear.ensures.rests.owed c.in_ok-clear.ensures.empty (length c.as_slice-up.result.now) (c.from-needed.result + 1)
     (ap length up_is) (ap (λ n. n + 1) half ∙ ap majority same) less (c.in_ok-clear.ensures.closes kinds holds start s)
 
 pub close_cleared-requires-clause-holds : goal.close_cleared-requires-clause-holds
@@ -34,13 +33,13 @@ close_cleared-requires-clause-holds g c = (c.requires.holds.0, c.in_ok-clear.ens
 
 pub close_cleared-requires-clause-views : goal.close_cleared-requires-clause-views
 close_cleared-requires-clause-views g c =
-    c.in_ok-clear.ensures.rests.views 4100000000 (omega arith) c.requires.views
+    c.in_ok-clear.ensures.rests.views most_view_of_a_closing (omega arith) c.requires.views
 
 pub returns-clause-keeps : goal.returns-clause-keeps
 returns-clause-keeps g c =
-    let controls = Controls g.A.App.kinds g.A.App.most g.A.App.states g.A.App.suits in
-    let sealing = sealing_by g.B.Body.sealed g.B.Body.spelled g.B.Weight.size in
-    keeps_result controls g.W.Stable.pair g.W.Stable.faults sealing c.args.world.now c.clear.new.world c.close_cleared.new.world c.args.stables.now c.clear.new.stables c.close_cleared.new.stables c.close_cleared.result c.in_ok-clear.ensures.keeps c.close_cleared.ensures.keeps
+    let law = g.A.App.law in
+    let sealing = g.B.Body.sealing in
+    keeps_result law g.W.Stable.saving sealing c.args.world.now c.clear.new.world c.close_cleared.new.world c.args.stables.now c.clear.new.stables c.close_cleared.new.stables c.close_cleared.result c.in_ok-clear.ensures.keeps c.close_cleared.ensures.keeps
 
 pub returns-clause-views : goal.returns-clause-views
 returns-clause-views g c =
@@ -48,6 +47,6 @@ returns-clause-views g c =
 
 pub returns-clause-closes : goal.returns-clause-closes
 returns-clause-closes g c =
-    let controls = Controls g.A.App.kinds g.A.App.most g.A.App.states g.A.App.suits in
-    let sealing = sealing_by g.B.Body.sealed g.B.Body.spelled g.B.Weight.size in
-    leads_then controls sealing (ClosesIn Losing) (ClosesIn Losing) (StandsAt EndsBy c.close_cleared.result) c.args.world.now c.clear.new.world c.close_cleared.new.world c.in_ok-clear.ensures.keeps.setup c.in_ok-clear.ensures.keeps.holds c.in_ok-clear.ensures.closes c.close_cleared.ensures.closes
+    let law = g.A.App.law in
+    let sealing = g.B.Body.sealing in
+    leads_then law sealing (ClosesIn Losing) (ClosesIn Losing) (StandsAt EndsBy c.close_cleared.result) c.args.world.now c.clear.new.world c.close_cleared.new.world c.in_ok-clear.ensures.keeps.setup c.in_ok-clear.ensures.keeps.holds c.in_ok-clear.ensures.closes c.close_cleared.ensures.closes

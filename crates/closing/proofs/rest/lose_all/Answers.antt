@@ -1,8 +1,6 @@
 use Rattle.std.proofs.Common.{◌∙◌, arith, Err}
 use Rattle.std.proofs.lemmas.Result.{err_from_is_err_and}
-use Rattle.group_controller.specs.Turns.{Controls}
 use Rattle.rv_runs.specs.Schedule.{Losing}
-use Rattle.rv_world.specs.World.{sealing_by}
 use Rattle.closing.specs.Closing.{ClosesIn, StandsAt}
 use Rattle.closing.proofs.Leading.{leads_then}
 use Rattle.closing.proofs.Parts.{keeps_err, keeps_then, none_waits, rests_then}
@@ -13,28 +11,28 @@ lose_first-requires-clause-holds g c = (c.requires.holds.0, c.losing.invariant.k
 
 pub losing-preserved : goal.losing-preserved
 losing-preserved g c =
-    let controls = Controls g.A.App.kinds g.A.App.most g.A.App.states g.A.App.suits in
-    let sealing = sealing_by g.B.Body.sealed g.B.Body.spelled g.B.Weight.size in
+    let law = g.A.App.law in
+    let sealing = g.B.Body.sealing in
     record {
-      keeps = keeps_then controls g.W.Stable.pair g.W.Stable.faults sealing c.args.world.now c.losing.world c.lose_first.new.world c.args.stables.now c.losing.stables c.lose_first.new.stables c.losing.invariant.keeps c.in_ok-lose_first.ensures.keeps;
+      keeps = keeps_then law g.W.Stable.saving sealing c.args.world.now c.losing.world c.lose_first.new.world c.args.stables.now c.losing.stables c.lose_first.new.stables c.losing.invariant.keeps c.in_ok-lose_first.ensures.keeps;
       rests = rests_then 0 0 c.args.world.now c.losing.world c.lose_first.new.world (omega arith) c.losing.invariant.rests c.in_ok-lose_first.ensures.rests;
-      closes = leads_then controls sealing (ClosesIn Losing) (ClosesIn Losing) (ClosesIn Losing) c.args.world.now c.losing.world c.lose_first.new.world c.losing.invariant.keeps.setup c.losing.invariant.keeps.holds c.losing.invariant.closes c.in_ok-lose_first.ensures.closes;
+      closes = leads_then law sealing (ClosesIn Losing) (ClosesIn Losing) (ClosesIn Losing) c.args.world.now c.losing.world c.lose_first.new.world c.losing.invariant.keeps.setup c.losing.invariant.keeps.holds c.losing.invariant.closes c.in_ok-lose_first.ensures.closes;
       up = c.in_ok-lose_first.ensures.up ∙ c.losing.invariant.up;
     }
 
 pub returns-in_err-lose_first-clause-keeps : goal.returns-in_err-lose_first-clause-keeps
 returns-in_err-lose_first-clause-keeps g c =
-    let controls = Controls g.A.App.kinds g.A.App.most g.A.App.states g.A.App.suits in
-    let sealing = sealing_by g.B.Body.sealed g.B.Body.spelled g.B.Weight.size in
+    let law = g.A.App.law in
+    let sealing = g.B.Body.sealing in
     let p = err_from_is_err_and c.from_residual.result c.from_residual.ensures.1 in
-    rw (p.1, p.2) (keeps_err controls g.W.Stable.pair g.W.Stable.faults sealing (Unit {0}) (Unit {0}) c.args.world.now c.losing.world c.lose_first.new.world c.args.stables.now c.losing.stables c.lose_first.new.stables c.in_err-lose_first.field-0.0 c.losing.invariant.keeps c.in_err-lose_first.ensures.keeps)
+    rw (p.1, p.2) (keeps_err law g.W.Stable.saving sealing (Unit {0}) (Unit {0}) c.args.world.now c.losing.world c.lose_first.new.world c.args.stables.now c.losing.stables c.lose_first.new.stables c.in_err-lose_first.field-0.0 c.losing.invariant.keeps c.in_err-lose_first.ensures.keeps)
 
 pub returns-in_err-lose_first-clause-closes : goal.returns-in_err-lose_first-clause-closes
 returns-in_err-lose_first-clause-closes g c =
-    let controls = Controls g.A.App.kinds g.A.App.most g.A.App.states g.A.App.suits in
-    let sealing = sealing_by g.B.Body.sealed g.B.Body.spelled g.B.Weight.size in
+    let law = g.A.App.law in
+    let sealing = g.B.Body.sealing in
     let p = err_from_is_err_and c.from_residual.result c.from_residual.ensures.1 in
-    rw (p.1, p.2) (leads_then controls sealing (ClosesIn Losing) (ClosesIn Losing) (StandsAt {T = Unit {0}} (λ _. ClosesIn Losing) (Err c.in_err-lose_first.field-0.0)) c.args.world.now c.losing.world c.lose_first.new.world c.losing.invariant.keeps.setup c.losing.invariant.keeps.holds c.losing.invariant.closes c.in_err-lose_first.ensures.closes)
+    rw (p.1, p.2) (leads_then law sealing (ClosesIn Losing) (ClosesIn Losing) (StandsAt {T = Unit {0}} (λ _. ClosesIn Losing) (Err c.in_err-lose_first.field-0.0)) c.args.world.now c.losing.world c.lose_first.new.world c.losing.invariant.keeps.setup c.losing.invariant.keeps.holds c.losing.invariant.closes c.in_err-lose_first.ensures.closes)
 
 pub returns-clause-empty : goal.returns-clause-empty
 returns-clause-empty g c =

@@ -1,7 +1,6 @@
 use Rattle.std.proofs.Common.{◌<◌, sym, subst}
 use Rattle.std.proofs.lemmas.Result.{err_from_is_err_and}
-use Rattle.group_controller.specs.Turns.{Controls}
-use Rattle.rv_world.specs.World.{scene_in, sealing_by}
+use Rattle.rv_world.specs.World.{scene_in}
 use Rattle.closing.specs.Closing.{CameTo, Suspects}
 use Rattle.closing.proofs.Worlds.{knows_itself, up_within}
 use Rattle.closing.proofs.Stepping.{suspect_cut, suspect_leads, suspect_up}
@@ -9,42 +8,42 @@ use Rattle.closing.proofs.steps.suspect_next.Goals as goal
 
 pub apply-requires-clause-named : goal.apply-requires-clause-named
 apply-requires-clause-named g c =
-    let controls = Controls g.A.App.kinds g.A.App.most g.A.App.states g.A.App.suits in
-    let knows = knows_itself g.A.App.kinds g.A.App.most g.A.App.states g.A.App.suits in
-    let sealing = sealing_by g.B.Body.sealed g.B.Body.spelled g.B.Weight.size in
-    up_within controls (scene_in sealing c.args.world.now c.requires.holds.0) c.args.world.now c.requires.holds.1.run (λ x h. knows x c.requires.holds.0 h) c.args.number c.requires.up
+    let law = g.A.App.law in
+    let knows = knows_itself g.A.App.law in
+    let sealing = g.B.Body.sealing in
+    up_within law (scene_in sealing c.args.world.now c.requires.holds.0) c.args.world.now c.requires.holds.1.run (λ x h. knows x c.requires.holds.0 h) c.args.number c.requires.up
 
 pub returns-in_err-apply-clause-suspects : goal.returns-in_err-apply-clause-suspects
 returns-in_err-apply-clause-suspects g c =
-    let controls = Controls g.A.App.kinds g.A.App.most g.A.App.states g.A.App.suits in
-    let knows = knows_itself g.A.App.kinds g.A.App.most g.A.App.states g.A.App.suits in
-    let sealing = sealing_by g.B.Body.sealed g.B.Body.spelled g.B.Weight.size in
+    let law = g.A.App.law in
+    let knows = knows_itself g.A.App.law in
+    let sealing = g.B.Body.sealing in
     let p = err_from_is_err_and c.from_residual.result c.from_residual.ensures.1 in
-    let there = up_within controls (scene_in sealing c.args.world.now c.requires.holds.0) c.args.world.now c.requires.holds.1.run (λ x h. knows x c.requires.holds.0 h) c.args.number c.requires.up in
-    λ quorum members. rw (p.1, p.2) (suspect_cut controls knows g.W.Stable.pair g.W.Stable.faults sealing c.args.world.now c.args.stables.now c.apply.new.self c.apply.new.stables c.requires.rests c.requires.pairs c.args.view c.args.number there quorum members (CameTo (Suspects c.args.view quorum members)) c.in_err-apply.field-0.0 c.in_err-apply.ensures.keeps c.in_err-apply.ensures.stops)
+    let there = up_within law (scene_in sealing c.args.world.now c.requires.holds.0) c.args.world.now c.requires.holds.1.run (λ x h. knows x c.requires.holds.0 h) c.args.number c.requires.up in
+    λ quorum members. rw (p.1, p.2) (suspect_cut law knows g.W.Stable.saving sealing c.args.world.now c.args.stables.now c.apply.new.self c.apply.new.stables c.requires.rests c.requires.pairs c.args.view c.args.number there quorum members (CameTo (Suspects c.args.view quorum members)) c.in_err-apply.field-0.0 c.in_err-apply.ensures.keeps c.in_err-apply.ensures.stops)
 
 pub came_at-requires-clause-holds : goal.came_at-requires-clause-holds
 came_at-requires-clause-holds g c = (c.requires.holds.0, c.in_ok-apply.ensures.keeps.holds c.requires.holds.0 c.requires.holds.1)
 
 pub came_at-requires-clause-named : goal.came_at-requires-clause-named
 came_at-requires-clause-named g c =
-    let controls = Controls g.A.App.kinds g.A.App.most g.A.App.states g.A.App.suits in
-    let knows = knows_itself g.A.App.kinds g.A.App.most g.A.App.states g.A.App.suits in
-    let sealing = sealing_by g.B.Body.sealed g.B.Body.spelled g.B.Weight.size in
-    subst (λ s. c.args.number < s.controllers) (sym c.in_ok-apply.ensures.keeps.setup) (up_within controls (scene_in sealing c.args.world.now c.requires.holds.0) c.args.world.now c.requires.holds.1.run (λ x h. knows x c.requires.holds.0 h) c.args.number c.requires.up)
+    let law = g.A.App.law in
+    let knows = knows_itself g.A.App.law in
+    let sealing = g.B.Body.sealing in
+    subst (λ s. c.args.number < s.controllers) (sym c.in_ok-apply.ensures.keeps.setup) (up_within law (scene_in sealing c.args.world.now c.requires.holds.0) c.args.world.now c.requires.holds.1.run (λ x h. knows x c.requires.holds.0 h) c.args.number c.requires.up)
 
 pub returns-clause-suspects : goal.returns-clause-suspects
 returns-clause-suspects g c =
-    let controls = Controls g.A.App.kinds g.A.App.most g.A.App.states g.A.App.suits in
-    let knows = knows_itself g.A.App.kinds g.A.App.most g.A.App.states g.A.App.suits in
-    let sealing = sealing_by g.B.Body.sealed g.B.Body.spelled g.B.Weight.size in
-    let there = up_within controls (scene_in sealing c.args.world.now c.requires.holds.0) c.args.world.now c.requires.holds.1.run (λ x h. knows x c.requires.holds.0 h) c.args.number c.requires.up in
-    λ quorum members. suspect_leads controls knows g.W.Stable.pair g.W.Stable.faults sealing c.args.world.now c.args.stables.now c.apply.new.self c.apply.new.stables c.requires.rests c.requires.pairs c.args.view c.args.number there c.in_ok-apply.ensures.applies c.in_ok-apply.ensures.keeps c.came_at.result c.came_at.ensures quorum members
+    let law = g.A.App.law in
+    let knows = knows_itself g.A.App.law in
+    let sealing = g.B.Body.sealing in
+    let there = up_within law (scene_in sealing c.args.world.now c.requires.holds.0) c.args.world.now c.requires.holds.1.run (λ x h. knows x c.requires.holds.0 h) c.args.number c.requires.up in
+    λ quorum members. suspect_leads law knows g.W.Stable.saving sealing c.args.world.now c.args.stables.now c.apply.new.self c.apply.new.stables c.requires.rests c.requires.pairs c.args.view c.args.number there c.in_ok-apply.ensures.applies c.in_ok-apply.ensures.keeps c.came_at.result c.came_at.ensures quorum members
 
 pub returns-clause-up : goal.returns-clause-up
 returns-clause-up g c =
-    let controls = Controls g.A.App.kinds g.A.App.most g.A.App.states g.A.App.suits in
-    let knows = knows_itself g.A.App.kinds g.A.App.most g.A.App.states g.A.App.suits in
-    let sealing = sealing_by g.B.Body.sealed g.B.Body.spelled g.B.Weight.size in
-    let there = up_within controls (scene_in sealing c.args.world.now c.requires.holds.0) c.args.world.now c.requires.holds.1.run (λ x h. knows x c.requires.holds.0 h) c.args.number c.requires.up in
-    suspect_up controls knows g.W.Stable.pair g.W.Stable.faults sealing c.args.world.now c.args.stables.now c.apply.new.self c.apply.new.stables c.requires.rests c.requires.pairs c.args.view c.args.number there c.in_ok-apply.ensures.applies c.in_ok-apply.ensures.keeps c.came_at.result c.came_at.ensures c.requires.holds.0 c.requires.holds.1 c.requires.up
+    let law = g.A.App.law in
+    let knows = knows_itself g.A.App.law in
+    let sealing = g.B.Body.sealing in
+    let there = up_within law (scene_in sealing c.args.world.now c.requires.holds.0) c.args.world.now c.requires.holds.1.run (λ x h. knows x c.requires.holds.0 h) c.args.number c.requires.up in
+    suspect_up law knows g.W.Stable.saving sealing c.args.world.now c.args.stables.now c.apply.new.self c.apply.new.stables c.requires.rests c.requires.pairs c.args.view c.args.number there c.in_ok-apply.ensures.applies c.in_ok-apply.ensures.keeps c.came_at.result c.came_at.ensures c.requires.holds.0 c.requires.holds.1 c.requires.up

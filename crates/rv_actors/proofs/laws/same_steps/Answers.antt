@@ -1,4 +1,3 @@
-use Rattle.group_controller.specs.Turns.{Controls}
 use Rattle.rv_actors.proofs.SameSteps.{over_bytes, over_messages}
 use Rattle.rv_actors.proofs.Twins.{twins_law}
 use Rattle.rv_actors.proofs.laws.same_steps.Goals as goal
@@ -10,4 +9,4 @@ pub returns-clause-over_messages : goal.returns-clause-over_messages
 returns-clause-over_messages g c = over_messages
 
 pub returns-clause-worlds : goal.returns-clause-worlds
-returns-clause-worlds g c = twins_law (Controls g.A.App.kinds g.A.App.most g.A.App.states g.A.App.suits)
+returns-clause-worlds g c = twins_law g.A.App.law

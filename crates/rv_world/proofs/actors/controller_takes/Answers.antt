@@ -1,11 +1,10 @@
 use Rattle.std.proofs.lemmas.Option.{slice_get-get_or}
-use Rattle.group_controller.specs.Turns.{Controls}
 use Rattle.rv_world.proofs.Acting.{controller_took}
 use Rattle.rv_world.proofs.actors.controller_takes.Goals as goal
 
 pub returns : goal.returns
 returns g c =
-    controller_took (Controls g.A.App.kinds g.A.App.most g.A.App.states g.A.App.suits) g.W.Stable.pair g.W.Stable.faults c.args.input c.args.controllers.now c.args.stables.now c.args.number
+    controller_took g.A.App.law g.W.Stable.saving c.args.input c.args.controllers.now c.args.stables.now c.args.number
     _ c.turn.new.self _ c.turn.new.stable c.turn.result
     (slice_get-get_or c.args.controllers.now c.args.number c.index-controllers-number.result c.requires.there) (slice_get-get_or c.args.stables.now c.args.number c.index-stables-number.result c.requires.stable)
     c.turn.ensures.who c.turn.ensures.turn c.turn.ensures.controls c.turn.ensures.pair

@@ -1,8 +1,6 @@
 use Rattle.std.proofs.Common.{◌≡◌, ℕ, List, sym, ap, subst, arith, length}
-use Rattle.std.specs.List.{AllByRecursion}
-use Rattle.group_controller.specs.Turns.{Controls}
 use Rattle.rv_players.proofs.Letters.{some_step, none_step}
-use Rattle.rv_world.specs.World.{AreNew, IsStocked}
+use Rattle.rv_world.specs.World.{AreNew, AreStocked}
 use Rattle.rv_world.proofs.Shelves.{none_new, one_new}
 use Rattle.rv_world.proofs.actors.controllers_of.Goals as goal
 
@@ -11,8 +9,8 @@ loop-lives-init g c =
     let same = c.into_iter-lives-iterator.ensures.into_iter_gives.0 in
     record {
       new = λ kinds stocked. (
-        none_new (Controls g.A.App.kinds g.A.App.most g.A.App.states g.A.App.suits) c.args.setup.now kinds c.new-controllers.result.items c.new-controllers.ensures.items,
-        subst (λ (l : List _). AllByRecursion (λ shelf. IsStocked g.A.App.kinds g.A.App.most kinds shelf.items) l) (sym same) stocked,
+        none_new g.A.App.law c.args.setup.now kinds c.new-controllers.result.items c.new-controllers.ensures.items,
+        subst (λ (l : List _). AreStocked g.A.App.law kinds l) (sym same) stocked,
       );
       left = let long = ap length same in let each = c.requires.each in omega (arith, long, each);
     }
@@ -21,7 +19,7 @@ pub controller_of-requires-clause-stocked : goal.controller_of-requires-clause-s
 controller_of-requires-clause-stocked g c =
     let kinds = c.requires.stocked.0 in
     let rest = (c.loop-lives.invariant.new kinds c.requires.stocked.1).1 in
-    (kinds, (subst (λ (l : List _). AllByRecursion (λ shelf. IsStocked g.A.App.kinds g.A.App.most kinds shelf.items) l) (some_step _ _ _ _ c.in-Some.is c.next.ensures.steps).0 rest).0)
+    (kinds, (subst (λ (l : List _). AreStocked g.A.App.law kinds l) (some_step _ _ _ _ c.in-Some.is c.next.ensures.steps).0 rest).0)
 
 pub loop-lives-preserved : goal.loop-lives-preserved
 loop-lives-preserved g c =
@@ -29,8 +27,8 @@ loop-lives-preserved g c =
     record {
       new = λ kinds stocked.
           let h = c.loop-lives.invariant.new kinds stocked in
-          let rest = subst (λ (l : List _). AllByRecursion (λ shelf. IsStocked g.A.App.kinds g.A.App.most kinds shelf.items) l) step h.1 in (
-            one_new (Controls g.A.App.kinds g.A.App.most g.A.App.states g.A.App.suits) c.args.setup.now kinds c.loop-lives.number c.loop-lives.controllers.items c.push.new.self.items c.in_ok-controller_of.field-0
+          let rest = subst (λ (l : List _). AreStocked g.A.App.law kinds l) step h.1 in (
+            one_new g.A.App.law c.args.setup.now kinds c.loop-lives.number c.loop-lives.controllers.items c.push.new.self.items c.in_ok-controller_of.field-0
                 h.0 (c.in_ok-controller_of.ensures kinds rest.0) c.in_ok-push.ensures.items,
             rest.1,
           );
@@ -43,4 +41,4 @@ returns g c = λ kinds stocked.
     let long = c.loop-lives.lives-iterator.rest.ok.0 in
     let left = c.loop-lives.invariant.left in
     let all : c.loop-lives.number ≡ c.args.setup.now.controllers = omega (arith, empty, long, left) in
-    subst (λ (n : ℕ). AreNew (Controls g.A.App.kinds g.A.App.most g.A.App.states g.A.App.suits) c.args.setup.now kinds n c.loop-lives.controllers.items) all (c.loop-lives.invariant.new kinds stocked).0
+    subst (λ (n : ℕ). AreNew g.A.App.law c.args.setup.now kinds n c.loop-lives.controllers.items) all (c.loop-lives.invariant.new kinds stocked).0

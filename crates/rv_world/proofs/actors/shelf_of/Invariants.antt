@@ -4,7 +4,7 @@ use Rattle.rv_world.proofs.actors.shelf_of.Given as goal
 
 abbrev pub invariant-lives : goal.invariant-lives
 invariant-lives g l = record {
-  alike : (kinds : List ℕ) → AreAlike g.A.App.kinds g.A.App.most kinds l.fn.lives.items → AreAlike g.A.App.kinds g.A.App.most kinds l.lives.items × AreAlike g.A.App.kinds g.A.App.most kinds l.shelf.items;
+  alike : (kinds : List ℕ) → AreAlike g.A.App.law kinds l.fn.lives.items → AreAlike g.A.App.law kinds l.lives.items × AreAlike g.A.App.law kinds l.shelf.items;
   long : length l.shelf.items + length l.lives.items ≡ length l.fn.lives.items;
 }
 

@@ -13,9 +13,9 @@ shelving-init g c =
     record {
       filled = rw (c.new-shelves.ensures.items, c.new-shelf.ensures.items) (none_filled c.args.controllers (length c.into_iter-chain-iterator.result.rest.items) c.requires.few (ap length same ∙ c.requires.chains.1.count));
       alike = λ kinds chains. (
-        subst (λ (l : List _). AllByRecursion (λ shelf. IsStocked g.A.App.kinds g.A.App.most kinds shelf.items) l) (sym c.new-shelves.ensures.items) tt,
-        subst (λ (l : List _). AreAlike g.A.App.kinds g.A.App.most kinds l) (sym c.new-shelf.ensures.items) tt,
-        subst (λ (l : List _). AreAlike g.A.App.kinds g.A.App.most kinds l) (sym same) chains.alike,
+        subst (λ (l : List _). AllByRecursion (λ shelf. IsStocked g.A.App.law kinds shelf.items) l) (sym c.new-shelves.ensures.items) tt,
+        subst (λ (l : List _). AreAlike g.A.App.law kinds l) (sym c.new-shelf.ensures.items) tt,
+        subst (λ (l : List _). AreAlike g.A.App.law kinds l) (sym same) chains.alike,
       );
     }
 
@@ -31,7 +31,7 @@ shelving-preserved g c =
       filled = passed c.args.controllers shelves shelf rest (subst (λ n. IsFilled c.args.controllers shelves shelf n) one c.shelving.invariant.filled) over;
       alike = λ kinds chains.
           let h = c.shelving.invariant.alike kinds chains in
-          (h.0, h.1, (subst (λ (l : List _). AreAlike g.A.App.kinds g.A.App.most kinds l) step h.2).1);
+          (h.0, h.1, (subst (λ (l : List _). AreAlike g.A.App.law kinds l) step h.2).1);
     }
 
 pub shelving-preserved-then-len-eq-LIVES : goal.shelving-preserved-then-len-eq-LIVES
@@ -50,11 +50,11 @@ shelving-preserved-then-len-eq-LIVES g c =
       filled = rw (c.new-shelf-then-len-eq-LIVES.ensures.items, more) (put_last c.args.controllers shelves shelf rest before less (sym pushed ∙ full));
       alike = λ kinds chains.
           let h = c.shelving.invariant.alike kinds chains in
-          let next = subst (λ (l : List _). AreAlike g.A.App.kinds g.A.App.most kinds l) step h.2 in
-          let all = alike_push g.A.App.kinds g.A.App.most kinds c.shelving.shelf.items c.push.new.self.items c.in-Some.chain c.in_ok-push.ensures.items h.1 next.0 in (
-            subst (λ (l : List _). AllByRecursion (λ shelf. IsStocked g.A.App.kinds g.A.App.most kinds shelf.items) l) (sym c.in_ok-push-2.ensures.items)
-                (all_append (λ shelf. IsStocked g.A.App.kinds g.A.App.most kinds shelf.items) c.shelving.shelves.items (c.push.new.self ∷ []) h.0 (record { some = omega (arith, full); alike = all }, tt)),
-            subst (λ (l : List _). AreAlike g.A.App.kinds g.A.App.most kinds l) (sym c.new-shelf-then-len-eq-LIVES.ensures.items) tt,
+          let next = subst (λ (l : List _). AreAlike g.A.App.law kinds l) step h.2 in
+          let all = alike_push g.A.App.law kinds c.shelving.shelf.items c.push.new.self.items c.in-Some.chain c.in_ok-push.ensures.items h.1 next.0 in (
+            subst (λ (l : List _). AllByRecursion (λ shelf. IsStocked g.A.App.law kinds shelf.items) l) (sym c.in_ok-push-2.ensures.items)
+                (all_append (λ shelf. IsStocked g.A.App.law kinds shelf.items) c.shelving.shelves.items (c.push.new.self ∷ []) h.0 (record { some = omega (arith, full); alike = all }, tt)),
+            subst (λ (l : List _). AreAlike g.A.App.law kinds l) (sym c.new-shelf-then-len-eq-LIVES.ensures.items) tt,
             next.1,
           );
     }
@@ -74,8 +74,8 @@ shelving-preserved-else-len-eq-LIVES g c =
       filled = rw pushed (put c.args.controllers shelves shelf rest before less few);
       alike = λ kinds chains.
           let h = c.shelving.invariant.alike kinds chains in
-          let next = subst (λ (l : List _). AreAlike g.A.App.kinds g.A.App.most kinds l) step h.2 in
-          (h.0, alike_push g.A.App.kinds g.A.App.most kinds c.shelving.shelf.items c.push.new.self.items c.in-Some.chain c.in_ok-push.ensures.items h.1 next.0, next.1);
+          let next = subst (λ (l : List _). AreAlike g.A.App.law kinds l) step h.2 in
+          (h.0, alike_push g.A.App.law kinds c.shelving.shelf.items c.push.new.self.items c.in-Some.chain c.in_ok-push.ensures.items h.1 next.0, next.1);
     }
 
 pub returns-clause-each : goal.returns-clause-each

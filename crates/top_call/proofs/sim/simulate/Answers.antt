@@ -1,15 +1,17 @@
-use Rattle.std.proofs.Common.{List, sym, subst}
+use Rattle.std.proofs.Common.{◌<◌, List, sym, subst}
 use Rattle.std.specs.List.{AllByRecursion}
 use Rattle.of_types.specs.declared.setup.Setup.{Setup}
 use Rattle.rv_base.specs.declared.journal.Turn.{Turn}
 use Rattle.rv_base.specs.Actors.{IsActor}
 use Rattle.rv_base.specs.Turns.{turn_actor}
-use Rattle.group_controller.specs.Turns.{Controls}
 use Rattle.rv_runs.specs.Bodies.{byte_bodies}
 use Rattle.rv_world.specs.World.{scene_in}
+use Rattle.closing.specs.Views.{most_view_of_a_script}
 use Rattle.top_call.proofs.Ran.{ends_closed, ends_stopped, fresh_pairs, script_within}
 use Rattle.playing.specs.Played.{StepSuspectsUpTo}
+use Rattle.scenario.proofs.Setups.{some_member}
 use Rattle.top_call.proofs.Playing.{views_up_to}
+use Rattle.top_call.proofs.Shelving.{few_given}
 use Rattle.top_call.proofs.sim.simulate.Goals as goal
 
 pub play-ended-requires-clause-holds : goal.play-ended-requires-clause-holds
@@ -17,8 +19,8 @@ play-ended-requires-clause-holds g c = (c.requires.stocked.0, c.in_ok-world.ensu
 
 pub play-ended-requires-clause-pairs : goal.play-ended-requires-clause-pairs
 play-ended-requires-clause-pairs g c =
-    let controls = Controls g.A.App.kinds g.A.App.most g.A.App.states g.A.App.suits in
-    fresh_pairs controls g.W.Stable.pair c.args.stables.now c.args.scenario.now.setup c.in_ok-world.world c.requires.stocked.0 c.requires.fresh c.in_ok-world.ensures.starts
+    let law = g.A.App.law in
+    fresh_pairs law g.W.Stable.saving c.args.stables.now c.args.scenario.now.setup c.in_ok-world.world c.requires.stocked.0 c.requires.fresh c.in_ok-world.ensures.starts
     (c.in_ok-world.ensures.holds c.requires.stocked.0 c.requires.stocked.1)
 
 pub play-ended-requires-clause-named : goal.play-ended-requires-clause-named
@@ -34,29 +36,31 @@ rested-requires g c =
 
 pub returns-in-Ok : goal.returns-in-Ok
 returns-in-Ok g c =
-    let controls = Controls g.A.App.kinds g.A.App.most g.A.App.states g.A.App.suits in
+    let law = g.A.App.law in
     let scenario = c.args.scenario.now in
     let start = c.in_ok-world.world in
     let starts = c.in_ok-world.ensures.starts in
     λ kinds stocked.
     let holds = c.in_ok-world.ensures.holds kinds stocked in
-    ends_closed controls g.W.Stable.pair g.W.Stable.faults scenario kinds start c.args.stables.now c.play-ended.new.world c.play-ended.new.stables starts holds
-    (fresh_pairs controls g.W.Stable.pair c.args.stables.now scenario.setup start kinds c.requires.fresh starts holds) c.lawful.ensures.within c.as_slice.result.now c.as_slice.ensures
+    let given = few_given law kinds c.args.shelves.items (subst (λ n. 0 < n) (sym c.requires.each) (some_member scenario.setup.controllers c.requires.is.setup.group)) stocked in
+    ends_closed law g.W.Stable.saving scenario kinds start c.args.stables.now c.play-ended.new.world c.play-ended.new.stables starts holds given
+    (fresh_pairs law g.W.Stable.saving c.args.stables.now scenario.setup start kinds c.requires.fresh starts holds) c.lawful.ensures.within c.as_slice.result.now c.as_slice.ensures
     c.play-ended.result c.in-Ok.closed c.in-Ok.script c.args.output c.len.result c.rested.result c.in-Ok.is c.len.ensures
     c.play-ended.ensures.keeps (c.play-ended.ensures.played kinds holds) c.play-ended.ensures.up c.rested.ensures.ending c.rested.ensures.fits
 
 pub returns : goal.returns
 returns g c =
-    let controls = Controls g.A.App.kinds g.A.App.most g.A.App.states g.A.App.suits in
+    let law = g.A.App.law in
     let scenario = c.args.scenario.now in
     let start = c.in_ok-world.world in
     let starts = c.in_ok-world.ensures.starts in
     λ kinds stocked.
     let holds = c.in_ok-world.ensures.holds kinds stocked in
-    ends_stopped controls g.W.Stable.pair g.W.Stable.faults scenario kinds start c.args.stables.now c.play-ended.new.world c.play-ended.new.stables starts holds
-    (fresh_pairs controls g.W.Stable.pair c.args.stables.now scenario.setup start kinds c.requires.fresh starts holds) c.lawful.ensures.within c.as_slice.result.now c.as_slice.ensures
+    let given = few_given law kinds c.args.shelves.items (subst (λ n. 0 < n) (sym c.requires.each) (some_member scenario.setup.controllers c.requires.is.setup.group)) stocked in
+    ends_stopped law g.W.Stable.saving scenario kinds start c.args.stables.now c.play-ended.new.world c.play-ended.new.stables starts holds given
+    (fresh_pairs law g.W.Stable.saving c.args.stables.now scenario.setup start kinds c.requires.fresh starts holds) c.lawful.ensures.within c.as_slice.result.now c.as_slice.ensures
     c.play-ended.result c.in-Err.stop c.args.output c.stopped.result c.in-Err.is c.play-ended.ensures.keeps (c.play-ended.ensures.stops kinds holds) c.stopped.ensures
 
 pub play-ended-requires-clause-views : goal.play-ended-requires-clause-views
 play-ended-requires-clause-views g c =
-    subst (λ (l : List Turn). AllByRecursion (λ t. StepSuspectsUpTo 4000000000 t) l) (sym c.as_slice.ensures) (views_up_to c.args.scenario.now.steps c.requires.is.views)
+    subst (λ (l : List Turn). AllByRecursion (λ t. StepSuspectsUpTo most_view_of_a_script t) l) (sym c.as_slice.ensures) (views_up_to c.args.scenario.now.steps c.requires.is.views)

@@ -4,12 +4,12 @@ use Rattle.top_call.specs.Ending.{EndsRead}
 use Rattle.top_call.specs.Runs.{StablesTell}
 use Rattle.top_call.proofs.top.end_of_reading.Goals as goal
 
-pub returns-in-Sim : goal.returns-in-Sim
-returns-in-Sim g c = λ kinds chains.
-    subst (λ (r : Reader). IfOk c.simulated.result (λ e. EndsRead kinds (StablesTell g.W.Stable.pair g.W.Stable.faults c.args.stables.now c.simulated.new.stables) r c.args.bytes.now e)) (sym c.in-Sim.is)
-    (c.simulated.ensures kinds chains)
+pub returns-in-Sim-clause-ends : goal.returns-in-Sim-clause-ends
+returns-in-Sim-clause-ends g c = λ kinds chains.
+    subst (λ (r : Reader). IfOk c.simulated.result (λ e. EndsRead kinds (StablesTell g.W.Stable.saving c.args.stables.now c.simulated.new.stables) r c.args.bytes.now e)) (sym c.in-Sim.is)
+    (c.simulated.ensures.ends kinds chains)
 
-pub returns-in-Audit : goal.returns-in-Audit
-returns-in-Audit g c = λ kinds chains.
-    subst (λ (r : Reader). IfOk c.audited.result (λ e. EndsRead kinds (StablesTell g.W.Stable.pair g.W.Stable.faults c.args.stables.now c.args.stables.now) r c.args.bytes.now e)) (sym c.in-Audit.is)
+pub returns-in-Audit-clause-ends : goal.returns-in-Audit-clause-ends
+returns-in-Audit-clause-ends g c = λ kinds chains.
+    subst (λ (r : Reader). IfOk c.audited.result (λ e. EndsRead kinds (StablesTell g.W.Stable.saving c.args.stables.now c.args.stables.now) r c.args.bytes.now e)) (sym c.in-Audit.is)
     (c.audited.ensures kinds chains)

@@ -1,12 +1,13 @@
-use Rattle.std.proofs.Common.{sym, ◌∙◌, refl, arith}
+use Rattle.std.proofs.Common.{sym, ◌∙◌, refl, arith, subst}
 use Rattle.top_call.proofs.Complete.{calm_saves, complete}
-use Rattle.top_call.proofs.Endings.{in_range}
-use Rattle.top_call.proofs.Tellings.{served, cut, nothing}
+use Rattle.top_call.proofs.Endings.{in_range, memoryless_played, unwritten_played}
+use Rattle.top_call.proofs.Tellings.{served, cut, nothing, line_served, line_cut, line_nothing, numbers_served, numbers_cut, numbers_nothing}
+use Rattle.top_call.specs.Outcome.{IsUnplayed}
 use Rattle.top_call.specs.Runs.{StablesTell}
 use Rattle.top_call.proofs.top.ravana.Goals as goal
 
 pub returns-in_default-clause-answer : goal.returns-in_default-clause-answer
-returns-in_default-clause-answer g c = λ kinds chains. nothing kinds (StablesTell g.W.Stable.pair g.W.Stable.faults c.args.stables.now c.outcome.new.stables) _ _ _ _ _ _
+returns-in_default-clause-answer g c = λ kinds chains. nothing kinds (StablesTell g.W.Stable.saving c.args.stables.now c.outcome.new.stables) _ _ _ _ _ _
 
 pub returns-in_default-clause-audit : goal.returns-in_default-clause-audit
 returns-in_default-clause-audit g c = λ _. (4, omega arith, refl)
@@ -14,14 +15,14 @@ returns-in_default-clause-audit g c = λ _. (4, omega arith, refl)
 pub returns-in_default-clause-complete : goal.returns-in_default-clause-complete
 returns-in_default-clause-complete g c =
     λ kinds chains.
-    let saves = StablesTell g.W.Stable.pair g.W.Stable.faults c.args.stables.now c.outcome.new.stables in
-    complete kinds saves _ _ _ _ (calm_saves g.W.Stable.pair g.W.Stable.faults c.args.stables.now c.outcome.new.stables) _ _ _ _ _ (nothing kinds saves _ _ _ _ _ _)
+    let saves = StablesTell g.W.Stable.saving c.args.stables.now c.outcome.new.stables in
+    complete kinds saves _ _ _ _ (calm_saves g.W.Stable.saving c.args.stables.now c.outcome.new.stables) _ _ _ _ _ (nothing kinds saves _ _ _ _ _ _)
 
 pub returns-in_default-clause-range : goal.returns-in_default-clause-range
 returns-in_default-clause-range g c = (5, omega arith, refl)
 
 pub returns-in_default-into_text-clause-answer : goal.returns-in_default-into_text-clause-answer
-returns-in_default-into_text-clause-answer g c = λ kinds chains. nothing kinds (StablesTell g.W.Stable.pair g.W.Stable.faults c.args.stables.now c.outcome.new.stables) _ _ _ _ _ _
+returns-in_default-into_text-clause-answer g c = λ kinds chains. nothing kinds (StablesTell g.W.Stable.saving c.args.stables.now c.outcome.new.stables) _ _ _ _ _ _
 
 pub returns-in_default-into_text-clause-audit : goal.returns-in_default-into_text-clause-audit
 returns-in_default-into_text-clause-audit g c = λ _. (4, omega arith, refl)
@@ -29,22 +30,22 @@ returns-in_default-into_text-clause-audit g c = λ _. (4, omega arith, refl)
 pub returns-in_default-into_text-clause-complete : goal.returns-in_default-into_text-clause-complete
 returns-in_default-into_text-clause-complete g c =
     λ kinds chains.
-    let saves = StablesTell g.W.Stable.pair g.W.Stable.faults c.args.stables.now c.outcome.new.stables in
-    complete kinds saves _ _ _ _ (calm_saves g.W.Stable.pair g.W.Stable.faults c.args.stables.now c.outcome.new.stables) _ _ _ _ _ (nothing kinds saves _ _ _ _ _ _)
+    let saves = StablesTell g.W.Stable.saving c.args.stables.now c.outcome.new.stables in
+    complete kinds saves _ _ _ _ (calm_saves g.W.Stable.saving c.args.stables.now c.outcome.new.stables) _ _ _ _ _ (nothing kinds saves _ _ _ _ _ _)
 
 pub returns-in_default-into_text-clause-range : goal.returns-in_default-into_text-clause-range
 returns-in_default-into_text-clause-range g c = (5, omega arith, refl)
 
 pub returns-in-Ok-write_all-clause-answer : goal.returns-in-Ok-write_all-clause-answer
 returns-in-Ok-write_all-clause-answer g c =
-    let saves = StablesTell g.W.Stable.pair g.W.Stable.faults c.args.stables.now c.outcome.new.stables in
+    let saves = StablesTell g.W.Stable.saving c.args.stables.now c.outcome.new.stables in
     λ kinds chains. rw c.status-status.ensures (served kinds saves _ _ _ _ _ _ _ c.in-Ok.ending _ (c.in-Ok.ensures.cause kinds chains) (c.as_slice.ensures ∙ c.in-Ok-into_text.ensures.ok) c.in-Ok-write_all.ensures.ok)
 
 pub returns-in-Ok-write_all-clause-complete : goal.returns-in-Ok-write_all-clause-complete
 returns-in-Ok-write_all-clause-complete g c =
     λ kinds chains.
-    let saves = StablesTell g.W.Stable.pair g.W.Stable.faults c.args.stables.now c.outcome.new.stables in
-    rw c.status-status.ensures (complete kinds saves _ _ _ _ (calm_saves g.W.Stable.pair g.W.Stable.faults c.args.stables.now c.outcome.new.stables) _ _ _ _ _ (served kinds saves _ _ _ _ _ _ _ c.in-Ok.ending _ (c.in-Ok.ensures.cause kinds chains) (c.as_slice.ensures ∙ c.in-Ok-into_text.ensures.ok) c.in-Ok-write_all.ensures.ok))
+    let saves = StablesTell g.W.Stable.saving c.args.stables.now c.outcome.new.stables in
+    rw c.status-status.ensures (complete kinds saves _ _ _ _ (calm_saves g.W.Stable.saving c.args.stables.now c.outcome.new.stables) _ _ _ _ _ (served kinds saves _ _ _ _ _ _ _ c.in-Ok.ending _ (c.in-Ok.ensures.cause kinds chains) (c.as_slice.ensures ∙ c.in-Ok-into_text.ensures.ok) c.in-Ok-write_all.ensures.ok))
 
 pub returns-in-Ok-write_all-clause-audit : goal.returns-in-Ok-write_all-clause-audit
 returns-in-Ok-write_all-clause-audit g c = λ is. rw c.status-status.ensures (c.in-Ok.ensures.told.audit is)
@@ -63,14 +64,14 @@ returns-in-Ok-write_all-clause-range g c = rw c.status-status.ensures (in_range 
 
 pub returns-clause-answer : goal.returns-clause-answer
 returns-clause-answer g c =
-    let saves = StablesTell g.W.Stable.pair g.W.Stable.faults c.args.stables.now c.outcome.new.stables in
+    let saves = StablesTell g.W.Stable.saving c.args.stables.now c.outcome.new.stables in
     λ kinds chains. cut kinds saves _ _ _ _ _ _ _ c.in-Ok.ending _ (c.in-Ok.ensures.cause kinds chains) (c.as_slice.ensures ∙ c.in-Ok-into_text.ensures.ok) c.in-Err.ensures.cause.failed c.in-Err.ensures.err
 
 pub returns-clause-complete : goal.returns-clause-complete
 returns-clause-complete g c =
     λ kinds chains.
-    let saves = StablesTell g.W.Stable.pair g.W.Stable.faults c.args.stables.now c.outcome.new.stables in
-    complete kinds saves _ _ _ _ (calm_saves g.W.Stable.pair g.W.Stable.faults c.args.stables.now c.outcome.new.stables) _ _ _ _ _ (cut kinds saves _ _ _ _ _ _ _ c.in-Ok.ending _ (c.in-Ok.ensures.cause kinds chains) (c.as_slice.ensures ∙ c.in-Ok-into_text.ensures.ok) c.in-Err.ensures.cause.failed c.in-Err.ensures.err)
+    let saves = StablesTell g.W.Stable.saving c.args.stables.now c.outcome.new.stables in
+    complete kinds saves _ _ _ _ (calm_saves g.W.Stable.saving c.args.stables.now c.outcome.new.stables) _ _ _ _ _ (cut kinds saves _ _ _ _ _ _ _ c.in-Ok.ending _ (c.in-Ok.ensures.cause kinds chains) (c.as_slice.ensures ∙ c.in-Ok-into_text.ensures.ok) c.in-Err.ensures.cause.failed c.in-Err.ensures.err)
 
 pub returns-clause-audit : goal.returns-clause-audit
 returns-clause-audit g c = λ _. (3, omega arith, refl)
@@ -80,3 +81,53 @@ returns-clause-range g c = (4, omega arith, refl)
 
 pub returns-clause-words : goal.returns-clause-words
 returns-clause-words g c = λ _. (1, omega arith, refl)
+
+pub returns-in_default-clause-made : goal.returns-in_default-clause-made
+returns-in_default-clause-made g c = λ _. (2, omega arith, refl)
+
+pub returns-in_default-clause-untouched : goal.returns-in_default-clause-untouched
+returns-in_default-clause-untouched g c = λ unplayed. absurd (memoryless_played unplayed)
+
+pub returns-in_default-clause-lines : goal.returns-in_default-clause-lines
+returns-in_default-clause-lines g c = line_nothing _
+
+pub returns-in_default-clause-numbers : goal.returns-in_default-clause-numbers
+returns-in_default-clause-numbers g c = λ kinds chains. numbers_nothing kinds (StablesTell g.W.Stable.saving c.args.stables.now c.outcome.new.stables) _ _ _ _
+
+pub returns-in_default-into_text-clause-made : goal.returns-in_default-into_text-clause-made
+returns-in_default-into_text-clause-made g c = λ _. (2, omega arith, refl)
+
+pub returns-in_default-into_text-clause-untouched : goal.returns-in_default-into_text-clause-untouched
+returns-in_default-into_text-clause-untouched g c = λ unplayed. absurd (memoryless_played unplayed)
+
+pub returns-in_default-into_text-clause-lines : goal.returns-in_default-into_text-clause-lines
+returns-in_default-into_text-clause-lines g c = line_nothing _
+
+pub returns-in_default-into_text-clause-numbers : goal.returns-in_default-into_text-clause-numbers
+returns-in_default-into_text-clause-numbers g c = λ kinds chains. numbers_nothing kinds (StablesTell g.W.Stable.saving c.args.stables.now c.outcome.new.stables) _ _ _ _
+
+pub returns-in-Ok-write_all-clause-made : goal.returns-in-Ok-write_all-clause-made
+returns-in-Ok-write_all-clause-made g c = λ is. rw c.status-status.ensures (c.in-Ok.ensures.told.made is)
+
+pub returns-in-Ok-write_all-clause-untouched : goal.returns-in-Ok-write_all-clause-untouched
+returns-in-Ok-write_all-clause-untouched g c = λ unplayed. c.in-Ok.ensures.untouched (subst (λ s. IsUnplayed s) c.status-status.ensures unplayed)
+
+pub returns-in-Ok-write_all-clause-lines : goal.returns-in-Ok-write_all-clause-lines
+returns-in-Ok-write_all-clause-lines g c = rw c.status-status.ensures (line_served _ _ c.in-Ok.ending _ (c.as_slice.ensures ∙ c.in-Ok-into_text.ensures.ok) c.in-Ok-write_all.ensures.ok)
+
+pub returns-in-Ok-write_all-clause-numbers : goal.returns-in-Ok-write_all-clause-numbers
+returns-in-Ok-write_all-clause-numbers g c = λ kinds chains.
+    rw c.status-status.ensures (numbers_served kinds (StablesTell g.W.Stable.saving c.args.stables.now c.outcome.new.stables) _ _ _ _ _ c.in-Ok.ending _ (c.in-Ok.ensures.numbers kinds chains) (c.as_slice.ensures ∙ c.in-Ok-into_text.ensures.ok) c.in-Ok-write_all.ensures.ok)
+
+pub returns-clause-made : goal.returns-clause-made
+returns-clause-made g c = λ _. (1, omega arith, refl)
+
+pub returns-clause-untouched : goal.returns-clause-untouched
+returns-clause-untouched g c = λ unplayed. absurd (unwritten_played unplayed)
+
+pub returns-clause-lines : goal.returns-clause-lines
+returns-clause-lines g c = line_cut _ _ _ c.in-Err.ensures.err
+
+pub returns-clause-numbers : goal.returns-clause-numbers
+returns-clause-numbers g c = λ kinds chains.
+    numbers_cut kinds (StablesTell g.W.Stable.saving c.args.stables.now c.outcome.new.stables) _ _ _ _ _ c.in-Ok.ending _ (c.in-Ok.ensures.numbers kinds chains) (c.as_slice.ensures ∙ c.in-Ok-into_text.ensures.ok) c.in-Err.ensures.cause.failed c.in-Err.ensures.err

@@ -9,8 +9,8 @@ use Rattle.dispatcher.proofs.dispatcher.Dispatcher.clears.Goals as goal
 
 pub returns : goal.returns
 returns g c = λ kinds setup log stands.
-    let inside : StandsFor g.A.App.kinds g.A.App.most g.A.App.states g.A.App.suits _ kinds setup log =
-    subst (λ d. StandsFor g.A.App.kinds g.A.App.most g.A.App.states g.A.App.suits d kinds setup log) (sym c.self.view_is) stands in
+    let inside : StandsFor g.A.App.law _ kinds setup log =
+    subst (λ d. StandsFor g.A.App.law d kinds setup log) (sym c.self.view_is) stands in
     let is = ap (λ (l : List Issued). map (cleared c.self.inside.ledger) (filter (has_told c.self.inside.ledger l) (range_with_len 0 c.self.inside.switches))) c.as_slice.ensures
     ∙ clears_are kinds setup log c.self.inside.ledger inside.ledger c.self.inside.switches c.args.handled.now.commands inside.size in
     subst (λ (l : List Through). IfOk c.clears.result (λ list. list.items ≡ l)) is c.clears.ensures

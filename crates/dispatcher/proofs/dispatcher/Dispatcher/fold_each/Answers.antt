@@ -18,7 +18,7 @@ entries-preserved g c = (
       let before = c.entries.invariant.1 kinds setup log stands follow in
       let more : take (i + 1) all ≡ take i all ++ item ∷ [] = take_more all i item (search rules) ∙ ap (λ (y : Entry). take i all ++ y ∷ []) (sym (search rules)) in
       let folded = c.in_ok-handled.ensures.folds kinds setup (log ++ take i all) before.1 (fits_at kinds setup log all i item follow more) in
-      let stands' = subst (λ (l : List Entry). StandsFor g.A.App.kinds g.A.App.most g.A.App.states g.A.App.suits c.fold.new.self kinds setup l) (append_assoc log (take i all) (item ∷ []) ∙ ap (λ (l : List Entry). log ++ l) (sym more)) folded.1 in (
+      let stands' = subst (λ (l : List Entry). StandsFor g.A.App.law c.fold.new.self kinds setup l) (append_assoc log (take i all) (item ∷ []) ∙ ap (λ (l : List Entry). log ++ l) (sym more)) folded.1 in (
         elim c.match-branch-2.branch [
           | in-Some+in_ok-push w ↦ subst (λ (l : List Handled). AreHandledAt kinds setup (log ++ take (i + 1) all) (places_processed (take (i + 1) all)) l) (sym (ap (λ v. v.items) w.processed-is ∙ w.in_ok-push.ensures.items))
               (goes_on_some kinds setup log all i item w.in-Some.handled c.entries.processed.items more (sym w.in-Some.is ∙ folded.0) before.0)

@@ -5,6 +5,6 @@ use Rattle.dispatcher.proofs.dispatcher.Dispatcher.has_unprocessed.Goals as goal
 
 pub returns : goal.returns
 returns g c = λ kinds setup log stands.
-    let inside : StandsFor g.A.App.kinds g.A.App.most g.A.App.states g.A.App.suits _ kinds setup log =
-    subst (λ d. StandsFor g.A.App.kinds g.A.App.most g.A.App.states g.A.App.suits d kinds setup log) (sym c.self.view_is) stands in
+    let inside : StandsFor g.A.App.law _ kinds setup log =
+    subst (λ d. StandsFor g.A.App.law d kinds setup log) (sym c.self.view_is) stands in
     c.has_unprocessed.ensures ∙ unprocessed_is kinds setup log c.self.inside.ledger inside.ledger

@@ -1,4 +1,4 @@
-use Rattle.std.proofs.Common.{◌≡◌, ◌<◌, ◌≤◌, ◌+◌, ◌∙◌, Some, length, sym, ap, subst, inl, inr, arith}
+use Rattle.std.proofs.Common.{◌∙◌, sym, inr, arith}
 use Rattle.firewall_app.proofs.Firewalls.{passes_unknown, back_up, passes_on, stops}
 use Rattle.app_core.proofs.Installed.{hit_there}
 use Rattle.firewall_app.proofs.Installed.{back_few, fits_either}

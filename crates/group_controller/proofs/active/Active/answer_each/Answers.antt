@@ -6,6 +6,6 @@ use Rattle.group_controller.proofs.active.Active.answer_each.Goals as goal
 pub processed-preserved : goal.processed-preserved
 processed-preserved g c = λ kinds setup acts.
     let before = c.processed.invariant kinds setup acts in
-    let now = posts_acts g.A.App.kinds g.A.App.most g.A.App.states g.A.App.suits kinds setup _ _ _ acts before in
-    answered g.A.App.kinds g.A.App.most g.A.App.states g.A.App.suits kinds setup (answers_to kinds setup c.args.self.now.work.state) c.args.self.now c.processed.self c.answer.new.self c.args.processed.now c.processed.handled-index c.handled-item.result
+    let now = posts_acts g.A.App.law kinds setup _ _ _ acts before in
+    answered g.A.App.law kinds setup (answers_to kinds setup c.args.self.now.work.state) c.args.self.now c.processed.self c.answer.new.self c.args.processed.now c.processed.handled-index c.handled-item.result
     (search rules) (search rules) before (c.in_ok-answer.ensures kinds setup now ∙ ap (λ (a : Acting _). posts c.processed.self (answers_to kinds setup a.work.state c.handled-item.result)) before)

@@ -5,5 +5,5 @@ use Rattle.group_controller.proofs.active.Active.answer_each.Given as goal
 
 abbrev pub invariant-processed : goal.invariant-processed
 invariant-processed g l =
-    ForEachGroup (Acts g.A.App.kinds g.A.App.most g.A.App.states g.A.App.suits l.fn.self) (λ kinds setup.
+    ForEachGroup (Acts g.A.App.law l.fn.self) (λ kinds setup.
     l.self ≡ posts l.fn.self (flat_map (answers_to kinds setup l.fn.self.work.state) (take l.handled-index l.processed)))

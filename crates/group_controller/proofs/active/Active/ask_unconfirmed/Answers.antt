@@ -23,4 +23,4 @@ switches-preserved g c =
 
 pub returns : goal.returns
 returns g c = λ kinds setup acts.
-    asked_all g.A.App.kinds g.A.App.most g.A.App.states g.A.App.suits kinds setup c.args.self.now c.switches.self c.switches-switch-end.result acts (c.switches-switch-end.ensures ∙ ap (λ (a : Acting _). a.dispatcher.switches) c.self.view_is) (search rules)
+    asked_all g.A.App.law kinds setup c.args.self.now c.switches.self c.switches-switch-end.result acts (c.switches-switch-end.ensures ∙ ap (λ (a : Acting _). a.dispatcher.switches) c.self.view_is) (search rules)

@@ -10,8 +10,8 @@ use Rattle.group_controller.proofs.active.Active.fold_behind.Goals as goal
 
 pub returns-clause-folds : goal.returns-clause-folds
 returns-clause-folds g c = λ kinds setup acts.
-    let inside : ActsUpTo g.A.App.kinds g.A.App.most g.A.App.states g.A.App.suits c.args.before _ kinds setup =
-    subst (λ a. ActsUpTo g.A.App.kinds g.A.App.most g.A.App.states g.A.App.suits c.args.before a kinds setup) (sym c.self.view_is) acts in
+    let inside : ActsUpTo g.A.App.law c.args.before _ kinds setup =
+    subst (λ a. ActsUpTo g.A.App.law c.args.before a kinds setup) (sym c.self.view_is) acts in
     let log = c.self.inside.replica.log in
     let commit = c.self.inside.replica.commit in
     let entries : List Entry = take (c.committed-committed.result - c.args.before) (drop c.args.before c.as_slice.result.now) in
@@ -29,8 +29,8 @@ returns-clause-folds g c = λ kinds setup acts.
         valid = inside.valid;
         own = inside.own;
         reach = omega arith;
-        stands = subst (λ (l : List Entry). StandsFor g.A.App.kinds g.A.App.most g.A.App.states g.A.App.suits c.fold_each.new.self kinds setup l) joined
-            (subst (λ (l : List Entry). StandsFor g.A.App.kinds g.A.App.most g.A.App.states g.A.App.suits c.fold_each.new.self kinds setup (take c.args.before log ++ l)) is p.1);
+        stands = subst (λ (l : List Entry). StandsFor g.A.App.law c.fold_each.new.self kinds setup l) joined
+            (subst (λ (l : List Entry). StandsFor g.A.App.law c.fold_each.new.self kinds setup (take c.args.before log ++ l)) is p.1);
         marks = refl;
         saves = refl;
       },

@@ -21,32 +21,32 @@ pub returns-then-branch : goal.returns-then-branch
 returns-then-branch g c = λ kinds setup begins.
     let now = c.args.self.now in
     let log = committed now.work.state in
-    let stands = subst (λ (a : Acting _). StandsFor g.A.App.kinds g.A.App.most g.A.App.states g.A.App.suits a.dispatcher kinds setup log) (sym c.self.view_is) begins.acts.stands in
+    let stands = subst (λ (a : Acting _). StandsFor g.A.App.law a.dispatcher kinds setup log) (sym c.self.view_is) begins.acts.stands in
     let is = ap (λ l. wish l log c.args.event) (sym (c.log.ensures ∙ ap (λ (a : Acting _). a.work.state.vr.log) c.self.view_is)) ∙ sym (c.on_event.ensures kinds setup log stands) ∙ c.in-Propose.is in
     let p = c.in_ok-propose-in-Propose.ensures kinds setup begins.acts in
-    on_ok_weaker c.finish_all.result (λ rest. event_more g.A.App.kinds g.A.App.most g.A.App.states g.A.App.suits kinds setup now c.propose.new.self c.finish_all.new.self c.args.event begins is (sym p.0 ∙ c.if-branch.true) p.1 rest) (c.finish_all.ensures kinds setup p.1.acts)
+    on_ok_weaker c.finish_all.result (λ rest. event_more g.A.App.law kinds setup now c.propose.new.self c.finish_all.new.self c.args.event begins is (sym p.0 ∙ c.if-branch.true) p.1 rest) (c.finish_all.ensures kinds setup p.1.acts)
 
 pub returns-else-branch : goal.returns-else-branch
 returns-else-branch g c = λ kinds setup begins.
     let now = c.args.self.now in
     let log = committed now.work.state in
-    let stands = subst (λ (a : Acting _). StandsFor g.A.App.kinds g.A.App.most g.A.App.states g.A.App.suits a.dispatcher kinds setup log) (sym c.self.view_is) begins.acts.stands in
+    let stands = subst (λ (a : Acting _). StandsFor g.A.App.law a.dispatcher kinds setup log) (sym c.self.view_is) begins.acts.stands in
     let is = ap (λ l. wish l log c.args.event) (sym (c.log.ensures ∙ ap (λ (a : Acting _). a.work.state.vr.log) c.self.view_is)) ∙ sym (c.on_event.ensures kinds setup log stands) ∙ c.in-Propose.is in
     let p = c.in_ok-propose-in-Propose.ensures kinds setup begins.acts in
-    event_last g.A.App.kinds g.A.App.most g.A.App.states g.A.App.suits kinds setup now c.propose.new.self c.args.event begins is (sym p.0 ∙ c.if-branch.false) p.1
+    event_last g.A.App.law kinds setup now c.propose.new.self c.args.event begins is (sym p.0 ∙ c.if-branch.false) p.1
 
 pub returns-in-Acknowledge : goal.returns-in-Acknowledge
 returns-in-Acknowledge g c = λ kinds setup begins.
     let now = c.args.self.now in
     let log = committed now.work.state in
-    let stands = subst (λ (a : Acting _). StandsFor g.A.App.kinds g.A.App.most g.A.App.states g.A.App.suits a.dispatcher kinds setup log) (sym c.self.view_is) begins.acts.stands in
+    let stands = subst (λ (a : Acting _). StandsFor g.A.App.law a.dispatcher kinds setup log) (sym c.self.view_is) begins.acts.stands in
     let is = ap (λ l. wish l log c.args.event) (sym (c.log.ensures ∙ ap (λ (a : Acting _). a.work.state.vr.log) c.self.view_is)) ∙ sym (c.on_event.ensures kinds setup log stands) ∙ c.in-Acknowledge.is in
-    on_ok_weaker c.post.result (λ sent. event_acknowledged g.A.App.kinds g.A.App.most g.A.App.states g.A.App.suits kinds setup now c.post.new.self c.args.event c.in-Acknowledge.through begins is (sent ∙ ap (λ l. posts now (l ∷ [])) c.ack_letter.ensures)) c.post.ensures
+    on_ok_weaker c.post.result (λ sent. event_acknowledged g.A.App.law kinds setup now c.post.new.self c.args.event c.in-Acknowledge.through begins is (sent ∙ ap (λ l. posts now (l ∷ [])) c.ack_letter.ensures)) c.post.ensures
 
 pub returns-in-Nothing : goal.returns-in-Nothing
 returns-in-Nothing g c = λ kinds setup begins.
     let now = c.args.self.now in
     let log = committed now.work.state in
-    let stands = subst (λ (a : Acting _). StandsFor g.A.App.kinds g.A.App.most g.A.App.states g.A.App.suits a.dispatcher kinds setup log) (sym c.self.view_is) begins.acts.stands in
+    let stands = subst (λ (a : Acting _). StandsFor g.A.App.law a.dispatcher kinds setup log) (sym c.self.view_is) begins.acts.stands in
     let is = ap (λ l. wish l log c.args.event) (sym (c.log.ensures ∙ ap (λ (a : Acting _). a.work.state.vr.log) c.self.view_is)) ∙ sym (c.on_event.ensures kinds setup log stands) ∙ c.in-Nothing.is in
-    event_nothing g.A.App.kinds g.A.App.most g.A.App.states g.A.App.suits kinds setup now c.args.event begins is
+    event_nothing g.A.App.law kinds setup now c.args.event begins is

@@ -8,9 +8,9 @@ use Rattle.group_controller.proofs.active.Active.on_role_reply.Goals as goal
 
 pub returns : goal.returns
 returns g c = λ kinds setup begins.
-    let inside = subst (λ (a : Acting _). Begins g.A.App.kinds g.A.App.most g.A.App.states g.A.App.suits a kinds setup) (sym c.self.view_is) begins in
-    let stands = marked_stands g.A.App.kinds g.A.App.most g.A.App.states g.A.App.suits kinds setup c.self.inside.dispatcher c.on_role.new.self _ _ inside.acts.stands c.on_role.ensures in
-    subst (λ (a : Acting _). OnOk c.send.result (Works g.A.App.kinds g.A.App.most g.A.App.states g.A.App.suits kinds setup a (on_role_reply kinds setup a.work.state c.args.switch c.args.role c.args.generation) c.send.new.self)) c.self.view_is
+    let inside = subst (λ (a : Acting _). Begins g.A.App.law a kinds setup) (sym c.self.view_is) begins in
+    let stands = marked_stands g.A.App.law kinds setup c.self.inside.dispatcher c.on_role.new.self _ _ inside.acts.stands c.on_role.ensures in
+    subst (λ (a : Acting _). OnOk c.send.result (Works g.A.App.law kinds setup a (on_role_reply kinds setup a.work.state c.args.switch c.args.role c.args.generation) c.send.new.self)) c.self.view_is
     (on_ok_weaker c.send.result
-    (λ sent. master_does g.A.App.kinds g.A.App.most g.A.App.states g.A.App.suits kinds setup _ c.send.new.self c.on_role.new.self c.args.switch c.args.role c.args.generation c.in_ok-commands.commands.items inside (search rules) (search rules) c.on_role.ensures (c.in_ok-commands.ensures kinds setup _ stands) sent)
+    (λ sent. master_does g.A.App.law kinds setup _ c.send.new.self c.on_role.new.self c.args.switch c.args.role c.args.generation c.in_ok-commands.commands.items inside (search rules) (search rules) c.on_role.ensures (c.in_ok-commands.ensures kinds setup _ stands) sent)
     c.send.ensures)

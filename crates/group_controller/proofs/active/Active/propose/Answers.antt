@@ -12,37 +12,37 @@ use Rattle.group_controller.proofs.active.Active.propose.Goals as goal
 
 pub returns-then-committed-before : goal.returns-then-committed-before
 returns-then-committed-before g c = λ kinds setup acts.
-    let inside = subst (λ (a : Acting _). Acts g.A.App.kinds g.A.App.most g.A.App.states g.A.App.suits a kinds setup) (sym c.self.view_is) acts in
+    let inside = subst (λ (a : Acting _). Acts g.A.App.law a kinds setup) (sym c.self.view_is) acts in
     let s = c.self.inside.replica in
     let leading = subst (λ (a : Acting _). leads a.work.state.vr ≡ true) (sym c.self.view_is) c.requires.leads in
-    let left : Proposed g.A.App.kinds g.A.App.most g.A.App.states g.A.App.suits kinds setup _ c.match-propose.self c.args.entry = elim c.match-propose.branch [
+    let left : Proposed g.A.App.law kinds setup _ c.match-propose.self c.args.entry = elim c.match-propose.branch [
       | in-Ok+in_ok-take-in-Ok w ↦
           let p = subst (λ r. ProposesTo s c.args.entry r c.propose.new.self) w.in-Ok.is c.propose.ensures.step in
           let valid = subst (λ r. OnOk r (IsValid c.propose.new.self)) w.in-Ok.is c.propose.ensures.valid in
-          Joined p.1 (proposes g.A.App.kinds g.A.App.most g.A.App.states g.A.App.suits kinds setup _ c.match-propose.self c.args.entry c.propose.new.self w.in-Ok.out inside leading valid p.2 (w.self-is ∙ w.in_ok-take-in-Ok.ensures))
+          Joined p.1 (proposes g.A.App.law kinds setup _ c.match-propose.self c.args.entry c.propose.new.self w.in-Ok.out inside leading valid p.2 (w.self-is ∙ w.in_ok-take-in-Ok.ensures))
       | in-Err-LogFull w ↦
           let p = subst (λ r. ProposesTo s c.args.entry r c.propose.new.self) (w.in-Err-LogFull.is ∙ ap (λ f. Err f) w.in-Err-LogFull.field-0-is) c.propose.ensures.step in
           Full p.1 (w.self-is ∙ with_full c.self.inside.dispatcher.marks c.self.inside.last_told w.in-Err-LogFull.full c.self.inside.promise c.self.inside.letters c.self.inside.dispatcher c.propose.new.self s c.args.entry p.2 p.3)
     ] in
     let same = ap (λ (a : Acting _). a.work.state.vr.commit) (sym c.self-2.view_is) ∙ sym c.committed.ensures in
-    subst (λ (a : Acting _). (false ≡ goes_on a.work.state c.args.entry) × Works g.A.App.kinds g.A.App.most g.A.App.states g.A.App.suits kinds setup a (after_proposal kinds setup a.work c.args.entry) c.match-propose.self) c.self.view_is
-    (proposed_same g.A.App.kinds g.A.App.most g.A.App.states g.A.App.suits kinds setup _ c.match-propose.self c.args.entry inside left (same ∙ c.if-committed-before.true ∙ c.committed-before.ensures))
+    subst (λ (a : Acting _). (false ≡ goes_on a.work.state c.args.entry) × Works g.A.App.law kinds setup a (after_proposal kinds setup a.work c.args.entry) c.match-propose.self) c.self.view_is
+    (proposed_same g.A.App.law kinds setup _ c.match-propose.self c.args.entry inside left (same ∙ c.if-committed-before.true ∙ c.committed-before.ensures))
 
 pub returns : goal.returns
 returns g c = λ kinds setup acts.
-    let inside = subst (λ (a : Acting _). Acts g.A.App.kinds g.A.App.most g.A.App.states g.A.App.suits a kinds setup) (sym c.self.view_is) acts in
+    let inside = subst (λ (a : Acting _). Acts g.A.App.law a kinds setup) (sym c.self.view_is) acts in
     let s = c.self.inside.replica in
     let leading = subst (λ (a : Acting _). leads a.work.state.vr ≡ true) (sym c.self.view_is) c.requires.leads in
-    let left : Proposed g.A.App.kinds g.A.App.most g.A.App.states g.A.App.suits kinds setup _ c.match-propose.self c.args.entry = elim c.match-propose.branch [
+    let left : Proposed g.A.App.law kinds setup _ c.match-propose.self c.args.entry = elim c.match-propose.branch [
       | in-Ok+in_ok-take-in-Ok w ↦
           let p = subst (λ r. ProposesTo s c.args.entry r c.propose.new.self) w.in-Ok.is c.propose.ensures.step in
           let valid = subst (λ r. OnOk r (IsValid c.propose.new.self)) w.in-Ok.is c.propose.ensures.valid in
-          Joined p.1 (proposes g.A.App.kinds g.A.App.most g.A.App.states g.A.App.suits kinds setup _ c.match-propose.self c.args.entry c.propose.new.self w.in-Ok.out inside leading valid p.2 (w.self-is ∙ w.in_ok-take-in-Ok.ensures))
+          Joined p.1 (proposes g.A.App.law kinds setup _ c.match-propose.self c.args.entry c.propose.new.self w.in-Ok.out inside leading valid p.2 (w.self-is ∙ w.in_ok-take-in-Ok.ensures))
       | in-Err-LogFull w ↦
           let p = subst (λ r. ProposesTo s c.args.entry r c.propose.new.self) (w.in-Err-LogFull.is ∙ ap (λ f. Err f) w.in-Err-LogFull.field-0-is) c.propose.ensures.step in
           Full p.1 (w.self-is ∙ with_full c.self.inside.dispatcher.marks c.self.inside.last_told w.in-Err-LogFull.full c.self.inside.promise c.self.inside.letters c.self.inside.dispatcher c.propose.new.self s c.args.entry p.2 p.3)
     ] in
     let same = ap (λ (a : Acting _). a.work.state.vr.commit) (sym c.self-2.view_is) ∙ sym c.committed.ensures in
-    subst (λ (a : Acting _). (true ≡ goes_on a.work.state c.args.entry) × Works g.A.App.kinds g.A.App.most g.A.App.states g.A.App.suits kinds setup a (after_proposal kinds setup a.work c.args.entry) c.follow.new.self) c.self.view_is
-    (proposed_grows g.A.App.kinds g.A.App.most g.A.App.states g.A.App.suits kinds setup _ c.match-propose.self c.follow.new.self c.args.entry c.committed-before.result left c.committed-before.ensures
+    subst (λ (a : Acting _). (true ≡ goes_on a.work.state c.args.entry) × Works g.A.App.law kinds setup a (after_proposal kinds setup a.work c.args.entry) c.follow.new.self) c.self.view_is
+    (proposed_grows g.A.App.law kinds setup _ c.match-propose.self c.follow.new.self c.args.entry c.committed-before.result left c.committed-before.ensures
     (λ equal. c.if-committed-before.false (sym same ∙ equal ∙ sym c.committed-before.ensures)) (λ acts'. c.in_ok-follow.ensures kinds setup acts'))

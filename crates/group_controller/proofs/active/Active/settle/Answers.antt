@@ -4,6 +4,6 @@ use Rattle.group_controller.proofs.active.Active.settle.Goals as goal
 
 pub returns : goal.returns
 returns g c = λ kinds setup acts before new.
-    let first = answers_do g.A.App.kinds g.A.App.most g.A.App.states g.A.App.suits kinds setup c.args.self.now c.answer_each.new.self before c.args.processed.now acts new (c.in_ok-answer_each.ensures kinds setup acts) in
+    let first = answers_do g.A.App.law kinds setup c.args.self.now c.answer_each.new.self before c.args.processed.now acts new (c.in_ok-answer_each.ensures kinds setup acts) in
     let second = c.in_ok-send_untold.ensures kinds setup first.acts in
-    on_ok_weaker c.finish_all.result (λ third. settle_does g.A.App.kinds g.A.App.most g.A.App.states g.A.App.suits kinds setup c.args.self.now c.answer_each.new.self c.send_untold.new.self c.finish_all.new.self before first second third) (c.finish_all.ensures kinds setup second.acts)
+    on_ok_weaker c.finish_all.result (λ third. settle_does g.A.App.law kinds setup c.args.self.now c.answer_each.new.self c.send_untold.new.self c.finish_all.new.self before first second third) (c.finish_all.ensures kinds setup second.acts)

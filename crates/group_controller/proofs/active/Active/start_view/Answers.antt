@@ -10,10 +10,10 @@ use Rattle.group_controller.proofs.active.Active.start_view.Goals as goal
 
 pub returns : goal.returns
 returns g c = λ kinds setup acts.
-    let inside = subst (λ (a : Acting _). Acts g.A.App.kinds g.A.App.most g.A.App.states g.A.App.suits a kinds setup) (sym c.self.view_is) acts in
-    let begun = begun_acts g.A.App.kinds g.A.App.most g.A.App.states g.A.App.suits kinds setup _ _ c.begin_view.new.self inside c.begin_view.ensures refl in
+    let inside = subst (λ (a : Acting _). Acts g.A.App.law a kinds setup) (sym c.self.view_is) acts in
+    let begun = begun_acts g.A.App.law kinds setup _ _ c.begin_view.new.self inside c.begin_view.ensures refl in
     let asked = c.in_ok-ask_unconfirmed.ensures kinds setup begun in
-    let then_acts = posts_acts g.A.App.kinds g.A.App.most g.A.App.states g.A.App.suits kinds setup _ c.ask_unconfirmed.new.self _ begun asked in
-    subst (λ (a : Acting _). OnOk c.settle.result (Works g.A.App.kinds g.A.App.most g.A.App.states g.A.App.suits kinds setup a (starting_view kinds setup a.work) c.settle.new.self)) c.self.view_is
-    (on_ok_weaker c.settle.result (λ settled. begin_does g.A.App.kinds g.A.App.most g.A.App.states g.A.App.suits kinds setup _ _ c.ask_unconfirmed.new.self c.settle.new.self c.begin_view.new.self inside c.begin_view.ensures refl asked settled)
+    let then_acts = posts_acts g.A.App.law kinds setup _ c.ask_unconfirmed.new.self _ begun asked in
+    subst (λ (a : Acting _). OnOk c.settle.result (Works g.A.App.law kinds setup a (starting_view kinds setup a.work) c.settle.new.self)) c.self.view_is
+    (on_ok_weaker c.settle.result (λ settled. begin_does g.A.App.law kinds setup _ _ c.ask_unconfirmed.new.self c.settle.new.self c.begin_view.new.self inside c.begin_view.ensures refl asked settled)
     (c.settle.ensures kinds setup then_acts c.ask_unconfirmed.new.self.work.state.vr.commit (none_new kinds setup c.ask_unconfirmed.new.self.work.state)))

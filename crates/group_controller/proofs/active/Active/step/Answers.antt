@@ -17,8 +17,8 @@ pub fold_behind-requires-clause-reach : goal.fold_behind-requires-clause-reach
 fold_behind-requires-clause-reach g c =
     let kinds = c.requires.begins.0 in
     let setup = c.requires.begins.1 in
-    let inside = subst (λ (a : Acting _). Begins g.A.App.kinds g.A.App.most g.A.App.states g.A.App.suits a kinds setup) (sym c.self.view_is) c.requires.begins.2 in
-    let s = steps g.A.App.kinds g.A.App.most g.A.App.states g.A.App.suits kinds setup _ c.take.new.self c.args.input.now c.step.new.self c.in_ok-out.out inside c.in_ok-out.ensures.valid c.in_ok-out.ensures.step c.in_ok-take.ensures in
+    let inside = subst (λ (a : Acting _). Begins g.A.App.law a kinds setup) (sym c.self.view_is) c.requires.begins.2 in
+    let s = steps g.A.App.law kinds setup _ c.take.new.self c.args.input.now c.step.new.self c.in_ok-out.out inside c.in_ok-out.ensures.valid c.in_ok-out.ensures.step c.in_ok-take.ensures in
     subst (λ (n : ℕ). n ≤ c.take.new.self.work.state.vr.commit) (sym c.committed-before.ensures) s.acts.reach
 
 pub start_view-requires-clause-acts : goal.start_view-requires-clause-acts
@@ -26,14 +26,14 @@ start_view-requires-clause-acts g c =
     let kinds = c.requires.begins.0 in
     let setup = c.requires.begins.1 in
     let begins = c.requires.begins.2 in
-    let inside = subst (λ (a : Acting _). Begins g.A.App.kinds g.A.App.most g.A.App.states g.A.App.suits a kinds setup) (sym c.self.view_is) begins in
+    let inside = subst (λ (a : Acting _). Begins g.A.App.law a kinds setup) (sym c.self.view_is) begins in
     let old = c.self.inside.replica in
     let step = vr_step old c.args.input.now in
-    let s = steps g.A.App.kinds g.A.App.most g.A.App.states g.A.App.suits kinds setup _ c.take.new.self c.args.input.now c.step.new.self c.in_ok-out.out inside c.in_ok-out.ensures.valid c.in_ok-out.ensures.step c.in_ok-take.ensures in
-    let upto = subst (λ (n : ℕ). ActsUpTo g.A.App.kinds g.A.App.most g.A.App.states g.A.App.suits n c.take.new.self kinds setup) (sym c.committed-before.ensures) s.acts in
+    let s = steps g.A.App.law kinds setup _ c.take.new.self c.args.input.now c.step.new.self c.in_ok-out.out inside c.in_ok-out.ensures.valid c.in_ok-out.ensures.step c.in_ok-take.ensures in
+    let upto = subst (λ (n : ℕ). ActsUpTo g.A.App.law n c.take.new.self kinds setup) (sym c.committed-before.ensures) s.acts in
     let folded = c.in_ok-processed.ensures.folds kinds setup upto in
     let d = c.fold_behind.new.self in
-    let first = folded_does g.A.App.kinds g.A.App.most g.A.App.states g.A.App.suits kinds setup _ c.take.new.self d step s folded.1 c.in_ok-processed.ensures.work c.in_ok-processed.ensures.promise in
+    let first = folded_does g.A.App.law kinds setup _ c.take.new.self d step s folded.1 c.in_ok-processed.ensures.work c.in_ok-processed.ensures.promise in
     (kinds, setup, folded.1)
 
 pub start_view-requires-clause-leads : goal.start_view-requires-clause-leads
@@ -41,14 +41,14 @@ start_view-requires-clause-leads g c =
     let kinds = c.requires.begins.0 in
     let setup = c.requires.begins.1 in
     let begins = c.requires.begins.2 in
-    let inside = subst (λ (a : Acting _). Begins g.A.App.kinds g.A.App.most g.A.App.states g.A.App.suits a kinds setup) (sym c.self.view_is) begins in
+    let inside = subst (λ (a : Acting _). Begins g.A.App.law a kinds setup) (sym c.self.view_is) begins in
     let old = c.self.inside.replica in
     let step = vr_step old c.args.input.now in
-    let s = steps g.A.App.kinds g.A.App.most g.A.App.states g.A.App.suits kinds setup _ c.take.new.self c.args.input.now c.step.new.self c.in_ok-out.out inside c.in_ok-out.ensures.valid c.in_ok-out.ensures.step c.in_ok-take.ensures in
-    let upto = subst (λ (n : ℕ). ActsUpTo g.A.App.kinds g.A.App.most g.A.App.states g.A.App.suits n c.take.new.self kinds setup) (sym c.committed-before.ensures) s.acts in
+    let s = steps g.A.App.law kinds setup _ c.take.new.self c.args.input.now c.step.new.self c.in_ok-out.out inside c.in_ok-out.ensures.valid c.in_ok-out.ensures.step c.in_ok-take.ensures in
+    let upto = subst (λ (n : ℕ). ActsUpTo g.A.App.law n c.take.new.self kinds setup) (sym c.committed-before.ensures) s.acts in
     let folded = c.in_ok-processed.ensures.folds kinds setup upto in
     let d = c.fold_behind.new.self in
-    let first = folded_does g.A.App.kinds g.A.App.most g.A.App.states g.A.App.suits kinds setup _ c.take.new.self d step s folded.1 c.in_ok-processed.ensures.work c.in_ok-processed.ensures.promise in
+    let first = folded_does g.A.App.law kinds setup _ c.take.new.self d step s folded.1 c.in_ok-processed.ensures.work c.in_ok-processed.ensures.promise in
     let known = c.self-2.view_is in
     let is = ap (λ (w : Work). w.state.vr) first.work_is in
     let leading : c.leads-leads.result ≡ leads step.state = c.leads-leads.ensures ∙ ap (λ (a : Acting _). leads a.work.state.vr) known ∙ ap (λ (v : VrState). leads v) is in
@@ -58,53 +58,53 @@ start_view-requires-clause-leads g c =
 
 pub returns-then-has_started : goal.returns-then-has_started
 returns-then-has_started g c = λ kinds setup begins.
-    let inside = subst (λ (a : Acting _). Begins g.A.App.kinds g.A.App.most g.A.App.states g.A.App.suits a kinds setup) (sym c.self.view_is) begins in
+    let inside = subst (λ (a : Acting _). Begins g.A.App.law a kinds setup) (sym c.self.view_is) begins in
     let old = c.self.inside.replica in
     let step = vr_step old c.args.input.now in
-    let s = steps g.A.App.kinds g.A.App.most g.A.App.states g.A.App.suits kinds setup _ c.take.new.self c.args.input.now c.step.new.self c.in_ok-out.out inside c.in_ok-out.ensures.valid c.in_ok-out.ensures.step c.in_ok-take.ensures in
-    let upto = subst (λ (n : ℕ). ActsUpTo g.A.App.kinds g.A.App.most g.A.App.states g.A.App.suits n c.take.new.self kinds setup) (sym c.committed-before.ensures) s.acts in
+    let s = steps g.A.App.law kinds setup _ c.take.new.self c.args.input.now c.step.new.self c.in_ok-out.out inside c.in_ok-out.ensures.valid c.in_ok-out.ensures.step c.in_ok-take.ensures in
+    let upto = subst (λ (n : ℕ). ActsUpTo g.A.App.law n c.take.new.self kinds setup) (sym c.committed-before.ensures) s.acts in
     let folded = c.in_ok-processed.ensures.folds kinds setup upto in
     let d = c.fold_behind.new.self in
-    let first = folded_does g.A.App.kinds g.A.App.most g.A.App.states g.A.App.suits kinds setup _ c.take.new.self d step s folded.1 c.in_ok-processed.ensures.work c.in_ok-processed.ensures.promise in
+    let first = folded_does g.A.App.law kinds setup _ c.take.new.self d step s folded.1 c.in_ok-processed.ensures.work c.in_ok-processed.ensures.promise in
     let known = c.self-2.view_is in
     let is = ap (λ (w : Work). w.state.vr) first.work_is in
     let leading : c.leads-leads.result ≡ leads step.state = c.leads-leads.ensures ∙ ap (λ (a : Acting _). leads a.work.state.vr) known ∙ ap (λ (v : VrState). leads v) is in
     let started = started_is old step.state c.has_started.result c.leads-leads.result c.leads-led.result c.view-view.result c.view-now.result c.has_started.ensures leading c.leads-led.ensures c.view-view.ensures
     (c.view-now.ensures ∙ ap (λ (a : Acting _). a.work.state.vr.view) known ∙ ap (λ (v : VrState). v.view) is) in
-    subst (λ (a : Acting _). OnOk c.start_view.result (Works g.A.App.kinds g.A.App.most g.A.App.states g.A.App.suits kinds setup a (after_step kinds setup a.work.state (vr_step a.work.state.vr c.args.input.now)) c.start_view.new.self)) c.self.view_is
-    (on_ok_weaker c.start_view.result (λ rest. step_starts g.A.App.kinds g.A.App.most g.A.App.states g.A.App.suits kinds setup _ d c.start_view.new.self step first (started ∙ c.if-has_started.true) rest) (c.start_view.ensures kinds setup folded.1))
+    subst (λ (a : Acting _). OnOk c.start_view.result (Works g.A.App.law kinds setup a (after_step kinds setup a.work.state (vr_step a.work.state.vr c.args.input.now)) c.start_view.new.self)) c.self.view_is
+    (on_ok_weaker c.start_view.result (λ rest. step_starts g.A.App.law kinds setup _ d c.start_view.new.self step first (started ∙ c.if-has_started.true) rest) (c.start_view.ensures kinds setup folded.1))
 
 pub returns-then-not-leads : goal.returns-then-not-leads
 returns-then-not-leads g c = λ kinds setup begins.
-    let inside = subst (λ (a : Acting _). Begins g.A.App.kinds g.A.App.most g.A.App.states g.A.App.suits a kinds setup) (sym c.self.view_is) begins in
+    let inside = subst (λ (a : Acting _). Begins g.A.App.law a kinds setup) (sym c.self.view_is) begins in
     let old = c.self.inside.replica in
     let step = vr_step old c.args.input.now in
-    let s = steps g.A.App.kinds g.A.App.most g.A.App.states g.A.App.suits kinds setup _ c.take.new.self c.args.input.now c.step.new.self c.in_ok-out.out inside c.in_ok-out.ensures.valid c.in_ok-out.ensures.step c.in_ok-take.ensures in
-    let upto = subst (λ (n : ℕ). ActsUpTo g.A.App.kinds g.A.App.most g.A.App.states g.A.App.suits n c.take.new.self kinds setup) (sym c.committed-before.ensures) s.acts in
+    let s = steps g.A.App.law kinds setup _ c.take.new.self c.args.input.now c.step.new.self c.in_ok-out.out inside c.in_ok-out.ensures.valid c.in_ok-out.ensures.step c.in_ok-take.ensures in
+    let upto = subst (λ (n : ℕ). ActsUpTo g.A.App.law n c.take.new.self kinds setup) (sym c.committed-before.ensures) s.acts in
     let folded = c.in_ok-processed.ensures.folds kinds setup upto in
     let d = c.fold_behind.new.self in
-    let first = folded_does g.A.App.kinds g.A.App.most g.A.App.states g.A.App.suits kinds setup _ c.take.new.self d step s folded.1 c.in_ok-processed.ensures.work c.in_ok-processed.ensures.promise in
+    let first = folded_does g.A.App.law kinds setup _ c.take.new.self d step s folded.1 c.in_ok-processed.ensures.work c.in_ok-processed.ensures.promise in
     let known = c.self-2.view_is in
     let is = ap (λ (w : Work). w.state.vr) first.work_is in
     let leading : c.leads-leads.result ≡ leads step.state = c.leads-leads.ensures ∙ ap (λ (a : Acting _). leads a.work.state.vr) known ∙ ap (λ (v : VrState). leads v) is in
     let started = started_is old step.state c.has_started.result c.leads-leads.result c.leads-led.result c.view-view.result c.view-now.result c.has_started.ensures leading c.leads-led.ensures c.view-view.ensures
     (c.view-now.ensures ∙ ap (λ (a : Acting _). a.work.state.vr.view) known ∙ ap (λ (v : VrState). v.view) is) in
-    subst (λ (a : Acting _). (Works g.A.App.kinds g.A.App.most g.A.App.states g.A.App.suits kinds setup a (after_step kinds setup a.work.state (vr_step a.work.state.vr c.args.input.now)) d)) c.self.view_is
-    (step_rests g.A.App.kinds g.A.App.most g.A.App.states g.A.App.suits kinds setup _ d step first (started ∙ c.if-has_started.false) (not_settled old step.state (sym leading ∙ c.if-not-leads.true)))
+    subst (λ (a : Acting _). (Works g.A.App.law kinds setup a (after_step kinds setup a.work.state (vr_step a.work.state.vr c.args.input.now)) d)) c.self.view_is
+    (step_rests g.A.App.law kinds setup _ d step first (started ∙ c.if-has_started.false) (not_settled old step.state (sym leading ∙ c.if-not-leads.true)))
 
 pub settle-requires-clause-acts : goal.settle-requires-clause-acts
 settle-requires-clause-acts g c =
     let kinds = c.requires.begins.0 in
     let setup = c.requires.begins.1 in
     let begins = c.requires.begins.2 in
-    let inside = subst (λ (a : Acting _). Begins g.A.App.kinds g.A.App.most g.A.App.states g.A.App.suits a kinds setup) (sym c.self.view_is) begins in
+    let inside = subst (λ (a : Acting _). Begins g.A.App.law a kinds setup) (sym c.self.view_is) begins in
     let old = c.self.inside.replica in
     let step = vr_step old c.args.input.now in
-    let s = steps g.A.App.kinds g.A.App.most g.A.App.states g.A.App.suits kinds setup _ c.take.new.self c.args.input.now c.step.new.self c.in_ok-out.out inside c.in_ok-out.ensures.valid c.in_ok-out.ensures.step c.in_ok-take.ensures in
-    let upto = subst (λ (n : ℕ). ActsUpTo g.A.App.kinds g.A.App.most g.A.App.states g.A.App.suits n c.take.new.self kinds setup) (sym c.committed-before.ensures) s.acts in
+    let s = steps g.A.App.law kinds setup _ c.take.new.self c.args.input.now c.step.new.self c.in_ok-out.out inside c.in_ok-out.ensures.valid c.in_ok-out.ensures.step c.in_ok-take.ensures in
+    let upto = subst (λ (n : ℕ). ActsUpTo g.A.App.law n c.take.new.self kinds setup) (sym c.committed-before.ensures) s.acts in
     let folded = c.in_ok-processed.ensures.folds kinds setup upto in
     let d = c.fold_behind.new.self in
-    let first = folded_does g.A.App.kinds g.A.App.most g.A.App.states g.A.App.suits kinds setup _ c.take.new.self d step s folded.1 c.in_ok-processed.ensures.work c.in_ok-processed.ensures.promise in
+    let first = folded_does g.A.App.law kinds setup _ c.take.new.self d step s folded.1 c.in_ok-processed.ensures.work c.in_ok-processed.ensures.promise in
     (kinds, setup, folded.1)
 
 pub settle-requires-clause-leads : goal.settle-requires-clause-leads
@@ -112,14 +112,14 @@ settle-requires-clause-leads g c = sym (c.leads-leads.ensures ∙ ap (λ (a : Ac
 
 pub returns-then-before-committed : goal.returns-then-before-committed
 returns-then-before-committed g c = λ kinds setup begins.
-    let inside = subst (λ (a : Acting _). Begins g.A.App.kinds g.A.App.most g.A.App.states g.A.App.suits a kinds setup) (sym c.self.view_is) begins in
+    let inside = subst (λ (a : Acting _). Begins g.A.App.law a kinds setup) (sym c.self.view_is) begins in
     let old = c.self.inside.replica in
     let step = vr_step old c.args.input.now in
-    let s = steps g.A.App.kinds g.A.App.most g.A.App.states g.A.App.suits kinds setup _ c.take.new.self c.args.input.now c.step.new.self c.in_ok-out.out inside c.in_ok-out.ensures.valid c.in_ok-out.ensures.step c.in_ok-take.ensures in
-    let upto = subst (λ (n : ℕ). ActsUpTo g.A.App.kinds g.A.App.most g.A.App.states g.A.App.suits n c.take.new.self kinds setup) (sym c.committed-before.ensures) s.acts in
+    let s = steps g.A.App.law kinds setup _ c.take.new.self c.args.input.now c.step.new.self c.in_ok-out.out inside c.in_ok-out.ensures.valid c.in_ok-out.ensures.step c.in_ok-take.ensures in
+    let upto = subst (λ (n : ℕ). ActsUpTo g.A.App.law n c.take.new.self kinds setup) (sym c.committed-before.ensures) s.acts in
     let folded = c.in_ok-processed.ensures.folds kinds setup upto in
     let d = c.fold_behind.new.self in
-    let first = folded_does g.A.App.kinds g.A.App.most g.A.App.states g.A.App.suits kinds setup _ c.take.new.self d step s folded.1 c.in_ok-processed.ensures.work c.in_ok-processed.ensures.promise in
+    let first = folded_does g.A.App.law kinds setup _ c.take.new.self d step s folded.1 c.in_ok-processed.ensures.work c.in_ok-processed.ensures.promise in
     let known = c.self-2.view_is in
     let is = ap (λ (w : Work). w.state.vr) first.work_is in
     let leading : c.leads-leads.result ≡ leads step.state = c.leads-leads.ensures ∙ ap (λ (a : Acting _). leads a.work.state.vr) known ∙ ap (λ (v : VrState). leads v) is in
@@ -128,19 +128,19 @@ returns-then-before-committed g c = λ kinds setup begins.
     let more = is_settling old step.state c.committed-before.result c.committed.result _ (sym leading ∙ c.if-not-leads.false) c.committed-before.ensures
     (c.committed.ensures ∙ ap (λ (a : Acting _). a.work.state.vr.commit) known ∙ ap (λ (v : VrState). v.commit) is) (lt-ltb c.committed-before.result c.committed.result c.if-before-committed.true) in
     let new = subst (λ (n : ℕ). AreNew kinds setup d.work.state n c.deref.result.now) c.committed-before.ensures (subst (λ l. AreNew kinds setup d.work.state c.committed-before.result l) (sym c.deref.ensures.value) folded.0) in
-    subst (λ (a : Acting _). OnOk c.settle.result (Works g.A.App.kinds g.A.App.most g.A.App.states g.A.App.suits kinds setup a (after_step kinds setup a.work.state (vr_step a.work.state.vr c.args.input.now)) c.settle.new.self)) c.self.view_is
-    (on_ok_weaker c.settle.result (λ rest. step_settles g.A.App.kinds g.A.App.most g.A.App.states g.A.App.suits kinds setup _ d c.settle.new.self step first (started ∙ c.if-has_started.false) more rest) (c.settle.ensures kinds setup folded.1 old.commit new))
+    subst (λ (a : Acting _). OnOk c.settle.result (Works g.A.App.law kinds setup a (after_step kinds setup a.work.state (vr_step a.work.state.vr c.args.input.now)) c.settle.new.self)) c.self.view_is
+    (on_ok_weaker c.settle.result (λ rest. step_settles g.A.App.law kinds setup _ d c.settle.new.self step first (started ∙ c.if-has_started.false) more rest) (c.settle.ensures kinds setup folded.1 old.commit new))
 
 pub returns : goal.returns
 returns g c = λ kinds setup begins.
-    let inside = subst (λ (a : Acting _). Begins g.A.App.kinds g.A.App.most g.A.App.states g.A.App.suits a kinds setup) (sym c.self.view_is) begins in
+    let inside = subst (λ (a : Acting _). Begins g.A.App.law a kinds setup) (sym c.self.view_is) begins in
     let old = c.self.inside.replica in
     let step = vr_step old c.args.input.now in
-    let s = steps g.A.App.kinds g.A.App.most g.A.App.states g.A.App.suits kinds setup _ c.take.new.self c.args.input.now c.step.new.self c.in_ok-out.out inside c.in_ok-out.ensures.valid c.in_ok-out.ensures.step c.in_ok-take.ensures in
-    let upto = subst (λ (n : ℕ). ActsUpTo g.A.App.kinds g.A.App.most g.A.App.states g.A.App.suits n c.take.new.self kinds setup) (sym c.committed-before.ensures) s.acts in
+    let s = steps g.A.App.law kinds setup _ c.take.new.self c.args.input.now c.step.new.self c.in_ok-out.out inside c.in_ok-out.ensures.valid c.in_ok-out.ensures.step c.in_ok-take.ensures in
+    let upto = subst (λ (n : ℕ). ActsUpTo g.A.App.law n c.take.new.self kinds setup) (sym c.committed-before.ensures) s.acts in
     let folded = c.in_ok-processed.ensures.folds kinds setup upto in
     let d = c.fold_behind.new.self in
-    let first = folded_does g.A.App.kinds g.A.App.most g.A.App.states g.A.App.suits kinds setup _ c.take.new.self d step s folded.1 c.in_ok-processed.ensures.work c.in_ok-processed.ensures.promise in
+    let first = folded_does g.A.App.law kinds setup _ c.take.new.self d step s folded.1 c.in_ok-processed.ensures.work c.in_ok-processed.ensures.promise in
     let known = c.self-2.view_is in
     let is = ap (λ (w : Work). w.state.vr) first.work_is in
     let leading : c.leads-leads.result ≡ leads step.state = c.leads-leads.ensures ∙ ap (λ (a : Acting _). leads a.work.state.vr) known ∙ ap (λ (v : VrState). leads v) is in
@@ -148,5 +148,5 @@ returns g c = λ kinds setup begins.
     (c.view-now.ensures ∙ ap (λ (a : Acting _). a.work.state.vr.view) known ∙ ap (λ (v : VrState). v.view) is) in
     let none = is_settling old step.state c.committed-before.result c.committed.result _ (sym leading ∙ c.if-not-leads.false) c.committed-before.ensures
     (c.committed.ensures ∙ ap (λ (a : Acting _). a.work.state.vr.commit) known ∙ ap (λ (v : VrState). v.commit) is) (le-ltb c.committed-before.result c.committed.result c.if-before-committed.false) in
-    subst (λ (a : Acting _). (Works g.A.App.kinds g.A.App.most g.A.App.states g.A.App.suits kinds setup a (after_step kinds setup a.work.state (vr_step a.work.state.vr c.args.input.now)) d)) c.self.view_is
-    (step_rests g.A.App.kinds g.A.App.most g.A.App.states g.A.App.suits kinds setup _ d step first (started ∙ c.if-has_started.false) none)
+    subst (λ (a : Acting _). (Works g.A.App.law kinds setup a (after_step kinds setup a.work.state (vr_step a.work.state.vr c.args.input.now)) d)) c.self.view_is
+    (step_rests g.A.App.law kinds setup _ d step first (started ∙ c.if-has_started.false) none)

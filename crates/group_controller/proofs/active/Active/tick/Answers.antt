@@ -14,19 +14,19 @@ use Rattle.group_controller.proofs.active.Active.tick.Goals as goal
 
 pub returns-else-leads : goal.returns-else-leads
 returns-else-leads g c = λ kinds setup begins.
-    let inside = subst (λ (a : Acting _). Begins g.A.App.kinds g.A.App.most g.A.App.states g.A.App.suits a kinds setup) (sym c.self.view_is) begins in
-    let s = steps g.A.App.kinds g.A.App.most g.A.App.states g.A.App.suits kinds setup _ c.take.new.self vr_input.Tick c.step.new.self c.in_ok-out.out inside c.in_ok-out.ensures.valid c.in_ok-out.ensures.step c.in_ok-take.ensures in
-    subst (λ (a : Acting _). Works g.A.App.kinds g.A.App.most g.A.App.states g.A.App.suits kinds setup a (on_tick kinds setup a.work.state) c.take.new.self) c.self.view_is (tick_rests g.A.App.kinds g.A.App.most g.A.App.states g.A.App.suits kinds setup _ c.take.new.self s (sym (c.leads.ensures ∙ ap (λ (a : Acting _). leads a.work.state.vr) c.self-2.view_is) ∙ c.if-leads.false))
+    let inside = subst (λ (a : Acting _). Begins g.A.App.law a kinds setup) (sym c.self.view_is) begins in
+    let s = steps g.A.App.law kinds setup _ c.take.new.self vr_input.Tick c.step.new.self c.in_ok-out.out inside c.in_ok-out.ensures.valid c.in_ok-out.ensures.step c.in_ok-take.ensures in
+    subst (λ (a : Acting _). Works g.A.App.law kinds setup a (on_tick kinds setup a.work.state) c.take.new.self) c.self.view_is (tick_rests g.A.App.law kinds setup _ c.take.new.self s (sym (c.leads.ensures ∙ ap (λ (a : Acting _). leads a.work.state.vr) c.self-2.view_is) ∙ c.if-leads.false))
 
 pub returns-in_ok-send : goal.returns-in_ok-send
 returns-in_ok-send g c = λ kinds setup begins.
-    let inside = subst (λ (a : Acting _). Begins g.A.App.kinds g.A.App.most g.A.App.states g.A.App.suits a kinds setup) (sym c.self.view_is) begins in
-    let s = steps g.A.App.kinds g.A.App.most g.A.App.states g.A.App.suits kinds setup _ c.take.new.self vr_input.Tick c.step.new.self c.in_ok-out.out inside c.in_ok-out.ensures.valid c.in_ok-out.ensures.step c.in_ok-take.ensures in
-    let acts = still_acts g.A.App.kinds g.A.App.most g.A.App.states g.A.App.suits kinds setup _ c.take.new.self _ s (tick_same c.self.inside.replica) in
+    let inside = subst (λ (a : Acting _). Begins g.A.App.law a kinds setup) (sym c.self.view_is) begins in
+    let s = steps g.A.App.law kinds setup _ c.take.new.self vr_input.Tick c.step.new.self c.in_ok-out.out inside c.in_ok-out.ensures.valid c.in_ok-out.ensures.step c.in_ok-take.ensures in
+    let acts = still_acts g.A.App.law kinds setup _ c.take.new.self _ s (tick_same c.self.inside.replica) in
     let asked = c.in_ok-ask_unconfirmed.ensures kinds setup acts in
     let log = committed c.take.new.self.work.state in
-    let stands = subst (λ (a : Acting _). StandsFor g.A.App.kinds g.A.App.most g.A.App.states g.A.App.suits a.dispatcher kinds setup log) (sym (c.self-then-leads.view_is ∙ asked)) acts.stands in
+    let stands = subst (λ (a : Acting _). StandsFor g.A.App.law a.dispatcher kinds setup log) (sym (c.self-then-leads.view_is ∙ asked)) acts.stands in
     let marks = ap (λ (a : Acting _). map (numbered kinds setup log) (outstanding kinds setup log a.dispatcher.marks)) (c.self-then-leads.view_is ∙ asked) ∙ ap (λ m. map (numbered kinds setup log) (outstanding kinds setup log m)) (sym acts.marks) in
-    subst (λ (a : Acting _). Works g.A.App.kinds g.A.App.most g.A.App.states g.A.App.suits kinds setup a (on_tick kinds setup a.work.state) c.send.new.self) c.self.view_is
-    (tick_does g.A.App.kinds g.A.App.most g.A.App.states g.A.App.suits kinds setup _ c.take.new.self c.ask_unconfirmed.new.self c.send.new.self c.in_ok-commands.commands.items s (sym (c.leads.ensures ∙ ap (λ (a : Acting _). leads a.work.state.vr) c.self-2.view_is) ∙ c.if-leads.true) asked
+    subst (λ (a : Acting _). Works g.A.App.law kinds setup a (on_tick kinds setup a.work.state) c.send.new.self) c.self.view_is
+    (tick_does g.A.App.law kinds setup _ c.take.new.self c.ask_unconfirmed.new.self c.send.new.self c.in_ok-commands.commands.items s (sym (c.leads.ensures ∙ ap (λ (a : Acting _). leads a.work.state.vr) c.self-2.view_is) ∙ c.if-leads.true) asked
     (c.in_ok-commands.ensures kinds setup log stands ∙ marks) (c.in_ok-send.ensures ∙ ap (λ (a : Acting _). posts c.ask_unconfirmed.new.self (map (command_letter a.work.state.vr.view) c.in_ok-commands.commands.items)) asked))

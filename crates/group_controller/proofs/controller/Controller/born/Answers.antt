@@ -10,17 +10,17 @@ use Rattle.group_controller.proofs.controller.Controller.born.Goals as goal
 
 pub returns-clause-born : goal.returns-clause-born
 returns-clause-born g c = λ kinds controls.
-    let inside = subst (λ (x : Controlling _). Controls g.A.App.kinds g.A.App.most g.A.App.states g.A.App.suits x kinds) (sym c.self.view_is) controls in
-    let alike = last_alike g.A.App.kinds g.A.App.most g.A.App.states g.A.App.suits kinds _ _ c.pop.result c.in-Some.app inside.shelf c.pop.ensures.items c.in-Some.is in
-    let begins = subst (λ (k : List ℕ). Begins g.A.App.kinds g.A.App.most g.A.App.states g.A.App.suits c.in_ok-active.active k c.self.inside.setup) alike.0 c.in_ok-active.ensures.begins in
-    subst (λ (x : Controlling _). Born g.A.App.kinds g.A.App.most g.A.App.states g.A.App.suits x kinds c.args.life c.take.new.self) c.self.view_is
-    (born_is g.A.App.kinds g.A.App.most g.A.App.states g.A.App.suits kinds _ c.args.life c.in_ok-active.active c.take.new.self c.in_ok-replica.replica c.in_ok-replica.out begins c.in_ok-active.ensures.state c.in_ok-replica.ensures.step c.in_ok-take.ensures)
+    let inside = subst (λ (x : Controlling _). Controls g.A.App.law x kinds) (sym c.self.view_is) controls in
+    let alike = last_alike g.A.App.law kinds _ _ c.pop.result c.in-Some.app inside.shelf c.pop.ensures.items c.in-Some.is in
+    let begins = subst (λ (k : List ℕ). Begins g.A.App.law c.in_ok-active.active k c.self.inside.setup) alike.0 c.in_ok-active.ensures.begins in
+    subst (λ (x : Controlling _). Born g.A.App.law x kinds c.args.life c.take.new.self) c.self.view_is
+    (born_is g.A.App.law kinds _ c.args.life c.in_ok-active.active c.take.new.self c.in_ok-replica.replica c.in_ok-replica.out begins c.in_ok-active.ensures.state c.in_ok-replica.ensures.step c.in_ok-take.ensures)
 
 pub new-requires-clause-few : goal.new-requires-clause-few
 new-requires-clause-few g c =
     let kinds = c.requires.controls.0 in
-    let inside = subst (λ (x : Controlling _). Controls g.A.App.kinds g.A.App.most g.A.App.states g.A.App.suits x kinds) (sym c.self.view_is) c.requires.controls.1 in
-    (last_alike g.A.App.kinds g.A.App.most g.A.App.states g.A.App.suits kinds c.self.inside.shelf.items c.pop.new.self.items c.pop.result c.in-Some.app inside.shelf c.pop.ensures.items c.in-Some.is).1
+    let inside = subst (λ (x : Controlling _). Controls g.A.App.law x kinds) (sym c.self.view_is) c.requires.controls.1 in
+    (last_alike g.A.App.law kinds c.self.inside.shelf.items c.pop.new.self.items c.pop.result c.in-Some.app inside.shelf c.pop.ensures.items c.in-Some.is).1
 
 pub new-requires-clause-valid : goal.new-requires-clause-valid
 new-requires-clause-valid g c = c.in_ok-replica.ensures.valid
@@ -45,23 +45,23 @@ returns-clause-shelf g c = ap (λ (x : Controlling _). record x { shelf = c.pop.
 
 pub returns-in_default-clause-alike : goal.returns-in_default-clause-alike
 returns-in_default-clause-alike g c = λ kinds controls.
-    let inside = subst (λ (x : Controlling _). Controls g.A.App.kinds g.A.App.most g.A.App.states g.A.App.suits x kinds) (sym c.self.view_is) controls in
-    rest_alike g.A.App.kinds g.A.App.most g.A.App.states g.A.App.suits kinds c.self.inside.shelf.items c.pop.new.self.items c.pop.result inside.shelf c.pop.ensures.items
+    let inside = subst (λ (x : Controlling _). Controls g.A.App.law x kinds) (sym c.self.view_is) controls in
+    rest_alike g.A.App.law kinds c.self.inside.shelf.items c.pop.new.self.items c.pop.result inside.shelf c.pop.ensures.items
 
 pub returns-in_err-active-clause-alike : goal.returns-in_err-active-clause-alike
 returns-in_err-active-clause-alike g c = λ kinds controls.
-    let inside = subst (λ (x : Controlling _). Controls g.A.App.kinds g.A.App.most g.A.App.states g.A.App.suits x kinds) (sym c.self.view_is) controls in
-    rest_alike g.A.App.kinds g.A.App.most g.A.App.states g.A.App.suits kinds c.self.inside.shelf.items c.pop.new.self.items c.pop.result inside.shelf c.pop.ensures.items
+    let inside = subst (λ (x : Controlling _). Controls g.A.App.law x kinds) (sym c.self.view_is) controls in
+    rest_alike g.A.App.law kinds c.self.inside.shelf.items c.pop.new.self.items c.pop.result inside.shelf c.pop.ensures.items
 
 pub returns-in_err-take-clause-alike : goal.returns-in_err-take-clause-alike
 returns-in_err-take-clause-alike g c = λ kinds controls.
-    let inside = subst (λ (x : Controlling _). Controls g.A.App.kinds g.A.App.most g.A.App.states g.A.App.suits x kinds) (sym c.self.view_is) controls in
-    rest_alike g.A.App.kinds g.A.App.most g.A.App.states g.A.App.suits kinds c.self.inside.shelf.items c.pop.new.self.items c.pop.result inside.shelf c.pop.ensures.items
+    let inside = subst (λ (x : Controlling _). Controls g.A.App.law x kinds) (sym c.self.view_is) controls in
+    rest_alike g.A.App.law kinds c.self.inside.shelf.items c.pop.new.self.items c.pop.result inside.shelf c.pop.ensures.items
 
 pub returns-clause-alike : goal.returns-clause-alike
 returns-clause-alike g c = λ kinds controls.
-    let inside = subst (λ (x : Controlling _). Controls g.A.App.kinds g.A.App.most g.A.App.states g.A.App.suits x kinds) (sym c.self.view_is) controls in
-    rest_alike g.A.App.kinds g.A.App.most g.A.App.states g.A.App.suits kinds c.self.inside.shelf.items c.pop.new.self.items c.pop.result inside.shelf c.pop.ensures.items
+    let inside = subst (λ (x : Controlling _). Controls g.A.App.law x kinds) (sym c.self.view_is) controls in
+    rest_alike g.A.App.law kinds c.self.inside.shelf.items c.pop.new.self.items c.pop.result inside.shelf c.pop.ensures.items
 
 pub returns-in_default-clause-lost : goal.returns-in_default-clause-lost
 returns-in_default-clause-lost g c = (c.pop.result, ap (λ (x : Controlling _). x.shelf) (sym c.self.view_is) ∙ c.pop.ensures.items)

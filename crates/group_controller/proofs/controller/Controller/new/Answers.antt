@@ -19,7 +19,7 @@ new-requires-2-clause-none g c = ap (λ (v : VrState). v.commit) c.in_ok-replica
 
 pub returns-clause-controls : goal.returns-clause-controls
 returns-clause-controls g c =
-    starts_controlled g.A.App.kinds g.A.App.most g.A.App.states g.A.App.suits (g.A.App.kinds c.args.app) c.args.me c.args.setup.now c.in_ok-copy.field-0 c.in_ok-active.active c.in_ok-replica.replica c.args.shelf.items c.new-3.result.items
+    starts_controlled g.A.App.law (g.A.App.law.kinds c.args.app) c.args.me c.args.setup.now c.in_ok-copy.field-0 c.in_ok-active.active c.in_ok-replica.replica c.args.shelf.items c.new-3.result.items
     c.in_ok-copy.ensures c.requires.setup c.requires.member c.in_ok-active.ensures.begins c.in_ok-active.ensures.state c.in_ok-replica.ensures.state c.requires.alike
 
 pub returns-clause-starts : goal.returns-clause-starts

@@ -12,23 +12,23 @@ returns-in-Some-clause-pair g c =
     let kinds = c.requires.controls.0 in
     let i = c.self.inside in
     let now : Controlling _ = record { setup = i.setup; me = i.me; promise = i.promise; life = i.life; acting = i.active; shelf = i.shelf.items; results = i.results.items } in
-    let controls = subst (λ (x : Controlling _). Controls g.A.App.kinds g.A.App.most g.A.App.states g.A.App.suits x kinds) (sym c.self.view_is) c.requires.controls.1 in
-    let both = taken_stands g.A.App.kinds g.A.App.most g.A.App.states g.A.App.suits kinds now c.in-Some.active controls (sym c.take.ensures.value ∙ c.in-Some.is) in
-    let cut = subst (λ (o : Option (Acting _)). Controls g.A.App.kinds g.A.App.most g.A.App.states g.A.App.suits (record now { acting = o }) kinds × Stands g.A.App.kinds g.A.App.most g.A.App.states g.A.App.suits (record now { acting = o }) kinds c.in-Some.active) (sym c.take.ensures.after) both in
-    let known = c.requires.pair ∙ pair_known g.A.App.kinds g.A.App.most g.A.App.states g.A.App.suits kinds c.args.self.now c.requires.controls.1 ∙ ap (λ (x : Controlling _). (x.promise, x.life)) (sym c.self.view_is) in
-    c.act.ensures.pair known ∙ sym (pair_known g.A.App.kinds g.A.App.most g.A.App.states g.A.App.suits kinds c.act.new.self (c.act.ensures.controls kinds cut))
+    let controls = subst (λ (x : Controlling _). Controls g.A.App.law x kinds) (sym c.self.view_is) c.requires.controls.1 in
+    let both = taken_stands g.A.App.law kinds now c.in-Some.active controls (sym c.take.ensures.value ∙ c.in-Some.is) in
+    let cut = subst (λ (o : Option (Acting _)). Controls g.A.App.law (record now { acting = o }) kinds × Stands g.A.App.law (record now { acting = o }) kinds c.in-Some.active) (sym c.take.ensures.after) both in
+    let known = c.requires.pair ∙ pair_known g.A.App.law kinds c.args.self.now c.requires.controls.1 ∙ ap (λ (x : Controlling _). (x.promise, x.life)) (sym c.self.view_is) in
+    c.act.ensures.pair known ∙ sym (pair_known g.A.App.law kinds c.act.new.self (c.act.ensures.controls kinds cut))
 
 pub returns-then-is_restart-clause-turn : goal.returns-then-is_restart-clause-turn
 returns-then-is_restart-clause-turn g c = λ kinds stood.
     let i = c.self.inside in
     let now : Controlling _ = record { setup = i.setup; me = i.me; promise = i.promise; life = i.life; acting = i.active; shelf = i.shelf.items; results = i.results.items } in
-    let controls = subst (λ (x : Controlling _). Controls g.A.App.kinds g.A.App.most g.A.App.states g.A.App.suits x kinds) (sym c.self.view_is) stood in
+    let controls = subst (λ (x : Controlling _). Controls g.A.App.law x kinds) (sym c.self.view_is) stood in
     let off = sym c.take.ensures.value ∙ c.in-None.is in
-    let cut = subst (λ (o : Option (Acting _)). Controls g.A.App.kinds g.A.App.most g.A.App.states g.A.App.suits (record now { acting = o }) kinds) (sym c.take.ensures.after) (record { setup = controls.setup; member = controls.member; acting = tt; shelf = controls.shelf }) in
+    let cut = subst (λ (o : Option (Acting _)). Controls g.A.App.law (record now { acting = o }) kinds) (sym c.take.ensures.after) (record { setup = controls.setup; member = controls.member; acting = tt; shelf = controls.shelf }) in
     let told = sym c.is_restart.ensures ∙ c.if-is_restart.true in
-    IfOk-weaker c.restart.result _ _ (λ letters h. subst (λ (x : Controlling _). Turns kinds x c.args.input letters c.restart.new.self (g.W.Stable.pair c.args.stable.now) (g.W.Stable.pair c.restart.new.stable) (g.W.Stable.faults c.args.stable.now) (g.W.Stable.faults c.restart.new.stable)) c.self.view_is
-    (turn_restarts g.A.App.kinds g.A.App.most g.A.App.states g.A.App.suits kinds now c.args.input letters c.restart.new.self _ _ _ _ off told
-    (subst (λ (o : Option (Acting _)). Restarts (record now { acting = o }) letters c.restart.new.self (g.W.Stable.pair c.args.stable.now) (g.W.Stable.pair c.restart.new.stable) (g.W.Stable.faults c.args.stable.now) (g.W.Stable.faults c.restart.new.stable)) c.take.ensures.after h)))
+    IfOk-weaker c.restart.result _ _ (λ letters h. subst (λ (x : Controlling _). Turns kinds x c.args.input letters c.restart.new.self (g.W.Stable.saving.pair c.args.stable.now) (g.W.Stable.saving.pair c.restart.new.stable) (g.W.Stable.saving.faults c.args.stable.now) (g.W.Stable.saving.faults c.restart.new.stable)) c.self.view_is
+    (turn_restarts g.A.App.law kinds now c.args.input letters c.restart.new.self _ _ _ _ off told
+    (subst (λ (o : Option (Acting _)). Restarts (record now { acting = o }) letters c.restart.new.self (g.W.Stable.saving.pair c.args.stable.now) (g.W.Stable.saving.pair c.restart.new.stable) (g.W.Stable.saving.faults c.args.stable.now) (g.W.Stable.saving.faults c.restart.new.stable)) c.take.ensures.after h)))
     (c.restart.ensures.turn kinds cut)
 
 pub returns-else-is_restart-clause-turn : goal.returns-else-is_restart-clause-turn
@@ -38,15 +38,15 @@ returns-else-is_restart-clause-turn g c = λ kinds stood.
     let off = sym c.take.ensures.value ∙ c.in-None.is in
     let left : Controlling _ = record now { acting = c.take.new.self } in
     let told = sym c.is_restart.ensures ∙ c.if-is_restart.false in
-    subst (λ (x : Controlling _). Turns kinds x c.args.input c.new.result left (g.W.Stable.pair c.args.stable.now) (g.W.Stable.pair c.args.stable.now) (g.W.Stable.faults c.args.stable.now) (g.W.Stable.faults c.args.stable.now)) c.self.view_is
-    (turn_drops g.A.App.kinds g.A.App.most g.A.App.states g.A.App.suits kinds now left c.args.input c.new.result (g.W.Stable.pair c.args.stable.now) (g.W.Stable.faults c.args.stable.now) off told c.new.ensures (ap (λ (o : Option (Acting _)). record now { acting = o }) c.take.ensures.after))
+    subst (λ (x : Controlling _). Turns kinds x c.args.input c.new.result left (g.W.Stable.saving.pair c.args.stable.now) (g.W.Stable.saving.pair c.args.stable.now) (g.W.Stable.saving.faults c.args.stable.now) (g.W.Stable.saving.faults c.args.stable.now)) c.self.view_is
+    (turn_drops g.A.App.law kinds now left c.args.input c.new.result (g.W.Stable.saving.pair c.args.stable.now) (g.W.Stable.saving.faults c.args.stable.now) off told c.new.ensures (ap (λ (o : Option (Acting _)). record now { acting = o }) c.take.ensures.after))
 
 pub returns-in-Some-clause-shelf : goal.returns-in-Some-clause-shelf
 returns-in-Some-clause-shelf g c =
     let i = c.self.inside in
     let now : Controlling _ = record { setup = i.setup; me = i.me; promise = i.promise; life = i.life; acting = i.active; shelf = i.shelf.items; results = i.results.items } in
-    subst (λ (x : Controlling _). IfOk c.act.result (λ _. LeavesShelf g.A.App.kinds g.A.App.states (begins_life x c.args.input) x c.act.new.self)) c.self.view_is
-    (keeps_shelf g.A.App.kinds g.A.App.states c.act.result now c.act.new.self (begins_life now c.args.input) (awake_begins now c.args.input c.in-Some.active (sym c.take.ensures.value ∙ c.in-Some.is)) c.act.ensures.shelf)
+    subst (λ (x : Controlling _). IfOk c.act.result (λ _. LeavesShelf g.A.App.law (begins_life x c.args.input) x c.act.new.self)) c.self.view_is
+    (keeps_shelf g.A.App.law c.act.result now c.act.new.self (begins_life now c.args.input) (awake_begins now c.args.input c.in-Some.active (sym c.take.ensures.value ∙ c.in-Some.is)) c.act.ensures.shelf)
 
 pub returns-in-Some-clause-lost : goal.returns-in-Some-clause-lost
 returns-in-Some-clause-lost g c =
@@ -61,9 +61,9 @@ returns-then-is_restart-clause-shelf g c =
     let now : Controlling _ = record { setup = i.setup; me = i.me; promise = i.promise; life = i.life; acting = i.active; shelf = i.shelf.items; results = i.results.items } in
     let off = sym c.take.ensures.value ∙ c.in-None.is in
     let told = sym c.is_restart.ensures ∙ c.if-is_restart.true in
-    subst (λ (x : Controlling _). IfOk c.restart.result (λ _. LeavesShelf g.A.App.kinds g.A.App.states (begins_life x c.args.input) x c.restart.new.self)) c.self.view_is
-    (restart_leaves g.A.App.kinds g.A.App.states c.restart.result now c.restart.new.self (begins_life now c.args.input) (nat_lt i.life last_life) (restart_begins now c.args.input off told) off
-    (subst (λ (o : Option (Acting _)). IfOk c.restart.result (λ _. LeavesShelf g.A.App.kinds g.A.App.states (nat_lt i.life last_life) (record now { acting = o }) c.restart.new.self)) c.take.ensures.after c.restart.ensures.shelf))
+    subst (λ (x : Controlling _). IfOk c.restart.result (λ _. LeavesShelf g.A.App.law (begins_life x c.args.input) x c.restart.new.self)) c.self.view_is
+    (restart_leaves g.A.App.law c.restart.result now c.restart.new.self (begins_life now c.args.input) (nat_lt i.life last_life) (restart_begins now c.args.input off told) off
+    (subst (λ (o : Option (Acting _)). IfOk c.restart.result (λ _. LeavesShelf g.A.App.law (nat_lt i.life last_life) (record now { acting = o }) c.restart.new.self)) c.take.ensures.after c.restart.ensures.shelf))
 
 pub returns-then-is_restart-clause-lost : goal.returns-then-is_restart-clause-lost
 returns-then-is_restart-clause-lost g c =
@@ -85,5 +85,5 @@ returns-else-is_restart-clause-shelf g c =
     let off = sym c.take.ensures.value ∙ c.in-None.is in
     let told = sym c.is_restart.ensures ∙ c.if-is_restart.false in
     let left : Controlling _ = record now { acting = c.take.new.self } in
-    subst (λ (x : Controlling _). LeavesShelf g.A.App.kinds g.A.App.states (begins_life x c.args.input) x left) c.self.view_is
-    (subst (λ (b : Bool). LeavesShelf g.A.App.kinds g.A.App.states b now left) (sym (dropped_begins now c.args.input off told)) refl)
+    subst (λ (x : Controlling _). LeavesShelf g.A.App.law (begins_life x c.args.input) x left) c.self.view_is
+    (subst (λ (b : Bool). LeavesShelf g.A.App.law b now left) (sym (dropped_begins now c.args.input off told)) refl)

@@ -4,4 +4,4 @@ use Rattle.rv_model.proofs.single.Single.run.Given as goal
 
 abbrev pub invariant-loop-event : goal.invariant-loop-event
 invariant-loop-event g l =
-    HasRun g.A.App.kinds g.A.App.most g.A.App.states g.A.App.suits l.initial.app l.app l.lists.items (drop l.event-index l.events) l.events
+    HasRun g.A.App.law l.initial.app l.app l.lists.items (drop l.event-index l.events) l.events

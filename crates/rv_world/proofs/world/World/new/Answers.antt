@@ -1,6 +1,4 @@
 use Rattle.std.proofs.Common.{refl}
-use Rattle.group_controller.specs.Turns.{Controls}
-use Rattle.rv_world.specs.World.{sealing_by}
 use Rattle.rv_world.proofs.Starts.{starts_pairs, world_holds}
 use Rattle.rv_world.proofs.world.World.new.Goals as goal
 
@@ -10,10 +8,10 @@ returns-clause-starts g c = record {
   journal = c.new.ensures;
   rests = refl;
   undecided = c.new-2.ensures.items;
-  pairs = starts_pairs (Controls g.A.App.kinds g.A.App.most g.A.App.states g.A.App.suits) c.args.setup.now c.requires.stocked.0 c.args.setup.now.controllers c.in_ok-controllers_of.field-0.items (c.in_ok-controllers_of.ensures c.requires.stocked.0 c.requires.stocked.1);
+  pairs = starts_pairs g.A.App.law c.args.setup.now c.requires.stocked.0 c.args.setup.now.controllers c.in_ok-controllers_of.field-0.items (c.in_ok-controllers_of.ensures c.requires.stocked.0 c.requires.stocked.1);
 }
 
 pub returns-clause-holds : goal.returns-clause-holds
 returns-clause-holds g c = λ kinds stocked.
-    world_holds (Controls g.A.App.kinds g.A.App.most g.A.App.states g.A.App.suits) (sealing_by g.B.Body.sealed g.B.Body.spelled g.B.Weight.size) kinds _ c.args.setup.now c.in_ok-copy.ensures c.new.ensures refl c.new-2.ensures.items
+    world_holds g.A.App.law g.B.Body.sealing kinds _ c.args.setup.now c.in_ok-copy.ensures c.new.ensures refl c.new-2.ensures.items
     c.requires.setup (c.in_ok-controllers_of.ensures kinds stocked) c.in_ok-switches_of.ensures

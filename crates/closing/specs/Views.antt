@@ -1,0 +1,22 @@
+-- How great a view may be. Its field in a letter has 32 bits, so each bound is told with what keeps the views behind it
+-- below 2^32.
+use Rattle.std.specs.Prelude.{ℕ}
+
+-- a step of a script suspects no greater view: the eight attempts that a closing behind it may take add 64 at most
+abbrev pub most_view_of_a_script : ℕ
+most_view_of_a_script = 4000000000
+
+-- an attempt of a closing adds no more to the greatest view: one, to be above it, and up to seven, to find a primary that
+-- takes part
+abbrev pub views_of_an_attempt : ℕ
+views_of_an_attempt = 8
+
+-- an attempt of a closing begins with no greater view: at most seven failed before it, each of which lost a controller, and
+-- they added 56 at most
+abbrev pub most_view_of_a_closing : ℕ
+most_view_of_a_closing = 4100000000
+
+-- a primary that takes part is looked for from no greater view: it is found within as many views as a group has
+-- controllers, seven at most
+abbrev pub most_view_to_look_from : ℕ
+most_view_to_look_from = 4200000000

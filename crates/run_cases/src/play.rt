@@ -1,0 +1,123 @@
+//! The play of a case, in each way that it asks for.
+ghost use Rattle.std.specs.Prelude.{◌<◌};
+
+use crate::serving::{PLAIN, Way, serve};
+use cases::{Answer, Call, Case, Difference, words_of};
+use of_types::Octets;
+use std::alloc::Global;
+
+/// What a call writes whose source failed, and its status.
+const UNREAD: &[u8] = b"fault 4 read\n";
+
+const UNREAD_STATUS: u8 = 4;
+
+/// The status of a call whose sink failed.
+const UNWRITTEN_STATUS: u8 = 5;
+
+/// What the audit of a report without a fault writes.
+const SAME: &[u8] = b"same\n";
+
+/// Plays it, and tells the first thing that differs. A report that a call without a fault wrote is audited.
+pub fn play(alloc: Global, case: &Case) -> Result<(), Difference> {
+    let answer = serve(alloc, &case.call, PLAIN)?;
+    case.wanted.check(alloc, &answer)?;
+    if answer.status == 0 && case.call.is_sim() {
+        check_audit(alloc, answer.written.as_slice())?;
+    }
+    check_lists(alloc, case, &answer)?;
+    for most in &case.pieces {
+        check_pieces(alloc, case, (*most).max(1), &answer)?;
+    }
+    Ok(())
+}
+
+fn check_lists(alloc: Global, case: &Case, answer: &Answer) -> Result<(), Difference> {
+    let Some(from) = case.lists else {
+        return Ok(());
+    };
+    let in_lists = Way {
+        lists: from,
+        ..PLAIN
+    };
+    if serve(alloc, &case.call, in_lists)?.is_same(answer) {
+        Ok(())
+    } else {
+        Err(Difference::Lists { from })
+    }
+}
+
+/// Reads and writes of so many bytes, first with none that fails, and then with each of them failing once. The last read
+/// is the one that finds nothing left.
+fn check_pieces(alloc: Global, case: &Case, most: usize, answer: &Answer) -> Result<(), Difference>
+    requires { 0 < most }
+{
+    if !serve(alloc, &case.call, Way { most, ..PLAIN })?.is_same(answer) {
+        return Err(Difference::Pieces { most });
+    }
+    for number in 0..=case.call.input.len().div_ceil(most) {
+        check_failing_read(alloc, case, most, number)?;
+    }
+    for number in 0..answer.written.len().div_ceil(most) {
+        check_failing_write(alloc, case, most, number, answer.written.as_slice())?;
+    }
+    Ok(())
+}
+
+fn check_failing_read(
+    alloc: Global,
+    case: &Case,
+    most: usize,
+    number: usize,
+) -> Result<(), Difference> {
+    let way = Way {
+        most,
+        failing_read: Some(number as u64),
+        ..PLAIN
+    };
+    let answer = serve(alloc, &case.call, way)?;
+    if answer.status == UNREAD_STATUS && answer.written.as_slice() == UNREAD {
+        Ok(())
+    } else {
+        Err(Difference::FailingRead { most, number })
+    }
+}
+
+/// What was taken is a front of the whole.
+fn check_failing_write(
+    alloc: Global,
+    case: &Case,
+    most: usize,
+    number: usize,
+    whole: &[u8],
+) -> Result<(), Difference> {
+    let way = Way {
+        most,
+        failing_write: Some(number as u64),
+        ..PLAIN
+    };
+    let answer = serve(alloc, &case.call, way)?;
+    let taken = answer.written.as_slice();
+    if answer.status == UNWRITTEN_STATUS
+        && whole.starts_with(taken)
+        && taken.len() <= most.saturating_mul(number)
+    {
+        Ok(())
+    } else {
+        Err(Difference::FailingWrite { most, number })
+    }
+}
+
+/// Audits what was written.
+fn check_audit(alloc: Global, written: &[u8]) -> Result<(), Difference> {
+    let audit = Call {
+        words: words_of(alloc, "audit")?,
+        input: Octets::from_slice(alloc, written)?,
+        saves: Vec::new(alloc),
+    };
+    let answer = serve(alloc, &audit, PLAIN)?;
+    if answer.status == 0 && answer.written.as_slice() == SAME {
+        Ok(())
+    } else {
+        Err(Difference::Audit)
+    }
+}

@@ -1,0 +1,111 @@
+//! Calls of the program, whose ends are in memory.
+ghost use Rattle.std.specs.Prelude.{◌≡◌, IfOk};
+ghost use Rattle.top_call.specs.Play.{AreFresh};
+
+use app_core::Part;
+use cases::{Answer, Call, ControllerSave};
+use firewall_app::Firewall;
+use learning_app::{Learning, PlainLearning};
+use of_types::Octets;
+use rv_base::{FailingSave, MemorySink, MemorySource, MemoryStable, Stable};
+use std::alloc::{AllocError, Global};
+use top_call::{CONTROLLERS, LIVES, push_life, ravana};
+
+/// How a call is played.
+#[derive(Clone, Copy)]
+pub struct Way {
+    /// The most bytes that a read or a write moves.
+    pub most: usize,
+    /// The number of the read that fails, from 0.
+    pub failing_read: Option<u64>,
+    /// The number of the write that fails, from 0.
+    pub failing_write: Option<u64>,
+    /// The controllers from this one on learn in a list, and those before it in a map.
+    pub lists: usize,
+}
+
+/// Reads and writes don't fail, and all controllers learn in maps.
+pub const PLAIN: Way = Way {
+    most: 65_536,
+    failing_read: None,
+    failing_write: None,
+    lists: CONTROLLERS,
+};
+
+/// Serves a call in a way. Each controller runs a firewall before a learning.
+pub fn serve(alloc: Global, call: &Call, way: Way) -> Result<Answer, AllocError> {
+    let bytes = Octets::from_slice(alloc, call.input.as_slice())?;
+    let most = way.most.max(1);
+    let mut source = MemorySource::new(bytes, most, listed(alloc, way.failing_read)?);
+    let mut sink = MemorySink::new(alloc, most, listed(alloc, way.failing_write)?);
+    let mut stables = stables(alloc, &call.saves)?;
+    let mut chains = Vec::new(alloc);
+    'making: for number in 0..(CONTROLLERS * LIVES) as u8 {
+        let mut parts: Vec<Box<dyn Part + Send>> = Vec::new(alloc);
+        parts.push(Box::new(alloc, Firewall::new(alloc))?)?;
+        if usize::from(number) / LIVES < way.lists {
+            parts.push(Box::new(alloc, Learning::new(alloc))?)?;
+            push_life(&mut chains, number, parts)?;
+        } else {
+            parts.push(Box::new(alloc, PlainLearning::new(alloc))?)?;
+            push_life(&mut chains, number, parts)?;
+        }
+    }
+    let status = ravana(
+        alloc,
+        &call.words,
+        &mut source,
+        &mut sink,
+        &mut stables,
+        chains,
+    );
+    Ok(Answer {
+        status,
+        written: Octets::from_slice(alloc, sink.taken())?,
+        failed_saves: failed_of(&stables),
+    })
+}
+
+/// The one number, if any.
+fn listed(alloc: Global, number: Option<u64>) -> Result<Vec<u64>, AllocError> {
+    let mut numbers = Vec::new(alloc);
+    if let Some(number) = number {
+        numbers.push(number)?;
+    }
+    Ok(numbers)
+}
+
+/// The saves of a controller that fail.
+fn failing_of(
+    alloc: Global,
+    saves: &[ControllerSave],
+    controller: usize,
+) -> Result<Vec<FailingSave>, AllocError> {
+    let mut failing = Vec::new(alloc);
+    for own in saves {
+        if own.controller == controller {
+            failing.push(own.save)?;
+        }
+    }
+    Ok(failing)
+}
+
+/// The stable pairs of the most controllers.
+fn stables(alloc: Global, saves: &[ControllerSave]) -> Result<Vec<MemoryStable>, AllocError>
+    ensures { IfOk result (λ stables. AreFresh ⟦<MemoryStable as Stable>⟧.saving stables.items) }
+{
+    let mut stables = Vec::new(alloc);
+    'making: for controller in 0..CONTROLLERS {
+        stables.push(MemoryStable::new(failing_of(alloc, saves, controller)?))?;
+    }
+    Ok(stables)
+}
+
+/// How many saves have failed.
+fn failed_of(stables: &[MemoryStable]) -> u64 {
+    let mut failed = 0u64;
+    for stable in stables {
+        failed = failed.saturating_add(stable.faults());
+    }
+    failed
+}

@@ -5,8 +5,6 @@ mod board;
 mod hold;
 mod place;
 mod rule;
-#[cfg(test)]
-mod tests;
 
 pub use board::Board;
 pub use place::Place;

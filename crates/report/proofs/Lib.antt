@@ -1,3 +1,5 @@
+pub mod WordEnds
+pub mod Pairs
 pub mod Apart
 pub mod Bytes
 pub mod LinesAgain

@@ -1,6 +1,6 @@
 -- The words of a line as they are read. Each stands behind a space, and ends before the next space or the end of the
 -- line. What is read is a value beside the bytes that come behind it, and None where none is there.
-use Rattle.std.specs.Prelude.{◌≡◌, ℕ, ◌+◌, ◌-◌, ◌*◌, Bool, true, false, ◌==◌, ◌&&◌, ◌||◌, nat_eq, nat_le, List, [], ◌∷◌, length, take, drop, position, unwrap_or, Option, Some, None, codes, Result, Ok, Err, if◌then◌else◌}
+use Rattle.std.specs.Prelude.{◌≡◌, ℕ, ◌+◌, ◌-◌, ◌*◌, Bool, true, false, ◌==◌, ◌&&◌, ◌||◌, nat_eq, nat_le, List, [], ◌∷◌, length, take, drop, position, unwrap_or, is_some, Option, Some, None, codes, Result, Ok, Err, if◌then◌else◌}
 use Rattle.std.specs.List.{starts_with}
 use Rattle.numerals.specs.Numerals.{numeral_within}
 use Rattle.rv_base.specs.declared.journal.Actor.{Actor}
@@ -142,6 +142,9 @@ address_at bytes = do
 abbrev pub digit_of : ℕ → Option ℕ
 digit_of d =
     if nat_le 48 d && nat_le d 57 then Some (d - 48) else if nat_le 97 d && nat_le d 102 then Some (d - 87) else None
+
+abbrev pub is_digit : ℕ → Bool
+is_digit d = is_some (digit_of d)
 
 unfoldable pub byte_of : ℕ → ℕ → Option ℕ
 byte_of high low = do

@@ -1,10 +1,12 @@
 //! The words of a line as they are read. Each stands behind a space, and ends before the next space or the end of
 //! the line.
-ghost use Rattle.std.specs.Prelude.{◌≡◌, ◌≤◌, length, position, IfOk, IfSome};
+ghost use Rattle.std.specs.Prelude.{◌≡◌, ◌≤◌, ◌<◌, length, position, Some, true, IfOk, IfSome};
+ghost use Rattle.std.specs.List.{list_all};
 ghost use Rattle.report.specs.Spelled as spelled;
-ghost use Rattle.report.specs.Spelled.{Gives};
+ghost use Rattle.report.specs.Spelled.{Gives, is_digit};
 
 use crate::fault::Misfit;
+use memchr::memchr2;
 use numerals::numeral_within;
 use of_types::Octets;
 use rv_base::Actor;
@@ -39,18 +41,12 @@ pub fn known<'a>(name: &[u8], bytes: &'a [u8]) -> Result<&'a [u8], Misfit>
     after(name, rest)
 }
 
-fn ends_word(byte: u8) -> bool
-    ensures { result ≡ spelled.ends_word byte }
-{
-    byte == b' ' || byte == b'\n'
-}
-
 /// Where a word ends, if it ends.
 fn word_end(text: &[u8]) -> Option<usize>
     ensures exact { result ≡ position spelled.ends_word text.now }
     ensures within { IfSome result (λ n. n ≤ length text.now) }
 {
-    text.iter().position(|byte| ends_word(*byte))
+    memchr2(b' ', b'\n', text)
 }
 
 /// A word, and what comes behind it.
@@ -261,44 +257,44 @@ pub fn address(bytes: &[u8]) -> Result<(u32, &[u8]), Misfit>
     Ok((address, rest))
 }
 
-/// The number of a digit of base sixteen, in lower case.
-fn digit_of(digit: u8) -> Option<u8>
-    ensures { result ≡ spelled.digit_of digit }
+/// Whether a byte is a digit of base sixteen, in lower case.
+fn is_digit(digit: u8) -> bool
+    ensures { result ≡ is_digit digit }
 {
-    match digit {
-        b'0'..=b'9' => Some(digit - b'0'),
-        b'a'..=b'f' => Some(digit - 87),
-        _ => None,
+    matches!(digit, b'0'..=b'9' | b'a'..=b'f')
+}
+
+/// The number of such a digit.
+fn value_of(digit: u8) -> u8
+    requires { is_digit digit ≡ true }
+    ensures value { spelled.digit_of digit ≡ Some result }
+    ensures small { result < 16 }
+{
+    if digit < b'a' {
+        digit - b'0'
+    } else {
+        digit - 87
     }
 }
 
-#[tactic(auto, unfolding(crate::specs::Spelled::byte_of))]
-fn byte_of(high: u8, low: u8) -> Option<u8>
-    ensures { result ≡ spelled.byte_of high low }
+fn are_digits(digits: &[u8]) -> bool
+    ensures { result ≡ list_all is_digit digits.now }
 {
-    let high = digit_of(high)?;
-    let low = digit_of(low)?;
-    Some(16 * high + low)
+    digits.iter().all(|digit| is_digit(*digit))
 }
 
 fn digits_of(alloc: Global, digits: &[u8]) -> Result<Octets, Misfit>
     ensures { Gives (λ x. x) result (spelled.digits_of digits.now) }
 {
-    let mut bytes = Vec::with_capacity(alloc, digits.len() / 2)?;
-    let mut rest = digits;
-    'pairs: while rest.len() >= 2 {
-        let Some(byte) = byte_of(rest[0], rest[1]) else {
-            return Err(Misfit::Text);
-        };
-        bytes.push(byte)?;
-        let (_, after) = rest.split_at(2);
-        rest = after;
+    if digits.len() % 2 == 1 || !are_digits(digits) {
+        return Err(Misfit::Text);
     }
-    if rest.is_empty() {
-        Ok(Octets::from_vec(bytes))
-    } else {
-        Err(Misfit::Text)
+    let mut bytes = Vec::new(alloc);
+    bytes.resize(digits.len() / 2, 0)?;
+    for index in 0..digits.len() / 2 {
+        bytes[index] = 16 * value_of(digits[2 * index]) + value_of(digits[2 * index + 1]);
     }
+    Ok(Octets::from_vec(bytes))
 }
 
 /// The bytes of a text in base sixteen.

@@ -1,5 +1,5 @@
 //! The words of a line, each behind a space.
-ghost use Rattle.std.specs.Prelude.{◌≡◌, ◌<◌, ◌∷◌, ◌++◌, OnOk};
+ghost use Rattle.std.specs.Prelude.{◌≡◌, ◌<◌, ◌≤◌, ◌*◌, ◌∷◌, ◌++◌, OnOk, drop, length};
 ghost use Rattle.std.specs.Fmt.{decimal};
 ghost use Rattle.report.specs.Report.{hex_digit, hex_of, hex, word, newline, actor_word, flag, number_or_dash, master_word, address_word};
 
@@ -123,11 +123,31 @@ fn hex_digit(n: u8) -> u8
     if n >= 10 { n + 87 } else { n + 48 }
 }
 
+/// So many bytes are spelled at a time.
+const PIECE: usize = 64;
+
+/// Spells bytes by two digits each in the front of a room.
+fn spell_pairs(room: &mut [u8], bytes: &[u8])
+    requires { 2 * length bytes.now ≤ length room.old }
+    ensures { room.new ≡ hex_of bytes.now ++ drop (2 * length bytes.now) room.old }
+{
+    for index in 0..bytes.len() {
+        let byte = bytes[index];
+        room[2 * index] = hex_digit(byte / 16);
+        room[2 * index + 1] = hex_digit(byte % 16);
+    }
+}
+
 fn write_digit_pairs(out: &mut Octets, bytes: &[u8]) -> Result<(), AllocError>
     ensures { OnOk result (out.new ≡ out.old ++ hex_of bytes.now) }
 {
-    for byte in bytes {
-        out.append(&[hex_digit(byte / 16), hex_digit(byte % 16)])?;
+    let mut room = [0; 2 * PIECE];
+    let mut rest = bytes;
+    'pieces: while !rest.is_empty() {
+        let (piece, behind) = rest.split_at(rest.len().min(PIECE));
+        spell_pairs(&mut room, piece);
+        out.append(&room[..2 * piece.len()])?;
+        rest = behind;
     }
     Ok(())
 }

@@ -2,7 +2,7 @@
 
 use of_types::Octets;
 use rv_actors::Bytes;
-use rv_bodies::Body;
+use rv_bodies::{Body, seal};
 use rv_runs::{Message, Unsealed, Way};
 use std::alloc::{AllocError, Global};
 use std::test::Fail;
@@ -52,7 +52,7 @@ const BODIES: &[(Way, &str, &str)] = &[
 
 /// A message by its canonical bytes.
 fn told(alloc: Global, message: Message) -> Result<String, AllocError> {
-    let body = Bytes::seal(alloc, message)?;
+    let body = seal::<Bytes>(alloc, &message)?;
     let digits = hex::encode(alloc, body.as_slice())?;
     format!(in alloc; "ok {digits}")
 }

@@ -22,7 +22,7 @@ use Rattle.rv_runs.specs.Schedule.{Phase}
 use Rattle.rv_world.specs.declared.debt.Debt.{Debt}
 use Rattle.rv_world.specs.World.{Applies, Holds, IfMemory, IsStuck, Keeps, PairsStand, TurnStops, Worlding, scene_in}
 use Rattle.rv_laws.specs.Laws.{EntrySuspectsUpTo, IsSuspectedUpTo}
-use Rattle.closing.specs.Closing.{ClosesIn, Leads, Rests, Stage, StandsAt, work_left}
+use Rattle.closing.specs.Closing.{ClosesIn, LeadsTo, Rests, Stage, StandsAt, work_left}
 use Rattle.closing.proofs.Worlds.{Runs}
 use Rattle.closing.proofs.Turned.{PostsOf, No_post, One_post, Added, added, added_alone, Turned, more_told, past_added}
 use Rattle.closing.proofs.Moves.{First}
@@ -72,7 +72,7 @@ module _ {B A W : Type 0} (law : AppLaw A) (saving : Saving W) (sealing : Sealin
       by_owed (Some d) is = tt
 
   pub stop_leads : {T : Type 0} (first : Stage B A) (next : T → Stage B A) → Cuts first → (stop : Stop) → IfMemory {T = T} (Err stop) (Keeps law saving sealing old stables new stables_after) →
-      TurnStops sealing.size step old new stop → Leads law sealing first (StandsAt next (Err stop)) old new
+      TurnStops sealing.size step old new stop → LeadsTo law sealing first (StandsAt next (Err stop)) old new
   stop_leads first next cuts OutOfMemory k stops kinds holds start c = tt
   stop_leads first next cuts (JournalFull bytes letters) k (stuck, inl same) kinds holds start c = absurd (never_stuck bytes letters stuck same)
   stop_leads first next cuts (JournalFull bytes letters) k (stuck, inr grown) kinds holds start c =
@@ -83,7 +83,7 @@ module _ {B A W : Type 0} (law : AppLaw A) (saving : Saving W) (sealing : Sealin
   pub turn_leads : {T : Type 0} (first : Stage B A) (next : T → Stage B A) → Cuts first →
       ((x : T) (kinds : List ℕ) → Turned law (scene_in sealing old kinds) e old new → (start : Worlding B A) → first (scene_in sealing old kinds) start old → next x (scene_in sealing old kinds) start new) →
       (result : Result T Stop) → OnOk result (Applies sealing.size step old new) → IfMemory result (Keeps law saving sealing old stables new stables_after) →
-      IfErr result (λ stop. TurnStops sealing.size step old new stop) → Leads law sealing first (StandsAt next result) old new
+      IfErr result (λ stop. TurnStops sealing.size step old new stop) → LeadsTo law sealing first (StandsAt next result) old new
   turn_leads first next cuts goes (Ok x) t k stops kinds holds start c = goes x kinds (turned kinds holds k t) start c
   turn_leads first next cuts goes (Err OutOfMemory) t k stops kinds holds start c = tt
   turn_leads first next cuts goes (Err (JournalFull bytes letters)) t k stops kinds holds start c = stop_leads first next cuts (JournalFull bytes letters) k stops kinds holds start c
@@ -157,7 +157,7 @@ takes_less place e old new posts a f of grown counts pools within =
 
 -- one part of a closing after another
 pub leads_then : {B A : Type 0} (law : AppLaw A) (sealing : Sealing B) (first next last : Stage B A) (old mid new : Worlding B A) → mid.setup ≡ old.setup →
-    ((kinds : List ℕ) → Holds law sealing old kinds → Holds law sealing mid kinds) → Leads law sealing first next old mid → Leads law sealing next last mid new → Leads law sealing first last old new
+    ((kinds : List ℕ) → Holds law sealing old kinds → Holds law sealing mid kinds) → LeadsTo law sealing first next old mid → LeadsTo law sealing next last mid new → LeadsTo law sealing first last old new
 leads_then law sealing first next last old mid new same keeps a b kinds holds start c =
     subst (λ (s : Setup). last (record { setup = s; kinds = kinds; sealing = sealing }) start new) same
     (b kinds (keeps kinds holds) start (subst (λ (s : Setup). next (record { setup = s; kinds = kinds; sealing = sealing }) start mid) (sym same) (a kinds holds start c)))

@@ -5,3 +5,4 @@ pub mod Moves
 pub mod Leading
 pub mod Stepping
 pub mod Parts
+pub mod Ended

@@ -8,7 +8,8 @@ use Rattle.vr_log.specs.Members.{is_up}
 use Rattle.group_controller.specs.State.{ControllerState}
 use Rattle.rv_runs.specs.Committed.{members_up}
 use Rattle.rv_runs.specs.Schedule.{bound_of, first_view, quorum_of}
-use Rattle.closing.specs.Closing.{has, bound_with, member_in}
+use Rattle.closing_laws.specs.Quorum.{has}
+use Rattle.closing.specs.Closing.{bound_with, member_in}
 
 -- what is behind a place begins with what is there
 pub drop_next : {X : Type 0} (xs : List X) (i : ℕ) (x : X) → slice_get xs i ≡ Some x → drop i xs ≡ x ∷ drop (suc i) xs

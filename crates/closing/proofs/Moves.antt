@@ -29,7 +29,8 @@ use Rattle.rv_world.specs.World.{AreMore, Worlding, results_in}
 use Rattle.rv_world.proofs.Growing.{no_more}
 use Rattle.closing.specs.declared.closed.Came.{Came}
 use Rattle.closing.specs.declared.closed.Came.TheVariants as came
-use Rattle.closing.specs.Closing.{CameTo, came_met, came_of, ClosesIn, Drains, has, IsFirst, Stage, Suspects, UpBy, up_in}
+use Rattle.closing_laws.specs.Quorum.{has}
+use Rattle.closing.specs.Closing.{CameTo, came_met, came_of, ClosesIn, Drains, IsFirst, Stage, Suspects, UpBy, up_in}
 use Rattle.closing.proofs.Worlds.{Runs, KnowsItself, member_of}
 use Rattle.closing.proofs.Turned.{Turned, lost_state, other_state, more_before, state_behind, turned_state, closes_turn, same_ups, was_up, Others, still_up, one_down}
 

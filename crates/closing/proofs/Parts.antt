@@ -1,6 +1,6 @@
 -- Parts of a closing: what they keep of a world, how it begins, and how it ends.
-use Rattle.std.proofs.Common.{◌≡◌, ◌≤◌, ◌<◌, ℕ, ◌+◌, Bool, true, false, List, [], ◌∷◌, ◌++◌, length, zero, suc, refl, sym, ◌∙◌, ap, subst, arith, append_assoc, append-nil}
-use Rattle.std.specs.Prelude.{◌%◌, ◌/◌, nat_lt, reverse, slice_get, Contains, Option, Some, None, OnOk, Result, Ok, Err, if◌then◌else◌}
+use Rattle.std.proofs.Common.{◌≡◌, ◌≤◌, ◌<◌, ℕ, ◌+◌, Bool, true, false, List, [], ◌∷◌, ◌++◌, length, refl, sym, ◌∙◌, ap, subst, arith, append_assoc, append-nil}
+use Rattle.std.specs.Prelude.{◌%◌, ◌/◌, nat_lt, reverse, slice_get, Option, Some, None, OnOk, Result, Ok, Err, if◌then◌else◌}
 use Rattle.std.proofs.lemmas.Bool.{ltb-true, ltb-false}
 use Rattle.std.proofs.lemmas.List.{length-map}
 use Rattle.of_types.specs.declared.setup.Setup.{Setup}
@@ -34,7 +34,8 @@ use Rattle.rv_world.proofs.Stables.{each_told_then, unsaved_told}
 use Rattle.closing.specs.declared.closed.Came.{Came}
 use Rattle.closing.specs.declared.closed.Came.TheVariants as came
 use Rattle.rv_laws.specs.Laws.{IsSuspectedUpTo, SuspectsUpTo}
-use Rattle.closing.specs.Closing.{CameTo, ClosesIn, ClosingStops, Drained, EndsBy, HasClosed, is_over, Leads, Rests, Stage, StandsAt, states_in, Suspects, up_in}
+use Rattle.closing_laws.proofs.Walking.{seven_at_most}
+use Rattle.closing.specs.Closing.{CameTo, ClosesIn, ClosingStops, Drained, EndsBy, HasClosed, is_over, LeadsTo, Rests, Stage, StandsAt, states_in, Suspects, up_in}
 use Rattle.closing.specs.Views.{views_of_an_attempt}
 use Rattle.closing.proofs.Worlds.{Runs, posted_is, states_are}
 use Rattle.closing.proofs.Turned.{joins, past_joined}
@@ -165,7 +166,7 @@ module _ {B A W : Type 0} (law : AppLaw A) (saving : Saving W) (sealing : Sealin
         by_letters [] = refl
         by_letters (l ∷ letters) = (debtor, refl)
 
-    pub post_leads : Leads law sealing (ClosesIn Losing) (ClosesIn Losing) old new
+    pub post_leads : LeadsTo law sealing (ClosesIn Losing) (ClosesIn Losing) old new
     post_leads kinds holds start c =
         let scene = scene_in sealing old kinds in
         let posts = posts_of sealing.size old.owed old.journal in
@@ -263,14 +264,7 @@ module _ {B A : Type 0} (law : AppLaw A) (scene : Scene B) (start now : Worlding
       fewer : next_view {B = B} scene.setup.controllers (states_in now.controllers) ≡ Ends (schedule.NoQuorum (length (up_in now)) (majority scene.setup.controllers))
       fewer = many (length (up_in now)) (majority scene.setup.controllers) _ _ (subst (λ a. a < majority scene.setup.controllers) up_is (subst (λ b. up < b) needed_is less))
 
--- a group has up to seven controllers, and no more take part
-seven_at_most : (n : ℕ) → Contains (1 ∷ 3 ∷ 5 ∷ 7 ∷ []) n → n ≤ 7
-seven_at_most n (zero, less, e) = rw (sym e) (omega arith)
-seven_at_most n (suc zero, less, e) = rw (sym e) (omega arith)
-seven_at_most n (suc (suc zero), less, e) = rw (sym e) (omega arith)
-seven_at_most n (suc (suc (suc zero)), less, e) = rw (sym e) (omega arith)
-seven_at_most n (suc (suc (suc (suc k))), less, e) = absurd (omega (arith, less))
-
+-- no more take part than a group has, which are up to seven
 up_short : (states : List ControllerState) → length (members_up states) ≤ length states
 up_short [] = omega arith
 up_short (s ∷ states) = by_up (is_up s.vr) refl (up_short states)

@@ -22,7 +22,8 @@ use Rattle.rv_runs.specs.Committed.{states_of}
 use Rattle.rv_runs.specs.Schedule.{Losing, Suspecting, Draining, IsMove, is_drawn, after_move}
 use Rattle.rv_world.specs.World.{Applies, Holds, IfMemory, Keeps, PairsStand, TurnStops, Worlding, results_in, scene_in}
 use Rattle.closing.specs.declared.closed.Came.{Came}
-use Rattle.closing.specs.Closing.{CameAt, CameTo, came_of, ClosesIn, Drains, has, IsFirst, Leads, Stage, StandsAt, Suspects, UpBy, up_in, work_left}
+use Rattle.closing_laws.specs.Quorum.{has}
+use Rattle.closing.specs.Closing.{CameAt, CameTo, came_of, ClosesIn, Drains, IsFirst, LeadsTo, Stage, StandsAt, Suspects, UpBy, up_in, work_left}
 use Rattle.closing.proofs.Worlds.{KnowsItself}
 use Rattle.closing.proofs.Turned.{Turned, added, cut_turn, more_before}
 use Rattle.closing.proofs.Moves.{First, first_packet, first_named, took_lose, took_draw, lost_move, drained_lost, drained_drawn, loses, loses_drained, lost_ups, suspects_turn, draws_turn, turn_ups, draws_switch, switch_ups}
@@ -55,7 +56,7 @@ module _ {B A W : Type 0} (law : AppLaw A) (knows : (x : Controlling A) (kinds :
     named = first_named (λ a. IsActor old.setup a) place (past old.journal) found addressed
 
     pub lose_closes : {T : Type 0} (result : Result T Stop) → OnOk result (Applies sealing.size (turn.Lose place.to 0) old new) → IfMemory result Kept → IfErr result (λ stop. TurnStops sealing.size (turn.Lose place.to 0) old new stop) →
-        Leads law sealing (ClosesIn Losing) (StandsAt (λ _. ClosesIn Losing) result) old new
+        LeadsTo law sealing (ClosesIn Losing) (StandsAt (λ _. ClosesIn Losing) result) old new
     lose_closes result t k stops =
         turn_leads law saving sealing old stables new stables_after (turn.Lose place.to 0) Lost rested pairs (took_lose place (past old.journal) found) refl named refl (ClosesIn Losing) (λ _. ClosesIn Losing)
         (λ kinds turn start c.
@@ -66,7 +67,7 @@ module _ {B A W : Type 0} (law : AppLaw A) (knows : (x : Controlling A) (kinds :
 
     pub lose_drains : (view : ℕ) (quorum : List ℕ) → is_drawn quorum place.from place.to ≡ false →
         {T : Type 0} (result : Result T Stop) → OnOk result (Applies sealing.size (turn.Lose place.to 0) old new) → IfMemory result Kept → IfErr result (λ stop. TurnStops sealing.size (turn.Lose place.to 0) old new stop) →
-        Leads law sealing (Drains view quorum) (StandsAt (λ _. Drains view quorum) result) old new
+        LeadsTo law sealing (Drains view quorum) (StandsAt (λ _. Drains view quorum) result) old new
     lose_drains view quorum drawn result t k stops =
         turn_leads law saving sealing old stables new stables_after (turn.Lose place.to 0) Lost rested pairs (took_lose place (past old.journal) found) refl named refl (Drains view quorum) (λ _. Drains view quorum)
         (λ kinds turn start c.
@@ -104,7 +105,7 @@ module _ {B A W : Type 0} (law : AppLaw A) (knows : (x : Controlling A) (kinds :
 
     module _ (view : ℕ) (quorum : List ℕ) (drawn : is_drawn quorum place.from place.to ≡ true) where
       pub draw_cut : {T : Type 0} (next : T → Stage B A) (stop : Stop) → IfMemory {T = T} (Err stop) Kept → TurnStops sealing.size (turn.Draw place.to 0 false) old new stop →
-          Leads law sealing (Drains view quorum) (StandsAt next (Err stop)) old new
+          LeadsTo law sealing (Drains view quorum) (StandsAt next (Err stop)) old new
       draw_cut next stop k stops =
           stop_leads law saving sealing old stables new stables_after (turn.Draw place.to 0 false) Drawn rested pairs (took_draw place (past old.journal) found) refl named refl (Drains view quorum) next
           (λ kinds turn start c.
@@ -120,7 +121,7 @@ module _ {B A W : Type 0} (law : AppLaw A) (knows : (x : Controlling A) (kinds :
         took : (kinds : List ℕ) → Holds law sealing old kinds → Turned law (scene_in sealing old kinds) Drawn old new
         took kinds holds = turned law saving sealing old stables new stables_after (turn.Draw place.to 0 false) Drawn rested pairs (took_draw place (past old.journal) found) refl named refl kinds holds k t
 
-        pub draw_leads : (a : Actor) → place.to ≡ a → (cause : Came) → CameAt view new a cause → Leads law sealing (Drains view quorum) (CameTo (Drains view quorum) cause) old new
+        pub draw_leads : (a : Actor) → place.to ≡ a → (cause : Came) → CameAt view new a cause → LeadsTo law sealing (Drains view quorum) (CameTo (Drains view quorum) cause) old new
         draw_leads (actor.Controller c) mine cause at kinds holds start s =
             let scene = scene_in sealing old kinds in
             let turn = took kinds holds in
@@ -153,7 +154,7 @@ module _ {B A W : Type 0} (law : AppLaw A) (knows : (x : Controlling A) (kinds :
     Suspicion = Local (actor.Controller c) (local.Suspect view)
 
     pub suspect_cut : (quorum members : List ℕ) {T : Type 0} (next : T → Stage B A) (stop : Stop) → IfMemory {T = T} (Err stop) Kept → TurnStops sealing.size (turn.Local (actor.Controller c) (local.Suspect view)) old new stop →
-        Leads law sealing (Suspects view quorum (c ∷ members)) (StandsAt next (Err stop)) old new
+        LeadsTo law sealing (Suspects view quorum (c ∷ members)) (StandsAt next (Err stop)) old new
     suspect_cut quorum members next stop k stops =
         stop_leads law saving sealing old stables new stables_after (turn.Local (actor.Controller c) (local.Suspect view)) Suspicion rested pairs refl refl there refl (Suspects view quorum (c ∷ members)) next
         (λ kinds turn start s.
@@ -169,7 +170,7 @@ module _ {B A W : Type 0} (law : AppLaw A) (knows : (x : Controlling A) (kinds :
       suspected : (kinds : List ℕ) → Holds law sealing old kinds → Turned law (scene_in sealing old kinds) Suspicion old new
       suspected kinds holds = turned law saving sealing old stables new stables_after (turn.Local (actor.Controller c) (local.Suspect view)) Suspicion rested pairs refl refl there refl kinds holds k t
 
-      pub suspect_leads : (quorum members : List ℕ) → Leads law sealing (Suspects view quorum (c ∷ members)) (CameTo (Suspects view quorum members) cause) old new
+      pub suspect_leads : (quorum members : List ℕ) → LeadsTo law sealing (Suspects view quorum (c ∷ members)) (CameTo (Suspects view quorum members) cause) old new
       suspect_leads quorum members kinds holds start s =
           let scene = scene_in sealing old kinds in
           let turn = suspected kinds holds in

@@ -28,7 +28,8 @@ use Rattle.rv_world.specs.declared.debt.Debt.{Debt}
 use Rattle.rv_world.specs.World.{AreMore, AreTold, Applies, PairsStand, Worlding, posts_of, results_in, taken}
 use Rattle.rv_world.proofs.Growing.{more_then, no_more}
 use Rattle.rv_world.proofs.Places.{results_at}
-use Rattle.closing.specs.Closing.{ClosesIn, has, up_in}
+use Rattle.closing_laws.specs.Quorum.{has}
+use Rattle.closing.specs.Closing.{ClosesIn, up_in}
 use Rattle.closing.proofs.Lists.{members_same, members_less, member_there}
 use Rattle.closing.proofs.Worlds.{Runs, KnowsItself, posted_is, state_is, states_are}
 

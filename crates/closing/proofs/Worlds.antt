@@ -23,7 +23,8 @@ use Rattle.rv_runs.specs.Schedule.{IsPosted, bound_of, owed_of}
 use Rattle.rv_runs.proofs.Pasts.{from_some}
 use Rattle.rv_world.specs.World.{AreMore, Holds, HoldsAt, Worlding, debt_of, results_in, scene_in}
 use Rattle.rv_world.proofs.Growing.{same_at, no_more}
-use Rattle.closing.specs.Closing.{AreViewsUpTo, has, states_in, up_in, member_in, bound_with}
+use Rattle.closing_laws.specs.Quorum.{has}
+use Rattle.closing.specs.Closing.{HaveViewsUpTo, states_in, up_in, member_in, bound_with}
 use Rattle.closing.proofs.Lists.{bound_limit, map_range, member_there, members_next, bound_next}
 
 -- the state of a controller, by its number
@@ -43,7 +44,7 @@ bounded bound next i controllers x found is before =
     ap (λ b. max b (bound_of (drop (i + 1) (states_in controllers)))) is ∙ bound_next bound i (states_in controllers) (state_of x) (state_at controllers i x found) ∙ before
 
 -- the bound of a world whose views are not above a limit
-pub bound_near : {A : Type 0} (limit : ℕ) (controllers : List (Controlling A)) → AreViewsUpTo limit controllers → bound_of (states_in controllers) ≤ limit + 1
+pub bound_near : {A : Type 0} (limit : ℕ) (controllers : List (Controlling A)) → HaveViewsUpTo limit controllers → bound_of (states_in controllers) ≤ limit + 1
 bound_near {A = A} limit controllers views = bound_limit limit (states_in controllers) each
   where
     by_found : (i : ℕ) (s : ControllerState) (o : Option (Controlling A)) → slice_get controllers i ≡ o → option_map (λ c. state_of c) o ≡ Some s → (s.vr.view ≤ limit) × (s.vr.promise ≤ limit)
@@ -140,7 +141,7 @@ module _ {B A : Type 0} (law : AppLaw A) (scene : Scene B) (w : Worlding B A) (r
 
 -- no controller of a world has, or has promised, a view above the greatest that was suspected
 pub views_known : {B A : Type 0} (law : AppLaw A) (sealing : Sealing B) → IsFaithful sealing → (w : Worlding B A) (kinds : List ℕ) → Holds law sealing w kinds →
-    (limit : ℕ) → IsSuspectedUpTo limit (past w.journal) → AreViewsUpTo limit w.controllers
+    (limit : ℕ) → IsSuspectedUpTo limit (past w.journal) → HaveViewsUpTo limit w.controllers
 views_known law sealing faithful w kinds h limit suspected c x found =
     let run = h.run in
     let within = slice_get_within w.controllers c x found in

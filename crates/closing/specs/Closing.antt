@@ -1,10 +1,8 @@
 -- How a closing goes on in a world, whatever becomes of later saves.
 use Rattle.std.specs.Prelude.{◌≡◌, ◌<◌, ◌≤◌, ℕ, ◌+◌, ◌-◌, ◌%◌, suc, max, Bool, true, false, not, nat_eq, List, [], ◌∷◌, ◌++◌, length, map, slice_get, Option, Some, None, Result, Ok, Err, if◌then◌else◌}
-use Rattle.std.specs.List.{list_any}
 use Rattle.rv_base.specs.declared.journal.Actor.{Actor}
 use Rattle.rv_base.specs.declared.journal.Actor.TheVariants as actor
 use Rattle.rv_base.specs.declared.journal.JournalEntry.{JournalEntry}
-use Rattle.rv_base.specs.declared.journal.Local.TheVariants as local
 use Rattle.rv_base.specs.declared.journal.Packet.{Packet}
 use Rattle.rv_base.specs.declared.journal.SaveResult.{SaveResult}
 use Rattle.rv_base.specs.declared.place.PacketPlace.{PacketPlace}
@@ -13,16 +11,21 @@ use Rattle.rv_base.specs.declared.wire.Stop.TheVariants.{OutOfMemory, JournalFul
 use Rattle.rv_base.specs.Limits.{letters_limit}
 use Rattle.rv_base.specs.Places.{IsFound}
 use Rattle.rv_base.specs.Pool.{past, pool, letters_posted}
+use Rattle.vr_log.specs.declared.entry.Entry.{Entry}
 use Rattle.vr_log.specs.declared.entry.LogFull.{LogFull}
 use Rattle.vr_log.specs.Members.{is_up}
 use Rattle.app_core.specs.Law.{AppLaw}
 use Rattle.group_controller.specs.State.{ControllerState}
 use Rattle.group_controller.specs.Turns.{Controlling, state_of}
 use Rattle.rv_runs.specs.States.{Scene, Sealing}
-use Rattle.rv_runs.specs.Committed.{members_up}
+use Rattle.rv_runs.specs.Bound.{IsQuick, IsSharplyBounded}
+use Rattle.rv_runs.specs.Committed.{count_up, members_up}
 use Rattle.rv_runs.specs.Schedule.{Phase, Losing, Met, Move, Answer, majority, next_move, next_suspicion, next_drained, ClosesTo, Closes}
 use Rattle.rv_runs.specs.Schedule as schedule
 use Rattle.rv_laws.specs.Laws.{IsSuspectedUpTo}
+use Rattle.closing_laws.specs.Ends.{HasRested}
+use Rattle.closing_laws.specs.Starts.{SavesSucceed}
+use Rattle.closing_laws.specs.Stops.{IsAtLimit}
 use Rattle.rv_world.specs.World.{AreMore, Holds, IsStuck, Worlding, results_in, scene_in}
 use Rattle.closing.specs.declared.closed.Came.{Came}
 use Rattle.closing.specs.declared.closed.Came.TheVariants as came
@@ -35,10 +38,6 @@ answer_of (closed.Done primary) = schedule.Done primary
 answer_of (closed.NoQuorum up needed) = schedule.NoQuorum up needed
 answer_of (closed.Overfull limit) = schedule.Overfull limit
 
--- whether a number is one of these
-abbrev pub has : List ℕ → ℕ → Bool
-has numbers n = list_any (λ m. nat_eq m n) numbers
-
 -- the states of controllers, and the numbers of those that take part in a world
 abbrev pub states_in : {A : Type 0} → List (Controlling A) → List ControllerState
 states_in controllers = map (λ c. state_of c) controllers
@@ -46,9 +45,9 @@ states_in controllers = map (λ c. state_of c) controllers
 abbrev pub up_in : {B A : Type 0} → Worlding B A → List ℕ
 up_in w = members_up (states_in w.controllers)
 
--- of the group of one world a majority takes part in another, where a closing is done
+-- where a closing is done, its primary is of the group of one world, and a majority of that group takes part in another
 abbrev pub HasMajority : {B A : Type 0} → Closed → Worlding B A → Worlding B A → Type 0
-HasMajority (closed.Done primary) old new = majority old.setup.controllers ≤ length (up_in new)
+HasMajority (closed.Done primary) old new = (primary < old.setup.controllers) × (majority old.setup.controllers ≤ length (up_in new))
 HasMajority (closed.NoQuorum up needed) old new = Unit {0}
 HasMajority (closed.Overfull limit) old new = Unit {0}
 
@@ -72,8 +71,8 @@ abbrev pub HasLessLeft : {B A : Type 0} → Worlding B A → Worlding B A → Ty
 HasLessLeft old new = work_left (past new.journal) < work_left (past old.journal)
 
 -- no controller has a view, or has promised one, above a limit
-abbrev pub AreViewsUpTo : {A : Type 0} → ℕ → List (Controlling A) → Type 0
-AreViewsUpTo {A = A} limit controllers = (c : ℕ) (x : Controlling A) → slice_get controllers c ≡ Some x → ((state_of x).vr.view ≤ limit) × ((state_of x).vr.promise ≤ limit)
+abbrev pub HaveViewsUpTo : {A : Type 0} → ℕ → List (Controlling A) → Type 0
+HaveViewsUpTo {A = A} limit controllers = (c : ℕ) (x : Controlling A) → slice_get controllers c ≡ Some x → ((state_of x).vr.view ≤ limit) × ((state_of x).vr.promise ≤ limit)
 
 -- this place is that of the packet of the lowest number
 abbrev pub IsFirst : {B : Type 0} → PacketPlace → List (JournalEntry B) → Type 0
@@ -153,8 +152,8 @@ StandsAt stage (Err OutOfMemory) scene start now = Unit {0}
 StandsAt stage (Err (JournalFull bytes letters)) scene start now = IsCutAt bytes letters scene start now
 
 -- wherever it began, a closing at one stage in a world is at another stage in a later world
-abbrev pub Leads : {B A : Type 0} → AppLaw A → Sealing B → Stage B A → Stage B A → Worlding B A → Worlding B A → Type 0
-Leads {B = B} {A = A} law sealing first next old new = (kinds : List ℕ) → Holds law sealing old kinds → (start : Worlding B A) →
+abbrev pub LeadsTo : {B A : Type 0} → AppLaw A → Sealing B → Stage B A → Stage B A → Worlding B A → Worlding B A → Type 0
+LeadsTo {B = B} {A = A} law sealing first next old new = (kinds : List ℕ) → Holds law sealing old kinds → (start : Worlding B A) →
     first (scene_in sealing old kinds) start old → next (scene_in sealing old kinds) start new
 
 -- Where the calls of a closing lead it. Each may stop instead, and each that tells what it came to may come to a failed save,
@@ -162,28 +161,28 @@ Leads {B = B} {A = A} law sealing first next old new = (kinds : List ℕ) → Ho
 
 -- it stays at its stage
 abbrev pub StaysAt : {T B A : Type 0} → AppLaw A → Sealing B → Stage B A → Result T Stop → Worlding B A → Worlding B A → Type 0
-StaysAt law sealing stage result old new = Leads law sealing stage (StandsAt (λ _. stage) result) old new
+StaysAt law sealing stage result old new = LeadsTo law sealing stage (StandsAt (λ _. stage) result) old new
 
 -- the next member suspects, and these are still to
 abbrev pub NextSuspects : {B A : Type 0} → AppLaw A → Sealing B → ℕ → List ℕ → ℕ → List ℕ → Result Came Stop → Worlding B A → Worlding B A → Type 0
 NextSuspects law sealing view quorum number members result old new =
-    Leads law sealing (Suspects view quorum (number ∷ members)) (StandsAt (CameTo (Suspects view quorum members)) result) old new
+    LeadsTo law sealing (Suspects view quorum (number ∷ members)) (StandsAt (CameTo (Suspects view quorum members)) result) old new
 
 -- all members suspect, and what waits is to be drained
 abbrev pub AllSuspect : {B A : Type 0} → AppLaw A → Sealing B → ℕ → List ℕ → Result Came Stop → Worlding B A → Worlding B A → Type 0
-AllSuspect law sealing view quorum result old new = Leads law sealing (Suspects view quorum quorum) (StandsAt (CameTo (Drains view quorum)) result) old new
+AllSuspect law sealing view quorum result old new = LeadsTo law sealing (Suspects view quorum quorum) (StandsAt (CameTo (Drains view quorum)) result) old new
 
 -- one packet is drained, and what waits still is to be
 abbrev pub DrainsOne : {B A : Type 0} → AppLaw A → Sealing B → ℕ → List ℕ → Result Came Stop → Worlding B A → Worlding B A → Type 0
-DrainsOne law sealing view quorum result old new = Leads law sealing (Drains view quorum) (StandsAt (CameTo (Drains view quorum)) result) old new
+DrainsOne law sealing view quorum result old new = LeadsTo law sealing (Drains view quorum) (StandsAt (CameTo (Drains view quorum)) result) old new
 
 -- all that waits is drained, and is gone
 abbrev pub DrainsAll : {B A : Type 0} → AppLaw A → Sealing B → ℕ → List ℕ → Result Came Stop → Worlding B A → Worlding B A → Type 0
-DrainsAll law sealing view quorum result old new = Leads law sealing (Drains view quorum) (StandsAt (CameTo (Drained view quorum)) result) old new
+DrainsAll law sealing view quorum result old new = LeadsTo law sealing (Drains view quorum) (StandsAt (CameTo (Drained view quorum)) result) old new
 
 -- all members suspect, and all that waits is drained, and is gone
 abbrev pub ClosesBy : {B A : Type 0} → AppLaw A → Sealing B → ℕ → List ℕ → Result Came Stop → Worlding B A → Worlding B A → Type 0
-ClosesBy law sealing view quorum result old new = Leads law sealing (Suspects view quorum quorum) (StandsAt (CameTo (Drained view quorum)) result) old new
+ClosesBy law sealing view quorum result old new = LeadsTo law sealing (Suspects view quorum quorum) (StandsAt (CameTo (Drained view quorum)) result) old new
 
 -- what a part of a closing keeps of a world: nothing is owed, and no view above a limit was suspected
 pub record Rests {B A : Type 0} (limit : ℕ) (old new : Worlding B A) : Type 0 where
@@ -201,18 +200,33 @@ pub record HasClosed {B A : Type 0} (scene : Scene B) (answer : Answer) (start n
   pub closes : (later : List (List SaveResult)) → AreMore scene.setup.controllers (results_in now.controllers) later →
       Closes scene later (past start.journal) entries answer
 
--- and so by what a call tells of its end
-abbrev pub HasEnded : {B A : Type 0} → Scene B → Worlding B A → Worlding B A → Closed → Type 0
-HasEnded scene start now ended = HasClosed scene (answer_of ended) start now
+-- Why a closing ended so, by the pasts before and behind it. Nothing is left undone, and what the primary that closed has
+-- committed is what is decided; too few took part as it began, where each save in it succeeds; or no room is left in the
+-- log of a controller that leads
+abbrev pub HasReason : {B : Type 0} → Closed → Scene B → List (List SaveResult) → List (JournalEntry B) → List (JournalEntry B) → Type 0
+HasReason (closed.Done primary) scene results before after = HasRested scene results primary after
+HasReason (closed.NoQuorum up needed) scene results before after = SavesSucceed scene results before → count_up scene results before < majority scene.setup.controllers
+HasReason (closed.Overfull limit) scene results before after = (c : ℕ) × (entry : Entry) × IsAtLimit scene results after limit c entry
+
+-- a closing takes no more turns than both of its bounds say, where each save in it succeeds
+pub record IsBounded {B : Type 0} (scene : Scene B) (results : List (List SaveResult)) (before entries : List (JournalEntry B)) : Type 0 where
+  pub quick : SavesSucceed scene results before → IsQuick scene results before entries
+  pub sharp : SavesSucceed scene results before → IsSharplyBounded scene results before entries
+
+-- a closing that began in one world has ended in another as a call tells: by its schedule, for a reason, within its bounds
+pub record HasEnded {B A : Type 0} (scene : Scene B) (start now : Worlding B A) (ended : Closed) : Type 0 where
+  pub closed : HasClosed scene (answer_of ended) start now
+  pub reason : HasReason ended scene (results_in now.controllers) (past start.journal) (past now.journal)
+  pub bounded : IsBounded scene (results_in now.controllers) (past start.journal) closed.entries
 
 -- it has ended, or begins again
 abbrev pub EndsBy : {B A : Type 0} → Option Closed → Stage B A
 EndsBy None scene start now = ClosesIn Losing scene start now
-EndsBy (Some ended) scene start now = HasEnded scene start now ended
+EndsBy (Some ended) scene start now = HasClosed scene (answer_of ended) start now
 
 -- an attempt leads a closing to its end, or to where it begins again
 abbrev pub Attempts : {B A : Type 0} → AppLaw A → Sealing B → Result (Option Closed) Stop → Worlding B A → Worlding B A → Type 0
-Attempts law sealing result old new = Leads law sealing (ClosesIn Losing) (StandsAt EndsBy result) old new
+Attempts law sealing result old new = LeadsTo law sealing (ClosesIn Losing) (StandsAt EndsBy result) old new
 
 -- who takes part then: at its end a majority, and one less where it begins again
 abbrev pub UpTo : {B A : Type 0} → Option Closed → Worlding B A → Worlding B A → Type 0

@@ -4,7 +4,8 @@ ghost use Rattle.vr_log.specs.Members.{is_up};
 ghost use Rattle.group_controller.specs.Turns.{Controls, state_of};
 ghost use Rattle.rv_runs.specs.Schedule.{bound_of, closing_view, first_view, quorum_of};
 ghost use Rattle.rv_world.specs.World.{Holds};
-ghost use Rattle.closing.specs.Closing.{AreViewsUpTo, bound_with, has, member_in, states_in, up_in, view_above};
+ghost use Rattle.closing_laws.specs.Quorum.{has};
+ghost use Rattle.closing.specs.Closing.{HaveViewsUpTo, bound_with, member_in, states_in, up_in, view_above};
 ghost use Rattle.closing.specs.Views.{most_view_of_a_closing, most_view_to_look_from, views_of_an_attempt};
 
 use app_core::App;
@@ -79,7 +80,7 @@ fn bound_with<A: App>(bound: u32, controller: &Controller<A>) -> u32
 /// The least view above all views and promises of the controllers that take part.
 pub fn bound_of<B: Body, A: App>(world: &World<B, A>) -> u32
     requires holds { (kinds : List ℕ) × Holds A.law B.sealing world.now kinds }
-    requires views { AreViewsUpTo most_view_of_a_closing world.now.controllers }
+    requires views { HaveViewsUpTo most_view_of_a_closing world.now.controllers }
     ensures { result ≡ bound_of (states_in world.now.controllers) }
 {
     let mut bound = 0;
@@ -110,12 +111,12 @@ pub fn first_view(group: u8, up: &[u8], from: u32) -> u32
 /// The view of a closing: the least above all views and promises, whose primary takes part.
 pub fn closing_view<B: Body, A: App>(world: &World<B, A>, up: &[u8]) -> u32
     requires holds { (kinds : List ℕ) × Holds A.law B.sealing world.now kinds }
-    requires views { AreViewsUpTo most_view_of_a_closing world.now.controllers }
+    requires views { HaveViewsUpTo most_view_of_a_closing world.now.controllers }
     requires up { up.now ≡ up_in world.now }
     ensures view { result ≡
         closing_view (states_in world.now.controllers) world.now.setup.controllers }
     ensures near { (limit : ℕ) →
-        AreViewsUpTo limit world.now.controllers → result ≤ limit + views_of_an_attempt }
+        HaveViewsUpTo limit world.now.controllers → result ≤ limit + views_of_an_attempt }
 {
     first_view(world.setup().controllers, up, bound_of(world))
 }

@@ -4,7 +4,8 @@ ghost use Rattle.rv_base.specs.Pool.{past, pool};
 ghost use Rattle.rv_runs.specs.Schedule.{Losing, closing_view, majority, quorum_of};
 ghost use Rattle.rv_world.specs.World.{ForEachScene, Holds, IfMemory, Keeps, PairsStand};
 ghost use Rattle.rv_laws.specs.Laws.{IsSuspectedUpTo};
-ghost use Rattle.closing.specs.Closing.{AllSuspect, Attempts, ClosesBy, ClosesIn, ClosingStops, DrainsAll, has, HasEnded, HasMajority, RaisesViewsBy, Rests, StaysAt, UpBy, UpTo, up_in};
+ghost use Rattle.closing_laws.specs.Quorum.{has};
+ghost use Rattle.closing.specs.Closing.{AllSuspect, Attempts, ClosesBy, ClosesIn, ClosingStops, DrainsAll, HasEnded, HasMajority, RaisesViewsBy, Rests, StaysAt, UpBy, UpTo, up_in};
 ghost use Rattle.closing.specs.Views.{most_view_of_a_closing, most_view_of_a_script, views_of_an_attempt};
 
 use crate::closed::{Came, Closed};
@@ -192,7 +193,8 @@ fn close_once<B: Body, A: App, W: Stable>(
 
 /// Brings a world to rest: what waits is lost, the members of a quorum start the least view above all, and what they and
 /// the switches then say is drawn until nothing waits, or until a proposal finds no room in the log. Where a member's
-/// save fails, it begins again. Where memory is wanting, nothing is told of the world.
+/// save fails, it begins again. At its end nothing is left undone, and what its primary has committed is what is decided.
+/// Where memory is wanting, nothing is told of the world.
 pub fn run<B: Body, A: App, W: Stable>(
     alloc: Global,
     world: &mut World<B, A>,
@@ -209,6 +211,7 @@ pub fn run<B: Body, A: App, W: Stable>(
 {
     'closing: loop {
         if let Some(closed) = close_once(alloc, world, stables)? {
+            world.lawful();
             return Ok(closed);
         }
     }

@@ -7,7 +7,8 @@ ghost use Rattle.group_controller.specs.Turns.{state_of};
 ghost use Rattle.rv_runs.specs.Schedule.{Losing, is_drawn};
 ghost use Rattle.rv_world.specs.World.{Holds, IfMemory, Keeps, PairsStand};
 ghost use Rattle.rv_laws.specs.Laws.{IsSuspectedUpTo};
-ghost use Rattle.closing.specs.Closing.{AreViewsUpTo, CameAt, came_of, ClosesIn, Drains, DrainsOne, has, HasLessLeft, IsFirst, is_over, NextSuspects, Rests, StaysAt, UpBy, up_in};
+ghost use Rattle.closing_laws.specs.Quorum.{has};
+ghost use Rattle.closing.specs.Closing.{HaveViewsUpTo, CameAt, came_of, ClosesIn, Drains, DrainsOne, HasLessLeft, IsFirst, is_over, NextSuspects, Rests, StaysAt, UpBy, up_in};
 
 use crate::closed::Came;
 use crate::quorum::has;
@@ -22,7 +23,7 @@ use rv_world::{World, takes_part};
 pub fn lawful<B: Body, A: App>(world: &World<B, A>)
     requires { (kinds : List ℕ) × Holds A.law B.sealing world.now kinds }
     ensures views { (limit : ℕ) →
-        IsSuspectedUpTo limit (past world.now.journal) → AreViewsUpTo limit world.now.controllers }
+        IsSuspectedUpTo limit (past world.now.journal) → HaveViewsUpTo limit world.now.controllers }
     ensures addressed { AllByRecursion
         (λ p. IsActor world.now.setup p.to) (pool (past world.now.journal)) }
 {

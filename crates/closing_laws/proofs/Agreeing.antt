@@ -13,7 +13,7 @@ use Rattle.vr_normal.proofs.Agreed.{greatest_of}
 use Rattle.rv_runs.specs.declared.messages.Message.{Message}
 use Rattle.rv_runs.specs.declared.messages.Message.TheVariants as message
 use Rattle.closing_laws.specs.Quorum.{has}
-use Rattle.closing_laws.specs.Following.{ArePrepares, AreAcknowledged, Start, KeepsUp, IsAgreed, Leads}
+use Rattle.closing_laws.specs.Following.{ArePrepares, AreAcknowledged, Start, KeepsUp, IsAgreed, LeadsFrom}
 use Rattle.closing_laws.proofs.Numbers.{Once, below_has, below_once, below_others, filter_on, filter_once, filter_twice, in_has, others_but_one}
 use Rattle.closing_laws.proofs.Picked.{IsPicked}
 use Rattle.closing_laws.proofs.Followers.{keeps_up_longer, prepares_rise}
@@ -70,7 +70,7 @@ agreed_longer p p' quorum more log me acked commit (inl (b, chosen, other, low))
     omega (arith, done, commit)
 
 -- an acknowledgement comes
-module _ (start : Start) (p p' : VrState) (lead : Leads start p) (size : p'.controllers ≡ p.controllers) (view : p'.view ≡ p.view) (log : p'.log ≡ p.log) (commit : p.commit ≤ p'.commit) where
+module _ (start : Start) (p p' : VrState) (lead : LeadsFrom start p) (size : p'.controllers ≡ p.controllers) (view : p'.view ≡ p.view) (log : p'.log ≡ p.log) (commit : p.commit ≤ p'.commit) where
   same_log : p'.log ≡ p.log ++ []
   same_log = log ∙ sym (append-nil p.log)
 

@@ -48,7 +48,7 @@ use Rattle.rv_runs.proofs.Entries.{Mine, Another, switch_after, SwitchGoes, Take
 use Rattle.rv_runs.proofs.Pasts.{possible_before, from_some, self_controller}
 use Rattle.rv_runs.proofs.Pools.{one_actor, drawn_found, IsPosted, Was, New, pool_after}
 use Rattle.exactly_once.specs.Facts.{facts_of}
-use Rattle.exactly_once.specs.Invariant.{Holds, ToSwitch, ToMember, IsHeardBySwitch}
+use Rattle.exactly_once.specs.Invariant.{HoldsOfRun, ToSwitch, ToMember, IsHeardBySwitch}
 use Rattle.exactly_once.proofs.Packets.{heard_by_switch, told_valid}
 use Rattle.exactly_once.proofs.SwitchMoves.{Move, Raises, Says, Notes, Changes, Clears, Executes, Masters, Fences, Restarts, turn_keeps}
 use Rattle.rv_agreement.proofs.Pasts.{named, was_owed}
@@ -170,7 +170,7 @@ module _ {B : Type 0} (scene : Scene B) (results : List (List SaveResult)) (setu
     pub before : (s : ℕ) → AskedOf past (switch_at scene s (part (actor.Switch s) past)).before
 
   module _ (e : JournalEntry B) (before : List (JournalEntry B)) (legal : IsPossible scene results (e ∷ before)) (old : AreAsked before) where
-    holds : Holds scene results before
+    holds : HoldsOfRun scene results before
     holds = always scene results setup faithful before (possible_before scene results e before legal) 0
 
     -- a request that is new was owed by one that led

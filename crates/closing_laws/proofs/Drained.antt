@@ -35,7 +35,7 @@ use Rattle.rv_runs.specs.States.{controller_hears, controller_message, switch_he
 use Rattle.rv_runs.specs.Schedule.{is_drawn}
 use Rattle.closing_laws.specs.Quorum.{has}
 use Rattle.closing_laws.specs.Ways.{Sent, sent_by, goes, between, told_to}
-use Rattle.closing_laws.specs.Following.{ArePrepares, Start, KeepsUp, IsAgreed, Leads}
+use Rattle.closing_laws.specs.Following.{ArePrepares, Start, KeepsUp, IsAgreed, LeadsFrom}
 use Rattle.closing_laws.specs.Serving.{IsAttended, IsSettled}
 use Rattle.closing_laws.proofs.Between.{between_other, between_own, posted_other, posted_own}
 use Rattle.closing_laws.specs.Measure.{message_worth}
@@ -101,7 +101,7 @@ module _ (kinds : List ℕ) (setup : Setup) (w p : ℕ) (quorum : List ℕ) (sta
     pub me : c.vr.me ≡ p
     pub size : c.vr.controllers ≡ setup.controllers
     pub view : c.vr.view ≡ w
-    pub lead : Leads start c.vr
+    pub lead : LeadsFrom start c.vr
     pub settled : IsSettled kinds setup c
     pub agreed : IsAgreed c.vr quorum
 

@@ -32,7 +32,7 @@ use Rattle.rv_runs.proofs.Pasts.{possible_before}
 use Rattle.rv_runs.proofs.Pools.{Was, New, pool_after}
 use Rattle.exactly_once.specs.Facts.{PastFacts, facts_of, events_of, executed_of}
 use Rattle.exactly_once.specs.Truths.{IsTrueEntry}
-use Rattle.exactly_once.specs.Invariant.{Holds, IsHonest, IsSound, IsSoundAt, Logged, Own}
+use Rattle.exactly_once.specs.Invariant.{HoldsOfRun, IsHonest, IsSound, IsSoundAt, Logged, Own}
 use Rattle.exactly_once.proofs.ControllerTurns.{received_at}
 use Rattle.exactly_once.proofs.Journals.{firm_events, firm_executed}
 use Rattle.rv_agreement.proofs.Groups.{odd_law}
@@ -109,7 +109,7 @@ module _ {B : Type 0} (scene : Scene B) (results : List (List SaveResult)) (setu
       IsTruePrimary (controller_state scene results p P)
       × ((s : ℕ) → s < length scene.setup.ports → IsTrueOf scene.kinds scene.setup (controller_state scene results p P) s (switch_state scene s P))
   facts_are P possible p there leads_now quorum picked few =
-      let holds : Holds scene results P = always scene results setup faithful P possible 0 in
+      let holds : HoldsOfRun scene results P = always scene results setup faithful P possible 0 in
       let honest = (holds.controllers p there).now in
       let own = (owned_at scene (results_of results p) p (part (actor.Controller p) P)).now in
       let group = odd_law scene.setup setup in
@@ -130,7 +130,7 @@ module _ {B : Type 0} (scene : Scene B) (results : List (List SaveResult)) (setu
       ((b : ℕ) → has quorum b ≡ true → (controller_state scene results b P).vr.promise ≤ (controller_state scene results p P).vr.view) →
       IsPrefix (decided scene results P) (controller_state scene results p P).vr.log × ((controller_state scene results p P).vr.commit ≤ length (decided scene results P))
   begins_are P possible p there leads_now quorum picked few =
-      let holds : Holds scene results P = always scene results setup faithful P possible 0 in
+      let holds : HoldsOfRun scene results P = always scene results setup faithful P possible 0 in
       let honest = (holds.controllers p there).now in
       let group = odd_law scene.setup setup in (
         led_law scene results P setup faithful possible group.0 p group.1 there leads_now
@@ -144,7 +144,7 @@ module _ {B : Type 0} (scene : Scene B) (results : List (List SaveResult)) (setu
       ((b : ℕ) → has quorum b ≡ true → (controller_state scene results b P).vr.promise ≤ (controller_state scene results p P).vr.view) →
       (e : Event) → IsIn e (received (controller_state scene results p P).vr.log) → (e.switch < length scene.setup.ports) × (e.life ≤ life_of (switch_state scene e.switch P))
   logged_are P possible p there leads_now quorum picked few e among =
-      let holds : Holds scene results P = always scene results setup faithful P possible 0 in
+      let holds : HoldsOfRun scene results P = always scene results setup faithful P possible 0 in
       let honest = (holds.controllers p there).now in
       let own = (owned_at scene (results_of results p) p (part (actor.Controller p) P)).now in
       let c : ControllerState = controller_state scene results p P in
@@ -165,12 +165,12 @@ module _ {B : Type 0} (scene : Scene B) (results : List (List SaveResult)) (setu
   cleared_are : (P : List (JournalEntry B)) → IsPossible scene results P → (s : ℕ) → s < length scene.setup.ports →
       (switch_state scene s P).buffer.cleared ≤ processed_of (decided scene results P) s (life_of (switch_state scene s P))
   cleared_are P possible s there =
-      let holds : Holds scene results P = always scene results setup faithful P possible 0 in
+      let holds : HoldsOfRun scene results P = always scene results setup faithful P possible 0 in
       cleared_decided scene.kinds scene.setup (facts_of scene results P) s (switch_state scene s P) (holds.switches s there).now
 
   known_are : (P : List (JournalEntry B)) → IsPossible scene results P → (c : ℕ) → c < scene.setup.controllers → (controller_state scene results c P).vr.commit ≤ length (decided scene results P)
   known_are P possible c there =
-      let holds : Holds scene results P = always scene results setup faithful P possible 0 in
+      let holds : HoldsOfRun scene results P = always scene results setup faithful P possible 0 in
       ((holds.controllers c there).now.ahead (controller_state scene results c P).vr.commit (controller_state scene results c P).vr.log (Own refl refl)).bound
 
   -- who has sent what waits is of the setup

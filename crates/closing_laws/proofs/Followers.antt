@@ -23,7 +23,7 @@ use Rattle.rv_runs.specs.declared.messages.Message.TheVariants as message
 use Rattle.rv_runs.specs.States.{controller_message}
 use Rattle.closing_laws.specs.Views.{IsReadyMember, in_started, in_view}
 use Rattle.closing_laws.specs.Ways.{told_to}
-use Rattle.closing_laws.specs.Following.{ArePrepares, AreAcknowledged, Start, Waits, IsFollowing, KeepsUp, Leads}
+use Rattle.closing_laws.specs.Following.{ArePrepares, AreAcknowledged, Start, Waits, IsFollowing, KeepsUp, LeadsFrom}
 use Rattle.closing_laws.proofs.Adopted.{log_adopted}
 
 -- what members are told of entries
@@ -82,7 +82,7 @@ prepare_next s from view commit e below other primary normal same joins =
 taken_long : (n : ℕ) (xs : List Entry) → length (take n xs) ≡ n → n ≤ length xs
 taken_long n xs h = let long = length-take n xs in omega (arith, long, h)
 
-module _ (start : Start) (p : VrState) (lead : Leads start p) where
+module _ (start : Start) (p : VrState) (lead : LeadsFrom start p) where
   pub started_within : length start.log ≤ length p.log
   started_within = taken_long (length start.log) p.log (ap length lead.begins)
 
@@ -141,7 +141,7 @@ pub record Hears (start : Start) (p : VrState) (b : ℕ) (s : VrState) (m : VrMe
   pub follows : IsFollowing start p b (vr_step s (vr_input.From p.me m)).state out (in_ ++ told_to controller_message (actor.Controller p.me) (to_members answers))
 
 -- what a member says as it takes the log of a view
-module _ (start : Start) (p : VrState) (lead : Leads start p) (leader : p.me ≡ p.view % p.controllers) (small : p.me < p.controllers) (b : ℕ) (apart : b ≡ p.me → ⊥) where
+module _ (start : Start) (p : VrState) (lead : LeadsFrom start p) (leader : p.me ≡ p.view % p.controllers) (small : p.me < p.controllers) (b : ℕ) (apart : b ≡ p.me → ⊥) where
   module _ (s : VrState) (m : VrMessage) (out in_ : List Message) (h : Waits start p b s (message.Vr m ∷ out) in_) where
     abbrev had : VrState
     had = h.had

@@ -18,7 +18,7 @@ use Rattle.rv_runs.specs.declared.messages.Message.{Message}
 use Rattle.rv_runs.specs.declared.messages.Message.TheVariants as message
 use Rattle.rv_runs.specs.States.{controller_message}
 use Rattle.closing_laws.specs.Quorum.{has}
-use Rattle.closing_laws.specs.Following.{ArePrepares, Start, Waits, IsAgreed, Leads}
+use Rattle.closing_laws.specs.Following.{ArePrepares, Start, Waits, IsAgreed, LeadsFrom}
 use Rattle.closing_laws.specs.Views.{IsCovered, IsReadyMember, in_view, last_first, log_of, started_with, tellers}
 use Rattle.closing_laws.proofs.Extending.{others_told, tells_member}
 use Rattle.closing_laws.proofs.Numbers.{filter_has, filter_in}
@@ -102,7 +102,7 @@ module _ (n w : ℕ) (quorum : List ℕ) (at : ℕ → VrState) (best : ℕ) (pi
   pub commit_is : ((n / 2 ≡ 0) × (leader.commit ≡ length start.log)) ⊎ ((0 < n / 2) × (leader.commit ≡ start.known))
   commit_is = subst (λ (k : ℕ). ((n / 2 ≡ 0) × ((if nat_eq (k / 2) 0 then length start.log else start.known) ≡ length start.log)) ⊎ ((0 < n / 2) × ((if nat_eq (k / 2) 0 then length start.log else start.known) ≡ start.known))) (sym size) (commit_by (nat_eq (n / 2) 0) refl)
 
-  pub leads_with : Leads start leader
+  pub leads_with : LeadsFrom start leader
   leads_with = record {
     begins = take_all (length (at best).log) (at best).log (omega arith);
     started = (ready best chosen).is_one;

@@ -15,7 +15,7 @@ use Rattle.group_controller.specs.State.{to_member, to_members}
 use Rattle.rv_runs.specs.declared.messages.Message.{Message}
 use Rattle.rv_runs.specs.declared.messages.Message.TheVariants as message
 use Rattle.rv_runs.specs.States.{controller_message}
-use Rattle.closing_laws.specs.Following.{AreAcknowledged, ArePrepares, KeepsUp, Leads, Start}
+use Rattle.closing_laws.specs.Following.{AreAcknowledged, ArePrepares, KeepsUp, LeadsFrom, Start}
 use Rattle.closing_laws.specs.Measure.{message_worth, vr_worth}
 use Rattle.closing_laws.specs.Quorum.{has}
 use Rattle.closing_laws.specs.Ways.{told_to}
@@ -67,7 +67,7 @@ module _ (start : Start) (p : VrState) (b : ℕ) (s : VrState) (m : VrMessage) (
       omega (arith, same, few, two)
 
 -- each message of the primary that a member draws is worth more than what it answers
-pub member_lowers : (start : Start) (p : VrState) → Leads start p → p.me ≡ p.view % p.controllers → p.me < p.controllers → (b : ℕ) → (b ≡ p.me → ⊥) →
+pub member_lowers : (start : Start) (p : VrState) → LeadsFrom start p → p.me ≡ p.view % p.controllers → p.me < p.controllers → (b : ℕ) → (b ≡ p.me → ⊥) →
     (s : VrState) (m : VrMessage) (out in_ : List Message) → KeepsUp start p b s (message.Vr m ∷ out) in_ → (quorum : List ℕ) →
     worths_of quorum controller_message (actor.Controller b) (to_members (vr_step s (vr_input.From p.me m)).letters) + 1 ≤ message_worth (message.Vr m)
 member_lowers start p lead leader small b apart s m out in_ keeps quorum =

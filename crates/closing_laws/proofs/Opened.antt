@@ -16,7 +16,7 @@ use Rattle.rv_runs.specs.States.{Scene, IsFaithful, content, controller_message}
 use Rattle.rv_runs.specs.Legal.{IsPossible}
 use Rattle.rv_runs.specs.Committed.{controller_state, switch_state}
 use Rattle.rv_runs.specs.Schedule.{Phase}
-use Rattle.closing_laws.specs.Following.{Leads, Start}
+use Rattle.closing_laws.specs.Following.{LeadsFrom, Start}
 use Rattle.closing_laws.specs.Measure.{left_to_do}
 use Rattle.closing_laws.specs.Quorum.{has}
 use Rattle.closing_laws.specs.Serving.{AreFew, IsOlder}
@@ -166,5 +166,5 @@ module _ {B : Type 0} (scene : Scene B) (results : List (List SaveResult)) (setu
     unfolding opened
     opened_left = refl
 
-    pub lead_now : Leads start (controller_state scene results p begin).vr
+    pub lead_now : LeadsFrom start (controller_state scene results p begin).vr
     lead_now = stands.drains.primary.lead

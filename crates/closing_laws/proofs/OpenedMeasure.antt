@@ -19,7 +19,7 @@ use Rattle.rv_runs.specs.Bound.{waiting_at}
 use Rattle.rv_runs.specs.States.{Scene, IsFaithful, controller_message}
 use Rattle.rv_runs.specs.Committed.{controller_state, switch_state}
 use Rattle.rv_runs.specs.Schedule.{Phase}
-use Rattle.closing_laws.specs.Following.{Leads, Start}
+use Rattle.closing_laws.specs.Following.{LeadsFrom, Start}
 use Rattle.closing_laws.specs.Measure.{commands_from, left_at_switches, left_to_do, left_to_process, logged_held}
 use Rattle.closing_laws.specs.Quorum.{has}
 use Rattle.closing_laws.specs.Serving.{AreFew, IsOlder, logged_of}
@@ -73,7 +73,7 @@ module _ {B : Type 0} (scene : Scene B) (results : List (List SaveResult)) (setu
       leading.leader n w quorum members best (opened_by.picked scene results setup faithful few before entries last best a s chosen small older) small
       (opened_by.ready scene results setup faithful few before entries last best a s chosen small older) s.covered chosen s.started.voters
 
-  lead : Leads start leader
+  lead : LeadsFrom start leader
   lead =
       leading.leads_with n w quorum members best (opened_by.picked scene results setup faithful few before entries last best a s chosen small older) small
       (opened_by.ready scene results setup faithful few before entries last best a s chosen small older) s.covered chosen s.started.voters

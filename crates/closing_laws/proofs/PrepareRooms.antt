@@ -42,7 +42,7 @@ use Rattle.rv_runs.specs.declared.messages.Unsealed.TheVariants as unsealed
 use Rattle.rv_runs.specs.States.{controller_message, switch_hears, switch_message}
 use Rattle.closing_laws.specs.Quorum.{has}
 use Rattle.closing_laws.specs.Ways.{Sent, sent_by, between}
-use Rattle.closing_laws.specs.Following.{IsAgreed, Leads, Start}
+use Rattle.closing_laws.specs.Following.{IsAgreed, LeadsFrom, Start}
 use Rattle.closing_laws.specs.Serving.{AreFew, IsAttended, IsTrueOf, events_said, logged_of}
 use Rattle.closing_laws.proofs.Agreed.{marked}
 use Rattle.closing_laws.proofs.Agreeing as agreeing
@@ -126,7 +126,7 @@ module _ (kinds : List ℕ) (setup : Setup) (w p : ℕ) (quorum : List ℕ) (sta
     no_other none b less other = let less_p = small p inside in other (omega (arith, none, less, less_p))
 
     -- nothing was acknowledged, and in a group of several nothing more is committed
-    still_counted : (v v' : VrState) → v'.acked ≡ v.acked → (0 < most_failures v → v'.commit ≡ v.commit) → v.controllers ≡ n → Leads start v' → IsAgreed v' quorum → v'.me ≡ p → IsCounted v → IsCounted v'
+    still_counted : (v v' : VrState) → v'.acked ≡ v.acked → (0 < most_failures v → v'.commit ≡ v.commit) → v.controllers ≡ n → LeadsFrom start v' → IsAgreed v' quorum → v'.me ≡ p → IsCounted v → IsCounted v'
     still_counted v v' acked commit size lead agreed me h = record {
       outside = λ b out. ap (λ (l : List ℕ). slice_index l b) acked ∙ h.outside b out;
       acked = λ b chosen other. subst (λ (l : List ℕ). (slice_index l b ≡ 0) ⊎ (length start.log ≤ slice_index l b)) (sym acked) (h.acked b chosen other);
@@ -144,7 +144,7 @@ module _ (kinds : List ℕ) (setup : Setup) (w p : ℕ) (quorum : List ℕ) (sta
     }
 
     -- a member of the quorum acknowledges the first log, or more
-    module _ (v : VrState) (b op : ℕ) (chosen : has quorum b ≡ true) (other : b ≡ p → ⊥) (late : length start.log ≤ op) (me : v.me ≡ p) (size : v.controllers ≡ n) (lead : Leads start v) (h : IsCounted v) where
+    module _ (v : VrState) (b op : ℕ) (chosen : has quorum b ≡ true) (other : b ≡ p → ⊥) (late : length start.log ≤ op) (me : v.me ≡ p) (size : v.controllers ≡ n) (lead : LeadsFrom start v) (h : IsCounted v) where
       abbrev next : VrState
       next = acked_by v b op
 

@@ -20,7 +20,7 @@ use Rattle.group_controller.specs.Rules.{controller_work, on_master, on_result, 
 use Rattle.rv_runs.specs.declared.messages.Message.{Message}
 use Rattle.rv_runs.specs.Schedule.{is_drawn}
 use Rattle.rv_runs.specs.States.{controller_message}
-use Rattle.closing_laws.specs.Following.{Leads, Start}
+use Rattle.closing_laws.specs.Following.{LeadsFrom, Start}
 use Rattle.closing_laws.specs.Measure.{commands_from, left_to_do, message_worth}
 use Rattle.closing_laws.specs.Quorum.{has}
 use Rattle.closing_laws.specs.Serving.{AreFew, IsTrueOf, IsTruePrimary}
@@ -40,10 +40,10 @@ use Rattle.closing_laws.proofs.TurnCases.{OfTurns}
 abbrev pub place_of : Start → ℕ
 place_of start = processed (take start.known start.log)
 
-pub known_of : (start : Start) (s : VrState) → Leads start s → take start.known start.log ≡ take start.known s.log
+pub known_of : (start : Start) (s : VrState) → LeadsFrom start s → take start.known start.log ≡ take start.known s.log
 known_of start s lead = ap (take start.known) (sym lead.begins) ∙ take-take start.known (length start.log) s.log lead.within
 
-pub place_known : (start : Start) (s : VrState) → Leads start s → place_of start ≤ processed (take s.commit s.log)
+pub place_known : (start : Start) (s : VrState) → LeadsFrom start s → place_of start ≤ processed (take s.commit s.log)
 place_known start s lead =
     let same = known_of start s lead in
     let less = processed_prefix (takes_prefix start.known s.commit s.log lead.known) in

@@ -31,7 +31,7 @@ use Rattle.rv_runs.specs.declared.messages.Unsealed.TheVariants as unsealed
 use Rattle.rv_runs.specs.States.{controller_hears, controller_message}
 use Rattle.closing_laws.specs.Quorum.{has}
 use Rattle.closing_laws.specs.Ways.{Sent, sent_by, between, told_to}
-use Rattle.closing_laws.specs.Following.{ArePrepares, Start, KeepsUp, IsAgreed, Leads}
+use Rattle.closing_laws.specs.Following.{ArePrepares, Start, KeepsUp, IsAgreed, LeadsFrom}
 use Rattle.closing_laws.specs.Serving.{AreFew, Extends, IsSaidIn, Replies, Tells, Results, IsAttended, IsSettled, IsTrueOf, IsTruePrimary}
 use Rattle.closing_laws.proofs.Agreed as agreed_by
 use Rattle.closing_laws.proofs.Agreeing.{agreed_longer, counted_agreed, keeps_up_acked, keeps_up_still}
@@ -63,7 +63,7 @@ module _ (kinds : List ℕ) (setup : Setup) (few : AreFew kinds setup) (w p : �
   Drains c members switches waiting = drained_by.Drains kinds setup w p quorum start c members switches waiting
 
   -- what a turn that extends the log leaves of the members
-  module _ (c : ControllerState) (old : VrState) (members : ℕ → VrState) (out in_ : ℕ → List Message) (work : Work) (me : old.me ≡ p) (size : old.controllers ≡ n) (view : old.view ≡ w) (lead : Leads start old)
+  module _ (c : ControllerState) (old : VrState) (members : ℕ → VrState) (out in_ : ℕ → List Message) (work : Work) (me : old.me ≡ p) (size : old.controllers ≡ n) (view : old.view ≡ w) (lead : LeadsFrom start old)
       (agreed : IsAgreed old quorum) (keeps : (b : ℕ) → has quorum b ≡ true → (b ≡ p → ⊥) → KeepsUp start old b (members b) (out b) (in_ b))
       (c_is : c.vr ≡ old) (more : List Entry) (e : Extends c more work.state work.letters) (settled : IsSettled kinds setup work.state) (now_true : IsTruePrimary work.state) where
     abbrev new : VrState
@@ -97,7 +97,7 @@ module _ (kinds : List ℕ) (setup : Setup) (few : AreFew kinds setup) (w p : �
     more_committed : old.commit ≤ new.commit
     more_committed = elim commit_is [ inl a ↦ let k = a.1 in omega (arith, k) | inr b ↦ let k = b.1 in omega (arith, k) ]
 
-    lead_now : Leads start new
+    lead_now : LeadsFrom start new
     lead_now = record {
       begins = ap (take (length start.log)) log_is ∙ take-append-le (length start.log) old.log more (started_within start old lead) ∙ lead.begins;
       started = lead.started;
@@ -316,7 +316,7 @@ module _ (kinds : List ℕ) (setup : Setup) (few : AreFew kinds setup) (w p : �
             (out_same (actor.Controller p) (actor.Controller j) (λ i. other (let s : j ≡ p = cc in s))) (d.keeps_up j member other)))
       ]
 
-      lead_next : Leads start next
+      lead_next : LeadsFrom start next
       lead_next =
           let q = d.primary.lead in
           let no_less = agreed_by.agreed_no_less c.vr b op in

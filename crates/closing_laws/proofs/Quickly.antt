@@ -30,7 +30,7 @@ use Rattle.rv_runs.specs.Committed.{controller_state, decided, switch_state}
 use Rattle.rv_runs.specs.Schedule.{Phase, ClosesTo, count_turns, met_by}
 use Rattle.rv_agreement.proofs.Groups.{odd_law}
 use Rattle.rv_laws.proofs.Laws.{lasting_law}
-use Rattle.closing_laws.specs.Following.{Leads, Start}
+use Rattle.closing_laws.specs.Following.{LeadsFrom, Start}
 use Rattle.closing_laws.specs.Measure.{commands_from, logged_held}
 use Rattle.closing_laws.specs.Quorum.{has}
 use Rattle.closing_laws.specs.Serving.{AreFew, IsOlder}
@@ -293,7 +293,7 @@ module _ {B : Type 0} (scene : Scene B) (results : List (List SaveResult)) (setu
         let is : decided scene results (reverse entries ++ before) ≡ decided scene results ends = ap (decided scene results) whole in
         let front : IsPrefix (committed now) (decided scene results ends) =
         subst (λ (l : List Entry). IsPrefix l (decided scene results ends)) (sym (take_same now.vr.commit led.1 led.0)) (front_prefix now.vr.commit (decided scene results ends)) in
-        let lead : Leads start c.vr = (opened_by.lead_now scene results setup faithful few before entries last best a starts is_best.member small older
+        let lead : LeadsFrom start c.vr = (opened_by.lead_now scene results setup faithful few before entries last best a starts is_best.member small older
         (emptied.truths scene results setup faithful few w quorum closing before a.saves start) room) in
         let place = place_known (closing_members scene results before) in
         let later_is : take place (decided scene results (reverse entries ++ before)) ≡ take place was =

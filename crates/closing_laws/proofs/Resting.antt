@@ -23,13 +23,13 @@ use Rattle.of_switch.specs.State.{SwitchState, events_in, life_of}
 use Rattle.dispatcher.specs.Marks.{has_result, is_confirmed, is_finished, is_wanted, settled_commands, wanted}
 use Rattle.group_controller.specs.State.{ControllerState, committed}
 use Rattle.closing_laws.specs.Quorum.{has}
-use Rattle.closing_laws.specs.Following.{Start, KeepsUp, IsAgreed, Leads}
+use Rattle.closing_laws.specs.Following.{Start, KeepsUp, IsAgreed, LeadsFrom}
 use Rattle.closing_laws.specs.Serving.{AreFew, IsAttended, IsSettled, IsTrueOf, IsMastered, AreEventsTold, events_told, logged_of, processed_by, sent_of, settled_by, told_by, told_through}
 use Rattle.closing_laws.proofs.CommandsNamed.{command_named}
 use Rattle.closing_laws.proofs.Followers.{rests, drop_none}
 
 -- all of the primary's log is committed
-pub all_committed : (start : Start) (p : VrState) → Leads start p → p.me ≡ p.view % p.controllers → p.me < p.controllers → (quorum : List ℕ) → IsAgreed p quorum → (members : ℕ → VrState) →
+pub all_committed : (start : Start) (p : VrState) → LeadsFrom start p → p.me ≡ p.view % p.controllers → p.me < p.controllers → (quorum : List ℕ) → IsAgreed p quorum → (members : ℕ → VrState) →
     ((b : ℕ) → has quorum b ≡ true → (b ≡ p.me → ⊥) → KeepsUp start p b (members b) [] []) → p.commit ≡ length p.log
 all_committed start p lead leader small quorum agreed members keeps = by_known (cases_lt start.known (length p.log))
   where

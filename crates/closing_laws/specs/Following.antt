@@ -73,7 +73,7 @@ IsAgreed primary quorum =
 
 -- The primary's log goes on from the one with which the view has started, and at least what was known is committed. It
 -- counts what each member acknowledged.
-pub record Leads (start : Start) (primary : VrState) : Type 0 where
+pub record LeadsFrom (start : Start) (primary : VrState) : Type 0 where
   pub begins : take (length start.log) primary.log ≡ start.log
   pub started : is_log start.log ≡ true
   pub within : start.known ≤ length start.log

@@ -30,7 +30,7 @@ use Rattle.group_controller.specs.declared.messages.ControllerSays.{ControllerSa
 use Rattle.group_controller.specs.State.{ControllerState, committed}
 use Rattle.group_controller.specs.Rules.{controller_work}
 use Rattle.exactly_once.specs.Facts.{PastFacts, Later, executed_of}
-use Rattle.exactly_once.specs.Truths.{IsGoodHappening, IsGenuine, IsOver, IsDoneThrough, IsTrueEntry, IsAhead, IsTrueCommand, IsTold}
+use Rattle.exactly_once.specs.Truths.{IsGoodHappening, IsGenuine, IsOver, IsDoneThrough, IsTrueEntry, IsAhead, IsTrueCommand, MayTell}
 use Rattle.exactly_once.specs.Invariant.{HoldsEntry, Logged, IsHonest, IsOrder, ToSwitch, ToMember, IsHeardByController}
 use Rattle.exactly_once.specs.Premises.{IsMarked, IsMoment, HasSource, Was, Came, Logs, Finishes, IsSent, Asks, Commands, Acknowledges, Clears, Echoes, IsPosting, Switches, Members, BoundBy, By_held, By_told, By_moment, OneBy, One_held, One_told, One_proposed, IsAheadBy, IsGoodTurn, IsValidLog}
 use Rattle.controller_laws.proofs.Issued.{issued_none, issued_prefix, IsBetween, command_between, done_unless}
@@ -202,8 +202,8 @@ module _ (kinds : List ℕ) (setup : Setup) (within : IsSetup setup) (f g : Past
       genuine.good
 
   -- what it says to a switch is true
-  sent_true : (s : ℕ) (said : Spoken) → IsSent kinds setup me c x s said → IsTold kinds setup g me s said
-  sent_true s said (Asks generation below own is) = subst (λ (m : Spoken). IsTold kinds setup g me s m) (sym is) (refl, below, own)
+  sent_true : (s : ℕ) (said : Spoken) → IsSent kinds setup me c x s said → MayTell kinds setup g me s said
+  sent_true s said (Asks generation below own is) = subst (λ (m : Spoken). MayTell kinds setup g me s m) (sym is) (refl, below, own)
   sent_true s said (Commands log y generation m among switch_is own is) =
       let j = processed log in
       let b : IsBetween kinds setup (received log) j y = command_between kinds setup (received log) j y among in
@@ -225,12 +225,12 @@ module _ (kinds : List ℕ) (setup : Setup) (within : IsSetup setup) (f g : Past
         stands = get_prefix y.number y.order (issued_prefix kinds setup y.switch y.life _ _ p) b.stands;
       } in
       let here = subst (λ (k : ℕ). IsTrueCommand kinds setup g k y.life (settled_commands kinds setup log y.switch y.life) y.number y.order) switch_is command in
-      subst (λ (k : Spoken). IsTold kinds setup g me s k) (sym is) (here, sendable.2, command_valid y.order sendable y.life generation y.number (settled_commands kinds setup log y.switch y.life), own)
-  sent_true s said (Acknowledges log life m is) = subst (λ (k : Spoken). IsTold kinds setup g me s k) (sym is) (processed_count s life (moment_front log m))
+      subst (λ (k : Spoken). MayTell kinds setup g me s k) (sym is) (here, sendable.2, command_valid y.order sendable y.life generation y.number (settled_commands kinds setup log y.switch y.life), own)
+  sent_true s said (Acknowledges log life m is) = subst (λ (k : Spoken). MayTell kinds setup g me s k) (sym is) (processed_count s life (moment_front log m))
   sent_true s said (Clears log life m is) =
       let settled = settled_is kinds setup log s life in
       let more = settled_count kinds setup s life (moment_front log m) in
-      subst (λ (k : Spoken). IsTold kinds setup g me s k) (sym is) (omega (arith, settled, more))
+      subst (λ (k : Spoken). MayTell kinds setup g me s k) (sym is) (omega (arith, settled, more))
   sent_true s said (Echoes xid body is) = absurd ((hears (controller_input.Of s xid (spoken.Plain (plain.EchoRequest body))) is).1)
 
   -- past a commit number at most one event stands as processed

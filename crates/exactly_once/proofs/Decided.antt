@@ -15,7 +15,7 @@ use Rattle.rv_runs.specs.Committed.{kept, longest, decided}
 use Rattle.rv_runs.specs.Laws.{IsLasting}
 use Rattle.lists.specs.Lists.{AreOne}
 use Rattle.exactly_once.specs.Premises.{AreControllers}
-use Rattle.exactly_once.specs.Invariant.{Holds}
+use Rattle.exactly_once.specs.Invariant.{HoldsOfRun}
 use Rattle.rv_runs.proofs.Pasts.{possible_before, possible_drop}
 
 -- a prefix that is no shorter is the whole
@@ -121,7 +121,7 @@ module _ {B : Type 0} (scene : Scene B) (results : List (List SaveResult)) (side
         | inr new ↦ Somebody new.0 0 new.1 new.2
       ]
 
-  module _ (e : JournalEntry B) (before : List (JournalEntry B)) (legal : IsPossible scene results (e ∷ before)) (trust : (i : ℕ) → Holds scene results (drop i before)) where
+  module _ (e : JournalEntry B) (before : List (JournalEntry B)) (legal : IsPossible scene results (e ∷ before)) (trust : (i : ℕ) → HoldsOfRun scene results (drop i before)) where
     with_decided : (c : ℕ) → c < scene.setup.controllers → AreOne (decided scene results before) (kept scene results c (e ∷ before))
     with_decided c there =
         elim (decided_by before) [
@@ -150,9 +150,9 @@ module _ {B : Type 0} (scene : Scene B) (results : List (List SaveResult)) (side
     pub front : (c : ℕ) → c < scene.setup.controllers → IsPrefix (kept scene results c (e ∷ before)) (decided scene results (e ∷ before))
     front c there = is_longest.each (kept scene results c (e ∷ before)) (among_mapped (λ d. kept scene results d (e ∷ before)) (range_with_len 0 scene.setup.controllers) c (below_range scene.setup.controllers c there))
 
-  module _ (holds : (entries : List (JournalEntry B)) → IsPossible scene results entries → Holds scene results entries) where
+  module _ (holds : (entries : List (JournalEntry B)) → IsPossible scene results entries → HoldsOfRun scene results entries) where
     -- so it was after each earlier past
-    pub trusted : (e : JournalEntry B) (before : List (JournalEntry B)) → IsPossible scene results (e ∷ before) → (i : ℕ) → Holds scene results (drop i before)
+    pub trusted : (e : JournalEntry B) (before : List (JournalEntry B)) → IsPossible scene results (e ∷ before) → (i : ℕ) → HoldsOfRun scene results (drop i before)
     trusted e before legal i = holds (drop i before) (possible_drop scene results i before (possible_before scene results e before legal))
 
     -- and stays so

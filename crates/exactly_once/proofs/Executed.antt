@@ -26,7 +26,7 @@ use Rattle.exactly_once.specs.Facts.{Later, firm, facts_of, events_of, executed_
 use Rattle.exactly_once.specs.Truths.{IsGenuine, IsDoneThrough, IsTrueEntry}
 use Rattle.rv_runs.specs.States.{IsFaithful}
 use Rattle.exactly_once.specs.Premises.{IsValidLog, AreControllers}
-use Rattle.exactly_once.specs.Invariant.{IsSoundAt, Logged, Holds}
+use Rattle.exactly_once.specs.Invariant.{IsSoundAt, Logged, HoldsOfRun}
 use Rattle.exactly_once.proofs.Growing.{entry_more}
 use Rattle.exactly_once.proofs.ControllerTurns.{received_at}
 use Rattle.exactly_once.proofs.LogOrder.{ordered_events, rising, made_in, over_has_ended, get_map, numbers_are, processed_among}
@@ -45,7 +45,7 @@ front_at (y ∷ xs) ys zero x lt h = h
 front_at (y ∷ xs) ys (suc i) x lt h = front_at xs ys i x (omega (arith, lt)) h
 
 module _ {B : Type 0} (scene : Scene B) (results : List (List SaveResult)) (faithful : IsFaithful scene.sealing) (sides : AreControllers scene results) where
-  pub holds_always : (entries : List (JournalEntry B)) → IsPossible scene results entries → Holds scene results entries
+  pub holds_always : (entries : List (JournalEntry B)) → IsPossible scene results entries → HoldsOfRun scene results entries
   holds_always = all_holds scene results faithful (grows scene results sides) (front scene results sides) sides
 
   later_always : (e : JournalEntry B) (before : List (JournalEntry B)) → IsPossible scene results (e ∷ before) → Later (facts_of scene results before) (facts_of scene results (e ∷ before))

@@ -29,7 +29,7 @@ use Rattle.rv_runs.specs.declared.messages.Message.TheVariants as message
 use Rattle.rv_runs.specs.declared.messages.Unsealed.TheVariants as unsealed
 use Rattle.rv_runs.specs.Laws.{master_asked, IsGreatest, Heard, heard_local}
 use Rattle.exactly_once.specs.Facts.{PastFacts}
-use Rattle.exactly_once.specs.Truths.{IsTold}
+use Rattle.exactly_once.specs.Truths.{MayTell}
 
 -- an input that neither asks for a role nor begins a life
 pub record IsCalm (x : SwitchInput) : Type 0 where
@@ -286,7 +286,7 @@ unchanged : (controllers : ℕ) (asked : List ℕ) (x : SwitchInput) (start : Sw
 unchanged controllers asked x start other h = subst (λ (f : Fence). IsFenceOf controllers asked f) (sym (fence_stays x start other)) h
 
 -- the fence after a message from a controller
-pub told_turn : (kinds : List ℕ) (setup : Setup) (f : PastFacts) (c s xid : ℕ) (m : Spoken) (asked : List ℕ) (start : SwitchState) → IsTold kinds setup f c s m → IsFenceOf setup.controllers asked start.fence →
+pub told_turn : (kinds : List ℕ) (setup : Setup) (f : PastFacts) (c s xid : ℕ) (m : Spoken) (asked : List ℕ) (start : SwitchState) → MayTell kinds setup f c s m → IsFenceOf setup.controllers asked start.fence →
     IsFenceOf setup.controllers (master_asked (unsealed.Message (message.Of xid m)) ++ asked) (switch_turn start (switch_input.Of c xid m)).state.fence
 told_turn kinds setup f c s xid (spoken.Plain (plain.RoleRequest role g)) asked start h k =
     subst (λ (r : ℕ). IsFenceOf setup.controllers (master_asked (unsealed.Message (message.Of xid (spoken.Plain (plain.RoleRequest r g)))) ++ asked) (switch_turn start (switch_input.Of c xid (spoken.Plain (plain.RoleRequest r g)))).state.fence) (sym h.0)

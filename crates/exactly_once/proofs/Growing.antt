@@ -32,7 +32,7 @@ use Rattle.rv_runs.specs.declared.messages.Unsealed.{Unsealed}
 use Rattle.rv_runs.specs.declared.messages.Unsealed.TheVariants as unsealed
 use Rattle.rv_runs.specs.States.{SwitchAt, ControllerAt}
 use Rattle.exactly_once.specs.Facts.{PastFacts, Later, executed_of}
-use Rattle.exactly_once.specs.Truths.{IsGenuine, IsOver, IsDoneThrough, IsTrueEntry, IsAhead, IsTrueCommand, IsNumbered, IsTold, IsReported}
+use Rattle.exactly_once.specs.Truths.{IsGenuine, IsOver, IsDoneThrough, IsTrueEntry, IsAhead, IsTrueCommand, IsNumbered, MayTell, IsReported}
 use Rattle.exactly_once.specs.Invariant.{IsSound, IsReport, Reported, Forwarded, IsSoundAt, IsHonest, IsTrueVr, IsOrder, ToSwitch, ToMember, IsHonestAt, IsTrueBetween}
 use Rattle.controller_laws.proofs.Issued.{issued_prefix}
 
@@ -144,7 +144,7 @@ module _ (kinds : List ℕ) (setup : Setup) {f g : PastFacts} (later : Later f g
         stands = numbered_more s life i what h.stands;
       }
 
-  pub told_more : (c s : ℕ) (m : Spoken) → IsTold kinds setup f c s m → IsTold kinds setup g c s m
+  pub told_more : (c s : ℕ) (m : Spoken) → MayTell kinds setup f c s m → MayTell kinds setup g c s m
   told_more c s (spoken.Plain (plain.RoleRequest role generation)) h = h
   told_more c s (spoken.Ravana (extension.Command life generation number settled what)) h = (command_more s life settled number what h.0, h.1, h.2, h.3)
   told_more c s (spoken.Ravana (extension.EventAck life through)) h = le_trans h (processed_count s life later.decided)

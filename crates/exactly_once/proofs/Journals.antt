@@ -38,7 +38,7 @@ use Rattle.rv_runs.proofs.Entries.{ControllerGoes, Turns, Falls, Stays, Own, Oth
 use Rattle.rv_runs.specs.States.{IsFaithful}
 use Rattle.rv_runs.specs.Inputs.{IsHeard, By_draw, By_local}
 use Rattle.exactly_once.specs.Premises.{AreControllers, IsValidLog}
-use Rattle.exactly_once.specs.Invariant.{IsSound, IsSoundAt, IsReport, IsHonest, IsHonestAt, IsOrder, IsTrueBetween, IsHeardBySwitch, IsHeardByController, HoldsEntry, Logged, Gathered, Answered, Fetched, HoldsAhead, Own as Owns, Collects, Answers, Supplies, Holds}
+use Rattle.exactly_once.specs.Invariant.{IsSound, IsSoundAt, IsReport, IsHonest, IsHonestAt, IsOrder, IsTrueBetween, IsHeardBySwitch, IsHeardByController, HoldsEntry, Logged, Gathered, Answered, Fetched, HoldsAhead, Own as Owns, Collects, Answers, Supplies, HoldsOfRun}
 use Rattle.exactly_once.specs.Truths.{IsTrueEntry, IsAhead}
 use Rattle.exactly_once.proofs.Growing.{sound_more, order_more, sound_at_more, honest_at_more, between_more}
 use Rattle.exactly_once.proofs.Switches.{switch_keeps}
@@ -64,12 +64,12 @@ nothing_ahead : (f : PastFacts) (k : ℕ) (entries : List Entry) → k ≡ 0 →
 nothing_ahead f k entries is none = record { bound = omega (arith, is); one = λ j among. absurd (subst (λ (l : List Entry). IsIn (Processed j) l) none among) }
 
 module _ {B : Type 0} (scene : Scene B) (results : List (List SaveResult)) (faithful : IsFaithful scene.sealing)
-    (grows : (e : JournalEntry B) (before : List (JournalEntry B)) → IsPossible scene results (e ∷ before) → ((i : ℕ) → Holds scene results (drop i before)) → IsPrefix (decided scene results before) (decided scene results (e ∷ before)))
-    (front : (e : JournalEntry B) (before : List (JournalEntry B)) → IsPossible scene results (e ∷ before) → ((i : ℕ) → Holds scene results (drop i before)) →
+    (grows : (e : JournalEntry B) (before : List (JournalEntry B)) → IsPossible scene results (e ∷ before) → ((i : ℕ) → HoldsOfRun scene results (drop i before)) → IsPrefix (decided scene results before) (decided scene results (e ∷ before)))
+    (front : (e : JournalEntry B) (before : List (JournalEntry B)) → IsPossible scene results (e ∷ before) → ((i : ℕ) → HoldsOfRun scene results (drop i before)) →
     (c : ℕ) → c < scene.setup.controllers → IsPrefix (kept scene results c (e ∷ before)) (decided scene results (e ∷ before)))
     (sides : AreControllers scene results) where
-  module _ (e : JournalEntry B) (before : List (JournalEntry B)) (legal : IsPossible scene results (e ∷ before)) (trust : (i : ℕ) → Holds scene results (drop i before)) where
-    holds : Holds scene results before
+  module _ (e : JournalEntry B) (before : List (JournalEntry B)) (legal : IsPossible scene results (e ∷ before)) (trust : (i : ℕ) → HoldsOfRun scene results (drop i before)) where
+    holds : HoldsOfRun scene results before
     holds = trust 0
 
     pub named_switch : (s : ℕ) → same_actor (actor_of e) (actor.Switch s) ≡ true → s < length scene.setup.ports
@@ -309,10 +309,10 @@ module _ {B : Type 0} (scene : Scene B) (results : List (List SaveResult)) (fait
           | New a first letters lost is posted ↦ new_packet a first letters lost p is posted
         ]
 
-    pub holds_after : Holds scene results (e ∷ before)
+    pub holds_after : HoldsOfRun scene results (e ∷ before)
     holds_after = record { switches = sound_after; turns = turns_after; controllers = honest_after; packets = packets_after }
 
-  holds_first : Holds scene results []
+  holds_first : HoldsOfRun scene results []
   holds_first = record {
     switches = λ s there. record {
       now = starts s;
@@ -359,11 +359,11 @@ module _ {B : Type 0} (scene : Scene B) (results : List (List SaveResult)) (fait
       none_ahead c k entries (Supplies p it is log) = cc
 
   -- after every possible past, and each before it
-  all_hold : (entries : List (JournalEntry B)) → IsPossible scene results entries → (i : ℕ) → Holds scene results (drop i entries)
+  all_hold : (entries : List (JournalEntry B)) → IsPossible scene results entries → (i : ℕ) → HoldsOfRun scene results (drop i entries)
   all_hold [] legal zero = holds_first
   all_hold [] legal (suc i) = holds_first
   all_hold (e ∷ before) legal zero = holds_after e before legal (all_hold before (possible_before scene results e before legal))
   all_hold (e ∷ before) legal (suc i) = all_hold before (possible_before scene results e before legal) i
 
-  pub all_holds : (entries : List (JournalEntry B)) → IsPossible scene results entries → Holds scene results entries
+  pub all_holds : (entries : List (JournalEntry B)) → IsPossible scene results entries → HoldsOfRun scene results entries
   all_holds entries legal = all_hold entries legal 0

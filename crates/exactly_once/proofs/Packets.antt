@@ -30,7 +30,7 @@ use Rattle.rv_runs.specs.Legal.{AreTyped}
 use Rattle.rv_runs.specs.Messages.{IsValidMessage, FitsMessage, way_of, way_of_message}
 use Rattle.rv_runs.specs.States.{Sealing, content, switch_hears, controller_hears, sealed_letters, switch_message, controller_message}
 use Rattle.exactly_once.specs.Facts.{PastFacts}
-use Rattle.exactly_once.specs.Truths.{IsGoodHappening, IsTold, IsReported}
+use Rattle.exactly_once.specs.Truths.{IsGoodHappening, MayTell, IsReported}
 use Rattle.rv_runs.specs.States.{IsFaithful}
 use Rattle.exactly_once.specs.Invariant.{IsReport, Reported, Forwarded, IsOrder, ToSwitch, ToMember, IsTrueBetween, IsHeardBySwitch, IsHeardByController}
 
@@ -38,7 +38,7 @@ use Rattle.exactly_once.specs.Invariant.{IsReport, Reported, Forwarded, IsOrder,
 pub heard_by_switch : (kinds : List ℕ) (setup : Setup) (f : PastFacts) (s : ℕ) (from to : Actor) (u : Unsealed) → to ≡ actor.Switch s → IsTrueBetween kinds setup f from to u →
     IsHeardBySwitch kinds setup f s (switch_hears from u)
 heard_by_switch kinds setup f s (actor.Controller c) (actor.Switch t) (unsealed.Message (message.Of xid m)) is h =
-    let same : t ≡ s = cc in subst (λ (k : ℕ). IsTold kinds setup f c k m) same h
+    let same : t ≡ s = cc in subst (λ (k : ℕ). MayTell kinds setup f c k m) same h
 heard_by_switch kinds setup f s (actor.Controller c) (actor.Controller d) (unsealed.Message (message.Vr m)) is h = absurd cc
 heard_by_switch kinds setup f s (actor.Switch t) (actor.Controller c) (unsealed.Message (message.Of xid m)) is h = absurd cc
 heard_by_switch kinds setup f s (actor.Switch t) (actor.Switch v) (unsealed.Message (message.Frame port frame)) is h = h
@@ -65,7 +65,7 @@ reported_valid s events executed xid (spoken.Ravana (extension.Event life number
 reported_valid s events executed xid (spoken.Ravana (extension.CmdAck life number result)) h = (tt, omega arith)
 reported_valid s events executed xid _ h = absurd h
 
-pub told_valid : (kinds : List ℕ) (setup : Setup) (f : PastFacts) (c s xid : ℕ) (m : Spoken) → IsTold kinds setup f c s m → IsValidMessage (message.Of xid m)
+pub told_valid : (kinds : List ℕ) (setup : Setup) (f : PastFacts) (c s xid : ℕ) (m : Spoken) → MayTell kinds setup f c s m → IsValidMessage (message.Of xid m)
 told_valid kinds setup f c s xid (spoken.Plain (plain.RoleRequest role generation)) h = (tt, omega arith)
 told_valid kinds setup f c s xid (spoken.Ravana (extension.Command life generation number settled what)) h = h.2
 told_valid kinds setup f c s xid (spoken.Ravana (extension.EventAck life through)) h = (tt, omega arith)

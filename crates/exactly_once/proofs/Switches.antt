@@ -35,7 +35,7 @@ use Rattle.exactly_once.proofs.TableRows.{all_changed, opening_valid}
 use Rattle.exactly_once.proofs.SwitchMoves.{is_question, IsRaised, Ports, Packets, IsSaid, Tells, Reports, Roles, Refuses, Answers, Explains, Greets, Forwards, Move, Raises, Says, Notes, Changes, Clears, Executes, Masters, Fences, Restarts, turn_keeps}
 use Rattle.exactly_once.specs.Facts.{PastFacts, events_of, executed_of}
 use Rattle.app_core.specs.Orders.{AreBytes}
-use Rattle.exactly_once.specs.Truths.{IsGoodHappening, IsMade, IsNumbered, IsTold}
+use Rattle.exactly_once.specs.Truths.{IsGoodHappening, IsMade, IsNumbered, MayTell}
 use Rattle.exactly_once.specs.Invariant.{IsWell, IsSound, IsReport, Reported, Forwarded, IsHeardBySwitch}
 use Rattle.exactly_once.proofs.Growing.{report_more}
 
@@ -47,7 +47,7 @@ pub record SwitchKeeps (kinds : List ℕ) (setup : Setup) (f : PastFacts) (s : �
   pub said : (l : Letter SwitchSays) → IsIn l t.letters → IsReport s t.state.events t.state.executed l
 
 -- a controller asks no question
-not_asked : (kinds : List ℕ) (setup : Setup) (f : PastFacts) (c s : ℕ) (m : OfMessage) → is_question m ≡ true → IsTold kinds setup f c s (spoken.Plain m) → ⊥
+not_asked : (kinds : List ℕ) (setup : Setup) (f : PastFacts) (c s : ℕ) (m : OfMessage) → is_question m ≡ true → MayTell kinds setup f c s (spoken.Plain m) → ⊥
 not_asked kinds setup f c s (plain.EchoRequest body) h k = k
 not_asked kinds setup f c s plain.FeaturesRequest h k = k
 not_asked kinds setup f c s plain.BarrierRequest h k = k
@@ -197,7 +197,7 @@ module _ (kinds : List ℕ) (setup : Setup) (f : PastFacts) (s : ℕ) (x : Switc
   brought frame (Wire port is) = hears (switch_input.Local (local.Frame port frame)) is
   brought frame (Peer from port is) = (hears (switch_input.Frame from port frame) is).1
   brought frame (Output c xid life generation number through out is same) =
-      let told : IsTold kinds setup f c s (spoken.Ravana (extension.Command life generation number through (order.PacketOut out))) =
+      let told : MayTell kinds setup f c s (spoken.Ravana (extension.Command life generation number through (order.PacketOut out))) =
       hears (switch_input.Of c xid (spoken.Ravana (extension.Command life generation number through (order.PacketOut out)))) is in
       subst (λ (l : List ℕ). AreBytes l) (sym same) told.1
 
@@ -317,7 +317,7 @@ module _ (kinds : List ℕ) (setup : Setup) (f : PastFacts) (s : ℕ) (x : Switc
         (record { well = well_move s x t _ (Notes down sent outcomes dirty refl) h.sound.well; good = h.sound.good; issued = h.sound.issued; dropped = h.sound.dropped; rows = h.sound.rows })
         (prefix_refl t.state.events) (prefix_refl t.state.executed) h
     kept_by t t' (Changes c xid life generation number through change asks is) h =
-        let told : IsTold kinds setup f c s (spoken.Ravana (extension.Command life generation number through (order.FlowMod change))) =
+        let told : MayTell kinds setup f c s (spoken.Ravana (extension.Command life generation number through (order.FlowMod change))) =
         hears (switch_input.Of c xid (spoken.Ravana (extension.Command life generation number through (order.FlowMod change)))) asks in
         to_state t t' _ is
         (record {
@@ -329,10 +329,10 @@ module _ (kinds : List ℕ) (setup : Setup) (f : PastFacts) (s : ℕ) (x : Switc
         })
         (prefix_refl t.state.events) (prefix_refl t.state.executed) h
     kept_by t t' (Clears c xid life through asks own is) h =
-        let told : IsTold kinds setup f c s (spoken.Ravana (extension.EventAck life through)) = hears (switch_input.Of c xid (spoken.Ravana (extension.EventAck life through))) asks in
+        let told : MayTell kinds setup f c s (spoken.Ravana (extension.EventAck life through)) = hears (switch_input.Of c xid (spoken.Ravana (extension.EventAck life through))) asks in
         to_state t t' _ is (sound_clears t.state life through (eqb-true life (life_of t.state) own) told h.sound) (prefix_refl t.state.events) (prefix_refl t.state.executed) h
     kept_by t t' (Executes c xid life generation number through what result asks own may next is) h =
-        let told : IsTold kinds setup f c s (spoken.Ravana (extension.Command life generation number through what)) = hears (switch_input.Of c xid (spoken.Ravana (extension.Command life generation number through what))) asks in
+        let told : MayTell kinds setup f c s (spoken.Ravana (extension.Command life generation number through what)) = hears (switch_input.Of c xid (spoken.Ravana (extension.Command life generation number through what))) asks in
         let new : Executed = record { life = life_of t.state; number = number; generation = generation; from = c; order = what } in
         to_state t t' _ is
         (sound_executes t.state c life generation number what result (eqb-true life (life_of t.state) own) (eqb-true number t.state.results.executed next) told.0.stands h.sound)

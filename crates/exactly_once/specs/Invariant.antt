@@ -44,7 +44,7 @@ use Rattle.rv_runs.specs.declared.messages.Unsealed.TheVariants as unsealed
 use Rattle.rv_runs.specs.States.{Scene, SwitchAt, ControllerAt, switch_at, controller_at, content}
 use Rattle.rv_runs.specs.Legal.{IsTurn, FitsTypes, results_of}
 use Rattle.exactly_once.specs.Facts.{PastFacts, facts_of, events_of, executed_of}
-use Rattle.exactly_once.specs.Truths.{IsGoodFrame, IsGoodHappening, IsMade, IsTrueEntry, IsAhead, IsNumbered, IsTold, IsReported}
+use Rattle.exactly_once.specs.Truths.{IsGoodFrame, IsGoodHappening, IsMade, IsTrueEntry, IsAhead, IsNumbered, MayTell, IsReported}
 
 -- an entry stands at a place of a log, of whose entries these are the ones from there on
 abbrev pub StandsFrom : ℕ → List Entry → ℕ → Entry → Type 0
@@ -136,7 +136,7 @@ pub record IsTrueVr (kinds : List ℕ) (setup : Setup) (f : PastFacts) (m : VrMe
 
 -- a letter of a controller tells the truth
 pub data IsOrder (kinds : List ℕ) (setup : Setup) (f : PastFacts) (c : ℕ) (l : Letter ControllerSays) : Type 0 where
-  ToSwitch : (switch xid : ℕ) (said : Spoken) → l ≡ to_switch switch xid said → IsTold kinds setup f c switch said → IsOrder kinds setup f c l
+  ToSwitch : (switch xid : ℕ) (said : Spoken) → l ≡ to_switch switch xid said → MayTell kinds setup f c switch said → IsOrder kinds setup f c l
   ToMember : (d : ℕ) (m : VrMessage) → l ≡ to_member (record { to = d; message = m }) → IsTrueVr kinds setup f m → IsOrder kinds setup f c l
 
 pub record IsHonestAt (kinds : List ℕ) (setup : Setup) (f : PastFacts) (c : ℕ) (w : ControllerAt) : Type 0 where
@@ -145,7 +145,7 @@ pub record IsHonestAt (kinds : List ℕ) (setup : Setup) (f : PastFacts) (c : �
 
 -- a packet tells the truth; of a message between members each number fits its field
 abbrev pub IsTrueBetween : List ℕ → Setup → PastFacts → Actor → Actor → Unsealed → Type 0
-IsTrueBetween kinds setup f (actor.Controller c) (actor.Switch s) (unsealed.Message (message.Of xid said)) = IsTold kinds setup f c s said
+IsTrueBetween kinds setup f (actor.Controller c) (actor.Switch s) (unsealed.Message (message.Of xid said)) = MayTell kinds setup f c s said
 IsTrueBetween kinds setup f (actor.Controller c) (actor.Controller d) (unsealed.Message (message.Vr m)) = IsTrueVr kinds setup f m × FitsVr m
 IsTrueBetween kinds setup f (actor.Switch s) (actor.Controller c) (unsealed.Message (message.Of xid said)) =
     (s < length setup.ports) × IsReported s (f.events s) (f.executed s) said
@@ -155,7 +155,7 @@ IsTrueBetween kinds setup f from to u = ⊥
 -- what a switch hears is true
 abbrev pub IsHeardBySwitch : List ℕ → Setup → PastFacts → ℕ → SwitchInput → Type 0
 IsHeardBySwitch kinds setup f s (switch_input.Local input) = FitsTypes input
-IsHeardBySwitch kinds setup f s (switch_input.Of c xid said) = IsTold kinds setup f c s said
+IsHeardBySwitch kinds setup f s (switch_input.Of c xid said) = MayTell kinds setup f c s said
 IsHeardBySwitch kinds setup f s (switch_input.Frame from port frame) = IsGoodFrame frame
 IsHeardBySwitch kinds setup f s (switch_input.Malformed from kind code xid head) = ⊥
 
@@ -166,7 +166,7 @@ IsHeardByController kinds setup f (controller_input.Vr from m) = IsTrueVr kinds 
 IsHeardByController kinds setup f (controller_input.Malformed from) = ⊥
 
 -- all of it
-pub record Holds {B : Type 0} (scene : Scene B) (results : List (List SaveResult)) (entries : List (JournalEntry B)) : Type 0 where
+pub record HoldsOfRun {B : Type 0} (scene : Scene B) (results : List (List SaveResult)) (entries : List (JournalEntry B)) : Type 0 where
   pub switches : (s : ℕ) → s < length scene.setup.ports → IsSoundAt scene.kinds scene.setup (facts_of scene results entries) s (switch_at scene s (part (actor.Switch s) entries))
   pub turns : (s : ℕ) → s < length scene.setup.ports → IsTurn (part (actor.Switch s) entries) → (switch_at scene s (part (actor.Switch s) entries)).fresh ≡ true
   pub controllers : (c : ℕ) → c < scene.setup.controllers → IsHonestAt scene.kinds scene.setup (facts_of scene results entries) c (controller_at scene (results_of results c) c (part (actor.Controller c) entries))

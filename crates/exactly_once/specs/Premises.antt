@@ -38,7 +38,7 @@ use Rattle.rv_runs.specs.Inputs.{IsHeard}
 use Rattle.rv_runs.specs.Legal.{IsPossible}
 use Rattle.rv_runs.specs.Committed.{controller_state, kept}
 use Rattle.exactly_once.specs.Facts.{facts_of}
-use Rattle.exactly_once.specs.Invariant.{HasEntry, HoldsEntry, HasAhead, HoldsAhead, IsHonest, IsHeardByController, Holds}
+use Rattle.exactly_once.specs.Invariant.{HasEntry, HoldsEntry, HasAhead, HoldsAhead, IsHonest, IsHeardByController, HoldsOfRun}
 
 -- a result that a controller holds, or that its input brings
 abbrev pub IsMarked : ControllerState → ControllerInput → ℕ → ℕ → ℕ → Type 0
@@ -106,11 +106,11 @@ IsValidLog log = (front back : List Entry) (e : Entry) → log ≡ front ++ e �
 -- the controllers' side of a world, whose setup is within the limits. Each of its facts may use that the invariant holds after every earlier past
 pub record AreControllers {B : Type 0} (scene : Scene B) (results : List (List SaveResult)) : Type 0 where
   pub setup : IsSetup scene.setup
-  pub agree : (e : JournalEntry B) (before : List (JournalEntry B)) → IsPossible scene results (e ∷ before) → ((i : ℕ) → Holds scene results (drop i before)) →
+  pub agree : (e : JournalEntry B) (before : List (JournalEntry B)) → IsPossible scene results (e ∷ before) → ((i : ℕ) → HoldsOfRun scene results (drop i before)) →
       (c d i j : ℕ) → c < scene.setup.controllers → d < scene.setup.controllers → AreOne (kept scene results c (drop i (e ∷ before))) (kept scene results d (drop j (e ∷ before)))
-  pub valid : (e : JournalEntry B) (before : List (JournalEntry B)) → IsPossible scene results (e ∷ before) → ((i : ℕ) → Holds scene results (drop i before)) →
+  pub valid : (e : JournalEntry B) (before : List (JournalEntry B)) → IsPossible scene results (e ∷ before) → ((i : ℕ) → HoldsOfRun scene results (drop i before)) →
       (c : ℕ) → c < scene.setup.controllers → IsValidLog (kept scene results c (e ∷ before))
-  pub turns : (e : JournalEntry B) (before : List (JournalEntry B)) → IsPossible scene results (e ∷ before) → ((i : ℕ) → Holds scene results (drop i before)) →
+  pub turns : (e : JournalEntry B) (before : List (JournalEntry B)) → IsPossible scene results (e ∷ before) → ((i : ℕ) → HoldsOfRun scene results (drop i before)) →
       (c : ℕ) → c < scene.setup.controllers → same_actor (actor_of e) (actor.Controller c) ≡ true → (x : ControllerInput) → IsHeard scene e (drawn e before) x →
       IsHonest scene.kinds scene.setup (facts_of scene results before) (controller_state scene results c before) → IsHeardByController scene.kinds scene.setup (facts_of scene results before) x →
       IsGoodTurn scene.kinds scene.setup c (controller_state scene results c before) x

@@ -88,14 +88,14 @@ abbrev pub settled_of : List ℕ → Setup → PastFacts → ℕ → ℕ → ℕ
 settled_of kinds setup f s life = length (issued kinds setup s life (take (processed f.decided) (received f.decided)))
 
 -- what a controller may say to a switch
-abbrev pub IsTold : List ℕ → Setup → PastFacts → ℕ → ℕ → Spoken → Type 0
-IsTold kinds setup f c s (spoken.Plain (plain.RoleRequest role generation)) =
+abbrev pub MayTell : List ℕ → Setup → PastFacts → ℕ → ℕ → Spoken → Type 0
+MayTell kinds setup f c s (spoken.Plain (plain.RoleRequest role generation)) =
     (role ≡ MASTER) × (generation < 2 ^ 32) × (generation % setup.controllers ≡ c)
-IsTold kinds setup f c s (spoken.Ravana (extension.Command life generation number settled what)) =
+MayTell kinds setup f c s (spoken.Ravana (extension.Command life generation number settled what)) =
     IsTrueCommand kinds setup f s life settled number what × IsGoodOrder what × IsValid (spoken.Ravana (extension.Command life generation number settled what)) × (generation % setup.controllers ≡ c)
-IsTold kinds setup f c s (spoken.Ravana (extension.EventAck life through)) = through ≤ processed_of f.decided s life
-IsTold kinds setup f c s (spoken.Ravana (extension.Clear life through)) = through ≤ settled_of kinds setup f s life
-IsTold kinds setup f c s _ = ⊥
+MayTell kinds setup f c s (spoken.Ravana (extension.EventAck life through)) = through ≤ processed_of f.decided s life
+MayTell kinds setup f c s (spoken.Ravana (extension.Clear life through)) = through ≤ settled_of kinds setup f s life
+MayTell kinds setup f c s _ = ⊥
 
 -- what a switch with these lists may say to a controller
 abbrev pub IsReported : ℕ → List Event → List Executed → Spoken → Type 0

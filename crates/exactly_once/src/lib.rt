@@ -7,7 +7,7 @@ ghost use Rattle.rv_base.specs.declared.journal.SaveResult.{SaveResult};
 ghost use Rattle.rv_runs.specs.States.{Scene};
 ghost use Rattle.rv_runs.specs.Legal.{IsPossible};
 ghost use Rattle.rv_runs.specs.Laws.{IsLasting, IsFenced, IsExactlyOnce};
-ghost use Rattle.exactly_once.specs.Invariant.{Holds};
+ghost use Rattle.exactly_once.specs.Invariant.{HoldsOfRun};
 ghost use Rattle.rv_runs.specs.States.{IsFaithful};
 ghost use Rattle.exactly_once.specs.Premises.{AreControllers};
 ghost use Rattle.exactly_once.specs.SwitchTurns.{AreSwitchTurns};
@@ -15,7 +15,7 @@ ghost use Rattle.exactly_once.specs.SwitchTurns.{AreSwitchTurns};
 /// The invariant holds after every past that may have come about.
 pub fn invariant<B>()
     ensures { (scene : Scene B) (results : List (List SaveResult)) (entries : List (JournalEntry B)) →
-        IsFaithful scene.sealing → AreControllers scene results → IsPossible scene results entries → Holds scene results entries }
+        IsFaithful scene.sealing → AreControllers scene results → IsPossible scene results entries → HoldsOfRun scene results entries }
 {}
 
 /// What was decided stays decided.

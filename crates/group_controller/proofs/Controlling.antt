@@ -34,7 +34,7 @@ use Rattle.group_controller.specs.declared.messages.ControllerInput.TheVariants 
 use Rattle.group_controller.specs.Acting.{Acting, Acts, Begins, pair_with, with_out, with_state, Works}
 use Rattle.group_controller.specs.Rules.{controller_work, is_crash, is_down, is_restart, on_crash, on_input, on_local, on_restart, when_down}
 use Rattle.group_controller.specs.State.{ControllerState, Work, down, fresh, resting, stepped, to_members, with_no_met_limit}
-use Rattle.group_controller.specs.Turns.{acting_by, begins_life, Done, Keeps, KnowsPair, left_by, MayTake, pair_in, PutsBack, Restarts, Saves, LeavesShelf, Turns, AreAlike, Born, Controlling, Controls, Stands, state_of, state_or, TakesBy, TakesOne, TakesOneAtMost}
+use Rattle.group_controller.specs.Turns.{acting_by, begins_life, Done, SavesAndKeeps, KnowsPair, left_by, MayTake, pair_in, PutsBack, Restarts, Saves, LeavesShelf, Turns, AreAlike, Born, Controlling, Controls, Stands, state_of, state_or, TakesBy, TakesOne, TakesOneAtMost}
 
 -- one that is awake does what the rule of its input says
 awake_is : (c : ControllerState) → (c.vr.status ≡ Down → ⊥) → is_down c ≡ false
@@ -173,7 +173,7 @@ module _ {A : Type 0} (law : AppLaw A) (kinds : List ℕ) where
   pub act_saved : (c : Controlling A) (a left : Acting A) (input : ControllerInput) (promise : ℕ) (letters : List (Letter ControllerSays)) (new : Controlling A) (pb pa : ℕ × ℕ) (fb fa : ℕ) →
       Stands law c kinds a →
       Works law kinds c.setup (with_state a (with_no_met_limit a.work.state)) (on_input kinds c.setup (with_no_met_limit a.work.state) input) left →
-      left.promise ≡ Some promise → Keeps left (promise, c.life) letters c new pb pa fb fa → Turns kinds (record c { acting = Some a }) input letters new pb pa fb fa
+      left.promise ≡ Some promise → SavesAndKeeps left (promise, c.life) letters c new pb pa fb fa → Turns kinds (record c { acting = Some a }) input letters new pb pa fb fa
   act_saved c a left input promise letters new pb pa fb fa h w is k =
       let life : left.work.state.vr.life ≡ c.life = w.lasts.life ∙ h.life in
       let save : left.work.save ≡ Some (promise, c.life) = w.acts.saves ∙ ap (λ (p : Option ℕ). pair_with left.work.state.vr.life p) is ∙ ap (λ (n : ℕ). pair_with n (Some promise)) life in
@@ -233,7 +233,7 @@ module _ {A : Type 0} (law : AppLaw A) (kinds : List ℕ) where
 
   pub controls_saved : (c new : Controlling A) (a left : Acting A) (work : Work) (promise : ℕ) (letters : List (Letter ControllerSays)) (pb pa : ℕ × ℕ) (fb fa : ℕ) → Controls law c kinds →
       Stands law c kinds a → Works law kinds c.setup (with_state a (with_no_met_limit a.work.state)) work left → left.promise ≡ Some promise →
-      Keeps left (promise, c.life) letters c new pb pa fb fa → Controls law new kinds
+      SavesAndKeeps left (promise, c.life) letters c new pb pa fb fa → Controls law new kinds
   controls_saved c new a left work promise letters pb pa fb fa k h w is s = by_result s.result (subst (λ (x : Controlling A). Controls law x kinds) (sym s.left))
     where
       by_result : (r : SaveResult) → (Controls law (kept_by c left promise r) kinds → Controls law new kinds) → Controls law new kinds
@@ -380,7 +380,7 @@ pub knows_saved : {A : Type 0} (c new : Controlling A) (r : SaveResult) (saved p
 knows_saved c new r saved pb pa fb fa s promise life known =
     s.pair ∙ ap (λ (p : ℕ × ℕ). standing r saved p) known ∙ ap (λ (n : ℕ). (n, (standing r saved (c.promise, c.life)).1)) (sym promise) ∙ ap (λ (n : ℕ). (new.promise, n)) (sym life)
 
-pub knows_kept : {A : Type 0} (a : Acting A) (saved : ℕ × ℕ) (letters : List (Letter ControllerSays)) (c new : Controlling A) (pb pa : ℕ × ℕ) (fb fa : ℕ) → Keeps a saved letters c new pb pa fb fa → KnowsPair c new pb pa
+pub knows_kept : {A : Type 0} (a : Acting A) (saved : ℕ × ℕ) (letters : List (Letter ControllerSays)) (c new : Controlling A) (pb pa : ℕ × ℕ) (fb fa : ℕ) → SavesAndKeeps a saved letters c new pb pa fb fa → KnowsPair c new pb pa
 knows_kept a saved letters c new pb pa fb fa k =
     knows_saved c new k.result saved pb pa fb fa k.saves (ap (λ (x : Controlling _). x.promise) k.left) (ap (λ (x : Controlling _). x.life) k.left)
 

@@ -134,7 +134,7 @@ acting_by Saved a = Some (record a { work = resting a.work.state; promise = None
 acting_by KeptOld a = None
 acting_by KeptNew a = None
 
-pub record Keeps {A : Type 0} (a : Acting A) (saved : ℕ × ℕ) (letters : List (Letter ControllerSays)) (old new : Controlling A) (pair_before pair_after : ℕ × ℕ) (before after : ℕ) : Type 0 where
+pub record SavesAndKeeps {A : Type 0} (a : Acting A) (saved : ℕ × ℕ) (letters : List (Letter ControllerSays)) (old new : Controlling A) (pair_before pair_after : ℕ × ℕ) (before after : ℕ) : Type 0 where
   pub result : SaveResult
   pub saves : Saves result saved pair_before pair_after before after
   pub left : new ≡ record old {

@@ -7,7 +7,7 @@ ghost use Rattle.rv_base.specs.Stables.{standing};
 ghost use Rattle.dispatcher.specs.Ledger.{most_commands};
 ghost use Rattle.group_controller.specs.Rules.{is_crash, is_restart};
 ghost use Rattle.group_controller.specs.State.{resting, starting_controller};
-ghost use Rattle.group_controller.specs.Turns.{AreAlike, begins_life, Born, Controls, ForEachKinds, Keeps, KnowsPair, LeavesShelf, MayTake, pair_in, Restarts, Saves, Stands, state_of, TakesOne, TakesOneAtMost, Turns, Wants};
+ghost use Rattle.group_controller.specs.Turns.{AreAlike, begins_life, Born, Controls, ForEachKinds, SavesAndKeeps, KnowsPair, LeavesShelf, MayTake, pair_in, Restarts, Saves, Stands, state_of, TakesOne, TakesOneAtMost, Turns, Wants};
 ghost use Rattle.app_core.specs.Chain.{given_by};
 
 use crate::active::Active;
@@ -26,7 +26,8 @@ pub struct Controller<A> {
     alloc: Global,
     me: u8,
     setup: Setup,
-    active: Option<Active<A>>,
+    /// Boxed, since it takes almost two thousand bytes, and each turn hands it on by value four times.
+    active: Option<Box<Active<A>>>,
     promise: u32,
     life: u64,
     shelf: Vec<A>,
@@ -34,11 +35,12 @@ pub struct Controller<A> {
 }
 
 impl<A> Model for Controller<A> {
+    ghost use Rattle.std.specs.Prelude.{box_value, option_map};
     ghost use Rattle.group_controller.specs.Turns.{Controlling};
 
     ghost Value = { Controlling A };
 
-    ghost view = { λ c. record { setup = c.setup; me = c.me; promise = c.promise; life = c.life; acting = c.active; shelf = c.shelf.items; results = c.results.items } };
+    ghost view = { λ c. record { setup = c.setup; me = c.me; promise = c.promise; life = c.life; acting = option_map box_value c.active; shelf = c.shelf.items; results = c.results.items } };
 }
 
 /// (By hand, as that of what it holds.)
@@ -99,7 +101,7 @@ impl<A: App> Controller<A> {
             alloc,
             me,
             setup: setup.copy()?,
-            active: Some(active),
+            active: Some(Box::new(alloc, active)?),
             promise: 0,
             life: 0,
             shelf,
@@ -205,9 +207,9 @@ impl<A: App> Controller<A> {
     }
 
     /// What a turn left is kept, and what it posts is given.
-    fn keep(&mut self, active: Active<A>) -> Letters<ControllerSays>
-        ensures letters { result ≡ active.work.letters }
-        ensures kept { self.new ≡ record self.old { acting = Some (record active { work = resting active.work.state; promise = None }) } }
+    fn keep(&mut self, active: Box<Active<A>>) -> Letters<ControllerSays>
+        ensures letters { result ≡ active.value.work.letters }
+        ensures kept { self.new ≡ record self.old { acting = Some (record active.value { work = resting active.value.work.state; promise = None }) } }
     {
         let mut active = active;
         let letters = active.release();
@@ -218,12 +220,12 @@ impl<A: App> Controller<A> {
     /// A pair is saved before anything that a turn left is kept or posted. Where that fails nothing is.
     fn keep_saved<W: Stable>(
         &mut self,
-        active: Active<A>,
+        active: Box<Active<A>>,
         promise: u32,
         stable: &mut W,
     ) -> Result<Letters<ControllerSays>, AllocError>
         requires down { self.old.acting ≡ None }
-        ensures saves { IfOk result (λ letters. Keeps active (promise, self.old.life) letters self.old self.new (W.saving.pair stable.old) (W.saving.pair stable.new) (W.saving.faults stable.old) (W.saving.faults stable.new)) }
+        ensures saves { IfOk result (λ letters. SavesAndKeeps active.value (promise, self.old.life) letters self.old self.new (W.saving.pair stable.old) (W.saving.pair stable.new) (W.saving.faults stable.old) (W.saving.faults stable.new)) }
         ensures wants { OnErr result ((self.new ≡ self.old) × (W.saving.pair stable.new ≡ W.saving.pair stable.old) × (W.saving.faults stable.new ≡ W.saving.faults stable.old)) }
     {
         match self.save(promise, self.life, stable)? {
@@ -236,16 +238,16 @@ impl<A: App> Controller<A> {
     /// One that is not down takes an input.
     fn act<W: Stable>(
         &mut self,
-        active: Active<A>,
+        active: Box<Active<A>>,
         input: ControllerInput,
         stable: &mut W,
     ) -> Result<Letters<ControllerSays>, AllocError>
         requires down { self.old.acting ≡ None }
-        requires stands { (kinds : List ℕ) × Stands A.law self.old kinds active }
-        ensures turn { ForEachKinds (λ kinds. Stands A.law self.old kinds active) (λ kinds.
-            IfOk result (λ letters. Turns kinds (record self.old { acting = Some active }) input letters self.new (W.saving.pair stable.old) (W.saving.pair stable.new) (W.saving.faults stable.old) (W.saving.faults stable.new))) }
-        ensures wants { OnErr result (Wants (record self.old { acting = Some active }) self.new (W.saving.pair stable.old) (W.saving.pair stable.new) (W.saving.faults stable.old) (W.saving.faults stable.new)) }
-        ensures controls { ForEachKinds (λ kinds. Controls A.law self.old kinds × Stands A.law self.old kinds active) (λ kinds. Controls A.law self.new kinds) }
+        requires stands { (kinds : List ℕ) × Stands A.law self.old kinds active.value }
+        ensures turn { ForEachKinds (λ kinds. Stands A.law self.old kinds active.value) (λ kinds.
+            IfOk result (λ letters. Turns kinds (record self.old { acting = Some active.value }) input letters self.new (W.saving.pair stable.old) (W.saving.pair stable.new) (W.saving.faults stable.old) (W.saving.faults stable.new))) }
+        ensures wants { OnErr result (Wants (record self.old { acting = Some active.value }) self.new (W.saving.pair stable.old) (W.saving.pair stable.new) (W.saving.faults stable.old) (W.saving.faults stable.new)) }
+        ensures controls { ForEachKinds (λ kinds. Controls A.law self.old kinds × Stands A.law self.old kinds active.value) (λ kinds. Controls A.law self.new kinds) }
         ensures pair { KnowsPair self.old self.new (W.saving.pair stable.old) (W.saving.pair stable.new) }
         ensures who { (self.new.setup ≡ self.old.setup) × (self.new.me ≡ self.old.me) }
         ensures crash { OnErr result (is_crash input ≡ false) }
@@ -266,11 +268,11 @@ impl<A: App> Controller<A> {
     }
 
     /// The member of a life that begins, which asks the others, with the next application.
-    fn born(&mut self, life: u64) -> Result<Active<A>, AllocError>
+    fn born(&mut self, life: u64) -> Result<Box<Active<A>>, AllocError>
         requires controls { (kinds : List ℕ) × Controls A.law self.old kinds }
         ensures shelf { self.new ≡ record self.old { shelf = self.new.shelf } }
         ensures alike { ForEachKinds (Controls A.law self.old) (λ kinds. AreAlike A.law kinds self.new.shelf) }
-        ensures born { ForEachKinds (Controls A.law self.old) (λ kinds. IfOk result (Born A.law self.old kinds life)) }
+        ensures born { ForEachKinds (Controls A.law self.old) (λ kinds. IfOk result (λ active. Born A.law self.old kinds life active.value)) }
         ensures takes { IfOk result (λ _. TakesOne self.old.shelf self.new.shelf) }
         ensures lost { OnErr result (TakesOneAtMost self.old.shelf self.new.shelf) }
     {
@@ -284,7 +286,8 @@ impl<A: App> Controller<A> {
         let Some(app) = self.shelf.pop() else {
             return Err(AllocError);
         };
-        let mut active = Active::new(self.alloc, &self.setup, replica, app)?;
+        let active = Active::new(self.alloc, &self.setup, replica, app)?;
+        let mut active = Box::new(self.alloc, active)?;
         active.take(out)?;
         Ok(active)
     }
@@ -313,7 +316,7 @@ impl<A: App> Controller<A> {
             SaveResult::KeptNew => Ok(Letters::new(self.alloc)),
             SaveResult::KeptOld => {
                 // (There is room where it was taken from.)
-                let _ = self.shelf.push(active.into_app());
+                let _ = self.shelf.push(Box::into_inner(active).into_app());
                 Ok(Letters::new(self.alloc))
             }
         }

@@ -8,12 +8,13 @@ use Rattle.rv_base.specs.declared.wire.Stop.TheVariants.{OutOfMemory, JournalFul
 use Rattle.rv_base.specs.Pool.{past}
 use Rattle.rv_base.specs.Stables.{Saving}
 use Rattle.app_core.specs.Law.{AppLaw}
-use Rattle.rv_runs.specs.Schedule.{Answer, Closes, ClosesTo, FollowsInOrder, IsBegun, In_the_closing, IsJournalFull, Losing}
+use Rattle.rv_runs.specs.Schedule.{Closes, ClosesTo, FollowsInOrder, IsBegun, In_the_closing, IsJournalFull, Losing}
 use Rattle.rv_runs.specs.States.{Scene, Sealing}
 use Rattle.rv_world.specs.World.{AreMore, Holds, IfMemory, Keeps, Worlding, results_in, scene_in}
 use Rattle.rv_world.proofs.Growing.{more_then, no_more}
 use Rattle.rv_world.proofs.Turning.{keeps_then}
-use Rattle.closing.specs.Closing.{ClosingStops, HasClosed, IsCutAt}
+use Rattle.closing.specs.declared.closed.Closed.{Closed}
+use Rattle.closing.specs.Closing.{ClosingStops, HasEnded, HasReason, IsBounded, IsCutAt, answer_of}
 use Rattle.closing.proofs.Leading.{runs_again}
 use Rattle.closing.proofs.Turned.{more_told, past_joined}
 use Rattle.playing.specs.Played.{HasPlayed, Lastingly, RunStops}
@@ -33,15 +34,17 @@ module _ {B A W : Type 0} (law : AppLaw A) (saving : Saving W) (sealing : Sealin
     more_now later more = more_then now.setup.controllers (results_in now.controllers) (results_in last.controllers) later
         (more_told law (scene_in sealing now kinds) saving now last stables_now stables_last (keeps.holds kinds holds).run keeps.pairs goes_on.told) more
 
-    pub played : (script : ℕ) → script ≡ length now.journal → (answer : Answer) → HasClosed (scene_in sealing now kinds) answer now last → HasPlayed (scene_in sealing first kinds) steps script answer last
-    played script counted answer closed = record {
+    pub played : (script : ℕ) → script ≡ length now.journal → (ended : Closed) → HasEnded (scene_in sealing now kinds) now last ended → HasPlayed (scene_in sealing first kinds) steps script ended last
+    played script counted ended h = record {
       front = now.journal;
-      rest = closed.entries;
-      joined = closed.joined;
+      rest = h.closed.entries;
+      joined = h.closed.joined;
       counted = counted;
       follows = λ later more. follows later (more_now later (subst (λ s. AreMore s.controllers (results_in last.controllers) later) goes_on.setup more));
-      closes = λ later more. subst (λ (scene : Scene B). Closes scene later (past now.journal) closed.entries answer) (later_scene kinds)
-          (closed.closes later (subst (λ s. AreMore s.controllers (results_in last.controllers) later) goes_on.setup more));
+      closes = λ later more. subst (λ (scene : Scene B). Closes scene later (past now.journal) h.closed.entries (answer_of ended)) (later_scene kinds)
+          (h.closed.closes later (subst (λ s. AreMore s.controllers (results_in last.controllers) later) goes_on.setup more));
+      reason = subst (λ (scene : Scene B). HasReason ended scene (results_in last.controllers) (past now.journal) (past last.journal)) (later_scene kinds) h.reason;
+      bounded = subst (λ (scene : Scene B). IsBounded scene (results_in last.controllers) (past now.journal) h.closed.entries) (later_scene kinds) h.bounded;
     }
 
     -- the closing met the limit of the journal

@@ -1,6 +1,4 @@
-pub mod WordEnds
 pub mod Pairs
-pub mod Apart
 pub mod Bytes
 pub mod LinesAgain
 pub mod LinesTaken

@@ -12,7 +12,7 @@ use Rattle.report.specs.declared.record.Told.{Told}
 use Rattle.report.specs.declared.switch_lines.SwitchLine.{SwitchLine}
 use Rattle.report.specs.OneLine.{begins, letter_at, short_entry_at, role_words_at, switch_line_at, event_at, executed_at, row_at, first_line_at, last_line_at}
 use Rattle.report.specs.Reading.{post_at, entry_at, journal_at, told_at, switches_at, record_at, report_at}
-use Rattle.report.specs.Records.{IsToldEntry, FitsLetter, IsEventOf, IsToldExecuted, IsShown, IsTold, AreTold, IsRecord}
+use Rattle.report.specs.Records.{IsToldEntry, FitsLetter, IsEventOf, IsToldExecuted, IsShown, IsToldSwitch, AreTold, IsRecord}
 use Rattle.report.specs.Report.{word, newline, line, number, actor_word, number_or_dash, master_word, labelled, role_words, count_words, switch_line, told_lines, switch_lines, event_line, executed_line, row_line, letter_line, entry_lines, log_lines, lines_of, sum_words, end_line, text}
 use Rattle.report.specs.Spelled.{◌>>=◌, dash_or, number64_at, controller_at}
 use Rattle.report.proofs.LinesAgain as again
@@ -125,7 +125,7 @@ master_then : {R : Type 0} (c : Option ℕ) (rest : List ℕ) (more : Option ℕ
 master_then c rest more y fits follows e =
     subst (λ t. (dash_or controller_at (word t ++ rest) >>= more) ≡ y) (sym (master_is c)) (again_then controller_or_dash c rest more y fits follows e)
 
-role_is : (s : ℕ) (t : Told) (rest : List ℕ) → IsTold s t → IsParted rest → role_words_at (role_words t ++ rest) ≡ Some ((t.generation, t.master, t.life), rest)
+role_is : (s : ℕ) (t : Told) (rest : List ℕ) → IsToldSwitch s t → IsParted rest → role_words_at (role_words t ++ rest) ≡ Some ((t.generation, t.master, t.life), rest)
 unfolding role_words_at
 role_is s t rest told follows =
     ap role_words_at (role_parts t rest)
@@ -136,7 +136,7 @@ role_is s t rest told follows =
     (known_then (codes "life") _ _ _
     (again_then number32 t.life _ _ _ told.life follows refl)))))
 
-role_then : {R : Type 0} (s : ℕ) (t : Told) (rest : List ℕ) (more : (Option ℕ × Option ℕ × ℕ) × List ℕ → Option R) (y : Option R) → IsTold s t → IsParted rest → more ((t.generation, t.master, t.life), rest) ≡ y →
+role_then : {R : Type 0} (s : ℕ) (t : Told) (rest : List ℕ) (more : (Option ℕ × Option ℕ × ℕ) × List ℕ → Option R) (y : Option R) → IsToldSwitch s t → IsParted rest → more ((t.generation, t.master, t.life), rest) ≡ y →
     (role_words_at (role_words t ++ rest) >>= more) ≡ y
 role_then s t rest more y told follows e = rw (role_is s t rest told follows) e
 
@@ -159,7 +159,7 @@ switch_parts s t rest =
 abbrev pub line_of : Told → SwitchLine
 line_of t = record { generation = t.generation; master = t.master; life = t.life; events = length t.events; held = t.held; executed = length t.executed; rows = length t.rows; sent = t.sent }
 
-switch_line_is : (s : ℕ) (t : Told) (rest : List ℕ) → s < 2 ^ 8 → IsTold s t → switch_line_at s (switch_line s t ++ rest) ≡ Some (line_of t, rest)
+switch_line_is : (s : ℕ) (t : Told) (rest : List ℕ) → s < 2 ^ 8 → IsToldSwitch s t → switch_line_at s (switch_line s t ++ rest) ≡ Some (line_of t, rest)
 unfolding switch_line_at
 switch_line_is s t rest small told =
     ap (switch_line_at s) (switch_parts s t rest)
@@ -180,7 +180,7 @@ pub told_parts : (s : ℕ) (t : Told) (rest : List ℕ) → told_lines s t ++ re
 unfolding told_lines
 told_parts s t rest = four_parts (switch_line s t) (lines_of event_line t.events) (lines_of (executed_line s) t.executed) (lines_of (row_line s) t.rows) rest
 
-told_is : (s : ℕ) (t : Told) (rest : List ℕ) → s < 2 ^ 8 → IsTold s t → told_at s (told_lines s t ++ rest) ≡ Ok (t, rest)
+told_is : (s : ℕ) (t : Told) (rest : List ℕ) → s < 2 ^ 8 → IsToldSwitch s t → told_at s (told_lines s t ++ rest) ≡ Ok (t, rest)
 unfolding told_at
 told_is s t rest small told =
     ap (told_at s) (told_parts s t rest)

@@ -18,7 +18,7 @@ use Rattle.report.specs.declared.switch_lines.SwitchLine.{SwitchLine}
 use Rattle.report.specs.Lines.{line_at, each_at}
 use Rattle.report.specs.OneLine.{begins, letter_at, post_line_at, short_entry_at, log_line_at, log_entry_at, role_words_at, switch_line_at, event_at, executed_at, row_at, first_line_at, last_line_at}
 use Rattle.report.specs.Reading.{post_at, entry_at, journal_at, log_at, told_at, switches_at, setup_at, record_at, report_at, all_of, line_number, IsReadAs}
-use Rattle.report.specs.Records.{IsToldEntry, IsLogEntry, IsTold, AreTold, IsRecord}
+use Rattle.report.specs.Records.{IsToldEntry, IsLogEntry, IsToldSwitch, AreTold, IsRecord}
 use Rattle.report.specs.Report.{word, newline, line, number, actor_word, number_or_dash, master_word, labelled, switch_line, told_lines, switch_lines, event_line, executed_line, letter_line, entry_lines, log_line, log_lines, lines_of, sum_words, end_line, setup_lines, text}
 use Rattle.report.specs.Spelled.{word_at}
 use Rattle.report.proofs.LinesAgain.{post_words}
@@ -182,7 +182,7 @@ switch_again s t rest = switch_parts s t rest ∙ ap (λ l. codes "switch" ++ (w
 
 record IsToldText (s : ℕ) (bytes : List ℕ) (t : Told) (rest : List ℕ) : Type 0 where
   pub spelled : bytes ≡ told_lines s t ++ rest
-  pub is : IsTold s t
+  pub is : IsToldSwitch s t
 
 counts_same : (l : SwitchLine) (events executed rows : ℕ) → events ≡ l.events → executed ≡ l.executed → rows ≡ l.rows →
     l ≡ (record { generation = l.generation; master = l.master; life = l.life; events = events; held = l.held; executed = executed; rows = rows; sent = l.sent })

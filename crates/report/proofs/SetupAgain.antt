@@ -10,12 +10,13 @@ use Rattle.of_types.specs.declared.setup.Rule.{Rule}
 use Rattle.of_types.specs.declared.setup.Setup.{Setup}
 use Rattle.of_types.specs.Setups.{IsPort, IsAddressPrefix, IsRule, IsSetup, AreApart, ends_of}
 use Rattle.report.specs.Lines.{line_at}
-use Rattle.report.specs.OneLine.{begins, is_group, is_port, is_taken, may_join, is_asked, counts_at, ports_at, link_at, link_words_at, prefix_at, rule_words_at, rule_at}
+use Rattle.report.specs.OneLine.{begins, is_group, is_port, may_join, is_asked, counts_at, ports_at, link_at, link_words_at, prefix_at, rule_words_at, rule_at}
 use Rattle.report.specs.Reading.{port_counts_at, links_at, rules_at, setup_at}
 use Rattle.report.specs.Records.{FitsRule}
 use Rattle.report.specs.Report.{word, newline, line, number, address_word, number_or_dash, port_line, port_lines, link_line, deny_line, lines_of, setup_line, setup_lines}
 use Rattle.report.specs.Spelled.{◌>>=◌, dash_or, number16_at}
-use Rattle.report.proofs.Apart.{same_end, ends_any, IsFree, free_link}
+use Rattle.wires.specs.Wires.{is_taken}
+use Rattle.wires.proofs.Apart.{same_end, ends_any, IsFree, free_link}
 use Rattle.report.proofs.ListsAgain.{lines_then, line_then, fits_line, while_again, AllBehind}
 use Rattle.report.proofs.Readers.{after_then, again_then, test_then, end_then, parted, parted_end, line_is}
 use Rattle.report.proofs.WordsAgain.{number8, number32, number64, number16_or_dash, or_dash, address}

@@ -2,15 +2,16 @@
 use Rattle.std.proofs.Common.{rules, ◌≡◌, ◌<◌, ◌≤◌, ◌-◌, ◌%◌, ◌^◌, ◌&&◌, ◌||◌, ◌==◌, nat_le, not, ℕ, Bool, true, false, List, [], ◌∷◌, ◌++◌, length, refl, sym, subst, ◌∙◌, arith}
 use Rattle.std.proofs.lemmas.Option.{slice_get-get_or}
 use Rattle.std.specs.Prelude.{slice_index, Contains, Option, Some, None}
-use Rattle.std.specs.List.{AllByRecursion, list_any}
+use Rattle.std.specs.List.{AllByRecursion}
 use Rattle.std.proofs.lemmas.Bool.{and_parts}
 use Rattle.of_types.specs.declared.setup.Link.{Link}
 use Rattle.of_types.specs.declared.setup.Prefix.{Prefix}
 use Rattle.of_types.specs.declared.setup.Setup.{Setup}
 use Rattle.of_types.specs.Setups.{IsPort, IsAddressPrefix, AreApart, ends_of}
 use Rattle.rv_base.proofs.All.{all_append}
-use Rattle.report.specs.OneLine.{is_group, is_port, is_taken, may_join, is_asked}
-use Rattle.report.proofs.Apart.{same_end, same_end_sym, apart_link, ends_any}
+use Rattle.report.specs.OneLine.{is_group, is_port, may_join, is_asked}
+use Rattle.wires.specs.Wires.{is_taken}
+use Rattle.wires.proofs.Apart.{same_end_sym, apart_link, free_is, not_true}
 
 -- ---- tests
 
@@ -20,10 +21,6 @@ or_is false y P e one other = other e
 
 number_is : (m n : ℕ) → (m == n) ≡ true → m ≡ n
 number_is m n e = search (rules, e)
-
-pub not_true : (b : Bool) → not b ≡ true → b ≡ false
-not_true true e = absurd cc
-not_true false e = refl
 
 pub group_is : (n : ℕ) → is_group n ≡ true → Contains (1 ∷ 3 ∷ 5 ∷ 7 ∷ []) n
 group_is n e =
@@ -45,9 +42,6 @@ port_is setup switch port e =
     let there : switch < length setup.ports = search (rules, e) in
     let within : (1 ≤ port) × (port ≤ slice_index setup.ports switch) = search (rules, e) in
     (within.0, (slice_index setup.ports switch, slice_get-get_or setup.ports switch 0 there, within.1))
-
-free_is : (switch port : ℕ) (links : List Link) → not (is_taken switch port links) ≡ true → list_any (same_end (switch, port)) (ends_of links) ≡ false
-free_is switch port links e = ends_any (same_end (switch, port)) links ∙ not_true (is_taken switch port links) e
 
 pub joined_link : (setup : Setup) (before : List Link) (l : Link) → AreLinks setup before → may_join setup.ports before l ≡ true → AreLinks setup (before ++ l ∷ [])
 joined_link setup before l h e =

@@ -1,9 +1,10 @@
 -- Bytes in base sixteen as they are read.
-use Rattle.std.proofs.Common.{◌≡◌, ℕ, zero, suc, ◌+◌, ◌*◌, ◌≤◌, ◌<◌, Bool, false, List, [], ◌∷◌, ◌++◌, length, drop, take, get_or, set, refl, sym, ◌∙◌, ap, arith}
+use Rattle.std.proofs.Common.{◌≡◌, ℕ, zero, suc, ◌+◌, ◌*◌, ◌≤◌, ◌<◌, Bool, true, false, List, [], ◌∷◌, ◌++◌, length, drop, take, get_or, set, refl, sym, ◌∙◌, ap, arith}
 use Rattle.std.specs.Prelude.{Option, Some, None, is_some, ◌&&◌}
 use Rattle.std.specs.List.{list_all}
 use Rattle.std.proofs.Math.Seq.{take-suc-set}
-use Rattle.std.proofs.lemmas.List.{append-nil, append_assoc, drop-drop, get_or-drop, length-drop, take_all}
+use Rattle.std.proofs.lemmas.Bool.{and_parts}
+use Rattle.std.proofs.lemmas.List.{append-nil, append_assoc, take_all}
 use Rattle.report.specs.Spelled.{◌>>=◌, byte_of, digit_of, digits_of, is_digit}
 
 -- an odd number of digits tells no bytes
@@ -38,10 +39,6 @@ abbrev pub behind : List ℕ → Option (List ℕ) → Option (List ℕ)
 behind front None = None
 behind front (Some more) = Some (front ++ more)
 
-pub behind_nothing : (o : Option (List ℕ)) → behind [] o ≡ o
-behind_nothing None = refl
-behind_nothing (Some more) = refl
-
 one_more : (front : List ℕ) (b : ℕ) (o : Option (List ℕ)) → behind (front ++ b ∷ []) o ≡ behind front (o >>= λ bytes. Some (b ∷ bytes))
 one_more front b None = refl
 one_more front b (Some bytes) = ap (λ l. Some l) (append_assoc front (b ∷ []) bytes)
@@ -50,27 +47,26 @@ byte_is : (high low h l : ℕ) → digit_of high ≡ Some h → digit_of low ≡
 unfolding byte_of
 byte_is high low h l e f = rw (e, f) refl
 
-pair_more : (front rest : List ℕ) (b : ℕ) → 2 ≤ length rest → byte_of (get_or rest 0 0) (get_or rest 1 0) ≡ Some b → behind (front ++ b ∷ []) (digits_of (drop 2 rest)) ≡ behind front (digits_of rest)
+pair_more : (front rest : List ℕ) (b : ℕ) → 2 ≤ length rest → byte_of (get_or (take 2 rest) 0 0) (get_or (take 2 rest) 1 0) ≡ Some b → behind (front ++ b ∷ []) (digits_of (drop 2 rest)) ≡ behind front (digits_of rest)
 unfolding digits_of
 pair_more front [] b two e = absurd (omega (arith, two))
 pair_more front (high ∷ []) b two e = absurd (omega (arith, two))
 pair_more front (high ∷ low ∷ rest) b two e = rw e (one_more front b (digits_of rest))
 
 -- one byte more is read
-pub byte_read : (digits bytes : List ℕ) (i h l : ℕ) → 2 * i + 1 < length digits → i < length bytes → digit_of (get_or digits (2 * i) 0) ≡ Some h → digit_of (get_or digits (2 * i + 1) 0) ≡ Some l →
-    behind (take i bytes) (digits_of (drop (2 * i) digits)) ≡ digits_of digits → behind (take (i + 1) (set bytes i (16 * h + l))) (digits_of (drop (2 * (i + 1)) digits)) ≡ digits_of digits
-byte_read digits bytes i h l less room high low read =
-    let rest = drop (2 * i) digits in
+pub byte_read : (digits bytes rest : List ℕ) (i h l : ℕ) → 2 ≤ length rest → i < length bytes → digit_of (get_or (take 2 rest) 0 0) ≡ Some h → digit_of (get_or (take 2 rest) 1 0) ≡ Some l →
+    behind (take i bytes) (digits_of rest) ≡ digits_of digits → behind (take (i + 1) (set bytes i (16 * h + l))) (digits_of (drop 2 rest)) ≡ digits_of digits
+byte_read digits bytes rest i h l two room high low read =
     let b = 16 * h + l in
-    let long = length-drop (2 * i) digits in
-    let none : 2 * i + 0 ≡ 2 * i = omega arith in
     let one : i + 1 ≡ suc i = omega arith in
-    let two : 2 * i + 2 ≡ 2 * (i + 1) = omega arith in
-    let byte = byte_is (get_or rest 0 0) (get_or rest 1 0) h l (ap (λ d. digit_of d) (get_or-drop (2 * i) digits 0 0 ∙ ap (λ n. get_or digits n 0) none) ∙ high) (ap (λ d. digit_of d) (get_or-drop (2 * i) digits 1 0) ∙ low) in
     let taken : take (i + 1) (set bytes i b) ≡ take i bytes ++ b ∷ [] = ap (λ n. take n (set bytes i b)) one ∙ take-suc-set bytes i b room in
-    ap (λ f. behind f (digits_of (drop (2 * (i + 1)) digits))) taken
-    ∙ ap (λ r. behind (take i bytes ++ b ∷ []) (digits_of r)) (sym (drop-drop 2 (2 * i) digits ∙ ap (λ n. drop n digits) two))
-    ∙ pair_more (take i bytes) rest b (omega (arith, less, long)) byte ∙ read
+    ap (λ f. behind f (digits_of (drop 2 rest))) taken ∙ pair_more (take i bytes) rest b two (byte_is _ _ h l high low) ∙ read
+
+-- what is behind digits is digits
+pub digits_behind : (rest : List ℕ) → list_all is_digit rest ≡ true → list_all is_digit (drop 2 rest) ≡ true
+digits_behind [] all = refl
+digits_behind (d ∷ []) all = refl
+digits_behind (high ∷ low ∷ rest) all = (and_parts (is_digit low) (list_all is_digit rest) (and_parts (is_digit high) (is_digit low && list_all is_digit rest) all).1).1
 
 -- all bytes are read
 none_left : (rest : List ℕ) → length rest ≡ 0 → digits_of rest ≡ Some []
@@ -78,7 +74,6 @@ unfolding digits_of
 none_left [] none = refl
 none_left (d ∷ rest) none = absurd (omega (arith, none))
 
-pub bytes_read : (digits bytes : List ℕ) (i : ℕ) → length digits ≤ 2 * i → length bytes ≤ i → behind (take i bytes) (digits_of (drop (2 * i) digits)) ≡ digits_of digits → digits_of digits ≡ Some bytes
-bytes_read digits bytes i over all read =
-    let long = length-drop (2 * i) digits in
-    sym read ∙ ap (λ o. behind (take i bytes) o) (none_left (drop (2 * i) digits) (omega (arith, over, long))) ∙ ap (λ l. Some l) (append-nil (take i bytes) ∙ take_all i bytes all)
+pub bytes_read : (digits bytes rest : List ℕ) (i : ℕ) → length rest ≡ 0 → length bytes ≤ i → behind (take i bytes) (digits_of rest) ≡ digits_of digits → digits_of digits ≡ Some bytes
+bytes_read digits bytes rest i none all read =
+    sym read ∙ ap (λ o. behind (take i bytes) o) (none_left rest none) ∙ ap (λ l. Some l) (append-nil (take i bytes) ∙ take_all i bytes all)

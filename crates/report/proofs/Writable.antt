@@ -22,7 +22,7 @@ use Rattle.report.specs.declared.record.Record.{Record}
 use Rattle.report.specs.declared.record.Shown.{Shown}
 use Rattle.report.specs.declared.record.Told.{Told}
 use Rattle.report.specs.Fits.{FitsEntry, FitsMessage, FitsEvent, FitsLogEntry, FitsExecuted, FitsShown, FitsTold, FitsRecord}
-use Rattle.report.specs.Records.{IsToldEntry, IsTellable, IsToldEvent, IsLogEntry, IsToldExecuted, IsShown, IsEventOf, IsTold, AreTold, IsRecord}
+use Rattle.report.specs.Records.{IsToldEntry, IsTellable, IsToldEvent, IsLogEntry, IsToldExecuted, IsShown, IsEventOf, IsToldSwitch, AreTold, IsRecord}
 use Rattle.report.specs.Writable.{HasLine, IsWritableEvent, IsWritableExecuted, IsWritableRow, IsWritableTold, AreWritable, IsWritable}
 use Rattle.report.proofs.Bytes.{bare_match_bytes, actions_bytes, message_bytes}
 
@@ -76,7 +76,7 @@ shown r f s = record {
   actions = record { few = s.few; ports = f.actions; bytes = actions_bytes r.actions };
 }
 
-told : (switch : ℕ) (t : Told) → FitsTold t → IsWritableTold switch t → IsTold switch t
+told : (switch : ℕ) (t : Told) → FitsTold t → IsWritableTold switch t → IsToldSwitch switch t
 told switch t f s = record {
   generation = f.generation;
   master = f.master;

@@ -1,6 +1,6 @@
 -- Each line of a report as it is read. One that is past a limit of a setup does not fit.
 use Rattle.std.specs.Prelude.{ℕ, ◌-◌, ◌%◌, ◌^◌, Bool, not, ◌==◌, ◌&&◌, ◌||◌, nat_eq, nat_lt, nat_le, List, length, slice_index, Option, Some, None, codes, if◌then◌else◌}
-use Rattle.std.specs.List.{list_any, starts_with}
+use Rattle.std.specs.List.{starts_with}
 use Rattle.numerals.specs.Numerals.{is_numeral}
 use Rattle.of_types.specs.declared.message.Event.{Event}
 use Rattle.of_types.specs.declared.message.Executed.{Executed}
@@ -19,6 +19,7 @@ use Rattle.report.specs.declared.record.Shown.{Shown}
 use Rattle.report.specs.declared.switch_lines.SwitchLine.{SwitchLine}
 use Rattle.report.specs.Canonical.{happening_at, order_at, matching_at, actions_at}
 use Rattle.report.specs.Spelled.{◌>>=◌, after_at, end_at, known_at, word_at, number8_at, number16_at, number32_at, number64_at, labelled_at, actor_at, controller_at, dash_or, flag_at, address_at, hex_at}
+use Rattle.wires.specs.Wires.{is_taken}
 
 -- bytes begin with a text
 abbrev pub begins : List ℕ → List ℕ → Bool
@@ -49,13 +50,6 @@ ports_at switch bytes = do
 
 abbrev pub is_port : List ℕ → ℕ → ℕ → Bool
 is_port ports switch port = nat_lt switch (length ports) && nat_le 1 port && nat_le port (slice_index ports switch)
-
--- whether a port is an end of a wire, and of one of these
-abbrev pub is_end : ℕ → ℕ → Link → Bool
-is_end switch port l = (l.switch == switch && l.port == port) || (l.peer == switch && l.peer_port == port)
-
-abbrev pub is_taken : ℕ → ℕ → List Link → Bool
-is_taken switch port links = list_any (is_end switch port) links
 
 -- a wire may stand behind these
 abbrev pub may_join : List ℕ → List Link → Link → Bool

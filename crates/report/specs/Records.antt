@@ -110,7 +110,7 @@ pub record IsEventOf (switch : ℕ) (e : Event) : Type 0 where
   pub of : e.switch ≡ switch
 
 -- what is told of a switch
-pub record IsTold (switch : ℕ) (t : Told) : Type 0 where
+pub record IsToldSwitch (switch : ℕ) (t : Told) : Type 0 where
   pub generation : IfSome t.generation (λ g. g < 2 ^ 64)
   pub master : IfSome t.master (λ c. c < 2 ^ 8)
   pub life : t.life < 2 ^ 32
@@ -126,7 +126,7 @@ pub record IsTold (switch : ℕ) (t : Told) : Type 0 where
 -- the switches from this one on
 abbrev pub AreTold : ℕ → List Told → Type 0
 AreTold switch [] = Unit {0}
-AreTold switch (t ∷ switches) = IsTold switch t × AreTold (switch + 1) switches
+AreTold switch (t ∷ switches) = IsToldSwitch switch t × AreTold (switch + 1) switches
 
 pub record IsRecord (r : Record) : Type 0 where
   pub setup : IsSetup r.setup

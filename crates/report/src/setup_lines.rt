@@ -1,7 +1,7 @@
 //! The lines of a setup as they are read. One that is past a limit does not fit.
 ghost use Rattle.std.specs.Prelude.{◌≡◌};
 ghost use Rattle.report.specs.Lines.{GivesLines, line_at};
-ghost use Rattle.report.specs.OneLine.{counts_at, ports_at, is_port, is_end, is_taken, may_join, link_words_at, link_at, prefix_at, rule_words_at, is_asked, rule_at};
+ghost use Rattle.report.specs.OneLine.{counts_at, ports_at, is_port, may_join, link_words_at, link_at, prefix_at, rule_words_at, is_asked, rule_at};
 ghost use Rattle.report.specs.Reading.{port_counts_at, links_at, rules_at, setup_at};
 ghost use Rattle.report.specs.Spelled.{Gives};
 
@@ -9,6 +9,7 @@ use crate::fault::{Broken, Misfit, on_line};
 use crate::spelled::{address, after, end_of_line, number8, number16_or_dash, number32, number64};
 use of_types::{Items, Link, Links, PortCounts, Prefix, Rule, Rules, Setup};
 use std::alloc::Global;
+use wires::is_taken;
 
 /// The most switches.
 const MOST_SWITCHES: u64 = 64;
@@ -76,20 +77,6 @@ fn is_port(ports: &[u32], switch: u8, port: u32) -> bool
         Some(count) => (1..=*count).contains(&port),
         None => false,
     }
-}
-
-/// Whether a port is an end of a wire.
-fn is_end(switch: u8, port: u32, link: &Link) -> bool
-    ensures { result ≡ is_end switch port link.now }
-{
-    (link.switch == switch && link.port == port) || (link.peer == switch && link.peer_port == port)
-}
-
-/// Whether a port is an end of one of these wires.
-fn is_taken(switch: u8, port: u32, links: &[Link]) -> bool
-    ensures { result ≡ is_taken switch port links.now }
-{
-    links.iter().any(|link| is_end(switch, port, link))
 }
 
 /// Whether a wire may stand behind these.

@@ -1,12 +1,11 @@
 //! The words of a line as they are read. Each stands behind a space, and ends before the next space or the end of
 //! the line.
-ghost use Rattle.std.specs.Prelude.{◌≡◌, ◌≤◌, ◌<◌, length, position, Some, true, IfOk, IfSome};
-ghost use Rattle.std.specs.List.{list_all};
+ghost use Rattle.std.specs.Prelude.{◌≡◌, ◌≤◌, ◌<◌, ◌*◌, length, position, Some, true, IfOk, IfSome};
+ghost use Rattle.std.specs.List.{list_all, list_any};
 ghost use Rattle.report.specs.Spelled as spelled;
 ghost use Rattle.report.specs.Spelled.{Gives, is_digit};
 
 use crate::fault::Misfit;
-use memchr::memchr2;
 use numerals::numeral_within;
 use of_types::Octets;
 use rv_base::Actor;
@@ -41,12 +40,49 @@ pub fn known<'a>(name: &[u8], bytes: &'a [u8]) -> Result<&'a [u8], Misfit>
     after(name, rest)
 }
 
+fn ends_word(byte: u8) -> bool
+    ensures { result ≡ spelled.ends_word byte }
+{
+    byte == b' ' || byte == b'\n'
+}
+
 /// Where a word ends, if it ends.
 fn word_end(text: &[u8]) -> Option<usize>
     ensures exact { result ≡ position spelled.ends_word text.now }
     ensures within { IfSome result (λ n. n ≤ length text.now) }
 {
-    memchr2(b' ', b'\n', text)
+    text.iter().position(|byte| ends_word(*byte))
+}
+
+/// So many bytes of a long word are tested at a time.
+const BLOCK: usize = 16;
+
+/// Whether one of these bytes ends a word. Each is tested, whatever those before it were: a loop with no way out becomes vectors.
+fn has_end(block: &[u8; BLOCK]) -> bool
+    ensures { result ≡ list_any spelled.ends_word block.now }
+{
+    let mut found = false;
+    for byte in block {
+        found |= ends_word(*byte);
+    }
+    found
+}
+
+/// How many bytes a word has. Blocks with no end are passed over first, which serves a long word; a short one `word_end` finds sooner.
+fn long_word_len(text: &[u8]) -> usize
+    ensures value { result ≡ spelled.length_before spelled.ends_word text.now }
+    ensures within { result ≤ length text.now }
+{
+    let mut len = 0;
+    let mut rest = text;
+    'passing: while let Some((block, behind)) = rest.split_first_chunk::<BLOCK>() {
+        if has_end(block) {
+            break;
+        }
+        len += BLOCK;
+        rest = behind;
+    }
+    len + word_end(rest).unwrap_or(rest.len())
 }
 
 /// A word, and what comes behind it.
@@ -56,6 +92,15 @@ pub fn word(bytes: &[u8]) -> Result<(&[u8], &[u8]), Misfit>
 {
     let text = after(b" ", bytes)?;
     Ok(text.split_at(word_end(text).unwrap_or(text.len())))
+}
+
+/// The same, for a word that may be long.
+#[tactic(auto, unfolding(crate::specs::Spelled::word_at))]
+fn long_word(bytes: &[u8]) -> Result<(&[u8], &[u8]), Misfit>
+    ensures { Gives (λ x. (x.0.now, x.1.now)) result (spelled.word_at bytes.now) }
+{
+    let text = after(b" ", bytes)?;
+    Ok(text.split_at(long_word_len(text)))
 }
 
 /// A number up to a greatest one.
@@ -261,7 +306,7 @@ pub fn address(bytes: &[u8]) -> Result<(u32, &[u8]), Misfit>
 fn is_digit(digit: u8) -> bool
     ensures { result ≡ is_digit digit }
 {
-    matches!(digit, b'0'..=b'9' | b'a'..=b'f')
+    digit.is_ascii_digit() || matches!(digit, b'a'..=b'f')
 }
 
 /// The number of such a digit.
@@ -273,14 +318,33 @@ fn value_of(digit: u8) -> u8
     if digit < b'a' {
         digit - b'0'
     } else {
-        digit - 87
+        digit - b'a' + 10
     }
 }
 
+/// Whether each byte is such a digit. Each is tested, as in `has_end`.
 fn are_digits(digits: &[u8]) -> bool
     ensures { result ≡ list_all is_digit digits.now }
 {
-    digits.iter().all(|digit| is_digit(*digit))
+    let mut all = true;
+    for digit in digits {
+        all &= is_digit(*digit);
+    }
+    all
+}
+
+/// Reads two digits into each byte of a room.
+fn read_pairs(room: &mut [u8], digits: &[u8])
+    requires digits { list_all is_digit digits.now ≡ true }
+    requires pairs { length digits.now ≡ 2 * length room.old }
+    ensures { spelled.digits_of digits.now ≡ Some room.new }
+{
+    let mut rest = digits;
+    for byte in room.iter_mut() {
+        let (pair, behind) = rest.split_at(2);
+        *byte = 16 * value_of(pair[0]) + value_of(pair[1]);
+        rest = behind;
+    }
 }
 
 fn digits_of(alloc: Global, digits: &[u8]) -> Result<Octets, Misfit>
@@ -289,11 +353,8 @@ fn digits_of(alloc: Global, digits: &[u8]) -> Result<Octets, Misfit>
     if digits.len() % 2 == 1 || !are_digits(digits) {
         return Err(Misfit::Text);
     }
-    let mut bytes = Vec::new(alloc);
-    bytes.resize(digits.len() / 2, 0)?;
-    for index in 0..digits.len() / 2 {
-        bytes[index] = 16 * value_of(digits[2 * index]) + value_of(digits[2 * index + 1]);
-    }
+    let mut bytes = vec![in alloc; 0; digits.len() / 2]?;
+    read_pairs(&mut bytes, digits);
     Ok(Octets::from_vec(bytes))
 }
 
@@ -315,7 +376,7 @@ fn hex_bytes(alloc: Global, text: &[u8]) -> Result<Octets, Misfit>
 pub fn hex(alloc: Global, bytes: &[u8]) -> Result<(Octets, &[u8]), Misfit>
     ensures { Gives (λ x. (x.0, x.1.now)) result (spelled.hex_at bytes.now) }
 {
-    let (text, rest) = word(bytes)?;
+    let (text, rest) = long_word(bytes)?;
     let bytes = hex_bytes(alloc, text)?;
     Ok((bytes, rest))
 }

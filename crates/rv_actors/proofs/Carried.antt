@@ -41,7 +41,7 @@ use Rattle.rv_runs.proofs.Entries.{Another, Mine, Other, Own, controller_after, 
 use Rattle.rv_runs.proofs.Pasts.{from_some, possible_after, possible_before, self_controller, self_switch}
 use Rattle.rv_runs.proofs.Pools.{New, Was, drawn_found, one_actor, pool_after}
 use Rattle.exactly_once.specs.Facts.{PastFacts, facts_of}
-use Rattle.exactly_once.specs.Invariant.{Forwarded, Holds, IsOrder, IsReport, Reported, ToMember, ToSwitch}
+use Rattle.exactly_once.specs.Invariant.{Forwarded, HoldsOfRun, IsOrder, IsReport, Reported, ToMember, ToSwitch}
 use Rattle.exactly_once.proofs.Packets.{reported_valid, told_valid}
 use Rattle.rv_laws.proofs.Laws.{always}
 use Rattle.rv_actors.proofs.Carrying.{carried, carried_entry, carried_found, carried_letters, carried_packet, carried_part, any_carried, input_carried, map_same, part_carried, pool_carried, posted_carried, same_actors, waiting_carried}
@@ -76,7 +76,7 @@ module _ {B : Type 0} (sealing : Sealing B) (faithful : IsFaithful sealing) (kin
   abbrev pub scene_of : Scene B
   scene_of = record { setup = setup; kinds = kinds; sealing = sealing }
 
-  holds : (entries : List (JournalEntry B)) → IsPossible scene_of results entries → Holds scene_of results entries
+  holds : (entries : List (JournalEntry B)) → IsPossible scene_of results entries → HoldsOfRun scene_of results entries
   holds entries possible = always scene_of results is_setup faithful entries possible zero
 
   pub switch_can : (s : ℕ) → s < length setup.ports → (entries : List (JournalEntry B)) → IsPossible scene_of results entries → AreTyped switch_message (switch_at scene_of s (part (actor.Switch s) entries)).owed →

@@ -20,12 +20,11 @@ use Rattle.app_core.specs.Law.{AppLaw}
 use Rattle.rv_bodies.specs.declared.typed.Typed.{Typed}
 use Rattle.rv_runs.specs.declared.messages.Message.{Message}
 use Rattle.rv_runs.specs.Bodies.{byte_bodies, message_bytes}
-use Rattle.rv_runs.specs.Committed.{controller_state, decided, switch_state}
+use Rattle.rv_runs.specs.Committed.{controller_state, switch_state}
 use Rattle.rv_runs.specs.Legal.{results_of}
 use Rattle.rv_runs.specs.States.{ControllerAt, SwitchAt, controller_at, controller_message, sealed_letters, switch_at, switch_message}
 use Rattle.rv_runs.proofs.Pasts.{from_some}
 use Rattle.rv_world.specs.World.{HoldsAt, Worlding, debt_of, results_in}
-use Rattle.rv_world.proofs.Growing.{no_more}
 use Rattle.rv_actors.specs.Bare.{bare, bare_entry, bare_letters, scene_bytes, scene_typed, typed_bodies}
 use Rattle.rv_actors.specs.SameSteps.{AreTwins, IsAsBytes, TakeTheSameSteps, TwinsTakeTheSameSteps}
 use Rattle.rv_actors.proofs.Carrying.{map_joined}
@@ -121,16 +120,12 @@ module _ {A : Type 0} (law : AppLaw A) (kinds : List ℕ) (said : Worlding Typed
       ∙ sym (sealed_bare switch_message (switch_at (scene_typed kinds said.setup) s (part (actor.Switch s) Past)).owed)
       ∙ ap (λ (ls : List (Letter Typed)). bare_letters ls) (sym (run_typed.switch_debts s there).sealed)
 
-  decided_bytes : decided (scene_bytes kinds said.setup) Results (bare Past) ≡ spelled.decided
-  decided_bytes = of_twin (λ s r l. decided (scene_bytes kinds s) r l ≡ spelled.decided) (twins.over_bytes.decided (results_in spelled.controllers) (no_more spelled.setup.controllers (results_in spelled.controllers)))
-
   same_steps : TakeTheSameSteps said spelled
   same_steps = record {
     controllers = same_at (map (λ c. state_of c) spelled.controllers) (map (λ c. state_of c) said.controllers)
         (length-map spelled.controllers (λ c. state_of c) ∙ run_bytes.group ∙ sym run_typed.group ∙ sym (length-map said.controllers (λ c. state_of c))) same_state;
     switches = same_at spelled.switches said.switches (run_bytes.count ∙ sym run_typed.count) same_switch;
     owed = owed_same;
-    decided_is = sym decided_bytes ∙ as_bytes.decided_is ∙ twins.over_messages.decided Results (no_more said.setup.controllers Results);
     turns = λ t. ap (λ (l : List (JournalEntry (List ℕ))). entry_of t l) past_is ∙ as_bytes.turns t;
   }
 

@@ -54,13 +54,11 @@ pub record AreTwins {A : Type 0} (law : AppLaw A) (kinds : List ℕ) (said : Wor
   pub journal : spelled.journal ≡ bare said.journal
   pub results : results_in spelled.controllers ≡ results_in said.controllers
 
--- take the same steps: their actors are at the same states and owe the same letters, the same is decided, and each turn
--- makes the same entry
+-- take the same steps: their actors are at the same states and owe the same letters, and each turn makes the same entry
 pub record TakeTheSameSteps {A : Type 0} (said : Worlding Typed A) (spelled : Worlding (List ℕ) A) : Type 0 where
   pub controllers : map (λ c. state_of c) spelled.controllers ≡ map (λ c. state_of c) said.controllers
   pub switches : spelled.switches ≡ said.switches
   pub owed : (a : Actor) → IsActor said.setup a → debt_of spelled.owed a ≡ bare_letters (debt_of said.owed a)
-  pub decided_is : spelled.decided ≡ said.decided
   pub turns : (turn : Turn) → entry_of turn (past spelled.journal) ≡ bare_entry (entry_of turn (past said.journal))
 
 abbrev pub TwinsTakeTheSameSteps : {A : Type 0} → AppLaw A → Type 0

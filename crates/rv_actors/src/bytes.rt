@@ -1,19 +1,20 @@
 //! A body that is bytes.
 ghost use Rattle.std.specs.Prelude.{◌≡◌, refl, ◌++◌, length, IfOk};
 ghost use Rattle.of_bytes.specs.Numbers.{four};
-ghost use Rattle.rv_runs.specs.Bodies.{byte_bodies, message_bytes};
+ghost use Rattle.rv_runs.specs.Bodies.{byte_bodies};
 ghost use Rattle.rv_runs.proofs.Bodies.{bytes_again};
 
 use crate::reading::{read_frame, read_spoken, read_vr};
 use of_bytes::four;
 use of_ravana::canonical;
-use of_types::Octets;
+use of_types::{Octets, Spoken};
 use rv_base::Weight;
 use rv_bodies::Body;
-use rv_runs::{Message, Unsealed, Way};
+use rv_runs::{Unsealed, Way};
 use std::alloc::{AllocError, Global};
 use std::marker::Model;
 use vr_codec::encode_vr;
+use vr_log::VrMessage;
 
 /// A body as the bytes that a network would carry: a message of OpenFlow 1.3 between a controller and a switch, one of the
 /// replicated log between two controllers, and on a link the number of the receiving port, highest byte first, before the
@@ -46,6 +47,13 @@ impl Bytes {
     {
         self.bytes.as_slice()
     }
+
+    /// Gives the bytes. It takes no memory.
+    pub fn into_octets(self) -> Octets
+        ensures { result ≡ self }
+    {
+        self.bytes
+    }
 }
 
 impl Weight for Bytes {
@@ -71,17 +79,6 @@ fn linked(alloc: Global, port: u32, frame: &[u8]) -> Result<Octets, AllocError>
     Ok(bytes)
 }
 
-/// The bytes of a message.
-fn message_bytes(alloc: Global, message: &Message) -> Result<Octets, AllocError>
-    ensures { IfOk result (λ bytes. bytes ≡ message_bytes message.now) }
-{
-    match message {
-        Message::Of { xid, message } => canonical(alloc, *xid, message),
-        Message::Vr(message) => encode_vr(alloc, message),
-        Message::Frame { port, bytes } => linked(alloc, *port, bytes.as_slice()),
-    }
-}
-
 impl Body for Bytes {
     ghost sealing = { byte_bodies };
 
@@ -89,10 +86,22 @@ impl Body for Bytes {
 
     ghost weighed = { refl };
 
-    fn seal(alloc: Global, message: Message) -> Result<Bytes, AllocError> {
-        let bytes = message_bytes(alloc, &message)?;
-        drop(message);
-        Ok(Bytes { bytes })
+    fn seal_spoken(alloc: Global, xid: u32, said: &Spoken) -> Result<Bytes, AllocError> {
+        Ok(Bytes {
+            bytes: canonical(alloc, xid, said)?,
+        })
+    }
+
+    fn seal_vr(alloc: Global, said: &VrMessage) -> Result<Bytes, AllocError> {
+        Ok(Bytes {
+            bytes: encode_vr(alloc, said)?,
+        })
+    }
+
+    fn seal_frame(alloc: Global, port: u32, frame: &Octets) -> Result<Bytes, AllocError> {
+        Ok(Bytes {
+            bytes: linked(alloc, port, frame.as_slice())?,
+        })
     }
 
     fn unseal(&self, alloc: Global, way: Way) -> Result<Unsealed, AllocError> {

@@ -6,25 +6,22 @@ use of_types::{Items, Octets};
 use rv_base::{Journal, JournalEntry, Letter, Letters};
 use std::alloc::{AllocError, Global};
 
-fn bare_letters(alloc: Global, letters: &[Letter<Bytes>]) -> Result<Letters<Octets>, AllocError>
-    ensures { IfOk result (λ bare. bare ≡ letters.now) }
+fn bare_letters(alloc: Global, letters: Letters<Bytes>) -> Result<Letters<Octets>, AllocError>
+    ensures { IfOk result (λ bare. bare ≡ letters) }
 {
+    let letters = letters.into_vec();
     let mut bare = Items::from_vec(Vec::with_capacity(alloc, letters.len())?);
     for letter in letters {
-        let body = Octets::from_slice(alloc, letter.body.as_slice())?;
         bare.push(Letter {
             to: letter.to,
-            body,
+            body: letter.body.into_octets(),
         })?;
     }
     Ok(bare)
 }
 
-fn bare_entry(
-    alloc: Global,
-    entry: &JournalEntry<Bytes>,
-) -> Result<JournalEntry<Octets>, AllocError>
-    ensures { IfOk result (λ bare. bare ≡ entry.now) }
+fn bare_entry(alloc: Global, entry: JournalEntry<Bytes>) -> Result<JournalEntry<Octets>, AllocError>
+    ensures { IfOk result (λ bare. bare ≡ entry) }
 {
     match entry {
         JournalEntry::Post {
@@ -32,40 +29,25 @@ fn bare_entry(
             first,
             letters,
             lost,
-        } => {
-            let letters = bare_letters(alloc, letters.as_slice())?;
-            Ok(JournalEntry::Post {
-                actor: *actor,
-                first: *first,
-                letters,
-                lost: *lost,
-            })
-        }
-        JournalEntry::Draw { actor, id, keep } => Ok(JournalEntry::Draw {
-            actor: *actor,
-            id: *id,
-            keep: *keep,
+        } => Ok(JournalEntry::Post {
+            actor,
+            first,
+            letters: bare_letters(alloc, letters)?,
+            lost,
         }),
-        JournalEntry::Lose { actor, id } => Ok(JournalEntry::Lose {
-            actor: *actor,
-            id: *id,
-        }),
-        JournalEntry::Local { actor, input } => {
-            let input = input.copy()?;
-            Ok(JournalEntry::Local {
-                actor: *actor,
-                input,
-            })
-        }
-        JournalEntry::Idle { actor } => Ok(JournalEntry::Idle { actor: *actor }),
-        JournalEntry::Refused { actor } => Ok(JournalEntry::Refused { actor: *actor }),
+        JournalEntry::Draw { actor, id, keep } => Ok(JournalEntry::Draw { actor, id, keep }),
+        JournalEntry::Lose { actor, id } => Ok(JournalEntry::Lose { actor, id }),
+        JournalEntry::Local { actor, input } => Ok(JournalEntry::Local { actor, input }),
+        JournalEntry::Idle { actor } => Ok(JournalEntry::Idle { actor }),
+        JournalEntry::Refused { actor } => Ok(JournalEntry::Refused { actor }),
     }
 }
 
-/// The same journal, each body as its bytes.
-pub fn bare(alloc: Global, journal: &[JournalEntry<Bytes>]) -> Result<Journal<Octets>, AllocError>
-    ensures { IfOk result (λ bare. bare ≡ journal.now) }
+/// The same journal, each body as its bytes, which are moved.
+pub fn bare(alloc: Global, journal: Journal<Bytes>) -> Result<Journal<Octets>, AllocError>
+    ensures { IfOk result (λ bare. bare ≡ journal) }
 {
+    let journal = journal.into_vec();
     let mut entries = Items::from_vec(Vec::with_capacity(alloc, journal.len())?);
     for entry in journal {
         entries.push(bare_entry(alloc, entry)?)?;

@@ -6,7 +6,7 @@ ghost use Rattle.rv_runs.specs.Messages.{message_size, said_on};
 ghost use Rattle.rv_runs.proofs.Bodies.{own_again};
 
 use crate::body::Body;
-use of_types::{Items, Spoken, size_of_extension, size_of_plain};
+use of_types::{Items, Octets, Spoken, size_of_extension, size_of_plain};
 use rv_base::Weight;
 use rv_runs::{Message, Unsealed, Way};
 use std::alloc::{AllocError, Global};
@@ -123,8 +123,24 @@ impl Body for Typed {
 
     ghost weighed = { refl };
 
-    fn seal(_alloc: Global, message: Message) -> Result<Typed, AllocError> {
-        Ok(Typed { message })
+    fn seal_spoken(_alloc: Global, xid: u32, said: &Spoken) -> Result<Typed, AllocError> {
+        let message = said.copy()?;
+        Ok(Typed {
+            message: Message::Of { xid, message },
+        })
+    }
+
+    fn seal_vr(_alloc: Global, said: &VrMessage) -> Result<Typed, AllocError> {
+        Ok(Typed {
+            message: Message::Vr(said.copy()?),
+        })
+    }
+
+    fn seal_frame(_alloc: Global, port: u32, frame: &Octets) -> Result<Typed, AllocError> {
+        let bytes = frame.copy()?;
+        Ok(Typed {
+            message: Message::Frame { port, bytes },
+        })
     }
 
     fn unseal(&self, alloc: Global, way: Way) -> Result<Unsealed, AllocError> {

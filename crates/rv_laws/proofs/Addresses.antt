@@ -12,13 +12,13 @@ use Rattle.rv_runs.specs.Committed.{controller_state}
 use Rattle.addresses.specs.Addresses.{IsOfSwitch, AreOfSwitches}
 use Rattle.exactly_once.specs.Facts.{PastFacts}
 use Rattle.exactly_once.specs.Truths.{IsTrueEntry}
-use Rattle.exactly_once.specs.Invariant.{Logged, Holds}
+use Rattle.exactly_once.specs.Invariant.{Logged, HoldsOfRun}
 
 of_switch : (kinds : List ℕ) (setup : Setup) (f : PastFacts) (i : ℕ) (e : Entry) → IsTrueEntry kinds setup f i e → IsOfSwitch setup e
 of_switch kinds setup f i (Received event) h = h.there
 of_switch kinds setup f i (Processed j) h = tt
 
-pub logs_named : {B : Type 0} (scene : Scene B) (results : List (List SaveResult)) (entries : List (JournalEntry B)) → Holds scene results entries →
+pub logs_named : {B : Type 0} (scene : Scene B) (results : List (List SaveResult)) (entries : List (JournalEntry B)) → HoldsOfRun scene results entries →
     (c : ℕ) → c < scene.setup.controllers → AreOfSwitches scene.setup (controller_state scene results c entries).vr.log
 logs_named scene results entries holds c there =
     all_in (λ e. IsOfSwitch scene.setup e) (controller_state scene results c entries).vr.log

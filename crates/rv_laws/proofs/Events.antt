@@ -17,7 +17,7 @@ use Rattle.rv_runs.specs.States.{Scene, content, controller_hears}
 use Rattle.rv_runs.specs.Legal.{IsPossible}
 use Rattle.rv_agreement.specs.Reading.{DrawsValidEvent, DrawsValidEvents}
 use Rattle.exactly_once.specs.Facts.{PastFacts, facts_of}
-use Rattle.exactly_once.specs.Invariant.{Holds, IsHeardByController}
+use Rattle.exactly_once.specs.Invariant.{HoldsOfRun, IsHeardByController}
 use Rattle.rv_runs.proofs.Pasts.{possible_before}
 use Rattle.rv_runs.proofs.Pools.{drawn_found}
 use Rattle.exactly_once.proofs.Packets.{heard_by_controller, happening_short}
@@ -34,7 +34,7 @@ heard_valid kinds setup f (controller_input.Malformed from) h = tt
 heard_valid kinds setup f (controller_input.Vr from m) h = tt
 
 module _ {B : Type 0} (scene : Scene B) (results : List (List SaveResult)) where
-  draws_valid : (e : JournalEntry B) (before : List (JournalEntry B)) → IsPossible scene results (e ∷ before) → Holds scene results before → DrawsValidEvent scene e (drawn e before)
+  draws_valid : (e : JournalEntry B) (before : List (JournalEntry B)) → IsPossible scene results (e ∷ before) → HoldsOfRun scene results before → DrawsValidEvent scene e (drawn e before)
   draws_valid (Draw (actor.Controller c) id keep) before legal holds =
       let r = drawn_found scene.sealing.size (actor.Controller c) id keep before legal.orderly in
       subst (λ (q : Option (Packet B)). DrawsValidEvent scene (Draw (actor.Controller c) id keep) q) (sym r.found)
@@ -47,6 +47,6 @@ module _ {B : Type 0} (scene : Scene B) (results : List (List SaveResult)) where
   draws_valid (Lose a id) before legal holds = tt
   draws_valid (Idle a) before legal holds = tt
 
-  pub events_valid : (entries : List (JournalEntry B)) → IsPossible scene results entries → ((i : ℕ) → Holds scene results (drop (suc i) entries)) → DrawsValidEvents scene entries
+  pub events_valid : (entries : List (JournalEntry B)) → IsPossible scene results entries → ((i : ℕ) → HoldsOfRun scene results (drop (suc i) entries)) → DrawsValidEvents scene entries
   events_valid [] legal trust = tt
   events_valid (e ∷ before) legal trust = (draws_valid e before legal (trust 0), events_valid before (possible_before scene results e before legal) (λ i. trust (suc i)))

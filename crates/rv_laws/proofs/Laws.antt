@@ -17,7 +17,7 @@ use Rattle.rv_runs.specs.Legal.{IsPossible, results_of}
 use Rattle.rv_runs.specs.Committed.{controller_state}
 use Rattle.rv_runs.specs.Laws.{IsLasting, IsFenced, IsExactlyOnce}
 use Rattle.exactly_once.specs.Facts.{facts_of}
-use Rattle.exactly_once.specs.Invariant.{Holds}
+use Rattle.exactly_once.specs.Invariant.{HoldsOfRun}
 use Rattle.exactly_once.specs.Premises.{IsValidLog, AreControllers}
 use Rattle.exactly_once.proofs.Executed.{holds_always}
 use Rattle.rv_runs.proofs.Pasts.{possible_drop}
@@ -50,10 +50,10 @@ module _ {B : Type 0} (scene : Scene B) (results : List (List SaveResult)) where
 
   module _ (setup : IsSetup scene.setup) (faithful : IsFaithful scene.sealing) where
     -- where the invariant held of every earlier past, bodies are read as they were sealed
-    read_after : (entries : List (JournalEntry B)) → IsPossible scene results entries → ((i : ℕ) → Holds scene results (drop (suc i) entries)) → AreReadAsSealed scene entries
+    read_after : (entries : List (JournalEntry B)) → IsPossible scene results entries → ((i : ℕ) → HoldsOfRun scene results (drop (suc i) entries)) → AreReadAsSealed scene entries
     read_after entries possible trust = WhereValid faithful (events_valid scene results entries possible trust)
 
-    agreed : (entries : List (JournalEntry B)) → IsPossible scene results entries → ((i : ℕ) → Holds scene results (drop (suc i) entries)) → AreAgreed scene results entries
+    agreed : (entries : List (JournalEntry B)) → IsPossible scene results entries → ((i : ℕ) → HoldsOfRun scene results (drop (suc i) entries)) → AreAgreed scene results entries
     agreed entries possible trust c d i j there there' =
         let group = odd_law scene.setup setup in
         kept_law scene results group.0 entries c d i j group.1 (read_after entries possible trust) possible there there'
@@ -69,7 +69,7 @@ module _ {B : Type 0} (scene : Scene B) (results : List (List SaveResult)) where
           (λ view known. known_view scene.kinds scene.setup x state honest.views (heard_view scene.kinds scene.setup (facts_of scene results before) x hears) view known);
     }
 
-    pub always : (entries : List (JournalEntry B)) → IsPossible scene results entries → (i : ℕ) → Holds scene results (drop i entries)
+    pub always : (entries : List (JournalEntry B)) → IsPossible scene results entries → (i : ℕ) → HoldsOfRun scene results (drop i entries)
     always entries possible i = holds_always scene results faithful sides (drop i entries) (possible_drop scene results i entries possible)
 
     led : (entries : List (JournalEntry B)) → IsPossible scene results entries → IsLed scene results entries

@@ -1,20 +1,24 @@
 //! What an actor is to those who carry its letters.
-ghost use Rattle.std.specs.Prelude.{◌≡◌, []};
+ghost use Rattle.std.specs.Prelude.{◌≡◌, [], IfOk};
 ghost use Rattle.rv_base.specs.declared.journal.Actor.{Actor};
 ghost use Rattle.rv_base.specs.declared.journal.Local.{Local};
 ghost use Rattle.group_controller.specs.declared.messages.ControllerInput.TheVariants as controller_input;
 ghost use Rattle.of_switch.specs.declared.says.SwitchInput.TheVariants as switch_input;
 ghost use Rattle.rv_runs.specs.declared.messages.Message.{Message};
 ghost use Rattle.rv_runs.specs.declared.messages.Unsealed.{Unsealed};
+ghost use Rattle.rv_runs.specs.Messages.{FitsMessage};
 ghost use Rattle.rv_runs.specs.States.{switch_hears, controller_hears, switch_message, controller_message};
 
 use app_core::App;
 use group_controller::{Controller, ControllerInput, ControllerSays};
+use of_bytes::u32_fits;
 use of_switch::{Switch, SwitchInput, SwitchSays};
 use of_types::Items;
 use rv_base::{Actor, Local};
+use rv_bodies::{Body, spoken_fits};
 use rv_runs::{Message, Unsealed};
-use std::alloc::Global;
+use std::alloc::{AllocError, Global};
+use vr_codec::vr_fits;
 
 /// A switch, or a controller.
 pub trait Player {
@@ -38,9 +42,10 @@ pub trait Player {
     fn hear(alloc: Global, from: Actor, unsealed: Unsealed) -> Self::Input
         ensures { result ≡ hears from unsealed };
 
-    /// The message of what it says.
-    fn message(says: Self::Says) -> Message
-        ensures { result ≡ said says };
+    /// The body of what it says. Each number of it fits its field.
+    fn seal<B: Body>(alloc: Global, says: &Self::Says) -> Result<B, AllocError>
+        ensures body { IfOk result (λ body. body ≡ B.sealing.sealed (said says.now)) }
+        ensures typed { FitsMessage (said says.now) };
 }
 
 /// A message that no such sender sends to a switch.
@@ -101,10 +106,17 @@ impl Player for Switch {
         }
     }
 
-    fn message(says: SwitchSays) -> Message {
+    fn seal<B: Body>(alloc: Global, says: &SwitchSays) -> Result<B, AllocError> {
         match says {
-            SwitchSays::Of { xid, message } => Message::Of { xid, message },
-            SwitchSays::Frame { port, bytes } => Message::Frame { port, bytes },
+            SwitchSays::Of { xid, message } => {
+                u32_fits(*xid);
+                spoken_fits(message);
+                B::seal_spoken(alloc, *xid, message)
+            }
+            SwitchSays::Frame { port, bytes } => {
+                u32_fits(*port);
+                B::seal_frame(alloc, *port, bytes)
+            }
         }
     }
 }
@@ -143,10 +155,17 @@ impl<A: App> Player for Controller<A> {
         }
     }
 
-    fn message(says: ControllerSays) -> Message {
+    fn seal<B: Body>(alloc: Global, says: &ControllerSays) -> Result<B, AllocError> {
         match says {
-            ControllerSays::Of { xid, message } => Message::Of { xid, message },
-            ControllerSays::Vr(message) => Message::Vr(message),
+            ControllerSays::Of { xid, message } => {
+                u32_fits(*xid);
+                spoken_fits(message);
+                B::seal_spoken(alloc, *xid, message)
+            }
+            ControllerSays::Vr(message) => {
+                vr_fits(message);
+                B::seal_vr(alloc, message)
+            }
         }
     }
 }

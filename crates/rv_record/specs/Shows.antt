@@ -1,13 +1,15 @@
 -- What a report tells of a run.
-use Rattle.std.specs.Prelude.{◌≡◌, ℕ, List, [], length, map, drop}
+use Rattle.std.specs.Prelude.{◌≡◌, ℕ, List, [], length, map, drop, slice_get, Some, None}
 use Rattle.std.specs.List.{range_with_len}
 use Rattle.of_types.specs.declared.message.Row.{Row}
 use Rattle.rv_base.specs.declared.journal.JournalEntry.{JournalEntry}
 use Rattle.rv_base.specs.declared.journal.SaveResult.{SaveResult}
 use Rattle.rv_base.specs.Pool.{past}
+use Rattle.vr_log.specs.declared.entry.Entry.{Entry}
+use Rattle.group_controller.specs.Turns.{Controlling, state_of}
 use Rattle.of_switch.specs.State.{SwitchState, life_of}
 use Rattle.rv_runs.specs.States.{Scene}
-use Rattle.rv_runs.specs.Committed.{decided, switch_state}
+use Rattle.rv_runs.specs.Committed.{kept, kept_of, switch_state}
 use Rattle.rv_runs.specs.Schedule.{count_turns}
 use Rattle.rv_world.specs.World.{Worlding}
 use Rattle.report.specs.declared.record.Record.{Record}
@@ -32,27 +34,34 @@ told_of s =
       rows = map shown_row s.rows;
     }
 
--- what is told of a world: so many steps made its script, and so many of its entries
-abbrev pub told_by : {A : Type 0} → Worlding (List ℕ) A → ℕ → ℕ → Record
-told_by w steps script = record {
+-- what the controller of a number has committed
+abbrev pub committed_at : {A : Type 0} → List (Controlling A) → ℕ → List Entry
+committed_at controllers c = elim (slice_get controllers c) [
+  | None ↦ []
+  | Some x ↦ kept_of (state_of x)
+]
+
+-- what is told of a world, with the log of a primary: so many steps made its script, and so many of its entries
+abbrev pub told_by : {A : Type 0} → Worlding (List ℕ) A → ℕ → ℕ → ℕ → Record
+told_by w primary steps script = record {
   setup = w.setup;
   journal = w.journal;
-  log = w.decided;
+  log = committed_at w.controllers primary;
   switches = map told_of w.switches;
   script = steps;
   closing = count_turns (drop script w.journal);
 }
 
 -- the same without the journal
-abbrev pub sums_by : {A : Type 0} → Worlding (List ℕ) A → ℕ → ℕ → Record
-sums_by w steps script = record (told_by w steps script) { journal = [] }
+abbrev pub sums_by : {A : Type 0} → Worlding (List ℕ) A → ℕ → ℕ → ℕ → Record
+sums_by w primary steps script = record (told_by w primary steps script) { journal = [] }
 
--- a record tells of this journal, with so many steps of a script and this closing: its setup, each entry, what was
--- decided, each switch as the journal leaves it, and how many turns there were
-pub record Shows (scene : Scene (List ℕ)) (results : List (List SaveResult)) (steps : ℕ) (closing journal : List (JournalEntry (List ℕ))) (told : Record) : Type 0 where
+-- a record tells of this journal, with so many steps of a script and this closing by a primary: its setup, each entry, what
+-- the primary has committed, each switch as the journal leaves it, and how many turns there were
+pub record Shows (scene : Scene (List ℕ)) (results : List (List SaveResult)) (primary steps : ℕ) (closing journal : List (JournalEntry (List ℕ))) (told : Record) : Type 0 where
   pub setup : told.setup ≡ scene.setup
   pub journal_is : told.journal ≡ journal
-  pub log : told.log ≡ decided scene results (past journal)
+  pub log : told.log ≡ kept scene results primary (past journal)
   pub script : told.script ≡ steps
   pub closing_is : told.closing ≡ count_turns closing
   pub switches : told.switches ≡ map (λ s. told_of (switch_state scene s (past journal))) (range_with_len 0 (length scene.setup.ports))

@@ -33,5 +33,5 @@ played_holds law sealing w kinds rests p = record {
     switch_debts = λ s within. no_debt switch_message sealing w.owed (actor.Switch s) (switch_at (scene_in sealing w kinds) s (part (actor.Switch s) (past w.journal))).owed rests (p.switches_rest s within);
     debtor = rw rests tt;
   };
-  decided = p.decided;
+  few = p.few;
 }

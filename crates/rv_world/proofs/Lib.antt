@@ -1,7 +1,6 @@
 pub mod Acting
 pub mod Shelves
 pub mod Counting
-pub mod Appending
 pub mod Places
 pub mod Finding
 pub mod Taking
@@ -15,8 +14,8 @@ pub mod Quiet
 pub mod Starts
 pub mod Adopting
 pub mod Stables
-pub mod Deciding
 pub mod Turning
 pub mod Serving
 pub mod Drawing
 pub mod Viewing
+pub mod Yielding

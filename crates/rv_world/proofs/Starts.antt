@@ -1,20 +1,20 @@
 -- The invariant holds of a world as it starts.
-use Rattle.std.proofs.Common.{◌≡◌, ◌<◌, ℕ, List, [], length, refl, sym, ◌∙◌, ap, subst, arith, zero, suc, ◌+◌}
-use Rattle.std.specs.Prelude.{slice_get, map, Some, None}
+use Rattle.std.proofs.Common.{◌≡◌, ◌<◌, ℕ, ◌≤◌, List, [], ◌∷◌, length, refl, sym, ◌∙◌, ap, subst, arith, zero, suc, ◌+◌}
+use Rattle.std.specs.Prelude.{Contains, slice_get, map, Some, None, Vec}
 use Rattle.std.specs.List.{range_with_len}
 use Rattle.std.proofs.lemmas.Option.{slice_get_within}
 use Rattle.of_types.specs.declared.setup.Setup.{Setup}
 use Rattle.of_types.specs.Setups.{IsSetup}
 use Rattle.rv_base.specs.declared.journal.JournalEntry.{JournalEntry}
-use Rattle.rv_base.specs.declared.journal.SaveResult.{SaveResult}
 use Rattle.rv_base.specs.Pool.{past}
 use Rattle.of_switch.specs.State.{starting_switch}
+use Rattle.app_core.specs.Chain.{given_by}
 use Rattle.app_core.specs.Law.{AppLaw}
-use Rattle.group_controller.specs.Turns.{Controlling, pair_in, state_of}
-use Rattle.rv_runs.specs.Committed.{decided}
+use Rattle.dispatcher.specs.Ledger.{most_commands}
+use Rattle.group_controller.specs.Turns.{AreAlike, Controlling, pair_in, state_of}
 use Rattle.rv_runs.specs.States.{Scene, Sealing}
 use Rattle.rv_runs.proofs.Pasts.{from_some}
-use Rattle.rv_world.specs.World.{AreNew, Holds, HoldsAt, Worlding, results_in, scene_in}
+use Rattle.rv_world.specs.World.{AreNew, AreStocked, Holds, HoldsAt, Worlding, results_in, scene_in}
 use Rattle.rv_world.proofs.Places.{results_at}
 
 -- a list by numbers, at a number
@@ -60,18 +60,31 @@ starts_pairs law setup kinds count controllers news c x found =
     let n = news.each c (omega (arith, within, group)) in
     ap (λ s. pair_in s) (ap state_of (from_some x n.0 (sym found ∙ n.1)) ∙ n.2.state)
 
-nothing_decided : {B : Type 0} (scene : Scene B) (later : List (List SaveResult)) → decided scene later [] ≡ []
-unfolding decided
-nothing_decided scene later = refl
+-- a group has a controller
+pub some_controller : (n : ℕ) → Contains (1 ∷ 3 ∷ 5 ∷ 7 ∷ []) n → 0 < n
+some_controller n (zero, below, is) = omega (arith, is)
+some_controller n (suc zero, below, is) = omega (arith, is)
+some_controller n (suc (suc zero), below, is) = omega (arith, is)
+some_controller n (suc (suc (suc zero)), below, is) = omega (arith, is)
+some_controller n (suc (suc (suc (suc k))), below, is) = absurd (omega (arith, below))
+
+-- the applications of a group that starts give no more commands for an event than a ledger holds: its first controller has one
+pub few_given : {A G : Type 0} (law : AppLaw A) (kinds : List ℕ) (shelves : List (Vec A G)) → 0 < length shelves → AreStocked law kinds shelves → given_by kinds ≤ most_commands
+few_given law kinds [] some stocked = absurd (omega (arith, some))
+few_given law kinds (shelf ∷ shelves) some stocked = of_shelf shelf.items stocked.0.some stocked.0.alike
+  where
+    of_shelf : (apps : List _) → 0 < length apps → AreAlike law kinds apps → given_by kinds ≤ most_commands
+    of_shelf [] some alike = absurd (omega (arith, some))
+    of_shelf (app ∷ apps) some alike = subst (λ (k : List ℕ). given_by k ≤ most_commands) alike.0.0 alike.0.1
 
 -- the world holds, where it is of this setup
-pub world_holds : {B A : Type 0} (law : AppLaw A) (sealing : Sealing B) (kinds : List ℕ) (w : Worlding B A) (setup : Setup) → w.setup ≡ setup → w.journal ≡ [] → w.owed ≡ None → w.decided ≡ [] →
+pub world_holds : {B A : Type 0} (law : AppLaw A) (sealing : Sealing B) (kinds : List ℕ) (w : Worlding B A) (setup : Setup) → w.setup ≡ setup → w.journal ≡ [] → w.owed ≡ None → given_by kinds ≤ most_commands →
     IsSetup setup → AreNew law setup kinds setup.controllers w.controllers → w.switches ≡ map (λ s. starting_switch s setup) (range_with_len 0 (length setup.ports)) → Holds law sealing w kinds
-world_holds law sealing kinds w setup setup_is journal rests undecided is news switches =
+world_holds law sealing kinds w setup setup_is journal rests few is news switches =
     let scene = scene_in sealing w kinds in
     record {
       run = subst (λ (l : List (JournalEntry _)). HoldsAt law scene (results_in w.controllers) l w) (sym (ap (λ l. past l) journal))
           (world_starts law scene w (subst (λ s. IsSetup s) (sym setup_is) is) rests (subst (λ s. AreNew law s kinds s.controllers w.controllers) (sym setup_is) news)
           (subst (λ s. w.switches ≡ map (λ n. starting_switch n s) (range_with_len 0 (length s.ports))) (sym setup_is) switches));
-      decided = λ later more. ap (λ l. decided scene later (past l)) journal ∙ nothing_decided scene later ∙ sym undecided;
+      few = few;
     }

@@ -1,5 +1,5 @@
 -- What a world keeps through the step of an actor, and through the post of what it owes.
-use Rattle.std.proofs.Common.{◌≡◌, ◌<◌, ◌≤◌, ℕ, true, false, Bool, List, [], ◌∷◌, ◌++◌, length, drop, refl, sym, ◌∙◌, ap, subst, arith, append-nil}
+use Rattle.std.proofs.Common.{◌≡◌, ◌<◌, ◌≤◌, ℕ, true, false, Bool, List, [], ◌∷◌, ◌++◌, length, refl, sym, ◌∙◌, ap, subst, arith, append-nil}
 use Rattle.std.specs.Prelude.{slice_get, Option, Some, None, IfSome, Result, Ok, Err, OnOk, IfErr, if◌then◌else◌}
 use Rattle.std.specs.List.{AllByRecursion}
 use Rattle.std.proofs.lemmas.Bool.{eqb-true}
@@ -10,7 +10,6 @@ use Rattle.rv_base.specs.declared.journal.JournalEntry.{JournalEntry}
 use Rattle.rv_base.specs.declared.journal.JournalEntry.TheVariants.{Post, Draw, Lose, Local, Idle, Refused}
 use Rattle.rv_base.specs.declared.journal.Letter.{Letter}
 use Rattle.rv_base.specs.declared.journal.Packet.{Packet}
-use Rattle.rv_base.specs.declared.journal.SaveResult.{SaveResult}
 use Rattle.rv_base.specs.Actors.{actor_of, same_actor, IsActor}
 use Rattle.rv_base.specs.Orderly.{IsOrderly, lost_of}
 use Rattle.rv_base.specs.Part.{part, drawn}
@@ -20,31 +19,27 @@ use Rattle.rv_base.specs.declared.wire.Stop.{Stop}
 use Rattle.rv_base.specs.declared.wire.Stop.TheVariants.{OutOfMemory, JournalFull}
 use Rattle.rv_base.specs.Turns.{entry_of, posting, turn_actor}
 use Rattle.rv_base.proofs.Lists.{past-push}
-use Rattle.vr_log.specs.declared.entry.Entry.{Entry}
 use Rattle.of_switch.specs.State.{SwitchState}
 use Rattle.of_switch.specs.declared.says.SwitchInput.{SwitchInput}
 use Rattle.rv_base.specs.Stables.{Saving}
 use Rattle.app_core.specs.Law.{AppLaw}
 use Rattle.group_controller.specs.declared.messages.ControllerInput.{ControllerInput}
 use Rattle.group_controller.specs.declared.messages.ControllerSays.{ControllerSays}
-use Rattle.group_controller.specs.Turns.{Controlling, state_of, Controls}
+use Rattle.group_controller.specs.Turns.{Controlling, Controls}
 use Rattle.rv_runs.specs.declared.messages.Message.{Message}
 use Rattle.rv_runs.specs.Inputs.{IsHeard, IsHeardAt}
 use Rattle.rv_runs.specs.Legal.{EntryFits, Fits, results_of}
-use Rattle.rv_runs.specs.Committed.{controller_state, decided, kept, kept_of}
 use Rattle.rv_runs.specs.Schedule.{IsInputOf}
 use Rattle.rv_runs.specs.States.{IsFaithful, Scene, Sealing, controller_at, switch_at, controller_message, switch_message}
 use Rattle.rv_runs.proofs.Pasts.{from_some}
 use Rattle.rv_world.specs.declared.debt.Debt.{Debt}
 use Rattle.rv_world.specs.Actors.{ControllerOwes, ControllerTakes, SwitchOwes}
-use Rattle.rv_world.specs.World.{AreMore, AreTold, Holds, HoldsAt, IfMemory, IsOwed, Keeps, PairsStand, Steps, Worlding, debt_of, decided_with, posts_of, results_in, scene_in}
-use Rattle.rv_world.proofs.Deciding.{decided_by_one, decided_same}
-use Rattle.rv_world.proofs.Growing.{more_then, possible_with_more, same_at}
+use Rattle.rv_world.specs.World.{AreTold, Holds, HoldsAt, IfMemory, IsOwed, Keeps, PairsStand, Steps, Worlding, debt_of, posts_of, results_in, scene_in}
 use Rattle.rv_world.proofs.Holding.{controller_holds}
 use Rattle.rv_world.proofs.Keeping.{none_said, switch_holds}
-use Rattle.rv_world.proofs.Places.{got_other, got_set, results_at}
+use Rattle.rv_world.proofs.Places.{got_other, got_set}
 use Rattle.rv_world.proofs.Quiet.{quiet_holds}
-use Rattle.rv_world.proofs.Resting.{IsQuiet, other_controller, own_controller, owed_behind}
+use Rattle.rv_world.proofs.Resting.{IsQuiet, owed_behind}
 use Rattle.rv_world.proofs.Stables.{each_told, each_told_then, pairs_stand, unsaved_told}
 
 -- nothing is saved
@@ -103,42 +98,10 @@ named_debtor scene (e ∷ before) a named h = same_named (actor_of e) a h.1 name
     same_named (actor.Controller i) (actor.Switch j) same is = cc
     same_named (actor.Switch i) (actor.Controller j) same is = cc
 
--- a controller that an entry does not name, or in whose entry none takes a turn, is what it was
-other_part : {B : Type 0} (a : Actor) (e : JournalEntry B) (entries : List (JournalEntry B)) → same_actor (actor_of e) a ≡ false → part a (e ∷ entries) ≡ part a entries
-other_part a e entries other = rw other refl
-
-other_state : {B : Type 0} (scene : Scene B) (later : List (List SaveResult)) (e : JournalEntry B) (entries : List (JournalEntry B)) (d : ℕ) → same_actor (actor_of e) (actor.Controller d) ≡ false →
-    controller_state scene later d (e ∷ entries) ≡ controller_state scene later d entries
-other_state {B = B} scene later e entries d other =
-    ap (λ (ps : List (JournalEntry B × Option (Packet B))). (controller_at scene (results_of later d) d ps).now) (other_part (actor.Controller d) e entries other)
-
-quiet_state : {B : Type 0} (scene : Scene B) (later : List (List SaveResult)) (entries : List (JournalEntry B)) (e : JournalEntry B) → IsQuiet e → (d : ℕ) →
-    controller_state scene later d (e ∷ entries) ≡ controller_state scene later d entries
-quiet_state scene later entries e quiet d = by_actor (same_actor (actor_of e) (actor.Controller d)) refl
-  where
-    by_actor : (b : Bool) → same_actor (actor_of e) (actor.Controller d) ≡ b → controller_state scene later d (e ∷ entries) ≡ controller_state scene later d entries
-    by_actor true is = (own_controller scene later entries e quiet d is).now
-    by_actor false is = ap (λ y. y.now) (other_controller scene later entries e quiet d is)
-
 -- the controller of a number behind its turn
 pub new_found : {A W : Type 0} {law : AppLaw A} {saving : Saving W} {x : ControllerInput} {before after : List (Controlling A)} {stables stables_after : List W} {c : ℕ}
     {letters : List (Letter ControllerSays)} (t : ControllerTakes law saving x before stables c after stables_after letters) → slice_get after c ≡ Some t.new
 new_found {before = before} {c = c} t = ap (λ l. slice_get l c) t.state ∙ got_set before c t.old t.new t.stood
-
--- a controller that an entry does not name has committed what it had
-others_kept : {B : Type 0} (scene : Scene B) (later : List (List SaveResult)) (e : JournalEntry B) (entries : List (JournalEntry B)) (d : ℕ) → same_actor (actor_of e) (actor.Controller d) ≡ false →
-    kept scene later d (e ∷ entries) ≡ kept scene later d entries
-others_kept scene later e entries d other = ap kept_of (other_state scene later e entries d other)
-
--- each controller has the results that it had, and maybe more
-pub more_told : {A W : Type 0} (saving : Saving W) (group : ℕ) (stables stables_after : List W) (controllers controllers_after : List (Controlling A)) →
-    PairsStand saving stables controllers → ((c : ℕ) → c < group → (x : Controlling A) × (slice_get controllers c ≡ Some x)) →
-    AreTold saving stables stables_after controllers controllers_after → AreMore group (results_in controllers) (results_in controllers_after)
-more_told saving group stables stables_after controllers controllers_after stand each told c there =
-    let x = each c there in
-    let s = stand c x.0 x.1 in
-    let t = told c x.0 s.0 x.1 s.1 in
-    (t.4.more, results_at controllers_after c t.0 t.2 ∙ t.4.joined ∙ ap (λ (l : List SaveResult). l ++ t.4.more) (sym (results_at controllers c x.0 x.1)))
 
 module _ {B A W : Type 0} (law : AppLaw A) (saving : Saving W) (sealing : Sealing B) (faithful : IsFaithful sealing) (w : Worlding B A) (stables : List W)
     (rests : w.owed ≡ None) (some : (kinds : List ℕ) × Holds law sealing w kinds) (stand : PairsStand saving stables w.controllers) (e : JournalEntry B) where
@@ -146,44 +109,14 @@ module _ {B A W : Type 0} (law : AppLaw A) (saving : Saving W) (sealing : Sealin
   abbrev pub entered : Worlding B A
   entered = record w { journal = w.journal ++ e ∷ [] }
 
-  -- what is decided, where this controller alone has changed
-  controller_decides : (c : ℕ) → c < w.setup.controllers → actor_of e ≡ actor.Controller c → (kinds : List ℕ) → Holds law sealing w kinds → (u : Worlding B A) →
-      HoldsAt law (scene_in sealing w kinds) (results_in u.controllers) (e ∷ past w.journal) u → (new : Controlling A) → slice_get u.controllers c ≡ Some new →
-      AreMore w.setup.controllers (results_in w.controllers) (results_in u.controllers) →
-      (later : List (List SaveResult)) → AreMore w.setup.controllers (results_in u.controllers) later → decided (scene_in sealing w kinds) later (e ∷ past w.journal) ≡ decided_with w.decided new
-  controller_decides c there mine kinds h u held new stands are later more =
-      let scene = scene_in sealing w kinds in
-      let entries = past w.journal in
-      let m = held.controllers c there in
-      let before : decided scene later entries ≡ w.decided = h.decided later (more_then w.setup.controllers (results_in w.controllers) (results_in u.controllers) later are more) in
-      let state : controller_state scene later c (e ∷ entries) ≡ state_of new =
-      ap (λ y. y.now) (sym (same_at scene (results_in u.controllers) later (e ∷ entries) held.legal more c there)) ∙ sym m.state ∙ ap state_of (from_some m.member new (sym m.stands ∙ stands)) in
-      decided_by_one scene later h.run.setup faithful e entries (possible_with_more scene (results_in u.controllers) later (e ∷ entries) held.legal more) c there
-      (λ d within other. others_kept scene later e entries d (ap (λ a. same_actor a (actor.Controller d)) mine ∙ other))
-      ∙ ap (λ (l : List Entry). l ++ drop (length l) (kept scene later c (e ∷ entries))) before
-      ∙ ap (λ y. w.decided ++ drop (length w.decided) (kept_of y)) state
-
-  -- what is decided, where no controller has changed
-  pub none_decides : (kinds : List ℕ) → Holds law sealing w kinds → (u : Worlding B A) →
-      HoldsAt law (scene_in sealing w kinds) (results_in w.controllers) (e ∷ past w.journal) u →
-      ((later : List (List SaveResult)) (d : ℕ) → controller_state (scene_in sealing w kinds) later d (e ∷ past w.journal) ≡ controller_state (scene_in sealing w kinds) later d (past w.journal)) →
-      (later : List (List SaveResult)) → AreMore w.setup.controllers (results_in w.controllers) later → decided (scene_in sealing w kinds) later (e ∷ past w.journal) ≡ w.decided
-  none_decides kinds h u held same later more =
-      let scene = scene_in sealing w kinds in
-      decided_same scene later h.run.setup faithful e (past w.journal) (possible_with_more scene (results_in w.controllers) later (e ∷ past w.journal) held.legal more)
-      (λ d within. ap kept_of (same later d)) ∙ h.decided later more
-
   -- all of what is kept, where no controller has changed
   known_after : (kinds : List ℕ) → Holds law sealing w kinds → (switches : List SwitchState) (owed : Option (Debt B)) →
       HoldsAt law (scene_in sealing w kinds) (results_in w.controllers) (e ∷ past w.journal) (record entered { switches = switches; owed = owed }) →
-      ((later : List (List SaveResult)) (d : ℕ) → controller_state (scene_in sealing w kinds) later d (e ∷ past w.journal) ≡ controller_state (scene_in sealing w kinds) later d (past w.journal)) →
       Holds law sealing (record entered { switches = switches; owed = owed }) kinds
-  known_after kinds h switches owed held same =
-      let u : Worlding B A = record entered { switches = switches; owed = owed } in
-      record {
-        run = subst (λ (l : List (JournalEntry B)). HoldsAt law (scene_in sealing w kinds) (results_in w.controllers) l u) (sym (past-push w.journal e)) held;
-        decided = λ later more. subst (λ (l : List (JournalEntry B)). decided (scene_in sealing w kinds) later l ≡ w.decided) (sym (past-push w.journal e)) (none_decides kinds h u held same later more);
-      }
+  known_after kinds h switches owed held = record {
+    run = subst (λ (l : List (JournalEntry B)). HoldsAt law (scene_in sealing w kinds) (results_in w.controllers) l (record entered { switches = switches; owed = owed })) (sym (past-push w.journal e)) held;
+    few = h.few;
+  }
 
   -- a controller takes its input
   pub controller_keeps : (c : ℕ) → c < w.setup.controllers → actor_of e ≡ actor.Controller c → (x : ControllerInput) (stables_after : List W) (v : Worlding B A) →
@@ -193,7 +126,6 @@ module _ {B A W : Type 0} (law : AppLaw A) (saving : Saving W) (sealing : Sealin
       let u : Worlding B A = record entered {
         controllers = v.controllers;
         owed = Some (record { actor = actor.Controller c; letters = t.sealed });
-        decided = decided_with w.decided t.takes.new;
       } in
       let m = some.1.run.controllers c there in
       let keeps : Controls law t.takes.old some.0 = subst (λ y. Controls law y some.0) (from_some m.member t.takes.old (sym m.stands ∙ t.takes.stood)) m.keeps in
@@ -207,8 +139,7 @@ module _ {B A W : Type 0} (law : AppLaw A) (saving : Saving W) (sealing : Sealin
             subst (λ (z : Worlding B A). Holds law sealing z kinds) (sym t.left)
             (record {
               run = subst (λ (l : List (JournalEntry B)). HoldsAt law (scene_in sealing w kinds) (results_in v.controllers) l u) (sym (past-push w.journal e)) held;
-              decided = subst (λ (l : List (JournalEntry B)). (later : List (List SaveResult)) → AreMore w.setup.controllers (results_in v.controllers) later → decided (scene_in sealing w kinds) later l ≡ u.decided)
-                  (sym (past-push w.journal e)) (controller_decides c there mine kinds h u held t.takes.new (new_found t.takes) (more_told saving w.setup.controllers stables stables_after w.controllers v.controllers stand (λ d within. let n = h.run.controllers d within in (n.member, n.stands)) told));
+              few = h.few;
             });
         pairs = pairs_stand law saving x w.controllers v.controllers stables stables_after c t.letters t.takes stand;
         told = told;
@@ -228,7 +159,7 @@ module _ {B A W : Type 0} (law : AppLaw A) (saving : Saving W) (sealing : Sealin
             let held : HoldsAt law (scene_in sealing w kinds) (results_in w.controllers) (e ∷ past w.journal) u =
             switch_holds law (scene_in sealing w kinds) (past w.journal) w u h.run rests e s there mine x (heard kinds) typed orderly t.letters t.sealed t.takes refl refl t.owes in
             subst (λ (z : Worlding B A). Holds law sealing z kinds) (sym t.left)
-            (known_after kinds h v.switches (Some (record { actor = actor.Switch s; letters = t.sealed })) held (λ later d. other_state (scene_in sealing w kinds) later e (past w.journal) d (ap (λ a. same_actor a (actor.Controller d)) mine)));
+            (known_after kinds h v.switches (Some (record { actor = actor.Switch s; letters = t.sealed })) held);
         pairs = λ c x found. stand c x (ap (λ (l : List (Controlling A)). slice_get l c) (sym same) ∙ found);
         told = subst (λ (l : List (Controlling A)). AreTold saving stables stables w.controllers l) (sym same) (none_told saving stables w.controllers);
         beyond = λ i past. refl;
@@ -251,7 +182,7 @@ module _ {B A W : Type 0} (law : AppLaw A) (saving : Saving W) (sealing : Sealin
         (λ c within own. idle_behind e _ idle (none_of_controller c within))
         (λ s within own. idle_behind e _ idle (none_of_switch s within))
         (λ a other. ap (λ o. debt_of o a) rests) in
-        known_after kinds h w.switches w.owed held (λ later d. quiet_state scene later (past w.journal) e (idle_quiet e idle) d);
+        known_after kinds h w.switches w.owed held;
     pairs = stand;
     told = none_told saving stables w.controllers;
     beyond = λ i past. refl;
@@ -306,7 +237,7 @@ module _ {B A : Type 0} (law : AppLaw A) (sealing : Sealing B) (faithful : IsFai
       switch_debts = λ s within. subst (λ (l : List (Letter B)). IsOwed switch_message sealing (switch_at (scene_in sealing w kinds) s (part (actor.Switch s) (past w.journal))).owed l) (nothing (actor.Switch s)) (rw is at (h.run.switch_debts s within));
       debtor = tt;
     };
-    decided = h.decided;
+    few = h.few;
   })
 
   one_post : (a : Actor) (l : Letter B) (ls : List (Letter B)) → w.owed ≡ Some (record { actor = a; letters = l ∷ ls }) →
@@ -326,9 +257,7 @@ module _ {B A : Type 0} (law : AppLaw A) (sealing : Sealing B) (faithful : IsFai
       (λ b other. rw (is, other) refl) in
       record {
         run = subst (λ (p : List (JournalEntry B)). HoldsAt law scene (results_in w.controllers) p v) (sym (past-push w.journal e)) held;
-        decided = λ later more. subst (λ (p : List (JournalEntry B)). decided scene later p ≡ w.decided) (sym (past-push w.journal e))
-            (decided_same scene later h.run.setup faithful e (past w.journal) (possible_with_more scene (results_in w.controllers) later (e ∷ past w.journal) held.legal more)
-            (λ d within. ap kept_of (quiet_state scene later (past w.journal) e tt d)) ∙ h.decided later more);
+        few = h.few;
       }
 
   -- the world keeps its invariant
@@ -403,17 +332,3 @@ in_any_case (Err (JournalFull bytes letters)) claim h = h
 pub on_ok : {T E : Type 0} (result : Result T E) (P Q : Type 0) → (P → Q) → OnOk result P → OnOk result Q
 on_ok (Ok x) P Q next h = next h
 on_ok (Err e) P Q next h = tt
-
--- a controller took its turn, and what is decided goes on with what it has committed
-pub controller_owes : {B A W : Type 0} (law : AppLaw A) (saving : Saving W) (sealing : Sealing B) (input : ControllerInput) (old : Worlding B A) (stables : List W) (number : ℕ)
-    (controllers : List (Controlling A)) (stables_after : List W) (letters : List (Letter ControllerSays)) (sealed : List (Letter B)) (log : List Entry) (x : Controlling A) →
-    ControllerTakes law saving input old.controllers stables number controllers stables_after letters → IsOwed controller_message sealing letters sealed → slice_get controllers number ≡ Some x → log ≡ decided_with old.decided x →
-    ControllerOwes law saving sealing input old stables number (record old { controllers = controllers; owed = Some (record { actor = actor.Controller number; letters = sealed }); decided = log }) stables_after
-controller_owes law saving sealing input old stables number controllers stables_after letters sealed log x t owes found is = record {
-  letters = letters;
-  sealed = sealed;
-  takes = t;
-  owes = owes;
-  left = ap (λ (l : List Entry). record old { controllers = controllers; owed = Some (record { actor = actor.Controller number; letters = sealed }); decided = l })
-      (is ∙ ap (λ y. decided_with old.decided y) (from_some x t.new (sym found ∙ new_found t)));
-}

@@ -12,7 +12,7 @@ use Rattle.group_controller.specs.declared.messages.ControllerInput.{ControllerI
 use Rattle.group_controller.specs.declared.messages.ControllerSays.{ControllerSays}
 use Rattle.group_controller.specs.Turns.{Controlling, Turns, state_of, pair_in, Controls}
 use Rattle.rv_runs.specs.States.{Sealing, switch_message, controller_message}
-use Rattle.rv_world.specs.World.{IsOwed, Worlding, decided_with}
+use Rattle.rv_world.specs.World.{IsOwed, Worlding}
 
 -- the switch of a number takes a turn
 pub record SwitchTakes (input : SwitchInput) (before : List SwitchState) (number : ℕ) (after : List SwitchState) (letters : List (Letter SwitchSays)) : Type 0 where
@@ -58,8 +58,4 @@ pub record ControllerOwes {B A W : Type 0} (law : AppLaw A) (saving : Saving W) 
   pub sealed : List (Letter B)
   pub takes : ControllerTakes law saving input old.controllers stables number new.controllers stables_after letters
   pub owes : IsOwed controller_message sealing letters sealed
-  pub left : new ≡ record old {
-    controllers = new.controllers;
-    owed = Some (record { actor = actor.Controller number; letters = sealed });
-    decided = decided_with old.decided takes.new;
-  }
+  pub left : new ≡ record old { controllers = new.controllers; owed = Some (record { actor = actor.Controller number; letters = sealed }) }

@@ -1,5 +1,5 @@
 -- What a world is, what it keeps true of its parts, and what its turns do.
-use Rattle.std.specs.Prelude.{◌≡◌, ◌<◌, ◌≤◌, ◌⊎◌, ℕ, ◌+◌, ◌-◌, ◌^◌, Bool, true, false, List, [], ◌∷◌, ◌++◌, length, map, count_by, drop, slice_get, Option, Some, None, IfSome, Result, Err, Vec, if◌then◌else◌}
+use Rattle.std.specs.Prelude.{◌≡◌, ◌<◌, ◌≤◌, ◌⊎◌, ℕ, ◌+◌, ◌-◌, ◌^◌, Bool, true, false, List, [], ◌∷◌, ◌++◌, length, map, count_by, slice_get, Option, Some, None, IfSome, Result, Err, Vec, if◌then◌else◌}
 use Rattle.std.specs.List.{AllByRecursion, range_with_len}
 use Rattle.of_types.specs.declared.setup.Setup.{Setup}
 use Rattle.of_types.specs.Setups.{IsSetup}
@@ -16,28 +16,27 @@ use Rattle.rv_base.specs.Actors.{same_actor}
 use Rattle.rv_base.specs.Part.{part}
 use Rattle.rv_base.specs.Pool.{past}
 use Rattle.rv_base.specs.Turns.{entry_of, posting, turn_actor, IsFull}
-use Rattle.vr_log.specs.declared.entry.Entry.{Entry}
 use Rattle.of_switch.specs.State.{SwitchState, starting_switch}
 use Rattle.rv_base.specs.Stables.{Saving}
+use Rattle.app_core.specs.Chain.{given_by}
 use Rattle.app_core.specs.Law.{AppLaw}
+use Rattle.dispatcher.specs.Ledger.{most_commands}
 use Rattle.group_controller.specs.State.{starting_controller}
 use Rattle.group_controller.specs.Turns.{AreAlike, Controlling, state_of, pair_in, Controls}
 use Rattle.rv_runs.specs.declared.messages.Message.{Message}
 use Rattle.rv_runs.specs.States.{Scene, Sealing, switch_at, controller_at, sealed_letters, switch_message, controller_message}
 use Rattle.rv_runs.specs.Legal.{AreTyped, IsLegalPast, results_of}
-use Rattle.rv_runs.specs.Committed.{controller_state, decided, kept_of, switch_state}
+use Rattle.rv_runs.specs.Committed.{controller_state, switch_state}
 use Rattle.rv_runs.specs.Schedule.{IsInputOf}
 use Rattle.rv_world.specs.declared.debt.Debt.{Debt}
 
--- a world, as contracts see it: its setup, its journal, its controllers and its switches by number, what is owed, and
--- what is decided
+-- a world, as contracts see it: its setup, its journal, its controllers and its switches by number, and what is owed
 pub record Worlding (B A : Type 0) : Type 0 where
   pub setup : Setup
   pub journal : List (JournalEntry B)
   pub controllers : List (Controlling A)
   pub switches : List SwitchState
   pub owed : Option (Debt B)
-  pub decided : List Entry
 
 -- what its run is about, where its applications are of these kinds
 abbrev pub scene_in : {B A : Type 0} → Sealing B → Worlding B A → List ℕ → Scene B
@@ -91,19 +90,20 @@ pub record HoldsAt {B A : Type 0} (law : AppLaw A) (scene : Scene B) (results : 
 abbrev pub AreMore : ℕ → List (List SaveResult) → List (List SaveResult) → Type 0
 AreMore group old new = (c : ℕ) → c < group → (more : List SaveResult) × (results_of new c ≡ results_of old c ++ more)
 
--- what a world keeps true of its parts, where its applications are of these kinds: its run, and that it knows what is
--- decided, whatever becomes of later saves
+-- what a world keeps true of its parts, where its applications are of these kinds: its run, and that they give no more
+-- commands for an event than a ledger holds
 pub record Holds {B A : Type 0} (law : AppLaw A) (sealing : Sealing B) (w : Worlding B A) (kinds : List ℕ) : Type 0 where
   pub run : HoldsAt law (scene_in sealing w kinds) (results_in w.controllers) (past w.journal) w
-  pub decided : (later : List (List SaveResult)) → AreMore w.setup.controllers (results_in w.controllers) later →
-      decided (scene_in sealing w kinds) later (past w.journal) ≡ w.decided
+  pub few : given_by kinds ≤ most_commands
 
--- A run that was played elsewhere, with applications of these kinds, as a world of its own may take it over. Its journal
+-- A run that was played elsewhere, with applications of these kinds, as a world of its own may take it over. These give
+-- no more commands for an event than a ledger holds. Its journal
 -- is legal: it is orderly, names actors of the setup alone, and gives each of them a sound part, with the results of the
 -- saves that the controllers kept. These are all actors of the setup, by number, in the states that their parts give them,
 -- and none of them owes a letter.
 pub record IsPlayed {B A : Type 0} (law : AppLaw A) (sealing : Sealing B) (w : Worlding B A) (kinds : List ℕ) : Type 0 where
   pub setup : IsSetup w.setup
+  pub few : given_by kinds ≤ most_commands
   pub legal : IsLegalPast (scene_in sealing w kinds) (results_in w.controllers) (past w.journal)
   pub group : length w.controllers ≡ w.setup.controllers
   pub count : length w.switches ≡ length w.setup.ports
@@ -112,17 +112,14 @@ pub record IsPlayed {B A : Type 0} (law : AppLaw A) (sealing : Sealing B) (w : W
   pub controllers_rest : (c : ℕ) → c < w.setup.controllers →
       (controller_at (scene_in sealing w kinds) (results_of (results_in w.controllers) c) c (part (actor.Controller c) (past w.journal))).owed ≡ []
   pub switches_rest : (s : ℕ) → s < length w.setup.ports → (switch_at (scene_in sealing w kinds) s (part (actor.Switch s) (past w.journal))).owed ≡ []
-  pub decided : (later : List (List SaveResult)) → AreMore w.setup.controllers (results_in w.controllers) later →
-      decided (scene_in sealing w kinds) later (past w.journal) ≡ w.decided
 
 -- a claim on what the run of a world is about, for all kinds of which its applications may be
 abbrev pub ForEachScene : {B A : Type 0} → AppLaw A → Sealing B → Worlding B A → (Scene B → Type 0) → Type 0
 ForEachScene law sealing w claim = (kinds : List ℕ) → Holds law sealing w kinds → claim (scene_in sealing w kinds)
 
 -- a world of these parts, which owes nothing
-abbrev pub resting : {B A : Type 0} → Setup → List (JournalEntry B) → List (Controlling A) → List SwitchState → List Entry → Worlding B A
-resting setup journal controllers switches decided =
-    record { setup = setup; journal = journal; controllers = controllers; switches = switches; owed = None; decided = decided }
+abbrev pub resting : {B A : Type 0} → Setup → List (JournalEntry B) → List (Controlling A) → List SwitchState → Worlding B A
+resting setup journal controllers switches = record { setup = setup; journal = journal; controllers = controllers; switches = switches; owed = None }
 
 -- the stable pair of each controller is the one that it knows
 abbrev pub PairsStand : {A W : Type 0} → Saving W → List W → List (Controlling A) → Type 0
@@ -158,10 +155,6 @@ pub record Keeps {B A W : Type 0} (law : AppLaw A) (saving : Saving W) (sealing 
   pub pairs : PairsStand saving stables_after new.controllers
   pub told : AreTold saving stables stables_after old.controllers new.controllers
   pub beyond : (i : ℕ) → old.setup.controllers ≤ i → slice_get stables_after i ≡ slice_get stables i
-
--- what is decided once a controller has committed what it has now
-abbrev pub decided_with : {A : Type 0} → List Entry → Controlling A → List Entry
-decided_with log x = log ++ drop (length log) (kept_of (state_of x))
 
 -- the post of what is owed, if anything is
 abbrev pub posts_of : {B : Type 0} → (B → ℕ) → Option (Debt B) → List (JournalEntry B) → List (JournalEntry B)
@@ -228,7 +221,6 @@ pub record StartsAs {B A : Type 0} (setup : Setup) (w : Worlding B A) : Type 0 w
   pub setup_is : w.setup ≡ setup
   pub journal : w.journal ≡ []
   pub rests : w.owed ≡ None
-  pub undecided : w.decided ≡ []
   pub pairs : (c : ℕ) (x : Controlling A) → slice_get w.controllers c ≡ Some x → pair_in (state_of x) ≡ (0, 0)
 
 -- the switches of a setup as they start, by number

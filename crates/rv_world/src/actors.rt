@@ -1,8 +1,9 @@
-//! The actors of a world: as they start, and one of them takes an input.
+//! The actors of a world: as they start, which take part, and one of them takes an input.
 ghost use Rattle.std.specs.Prelude.{◌≡◌, ◌<◌, ◌^◌, ℕ, List, length, IfOk};
 ghost use Rattle.std.specs.List.{AllByRecursion};
 ghost use Rattle.of_types.specs.Setups.{IsSetup};
-ghost use Rattle.group_controller.specs.Turns.{AreAlike, ForEachKinds};
+ghost use Rattle.vr_log.specs.Members.{is_up};
+ghost use Rattle.group_controller.specs.Turns.{AreAlike, ForEachKinds, state_of};
 ghost use Rattle.rv_runs.specs.Legal.{FitsTypes};
 ghost use Rattle.rv_world.specs.World.{AreNew, AreStocked, IsNew, IsStocked, starting_switches};
 ghost use Rattle.rv_world.specs.Actors.{SwitchTakes, ControllerTakes, IsServed};
@@ -13,6 +14,7 @@ use of_switch::{Switch, SwitchInput, SwitchSays};
 use of_types::Setup;
 use rv_base::{Letters, Local, Stable};
 use std::alloc::{AllocError, Global};
+use vr_log::Status;
 
 /// Applications in order, turned round: the next one is the last.
 fn shelf_of<A: App>(alloc: Global, lives: Vec<A>) -> Result<Vec<A>, AllocError>
@@ -79,6 +81,13 @@ pub fn switches_of(alloc: Global, setup: &Setup) -> Result<Vec<Switch>, AllocErr
         switches.push(Switch::new(alloc, number as u8, setup)?)?;
     }
     Ok(switches)
+}
+
+/// Whether a controller takes part: it is neither down nor recovering.
+pub fn takes_part<A: App>(controller: &Controller<A>) -> bool
+    ensures { result ≡ is_up (state_of controller.now).vr }
+{
+    matches!(controller.status(), Status::Normal | Status::ViewChange)
 }
 
 /// Bytes have eight bits.

@@ -3,9 +3,8 @@
 
 mod actors;
 mod debt;
-mod decided;
 mod world;
 
+pub use actors::takes_part;
 pub use debt::Debt;
-pub use decided::takes_part;
 pub use world::World;

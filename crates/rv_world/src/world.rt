@@ -12,22 +12,22 @@ ghost use Rattle.rv_runs.specs.Committed.{members_up};
 ghost use Rattle.rv_world.specs.World.{Applies, AreStocked, Holds, IfMemory, IsPlayed, Keeps, PairsStand, PostStops, resting, StartsAs, Steps, TurnStops, with_posts};
 ghost use Rattle.rv_world.specs.Actors.{ControllerOwes, IsServed, SwitchOwes};
 
-use crate::actors::{controller_takes, controllers_of, fits_types, switch_takes, switches_of};
+use crate::actors::{
+    controller_takes, controllers_of, fits_types, switch_takes, switches_of, takes_part,
+};
 use crate::debt::Debt;
-use crate::decided::{append_committed, takes_part};
 use app_core::App;
 use group_controller::{Controller, ControllerInput};
 use of_switch::{Switch, SwitchInput};
 use of_types::{Items, Setup};
-use rv_base::{Actor, JournalEntry, Local, PacketPlace, Stable, Stop, Turn, Wire};
+use rv_base::{Actor, Journal, JournalEntry, Local, PacketPlace, Stable, Stop, Turn, Wire};
 use rv_bodies::Body;
 use rv_players::{Player, heard, sealed};
 use std::alloc::{AllocError, Global};
 use std::marker::Model;
-use vr_log::Entry;
 
-/// A run so far: what its actors are, what is in flight, what the one of the newest input has still to post, and the
-/// longest log that a controller ever committed. One that has found no memory in the midst of a turn is to be dropped.
+/// A run so far: what its actors are, what is in flight, and what the one of the newest input has still to post. One that
+/// has found no memory in the midst of a turn is to be dropped.
 #[derive(Drop)]
 pub struct World<B: Body, A> {
     alloc: Global,
@@ -36,7 +36,6 @@ pub struct World<B: Body, A> {
     controllers: Vec<Controller<A>>,
     switches: Vec<Switch>,
     debt: Option<Debt<B>>,
-    decided: Vec<Entry>,
 }
 
 impl<B: Body, A> Model for World<B, A> {
@@ -44,7 +43,7 @@ impl<B: Body, A> Model for World<B, A> {
 
     ghost Value = { Worlding B A };
 
-    ghost view = { λ w. record { setup = w.setup; journal = w.wire; controllers = w.controllers.items; switches = w.switches.items; owed = w.debt; decided = w.decided.items } };
+    ghost view = { λ w. record { setup = w.setup; journal = w.wire; controllers = w.controllers.items; switches = w.switches.items; owed = w.debt } };
 }
 
 impl<B: Body, A: App> World<B, A> {
@@ -68,7 +67,6 @@ impl<B: Body, A: App> World<B, A> {
             controllers: controllers_of(alloc, setup, shelves)?,
             switches: switches_of(alloc, setup)?,
             debt: None,
-            decided: Vec::new(alloc),
         })
     }
 
@@ -80,9 +78,8 @@ impl<B: Body, A: App> World<B, A> {
         wire: Wire<B>,
         controllers: Vec<Controller<A>>,
         switches: Vec<Switch>,
-        decided: Vec<Entry>,
     ) -> World<B, A>
-        ensures is { result ≡ resting setup wire controllers.items switches.items decided.items }
+        ensures is { result ≡ resting setup wire controllers.items switches.items }
         ensures holds { ForEachKinds (IsPlayed A.law B.sealing result) (Holds A.law B.sealing result) }
     {
         World {
@@ -92,7 +89,6 @@ impl<B: Body, A: App> World<B, A> {
             controllers,
             switches,
             debt: None,
-            decided,
         }
     }
 
@@ -109,6 +105,13 @@ impl<B: Body, A: App> World<B, A> {
         self.wire.entries()
     }
 
+    /// Gives the journal. It takes no memory.
+    pub fn into_journal(self) -> Journal<B>
+        ensures { result ≡ self.journal }
+    {
+        self.wire.into_journal()
+    }
+
     /// Its journal is orderly, and within its limits.
     pub fn lawful(&self)
         ensures orderly { IsOrderly B.sealing.size (past self.now.journal) }
@@ -122,13 +125,6 @@ impl<B: Body, A: App> World<B, A> {
         ensures { IsFound self.now.journal result (slice_get (pool (past self.now.journal)) 0) }
     {
         self.wire.first()
-    }
-
-    /// What is decided: the longest log that a controller ever committed.
-    pub fn decided(&self) -> &[Entry]
-        ensures { result.now ≡ self.now.decided }
-    {
-        self.decided.as_slice()
     }
 
     /// The switch of a number.
@@ -206,8 +202,7 @@ impl<B: Body, A: App> World<B, A> {
             (ControllerOwes A.law W.saving B.sealing input self.old stables.old number self.new stables.new) }
     {
         let letters = controller_takes(&mut self.controllers, stables, number, input)?;
-        append_committed(&mut self.decided, &self.controllers[number as usize])?;
-        let letters = sealed::<Controller<A>, B>(self.alloc, letters)?;
+        let letters = sealed::<Controller<A>, B>(self.alloc, letters.as_slice())?;
         self.debt = Some(Debt {
             actor: Actor::Controller(number),
             letters,
@@ -221,7 +216,7 @@ impl<B: Body, A: App> World<B, A> {
         ensures { OnOk result (SwitchOwes B.sealing input self.old number self.new) }
     {
         let letters = switch_takes(&mut self.switches, number, input)?;
-        let letters = sealed::<Switch, B>(self.alloc, letters)?;
+        let letters = sealed::<Switch, B>(self.alloc, letters.as_slice())?;
         self.debt = Some(Debt {
             actor: Actor::Switch(number),
             letters,

@@ -1,5 +1,3 @@
-pub mod Apart
-pub mod Ends
 pub mod Members
 pub mod Setups
 pub mod Text

@@ -28,7 +28,7 @@ use Rattle.scenario.specs.declared.scenario.Scenario.{Scenario}
 use Rattle.scenario.specs.declared.scenario.ScenarioFault.{ScenarioFault}
 use Rattle.scenario.specs.declared.written.Written.{Written}
 use Rattle.scenario.specs.Faults.{◌>>=◌, found_at, each, each_alone}
-use Rattle.scenario.specs.declared.limits.TheConstants.{MOST_CHOICE, MOST_PORTS, MOST_VIEW}
+use Rattle.scenario.specs.declared.limits.TheConstants.{MOST_PORTS, MOST_VIEW}
 use Rattle.scenario.specs.declared.written.WrittenSwitch.{WrittenSwitch}
 use Rattle.scenario.specs.declared.written.WrittenLink.{WrittenLink}
 use Rattle.scenario.specs.declared.written.WrittenPrefix.{WrittenPrefix}
@@ -37,10 +37,10 @@ use Rattle.scenario.specs.declared.written.WrittenStep.{WrittenStep}
 use Rattle.scenario.specs.declared.written.WrittenStep.TheVariants.{Frame, Port, Tick, Draw, Lose, Suspect, Crash, RestartController, RestartSwitch}
 use Rattle.scenario.specs.declared.limits.Timed.{Timed}
 use Rattle.scenario.specs.Generated.{frame_turn, last_crash, generated}
-use Rattle.scenario.specs.Limits.{given, is_within, once, only_if, is_port, is_taken, is_port_of, is_group, is_within_limits, prefix_within, turn_within, restarts_of, repeated, ports_within, link_within, rule_within}
+use Rattle.scenario.specs.Limits.{given, is_within, once, only_if, is_port, is_port_of, is_group, is_within_limits, prefix_within, turn_within, restarts_of, repeated, ports_within, link_within, rule_within}
 use Rattle.scenario.proofs.Turns.{only_if_keeps, turn_is}
-use Rattle.scenario.proofs.Apart.{same_end, same_end_sym, apart_link}
-use Rattle.scenario.proofs.Ends.{ends_any}
+use Rattle.wires.specs.Wires.{is_taken}
+use Rattle.wires.proofs.Apart.{same_end, same_end_sym, apart_link, free_is, not_true}
 use Rattle.scenario.specs.Scenario.{Gives, HasView, steps_within, scenario_within, IsScenario}
 
 bind_ok : {A B : Type 0} (r : Result A Fault) (next : A → Result B Fault) (y : B) → (r >>= next) ≡ Ok y → (x : A) × (r ≡ Ok x) × (next x ≡ Ok y)
@@ -109,14 +109,6 @@ port_is setup switch port e =
     let there : switch < length setup.ports = search (rules, e) in
     let within : (1 ≤ port) × (port ≤ slice_index setup.ports switch) = search (rules, e) in
     (within.0, (slice_index setup.ports switch, slice_get-get_or setup.ports switch 0 there, within.1))
-
-not_true : (b : Bool) → not b ≡ true → b ≡ false
-not_true true e = absurd cc
-not_true false e = refl
-
-free_is : (switch port : ℕ) (links : List Link) → not (is_taken switch port links) ≡ true → list_any (same_end (switch, port)) (ends_of links) ≡ false
-free_is switch port links e =
-    ends_any (same_end (switch, port)) links ∙ not_true (is_taken switch port links) e
 
 more_links : (setup : Setup) (before : List Link) (l : Link) → AreLinks setup before → IsPort setup l.switch l.port → IsPort setup l.peer l.peer_port →
     list_any (same_end (l.switch, l.port)) (ends_of before) ≡ false → list_any (same_end (l.peer, l.peer_port)) (ends_of before) ≡ false →

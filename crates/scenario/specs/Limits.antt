@@ -1,6 +1,6 @@
 -- The limits of a scenario, and what a part within them says. A part past them is None.
 use Rattle.std.specs.Prelude.{ℕ, ◌+◌, ◌-◌, ◌*◌, ◌%◌, ◌^◌, Bool, true, ◌==◌, nat_lt, nat_le, ◌&&◌, ◌||◌, not, List, [], ◌∷◌, length, replicate, fold, sum_by, count_by, slice_index, Option, Some, None, if◌then◌else◌}
-use Rattle.std.specs.List.{list_all, list_any, flat_map}
+use Rattle.std.specs.List.{list_all, flat_map}
 use Rattle.of_types.specs.declared.numbers.TheConstants.{SHORTEST_FRAME, LONGEST_FRAME}
 use Rattle.of_types.specs.declared.setup.Link.{Link}
 use Rattle.of_types.specs.declared.setup.Prefix.{Prefix}
@@ -22,6 +22,7 @@ use Rattle.scenario.specs.declared.written.WrittenRule.{WrittenRule}
 use Rattle.scenario.specs.declared.written.WrittenStep.{WrittenStep}
 use Rattle.scenario.specs.declared.written.WrittenStep.TheVariants.{Frame, Port, Tick, Draw, Lose, Suspect, Crash, RestartController, RestartSwitch}
 use Rattle.scenario.specs.Json.{◌>>=◌}
+use Rattle.wires.specs.Wires.{is_taken}
 
 abbrev pub is_within : ℕ → ℕ → ℕ → Bool
 is_within low n high = nat_le low n && nat_le n high
@@ -59,13 +60,6 @@ abbrev pub link_between : List ℕ → WrittenLink → Option Link
 link_between ports l =
     only_if (is_port ports l.switch l.port && is_port ports l.peer l.peer_port && not (l.switch == l.peer && l.port == l.peer_port))
     (record { switch = l.switch; port = l.port; peer = l.peer; peer_port = l.peer_port })
-
--- whether a port is an end of a wire, and of one of these
-abbrev pub is_end : ℕ → ℕ → Link → Bool
-is_end switch port l = (l.switch == switch && l.port == port) || (l.peer == switch && l.peer_port == port)
-
-abbrev pub is_taken : ℕ → ℕ → List Link → Bool
-is_taken switch port links = list_any (is_end switch port) links
 
 -- a wire whose ports are no ends of those before it
 abbrev pub link_within : List ℕ → List Link → WrittenLink → Option Link

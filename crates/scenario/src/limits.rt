@@ -16,6 +16,7 @@ use of_types::{
 };
 use rv_base::{Actor, Local, Turn};
 use std::alloc::{AllocError, Global};
+use wires::is_taken;
 
 /// The most switches.
 pub const MOST_SWITCHES: usize = 64;
@@ -143,20 +144,6 @@ fn link_between(ports: &[u32], link: WrittenLink) -> Option<Link>
     } else {
         None
     }
-}
-
-/// Whether a port is an end of a wire.
-fn is_end(switch: u8, port: u32, link: &Link) -> bool
-    ensures { result ≡ limits.is_end switch port link.now }
-{
-    (link.switch == switch && link.port == port) || (link.peer == switch && link.peer_port == port)
-}
-
-/// Whether a port is an end of one of these wires.
-fn is_taken(switch: u8, port: u32, links: &[Link]) -> bool
-    ensures { result ≡ limits.is_taken switch port links.now }
-{
-    links.iter().any(|link| is_end(switch, port, link))
 }
 
 /// A wire whose ports are no ends of those before it.

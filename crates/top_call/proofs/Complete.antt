@@ -23,7 +23,7 @@ use Rattle.words.specs.declared.Job.TheVariants.{Sim, Audit, Gen}
 use Rattle.words.specs.Words.{job_of}
 use Rattle.audit.specs.Audit.{differs}
 use Rattle.top_call.specs.Audited.{report_limit}
-use Rattle.top_call.specs.Outcome.{Answers, Served, Write_failed, No_memory, IsTold, Outcome, IsUnserved, IsAudit, IsMade, IsAsked, Of_bytes, Of_numbers, AsksFor, Its_bytes, Its_numbers, IsComplete, audit_status, is_served_job}
+use Rattle.top_call.specs.Outcome.{Answers, Served, Write_failed, No_memory, IsReadAndWritten, Outcome, IsUnserved, IsAudit, IsOfFourNumbers, IsAsked, Of_bytes, Of_numbers, AsksFor, Its_bytes, Its_numbers, IsComplete, audit_status, is_served_job}
 use Rattle.top_call.specs.Outcome as outcome
 use Rattle.top_call.specs.Runs.{AreCalm, AreSaved, HasRun, IsInLimits, IsLeft, IsOverfull, IsUnposted, StablesTell, Telling, scene_for}
 
@@ -46,20 +46,20 @@ never_served words unserved audit = absurd (apart (sym unserved ∙ ap (λ j. is
     apart : false ≡ true → ⊥
     apart e = cc
 
-pub never_made : {A : Type 0} (words : List (List ℕ)) → IsUnserved words → IsMade words → A
+pub never_made : {A : Type 0} (words : List (List ℕ)) → IsUnserved words → IsOfFourNumbers words → A
 never_made words unserved (number, controllers, switches, frames, made) = absurd (apart (sym unserved ∙ ap (λ j. is_served_job j) made))
   where
     apart : false ≡ true → ⊥
     apart e = cc
 
 -- the words of a made scenario are none of a run and none of an audit
-pub made_no_run : {A : Type 0} (words : List (List ℕ)) → job_of words ≡ Some Sim → IsMade words → A
+pub made_no_run : {A : Type 0} (words : List (List ℕ)) → job_of words ≡ Some Sim → IsOfFourNumbers words → A
 made_no_run words run (number, controllers, switches, frames, made) = absurd (apart (sym run ∙ made))
   where
     apart : Some Sim ≡ Some (Gen number controllers switches frames) → ⊥
     apart e = cc
 
-pub made_no_audit : {A : Type 0} (words : List (List ℕ)) → IsAudit words → IsMade words → A
+pub made_no_audit : {A : Type 0} (words : List (List ℕ)) → IsAudit words → IsOfFourNumbers words → A
 made_no_audit words audit (number, controllers, switches, frames, made) = no_audit_made words number controllers switches frames made audit
 
 never_asked : {A : Type 0} (words : List (List ℕ)) (input rest : List ℕ) (scenario : Scenario) (output : Output) → IsAsked words input rest scenario output → IsAudit words → A
@@ -186,8 +186,8 @@ calm_saves saving stables stables_after calm scene results journal tell c there 
 pub complete : (kinds : List ℕ) (saves : Telling) (words : List (List ℕ)) (unread unwritten calm : Type 0) →
     (calm → (scene : Scene (List ℕ)) (results : List (List SaveResult)) (journal : List (JournalEntry (List ℕ))) → saves scene results journal → AreSaved scene.setup.controllers results) →
     (before after taken now : Option (List ℕ)) (status : ℕ) →
-    IsTold before after taken now (λ input rest written. Answers kinds saves words input rest unread unwritten written status) →
-    IsTold before after taken now (λ input rest written. IsComplete kinds words input unread unwritten calm status)
+    IsReadAndWritten before after taken now (λ input rest written. Answers kinds saves words input rest unread unwritten written status) →
+    IsReadAndWritten before after taken now (λ input rest written. IsComplete kinds words input unread unwritten calm status)
 complete kinds saves words unread unwritten calm settles None after taken now status told = tt
 complete kinds saves words unread unwritten calm settles (Some input) None taken now status told = tt
 complete kinds saves words unread unwritten calm settles (Some input) (Some rest) None now status told = tt

@@ -22,7 +22,7 @@ use Rattle.top_call.specs.declared.service.Service.TheVariants as service
 use Rattle.top_call.specs.Audited.{report_limit, too_large}
 use Rattle.top_call.specs.Ending.{ending_status, ending_text, EndsRead, EndsReport, EndsRun, EndsScenario}
 use Rattle.top_call.specs.Service.{limit_of}
-use Rattle.top_call.specs.Outcome.{Outcome, statuses, statuses_of_audit, HasLine, HasRead, To_the_end, Past_the_limit, IsUnserved, IsAudit, IsMade, IsUnplayed, PlaysNothing, ReadsNothing, statuses_of_made, IsAsked, Of_bytes, Of_numbers, service_for}
+use Rattle.top_call.specs.Outcome.{Outcome, statuses, statuses_of_audit, IsOneLine, HasRead, To_the_end, Past_the_limit, IsUnserved, IsAudit, IsOfFourNumbers, IsUnplayed, PlaysNothing, ReadsNothing, statuses_of_made, IsAsked, Of_bytes, Of_numbers, service_for}
 use Rattle.top_call.specs.Outcome as outcome
 use Rattle.top_call.specs.Runs.{Telling}
 use Rattle.top_call.proofs.Complete.{no_audit, no_audit_made, never_served, never_made, made_no_run, made_no_audit}
@@ -103,12 +103,12 @@ module _ (words : List (List ℕ)) (unread unfailed : Type 0) where
 
   -- an ending of a service that is none of words
   ends_tells : (s : Service) (e : Ending) → IsServed words s → ending_status e ≢ 2 → (ending_status e ≡ 4 → unread) → (ending_status e ≢ 4 → unfailed) →
-      (IsAudit words → Contains statuses_of_audit (ending_status e)) → (IsMade words → Contains statuses_of_made (ending_status e)) → Tells words unread unfailed e
+      (IsAudit words → Contains statuses_of_audit (ending_status e)) → (IsOfFourNumbers words → Contains statuses_of_made (ending_status e)) → Tells words unread unfailed e
   ends_tells s e said no_usage failed served audit made =
       record { usage = λ is. absurd (no_usage is); others = λ other. absurd (never_both words s said other); failed = failed; served = served; audit = audit; made = made }
 
   -- words for which something is read make no scenario of numbers
-  pub read_no_made : {A : Type 0} (r : Reader) → IsServed words (service.Reads r) → IsMade words → A
+  pub read_no_made : {A : Type 0} (r : Reader) → IsServed words (service.Reads r) → IsOfFourNumbers words → A
   read_no_made reader.Sim said made = made_no_run words (job_served words (service.Reads reader.Sim) said) made
   read_no_made reader.Audit said made = made_no_audit words (job_served words (service.Reads reader.Audit) said) made
 
@@ -117,7 +117,7 @@ module _ (words : List (List ℕ)) (unread unfailed : Type 0) where
       ends_tells (service.Reads r) ending.Unread said (λ is. omega (arith, is)) (λ _. rose) (λ other. absurd (other refl)) (λ _. (2, omega arith, refl)) (λ made. read_no_made r said made)
 
   -- an ending that is neither of these, of a run and of an audit
-  run_tells : (s : Service) (e : Ending) → IsServed words s → (IsAudit words → ⊥) → unfailed → ending_status e ≢ 2 → ending_status e ≢ 4 → (IsMade words → Contains statuses_of_made (ending_status e)) →
+  run_tells : (s : Service) (e : Ending) → IsServed words s → (IsAudit words → ⊥) → unfailed → ending_status e ≢ 2 → ending_status e ≢ 4 → (IsOfFourNumbers words → Contains statuses_of_made (ending_status e)) →
       Tells words unread unfailed e
   run_tells s e said other kept no_usage no_failure range = ends_tells s e said no_usage (λ is. absurd (no_failure is)) (λ _. kept) (λ audit. absurd (other audit)) range
 
@@ -380,7 +380,7 @@ reads_some words r said (inl other) = absurd (never_both words (service.Reads r)
 reads_some words r said (inr made) = read_no_made words (Unit {0}) (Unit {0}) r said made
 
 -- the line of an ending
-pub line_is : (e : Ending) → HasLine (ending_status e) (ending_text e)
+pub line_is : (e : Ending) → IsOneLine (ending_status e) (ending_text e)
 line_is (ending.Report written) = record { usage = λ is. absurd (omega (arith, is)); unread = λ is. absurd (omega (arith, is)); nothing = λ is. absurd (omega (arith, is)) }
 line_is ending.Usage = record { usage = λ is. refl; unread = λ is. absurd (omega (arith, is)); nothing = λ is. absurd (omega (arith, is)) }
 line_is (ending.Refused fault) = record { usage = λ is. absurd (omega (arith, is)); unread = λ is. absurd (omega (arith, is)); nothing = λ is. absurd (omega (arith, is)) }

@@ -5,14 +5,14 @@ use Rattle.std.proofs.Math.Seq.{drop-append_seam}
 use Rattle.rv_base.specs.declared.journal.Local.TheVariants as local
 use Rattle.rv_base.specs.declared.journal.Turn.{Turn}
 use Rattle.rv_base.specs.declared.journal.Turn.TheVariants as turn
-use Rattle.rv_runs.specs.Schedule.{Answer}
 use Rattle.rv_runs.specs.States.{Scene}
 use Rattle.rv_world.specs.World.{Worlding}
+use Rattle.closing.specs.declared.closed.Closed.{Closed}
 use Rattle.closing.specs.Views.{most_view_of_a_script}
 use Rattle.playing.specs.Played.{HasPlayed, StepSuspectsUpTo}
 use Rattle.scenario.specs.Scenario.{HasView}
 
-module _ {B A : Type 0} (scene : Scene B) (steps : List Turn) (count : ℕ) (answer : Answer) (w : Worlding B A) (h : HasPlayed scene steps count answer w) where
+module _ {B A : Type 0} (scene : Scene B) (steps : List Turn) (count : ℕ) (ended : Closed) (w : Worlding B A) (h : HasPlayed scene steps count ended w) where
   pub rest_is : drop count w.journal ≡ h.rest
   rest_is = rw (h.counted, h.joined) (drop-append_seam h.front h.rest)
 

@@ -1,8 +1,7 @@
 -- What the run of a scenario is, once it was played.
-use Rattle.std.proofs.Common.{◌≡◌, ◌≤◌, ◌<◌, ◌⊎◌, inl, inr, ℕ, zero, suc, ◌+◌, List, [], ◌∷◌, ◌++◌, length, map, refl, sym, ◌∙◌, ap, subst, arith}
+use Rattle.std.proofs.Common.{◌≡◌, ◌≤◌, ◌<◌, ◌⊎◌, ℕ, zero, suc, ◌+◌, List, [], ◌∷◌, ◌++◌, length, map, refl, sym, ◌∙◌, ap, subst, arith}
 use Rattle.std.specs.Prelude.{◌-◌, ◌^◌, count_by, reverse, slice_get, slice_index_or, Some, IfOk, IfErr, Result, Ok, Err}
 use Rattle.std.specs.List.{AllByRecursion, range_with_len}
-use Rattle.std.proofs.lemmas.Bool.{cases_lt}
 use Rattle.std.proofs.lemmas.List.{length-map, reverse-reverse}
 use Rattle.std.proofs.lemmas.Option.{slice_get_within}
 use Rattle.of_types.specs.declared.setup.Setup.{Setup}
@@ -18,9 +17,8 @@ use Rattle.of_switch.specs.State.{SwitchState}
 use Rattle.of_types.specs.Setups.{IsSetup}
 use Rattle.rv_laws.proofs.Told.{told_law}
 use Rattle.rv_laws.proofs.Laws.{agreement_law, lasting_law, once_law, fence_law, valid_law}
-use Rattle.rv_runs.specs.Bound.{IsQuick, IsSharplyBounded}
-use Rattle.rv_runs.specs.Committed.{count_up, decided, members_up, switch_state}
-use Rattle.rv_runs.specs.Legal.{IsLegalPast, IsPossible, results_of}
+use Rattle.rv_runs.specs.Committed.{count_up, kept, kept_of, members_up, switch_state}
+use Rattle.rv_runs.specs.Legal.{IsPossible, results_of}
 use Rattle.rv_runs.specs.Schedule.{Answer, Closes, FollowsInOrder, IsBegun, count_turns, majority}
 use Rattle.rv_runs.specs.Schedule as schedule
 use Rattle.rv_runs.specs.States.{Scene, controller_at}
@@ -39,28 +37,21 @@ use Rattle.rv_world.proofs.Growing.{no_more}
 use Rattle.rv_world.proofs.Places.{results_at}
 use Rattle.closing.specs.declared.closed.Closed.{Closed}
 use Rattle.closing.specs.declared.closed.Closed.TheVariants as closed
-use Rattle.closing.specs.Closing.{HasMajority, answer_of, up_in}
+use Rattle.closing.specs.Closing.{HasMajority, HasReason, IsBounded, answer_of}
 use Rattle.closing.proofs.Lists.{map_range}
 use Rattle.closing.proofs.Parts.{few_members}
 use Rattle.vr_log.specs.declared.entry.LogFull.{LogFull}
 use Rattle.app_core.specs.Law.{AppLaw}
 use Rattle.closing_laws.specs.Ends.{HasRested}
-use Rattle.app_core.specs.Chain.{given_by}
-use Rattle.closing_laws.specs.Quick.{WhereSavesSucceed}
-use Rattle.closing_laws.specs.Stops.{IsAtLimit}
+use Rattle.closing_laws.specs.Starts.{SavesSucceed}
 use Rattle.closing_laws.proofs.Kept.{kept_law}
-use Rattle.closing_laws.proofs.Limits.{limits_law}
-use Rattle.closing_laws.proofs.QuickClosings.{quick_law, sharp_law}
-use Rattle.closing_laws.proofs.Quorate.{quorum_law}
-use Rattle.closing_laws.proofs.Rested.{rest_law}
-use Rattle.dispatcher.specs.Ledger.{most_commands}
 use Rattle.closing.proofs.Turned.{past_joined}
 use Rattle.closing.proofs.Worlds.{Runs, states_are}
 use Rattle.scenario.specs.declared.scenario.Scenario.{Scenario}
 use Rattle.report.specs.declared.record.Record.{Record}
 use Rattle.report.specs.Fits.{FitsRecord}
 use Rattle.report.specs.Writable.{IsWritable}
-use Rattle.rv_record.specs.Shows.{Shows, told_by, told_of}
+use Rattle.rv_record.specs.Shows.{Shows, committed_at, told_by, told_of}
 use Rattle.playing.specs.Played.{HasPlayed, RunStops}
 use Rattle.top_call.specs.declared.sim.Output.{Output}
 use Rattle.top_call.specs.Play.{AreFresh, IfDone, IfReport, StopsAs, ending_by, told_text}
@@ -96,7 +87,7 @@ none_left (x ∷ xs) h = cc
 
 module _ {A W : Type 0} (law : AppLaw A) (saving : Saving W) (scenario : Scenario) (kinds : List ℕ)
     (start : Worlding (List ℕ) A) (stables : List W) (w : Worlding (List ℕ) A) (stables_after : List W)
-    (begins : StartsAs scenario.setup start) (holds : Holds law byte_bodies start kinds) (given : given_by kinds ≤ most_commands) (pairs : PairsStand saving stables start.controllers)
+    (begins : StartsAs scenario.setup start) (holds : Holds law byte_bodies start kinds) (pairs : PairsStand saving stables start.controllers)
     (k : Keeps law saving byte_bodies start stables w stables_after) (within : IsWithinLimits byte_bodies.size (past w.journal)) where
   abbrev OfRun : Scene (List ℕ)
   OfRun = scene_for kinds scenario
@@ -163,7 +154,10 @@ module _ {A W : Type 0} (law : AppLaw A) (saving : Saving W) (scenario : Scenari
   each_saved (r ∷ rs) all zero = all.0
   each_saved (r ∷ rs) all (suc i) = each_saved rs all.1 i
 
-  module _ (count : ℕ) (answer : Answer) (played : HasPlayed (scene_in byte_bodies start kinds) scenario.steps count answer w) where
+  module _ (count : ℕ) (ended : Closed) (played : HasPlayed (scene_in byte_bodies start kinds) scenario.steps count ended w) where
+    abbrev answer : Answer
+    answer = answer_of ended
+
     same_scene : (P : Scene (List ℕ) → Type 0) → P (scene_in byte_bodies start kinds) → P OfRun
     same_scene P h = subst (λ (s : Setup). P (record { setup = s; kinds = kinds; sealing = byte_bodies })) begins.setup_is h
 
@@ -209,12 +203,15 @@ module _ {A W : Type 0} (law : AppLaw A) (saving : Saving W) (scenario : Scenari
               (one_past other w.journal (ap past ran.joined ∙ past_joined script closing ∙ same.0 ∙ sym whole), same.1);
         }
 
-    -- a law of closings tells of its closing
-    of_closing : (claim : Scene (List ℕ) → List (List SaveResult) → List (JournalEntry (List ℕ)) → List (JournalEntry (List ℕ)) → Type 0) → WhereSavesSucceed (List ℕ) claim →
-        AreSaved scenario.setup.controllers Results → claim OfRun Results (past played.front) played.rest
-    of_closing claim proved saved =
-        proved OfRun Results (past played.front) played.rest closes.last runs.setup bytes_again given (subst (λ l. IsPossible OfRun Results l) whole runs.legal.possible)
-        (λ c i there low. each_saved (results_of Results c) (saved c there) i) (subst (λ l. IsWithinLimits byte_bodies.size l) whole within) closes.steps closes.posted
+    -- where each save was made, each of its closing succeeded
+    saves_succeed : AreSaved scenario.setup.controllers Results → SavesSucceed OfRun Results (past played.front)
+    saves_succeed saved c i there low = each_saved (results_of Results c) (saved c there) i
+
+    bounded : IsBounded OfRun Results (past played.front) played.rest
+    bounded = same_scene (λ s. IsBounded s Results (past played.front) played.rest) played.bounded
+
+    reason : HasReason ended OfRun Results (past played.front) (past w.journal)
+    reason = same_scene (λ s. HasReason ended s Results (past played.front) (past w.journal)) played.reason
 
     pub has_run : HasRun kinds (StablesTell saving stables stables_after) scenario answer
     has_run = record {
@@ -225,25 +222,24 @@ module _ {A W : Type 0} (law : AppLaw A) (saving : Saving W) (scenario : Scenari
       run = record { joined = played.joined; legal = runs.legal; within = within; follows = follows; closes = closes; lawful = lawful };
       saved = stables_tell;
       one = one;
-      quick = of_closing (λ scene results before entries. IsQuick scene results before entries) quick_law;
-      sharp = of_closing (λ scene results before entries. IsSharplyBounded scene results before entries) sharp_law;
+      quick = λ saved. bounded.quick (saves_succeed saved);
+      sharp = λ saved. bounded.sharp (saves_succeed saved);
     }
 
-    -- nothing is left undone
-    rested : (primary : ℕ) → answer ≡ schedule.Done primary → HasRested OfRun Results primary (past w.journal)
-    rested primary is =
-        subst (λ (l : List (JournalEntry (List ℕ))). HasRested OfRun Results primary l) (sym whole)
-        (rest_law OfRun Results (past played.front) played.rest primary runs.setup bytes_again given (subst (λ (l : List (JournalEntry (List ℕ))). IsLegalPast OfRun Results l) whole runs.legal)
-        (subst (λ (x : Answer). Closes OfRun Results (past played.front) played.rest x) is closes) (subst (λ l. IsWithinLimits byte_bodies.size l) whole within))
+    -- what its primary has committed
+    committed_is : (primary : ℕ) → primary < scenario.setup.controllers → committed_at w.controllers primary ≡ kept OfRun Results primary (past w.journal)
+    committed_is primary there =
+        let m = runs.controllers primary there in
+        rw (committed_at, m.stands) (ap kept_of m.state)
 
     -- what is told of it
-    shows : (told : Record) → told ≡ told_by w (length scenario.steps) count → Shows OfRun Results (length scenario.steps) played.rest w.journal told
-    shows told is = record {
+    shows : (primary : ℕ) → primary < scenario.setup.controllers → (told : Record) → told ≡ told_by w primary (length scenario.steps) count → Shows OfRun Results primary (length scenario.steps) played.rest w.journal told
+    shows primary there told is = record {
       setup = ap (λ t. t.setup) is ∙ same_setup;
       journal_is = ap (λ t. t.journal) is;
-      log = ap (λ t. t.log) is ∙ sym (subst (λ (s : Setup). decided (record { setup = s; kinds = kinds; sealing = byte_bodies }) Results (past w.journal) ≡ w.decided) same_setup (now_holds.decided Results as_group));
+      log = ap (λ t. t.log) is ∙ committed_is primary there;
       script = ap (λ t. t.script) is;
-      closing_is = ap (λ t. t.closing) is ∙ ap count_turns (rest_is (scene_in byte_bodies start kinds) scenario.steps count answer w played);
+      closing_is = ap (λ t. t.closing) is ∙ ap count_turns (rest_is (scene_in byte_bodies start kinds) scenario.steps count ended w played);
       switches = ap (λ t. t.switches) is ∙ sym (ap (λ n. map (λ s. told_of (switch_state OfRun s (past w.journal))) (range_with_len 0 n)) (sym runs.count)
           ∙ map_range (λ s. told_of (switch_state OfRun s (past w.journal))) told_of w.switches 0 told_at);
     }
@@ -256,49 +252,43 @@ module _ {A W : Type 0} (law : AppLaw A) (saving : Saving W) (scenario : Scenari
             let number : 0 + i ≡ i = omega arith in
             ap (λ n. told_of (switch_state OfRun n (past w.journal))) number ∙ ap told_of (from_some (switch_state OfRun i (past w.journal)) x (sym (runs.switches i there) ∙ found))
 
-  pub is_done : (count primary : ℕ) (output : Output) (told : Record) (written : List ℕ) (played : HasPlayed (scene_in byte_bodies start kinds) scenario.steps count (schedule.Done primary) w) →
-      majority start.setup.controllers ≤ length (up_in w) → told ≡ told_by w (length scenario.steps) count → written ≡ told_text output told → IfReport output (FitsRecord told) →
+  pub is_done : (count primary : ℕ) (output : Output) (told : Record) (written : List ℕ) (played : HasPlayed (scene_in byte_bodies start kinds) scenario.steps count (closed.Done primary) w) →
+      HasMajority (closed.Done primary) start w → told ≡ told_by w primary (length scenario.steps) count → written ≡ told_text output told → IfReport output (FitsRecord told) →
       IsDone kinds (StablesTell saving stables stables_after) scenario output written
   unfolding has_run
   is_done count primary output told written played up is wrote fits =
+      let end : Closed = closed.Done primary in
       let group : start.setup.controllers ≡ scenario.setup.controllers = ap (λ (s : Setup). s.controllers) begins.setup_is in
+      let there : primary < scenario.setup.controllers = subst (λ (n : ℕ). primary < n) group up.0 in
       let same = states_are law OfRun w runs Results none_yet in
+      let rested : HasRested OfRun Results primary (past w.journal) = reason count end played in
       record {
         primary = primary;
-        ran = has_run count (schedule.Done primary) played;
-        rested = rested count (schedule.Done primary) played primary refl;
-        up = subst (λ n. majority n ≤ count_up OfRun Results (past w.journal)) group (subst (λ l. majority start.setup.controllers ≤ length (members_up l)) (sym same) up);
+        ran = has_run count end played;
+        rested = rested;
+        up = subst (λ n. majority n ≤ count_up OfRun Results (past w.journal)) group (subst (λ l. majority start.setup.controllers ≤ length (members_up l)) (sym same) up.1);
         told = told;
-        shows = shows count (schedule.Done primary) played told is;
+        shows = shows count end played primary there told is;
         wrote = wrote;
-        one_record = one_record output told written wrote fits (subst (λ (t : Record). IsWritable t) (sym is) (told_writable OfRun Results scenario.steps played.front played.rest (schedule.Done primary) w
-            (subst (λ (s : Setup). IsSetup s) (sym same_setup) runs.setup) same_setup played.joined (follows count (schedule.Done primary) played) (closes count (schedule.Done primary) played) runs.count runs.switches
-            (subst (λ (s : Setup). decided (record { setup = s; kinds = kinds; sealing = byte_bodies }) Results (past w.journal) ≡ w.decided) same_setup (now_holds.decided Results (as_group count (schedule.Done primary) played)))
+        one_record = one_record output told written wrote fits (subst (λ (t : Record). IsWritable t) (sym is) (told_writable OfRun Results scenario.steps played.front played.rest (schedule.Done primary) w primary
+            (subst (λ (s : Setup). IsSetup s) (sym same_setup) runs.setup) same_setup played.joined (follows count end played) (closes count end played) runs.count runs.switches
+            (sym rested.kept ∙ sym (committed_is count end played primary there))
             (told_law OfRun Results (past w.journal) runs.setup bytes_again runs.legal.possible) (length scenario.steps) count));
       }
 
-  pub is_left : (count up needed : ℕ) (played : HasPlayed (scene_in byte_bodies start kinds) scenario.steps count (schedule.NoQuorum up needed) w) → IsLeft kinds (StablesTell saving stables stables_after) scenario up needed
+  pub is_left : (count up needed : ℕ) (played : HasPlayed (scene_in byte_bodies start kinds) scenario.steps count (closed.NoQuorum up needed) w) → IsLeft kinds (StablesTell saving stables stables_after) scenario up needed
   unfolding has_run
-  is_left count up needed played = record {
-    ran = has_run count (schedule.NoQuorum up needed) played;
-    few = λ saved. elim (cases_lt (count_up OfRun Results (past played.front)) (majority scenario.setup.controllers)) [
-      | inl less ↦ less
-      | inr most ↦
-          absurd (quorum_law OfRun Results (past played.front) played.rest up needed most (λ c i there low. each_saved (results_of Results c) (saved c there) i) (closes count (schedule.NoQuorum up needed) played))
-    ];
-  }
+  is_left count up needed played =
+      let end : Closed = closed.NoQuorum up needed in
+      let few = reason count end played in
+      record { ran = has_run count end played; few = λ saved. few (saves_succeed count end played saved) }
 
-  pub is_overfull : (count : ℕ) (limit : LogFull) (played : HasPlayed (scene_in byte_bodies start kinds) scenario.steps count (schedule.Overfull limit) w) → IsOverfull kinds (StablesTell saving stables stables_after) scenario limit
+  pub is_overfull : (count : ℕ) (limit : LogFull) (played : HasPlayed (scene_in byte_bodies start kinds) scenario.steps count (closed.Overfull limit) w) → IsOverfull kinds (StablesTell saving stables stables_after) scenario limit
   unfolding has_run
   is_overfull count limit played =
-      let at = limits_law OfRun Results (past played.front) played.rest limit runs.setup bytes_again (subst (λ (l : List (JournalEntry (List ℕ))). IsPossible OfRun Results l) (whole count (schedule.Overfull limit) played) runs.legal.possible)
-      (closes count (schedule.Overfull limit) played) in
-      record {
-        ran = has_run count (schedule.Overfull limit) played;
-        controller = at.0;
-        entry = at.1;
-        full = subst (λ (l : List (JournalEntry (List ℕ))). IsAtLimit OfRun Results l limit at.0 at.1) (sym (whole count (schedule.Overfull limit) played)) at.2;
-      }
+      let end : Closed = closed.Overfull limit in
+      let at = reason count end played in
+      record { ran = has_run count end played; controller = at.0; entry = at.1; full = at.2 }
 
   pub is_unposted : (bytes letters : ℕ) → IsBegun (scene_in byte_bodies start kinds) Results scenario.steps bytes letters (past w.journal) → IsUnposted kinds (StablesTell saving stables stables_after) scenario bytes letters
   is_unposted bytes letters begun = record {
@@ -316,7 +306,7 @@ module _ {A W : Type 0} (law : AppLaw A) (saving : Saving W) (scenario : Scenari
 -- how a call ends, by how playing ended
 module _ {A W : Type 0} (law : AppLaw A) (saving : Saving W) (scenario : Scenario) (kinds : List ℕ)
     (start : Worlding (List ℕ) A) (stables : List W) (w : Worlding (List ℕ) A) (stables_after : List W)
-    (begins : StartsAs scenario.setup start) (holds : Holds law byte_bodies start kinds) (given : given_by kinds ≤ most_commands) (pairs : PairsStand saving stables start.controllers)
+    (begins : StartsAs scenario.setup start) (holds : Holds law byte_bodies start kinds) (pairs : PairsStand saving stables start.controllers)
     (within : IsWithinLimits byte_bodies.size (past w.journal)) (taken : List Turn) (same : taken ≡ scenario.steps) where
   abbrev Kept : Type 0
   Kept = Keeps law saving byte_bodies start stables w stables_after
@@ -324,28 +314,29 @@ module _ {A W : Type 0} (law : AppLaw A) (saving : Saving W) (scenario : Scenari
   abbrev Ends : Output → Ending → Type 0
   Ends output e = EndsRun kinds (StablesTell saving stables stables_after) output scenario e
 
-  one_ending : (closed : Closed) (count : ℕ) (output : Output) → Kept → HasPlayed (scene_in byte_bodies start kinds) scenario.steps count (answer_of closed) w →
-      HasMajority closed start w → IfDone closed (IfReport output (FitsRecord (told_by w (length scenario.steps) count))) → Ends output (ending_by closed (told_text output (told_by w (length scenario.steps) count)))
+  one_ending : (closed : Closed) (count : ℕ) (output : Output) → Kept → HasPlayed (scene_in byte_bodies start kinds) scenario.steps count closed w →
+      HasMajority closed start w → IfDone closed (λ p. IfReport output (FitsRecord (told_by w p (length scenario.steps) count))) →
+      Ends output (ending_by closed (λ p. told_text output (told_by w p (length scenario.steps) count)))
   one_ending (closed.Done primary) count output k played up fits =
-      is_done law saving scenario kinds start stables w stables_after begins holds given pairs k within count primary output (told_by w (length scenario.steps) count) (told_text output (told_by w (length scenario.steps) count)) played up refl refl fits
-  one_ending (closed.NoQuorum up needed) count output k played most fits = is_left law saving scenario kinds start stables w stables_after begins holds given pairs k within count up needed played
-  one_ending (closed.Overfull limit) count output k played most fits = is_overfull law saving scenario kinds start stables w stables_after begins holds given pairs k within count limit played
+      is_done law saving scenario kinds start stables w stables_after begins holds pairs k within count primary output (told_by w primary (length scenario.steps) count) (told_text output (told_by w primary (length scenario.steps) count)) played up refl refl fits
+  one_ending (closed.NoQuorum up needed) count output k played most fits = is_left law saving scenario kinds start stables w stables_after begins holds pairs k within count up needed played
+  one_ending (closed.Overfull limit) count output k played most fits = is_overfull law saving scenario kinds start stables w stables_after begins holds pairs k within count limit played
 
-  ok_ending : {X : Type 0} (closed : Closed) (count : ℕ) (output : Output) (steps : ℕ) (ended : Result Ending X) → steps ≡ length scenario.steps → Kept → HasPlayed (scene_in byte_bodies start kinds) taken count (answer_of closed) w →
-      HasMajority closed start w → IfOk ended (λ e. e ≡ ending_by closed (told_text output (told_by w steps count))) → IfOk ended (λ _. IfDone closed (IfReport output (FitsRecord (told_by w steps count)))) → IfOk ended (λ e. Ends output e)
+  ok_ending : {X : Type 0} (closed : Closed) (count : ℕ) (output : Output) (steps : ℕ) (ended : Result Ending X) → steps ≡ length scenario.steps → Kept → HasPlayed (scene_in byte_bodies start kinds) taken count closed w →
+      HasMajority closed start w → IfOk ended (λ e. e ≡ ending_by closed (λ p. told_text output (told_by w p steps count))) → IfOk ended (λ _. IfDone closed (λ p. IfReport output (FitsRecord (told_by w p steps count)))) → IfOk ended (λ e. Ends output e)
   ok_ending closed count output steps (Err x) long k played up is fits = tt
   ok_ending closed count output steps (Ok e) long k played up is fits =
-      subst (λ x. Ends output x) (sym (is ∙ ap (λ n. ending_by closed (told_text output (told_by w n count))) long))
-      (one_ending closed count output k (subst (λ (l : List Turn). HasPlayed (scene_in byte_bodies start kinds) l count (answer_of closed) w) same played) up (subst (λ (n : ℕ). IfDone closed (IfReport output (FitsRecord (told_by w n count)))) long fits))
+      subst (λ x. Ends output x) (sym (is ∙ ap (λ n. ending_by closed (λ p. told_text output (told_by w p n count))) long))
+      (one_ending closed count output k (subst (λ (l : List Turn). HasPlayed (scene_in byte_bodies start kinds) l count closed w) same played) up (subst (λ (n : ℕ). IfDone closed (λ p. IfReport output (FitsRecord (told_by w p n count)))) long fits))
 
   -- it came to the end of its closing
   pub ends_closed : {X : Type 0} (result : Result (Closed × ℕ) Stop) (closed : Closed) (count : ℕ) (output : Output) (steps : ℕ) (ended : Result Ending X) → result ≡ Ok (closed, count) → steps ≡ length scenario.steps →
-      IfMemory result Kept → IfOk result (λ played. HasPlayed (scene_in byte_bodies start kinds) taken played.1 (answer_of played.0) w) → IfOk result (λ played. HasMajority played.0 start w) →
-      IfOk ended (λ e. e ≡ ending_by closed (told_text output (told_by w steps count))) → IfOk ended (λ _. IfDone closed (IfReport output (FitsRecord (told_by w steps count)))) → IfOk ended (λ e. Ends output e)
+      IfMemory result Kept → IfOk result (λ played. HasPlayed (scene_in byte_bodies start kinds) taken played.1 played.0 w) → IfOk result (λ played. HasMajority played.0 start w) →
+      IfOk ended (λ e. e ≡ ending_by closed (λ p. told_text output (told_by w p steps count))) → IfOk ended (λ _. IfDone closed (λ p. IfReport output (FitsRecord (told_by w p steps count)))) → IfOk ended (λ e. Ends output e)
   ends_closed result closed count output steps ended is long k played up ending_is fits =
       ok_ending closed count output steps ended long
       (subst (λ (r : Result (Closed × ℕ) Stop). IfMemory r Kept) is k)
-      (subst (λ (r : Result (Closed × ℕ) Stop). IfOk r (λ played. HasPlayed (scene_in byte_bodies start kinds) taken played.1 (answer_of played.0) w)) is played)
+      (subst (λ (r : Result (Closed × ℕ) Stop). IfOk r (λ played. HasPlayed (scene_in byte_bodies start kinds) taken played.1 played.0 w)) is played)
       (subst (λ (r : Result (Closed × ℕ) Stop). IfOk r (λ played. HasMajority played.0 start w)) is up)
       ending_is fits
 
@@ -355,7 +346,7 @@ module _ {A W : Type 0} (law : AppLaw A) (saving : Saving W) (scenario : Scenari
   one_stop OutOfMemory output (Ok e) k stops never = absurd never
   one_stop (JournalFull bytes letters) output (Ok e) k stops is =
       subst (λ x. Ends output x) (sym is)
-      (is_unposted law saving scenario kinds start stables w stables_after begins holds given pairs k within bytes letters
+      (is_unposted law saving scenario kinds start stables w stables_after begins holds pairs k within bytes letters
       (subst (λ (l : List Turn). IsBegun (scene_in byte_bodies start kinds) (results_in w.controllers) l bytes letters (past w.journal)) same stops))
 
   -- or it stopped
@@ -367,6 +358,18 @@ module _ {A W : Type 0} (law : AppLaw A) (saving : Saving W) (scenario : Scenari
 
 -- the script's part is not longer than the journal
 pub script_within : {A : Type 0} (scene : Scene (List ℕ)) (taken : List Turn) (w : Worlding (List ℕ) A) (result : Result (Closed × ℕ) Stop) (closed : Closed) (count : ℕ) → result ≡ Ok (closed, count) →
-    IfOk result (λ played. HasPlayed scene taken played.1 (answer_of played.0) w) → count ≤ length w.journal
+    IfOk result (λ played. HasPlayed scene taken played.1 played.0 w) → count ≤ length w.journal
 script_within scene taken w result closed count is played =
-    within_journal scene taken count (answer_of closed) w (subst (λ (r : Result (Closed × ℕ) Stop). IfOk r (λ p. HasPlayed scene taken p.1 (answer_of p.0) w)) is played)
+    within_journal scene taken count closed w (subst (λ (r : Result (Closed × ℕ) Stop). IfOk r (λ p. HasPlayed scene taken p.1 p.0 w)) is played)
+
+-- and the primary of a closing is one of its controllers
+pub primary_there : {B A : Type 0} (law : AppLaw A) (scene : Scene B) (start w : Worlding B A) → Runs law scene w → start.setup ≡ scene.setup → (result : Result (Closed × ℕ) Stop) (ended : Closed) (count : ℕ) → result ≡ Ok (ended, count) →
+    IfOk result (λ played. HasMajority played.0 start w) → IfDone ended (λ primary. primary < length w.controllers)
+primary_there law scene start w runs same result ended count is up = by_end ended (subst (λ (r : Result (Closed × ℕ) Stop). IfOk r (λ played. HasMajority played.0 start w)) is up)
+  where
+    by_end : (c : Closed) → HasMajority c start w → IfDone c (λ primary. primary < length w.controllers)
+    by_end (closed.Done primary) m =
+        let group : start.setup.controllers ≡ length w.controllers = ap (λ (s : Setup). s.controllers) same ∙ sym runs.group in
+        subst (λ (n : ℕ). primary < n) group m.0
+    by_end (closed.NoQuorum up needed) m = tt
+    by_end (closed.Overfull limit) m = tt

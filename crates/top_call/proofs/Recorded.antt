@@ -39,7 +39,7 @@ use Rattle.report.specs.Fits.{FitsRecord}
 use Rattle.report.specs.Writable.{AreWritable, HasLine, IsWritable, IsWritableEvent, IsWritableExecuted, IsWritableRow, IsWritableTold}
 use Rattle.report.proofs.Writable.{is_record}
 use Rattle.report.proofs.RecordAgain.{one_record as one_text}
-use Rattle.rv_record.specs.Shows.{shown_row, told_by, told_of}
+use Rattle.rv_record.specs.Shows.{committed_at, shown_row, told_by, told_of}
 use Rattle.top_call.specs.declared.sim.Output.{Output}
 use Rattle.top_call.specs.declared.sim.Output.TheVariants.{Report, LastLine}
 use Rattle.top_call.specs.Play.{IfReport, told_text}
@@ -159,17 +159,17 @@ entry_valid : (setup : Setup) (e : Entry) → IsSpellableEntry setup e → IsVal
 entry_valid setup (Received e) h = happening_fits e.what h.1.1
 entry_valid setup (Processed j) h = tt
 
-module _ {A : Type 0} (scene : Scene (List ℕ)) (results : List (List SaveResult)) (steps : List Turn) (front rest : List (JournalEntry (List ℕ))) (answer : Answer) (w : Worlding (List ℕ) A) where
+module _ {A : Type 0} (scene : Scene (List ℕ)) (results : List (List SaveResult)) (steps : List Turn) (front rest : List (JournalEntry (List ℕ))) (answer : Answer) (w : Worlding (List ℕ) A) (primary : ℕ) where
   pub told_writable : IsSetup w.setup → w.setup ≡ scene.setup → w.journal ≡ front ++ rest → FollowsInOrder scene results steps (past front) → Closes scene results (past front) rest answer →
       length w.switches ≡ length scene.setup.ports → ((s : ℕ) → s < length scene.setup.ports → slice_get w.switches s ≡ Some (switch_state scene s (past w.journal))) →
-      decided scene results (past w.journal) ≡ w.decided → IsSpellableRun scene results (past w.journal) → (count closing : ℕ) → IsWritable (told_by w count closing)
+      decided scene results (past w.journal) ≡ committed_at w.controllers primary → IsSpellableRun scene results (past w.journal) → (count closing : ℕ) → IsWritable (told_by w primary count closing)
   told_writable is_setup setup_is joined follows closes count_is switches decided_is law count closing = record {
     setup = is_setup;
     journal_is = subst (λ (l : List (JournalEntry (List ℕ))). AllByRecursion HasLine l) (sym joined)
         (all_append HasLine front rest
         (subst (λ (l : List (JournalEntry (List ℕ))). AllByRecursion HasLine l) (reverse-reverse front) (all_reversed HasLine (past front) (script_lines scene results steps (past front) follows.takes)))
         (closing_lines scene results Losing (past front) rest closes.last closes.steps));
-    log = all_weaker (λ e. IsSpellableEntry scene.setup e) (λ e. IsValidEntry e) (λ e h. entry_valid scene.setup e h) w.decided (subst (λ (l : List Entry). AllByRecursion (λ e. IsSpellableEntry scene.setup e) l) decided_is law.log);
+    log = all_weaker (λ e. IsSpellableEntry scene.setup e) (λ e. IsValidEntry e) (λ e h. entry_valid scene.setup e h) (committed_at w.controllers primary) (subst (λ (l : List Entry). AllByRecursion (λ e. IsSpellableEntry scene.setup e) l) decided_is law.log);
     switches = length-map w.switches told_of ∙ count_is ∙ ap (λ (s : Setup). length s.ports) (sym setup_is);
     told = switches_writable w.switches 0 told_at;
   }

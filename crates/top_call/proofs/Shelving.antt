@@ -1,12 +1,10 @@
 -- The applications of controllers, life by life.
-use Rattle.std.proofs.Common.{◌≡◌, ◌≤◌, ◌<◌, ◌⊎◌, inl, inr, ℕ, ◌+◌, ◌*◌, Vec, List, [], ◌∷◌, ◌++◌, length, sym, ◌∙◌, ap, subst, arith, length-append}
+use Rattle.std.proofs.Common.{◌≡◌, ◌≤◌, ◌<◌, ◌⊎◌, inl, inr, ℕ, ◌+◌, ◌*◌, List, [], ◌∷◌, ◌++◌, length, sym, ◌∙◌, ap, subst, arith, length-append}
 use Rattle.std.proofs.lemmas.Bool.{cases_lt}
 use Rattle.rv_base.proofs.All.{all_append}
 use Rattle.app_core.specs.Law.{AppLaw}
 use Rattle.group_controller.specs.Turns.{AreAlike}
 use Rattle.app_core.specs.Chain.{given_by}
-use Rattle.dispatcher.specs.Ledger.{most_commands}
-use Rattle.rv_world.specs.World.{AreStocked}
 
 -- so many shelves are full, so many applications stand on the next one, and so many are left
 pub record IsFilled (controllers shelves shelf rest : ℕ) : Type 0 where
@@ -51,15 +49,6 @@ pub alike_push : {A : Type 0} (law : AppLaw A) (kinds : List ℕ) (shelf pushed 
     (law.kinds x ≡ kinds) × (given_by (law.kinds x) ≤ 128) → AreAlike law kinds pushed
 alike_push law kinds shelf pushed x is all one =
     subst (λ l. AreAlike law kinds l) (sym is) (all_append (λ app. (law.kinds app ≡ kinds) × (given_by (law.kinds app) ≤ 128)) shelf (x ∷ []) all (one, tt))
-
--- applications on shelves give no more commands for an event than a ledger holds
-one_given : {A : Type 0} (law : AppLaw A) (kinds : List ℕ) (shelf : List A) → 0 < length shelf → AreAlike law kinds shelf → given_by kinds ≤ most_commands
-one_given law kinds [] some alike = absurd (omega (arith, some))
-one_given law kinds (app ∷ apps) some alike = subst (λ (ks : List ℕ). given_by ks ≤ most_commands) alike.0.0 alike.0.1
-
-pub few_given : {A G : Type 0} (law : AppLaw A) (kinds : List ℕ) (shelves : List (Vec A G)) → 0 < length shelves → AreStocked law kinds shelves → given_by kinds ≤ most_commands
-few_given law kinds [] some stocked = absurd (omega (arith, some))
-few_given law kinds (shelf ∷ shelves) some stocked = one_given law kinds shelf.items stocked.0.some stocked.0.alike
 
 pub long_push : {X : Type 0} (xs pushed : List X) (x : X) → pushed ≡ xs ++ x ∷ [] → length pushed ≡ length xs + 1
 long_push xs pushed x is = ap length is ∙ length-append xs (x ∷ [])

@@ -3,7 +3,7 @@ use Rattle.std.specs.Prelude.{◌≡◌, ◌≢◌, ℕ, List, Option, Some, Con
 use Rattle.top_call.specs.declared.ending.Ending.{Ending}
 use Rattle.top_call.specs.Ending.{ending_status, ending_text}
 use Rattle.top_call.specs.Runs.{Telling}
-use Rattle.top_call.specs.Outcome.{Outcome, IsUnserved, IsAudit, IsMade, statuses_of_audit, statuses_of_made}
+use Rattle.top_call.specs.Outcome.{Outcome, IsUnserved, IsAudit, IsOfFourNumbers, statuses_of_audit, statuses_of_made}
 
 -- a claim on what a source had left at first and has left at the end, where it tells both
 abbrev pub IsReadOf : Option (List ℕ) → Option (List ℕ) → (List ℕ → List ℕ → Type 0) → Type 0
@@ -23,9 +23,9 @@ pub record Tells (words : List (List ℕ)) (unread unfailed : Type 0) (ending : 
   pub failed : ending_status ending ≡ 4 → unread
   pub served : ending_status ending ≢ 4 → unfailed
   pub audit : IsAudit words → Contains statuses_of_audit (ending_status ending)
-  pub made : IsMade words → Contains statuses_of_made (ending_status ending)
+  pub made : IsOfFourNumbers words → Contains statuses_of_made (ending_status ending)
 
 -- what is written at the words of a made scenario, whatever the source tells: nothing of it is read
 abbrev pub IsOfNumbers : List ℕ → Telling → List (List ℕ) → Type 0 → Ending → Type 0
 IsOfNumbers kinds saves words unread ending =
-    IsMade words → (input : List ℕ) → Outcome kinds saves words input input unread (ending_status ending) (ending_text ending)
+    IsOfFourNumbers words → (input : List ℕ) → Outcome kinds saves words input input unread (ending_status ending) (ending_text ending)

@@ -4,5 +4,6 @@ pub mod Service
 pub mod Audited
 pub mod Play
 pub mod Outcome
+pub mod Call
 pub mod Ending
 pub mod Cause

@@ -22,9 +22,9 @@ use Rattle.top_call.specs.Runs.{IsDone, IsInLimits, IsLeft, IsOverfull, IsUnpost
 
 -- a claim on what is read and written, where both ends tell it: what the source had left at first, what
 -- it has left at the end, and what the sink took
-abbrev pub IsTold : Option (List ℕ) → Option (List ℕ) → Option (List ℕ) → Option (List ℕ) → (List ℕ → List ℕ → List ℕ → Type 0) → Type 0
-IsTold (Some input) (Some rest) (Some before) after P = (written : List ℕ) × (after ≡ Some (before ++ written)) × P input rest written
-IsTold _ _ _ _ P = Unit {0}
+abbrev pub IsReadAndWritten : Option (List ℕ) → Option (List ℕ) → Option (List ℕ) → Option (List ℕ) → (List ℕ → List ℕ → List ℕ → Type 0) → Type 0
+IsReadAndWritten (Some input) (Some rest) (Some before) after P = (written : List ℕ) × (after ≡ Some (before ++ written)) × P input rest written
+IsReadAndWritten _ _ _ _ P = Unit {0}
 
 -- a claim on what is written, where the sink tells it
 abbrev pub IsWritten : Option (List ℕ) → Option (List ℕ) → (List ℕ → Type 0) → Type 0
@@ -54,12 +54,12 @@ abbrev pub IsAudit : List (List ℕ) → Type 0
 IsAudit words = job_of words ≡ Some Audit
 
 -- words that ask for the scenario that four numbers make
-abbrev pub IsMade : List (List ℕ) → Type 0
-IsMade words = (number controllers switches frames : ℕ) × (job_of words ≡ Some (Gen number controllers switches frames))
+abbrev pub IsOfFourNumbers : List (List ℕ) → Type 0
+IsOfFourNumbers words = (number controllers switches frames : ℕ) × (job_of words ≡ Some (Gen number controllers switches frames))
 
 -- words for which nothing is read, and words for which nothing is played
 abbrev pub ReadsNothing : List (List ℕ) → Type 0
-ReadsNothing words = IsUnserved words ⊎ IsMade words
+ReadsNothing words = IsUnserved words ⊎ IsOfFourNumbers words
 
 abbrev pub PlaysNothing : List (List ℕ) → Type 0
 PlaysNothing words = IsUnserved words ⊎ IsAudit words
@@ -121,7 +121,7 @@ abbrev pub IsUnplayed : ℕ → Type 0
 IsUnplayed status = (status ≡ 2) ⊎ ((status ≡ 3) ⊎ ((status ≡ 4) ⊎ (status ≡ 8)))
 
 -- what is written at the answers that have one line, and for want of memory
-pub record HasLine (status : ℕ) (written : List ℕ) : Type 0 where
+pub record IsOneLine (status : ℕ) (written : List ℕ) : Type 0 where
   pub usage : status ≡ 2 → written ≡ usage_line
   pub unread : status ≡ 4 → written ≡ unread_line
   pub nothing : status ≡ 6 → written ≡ []

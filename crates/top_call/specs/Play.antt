@@ -41,17 +41,17 @@ abbrev pub IfReport : Output → Type 0 → Type 0
 IfReport Report claim = claim
 IfReport LastLine claim = Unit {0}
 
--- a claim on what is told of a closing that came to rest
-abbrev pub IfDone : Closed → Type 0 → Type 0
-IfDone (closed.Done primary) claim = claim
+-- a claim on the primary of a closing that came to rest
+abbrev pub IfDone : Closed → (ℕ → Type 0) → Type 0
+IfDone (closed.Done primary) claim = claim primary
 IfDone (closed.NoQuorum up needed) claim = Unit {0}
 IfDone (closed.Overfull limit) claim = Unit {0}
 
--- how a call ends by the end of a closing, with what is told of a run at rest
-abbrev pub ending_by : Closed → List ℕ → Ending
-ending_by (closed.Done primary) words = ending.Report words
-ending_by (closed.NoQuorum up needed) words = ending.NoQuorum up needed
-ending_by (closed.Overfull limit) words = ending.Overfull limit
+-- how a call ends by the end of a closing, with what is told of a run at rest, by the primary that closed it
+abbrev pub ending_by : Closed → (ℕ → List ℕ) → Ending
+ending_by (closed.Done primary) told = ending.Report (told primary)
+ending_by (closed.NoQuorum up needed) told = ending.NoQuorum up needed
+ending_by (closed.Overfull limit) told = ending.Overfull limit
 
 -- and where playing stopped at a full journal
 abbrev pub StopsAs : Stop → Ending → Type 0

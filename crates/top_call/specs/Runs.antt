@@ -117,7 +117,7 @@ pub record IsDone (kinds : List ℕ) (saves : Telling) (scenario : Scenario) (ou
   pub up : majority scenario.setup.controllers ≤ count_up (scene_for kinds scenario) ran.results (past ran.journal)
   pub rested : HasRested (scene_for kinds scenario) ran.results primary (past ran.journal)
   pub told : Record
-  pub shows : Shows (scene_for kinds scenario) ran.results (length scenario.steps) ran.closing ran.journal told
+  pub shows : Shows (scene_for kinds scenario) ran.results primary (length scenario.steps) ran.closing ran.journal told
   pub wrote : written ≡ told_text output told
   pub one_record : IsOneRecord output told written
 

@@ -1,5 +1,5 @@
 //! Playing a scenario from its first step to its report.
-ghost use Rattle.std.specs.Prelude.{◌≡◌, ◌≤◌, ℕ, List, length, IfOk};
+ghost use Rattle.std.specs.Prelude.{◌≡◌, ◌<◌, ◌≤◌, ℕ, List, length, IfOk};
 ghost use Rattle.rv_world.specs.World.{AreStocked};
 ghost use Rattle.rv_record.specs.Shows.{told_by};
 ghost use Rattle.scenario.specs.Scenario.{IsScenario};
@@ -29,26 +29,29 @@ pub enum Output {
 }
 
 impl Output {
-    /// What is told of a world, in bytes, with so many steps of a script, which made so many of its entries.
+    /// What is told of a world, in bytes, with the log of a primary, and with so many steps of a script, which made so many of
+    /// its entries.
     fn text_of<A: App>(
         self,
         alloc: Global,
-        world: &World<Bytes, A>,
+        world: World<Bytes, A>,
+        primary: u8,
         steps: usize,
         script: usize,
     ) -> Result<Octets, AllocError>
-        requires { script ≤ length world.now.journal }
-        ensures text { IfOk result (λ bytes. bytes ≡ told_text self (told_by world.now steps script)) }
-        ensures fits { IfOk result (λ _. IfReport self (FitsRecord (told_by world.now steps script))) }
+        requires led { primary < length world.controllers }
+        requires script { script ≤ length world.journal }
+        ensures text { IfOk result (λ bytes. bytes ≡ told_text self (told_by world primary steps script)) }
+        ensures fits { IfOk result (λ _. IfReport self (FitsRecord (told_by world primary steps script))) }
     {
         match self {
             Output::Report => {
-                let told = record_of(alloc, world, steps, script)?;
+                let told = record_of(alloc, world, primary, steps, script)?;
                 record_fits(&told);
                 text(alloc, &told)
             }
             Output::LastLine => {
-                let told = sums_of(alloc, world, steps, script)?;
+                let told = sums_of(alloc, &world, primary, steps, script)?;
                 last_line(alloc, &told)
             }
         }
@@ -58,19 +61,20 @@ impl Output {
 /// How a call ends by the end of a closing.
 fn rested<A: App>(
     alloc: Global,
-    world: &World<Bytes, A>,
+    world: World<Bytes, A>,
     output: Output,
     ended: Closed,
     steps: usize,
     script: usize,
 ) -> Result<Ending, AllocError>
-    requires { script ≤ length world.now.journal }
-    ensures ending { IfOk result (λ ending. ending ≡ ending_by ended (told_text output (told_by world.now steps script))) }
-    ensures fits { IfOk result (λ _. IfDone ended (IfReport output (FitsRecord (told_by world.now steps script)))) }
+    requires led { IfDone ended (λ primary. primary < length world.controllers) }
+    requires script { script ≤ length world.journal }
+    ensures ending { IfOk result (λ ending. ending ≡ ending_by ended (λ primary. told_text output (told_by world primary steps script))) }
+    ensures fits { IfOk result (λ _. IfDone ended (λ primary. IfReport output (FitsRecord (told_by world primary steps script)))) }
 {
     match ended {
-        Closed::Done { .. } => {
-            let words = output.text_of(alloc, world, steps, script)?;
+        Closed::Done { primary } => {
+            let words = output.text_of(alloc, world, primary, steps, script)?;
             Ok(Ending::Report(words))
         }
         Closed::NoQuorum { up, needed } => Ok(Ending::NoQuorum { up, needed }),
@@ -107,7 +111,7 @@ pub fn simulate<A: App, W: Stable>(
     let ended = play(alloc, &mut world, stables, scenario.steps.as_slice());
     world.lawful();
     match ended {
-        Ok((closed, script)) => rested(alloc, &world, output, closed, scenario.steps.len(), script),
+        Ok((closed, script)) => rested(alloc, world, output, closed, scenario.steps.len(), script),
         Err(stop) => stopped(stop),
     }
 }

@@ -4,7 +4,8 @@ ghost use Rattle.rv_base.specs.Causes.{Rose};
 ghost use Rattle.words.specs.Words.{job_of};
 ghost use Rattle.scenario.specs.Scenario.{IsScenario};
 ghost use Rattle.top_call.specs.declared.service.Reader.TheVariants as readers;
-ghost use Rattle.top_call.specs.Outcome.{Answers, HasLine, IsTold, IsWritten, IsUnserved, IsAudit, IsMade, IsUnplayed, IsComplete, PlaysNothing, ReadsNothing, service_for, statuses, statuses_of_usage, statuses_of_audit, statuses_of_made};
+ghost use Rattle.top_call.specs.Call.{ForChains, IsAnswered, IsCompleted, IsMadeOfNumbers, stream};
+ghost use Rattle.top_call.specs.Outcome.{IsOneLine, IsWritten, IsUnserved, IsAudit, IsOfFourNumbers, IsUnplayed, PlaysNothing, ReadsNothing, service_for, statuses, statuses_of_usage, statuses_of_audit, statuses_of_made};
 ghost use Rattle.top_call.specs.Ending.{ending_status, EndsRead, EndsScenario, EndsRun};
 ghost use Rattle.top_call.specs.Cause.{HasEndingCause, IsOfNumbers, Tells};
 ghost use Rattle.top_call.specs.Play.{AreChains, AreFresh};
@@ -154,18 +155,12 @@ pub fn ravana<A: App, S: Source, K: Sink, W: Stable>(
 ) -> u8
     requires chains { (kinds : List ℕ) × AreChains A.law kinds chains.items }
     requires fresh { AreFresh W.saving stables.old }
-    ensures answer { (kinds : List ℕ) → AreChains A.law kinds chains.items →
-        IsTold (S.left source.old) (S.left source.new) (K.taken sink.old) (K.taken sink.new) (λ input rest written.
-        Answers kinds (StablesTell W.saving stables.old stables.new) (map string_bytes words.now) input rest
-        (Rose (S.faults source.old) (S.faults source.new)) (Rose (K.faults sink.old) (K.faults sink.new)) written result) }
+    ensures answer { ForChains A.law chains.items (λ kinds. IsAnswered kinds (StablesTell W.saving stables.old stables.new) (map string_bytes words.now) (stream S.left S.faults source.old source.new) (stream K.taken K.faults sink.old sink.new) result) }
     ensures usage { result ≡ 2 → IsUnserved (map string_bytes words.now) }
     ensures words { IsUnserved (map string_bytes words.now) → Contains statuses_of_usage result }
     ensures audit { IsAudit (map string_bytes words.now) → Contains statuses_of_audit result }
-    ensures complete { (kinds : List ℕ) → AreChains A.law kinds chains.items →
-        IsTold (S.left source.old) (S.left source.new) (K.taken sink.old) (K.taken sink.new) (λ input rest written.
-        IsComplete kinds (map string_bytes words.now) input (Rose (S.faults source.old) (S.faults source.new))
-        (Rose (K.faults sink.old) (K.faults sink.new)) (AreCalm W.saving stables.old stables.new) result) }
-    ensures made { IsMade (map string_bytes words.now) → Contains statuses_of_made result }
+    ensures complete { ForChains A.law chains.items (λ kinds. IsCompleted kinds (map string_bytes words.now) (stream S.left S.faults source.old source.new) (stream K.taken K.faults sink.old sink.new) (AreCalm W.saving stables.old stables.new) result) }
+    ensures made { IsOfFourNumbers (map string_bytes words.now) → Contains statuses_of_made result }
     ensures unread { result ≡ 4 → Rose (S.faults source.old) (S.faults source.new) }
     ensures unwritten { result ≡ 5 → Rose (K.faults sink.old) (K.faults sink.new) }
     ensures range { Contains statuses result }
@@ -182,11 +177,8 @@ pub fn ravana<A: App, S: Source, K: Sink, W: Stable>(
     ensures untouched { IsUnplayed result → stables.new ≡ stables.old }
 
     // What needs no source is told by the sink alone.
-    ensures lines { IsWritten (K.taken sink.old) (K.taken sink.new) (HasLine result) }
-    ensures numbers { (kinds : List ℕ) → AreChains A.law kinds chains.items → IsMade (map string_bytes words.now) → (input : List ℕ) →
-        IsWritten (K.taken sink.old) (K.taken sink.new) (λ written.
-        Answers kinds (StablesTell W.saving stables.old stables.new) (map string_bytes words.now) input input
-        (Rose (S.faults source.old) (S.faults source.new)) (Rose (K.faults sink.old) (K.faults sink.new)) written result) }
+    ensures lines { IsWritten (K.taken sink.old) (K.taken sink.new) (IsOneLine result) }
+    ensures numbers { ForChains A.law chains.items (λ kinds. IsMadeOfNumbers kinds (StablesTell W.saving stables.old stables.new) (map string_bytes words.now) (stream S.left S.faults source.old source.new) (stream K.taken K.faults sink.old sink.new) result) }
 {
     let Ok(ending) = outcome(alloc, words, source, stables, chains) else {
         return NO_MEMORY;

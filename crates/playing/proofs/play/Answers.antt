@@ -1,7 +1,6 @@
 use Rattle.std.proofs.Common.{length, ap}
 use Rattle.std.proofs.lemmas.Result.{err_from_is_err_and}
 use Rattle.rv_world.proofs.Turning.{keeps_then}
-use Rattle.closing.specs.Closing.{answer_of}
 use Rattle.playing.proofs.Ending.{closing_keeps, closing_stops_at, played}
 use Rattle.playing.proofs.play.Goals as goal
 
@@ -31,5 +30,5 @@ returns-clause-keeps g c = keeps_then g.A.App.law g.W.Stable.saving g.B.Body.sea
 pub returns-clause-played : goal.returns-clause-played
 returns-clause-played g c = λ kinds holds. played g.A.App.law g.W.Stable.saving g.B.Body.sealing c.args.steps.now c.args.world.now c.args.stables.now c.do_steps.new.world c.do_steps.new.stables c.run.new.world c.run.new.stables
     c.in_ok-do_steps.ensures.keeps kinds holds (c.in_ok-do_steps.ensures.follows kinds holds) c.in_ok-closed.ensures.keeps
-    (length c.journal-script.result.now) (ap (λ l. length l) c.journal-script.ensures) (answer_of c.in_ok-closed.closed)
+    (length c.journal-script.result.now) (ap (λ l. length l) c.journal-script.ensures) c.in_ok-closed.closed
     (c.in_ok-closed.ensures.closes kinds (c.in_ok-do_steps.ensures.keeps.holds kinds holds))

@@ -1,6 +1,6 @@
 use Rattle.std.proofs.Common.{◌≡◌, ℕ, ◌+◌, ◌-◌, true, false, sym, ◌∙◌, subst, arith}
 use Rattle.std.specs.Prelude.{◌%◌}
-use Rattle.closing.specs.Closing.{has}
+use Rattle.closing_laws.specs.Quorum.{has}
 use Rattle.closing.proofs.Lists.{look_found, look_on}
 use Rattle.closing.proofs.quorum.first_view.Goals as goal
 

@@ -1,7 +1,7 @@
 use Rattle.std.proofs.Common.{rules, ℕ, not}
 use Rattle.std.specs.Prelude.{nat_eq, ◌||◌}
 use Rattle.std.proofs.lemmas.Fn.{filter_same}
-use Rattle.closing.specs.Closing.{has}
+use Rattle.closing_laws.specs.Quorum.{has}
 use Rattle.closing.proofs.Lists.{quorum_is}
 use Rattle.closing.proofs.quorum.quorum_of.Goals as goal
 

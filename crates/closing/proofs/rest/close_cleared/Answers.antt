@@ -6,7 +6,8 @@ use Rattle.rv_world.specs.World.{scene_in}
 use Rattle.std.specs.Prelude.{Option, ◌%◌, ◌/◌}
 use Rattle.rv_runs.specs.Schedule.{quorum_of}
 use Rattle.closing.specs.declared.closed.Closed.{Closed}
-use Rattle.closing.specs.Closing.{CameTo, Drained, EndsBy, has}
+use Rattle.closing_laws.specs.Quorum.{has}
+use Rattle.closing.specs.Closing.{CameTo, Drained, EndsBy}
 use Rattle.closing.specs.Views.{most_view_of_a_closing, views_of_an_attempt}
 use Rattle.closing.proofs.Lists.{quorum_up}
 use Rattle.closing.proofs.Leading.{runs_again}

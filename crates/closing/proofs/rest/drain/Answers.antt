@@ -2,7 +2,7 @@ use Rattle.closing.specs.declared.closed.Came.{Came}
 use Rattle.std.proofs.Common.{sym, ◌∙◌, subst, arith, Err}
 use Rattle.std.proofs.lemmas.Result.{err_from_is_err_and}
 use Rattle.rv_world.specs.World.{scene_in}
-use Rattle.closing.specs.Closing.{CameTo, Drained, Drains, Leads, StandsAt, UpBy, up_in}
+use Rattle.closing.specs.Closing.{CameTo, Drained, Drains, LeadsTo, StandsAt, UpBy, up_in}
 use Rattle.closing.proofs.Leading.{leads_then}
 use Rattle.closing.proofs.Parts.{keeps_err, keeps_then, none_waits, not_over, over_came, rests_then, same_stop}
 use Rattle.closing.proofs.rest.drain.Goals as goal
@@ -54,7 +54,7 @@ draining-preserved g c =
     record {
       keeps = keeps_then law g.W.Stable.saving sealing c.args.world.now c.draining.world c.drain_first.new.world c.args.stables.now c.draining.stables c.drain_first.new.stables c.draining.invariant.keeps c.in_ok-came.ensures.keeps;
       rests = rests_then 0 0 c.args.world.now c.draining.world c.drain_first.new.world (omega arith) c.draining.invariant.rests c.in_ok-came.ensures.rests;
-      drains = leads_then law sealing (Drains c.args.view c.args.quorum.now) (Drains c.args.view c.args.quorum.now) (Drains c.args.view c.args.quorum.now) c.args.world.now c.draining.world c.drain_first.new.world c.draining.invariant.keeps.setup c.draining.invariant.keeps.holds c.draining.invariant.drains (subst (λ x. Leads law sealing (Drains c.args.view c.args.quorum.now) (CameTo (Drains c.args.view c.args.quorum.now) x) c.draining.world c.drain_first.new.world) rests c.in_ok-came.ensures.drains);
+      drains = leads_then law sealing (Drains c.args.view c.args.quorum.now) (Drains c.args.view c.args.quorum.now) (Drains c.args.view c.args.quorum.now) c.args.world.now c.draining.world c.drain_first.new.world c.draining.invariant.keeps.setup c.draining.invariant.keeps.holds c.draining.invariant.drains (subst (λ x. LeadsTo law sealing (Drains c.args.view c.args.quorum.now) (CameTo (Drains c.args.view c.args.quorum.now) x) c.draining.world c.drain_first.new.world) rests c.in_ok-came.ensures.drains);
       up = subst (λ x. UpBy x (up_in c.draining.world) (up_in c.drain_first.new.world)) rests c.in_ok-came.ensures.up ∙ c.draining.invariant.up;
     }
 

@@ -1,7 +1,7 @@
 use Rattle.std.proofs.Common.{◌≡◌}
 use Rattle.rv_base.specs.Pool.{past}
 use Rattle.rv_world.specs.World.{Keeps}
-use Rattle.closing.specs.Closing.{Drains, Leads, Rests, up_in, work_left}
+use Rattle.closing.specs.Closing.{Drains, LeadsTo, Rests, up_in, work_left}
 use Rattle.closing.proofs.rest.drain.Given as goal
 
 abbrev pub decreases-draining : goal.decreases-draining
@@ -11,7 +11,7 @@ abbrev pub invariant-draining : goal.invariant-draining
 invariant-draining g l = record {
   keeps : Keeps g.A.App.law g.W.Stable.saving g.B.Body.sealing l.fn.world l.fn.stables l.world l.stables;
   rests : Rests 0 l.fn.world l.world;
-  drains : Leads g.A.App.law g.B.Body.sealing
+  drains : LeadsTo g.A.App.law g.B.Body.sealing
       (Drains l.fn.view l.fn.quorum) (Drains l.fn.view l.fn.quorum) l.fn.world l.world;
   up : up_in l.world ≡ up_in l.fn.world;
 }

@@ -2,7 +2,7 @@ use Rattle.std.proofs.Common.{◌≡◌}
 use Rattle.rv_base.specs.Pool.{past}
 use Rattle.rv_runs.specs.Schedule.{Losing}
 use Rattle.rv_world.specs.World.{Keeps}
-use Rattle.closing.specs.Closing.{ClosesIn, Leads, Rests, up_in, work_left}
+use Rattle.closing.specs.Closing.{ClosesIn, LeadsTo, Rests, up_in, work_left}
 use Rattle.closing.proofs.rest.lose_all.Given as goal
 
 abbrev pub decreases-losing : goal.decreases-losing
@@ -12,6 +12,6 @@ abbrev pub invariant-losing : goal.invariant-losing
 invariant-losing g l = record {
   keeps : Keeps g.A.App.law g.W.Stable.saving g.B.Body.sealing l.fn.world l.fn.stables l.world l.stables;
   rests : Rests 0 l.fn.world l.world;
-  closes : Leads g.A.App.law g.B.Body.sealing (ClosesIn Losing) (ClosesIn Losing) l.fn.world l.world;
+  closes : LeadsTo g.A.App.law g.B.Body.sealing (ClosesIn Losing) (ClosesIn Losing) l.fn.world l.world;
   up : up_in l.world ≡ up_in l.fn.world;
 }

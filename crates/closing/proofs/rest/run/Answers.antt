@@ -5,8 +5,9 @@ use Rattle.rv_runs.specs.Schedule.{Losing}
 use Rattle.rv_world.specs.World.{scene_in}
 use Rattle.std.specs.Prelude.{Option}
 use Rattle.closing.specs.declared.closed.Closed.{Closed}
-use Rattle.closing.specs.Closing.{ClosesIn, EndsBy, Leads, StandsAt, UpTo, up_in}
+use Rattle.closing.specs.Closing.{ClosesIn, EndsBy, LeadsTo, StandsAt, UpTo, up_in}
 use Rattle.closing.specs.Views.{most_view_of_a_closing, most_view_of_a_script, views_of_an_attempt}
+use Rattle.closing.proofs.Ended.{has_ended}
 use Rattle.closing.proofs.Leading.{leads_then, runs_again}
 use Rattle.closing.proofs.Parts.{closes_first, few_up, keeps_err, keeps_none, keeps_then, stops_by, suspected_more}
 use Rattle.closing.proofs.rest.run.Goals as goal
@@ -53,8 +54,10 @@ pub returns-in-Some-clause-closes : goal.returns-in-Some-clause-closes
 returns-in-Some-clause-closes g c =
     let law = g.A.App.law in
     let sealing = g.B.Body.sealing in
+    let kept = keeps_then law g.W.Stable.saving sealing c.args.world.now c.closing.world c.close_once.new.world c.args.stables.now c.closing.stables c.close_once.new.stables c.closing.invariant.keeps c.in_ok-closed.ensures.keeps in
     λ kinds holds.
-    subst (λ o. EndsBy o (scene_in sealing c.args.world.now kinds) c.args.world.now c.close_once.new.world) c.in-Some.is (leads_then law sealing (ClosesIn Losing) (ClosesIn Losing) (EndsBy c.in_ok-closed.field-0) c.args.world.now c.closing.world c.close_once.new.world c.closing.invariant.keeps.setup c.closing.invariant.keeps.holds c.closing.invariant.closes c.in_ok-closed.ensures.closes kinds holds c.args.world.now (closes_first (scene_in sealing c.args.world.now kinds) c.args.world.now))
+    has_ended law sealing g.met.B.Body.faithful c.args.world.now c.close_once.new.world kinds kept.setup (kept.holds kinds holds) c.lawful.ensures.within c.in-Some.closed
+    (subst (λ o. EndsBy o (scene_in sealing c.args.world.now kinds) c.args.world.now c.close_once.new.world) c.in-Some.is (leads_then law sealing (ClosesIn Losing) (ClosesIn Losing) (EndsBy c.in_ok-closed.field-0) c.args.world.now c.closing.world c.close_once.new.world c.closing.invariant.keeps.setup c.closing.invariant.keeps.holds c.closing.invariant.closes c.in_ok-closed.ensures.closes kinds holds c.args.world.now (closes_first (scene_in sealing c.args.world.now kinds) c.args.world.now)))
 
 pub closing-preserved : goal.closing-preserved
 closing-preserved g c =
@@ -66,6 +69,6 @@ closing-preserved g c =
     let seven : u ≤ 7 = few_up (scene_in sealing c.args.world.now c.requires.holds.0) c.closing.world (runs_again law sealing c.args.world.now c.closing.world c.requires.holds.0 c.closing.invariant.keeps.setup (c.closing.invariant.keeps.holds c.requires.holds.0 c.requires.holds.1)) in
     record {
       keeps = keeps_then law g.W.Stable.saving sealing c.args.world.now c.closing.world c.close_once.new.world c.args.stables.now c.closing.stables c.close_once.new.stables c.closing.invariant.keeps c.in_ok-closed.ensures.keeps;
-      closes = leads_then law sealing (ClosesIn Losing) (ClosesIn Losing) (ClosesIn Losing) c.args.world.now c.closing.world c.close_once.new.world c.closing.invariant.keeps.setup c.closing.invariant.keeps.holds c.closing.invariant.closes (subst (λ o. Leads law sealing (ClosesIn Losing) (EndsBy o) c.closing.world c.close_once.new.world) c.in_default.is c.in_ok-closed.ensures.closes);
+      closes = leads_then law sealing (ClosesIn Losing) (ClosesIn Losing) (ClosesIn Losing) c.args.world.now c.closing.world c.close_once.new.world c.closing.invariant.keeps.setup c.closing.invariant.keeps.holds c.closing.invariant.closes (subst (λ o. LeadsTo law sealing (ClosesIn Losing) (EndsBy o) c.closing.world c.close_once.new.world) c.in_default.is c.in_ok-closed.ensures.closes);
       views = suspected_more (most_view_of_a_script + views_of_an_attempt * (7 - u) + views_of_an_attempt) (most_view_of_a_script + views_of_an_attempt * (7 - v)) (past c.close_once.new.world.journal) (omega (arith, less, seven)) (c.in_ok-closed.ensures.views (most_view_of_a_script + views_of_an_attempt * (7 - u)) c.closing.invariant.views);
     }

@@ -1,5 +1,5 @@
-use Rattle.std.proofs.Common.{◌≡◌, take}
+use Rattle.std.proofs.Common.{◌≡◌, ◌++◌}
 use Rattle.rv_actors.proofs.journal.bare.Given as goal
 
 abbrev pub invariant-loop-entry : goal.invariant-loop-entry
-invariant-loop-entry l = l.entries ≡ take l.entry-index l.journal
+invariant-loop-entry l = l.entries ++ l.entry-iterator.rest.items ≡ l.fn.journal

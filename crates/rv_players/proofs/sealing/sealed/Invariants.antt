@@ -1,6 +1,9 @@
-use Rattle.rv_players.proofs.Letters.{IsSealed}
+use Rattle.std.specs.Prelude.{◌≡◌, take}
+use Rattle.rv_runs.specs.Legal.{AreTyped}
+use Rattle.rv_runs.specs.States.{sealed_letters}
 use Rattle.rv_players.proofs.sealing.sealed.Given as goal
 
 abbrev pub invariant-loop-letter : goal.invariant-loop-letter
 invariant-loop-letter g l =
-    IsSealed g.P.Player.said g.B.Body.sealing l.fn.letters l.sealed l.yielded l.letter-iterator.rest.items
+    (l.sealed ≡ sealed_letters g.P.Player.said g.B.Body.sealing (take l.letter-index l.letters))
+    × AreTyped g.P.Player.said (take l.letter-index l.letters)

@@ -1,5 +1,5 @@
 use Rattle.std.proofs.Common.{◌≡◌, ℕ, List, sym, ap, subst, arith, length}
-use Rattle.rv_players.proofs.Letters.{some_step, none_step}
+use Rattle.rv_world.proofs.Yielding.{some_step, none_step}
 use Rattle.rv_world.specs.World.{AreNew, AreStocked}
 use Rattle.rv_world.proofs.Shelves.{none_new, one_new}
 use Rattle.rv_world.proofs.actors.controllers_of.Goals as goal

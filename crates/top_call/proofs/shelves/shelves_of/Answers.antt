@@ -2,7 +2,7 @@ use Rattle.std.proofs.Common.{◌≡◌, ◌≤◌, ◌<◌, ◌+◌, List, [], 
 use Rattle.std.specs.List.{AllByRecursion}
 use Rattle.group_controller.specs.Turns.{AreAlike}
 use Rattle.rv_base.proofs.All.{all_append}
-use Rattle.rv_players.proofs.Letters.{some_step, none_step}
+use Rattle.rv_world.proofs.Yielding.{some_step, none_step}
 use Rattle.rv_world.specs.World.{IsStocked}
 use Rattle.top_call.proofs.Shelving.{IsFilled, alike_push, all_full, long_push, none_filled, not_full, passed, put, put_last}
 use Rattle.top_call.proofs.shelves.shelves_of.Goals as goal

@@ -1,4 +1,4 @@
-use Rattle.std.proofs.Common.{◌<◌, List, sym, subst}
+use Rattle.std.proofs.Common.{List, refl, sym, subst}
 use Rattle.std.specs.List.{AllByRecursion}
 use Rattle.of_types.specs.declared.setup.Setup.{Setup}
 use Rattle.rv_base.specs.declared.journal.Turn.{Turn}
@@ -7,11 +7,10 @@ use Rattle.rv_base.specs.Turns.{turn_actor}
 use Rattle.rv_runs.specs.Bodies.{byte_bodies}
 use Rattle.rv_world.specs.World.{scene_in}
 use Rattle.closing.specs.Views.{most_view_of_a_script}
-use Rattle.top_call.proofs.Ran.{ends_closed, ends_stopped, fresh_pairs, script_within}
+use Rattle.closing.proofs.Leading.{runs_again}
+use Rattle.top_call.proofs.Ran.{ends_closed, ends_stopped, fresh_pairs, primary_there, script_within}
 use Rattle.playing.specs.Played.{StepSuspectsUpTo}
-use Rattle.scenario.proofs.Setups.{some_member}
 use Rattle.top_call.proofs.Playing.{views_up_to}
-use Rattle.top_call.proofs.Shelving.{few_given}
 use Rattle.top_call.proofs.sim.simulate.Goals as goal
 
 pub play-ended-requires-clause-holds : goal.play-ended-requires-clause-holds
@@ -28,11 +27,21 @@ play-ended-requires-clause-named g c =
     subst (λ (l : List Turn). AllByRecursion (λ t. IsActor c.in_ok-world.world.setup (turn_actor t)) l) (sym c.as_slice.ensures)
     (subst (λ (s : Setup). AllByRecursion (λ t. IsActor s (turn_actor t)) c.args.scenario.now.steps) (sym c.in_ok-world.ensures.starts.setup_is) c.requires.is.actors)
 
-pub rested-requires : goal.rested-requires
-rested-requires g c =
+pub rested-requires-clause-script : goal.rested-requires-clause-script
+rested-requires-clause-script g c =
     let kinds = c.requires.stocked.0 in
     let holds = c.in_ok-world.ensures.holds kinds c.requires.stocked.1 in
     script_within (scene_in byte_bodies c.in_ok-world.world kinds) c.as_slice.result.now c.play-ended.new.world c.play-ended.result c.in-Ok.closed c.in-Ok.script c.in-Ok.is (c.play-ended.ensures.played kinds holds)
+
+pub rested-requires-clause-led : goal.rested-requires-clause-led
+rested-requires-clause-led g c =
+    let law = g.A.App.law in
+    let kinds = c.requires.stocked.0 in
+    let start = c.in_ok-world.world in
+    let holds = c.in_ok-world.ensures.holds kinds c.requires.stocked.1 in
+    primary_there law (scene_in byte_bodies start kinds) start c.play-ended.new.world
+    (runs_again law byte_bodies start c.play-ended.new.world kinds c.in-Ok.ensures.keeps.setup (c.in-Ok.ensures.keeps.holds kinds holds)) refl
+    c.play-ended.result c.in-Ok.closed c.in-Ok.script c.in-Ok.is c.play-ended.ensures.up
 
 pub returns-in-Ok : goal.returns-in-Ok
 returns-in-Ok g c =
@@ -42,22 +51,20 @@ returns-in-Ok g c =
     let starts = c.in_ok-world.ensures.starts in
     λ kinds stocked.
     let holds = c.in_ok-world.ensures.holds kinds stocked in
-    let given = few_given law kinds c.args.shelves.items (subst (λ n. 0 < n) (sym c.requires.each) (some_member scenario.setup.controllers c.requires.is.setup.group)) stocked in
-    ends_closed law g.W.Stable.saving scenario kinds start c.args.stables.now c.play-ended.new.world c.play-ended.new.stables starts holds given
+    ends_closed law g.W.Stable.saving scenario kinds start c.args.stables.now c.play-ended.new.world c.play-ended.new.stables starts holds
     (fresh_pairs law g.W.Stable.saving c.args.stables.now scenario.setup start kinds c.requires.fresh starts holds) c.lawful.ensures.within c.as_slice.result.now c.as_slice.ensures
     c.play-ended.result c.in-Ok.closed c.in-Ok.script c.args.output c.len.result c.rested.result c.in-Ok.is c.len.ensures
     c.play-ended.ensures.keeps (c.play-ended.ensures.played kinds holds) c.play-ended.ensures.up c.rested.ensures.ending c.rested.ensures.fits
 
-pub returns : goal.returns
-returns g c =
+pub returns-in-Err : goal.returns-in-Err
+returns-in-Err g c =
     let law = g.A.App.law in
     let scenario = c.args.scenario.now in
     let start = c.in_ok-world.world in
     let starts = c.in_ok-world.ensures.starts in
     λ kinds stocked.
     let holds = c.in_ok-world.ensures.holds kinds stocked in
-    let given = few_given law kinds c.args.shelves.items (subst (λ n. 0 < n) (sym c.requires.each) (some_member scenario.setup.controllers c.requires.is.setup.group)) stocked in
-    ends_stopped law g.W.Stable.saving scenario kinds start c.args.stables.now c.play-ended.new.world c.play-ended.new.stables starts holds given
+    ends_stopped law g.W.Stable.saving scenario kinds start c.args.stables.now c.play-ended.new.world c.play-ended.new.stables starts holds
     (fresh_pairs law g.W.Stable.saving c.args.stables.now scenario.setup start kinds c.requires.fresh starts holds) c.lawful.ensures.within c.as_slice.result.now c.as_slice.ensures
     c.play-ended.result c.in-Err.stop c.args.output c.stopped.result c.in-Err.is c.play-ended.ensures.keeps (c.play-ended.ensures.stops kinds holds) c.stopped.ensures
 

@@ -3,7 +3,7 @@ use Rattle.std.proofs.lemmas.List.{append-nil}
 use Rattle.std.specs.Prelude.{Option, None, option_to_list}
 use Rattle.vr_log.specs.declared.state.VrState.{VrState}
 use Rattle.vr_core.specs.Lasting.{CollectsItsOwn}
-use Rattle.group_controller.specs.Acting.{Begins}
+use Rattle.group_controller.specs.Acting.{Acting, Begins, with_out}
 use Rattle.group_controller.specs.Turns.{Born, Controlling, Controls, TakesOneAtMost}
 use Rattle.group_controller.proofs.Controlling.{born_is, last_alike, on_any_err, rest_alike}
 use Rattle.group_controller.proofs.controller.Controller.born.Goals as goal
@@ -14,7 +14,7 @@ returns-clause-born g c = λ kinds controls.
     let alike = last_alike g.A.App.law kinds _ _ c.pop.result c.in-Some.app inside.shelf c.pop.ensures.items c.in-Some.is in
     let begins = subst (λ (k : List ℕ). Begins g.A.App.law c.in_ok-active.active k c.self.inside.setup) alike.0 c.in_ok-active.ensures.begins in
     subst (λ (x : Controlling _). Born g.A.App.law x kinds c.args.life c.take.new.self) c.self.view_is
-    (born_is g.A.App.law kinds _ c.args.life c.in_ok-active.active c.take.new.self c.in_ok-replica.replica c.in_ok-replica.out begins c.in_ok-active.ensures.state c.in_ok-replica.ensures.step c.in_ok-take.ensures)
+    (born_is g.A.App.law kinds _ c.args.life c.in_ok-active.active c.take.new.self c.in_ok-replica.replica c.in_ok-replica.out begins c.in_ok-active.ensures.state c.in_ok-replica.ensures.step (c.in_ok-take.ensures ∙ ap (λ (a : Acting _). with_out a c.in_ok-replica.out) (c.deref_mut.ensures.value ∙ c.in_ok-active-2.ensures.ok)))
 
 pub new-requires-clause-few : goal.new-requires-clause-few
 new-requires-clause-few g c =
@@ -37,6 +37,9 @@ returns-in_default-clause-shelf g c = ap (λ (x : Controlling _). record x { she
 pub returns-in_err-active-clause-shelf : goal.returns-in_err-active-clause-shelf
 returns-in_err-active-clause-shelf g c = ap (λ (x : Controlling _). record x { shelf = c.pop.new.self.items }) c.self.view_is
 
+pub returns-in_err-active-2-clause-shelf : goal.returns-in_err-active-2-clause-shelf
+returns-in_err-active-2-clause-shelf g c = ap (λ (x : Controlling _). record x { shelf = c.pop.new.self.items }) c.self.view_is
+
 pub returns-in_err-take-clause-shelf : goal.returns-in_err-take-clause-shelf
 returns-in_err-take-clause-shelf g c = ap (λ (x : Controlling _). record x { shelf = c.pop.new.self.items }) c.self.view_is
 
@@ -50,6 +53,11 @@ returns-in_default-clause-alike g c = λ kinds controls.
 
 pub returns-in_err-active-clause-alike : goal.returns-in_err-active-clause-alike
 returns-in_err-active-clause-alike g c = λ kinds controls.
+    let inside = subst (λ (x : Controlling _). Controls g.A.App.law x kinds) (sym c.self.view_is) controls in
+    rest_alike g.A.App.law kinds c.self.inside.shelf.items c.pop.new.self.items c.pop.result inside.shelf c.pop.ensures.items
+
+pub returns-in_err-active-2-clause-alike : goal.returns-in_err-active-2-clause-alike
+returns-in_err-active-2-clause-alike g c = λ kinds controls.
     let inside = subst (λ (x : Controlling _). Controls g.A.App.law x kinds) (sym c.self.view_is) controls in
     rest_alike g.A.App.law kinds c.self.inside.shelf.items c.pop.new.self.items c.pop.result inside.shelf c.pop.ensures.items
 
@@ -68,6 +76,9 @@ returns-in_default-clause-lost g c = (c.pop.result, ap (λ (x : Controlling _). 
 
 pub returns-in_err-active-clause-lost : goal.returns-in_err-active-clause-lost
 returns-in_err-active-clause-lost g c = on_any_err _ (TakesOneAtMost c.args.self.now.shelf c.pop.new.self.items) (c.pop.result, ap (λ (x : Controlling _). x.shelf) (sym c.self.view_is) ∙ c.pop.ensures.items)
+
+pub returns-in_err-active-2-clause-lost : goal.returns-in_err-active-2-clause-lost
+returns-in_err-active-2-clause-lost g c = on_any_err _ (TakesOneAtMost c.args.self.now.shelf c.pop.new.self.items) (c.pop.result, ap (λ (x : Controlling _). x.shelf) (sym c.self.view_is) ∙ c.pop.ensures.items)
 
 pub returns-in_err-take-clause-lost : goal.returns-in_err-take-clause-lost
 returns-in_err-take-clause-lost g c = on_any_err _ (TakesOneAtMost c.args.self.now.shelf c.pop.new.self.items) (c.pop.result, ap (λ (x : Controlling _). x.shelf) (sym c.self.view_is) ∙ c.pop.ensures.items)

@@ -1,7 +1,9 @@
 use Rattle.std.proofs.Common.{rules, ◌≡◌, ◌≤◌, ◌+◌, ◌∷◌, [], ◌++◌, ap, subst, sym, ◌∙◌}
+use Rattle.std.specs.Prelude.{box_value, option_map}
 use Rattle.rv_base.specs.Stables.{standing}
 use Rattle.app_core.specs.Chain.{given_by, starting_chain}
 use Rattle.dispatcher.specs.Ledger.{most_commands}
+use Rattle.group_controller.specs.Acting.{Acting}
 use Rattle.group_controller.specs.Turns.{AreAlike, Controlling, PutsBack, Saves}
 use Rattle.group_controller.proofs.Controlling.{born_fresh, controls_back, may_have_taken, has_taken, on_any_err, pushed_alike, puts_back, restart_kept_new, restart_saved, restart_takes, takes_kept_new, takes_kept_old, takes_saved}
 use Rattle.group_controller.proofs.controller.Controller.restart.Goals as goal
@@ -24,10 +26,11 @@ returns-in-KeptOld-clause-controls g c = λ kinds controls.
     let mid_is = c.in_ok-active.ensures.shelf in
     let after_is = c.self-in-KeptOld.view_is ∙ c.in_ok-save.ensures.left in
     let before = subst (λ (x : Controlling _). AreAlike g.A.App.law kinds x.shelf) (sym after_is) alike in
-    let kind = ap g.A.App.law.kinds c.into_app.ensures ∙ born.acts.stands.kind in
-    let few = subst (λ a. given_by (g.A.App.law.kinds a) ≤ most_commands) (sym c.into_app.ensures) born.acts.stands.few in
+    let app_is = c.into_app.ensures ∙ ap (λ (a : Acting _). a.dispatcher.app) c.into_inner.ensures in
+    let kind = ap g.A.App.law.kinds app_is ∙ born.acts.stands.kind in
+    let few = subst (λ a. given_by (g.A.App.law.kinds a) ≤ most_commands) (sym app_is) born.acts.stands.few in
     let i = c.self-in-KeptOld.inside in
-    let after : Controlling _ = record { setup = i.setup; me = i.me; promise = i.promise; life = i.life; acting = i.active; shelf = i.shelf.items; results = i.results.items } in
+    let after : Controlling _ = record { setup = i.setup; me = i.me; promise = i.promise; life = i.life; acting = option_map box_value i.active; shelf = i.shelf.items; results = i.results.items } in
     controls_back g.A.App.law kinds c.args.self.now after c.push.new.self.items controls
     (ap (λ (x : Controlling _). x.setup) after_is ∙ ap (λ (x : Controlling _). x.setup) mid_is)
     (ap (λ (x : Controlling _). x.me) after_is ∙ ap (λ (x : Controlling _). x.me) mid_is)
@@ -39,7 +42,7 @@ returns-in-Saved-clause-turn g c = λ kinds controls.
     let life = c.self.inside.life + 1 in
     let r = c.in_ok-save.field-0 in
     let saves = subst (λ (x : Controlling _). Saves r (x.promise, life) (g.W.Stable.saving.pair c.args.stable.now) (g.W.Stable.saving.pair c.save-2.new.stable) (g.W.Stable.saving.faults c.args.stable.now) (g.W.Stable.saving.faults c.save-2.new.stable)) c.save.view_is c.in_ok-save.ensures.saves in
-    restart_saved g.A.App.law kinds c.args.self.now c.born.new.self c.save-2.new.self c.keep.new.self c.in_ok-active.active c.keep.result life r (g.W.Stable.saving.pair c.args.stable.now) (g.W.Stable.saving.pair c.save-2.new.stable) (g.W.Stable.saving.faults c.args.stable.now) (g.W.Stable.saving.faults c.save-2.new.stable)
+    restart_saved g.A.App.law kinds c.args.self.now c.born.new.self c.save-2.new.self c.keep.new.self c.in_ok-active.active.value c.keep.result life r (g.W.Stable.saving.pair c.args.stable.now) (g.W.Stable.saving.pair c.save-2.new.stable) (g.W.Stable.saving.faults c.args.stable.now) (g.W.Stable.saving.faults c.save-2.new.stable)
     c.requires.down (search rules) (ap (λ (x : Controlling _). x.life + 1) c.self.view_is) c.in_ok-active.ensures.shelf c.in-Saved.is saves (c.in_ok-active.ensures.born kinds controls)
     (ap (λ (x : Controlling _). x.results) c.in_ok-save.ensures.left) c.keep.ensures.letters c.keep.ensures.kept
 
@@ -69,10 +72,11 @@ pub returns-in-KeptOld-clause-shelf : goal.returns-in-KeptOld-clause-shelf
 returns-in-KeptOld-clause-shelf g c =
     let r = c.in_ok-save.field-0 in
     let i = c.self-in-KeptOld.inside in
-    let left : Controlling _ = record { setup = i.setup; me = i.me; promise = i.promise; life = i.life; acting = i.active; shelf = c.push.new.self.items; results = i.results.items } in
+    let left : Controlling _ = record { setup = i.setup; me = i.me; promise = i.promise; life = i.life; acting = option_map box_value i.active; shelf = c.push.new.self.items; results = i.results.items } in
     let after_is = c.self-in-KeptOld.view_is ∙ c.in_ok-save.ensures.left in
     let born = c.in_ok-active.ensures.born c.requires.controls.0 c.requires.controls.1 in
-    let fresh = subst (λ a. g.A.App.law.states a ≡ starting_chain (g.A.App.law.kinds a)) (sym c.into_app.ensures) (born_fresh g.A.App.law c.args.self.now c.requires.controls.0 _ c.in_ok-active.active born) in
+    let app_is = c.into_app.ensures ∙ ap (λ (a : Acting _). a.dispatcher.app) c.into_inner.ensures in
+    let fresh = subst (λ a. g.A.App.law.states a ≡ starting_chain (g.A.App.law.kinds a)) (sym app_is) (born_fresh g.A.App.law c.args.self.now c.requires.controls.0 _ c.in_ok-active.active.value born) in
     restart_takes g.A.App.law c.args.self.now c.born.new.self left r (search rules) c.in_ok-active.ensures.shelf (ap (λ (x : Controlling _). x.results) after_is)
     (takes_kept_old g.A.App.law r c.args.self.now.shelf c.born.new.self.shelf left.shelf c.in-KeptOld.is c.in_ok-active.ensures.takes
     (subst (λ l. PutsBack g.A.App.law l left.shelf) (ap (λ (x : Controlling _). x.shelf) after_is) (puts_back g.A.App.law _ i.shelf.items left.shelf c.into_app.result fresh c.push.ensures.items)))

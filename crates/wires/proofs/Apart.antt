@@ -1,10 +1,11 @@
 -- Ends of wires that stand once.
-use Rattle.std.proofs.Common.{◌≡◌, ◌&&◌, ◌||◌, nat_eq, ℕ, Bool, true, false, List, [], ◌∷◌, ◌++◌, refl, sym, ap, subst, ◌∙◌, append_assoc, arith}
+use Rattle.std.proofs.Common.{◌≡◌, not, ◌&&◌, ◌||◌, nat_eq, ℕ, Bool, true, false, List, [], ◌∷◌, ◌++◌, refl, sym, ap, subst, ◌∙◌, append_assoc, arith}
 use Rattle.std.specs.List.{list_any}
 use Rattle.std.proofs.lemmas.Bool.{or_from, or_parts}
 use Rattle.std.proofs.lemmas.List.Folds.{list_any-append}
 use Rattle.of_types.specs.declared.setup.Link.{Link}
 use Rattle.of_types.specs.Setups.{AreApart, ends_of}
+use Rattle.wires.specs.Wires.{is_taken}
 
 -- whether two ends are one
 abbrev pub same_end : ℕ × ℕ → ℕ × ℕ → Bool
@@ -47,6 +48,14 @@ or_again false false c d e = e
 pub ends_any : (test : ℕ × ℕ → Bool) (links : List Link) → list_any test (ends_of links) ≡ list_any (λ l. test (l.switch, l.port) || test (l.peer, l.peer_port)) links
 ends_any test [] = refl
 ends_any test (l ∷ links) = or_again (test (l.switch, l.port)) (test (l.peer, l.peer_port)) _ _ (ends_any test links)
+
+pub not_true : (b : Bool) → not b ≡ true → b ≡ false
+not_true true e = absurd cc
+not_true false e = refl
+
+-- a port that is no end of these wires
+pub free_is : (switch port : ℕ) (links : List Link) → not (is_taken switch port links) ≡ true → list_any (same_end (switch, port)) (ends_of links) ≡ false
+free_is switch port links e = ends_any (same_end (switch, port)) links ∙ not_true (is_taken switch port links) e
 
 -- ---- what ends that stand once tell of one of them
 

@@ -1,0 +1,7 @@
+use Rattle.std.proofs.Common.{◌≡◌, take}
+use Rattle.std.specs.List.{list_any}
+use Rattle.report.specs.Spelled.{ends_word}
+use Rattle.report.proofs.spelled.has_end.Given as goal
+
+abbrev pub invariant-loop-byte : goal.invariant-loop-byte
+invariant-loop-byte l = l.found ≡ list_any ends_word (take l.byte-index l.block)

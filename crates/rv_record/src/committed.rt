@@ -1,0 +1,27 @@
+//! What a controller has committed.
+ghost use Rattle.std.specs.Prelude.{◌≡◌, IfOk};
+ghost use Rattle.group_controller.specs.Turns.{state_of};
+ghost use Rattle.rv_runs.specs.Committed.{kept_of};
+
+use app_core::App;
+use group_controller::Controller;
+use rv_world::takes_part;
+use std::alloc::{AllocError, Global};
+use vr_log::{Entries, copy_entries};
+
+/// What a controller that takes part has committed. One that doesn't has nothing.
+pub fn committed_log<A: App>(
+    alloc: Global,
+    controller: &Controller<A>,
+) -> Result<Entries, AllocError>
+    ensures { IfOk result (λ log. log ≡ kept_of (state_of controller.now)) }
+{
+    if !takes_part(controller) {
+        return Ok(Entries::new(alloc));
+    }
+    let (Some(committed), Some(log)) = (controller.committed(), controller.log()) else {
+        return Ok(Entries::new(alloc));
+    };
+    let log = log.as_slice();
+    copy_entries(alloc, &log[..log.len().min(committed as usize)])
+}

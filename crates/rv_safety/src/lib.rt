@@ -3,7 +3,7 @@
 #![tactic(auto)]
 
 ghost use Rattle.rv_base.specs.Pool.{past};
-ghost use Rattle.rv_laws.specs.Laws.{AreAgreed};
+ghost use Rattle.rv_laws.specs.Laws.{AreAgreed, AreValidLogs};
 ghost use Rattle.rv_runs.specs.Laws.{IsExactlyOnce, IsFenced, IsLasting};
 ghost use Rattle.rv_world.specs.World.{ForEachScene, results_in};
 
@@ -15,6 +15,15 @@ use rv_world::World;
 pub fn agreement<B: Body, A: App>(world: &World<B, A>)
     ensures { ForEachScene A.law B.sealing world.now (λ scene.
         AreAgreed scene (results_in world.now.controllers) (past world.now.journal)) }
+{
+    let _ = world;
+}
+
+/// The log that a controller has committed has the events of each life of a switch by number, and so each at most once; and
+/// an event is processed only behind the entry that it was received.
+pub fn logs_are_valid<B: Body, A: App>(world: &World<B, A>)
+    ensures { ForEachScene A.law B.sealing world.now (λ scene.
+        AreValidLogs scene (results_in world.now.controllers) (past world.now.journal)) }
 {
     let _ = world;
 }

@@ -18,9 +18,9 @@ fn serve(rt: &HostRuntime, words: &[String]) -> Result<u8, AllocError> {
     let mut source = StdSource::new(rt.stdin());
     let mut sink = StdSink::new(rt.stdout());
     let mut stables = stables(alloc)?;
-    let mut chains = Vec::new(alloc);
+    let mut chains = Vec::with_capacity(alloc, CONTROLLERS * LIVES)?;
     'making: for number in 0..(CONTROLLERS * LIVES) as u8 {
-        let mut parts: Vec<Box<dyn Part + Send>> = Vec::new(alloc);
+        let mut parts: Vec<Box<dyn Part + Send>> = Vec::with_capacity(alloc, 2)?;
         parts.push(Box::new(alloc, Firewall::new(alloc))?)?;
         parts.push(Box::new(alloc, Learning::new(alloc))?)?;
         push_life(&mut chains, number, parts)?;

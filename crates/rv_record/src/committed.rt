@@ -7,7 +7,7 @@ use app_core::App;
 use group_controller::Controller;
 use rv_world::takes_part;
 use std::alloc::{AllocError, Global};
-use vr_log::{Entries, copy_entries};
+use vr_log::{Entries, append_entries};
 
 /// What a controller that takes part has committed. One that doesn't has nothing.
 pub fn committed_log<A: App>(
@@ -23,5 +23,8 @@ pub fn committed_log<A: App>(
         return Ok(Entries::new(alloc));
     };
     let log = log.as_slice();
-    copy_entries(alloc, &log[..log.len().min(committed as usize)])
+    let log = &log[..log.len().min(committed as usize)];
+    let mut copied = Entries::from_vec(Vec::with_capacity(alloc, log.len())?);
+    append_entries(&mut copied, log)?;
+    Ok(copied)
 }

@@ -24,12 +24,10 @@ fn count_turns(entries: &[JournalEntry<Bytes>]) -> u64
 {
     let mut turns = 0;
     for entry in entries {
-        if matches!(
+        turns += u64::from(matches!(
             entry,
             JournalEntry::Draw { .. } | JournalEntry::Local { .. }
-        ) {
-            turns += 1;
-        }
+        ));
     }
     turns
 }

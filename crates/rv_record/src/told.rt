@@ -24,7 +24,7 @@ fn shown_row(row: Row) -> Shown
 fn shown_rows(alloc: Global, rows: Vec<Row>) -> Result<Items<Shown>, AllocError>
     ensures { IfOk result (λ shown. shown ≡ map shows.shown_row rows.items) }
 {
-    let mut shown = Items::new(alloc);
+    let mut shown = Items::from_vec(Vec::with_capacity(alloc, rows.len())?);
     for row in rows {
         shown.push(shown_row(row))?;
     }
@@ -54,7 +54,7 @@ fn told_of(alloc: Global, switch: &Switch) -> Result<Told, AllocError>
 pub fn told_all<A: App>(alloc: Global, world: &World<Bytes, A>) -> Result<Items<Told>, AllocError>
     ensures { IfOk result (λ told. told ≡ map shows.told_of world.now.switches) }
 {
-    let mut told = Items::new(alloc);
+    let mut told = Items::from_vec(Vec::with_capacity(alloc, world.switches().len())?);
     for switch in world.switches() {
         told.push(told_of(alloc, switch)?)?;
     }

@@ -1,8 +1,8 @@
 //! The dispatcher of a primary.
-ghost use Rattle.std.specs.Prelude.{◌≡◌, ◌≤◌, ◌∷◌, ◌++◌, [], Option, Some, None, map, filter, nat_eq, nat_lt, ◌&&◌, true, IfOk, OnOk, if◌then◌else◌};
+ghost use Rattle.std.specs.Prelude.{◌≡◌, ◌≤◌, ◌∷◌, ◌++◌, [], Option, Some, None, map, filter, nat_eq, true, IfOk, OnOk, if◌then◌else◌};
 ghost use Rattle.of_types.specs.declared.setup.Setup.{Setup};
 ghost use Rattle.of_types.specs.Setups.{IsSetup};
-ghost use Rattle.of_types.specs.Lives.{has_ended, is_switch_up};
+ghost use Rattle.of_types.specs.Lives.{has_ended};
 ghost use Rattle.app_core.specs.Chain.{given_by};
 ghost use Rattle.vr_log.specs.declared.entry.Entry.{Entry};
 ghost use Rattle.vr_log.specs.Log.{fits, follows, received, processed};
@@ -19,9 +19,10 @@ use crate::ledger::Ledger;
 use crate::marks::ViewMarks;
 use crate::numbered::Numbered;
 use app_core::App;
-use of_types::{Event, Setup, is_switch_up};
+use of_types::{Event, Setup};
 use std::alloc::{AllocError, Global};
 use std::marker::Model;
+use two_stage_log::may_come;
 use vr_log::{Entry, Log};
 
 /// What a primary makes of the committed log: its application has taken the events of that log, each once and in
@@ -42,17 +43,6 @@ impl<A> Model for Dispatcher<A> {
     ghost Value = { Dispatching A };
 
     ghost view = { λ d. record { app = d.app; switches = d.switches; ledger = d.ledger; marks = d.marks } };
-}
-
-/// Whether an event may follow a log in which its switch has this life, and this number is next in it.
-fn may_follow(event: &Event, life: u32, next: u64) -> bool
-    ensures { result ≡ (if nat_eq event.now.life life then nat_eq event.now.number next else nat_lt life event.now.life && nat_eq event.now.number 0 && is_switch_up event.now.what) }
-{
-    if event.life == life {
-        event.number == next
-    } else {
-        life < event.life && event.number == 0 && is_switch_up(&event.what)
-    }
 }
 
 impl<A: App> Dispatcher<A> {
@@ -125,7 +115,7 @@ impl<A: App> Dispatcher<A> {
         ensures { ForEachLog (StandsFor A.law self.now) (λ kinds setup committed. result ≡ wish log.now committed event.now) }
     {
         let (life, next) = log.next_place(event.switch);
-        if may_follow(event, life, next) {
+        if may_come(event, life, next) {
             return Wish::Propose;
         }
         let through = self.ledger.counts_of(event.switch, event.life).processed;

@@ -1,10 +1,18 @@
 -- What is counted in the first entries of a log (Ravana, 3.2): an event is received, and later processed.
-use Rattle.std.specs.Prelude.{◌≡◌, ◌<◌, ℕ, Bool, true, false, nat_eq, nat_lt, List, length, take, Option, Some, None, if◌then◌else◌}
+use Rattle.std.specs.Prelude.{◌≡◌, ◌<◌, ℕ, Bool, true, false, nat_eq, nat_lt, ◌&&◌, List, length, take, Option, Some, None, if◌then◌else◌}
 use Rattle.std.specs.List.{list_any}
-use Rattle.of_types.specs.Lives.{count_in}
+use Rattle.of_types.specs.declared.message.Event.{Event}
+use Rattle.of_types.specs.Lives.{count_in, is_switch_up}
 use Rattle.vr_log.specs.declared.entry.Entry.{Entry}
 use Rattle.vr_log.specs.declared.entry.Entry.TheVariants.{Received, Processed}
 use Rattle.vr_log.specs.Log.{received, processed}
+
+-- An event may come to a log in which its switch has this life and this next number: where its life goes on, it has
+-- that number; else a later life begins with its switch-up event, number 0.
+abbrev pub may_come : ℕ → ℕ → Event → Bool
+may_come life next event =
+    if nat_eq event.life life then nat_eq event.number next
+    else nat_lt life event.life && nat_eq event.number 0 && is_switch_up event.what
 
 -- an event that is received is not processed
 abbrev pub has_unprocessed : List Entry → Bool

@@ -6,7 +6,7 @@ ghost use Rattle.vr_log.specs.Log.{is_log, received, processed, may_follow as ma
 ghost use Rattle.two_stage_log.specs.Counts as counts;
 ghost use Rattle.two_stage_log.specs.Counts.{AllProcessed};
 
-use of_types::Event;
+use of_types::{Event, is_switch_up};
 use vr_log::{Entry, Log};
 
 /// Whether an entry may follow the log: an event with the next number of its switch's life, the switch-up
@@ -15,6 +15,17 @@ pub fn may_follow(log: &Log, entry: &Entry) -> bool
     ensures { result ≡ may_stand log.now entry.now }
 {
     log.may_follow(entry)
+}
+
+/// Whether an event may come to a log in which its switch has this life, and this number is next in it.
+pub fn may_come(event: &Event, life: u32, next: u64) -> bool
+    ensures { result ≡ counts.may_come life next event.now }
+{
+    if event.life == life {
+        event.number == next
+    } else {
+        life < event.life && event.number == 0 && is_switch_up(&event.what)
+    }
 }
 
 /// The life that a switch has in the log, and the number that its next event of that life has.

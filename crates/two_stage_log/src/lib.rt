@@ -3,4 +3,4 @@
 
 mod counts;
 
-pub use counts::{first_unprocessed, may_follow, next_place, processed_of};
+pub use counts::{first_unprocessed, may_come, may_follow, next_place, processed_of};

@@ -1,13 +1,13 @@
 -- Lists of controllers' states, and who of them takes part.
 use Rattle.std.proofs.Common.{◌≡◌, ◌≤◌, ◌<◌, ℕ, ◌+◌, Bool, true, false, not, List, [], ◌∷◌, ◌++◌, length, map, drop, zero, suc, refl, sym, ◌∙◌, ap, subst, arith, append_assoc, append-nil}
 use Rattle.std.proofs.Math.Seq.{drop-cons}
-use Rattle.std.specs.Prelude.{get_or, max, nat_eq, ◌%◌, ◌||◌, filter, take, slice_get, Some, if◌then◌else◌}
+use Rattle.std.specs.Prelude.{get_or, max, nat_eq, ◌||◌, filter, take, slice_get, Some, if◌then◌else◌}
 use Rattle.std.specs.List.{list_any, range_with_len}
 use Rattle.std.proofs.lemmas.Bool.{eqb-true, eq-eqb}
 use Rattle.vr_log.specs.Members.{is_up}
 use Rattle.group_controller.specs.State.{ControllerState}
 use Rattle.rv_runs.specs.Committed.{members_up}
-use Rattle.rv_runs.specs.Schedule.{bound_of, first_view, quorum_of}
+use Rattle.rv_runs.specs.Schedule.{bound_of, quorum_of}
 use Rattle.closing_laws.specs.Quorum.{has}
 use Rattle.closing.specs.Closing.{bound_with, member_in}
 
@@ -147,12 +147,6 @@ pub quorum_up : (primary others : ℕ) (up : List ℕ) (c : ℕ) → has (quorum
 quorum_up primary others up c found =
     has_filtered (λ d. nat_eq d primary || list_any (λ o. nat_eq o d) (take others (filter (λ o. not (nat_eq o primary)) up))) up c found
 
-pub quorum_is : (primary others : ℕ) (up first second chosen kept members : List ℕ) → first ≡ up → second ≡ up → kept ≡ filter (λ o. not (nat_eq o primary)) first →
-    chosen ≡ take others kept → members ≡ filter (λ d. nat_eq d primary || has chosen d) second → members ≡ quorum_of primary others up
-quorum_is primary others up first second chosen kept members first_is second_is kept_is chosen_is members_are =
-    members_are ∙ ap (λ l. filter (λ d. nat_eq d primary || has chosen d) l) second_is ∙
-    ap (λ k. filter (λ d. nat_eq d primary || has k d) up) (chosen_is ∙ ap (λ k. take others k) (kept_is ∙ ap (λ l. filter (λ o. not (nat_eq o primary)) l) first_is))
-
 pub has_at : (xs : List ℕ) (i c : ℕ) → slice_get xs i ≡ Some c → has xs c ≡ true
 has_at [] i c found = cc
 has_at (x ∷ xs) zero c found = rw (eq-eqb x c (one found)) refl
@@ -201,13 +195,3 @@ bound_limit limit (c ∷ cs) each = by_up (bound_limit limit cs (λ i d found. e
     by_up : bound_of cs ≤ limit + 1 → (b : Bool) → is_up c.vr ≡ b → bound_of (c ∷ cs) ≤ limit + 1
     by_up rest true is = rw is (least c.vr.view c.vr.promise (bound_of cs) (each zero c refl).0 (each zero c refl).1 rest)
     by_up rest false is = rw is rest
-
--- the search for a view, one after another
-pub look_found : (n k group view : ℕ) (up : List ℕ) → n ≡ suc k → has up (view % group) ≡ true → first_view n group up view ≡ view
-look_found n k group view up is found = rw is (rw found refl)
-
-pub look_on : (n k group view : ℕ) (up : List ℕ) → n ≡ suc k → has up (view % group) ≡ false → first_view n group up view ≡ first_view k group up (view + 1)
-look_on n k group view up is found = rw is (rw found (ap (λ v. first_view k group up v) (plus view)))
-  where
-    plus : (v : ℕ) → suc v ≡ v + 1
-    plus v = omega arith

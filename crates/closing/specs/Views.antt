@@ -15,8 +15,3 @@ views_of_an_attempt = 8
 -- they added 56 at most
 abbrev pub most_view_of_a_closing : ℕ
 most_view_of_a_closing = 4100000000
-
--- a primary that takes part is looked for from no greater view: it is found within as many views as a group has
--- controllers, seven at most
-abbrev pub most_view_to_look_from : ℕ
-most_view_to_look_from = 4200000000

@@ -1,25 +1,18 @@
 //! Who closes.
-ghost use Rattle.std.specs.Prelude.{◌≡◌, ◌≤◌, ◌+◌, ◌<◌, ℕ, true, List, IfOk, OnOk, ◌++◌, length};
+ghost use Rattle.std.specs.Prelude.{◌≡◌, ◌≤◌, ◌+◌, ℕ, true, List, IfOk, OnOk, ◌++◌, length};
 ghost use Rattle.vr_log.specs.Members.{is_up};
 ghost use Rattle.group_controller.specs.Turns.{Controls, state_of};
-ghost use Rattle.rv_runs.specs.Schedule.{bound_of, closing_view, first_view, quorum_of};
+ghost use Rattle.rv_runs.specs.Schedule.{bound_of, closing_view};
 ghost use Rattle.rv_world.specs.World.{Holds};
-ghost use Rattle.closing_laws.specs.Quorum.{has};
 ghost use Rattle.closing.specs.Closing.{HaveViewsUpTo, bound_with, member_in, states_in, up_in, view_above};
-ghost use Rattle.closing.specs.Views.{most_view_of_a_closing, most_view_to_look_from, views_of_an_attempt};
+ghost use Rattle.closing.specs.Views.{most_view_of_a_closing, views_of_an_attempt};
 
 use app_core::App;
+use closing_quorum::first_view;
 use group_controller::Controller;
 use rv_bodies::Body;
 use rv_world::{World, takes_part};
 use std::alloc::{AllocError, Global};
-
-/// Whether a number is one of these.
-pub fn has(numbers: &[u8], number: u8) -> bool
-    ensures { result ≡ has numbers.now number }
-{
-    numbers.contains(&number)
-}
 
 /// The number of a controller goes behind those that are there, if it takes part.
 fn push_member<A: App>(
@@ -91,23 +84,6 @@ pub fn bound_of<B: Body, A: App>(world: &World<B, A>) -> u32
     bound
 }
 
-/// The least view from here on whose primary takes part.
-pub fn first_view(group: u8, up: &[u8], from: u32) -> u32
-    requires group { 0 < group }
-    requires room { from ≤ most_view_to_look_from }
-    ensures first { result ≡ first_view group group up.now from }
-    ensures near { result ≤ from + group }
-{
-    let mut view = from;
-    'looking: for _ in 0..group {
-        if has(up, (view % u32::from(group)) as u8) {
-            return view;
-        }
-        view += 1;
-    }
-    view
-}
-
 /// The view of a closing: the least above all views and promises, whose primary takes part.
 pub fn closing_view<B: Body, A: App>(world: &World<B, A>, up: &[u8]) -> u32
     requires holds { (kinds : List ℕ) × Holds A.law B.sealing world.now kinds }
@@ -119,16 +95,4 @@ pub fn closing_view<B: Body, A: App>(world: &World<B, A>, up: &[u8]) -> u32
         HaveViewsUpTo limit world.now.controllers → result ≤ limit + views_of_an_attempt }
 {
     first_view(world.setup().controllers, up, bound_of(world))
-}
-
-/// The primary, and so many others of the lowest numbers.
-pub fn quorum_of(alloc: Global, primary: u8, others: u8, up: &[u8]) -> Result<Vec<u8>, AllocError>
-    ensures { IfOk result (λ members. members.items ≡ quorum_of primary others up.now) }
-{
-    let mut chosen = Vec::from_slice(alloc, up)?;
-    chosen.retain(|other| *other != primary);
-    chosen.truncate(others as usize);
-    let mut members = Vec::from_slice(alloc, up)?;
-    members.retain(|member| *member == primary || has(chosen.as_slice(), *member));
-    Ok(members)
 }

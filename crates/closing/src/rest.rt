@@ -9,9 +9,10 @@ ghost use Rattle.closing.specs.Closing.{AllSuspect, Attempts, ClosesBy, ClosesIn
 ghost use Rattle.closing.specs.Views.{most_view_of_a_closing, most_view_of_a_script, views_of_an_attempt};
 
 use crate::closed::{Came, Closed};
-use crate::quorum::{closing_view, members_up, quorum_of};
+use crate::quorum::{closing_view, members_up};
 use crate::steps::{drain_first, is_over, lawful, lose_first, suspect_next};
 use app_core::App;
+use closing_quorum::quorum_of;
 use rv_base::{Stable, Stop};
 use rv_bodies::Body;
 use rv_world::World;
@@ -154,7 +155,7 @@ fn close_cleared<B: Body, A: App, W: Stable>(
     let group = world.setup().controllers;
     let view = closing_view(world, up);
     let primary = (view % u32::from(group)) as u8;
-    let quorum = quorum_of(alloc, primary, group / 2, up)?;
+    let quorum = quorum_of(alloc, group, primary, up)?;
     match close_by(world, stables, view, quorum.as_slice())? {
         Came::ToRest => Ok(Some(Closed::Done { primary })),
         Came::ToAFailedSave => Ok(None),

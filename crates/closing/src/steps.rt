@@ -11,8 +11,8 @@ ghost use Rattle.closing_laws.specs.Quorum.{has};
 ghost use Rattle.closing.specs.Closing.{HaveViewsUpTo, CameAt, came_of, ClosesIn, Drains, DrainsOne, HasLessLeft, IsFirst, is_over, NextSuspects, Rests, StaysAt, UpBy, up_in};
 
 use crate::closed::Came;
-use crate::quorum::has;
 use app_core::App;
+use closing_quorum::has;
 use group_controller::Controller;
 use rv_base::{Actor, Local, PacketPlace, Stable, Stop, Turn};
 use rv_bodies::Body;

@@ -1,6 +1,6 @@
 use Rattle.std.proofs.Common.{◌≡◌, ◌+◌, ◌-◌}
 use Rattle.rv_runs.specs.Schedule.{first_view}
-use Rattle.closing.proofs.quorum.first_view.Given as goal
+use Rattle.closing_quorum.proofs.first_view.Given as goal
 
 abbrev pub invariant-looking : goal.invariant-looking
 invariant-looking l = record {

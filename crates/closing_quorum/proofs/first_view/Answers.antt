@@ -1,8 +1,7 @@
 use Rattle.std.proofs.Common.{◌≡◌, ℕ, ◌+◌, ◌-◌, true, false, sym, ◌∙◌, subst, arith}
 use Rattle.std.specs.Prelude.{◌%◌}
-use Rattle.closing_laws.specs.Quorum.{has}
-use Rattle.closing.proofs.Lists.{look_found, look_on}
-use Rattle.closing.proofs.quorum.first_view.Goals as goal
+use Rattle.closing_quorum.proofs.Looking.{has, look_found, look_on}
+use Rattle.closing_quorum.proofs.first_view.Goals as goal
 
 pub returns-then-has-clause-first : goal.returns-then-has-clause-first
 returns-then-has-clause-first c =

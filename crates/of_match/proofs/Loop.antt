@@ -22,17 +22,17 @@ use Rattle.of_match.specs.Reading.{put, match_of, is_repeated, header_at, value_
 pub record SoFar (body rest : List ℕ) (numbers : List Bool) (m : Match) (before : List Field) (count : ℕ) : Type 0 where
   pub enough : length rest ≤ count
   pub said : m ≡ match_of before
-  pub len : length numbers ≡ 17
-  pub seen : (n : ℕ) → n < 17 → get_or numbers n false ≡ is_repeated n before
+  pub len : length numbers ≡ 256
+  pub seen : (n : ℕ) → n < 256 → get_or numbers n false ≡ is_repeated n before
   pub whole : fields_at count before rest ≡ fields_at (length body) [] body
 
-pub starts : (body : List ℕ) (numbers : List Bool) → numbers ≡ replicate 17 false → SoFar body body numbers any_match [] (length body)
+pub starts : (body : List ℕ) (numbers : List Bool) → numbers ≡ replicate 256 false → SoFar body body numbers any_match [] (length body)
 unfolding match_of
 starts body numbers e = record {
   enough = omega arith;
   said = refl;
   len = ap length e;
-  seen = λ n lt. rw e (get_or-replicate 17 n false false lt);
+  seen = λ n lt. rw e (get_or-replicate 256 n false false lt);
   whole = refl;
 }
 
@@ -62,7 +62,7 @@ or_old false true e = e
 or_old false false e = refl
 
 -- the flags after one more field
-seen_push : (numbers : List Bool) (before : List Field) (field : Field) (n : ℕ) → length numbers ≡ 17 → n < 17 → number_of field.kind < 17
+seen_push : (numbers : List Bool) (before : List Field) (field : Field) (n : ℕ) → length numbers ≡ 256 → n < 256 → number_of field.kind < 256
     → get_or numbers n false ≡ is_repeated n before → get_or (set numbers (number_of field.kind) true) n false ≡ is_repeated n (before ++ field ∷ [])
 seen_push numbers before field n len lt fits same =
     let push = is_repeated-push n before field in
@@ -71,7 +71,7 @@ seen_push numbers before field n len lt fits same =
       | inr ne ↦ get_or-set_other numbers (number_of field.kind) n true false ne ∙ same ∙ sym (push ∙ or_old (is_repeated n before) (eqb (number_of field.kind) n) (ne_eqb (number_of field.kind) n (λ h. ne (sym h))))
     ]
 
-pub number_fits : (kind : FieldKind) → number_of kind < 17
+pub number_fits : (kind : FieldKind) → number_of kind < 256
 number_fits InPort = lit< tt
 number_fits EthDst = lit< tt
 number_fits EthSrc = lit< tt

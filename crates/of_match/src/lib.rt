@@ -3,7 +3,6 @@
 
 mod fault;
 mod kind;
-mod kinds;
 mod reading;
 mod writing;
 

@@ -12,7 +12,7 @@ ghost use Rattle.of_match.specs.Reading.{header_at, payload_length, masked48_at,
 
 use crate::fault::MatchFault;
 use crate::kind::{FieldHeader, FieldKind};
-use crate::kinds::KindSet;
+use kind_set::KindSet;
 use of_bytes::{u16_at, u32_at, u48_at};
 use of_types::{
     IPV4, MATCH_OF_FIELDS, Masked32, Masked48, Match, ONES32, ONES48, OPENFLOW_BASIC, TCP, UDP,
@@ -145,7 +145,7 @@ fn read_fields(body: &[u8]) -> Result<Match, MatchFault>
     let mut rest = body;
     'fields: while !rest.is_empty() {
         let (header, payload, after) = header_at(rest)?;
-        if !seen.insert(header.kind) {
+        if !seen.insert(header.kind.number()) {
             return Err(MatchFault::Repeated);
         }
         put_field(&mut matching, header, payload)?;

@@ -9,6 +9,7 @@ ghost use Rattle.vr_normal.specs.Proposing.{proposed, Proposes};
 use crate::acks::agreed_op;
 use std::alloc::AllocError;
 use vr_log::{Entry, LogFull, VrMessage, VrOut, VrState};
+use vr_quorum::own_commit;
 
 /// Why an entry was not proposed.
 #[derive(Debug, Drop)]
@@ -197,9 +198,7 @@ fn append_proposed(state: &mut VrState, entry: Entry, out: &mut VrOut) -> Result
         entry: entry.copy()?,
     };
     state.log.append(entry)?;
-    if state.most_failures() == 0 {
-        state.commit = op;
-    }
+    state.commit = own_commit(state, op);
     out.tell_others(state.me, state.controllers, &message)
 }
 

@@ -8,9 +8,8 @@ ghost use Rattle.view_change.specs.Entering.{started, tells_start, chooses};
 ghost use Rattle.view_change.specs.Starting.{IsStart, chosen};
 
 use std::alloc::AllocError;
-use vr_log::{
-    Acked, Collected, Entries, Status, VrMessage, VrOut, VrState, append_entries, best_of,
-};
+use vr_log::{Acked, Collected, Entries, Status, VrMessage, VrOut, VrState, append_entries};
+use vr_quorum::starting_log;
 
 /// What a primary tells of the view that it started.
 pub(crate) fn view_start(state: &VrState) -> Result<VrMessage, AllocError>
@@ -150,7 +149,7 @@ pub(crate) fn choose(state: &mut VrState, out: &mut VrOut) -> Result<bool, Alloc
     let Some((first, rest)) = state.collected.as_slice().split_first() else {
         return Ok(true);
     };
-    let best = best_of(first, rest);
+    let best = starting_log(first, rest);
     if state.front_len() < u128::from(best.commit) {
         state.fetch_from(best, out)?;
         return Ok(true);

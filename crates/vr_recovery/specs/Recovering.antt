@@ -1,15 +1,16 @@
 -- Recovery (Viewstamped Replication Revisited, 4.3; the stable pair of a promise and a life is our own rule). A
 -- message of another kind does nothing here.
-use Rattle.std.specs.Prelude.{ℕ, Bool, nat_eq, nat_le, nat_lt, ◌&&◌, List, [], ◌∷◌, length, max, find, Option, Some, None, if◌then◌else◌}
+use Rattle.std.specs.Prelude.{ℕ, Bool, nat_eq, nat_lt, ◌&&◌, List, [], ◌∷◌, find, Option, Some, None, if◌then◌else◌}
 use Rattle.vr_log.specs.declared.message.Filled.{Filled}
 use Rattle.vr_log.specs.declared.message.VrMessage.{VrMessage}
 use Rattle.vr_log.specs.declared.message.VrMessage.TheVariants as message
 use Rattle.vr_log.specs.declared.state.Response.{Response}
 use Rattle.vr_log.specs.declared.state.Status.TheVariants.{Recovering}
 use Rattle.vr_log.specs.declared.state.VrState.{VrState}
-use Rattle.vr_log.specs.Members.{is_normal, is_recovering, is_primary, is_other, primary_of, most_failures}
+use Rattle.vr_log.specs.Members.{is_normal, is_recovering, is_primary, is_other, primary_of}
 use Rattle.vr_log.specs.Steps.{VrStep, quiet, sends, tells, to_others, guarded}
 use Rattle.vr_log.specs.Valid.{starting_state}
+use Rattle.vr_quorum.specs.Ending as rule
 use Rattle.view_change.specs.Adopting.{adopt}
 use Rattle.view_change.specs.Cases.{enters}
 
@@ -50,8 +51,7 @@ with_response (kept ∷ responses) r =
 
 -- the greatest view that was told
 abbrev pub greatest_view : List Response → ℕ
-greatest_view [] = 0
-greatest_view (r ∷ responses) = max r.view (greatest_view responses)
+greatest_view = rule.greatest_view
 
 -- the log of its primary, where that told it
 abbrev pub told_log : ℕ → Option Response → Option Filled
@@ -63,7 +63,7 @@ primary_log s view = told_log view (find (λ r. nat_eq r.from (primary_of s view
 
 -- enough members told a view, which is not below the promise
 abbrev pub is_enough : VrState → Bool
-is_enough s = nat_lt (most_failures s) (length s.responses) && nat_le s.promise (greatest_view s.responses)
+is_enough = rule.is_enough
 
 -- recovery ends with that log
 abbrev pub ending : VrState → Option Filled

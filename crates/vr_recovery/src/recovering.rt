@@ -5,11 +5,12 @@ ghost use Rattle.vr_log.specs.Valid.{IsValid};
 ghost use Rattle.vr_recovery.specs.Recovering as recovering;
 ghost use Rattle.vr_recovery.specs.Recovering.{restarted, recovers, responded, ending};
 
-use crate::responses::{greatest_view, keep, log_of, restore};
+use crate::responses::{keep, log_of, restore};
 use std::alloc::{AllocError, Global};
 use std::mem;
 use view_change::{adopt, enter_and_check};
 use vr_log::{Filled, Response, Responses, Status, VrMessage, VrOut, VrState, copy_entries};
+use vr_quorum::{greatest_view, is_enough};
 
 /// A life of a member begins behind its stable pair: it asks the others for what it has lost.
 pub fn restart(
@@ -113,10 +114,10 @@ fn ending(state: &VrState, responses: &[Response]) -> Result<Option<Filled>, All
     requires { 0 < state.now.controllers }
     ensures { IfOk result (λ told. told ≡ recovering.ending (record state.now { responses = responses.now })) }
 {
-    let view = greatest_view(responses);
-    if responses.len() <= state.most_failures() || view < state.promise {
+    if !is_enough(state, responses) {
         return Ok(None);
     }
+    let view = greatest_view(responses);
     match log_of(responses, state.primary_of(view), view) {
         Some(told) => Ok(Some(Filled {
             commit: told.commit,

@@ -1,9 +1,8 @@
 //! The responses that a member in recovery keeps, one of each other member.
-ghost use Rattle.std.specs.Prelude.{◌≡◌, ◌<◌, nat_eq, max, find, Some, length, vec_len, slice_get, slice_set, IfOk, OnOk};
+ghost use Rattle.std.specs.Prelude.{◌≡◌, ◌<◌, nat_eq, find, Some, length, vec_len, slice_get, slice_set, IfOk, OnOk};
 ghost use Rattle.std.specs.List.{position};
 ghost use Rattle.std.specs.Option.{option_copied};
 ghost use Rattle.vr_recovery.specs.Keeping.{restored};
-ghost use Rattle.vr_recovery.specs.Recovering as recovering;
 ghost use Rattle.vr_recovery.specs.Recovering.{with_response, told_log};
 
 use std::alloc::AllocError;
@@ -74,17 +73,6 @@ pub(crate) fn restore(responses: &mut Vec<Response>, former: Former)
         }
         Former::Same => {}
     }
-}
-
-/// The greatest view that was told.
-pub(crate) fn greatest_view(responses: &[Response]) -> u32
-    ensures { result ≡ recovering.greatest_view responses.now }
-{
-    let mut most = 0;
-    for response in responses {
-        most = most.max(response.view);
-    }
-    most
 }
 
 fn response_of(responses: &[Response], member: u8) -> Option<&Response>

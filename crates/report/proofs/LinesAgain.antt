@@ -17,7 +17,7 @@ use Rattle.vr_log.specs.declared.entry.Entry.{Entry}
 use Rattle.vr_log.specs.declared.entry.Entry.TheVariants.{Received, Processed}
 use Rattle.report.specs.declared.journal_lines.PostLine.{PostLine}
 use Rattle.report.specs.declared.record.Shown.{Shown}
-use Rattle.report.specs.OneLine.{letter_at, post_line_at, draw_at, lose_at, idle_at, local_at, input_at, frame_at, port_at, suspect_at, bare_at, event_words_at, received_at, processed_at, log_entry_at, event_at, executed_at, row_at, of_at}
+use Rattle.report.specs.OneLine.{letter_at, post_line_at, draw_at, lose_at, idle_at, local_at, input_at, frame_at, port_at, suspect_at, bare_at, event_words_at, received_at, processed_at, log_entry_at, event_at, executed_words_at, executed_at, row_at, of_at}
 use Rattle.report.specs.Records.{AreBytes, FitsActor, FitsLetter, FitsInput, IsToldEvent, IsLogEntry, IsToldExecuted, IsShown, IsEventOf}
 use Rattle.report.specs.Report.{word, newline, line, number, actor_word, flag, hex, letter_line, input_words, entry_lines, event_words, log_line, event_line, executed_line, row_line}
 use Rattle.report.specs.Spelled.{◌>>=◌}
@@ -184,7 +184,7 @@ event_is s e rest is =
     ∙ after_then (codes "event") _ _ _ (event_then e rest _ _ is.told (test_then (e.switch == s) _ _ (eq-eqb e.switch s is.of) refl))
 
 pub executed_is : (s : ℕ) (x : Executed) (rest : List ℕ) → s < 2 ^ 8 → IsToldExecuted x → executed_at s (executed_line s x ++ rest) ≡ Some (x, rest)
-unfolding executed_at
+unfolding executed_at executed_words_at
 executed_is s x rest small told =
     ap (executed_at s) (line_is (codes "executed") (number s ∷ number x.life ∷ number x.number ∷ number x.generation ∷ actor_word (Controller x.from) ∷ hex (canonical_order x.order) ∷ []) rest)
     ∙ after_then (codes "executed") _ _ _

@@ -17,7 +17,7 @@ use Rattle.vr_log.specs.declared.entry.Entry.{Entry}
 use Rattle.vr_log.specs.declared.entry.Entry.TheVariants.{Received, Processed}
 use Rattle.report.specs.declared.journal_lines.PostLine.{PostLine}
 use Rattle.report.specs.declared.record.Shown.{Shown}
-use Rattle.report.specs.OneLine.{begins, letter_at, post_line_at, draw_at, lose_at, idle_at, local_at, input_at, frame_at, port_at, suspect_at, bare_at, short_entry_at, event_words_at, received_at, processed_at, log_entry_at, event_at, executed_at, row_at, of_at}
+use Rattle.report.specs.OneLine.{begins, letter_at, post_line_at, draw_at, lose_at, idle_at, local_at, input_at, frame_at, port_at, suspect_at, bare_at, short_entry_at, event_words_at, received_at, processed_at, log_entry_at, event_at, executed_words_at, executed_at, row_at, of_at}
 use Rattle.report.specs.Records.{FitsLetter, FitsInput, IsToldEntry, IsToldEvent, IsLogEntry, IsToldExecuted, IsShown, IsEventOf}
 use Rattle.report.specs.Report.{word, newline, line, number, actor_word, flag, hex, letter_line, input_words, entry_lines, event_words, log_line, event_line, executed_line, row_line}
 use Rattle.report.specs.Spelled.{◌>>=◌}
@@ -219,7 +219,7 @@ pub event_takes : (s : ℕ) → Takes (event_at s) event_line (IsEventOf s)
 event_takes s = record { takes = event_is s }
 
 executed_is : (s : ℕ) (bytes : List ℕ) (x : Executed) (rest : List ℕ) → executed_at s bytes ≡ Some (x, rest) → Spelt (executed_line s) IsToldExecuted bytes x rest
-unfolding executed_at
+unfolding executed_at executed_words_at
 executed_is s bytes x rest e =
     took_text (codes "executed") bytes _ _ e (λ b0 e0 e.
     took_of s b0 _ _ e (λ b1 e1 e.

@@ -10,8 +10,8 @@ use Rattle.vr_log.specs.declared.entry.Entry.{Entry}
 use Rattle.report.specs.declared.record.Record.{Record}
 use Rattle.report.specs.declared.record.Told.{Told}
 use Rattle.report.specs.declared.switch_lines.SwitchLine.{SwitchLine}
-use Rattle.report.specs.OneLine.{begins, letter_at, short_entry_at, role_words_at, switch_line_at, event_at, executed_at, row_at, first_line_at, last_line_at}
-use Rattle.report.specs.Reading.{post_at, entry_at, journal_at, told_at, switches_at, record_at, report_at}
+use Rattle.report.specs.OneLine.{begins, letter_at, short_entry_at, role_words_at, switch_counts_at, switch_line_at, event_at, executed_at, row_at, first_line_at, last_line_at}
+use Rattle.report.specs.Reading.{post_at, entry_at, journal_at, told_at, switches_at, history_at, outcome_at, record_at, report_at}
 use Rattle.report.specs.Records.{IsToldEntry, FitsLetter, IsEventOf, IsToldExecuted, IsShown, IsToldSwitch, AreTold, IsRecord}
 use Rattle.report.specs.Report.{word, newline, line, number, actor_word, number_or_dash, master_word, labelled, role_words, count_words, switch_line, told_lines, switch_lines, event_line, executed_line, row_line, letter_line, entry_lines, log_lines, lines_of, sum_words, end_line, text}
 use Rattle.report.specs.Spelled.{◌>>=◌, dash_or, number64_at, controller_at}
@@ -160,7 +160,7 @@ abbrev pub line_of : Told → SwitchLine
 line_of t = record { generation = t.generation; master = t.master; life = t.life; events = length t.events; held = t.held; executed = length t.executed; rows = length t.rows; sent = t.sent }
 
 switch_line_is : (s : ℕ) (t : Told) (rest : List ℕ) → s < 2 ^ 8 → IsToldSwitch s t → switch_line_at s (switch_line s t ++ rest) ≡ Some (line_of t, rest)
-unfolding switch_line_at
+unfolding switch_line_at switch_counts_at
 switch_line_is s t rest small told =
     ap (switch_line_at s) (switch_parts s t rest)
     ∙ after_then (codes "switch") _ _ _
@@ -231,19 +231,27 @@ log_begins : (log : List Entry) (rest : List ℕ) → (begins (codes "log") (log
 unfolding log_lines line
 log_begins log rest = (refl, refl, refl)
 
+history_is : (r : Record) (rest : List ℕ) → IsRecord r → history_at (lines_of entry_lines r.journal ++ (log_lines r.log ++ rest)) ≡ Ok ((r.journal, r.log), rest)
+unfolding history_at
+history_is r rest is =
+    let opens = log_begins r.log rest in
+    lines_then _ _ _ _ (journal_again r.journal _ is.journal_is opens.0) (lines_then _ _ _ _ (log_again r.log _ is.few_entries is.log) refl)
+
+outcome_is : (r : Record) → IsRecord r → outcome_at (length r.setup.ports) (length r.log) (switch_lines 0 r.switches ++ end_line r) ≡ Ok ((r.switches, (r.script, r.closing)), [])
+unfolding outcome_at
+outcome_is r is =
+    let few = is.setup.few in
+    let same = is.switches in
+    lines_then _ _ _ _ (all_switches r.setup.ports r.switches (end_line r) same few is.told) (line_then (end_line r) _ _ _ _ (last_is r is.script is.closing_is) refl)
+
 record_is : (r : Record) → IsRecord r → record_at (text r) ≡ Ok (r, [])
 unfolding record_at text
 record_is r is =
-    let few = is.setup.few in
-    let same = is.switches in
     let behind : List ℕ = switch_lines 0 r.switches ++ end_line r in
     let opens = log_begins r.log behind in
     line_then (text r) _ _ _ _ (first_is _)
     (lines_then _ _ _ _ (setup_again r.setup _ is.setup is.rules (no_link r.journal _ is.journal_is opens.1) (no_deny r.journal _ is.journal_is opens.2))
-    (lines_then _ _ _ _ (journal_again r.journal _ is.journal_is opens.0)
-    (lines_then _ _ _ _ (log_again r.log _ is.few_entries is.log)
-    (lines_then _ _ _ _ (all_switches r.setup.ports r.switches (end_line r) same few is.told)
-    (line_then (end_line r) _ _ _ _ (last_is r is.script is.closing_is) refl)))))
+    (lines_then _ _ _ _ (history_is r _ is) (lines_then _ _ _ _ (outcome_is r is) refl)))
 
 -- what is written of a record is read as it
 pub report_again : (r : Record) → IsRecord r → report_at (text r) ≡ Ok r

@@ -16,8 +16,8 @@ use Rattle.report.specs.declared.record.Record.{Record}
 use Rattle.report.specs.declared.record.Told.{Told}
 use Rattle.report.specs.declared.switch_lines.SwitchLine.{SwitchLine}
 use Rattle.report.specs.Lines.{line_at, each_at}
-use Rattle.report.specs.OneLine.{begins, letter_at, post_line_at, short_entry_at, log_line_at, log_entry_at, role_words_at, switch_line_at, event_at, executed_at, row_at, first_line_at, last_line_at}
-use Rattle.report.specs.Reading.{post_at, entry_at, journal_at, log_at, told_at, switches_at, setup_at, record_at, report_at, all_of, line_number, IsReadAs}
+use Rattle.report.specs.OneLine.{begins, letter_at, post_line_at, short_entry_at, log_line_at, log_entry_at, role_words_at, switch_counts_at, switch_line_at, event_at, executed_at, row_at, first_line_at, last_line_at}
+use Rattle.report.specs.Reading.{post_at, entry_at, journal_at, log_at, told_at, switches_at, setup_at, history_at, outcome_at, record_at, report_at, all_of, line_number, IsReadAs}
 use Rattle.report.specs.Records.{IsToldEntry, IsLogEntry, IsToldSwitch, AreTold, IsRecord}
 use Rattle.report.specs.Report.{word, newline, line, number, actor_word, number_or_dash, master_word, labelled, switch_line, told_lines, switch_lines, event_line, executed_line, letter_line, entry_lines, log_line, log_lines, lines_of, sum_words, end_line, setup_lines, text}
 use Rattle.report.specs.Spelled.{word_at}
@@ -152,7 +152,7 @@ record IsSwitchText (s : ℕ) (bytes : List ℕ) (l : SwitchLine) (rest : List �
   pub sent_is : l.sent < 2 ^ 64
 
 switch_line_is : (s : ℕ) (bytes : List ℕ) (x : SwitchLine) (rest : List ℕ) → switch_line_at s bytes ≡ Some (x, rest) → IsSwitchText s bytes x rest
-unfolding switch_line_at
+unfolding switch_line_at switch_counts_at
 switch_line_is s bytes x rest e =
     took_text (codes "switch") bytes _ _ e (λ b0 e0 e.
     took_of s b0 _ _ e (λ b1 e1 e.
@@ -274,6 +274,50 @@ first_is bytes rest e =
     took_text (codes "ravana report 1") bytes _ _ e (λ b0 e0 e.
     e0 ∙ ap (λ l. codes "ravana report 1" ++ l) (end_takes b0 rest e))
 
+record IsHistory (bytes : List ℕ) (x : List (JournalEntry (List ℕ)) × List Entry) (rest : List ℕ) : Type 0 where
+  pub spelled : bytes ≡ lines_of entry_lines x.0 ++ (log_lines x.1 ++ rest)
+  pub journal_is : AllByRecursion IsToldEntry x.0
+  pub few_entries : length x.1 < 2 ^ 64
+  pub log : AllByRecursion IsLogEntry x.1
+
+history_is : (bytes : List ℕ) (x : List (JournalEntry (List ℕ)) × List Entry) (rest : List ℕ) → history_at bytes ≡ Ok (x, rest) → IsHistory bytes x rest
+unfolding history_at
+history_is bytes x rest e =
+    then_lines (journal_at bytes) _ _ e (λ journal journal_e e.
+    then_lines (log_at journal.1) _ _ e (λ log log_e e.
+    let one = journal_is bytes journal.0 journal.1 journal_e in
+    let two = log_is journal.1 log.0 log.1 log_e in
+    let all : one.further ≡ journal.0 = sym one.all_is in
+    both_are (IsHistory bytes) (journal.0, log.0) x log.1 rest e (record {
+      spelled = one.spelled ∙ ap (λ entries. lines_of entry_lines entries ++ journal.1) all ∙ ap (λ l. lines_of entry_lines journal.0 ++ l) two.spelled;
+      journal_is = one.holds;
+      few_entries = two.few;
+      log = two.each;
+    })))
+
+record IsOutcome (count entries : ℕ) (bytes : List ℕ) (x : List Told × (ℕ × ℕ)) (rest : List ℕ) : Type 0 where
+  pub spelled : bytes ≡ switch_lines 0 x.0 ++ end_text (sum_words entries x.0) x.1.0 x.1.1 rest
+  pub many : length x.0 ≡ count
+  pub told : AreTold 0 x.0
+  pub script : x.1.0 < 2 ^ 64
+  pub closing_is : x.1.1 < 2 ^ 64
+
+outcome_is : (count entries : ℕ) (bytes : List ℕ) (x : List Told × (ℕ × ℕ)) (rest : List ℕ) → outcome_at count entries bytes ≡ Ok (x, rest) → IsOutcome count entries bytes x rest
+unfolding outcome_at
+outcome_is count entries bytes x rest e =
+    then_lines (switches_at count 0 bytes) _ _ e (λ switches switches_e e.
+    let sums : List ℕ = sum_words entries switches.0 in
+    then_lines (line_at switches.1 (last_line_at sums switches.1)) _ _ e (λ turns turns_e e.
+    let one = switches_are count 0 bytes switches.0 switches.1 switches_e in
+    let two = last_is sums switches.1 turns.0 turns.1 (fits switches.1 (last_line_at sums switches.1) turns turns_e) in
+    both_are (IsOutcome count entries bytes) (switches.0, turns.0) x turns.1 rest e (record {
+      spelled = one.spelled ∙ ap (λ l. switch_lines 0 switches.0 ++ l) two.spelled;
+      many = one.many;
+      told = one.told;
+      script = two.script;
+      closing_is = two.closing_is;
+    })))
+
 -- the text of a record, and what stands behind it
 abbrev text_before : Record → List ℕ → List ℕ
 text_before r rest =
@@ -288,35 +332,29 @@ unfolding record_at
 record_takes bytes r rest e =
     then_lines (line_at bytes (first_line_at bytes)) _ _ e (λ b0 here e.
     then_lines (setup_at b0) _ _ e (λ setup setup_e e.
-    then_lines (journal_at setup.1) _ _ e (λ journal journal_e e.
-    then_lines (log_at journal.1) _ _ e (λ log log_e e.
-    then_lines (switches_at (length setup.0.ports) 0 log.1) _ _ e (λ switches switches_e e.
-    let sums : List ℕ = sum_words (length log.0) switches.0 in
-    then_lines (line_at switches.1 (last_line_at sums switches.1)) _ _ e (λ turns turns_e e.
+    then_lines (history_at setup.1) _ _ e (λ history history_e e.
+    then_lines (outcome_at (length setup.0.ports) (length history.0.1) history.1) _ _ e (λ outcome outcome_e e.
     let one = first_is bytes b0 (fits bytes (first_line_at bytes) b0 here) in
     let two = setup_takes b0 setup.0 setup.1 setup_e in
-    let three = journal_is setup.1 journal.0 journal.1 journal_e in
-    let four = log_is journal.1 log.0 log.1 log_e in
-    let five = switches_are (length setup.0.ports) 0 log.1 switches.0 switches.1 switches_e in
-    let six = last_is sums switches.1 turns.0 turns.1 (fits switches.1 (last_line_at sums switches.1) turns turns_e) in
-    let all : three.further ≡ journal.0 = sym three.all_is in
-    let made : Record = record { setup = setup.0; journal = journal.0; log = log.0; switches = switches.0; script = turns.0.0; closing = turns.0.1 } in
-    both_are (IsReport bytes) made r turns.1 rest e (record {
+    let three = history_is setup.1 history.0 history.1 history_e in
+    let four = outcome_is (length setup.0.ports) (length history.0.1) history.1 outcome.0 outcome.1 outcome_e in
+    let made : Record = record { setup = setup.0; journal = history.0.0; log = history.0.1; switches = outcome.0.0; script = outcome.0.1.0; closing = outcome.0.1.1 } in
+    both_are (IsReport bytes) made r outcome.1 rest e (record {
       spelled =
-          one ∙ ap (λ l. codes "ravana report 1" ++ (newline ++ l)) (two.spelled ∙ ap (λ l. setup_lines setup.0 ++ l) (three.spelled ∙ ap (λ entries. lines_of entry_lines entries ++ journal.1) all
-          ∙ ap (λ l. lines_of entry_lines journal.0 ++ l) (four.spelled ∙ ap (λ l. log_lines log.0 ++ l) (five.spelled ∙ ap (λ l. switch_lines 0 switches.0 ++ l) six.spelled))));
+          one ∙ ap (λ l. codes "ravana report 1" ++ (newline ++ l)) (two.spelled ∙ ap (λ l. setup_lines setup.0 ++ l)
+          (three.spelled ∙ ap (λ l. lines_of entry_lines history.0.0 ++ (log_lines history.0.1 ++ l)) four.spelled));
       is = record {
         setup = two.is;
         rules = two.rules;
-        journal_is = three.holds;
-        few_entries = four.few;
-        log = four.each;
-        switches = five.many;
-        told = five.told;
-        script = six.script;
-        closing_is = six.closing_is;
+        journal_is = three.journal_is;
+        few_entries = three.few_entries;
+        log = three.log;
+        switches = four.many;
+        told = four.told;
+        script = four.script;
+        closing_is = four.closing_is;
       };
-    })))))))
+    })))))
 
 text_is : (r : Record) → text_before r [] ≡ text r
 unfolding text end_line

@@ -250,19 +250,24 @@ role_words_at bytes = do
   life ← number32_at rest
   Some ((generation.0, master.0, life.0), life.1)
 
+-- the counts of a switch, behind its generation, master and life
+unfoldable pub switch_counts_at : Option ℕ × Option ℕ × ℕ → List ℕ → Option (SwitchLine × List ℕ)
+switch_counts_at role bytes = do
+  events ← labelled_at (codes "events") bytes
+  held ← labelled_at (codes "held") events.1
+  executed ← labelled_at (codes "executed") held.1
+  rows ← labelled_at (codes "rows") executed.1
+  sent ← labelled_at (codes "sent") rows.1
+  rest ← end_at sent.1
+  Some (record { generation = role.0; master = role.1; life = role.2; events = events.0; held = held.0; executed = executed.0; rows = rows.0; sent = sent.0 }, rest)
+
 -- the line of a switch, without those that it counts
 unfoldable pub switch_line_at : ℕ → List ℕ → Option (SwitchLine × List ℕ)
 switch_line_at switch bytes = do
   rest ← after_at (codes "switch") bytes
   rest ← of_at switch rest
   role ← role_words_at rest
-  events ← labelled_at (codes "events") role.1
-  held ← labelled_at (codes "held") events.1
-  executed ← labelled_at (codes "executed") held.1
-  rows ← labelled_at (codes "rows") executed.1
-  sent ← labelled_at (codes "sent") rows.1
-  rest ← end_at sent.1
-  Some (record { generation = role.0.0; master = role.0.1; life = role.0.2; events = events.0; held = held.0; executed = executed.0; rows = rows.0; sent = sent.0 }, rest)
+  switch_counts_at role.0 role.1
 
 unfoldable pub event_at : ℕ → List ℕ → Option (Event × List ℕ)
 event_at switch bytes = do
@@ -270,17 +275,22 @@ event_at switch bytes = do
   event ← event_words_at rest
   if event.0.switch == switch then Some event else None
 
-unfoldable pub executed_at : ℕ → List ℕ → Option (Executed × List ℕ)
-executed_at switch bytes = do
-  rest ← after_at (codes "executed") bytes
-  rest ← of_at switch rest
-  life ← number32_at rest
+-- a command that was executed, behind the number of its switch
+unfoldable pub executed_words_at : List ℕ → Option (Executed × List ℕ)
+executed_words_at bytes = do
+  life ← number32_at bytes
   number ← number64_at life.1
   generation ← number64_at number.1
   from ← controller_at generation.1
   order ← order_at from.1
   rest ← end_at order.1
   Some (record { life = life.0; number = number.0; generation = generation.0; from = from.0; order = order.0 }, rest)
+
+unfoldable pub executed_at : ℕ → List ℕ → Option (Executed × List ℕ)
+executed_at switch bytes = do
+  rest ← after_at (codes "executed") bytes
+  rest ← of_at switch rest
+  executed_words_at rest
 
 unfoldable pub row_at : ℕ → List ℕ → Option (Shown × List ℕ)
 row_at switch bytes = do

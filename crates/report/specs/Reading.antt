@@ -89,15 +89,27 @@ switches_at (suc n) switch bytes = do
   others ← switches_at n (switch + 1) first.1
   Ok (first.0 ∷ others.0, others.1)
 
+-- the journal and the log
+unfoldable pub history_at : List ℕ → Result ((List (JournalEntry (List ℕ)) × List Entry) × List ℕ) ℕ
+history_at bytes = do
+  journal ← journal_at bytes
+  log ← log_at journal.1
+  Ok ((journal.0, log.0), log.1)
+
+-- so many switches behind a log of so many entries, and the turns of the script and of the closing
+unfoldable pub outcome_at : ℕ → ℕ → List ℕ → Result ((List Told × (ℕ × ℕ)) × List ℕ) ℕ
+outcome_at count entries bytes = do
+  switches ← switches_at count 0 bytes
+  turns ← line_at switches.1 (last_line_at (sum_words entries switches.0) switches.1)
+  Ok ((switches.0, turns.0), turns.1)
+
 unfoldable pub record_at : List ℕ → Result (Record × List ℕ) ℕ
 record_at bytes = do
   rest ← line_at bytes (first_line_at bytes)
   setup ← setup_at rest
-  journal ← journal_at setup.1
-  log ← log_at journal.1
-  switches ← switches_at (length setup.0.ports) 0 log.1
-  turns ← line_at switches.1 (last_line_at (sum_words (length log.0) switches.0) switches.1)
-  Ok (record { setup = setup.0; journal = journal.0; log = log.0; switches = switches.0; script = turns.0.0; closing = turns.0.1 }, turns.1)
+  history ← history_at setup.1
+  outcome ← outcome_at (length setup.0.ports) (length history.0.1) history.1
+  Ok (record { setup = setup.0; journal = history.0.0; log = history.0.1; switches = outcome.0.0; script = outcome.0.1.0; closing = outcome.0.1.1 }, outcome.1)
 
 -- the number, from 1 on, of the line with which so many bytes are left
 abbrev pub line_number : List ℕ → ℕ → ℕ

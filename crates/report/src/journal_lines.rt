@@ -66,13 +66,19 @@ fn post(alloc: Global, bytes: &[u8]) -> Result<(JournalEntry<Octets>, &[u8]), Br
     ensures { GivesLines (λ x. (x.0, x.1.now)) result (post_at bytes.now) }
 {
     let (line, rest) = on_line(bytes, post_line(bytes))?;
-    let (letters, rest) = read_each(alloc, 0, line.count, rest)?;
+    let PostLine {
+        actor,
+        first,
+        count,
+        lost,
+    } = line;
+    let (letters, rest) = read_each(alloc, 0, count, rest)?;
     Ok((
         JournalEntry::Post {
-            actor: line.actor,
-            first: line.first,
+            actor,
+            first,
             letters,
-            lost: line.lost,
+            lost,
         },
         rest,
     ))

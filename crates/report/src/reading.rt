@@ -1,8 +1,8 @@
 //! Reading a report.
 ghost use Rattle.std.specs.Prelude.{◌≡◌, IfOk};
-ghost use Rattle.report.specs.Lines.{GivesLines};
+ghost use Rattle.report.specs.Lines.{GivesLines, line_at};
 ghost use Rattle.report.specs.OneLine.{first_line_at, last_line_at};
-ghost use Rattle.report.specs.Reading.{record_at, line_number, IsReadAs};
+ghost use Rattle.report.specs.Reading.{history_at, outcome_at, record_at, line_number, IsReadAs};
 ghost use Rattle.report.specs.Records.{IsRecord};
 ghost use Rattle.report.specs.Report as report;
 ghost use Rattle.report.specs.Report.{text};
@@ -16,8 +16,10 @@ use crate::report_text::write_sum_words;
 use crate::setup_lines::setup;
 use crate::spelled::{after, end_of_line, labelled};
 use crate::switch_lines::switches;
-use of_types::Octets;
+use of_types::{Items, Octets};
+use rv_base::Journal;
 use std::alloc::{AllocError, Global};
+use vr_log::Entries;
 
 /// The most bytes of a report.
 pub const REPORT_LIMIT: usize = 268_435_456;
@@ -52,6 +54,44 @@ fn sum_words(alloc: Global, entries: usize, switches: &[Told]) -> Result<Octets,
     Ok(words)
 }
 
+/// The turns of the script and of the closing, behind the lines of these switches.
+fn turns<'a>(
+    alloc: Global,
+    entries: usize,
+    switches: &[Told],
+    bytes: &'a [u8],
+) -> Result<((u64, u64), &'a [u8]), Broken>
+    ensures { GivesLines (λ x. (x.0, x.1.now)) result (line_at bytes.now (last_line_at (report.sum_words entries switches.now) bytes.now)) }
+{
+    let sums = sum_words(alloc, entries, switches)?;
+    on_line(bytes, last_line(sums.as_slice(), bytes))
+}
+
+/// The journal and the log.
+#[tactic(auto, unfolding(crate::specs::Reading::history_at))]
+fn history(alloc: Global, bytes: &[u8]) -> Result<((Journal<Octets>, Entries), &[u8]), Broken>
+    ensures { GivesLines (λ x. (x.0, x.1.now)) result (history_at bytes.now) }
+{
+    let (journal, rest) = journal(alloc, bytes)?;
+    let (log, rest) = log(alloc, rest)?;
+    Ok(((journal, log), rest))
+}
+
+/// So many switches, and the turns. The log has so many entries.
+#[tactic(auto, unfolding(crate::specs::Reading::outcome_at))]
+fn outcome(
+    alloc: Global,
+    count: usize,
+    entries: usize,
+    bytes: &[u8],
+) -> Result<((Items<Told>, (u64, u64)), &[u8]), Broken>
+    ensures { GivesLines (λ x. (x.0, x.1.now)) result (outcome_at count entries bytes.now) }
+{
+    let (switches, rest) = switches(alloc, count, bytes)?;
+    let (turns, rest) = turns(alloc, entries, switches.as_slice(), rest)?;
+    Ok(((switches, turns), rest))
+}
+
 /// The record that the front of these bytes is the text of, and what comes behind it.
 #[tactic(auto, unfolding(crate::specs::Reading::record_at))]
 fn record(alloc: Global, bytes: &[u8]) -> Result<(Record, &[u8]), Broken>
@@ -59,11 +99,8 @@ fn record(alloc: Global, bytes: &[u8]) -> Result<(Record, &[u8]), Broken>
 {
     let rest = on_line(bytes, first_line(bytes))?;
     let (setup, rest) = setup(alloc, rest)?;
-    let (journal, rest) = journal(alloc, rest)?;
-    let (log, rest) = log(alloc, rest)?;
-    let (switches, rest) = switches(alloc, setup.ports.len(), rest)?;
-    let sums = sum_words(alloc, log.len(), switches.as_slice())?;
-    let ((script, closing), rest) = on_line(rest, last_line(sums.as_slice(), rest))?;
+    let ((journal, log), rest) = history(alloc, rest)?;
+    let ((switches, (script, closing)), rest) = outcome(alloc, setup.ports.len(), log.len(), rest)?;
     Ok((
         Record {
             setup,

@@ -1,7 +1,7 @@
 //! The lines of the switches as they are read.
 ghost use Rattle.std.specs.Prelude.{◌≡◌};
 ghost use Rattle.report.specs.Lines.{GivesLines};
-ghost use Rattle.report.specs.OneLine.{role_words_at, of_at, switch_line_at};
+ghost use Rattle.report.specs.OneLine.{role_words_at, of_at, switch_counts_at, switch_line_at, executed_words_at};
 ghost use Rattle.report.specs.Reading.{told_at, switches_at};
 ghost use Rattle.report.specs.Spelled.{Gives};
 
@@ -57,14 +57,16 @@ fn is_of(switch: usize, bytes: &[u8]) -> Result<&[u8], Misfit>
     }
 }
 
-#[tactic(auto, unfolding(crate::specs::OneLine::switch_line_at))]
-fn switch_line(switch: usize, bytes: &[u8]) -> Result<(SwitchLine, &[u8]), Misfit>
-    ensures { Gives (λ x. (x.0, x.1.now)) result (switch_line_at switch bytes.now) }
+/// The counts, behind the generation, the master and the life.
+#[tactic(auto, unfolding(crate::specs::OneLine::switch_counts_at))]
+fn switch_counts(
+    role: (Option<u64>, Option<u8>, u32),
+    bytes: &[u8],
+) -> Result<(SwitchLine, &[u8]), Misfit>
+    ensures { Gives (λ x. (x.0, x.1.now)) result (switch_counts_at role bytes.now) }
 {
-    let rest = after(b"switch", bytes)?;
-    let rest = is_of(switch, rest)?;
-    let ((generation, master, life), rest) = role_words(rest)?;
-    let (events, rest) = labelled(b"events", rest)?;
+    let (generation, master, life) = role;
+    let (events, rest) = labelled(b"events", bytes)?;
     let (held, rest) = labelled(b"held", rest)?;
     let (executed, rest) = labelled(b"executed", rest)?;
     let (rows, rest) = labelled(b"rows", rest)?;
@@ -85,6 +87,16 @@ fn switch_line(switch: usize, bytes: &[u8]) -> Result<(SwitchLine, &[u8]), Misfi
     ))
 }
 
+#[tactic(auto, unfolding(crate::specs::OneLine::switch_line_at))]
+fn switch_line(switch: usize, bytes: &[u8]) -> Result<(SwitchLine, &[u8]), Misfit>
+    ensures { Gives (λ x. (x.0, x.1.now)) result (switch_line_at switch bytes.now) }
+{
+    let rest = after(b"switch", bytes)?;
+    let rest = is_of(switch, rest)?;
+    let (role, rest) = role_words(rest)?;
+    switch_counts(role, rest)
+}
+
 impl CountedLine for Event {
     ghost use Rattle.report.specs.OneLine.{event_at};
 
@@ -102,6 +114,29 @@ impl CountedLine for Event {
     }
 }
 
+/// A command, behind the number of its switch.
+#[tactic(auto, unfolding(crate::specs::OneLine::executed_words_at))]
+fn executed_words(alloc: Global, bytes: &[u8]) -> Result<(Executed, &[u8]), Misfit>
+    ensures { Gives (λ x. (x.0, x.1.now)) result (executed_words_at bytes.now) }
+{
+    let (life, rest) = number32(bytes)?;
+    let (number, rest) = number64(rest)?;
+    let (generation, rest) = number64(rest)?;
+    let (from, rest) = controller(rest)?;
+    let (order, rest) = order(alloc, rest)?;
+    let rest = end_of_line(rest)?;
+    Ok((
+        Executed {
+            life,
+            number,
+            generation,
+            from,
+            order,
+        },
+        rest,
+    ))
+}
+
 impl CountedLine for Executed {
     ghost use Rattle.report.specs.OneLine.{executed_at};
 
@@ -111,22 +146,7 @@ impl CountedLine for Executed {
     fn read_line(alloc: Global, switch: usize, bytes: &[u8]) -> Result<(Executed, &[u8]), Misfit> {
         let rest = after(b"executed", bytes)?;
         let rest = is_of(switch, rest)?;
-        let (life, rest) = number32(rest)?;
-        let (number, rest) = number64(rest)?;
-        let (generation, rest) = number64(rest)?;
-        let (from, rest) = controller(rest)?;
-        let (order, rest) = order(alloc, rest)?;
-        let rest = end_of_line(rest)?;
-        Ok((
-            Executed {
-                life,
-                number,
-                generation,
-                from,
-                order,
-            },
-            rest,
-        ))
+        executed_words(alloc, rest)
     }
 }
 
@@ -159,16 +179,26 @@ fn told(alloc: Global, switch: usize, bytes: &[u8]) -> Result<(Told, &[u8]), Bro
     ensures { GivesLines (λ x. (x.0, x.1.now)) result (told_at switch bytes.now) }
 {
     let (line, rest) = on_line(bytes, switch_line(switch, bytes))?;
-    let (events, rest) = read_each(alloc, switch, line.events, rest)?;
-    let (executed, rest) = read_each(alloc, switch, line.executed, rest)?;
-    let (rows, rest) = read_each(alloc, switch, line.rows, rest)?;
+    let SwitchLine {
+        generation,
+        master,
+        life,
+        events,
+        held,
+        executed,
+        rows,
+        sent,
+    } = line;
+    let (events, rest) = read_each(alloc, switch, events, rest)?;
+    let (executed, rest) = read_each(alloc, switch, executed, rest)?;
+    let (rows, rest) = read_each(alloc, switch, rows, rest)?;
     Ok((
         Told {
-            generation: line.generation,
-            master: line.master,
-            life: line.life,
-            held: line.held,
-            sent: line.sent,
+            generation,
+            master,
+            life,
+            held,
+            sent,
             events,
             executed,
             rows,

@@ -41,7 +41,7 @@ use Rattle.scenario.specs.Limits.{given, is_within, once, only_if, is_port, is_p
 use Rattle.scenario.proofs.Turns.{only_if_keeps, turn_is}
 use Rattle.wires.specs.Wires.{is_taken}
 use Rattle.wires.proofs.Apart.{same_end, same_end_sym, apart_link, free_is, not_true}
-use Rattle.scenario.specs.Scenario.{Gives, HasView, steps_within, scenario_within, IsScenario}
+use Rattle.scenario.specs.Scenario.{Gives, HasView, steps_within, setup_within, scenario_within, IsScenario}
 
 bind_ok : {A B : Type 0} (r : Result A Fault) (next : A → Result B Fault) (y : B) → (r >>= next) ≡ Ok y → (x : A) × (r ≡ Ok x) × (next x ≡ Ok y)
 bind_ok (Ok x) next y e = (x, refl, e)
@@ -293,17 +293,14 @@ only_if_found true x y e = (refl, cc)
 only_if_found false x y e = absurd cc
 
 module _ (w : Written) where
-  abbrev behind_deny : ℕ → List ℕ → List Link → List Rule → Result Scenario Fault
-  behind_deny controllers ports links deny =
-      steps_within controllers ports w.steps >>= (λ steps. Ok (record { setup = record { controllers = controllers; ports = ports; links = links; deny = deny }; steps = steps }))
+  abbrev behind_links : ℕ → List ℕ → List Link → Result Setup Fault
+  behind_links controllers ports links =
+      each_alone Limit place.Deny rule_within w.deny >>= (λ deny. Ok (record { controllers = controllers; ports = ports; links = links; deny = deny }))
 
-  abbrev behind_links : ℕ → List ℕ → List Link → Result Scenario Fault
-  behind_links controllers ports links = each_alone Limit place.Deny rule_within w.deny >>= behind_deny controllers ports links
-
-  abbrev behind_ports : ℕ → List ℕ → Result Scenario Fault
+  abbrev behind_ports : ℕ → List ℕ → Result Setup Fault
   behind_ports controllers ports = each Limit place.Link (link_within ports) [] w.links >>= behind_links controllers ports
 
-  abbrev behind_top : ℕ → Result Scenario Fault
+  abbrev behind_top : ℕ → Result Setup Fault
   behind_top controllers = each_alone Limit place.Switch ports_within w.switches >>= behind_ports controllers
 
   setup_is : (controllers : ℕ) (ports : List ℕ) (links : List Link) (deny : List Rule) → IsSmall w → w.controllers ≡ controllers →
@@ -331,21 +328,30 @@ module _ (w : Written) where
         rules = at_ok (λ found. AllByRecursion (λ r. IsRule r) found) (each_alone Limit place.Deny rule_within w.deny) deny deny_e (each_keeps (λ found. AllByRecursion (λ r. IsRule r) found) Limit place.Deny (λ before. rule_within) rules_are [] w.deny tt);
       }
 
-  -- what is within the limits is a scenario
+  -- what is within the limits is a setup, and a scenario
+  setup_found : IfOk (setup_within w) IsSetup
+  unfolding setup_within
+  setup_found =
+      keeps_then IsSetup (found_at Limit place.Top (only_if (is_within_limits w) w.controllers)) behind_top (λ controllers top.
+      let passed = only_if_found (is_within_limits w) w.controllers controllers (found_ok Limit place.Top (only_if (is_within_limits w) w.controllers) controllers top) in
+      keeps_then IsSetup (each_alone Limit place.Switch ports_within w.switches) (behind_ports controllers) (λ ports ports_e.
+      keeps_then IsSetup (each Limit place.Link (link_within ports) [] w.links) (behind_links controllers ports) (λ links links_e.
+      keeps_then IsSetup (each_alone Limit place.Deny rule_within w.deny) (λ deny. Ok (record { controllers = controllers; ports = ports; links = links; deny = deny })) (λ deny deny_e.
+      setup_is controllers ports links deny (small_is w passed.0) passed.1 ports_e links_e deny_e))))
+
+  abbrev with_steps : Setup → Result Scenario Fault
+  with_steps setup = steps_within setup.controllers setup.ports w.steps >>= (λ steps. Ok (record { setup = setup; steps = steps }))
+
   scenario_is : IfOk (scenario_within w) IsScenario
   unfolding scenario_within
   scenario_is =
-      keeps_then IsScenario (found_at Limit place.Top (only_if (is_within_limits w) w.controllers)) behind_top (λ controllers top.
-      let passed = only_if_found (is_within_limits w) w.controllers controllers (found_ok Limit place.Top (only_if (is_within_limits w) w.controllers) controllers top) in
-      keeps_then IsScenario (each_alone Limit place.Switch ports_within w.switches) (behind_ports controllers) (λ ports ports_e.
-      keeps_then IsScenario (each Limit place.Link (link_within ports) [] w.links) (behind_links controllers ports) (λ links links_e.
-      keeps_then IsScenario (each_alone Limit place.Deny rule_within w.deny) (behind_deny controllers ports links) (λ deny deny_e.
-      keeps_then IsScenario (steps_within controllers ports w.steps) (λ steps. Ok (record { setup = record { controllers = controllers; ports = ports; links = links; deny = deny }; steps = steps })) (λ steps steps_e.
+      keeps_then IsScenario (setup_within w) with_steps (λ setup setup_e.
+      keeps_then IsScenario (steps_within setup.controllers setup.ports w.steps) (λ steps. Ok (record { setup = setup; steps = steps })) (λ steps steps_e.
       record {
-        setup = setup_is controllers ports links deny (small_is w passed.0) passed.1 ports_e links_e deny_e;
-        actors = turns_of (record { controllers = controllers; ports = ports; links = links; deny = deny }) w.steps steps steps_e;
-        views = views_of (record { controllers = controllers; ports = ports; links = links; deny = deny }) w.steps steps steps_e;
-      })))))
+        setup = at_ok IsSetup (setup_within w) setup setup_e setup_found;
+        actors = turns_of setup w.steps steps steps_e;
+        views = views_of setup w.steps steps steps_e;
+      }))
 
   pub given_is : (read : Result Scenario ScenarioFault) → Gives read (scenario_within w) → IfOk read IsScenario
   given_is (Ok scenario) gives = at_ok IsScenario (scenario_within w) scenario gives scenario_is

@@ -4,6 +4,7 @@ use Rattle.std.specs.List.{AllByRecursion, flat_map}
 use Rattle.std.specs.Str.{is_utf8}
 use Rattle.serde_json.specs.Data.{Data}
 use Rattle.serde_json.specs.Read.{read}
+use Rattle.of_types.specs.declared.setup.Setup.{Setup}
 use Rattle.of_types.specs.Setups.{IsSetup}
 use Rattle.rv_base.specs.declared.journal.Local.TheVariants as local
 use Rattle.rv_base.specs.declared.journal.Turn.{Turn}
@@ -30,15 +31,21 @@ steps_within controllers ports steps = do
   timed ← each Limit Step (λ before. turn_within controllers ports (restarts_of before)) [] steps
   Ok (flat_map repeated timed)
 
--- what is written within the limits, or the first fault of a limit
-unfoldable pub scenario_within : Written → Result Scenario Fault
-scenario_within w = do
+-- the setup that is written within the limits, or the first fault of a limit of it or of the whole
+unfoldable pub setup_within : Written → Result Setup Fault
+setup_within w = do
   controllers ← found_at Limit Top (only_if (is_within_limits w) w.controllers)
   ports ← each_alone Limit Switch ports_within w.switches
   links ← each Limit Link (link_within ports) [] w.links
   deny ← each_alone Limit Deny rule_within w.deny
-  steps ← steps_within controllers ports w.steps
-  Ok (record { setup = record { controllers = controllers; ports = ports; links = links; deny = deny }; steps = steps })
+  Ok (record { controllers = controllers; ports = ports; links = links; deny = deny })
+
+-- what is written within the limits, or the first fault of a limit
+unfoldable pub scenario_within : Written → Result Scenario Fault
+scenario_within w = do
+  setup ← setup_within w
+  steps ← steps_within setup.controllers setup.ports w.steps
+  Ok (record { setup = setup; steps = steps })
 
 -- the most bytes of a scenario
 abbrev pub scenario_limit : ℕ

@@ -1,5 +1,5 @@
 //! How each part of a scenario is written. What has another shape is `None`.
-ghost use Rattle.std.specs.Prelude.{◌≡◌, IfOk, option_map};
+ghost use Rattle.std.specs.Prelude.{◌≡◌, IfOk, map, option_map};
 ghost use Rattle.std.specs.List.{list_any};
 ghost use Rattle.std.specs.Result.{result_ok};
 ghost use Rattle.hex.specs.Hex.{decode_of};
@@ -95,10 +95,10 @@ pub fn link_of(value: &Value) -> Option<WrittenLink>
 }
 
 /// A prefix: four bytes of an address and a length.
-fn prefix_at(name: &str, value: &Value) -> Option<WrittenPrefix>
-    ensures { result ≡ grammar.prefix_at name.now (view value.now) }
+fn prefix_of(values: &[Value]) -> Option<WrittenPrefix>
+    ensures { result ≡ grammar.five_numbers (map view values.now) }
 {
-    let [first, second, third, fourth, length] = list_at(name, value)? else {
+    let [first, second, third, fourth, length] = values else {
         return None;
     };
     Some(WrittenPrefix {
@@ -110,6 +110,13 @@ fn prefix_at(name: &str, value: &Value) -> Option<WrittenPrefix>
         ],
         length: number(length)?,
     })
+}
+
+/// The prefix at a name of an object.
+fn prefix_at(name: &str, value: &Value) -> Option<WrittenPrefix>
+    ensures { result ≡ grammar.prefix_at name.now (view value.now) }
+{
+    prefix_of(list_at(name, value)?)
 }
 
 /// A number, or none where it is left out.

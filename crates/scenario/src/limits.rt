@@ -4,7 +4,7 @@ ghost use Rattle.scenario.specs.declared.scenario.FaultKind.TheVariants as kind;
 ghost use Rattle.scenario.specs.declared.scenario.FaultPlace.TheVariants as place;
 ghost use Rattle.scenario.specs.Faults.{each, each_alone};
 ghost use Rattle.scenario.specs.Limits as limits;
-ghost use Rattle.scenario.specs.Scenario.{Gives, scenario_within, steps_within};
+ghost use Rattle.scenario.specs.Scenario.{Gives, scenario_within, setup_within, steps_within};
 
 use crate::scenario::{FaultKind, FaultPlace, Scenario, ScenarioFault, Steps};
 use crate::written::{
@@ -428,26 +428,38 @@ fn steps_within(
     Ok(steps)
 }
 
-/// What is written within its limits.
-#[tactic(auto, unfolding(crate::specs::Scenario::scenario_within))]
-pub fn scenario_within(alloc: Global, written: Written) -> Result<Scenario, ScenarioFault>
-    ensures { Gives result (scenario_within written) }
+/// The setup of what is written within its limits.
+#[tactic(auto, unfolding(crate::specs::Scenario::setup_within))]
+fn setup_within(alloc: Global, written: &Written) -> Result<Setup, ScenarioFault>
+    ensures exact { Gives result (setup_within written.now) }
+    ensures few { IfOk result (λ setup. length setup.ports ≤ MOST_SWITCHES) }
 {
-    if !is_within_limits(&written) {
+    if !is_within_limits(written) {
         return Err(ScenarioFault::refused(FaultKind::Limit, FaultPlace::Top));
     }
     let controllers = written.controllers as u8;
     let ports = ports_within(alloc, written.switches.as_slice())?;
     let links = links_within(alloc, ports.as_slice(), written.links.as_slice())?;
     let deny = rules_within(alloc, written.deny.as_slice())?;
-    let steps = steps_within(alloc, controllers, ports.as_slice(), written.steps)?;
-    Ok(Scenario {
-        setup: Setup {
-            controllers,
-            ports,
-            links,
-            deny,
-        },
-        steps,
+    Ok(Setup {
+        controllers,
+        ports,
+        links,
+        deny,
     })
+}
+
+/// What is written within its limits.
+#[tactic(auto, unfolding(crate::specs::Scenario::scenario_within))]
+pub fn scenario_within(alloc: Global, written: Written) -> Result<Scenario, ScenarioFault>
+    ensures { Gives result (scenario_within written) }
+{
+    let setup = setup_within(alloc, &written)?;
+    let steps = steps_within(
+        alloc,
+        setup.controllers,
+        setup.ports.as_slice(),
+        written.steps,
+    )?;
+    Ok(Scenario { setup, steps })
 }

@@ -1,8 +1,8 @@
 //! Calls of the program, whose ends are in memory.
-ghost use Rattle.std.specs.Prelude.{◌≡◌, IfOk};
-ghost use Rattle.top_call.specs.Play.{AreFresh};
+ghost use Rattle.std.specs.Prelude.{◌≡◌, ℕ, List, IfOk};
+ghost use Rattle.top_call.specs.Play.{AreChains, AreFresh};
 
-use app_core::Part;
+use app_core::{App, Part};
 use cases::{Answer, Call, ControllerSave};
 use firewall_app::Firewall;
 use learning_app::{Learning, PlainLearning};
@@ -34,11 +34,6 @@ pub const PLAIN: Way = Way {
 
 /// Serves a call in a way. Each controller runs a firewall before a learning.
 pub fn serve(alloc: Global, call: &Call, way: Way) -> Result<Answer, AllocError> {
-    let bytes = Octets::from_slice(alloc, call.input.as_slice())?;
-    let most = way.most.max(1);
-    let mut source = MemorySource::new(bytes, most, listed(alloc, way.failing_read)?);
-    let mut sink = MemorySink::new(alloc, most, listed(alloc, way.failing_write)?);
-    let mut stables = stables(alloc, &call.saves)?;
     let mut chains = Vec::new(alloc);
     'making: for number in 0..(CONTROLLERS * LIVES) as u8 {
         let mut parts: Vec<Box<dyn Part + Send>> = Vec::new(alloc);
@@ -51,6 +46,23 @@ pub fn serve(alloc: Global, call: &Call, way: Way) -> Result<Answer, AllocError>
             push_life(&mut chains, number, parts)?;
         }
     }
+    serve_chains(alloc, call, way, chains)
+}
+
+/// Serves a call in a way, by these applications.
+fn serve_chains<A: App>(
+    alloc: Global,
+    call: &Call,
+    way: Way,
+    chains: Vec<A>,
+) -> Result<Answer, AllocError>
+    requires { (kinds : List ℕ) × AreChains A.law kinds chains.items }
+{
+    let bytes = Octets::from_slice(alloc, call.input.as_slice())?;
+    let most = way.most.max(1);
+    let mut source = MemorySource::new(bytes, most, listed(alloc, way.failing_read)?);
+    let mut sink = MemorySink::new(alloc, most, listed(alloc, way.failing_write)?);
+    let mut stables = stables(alloc, &call.saves)?;
     let status = ravana(
         alloc,
         &call.words,

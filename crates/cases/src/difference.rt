@@ -124,6 +124,63 @@ fn write_lines<W: fmt::Write>(
     write_line(f, wanted)
 }
 
+/// A line that differs, by its number.
+fn write_numbered<W: fmt::Write>(
+    f: &mut fmt::Formatter<W>,
+    number: usize,
+    found: &Option<String>,
+    wanted: &Option<String>,
+) -> fmt::Result {
+    write!(f, "line {number} is ")?;
+    write_lines(f, found, wanted)
+}
+
+/// The last line, where it differs.
+fn write_last<W: fmt::Write>(
+    f: &mut fmt::Formatter<W>,
+    found: &Option<String>,
+    wanted: &Option<String>,
+) -> fmt::Result {
+    write!(f, "the last line is ")?;
+    write_lines(f, found, wanted)
+}
+
+/// The first of lines that are not shown.
+fn write_hidden<W: fmt::Write>(f: &mut fmt::Formatter<W>, first: &Option<String>) -> fmt::Result {
+    write!(f, "not shown, or not with what stands behind it: ")?;
+    write_line(f, first)
+}
+
+/// A status that differs.
+fn write_status<W: fmt::Write>(f: &mut fmt::Formatter<W>, found: u8, wanted: u8) -> fmt::Result {
+    write!(f, "status {found}, wanted {wanted}")
+}
+
+/// A number of failed saves that differs.
+fn write_saves<W: fmt::Write>(f: &mut fmt::Formatter<W>, found: u64, wanted: u64) -> fmt::Result {
+    write!(f, "{found} saves failed, wanted {wanted}")
+}
+
+/// The read or the write that failed, where a call ends otherwise for it.
+fn write_failing<W: fmt::Write>(
+    f: &mut fmt::Formatter<W>,
+    most: usize,
+    call: &str,
+    number: usize,
+) -> fmt::Result {
+    write!(f, "in pieces of {most} bytes, where {call} {number} fails")
+}
+
+/// A line that is not of the grammar.
+fn write_refused<W: fmt::Write>(
+    f: &mut fmt::Formatter<W>,
+    number: usize,
+    line: &Option<String>,
+) -> fmt::Result {
+    write!(f, "line {number} is not of the grammar: ")?;
+    write_line(f, line)
+}
+
 impl fmt::Display for Difference {
     fn fmt<W: fmt::Write>(&self, f: &mut fmt::Formatter<W>) -> fmt::Result {
         match self {
@@ -131,37 +188,19 @@ impl fmt::Display for Difference {
                 number,
                 found,
                 wanted,
-            } => {
-                write!(f, "line {number} is ")?;
-                write_lines(f, found, wanted)
-            }
-            Difference::LastLine { found, wanted } => {
-                write!(f, "the last line is ")?;
-                write_lines(f, found, wanted)
-            }
-            Difference::NotShown { first } => {
-                write!(f, "not shown, or not with what stands behind it: ")?;
-                write_line(f, first)
-            }
+            } => write_numbered(f, *number, found, wanted),
+            Difference::LastLine { found, wanted } => write_last(f, found, wanted),
+            Difference::NotShown { first } => write_hidden(f, first),
             Difference::NotText => write!(f, "no text is written"),
-            Difference::Status { found, wanted } => write!(f, "status {found}, wanted {wanted}"),
-            Difference::FailedSaves { found, wanted } => {
-                write!(f, "{found} saves failed, wanted {wanted}")
-            }
+            Difference::Status { found, wanted } => write_status(f, *found, *wanted),
+            Difference::FailedSaves { found, wanted } => write_saves(f, *found, *wanted),
             Difference::Audit => write!(f, "the audit of its report differs"),
             Difference::Lists { from } => write!(f, "with lists from controller {from} on"),
             Difference::Pieces { most } => write!(f, "in pieces of {most} bytes"),
-            Difference::FailingRead { most, number } => {
-                write!(f, "in pieces of {most} bytes, where read {number} fails")
-            }
-            Difference::FailingWrite { most, number } => {
-                write!(f, "in pieces of {most} bytes, where write {number} fails")
-            }
+            Difference::FailingRead { most, number } => write_failing(f, *most, "read", *number),
+            Difference::FailingWrite { most, number } => write_failing(f, *most, "write", *number),
             Difference::File { path } => write!(f, "can't be read: {path}"),
-            Difference::Grammar { number, line } => {
-                write!(f, "line {number} is not of the grammar: ")?;
-                write_line(f, line)
-            }
+            Difference::Grammar { number, line } => write_refused(f, *number, line),
             Difference::Row(fault) => write!(f, "{fault}"),
             Difference::OutOfMemory => write!(f, "out of memory"),
         }

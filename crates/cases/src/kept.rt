@@ -5,6 +5,7 @@ use crate::case::Case;
 use crate::difference::{Difference, shown};
 use crate::files::{read_bytes, read_text};
 use crate::wanted::Wanted;
+use of_types::Octets;
 use std::alloc::{AllocError, Global};
 use std::rt::Files;
 
@@ -35,31 +36,72 @@ pub fn read_case<R: Files + AllocGlobal>(
     kind: Kind,
     path: &str,
 ) -> Result<Case, Difference> {
-    let alloc = rt.alloc();
+    let call = read_call(rt, kind, path)?;
+    let wanted = read_wanted(rt, path)?;
+    Ok(Case {
+        call,
+        wanted,
+        lists: None,
+        pieces: Vec::new(rt.alloc()),
+    })
+}
+
+/// The call of a case.
+fn read_call<R: Files + AllocGlobal>(rt: &R, kind: Kind, path: &str) -> Result<Call, Difference> {
     let (words, ending) = kind.reads();
     let saves = match kind {
-        Kind::Saves => {
-            let text = read_text(rt, path_of(alloc, path, ".saves")?.as_str())?;
-            saves_of(alloc, text.as_str())?
-        }
-        Kind::Sim | Kind::Audit => Vec::new(alloc),
+        Kind::Saves => read_saves(rt, path)?,
+        Kind::Sim | Kind::Audit => Vec::new(rt.alloc()),
     };
-    Ok(Case {
-        call: Call {
-            words: words_of(alloc, words)?,
-            input: read_bytes(rt, path_of(alloc, path, ending)?.as_str())?,
-            saves,
-        },
-        wanted: Wanted {
-            status: read_status(rt, path_of(alloc, path, ".status")?.as_str())?,
-            failed_saves: None,
-            whole: Some(read_text(rt, path_of(alloc, path, ".out")?.as_str())?),
-            last: None,
-            passages: Vec::new(alloc),
-        },
-        lists: None,
-        pieces: Vec::new(alloc),
+    let words = words_of(rt.alloc(), words)?;
+    let input = read_input(rt, path, ending)?;
+    Ok(Call {
+        words,
+        input,
+        saves,
     })
+}
+
+/// What the call reads.
+fn read_input<R: Files + AllocGlobal>(
+    rt: &R,
+    path: &str,
+    ending: &str,
+) -> Result<Octets, Difference> {
+    let path = path_of(rt.alloc(), path, ending)?;
+    read_bytes(rt, path.as_str())
+}
+
+/// The saves that fail in the call.
+fn read_saves<R: Files + AllocGlobal>(
+    rt: &R,
+    path: &str,
+) -> Result<Vec<ControllerSave>, Difference> {
+    let text = read_part(rt, path, ".saves")?;
+    saves_of(rt.alloc(), text.as_str())
+}
+
+/// What is wanted of the call.
+fn read_wanted<R: Files + AllocGlobal>(rt: &R, path: &str) -> Result<Wanted, Difference> {
+    let status = read_status(rt, path)?;
+    let whole = read_part(rt, path, ".out")?;
+    Ok(Wanted {
+        status,
+        failed_saves: None,
+        whole: Some(whole),
+        last: None,
+        passages: Vec::new(rt.alloc()),
+    })
+}
+
+/// The text of one of a case's files.
+fn read_part<R: Files + AllocGlobal>(
+    rt: &R,
+    path: &str,
+    ending: &str,
+) -> Result<String, Difference> {
+    let path = path_of(rt.alloc(), path, ending)?;
+    read_text(rt, path.as_str())
 }
 
 /// The saves that the lines of a text tell.
@@ -84,13 +126,12 @@ fn path_of(alloc: Global, path: &str, ending: &str) -> Result<String, AllocError
     Ok(whole)
 }
 
-/// The status that a file holds.
+/// The status that is wanted.
 fn read_status<R: Files + AllocGlobal>(rt: &R, path: &str) -> Result<u8, Difference> {
-    let text = read_text(rt, path)?;
+    let path = path_of(rt.alloc(), path, ".status")?;
+    let text = read_text(rt, path.as_str())?;
     match text.as_str().trim_end().parse() {
         Ok(status) => Ok(status),
-        Err(_) => Err(Difference::File {
-            path: String::from_str(rt.alloc(), path)?,
-        }),
+        Err(_) => Err(Difference::File { path }),
     }
 }

@@ -138,9 +138,11 @@ impl<'a> Row<'a> {
         }
     }
 
-    /// The case of the row.
-    fn into_case<R: Files + AllocGlobal>(self, rt: &R) -> Result<Case, Difference> {
-        let alloc = rt.alloc();
+    /// The status, what the call reads, and all that it is to write.
+    fn read_ends<R: Files + AllocGlobal>(
+        &self,
+        rt: &R,
+    ) -> Result<(u8, Octets, Option<String>), Difference> {
         let Some(status) = self.status else {
             return Err(Difference::Row("the row has no status"));
         };
@@ -149,14 +151,25 @@ impl<'a> Row<'a> {
         if whole.is_none() && self.last.is_none() && self.passages.is_empty() {
             return Err(Difference::Row("the row doesn't tell what is written"));
         }
+        Ok((status, input, whole))
+    }
+
+    /// The words of the call, and the last line that it is to write.
+    fn copy_lines(&self, alloc: Global) -> Result<(Vec<String>, Option<String>), AllocError> {
         let words = match self.words {
             Some(line) => words_of(alloc, line)?,
             None => Vec::new(alloc),
         };
-        let last = match self.last {
-            Some(line) => Some(String::from_str(alloc, line)?),
-            None => None,
-        };
+        match self.last {
+            Some(line) => Ok((words, Some(String::from_str(alloc, line)?))),
+            None => Ok((words, None)),
+        }
+    }
+
+    /// The case of the row.
+    fn into_case<R: Files + AllocGlobal>(self, rt: &R) -> Result<Case, Difference> {
+        let (status, input, whole) = self.read_ends(rt)?;
+        let (words, last) = self.copy_lines(rt.alloc())?;
         Ok(Case {
             call: Call {
                 words,

@@ -1,0 +1,32 @@
+-- How a job ended, for what the journal tells.
+use Rattle.std.proofs.Common.{◌<◌, ◌⊎◌, inl, inr, ℕ, List, [], refl, subst, arith}
+use Rattle.std.specs.Prelude.{Option}
+use Rattle.rv_base.specs.declared.journal.JournalEntry.{JournalEntry}
+use Rattle.rv_base.specs.declared.journal.Letter.{Letter}
+use Rattle.rv_base.specs.declared.journal.Packet.{Packet}
+use Rattle.rv_base.specs.declared.journal.Turn.{Turn}
+use Rattle.rv_base.specs.Limits.{bytes_limit, letters_limit}
+use Rattle.rv_base.specs.Pool.{past}
+use Rattle.rv_base.specs.Turns.{IsFull, IsWithinLimits}
+use Rattle.running.specs.declared.job.Job.{Job}
+use Rattle.running.specs.Jobs.{HasDone, HasEnded, IsStuck}
+
+module _ {B P : Type 0} (plays : List (JournalEntry B × Option (Packet B)) → P → List (Letter B) → Type 0) (size : B → ℕ) (steps : List Turn) (job : Job B P) where
+  pub done_ends : HasDone plays steps job → HasEnded plays steps job
+  done_ends h = record { number = _; on = h.on; all = λ none. refl }
+
+  -- an empty outbox has room
+  never_stuck : (bytes letters : ℕ) → IsWithinLimits size (past job.place.seen) → IsFull size (past job.place.seen) [] bytes letters → ⊥
+  never_stuck bytes letters within full =
+      by_limit full.passes
+    where
+      by_limit : (bytes_limit < bytes) ⊎ (letters_limit < letters) → ⊥
+      by_limit (inl more) = let b = within.bytes in let is = full.bytes_are in omega (arith, b, is, more)
+      by_limit (inr more) = let l = within.letters in let is = full.letters_are in omega (arith, l, is, more)
+
+  pub stuck_ends : (bytes letters : ℕ) → IsWithinLimits size (past job.place.seen) → IsStuck plays size steps bytes letters job → HasEnded plays steps job
+  stuck_ends bytes letters within h = record {
+    number = h.number;
+    on = h.on;
+    all = λ none. absurd (never_stuck bytes letters within (subst (λ o. IsFull size (past job.place.seen) o bytes letters) none h.full));
+  }

@@ -1,0 +1,141 @@
+-- How an actor goes on to its next step, by what its call of the board tells.
+use Rattle.std.proofs.Common.{◌≡◌, ℕ, true, zero, Bool, List, [], ◌∷◌, ◌++◌, drop, refl, sym, ◌∙◌, ap, subst, Result, Ok, Err, IfOk}
+use Rattle.std.specs.Prelude.{Option, Some, None, IfSome}
+use Rattle.std.proofs.lemmas.List.{reverse-append}
+use Rattle.rv_base.specs.declared.journal.Actor.{Actor}
+use Rattle.rv_base.specs.declared.journal.JournalEntry.{JournalEntry}
+use Rattle.rv_base.specs.declared.journal.Letter.{Letter}
+use Rattle.rv_base.specs.declared.journal.Local.{Local as LocalInput}
+use Rattle.rv_base.specs.declared.journal.Packet.{Packet}
+use Rattle.rv_base.specs.declared.journal.Turn.{Turn}
+use Rattle.rv_base.specs.declared.journal.Turn.TheVariants as turn
+use Rattle.rv_base.specs.declared.place.PacketPlace.{PacketPlace}
+use Rattle.rv_base.specs.Orderly.{IsOrderly}
+use Rattle.rv_base.specs.Part.{drawn, packet_of}
+use Rattle.rv_base.specs.Places.{IsFound, packet_at}
+use Rattle.rv_base.specs.Pool.{past, pick, pool}
+use Rattle.rv_base.specs.Turns.{entry_of, drawn_entry, lost_entry, posting, posted, turn_actor, turn_entries}
+use Rattle.rv_runs.specs.declared.messages.Unsealed.{Unsealed}
+use Rattle.rv_runs.specs.Legal.{FitsTypes}
+use Rattle.rv_runs.specs.Messages.{way_of}
+use Rattle.rv_runs.specs.States.{Sealing, content}
+use Rattle.rv_runs.proofs.Pools.{orderly_before}
+use Rattle.rv_base.proofs.Pools.{Rising-pool, packet_of-at, waiting-at}
+use Rattle.switch_board.specs.Places.{PlaceState}
+use Rattle.switch_board.specs.Calls.{beside, Adds, AddsNothing}
+use Rattle.running.specs.Hearing.{GoesOn, Hears}
+
+-- (these four stand in rv_world.proofs.Drawing, which keeps them to itself)
+picked_packet : {B : Type 0} (size : B → ℕ) (a : Actor) (choice : ℕ) (entries : List (JournalEntry B)) (p : Packet B) → IsOrderly size entries → pick a choice entries ≡ Some p → packet_of p.id (pool entries) ≡ Some p
+picked_packet size a choice entries p orderly is =
+    let at = waiting-at a (pool entries) _ p is in
+    packet_of-at (pool entries) at.0 p (Rising-pool size entries orderly) at.1
+
+record IsPicked {B : Type 0} (journal : List (JournalEntry B)) (place : PacketPlace) (found : Option (Packet B)) : Type 0 where
+  pub packet : Packet B
+  pub is : found ≡ Some packet
+  pub stands : packet_at place journal ≡ Some packet
+  pub from_is : place.from ≡ packet.from
+  pub to_is : place.to ≡ packet.to
+
+picked : {B : Type 0} (journal : List (JournalEntry B)) (place : PacketPlace) (found : Option (Packet B)) → IsFound journal (Some place) found → IsPicked journal place found
+picked journal place None h = absurd h
+picked journal place (Some p) h = record { packet = p; is = refl; stands = h.stands; from_is = h.from_is; to_is = h.to_is }
+
+body_of : {B : Type 0} (o : Option (Packet B)) (p : Packet B) (body : B) → o ≡ Some p → IfSome o (λ q. body ≡ q.body) → body ≡ p.body
+body_of o p body is h = subst (λ q. IfSome q (λ r. body ≡ r.body)) is h
+
+module _ {B I : Type 0} (sealing : Sealing B) (hears : Actor → Unsealed → I) (locally : LocalInput → I) (p q : PlaceState B) (letters : List (Letter B)) (step : Turn) where
+  -- the newest entries of a turn come first
+  turned : (before : List (JournalEntry B)) → past (turn_entries sealing.size letters step before) ≡ entry_of step (posted sealing.size (turn_actor step) letters before) ∷ posting sealing.size (turn_actor step) letters before
+  turned before = by_post letters
+    where
+      by_post : (ls : List (Letter B)) → past (turn_entries sealing.size ls step before) ≡ entry_of step (posted sealing.size (turn_actor step) ls before) ∷ posting sealing.size (turn_actor step) ls before
+      by_post [] = refl
+      by_post (l ∷ ls) = refl
+
+  -- a call of the board went on to a step
+  pub goes_on : (input : Option I) → turn_actor step ≡ p.actor → (a : Adds p q (turn_entries sealing.size letters step)) →
+      (let before = posted sealing.size p.actor letters (past a.met) in Hears sealing hears locally (entry_of step before) (drawn (entry_of step before) before) input) →
+      GoesOn sealing hears locally p q letters step input
+  goes_on input mine a heard = record {
+    met = a.met;
+    later = a.later;
+    mine = a.mine;
+    others = [];
+    seen = ap past a.seen ∙ reverse-append a.met (turn_entries sealing.size letters step (past a.met)) ∙ ap (λ l. l ++ past a.met) (turned (past a.met))
+        ∙ ap (λ (x : Actor). entry_of step (posted sealing.size x letters (past a.met)) ∷ posted sealing.size x letters (past a.met)) mine;
+    own = a.own ∙ ap (λ l. beside l (past a.met) ++ p.own) (turned (past a.met))
+        ∙ ap (λ (x : Actor). let before = posted sealing.size x letters (past a.met) in
+        (entry_of step before, drawn (entry_of step before) before) ∷ beside (posting sealing.size x letters (past a.met)) (past a.met) ++ p.own) mine;
+    hears_it = heard;
+  }
+
+  -- and then looked at the journal once more
+  pub still_on : (r : PlaceState B) (input : Option I) → GoesOn sealing hears locally p q letters step input → AddsNothing q r → GoesOn sealing hears locally p r letters step input
+  still_on r input g n = record {
+    met = g.met;
+    later = g.later;
+    mine = g.mine;
+    others = past n.later.0 ++ g.others;
+    seen = ap past n.later.1 ∙ reverse-append q.seen n.later.0 ∙ ap (λ l. past n.later.0 ++ l) g.seen ∙ sym (Rattle.std.proofs.Common.append_assoc (past n.later.0) g.others _);
+    own = n.own ∙ g.own;
+    hears_it = g.hears_it;
+  }
+
+module _ {B I : Type 0} (sealing : Sealing B) (hears : Actor → Unsealed → I) (locally : LocalInput → I) where
+  lost_hears : (a : Actor) (o : Option (Packet B)) (before : List (JournalEntry B)) → Hears sealing hears locally (lost_entry a o) (drawn (lost_entry a o) before) None
+  lost_hears a None before = refl
+  lost_hears a (Some p) before = refl
+
+  -- nothing is heard at a loss
+  pub loses_on : (p q : PlaceState B) (letters : List (Letter B)) (choice : ℕ) → Adds p q (turn_entries sealing.size letters (turn.Lose p.actor choice)) → GoesOn sealing hears locally p q letters (turn.Lose p.actor choice) None
+  loses_on p q letters choice a = goes_on sealing hears locally p q letters (turn.Lose p.actor choice) None refl a
+      (let before = posted sealing.size p.actor letters (past a.met) in lost_hears p.actor (pick p.actor choice before) before)
+
+  -- a local input is
+  pub local_on : (p q : PlaceState B) (letters : List (Letter B)) (local : LocalInput) (input : I) → FitsTypes local → input ≡ locally local →
+      Adds p q (turn_entries sealing.size letters (turn.Local p.actor local)) → GoesOn sealing hears locally p q letters (turn.Local p.actor local) (Some input)
+  local_on p q letters local input fits is a = goes_on sealing hears locally p q letters (turn.Local p.actor local) (Some input) refl a (fits, ap (λ i. Some i) is)
+
+  module _ (p q : PlaceState B) (letters : List (Letter B)) (choice : ℕ) (keep : Bool) (a : Adds p q (turn_entries sealing.size letters (turn.Draw p.actor choice keep))) where
+    abbrev before : List (JournalEntry B)
+    before = posted sealing.size p.actor letters (past a.met)
+
+    g : {input : Option I} → Hears sealing hears locally (entry_of (turn.Draw p.actor choice keep) before) (drawn (entry_of (turn.Draw p.actor choice keep) before) before) input → GoesOn sealing hears locally p q letters (turn.Draw p.actor choice keep) input
+    g {input = input} heard = goes_on sealing hears locally p q letters (turn.Draw p.actor choice keep) input refl a heard
+
+    seen_is : drop 1 (past q.seen) ≡ before
+    seen_is = ap (drop 1) (ap past a.seen ∙ reverse-append a.met (turn_entries sealing.size letters (turn.Draw p.actor choice keep) (past a.met)) ∙ ap (λ l. l ++ past a.met) (turned sealing hears locally p q letters (turn.Draw p.actor choice keep) (past a.met)))
+
+    -- nothing is heard where no packet waits
+    pub finds_nothing : IsFound q.seen None (pick p.actor choice (drop 1 (past q.seen))) → GoesOn sealing hears locally p q letters (turn.Draw p.actor choice keep) None
+    finds_nothing found = g (by_pick (pick p.actor choice before) refl (subst (λ l. IsFound q.seen None (pick p.actor choice l)) seen_is found))
+      where
+        by_pick : (o : Option (Packet B)) → pick p.actor choice before ≡ o → IsFound q.seen None (pick p.actor choice before) →
+            Hears sealing hears locally (drawn_entry p.actor keep (pick p.actor choice before)) (drawn (drawn_entry p.actor keep (pick p.actor choice before)) before) None
+        by_pick None is h = rw is refl
+        by_pick (Some x) is h = absurd (subst (λ o. IsFound q.seen None o) is h)
+
+    -- and else what the packet says
+    pub finds : (place : PacketPlace) → IsFound q.seen (Some place) (pick p.actor choice (drop 1 (past q.seen))) → IsOrderly sealing.size (past q.seen) → (body : B) → IfSome (packet_at place q.seen) (λ x. body ≡ x.body) →
+        (input : I) → input ≡ hears place.from (sealing.spelled (way_of place.from place.to) body) → GoesOn sealing hears locally p q letters (turn.Draw p.actor choice keep) (Some input)
+    finds place found orderly body body_is input input_is = g heard
+      where
+        k : IsPicked q.seen place (pick p.actor choice before)
+        k = picked q.seen place (pick p.actor choice before) (subst (λ l. IsFound q.seen (Some place) (pick p.actor choice l)) seen_is found)
+
+        said : sealing.spelled (way_of place.from place.to) body ≡ content sealing k.packet
+        said = ap (λ x. sealing.spelled (way_of x place.to) body) k.from_is ∙ ap (λ x. sealing.spelled (way_of k.packet.from x) body) k.to_is ∙
+            ap (λ x. sealing.spelled (way_of k.packet.from k.packet.to) x) (body_of (packet_at place q.seen) k.packet body k.stands body_is)
+
+        whole : past q.seen ≡ entry_of (turn.Draw p.actor choice keep) before ∷ before
+        whole = ap past a.seen ∙ reverse-append a.met (turn_entries sealing.size letters (turn.Draw p.actor choice keep) (past a.met)) ∙ ap (λ l. l ++ past a.met) (turned sealing hears locally p q letters (turn.Draw p.actor choice keep) (past a.met))
+
+        orderly_then : IsOrderly sealing.size before
+        orderly_then = orderly_before sealing.size (entry_of (turn.Draw p.actor choice keep) before) before (subst (λ l. IsOrderly sealing.size l) whole orderly)
+
+        heard : Hears sealing hears locally (drawn_entry p.actor keep (pick p.actor choice before)) (drawn (drawn_entry p.actor keep (pick p.actor choice before)) before) (Some input)
+        heard =
+            let its = picked_packet sealing.size p.actor choice before k.packet orderly_then k.is in
+            rw (k.is) (k.packet, its, ap (λ i. Some i) (input_is ∙ ap (λ x. hears x (sealing.spelled (way_of place.from place.to) body)) k.from_is ∙ ap (λ x. hears k.packet.from x) said))

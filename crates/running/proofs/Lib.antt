@@ -1,0 +1,16 @@
+pub mod Lists
+pub mod Joining
+pub mod Following
+pub mod Switching
+pub mod Controlling
+pub mod Going
+pub mod Playing
+pub mod Stepping
+pub mod Joined
+pub mod Stops
+pub mod Ends
+pub mod Distinct
+pub mod Starting
+pub mod Stopping
+pub mod Seats
+pub mod Together

@@ -1,0 +1,496 @@
+-- What the ends of all who played at a board tell: a run of the setup, as far as it came.
+use Rattle.std.proofs.Common.{◌≡◌, ◌≤◌, ◌<◌, ◌⊎◌, inl, inr, ℕ, ◌+◌, zero, suc, List, [], ◌∷◌, ◌++◌, length, map, drop, refl, sym, ◌∙◌, ap, subst, arith, length-append}
+use Rattle.std.specs.Prelude.{Option, Some, None, All, Contains, slice_get, slice_index_or}
+use Rattle.std.specs.List.{AllByRecursion, range_with_len, zip}
+use Rattle.std.proofs.lemmas.Option.{get_or_from_slice_get, slice_get-get_or, slice_get_within}
+use Rattle.std.proofs.Math.Seq.{drop-append_seam}
+use Rattle.of_types.specs.declared.setup.Setup.{Setup}
+use Rattle.rv_base.specs.declared.journal.Actor.{Actor}
+use Rattle.rv_base.specs.declared.journal.Actor.TheVariants as actor
+use Rattle.rv_base.specs.declared.journal.JournalEntry.{JournalEntry}
+use Rattle.rv_base.specs.declared.journal.Turn.{Turn}
+use Rattle.rv_base.specs.declared.wire.Stop.{Stop}
+use Rattle.rv_base.specs.declared.wire.Stop.TheVariants.{OutOfMemory, JournalFull}
+use Rattle.rv_base.specs.Actors.{actor_of, IsActor}
+use Rattle.rv_base.specs.Pool.{past}
+use Rattle.rv_base.specs.Stables.{Saving}
+use Rattle.rv_base.proofs.All.{all_append}
+use Rattle.rv_base.proofs.Placing.{slice_get-append}
+use Rattle.of_switch.specs.State.{SwitchState, starting_switch}
+use Rattle.app_core.specs.Law.{AppLaw}
+use Rattle.group_controller.specs.Turns.{Controlling, pair_in, state_of}
+use Rattle.rv_runs.specs.States.{Sealing}
+use Rattle.rv_runs.specs.Legal.{IsLegalPast}
+use Rattle.rv_base.specs.Turns.{IsFull, IsWithinLimits}
+use Rattle.rv_world.specs.World.{AreTold, IsPlayed, PairsStand, SavesTold, resting, results_in}
+use Rattle.switch_board.specs.Places.{fresh, IsPartOf, PlaceState, TableId}
+use Rattle.switch_board.proofs.Lists.{all_reverse}
+use Rattle.running.specs.declared.job.Job.{Job}
+use Rattle.running.specs.declared.run.Played.{Played}
+use Rattle.running.specs.declared.seated.Served.{Served}
+use Rattle.running.specs.declared.task.Task.{Task}
+use Rattle.running.specs.Apart.{BeginsApart, FollowsApart, IsCutFor}
+use Rattle.running.specs.Jobs.{EndsAs, HasEnded, IsSeatedIn}
+use Rattle.running.specs.Playing.{ServedPlays, SwitchPlays, scene_of}
+use Rattle.running.specs.Runs.{actors_up_to, controller_of, first_stop, place_of, player_of, seated, served, stable_of, task_of}
+use Rattle.running.specs.Tasks.{HasRun, IsReady}
+use Rattle.running.specs.Threads.{HaltsApart, HasPlayedApart, IsLeftLegal, StartsApart}
+use Rattle.running.specs.Together.{HavePlayed}
+use Rattle.running.proofs.Ends.{done_ends, stuck_ends}
+use Rattle.running.proofs.Joined as joined
+use Rattle.running.proofs.Lists.{at_number, by_number, drop_mapped, got_behind, got_map, got_zip, map_long, mapped_at, mapped_long, zip_first, zip_second}
+use Rattle.running.proofs.Starting.{job_fresh, served_fresh, switch_fresh}
+use Rattle.running.proofs.Stopping.{AreCalm, HasStopped, are_calm, none_first, none_stopped, was_calm, who_stopped}
+
+plus_none : (n : ℕ) → 0 + n ≡ n
+plus_none n = omega arith
+
+-- the actors of a group, by number
+controller_at : (group count c : ℕ) → c < group → slice_get (actors_up_to group count) c ≡ Some (actor.Controller c)
+controller_at group count c less =
+    slice_get-append (map (λ (n : ℕ). actor.Controller n) (range_with_len 0 group)) (map (λ (n : ℕ). actor.Switch n) (range_with_len 0 count)) c (actor.Controller c)
+    (mapped_at (λ (n : ℕ). actor.Controller n) 0 group c less ∙ ap (λ (n : ℕ). Some (actor.Controller n)) (plus_none c))
+
+all_controllers : (first count bound : ℕ) (setup : Setup) → setup.controllers ≡ bound → first + count ≤ bound → AllByRecursion (IsActor setup) (map (λ (n : ℕ). actor.Controller n) (range_with_len first count))
+all_controllers first zero bound setup is less = tt
+all_controllers first (suc count) bound setup is less = (omega (arith, is, less), all_controllers (first + 1) count bound setup is (omega (arith, less)))
+
+all_switches : (first count bound : ℕ) (setup : Setup) → length setup.ports ≡ bound → first + count ≤ bound → AllByRecursion (IsActor setup) (map (λ (n : ℕ). actor.Switch n) (range_with_len first count))
+all_switches first zero bound setup is less = tt
+all_switches first (suc count) bound setup is less = (omega (arith, is, less), all_switches (first + 1) count bound setup is (omega (arith, less)))
+
+by_recursion : {X : Type 0} (P : X → Type 0) (xs : List X) (i : ℕ) (x : X) → AllByRecursion P xs → i < length xs → slice_index_or xs i x ≡ x → P x
+by_recursion P [] i x all less is = absurd (omega (arith, less))
+by_recursion P (y ∷ xs) zero x all less is = subst P is all.0
+by_recursion P (y ∷ xs) (suc i) x all less is = by_recursion P xs i x all.1 (omega (arith, less)) is
+
+-- each entry names an actor of the setup
+named_each : {B : Type 0} (setup : Setup) (actors : List Actor) (entries : List (JournalEntry B)) → AllByRecursion (IsActor setup) actors →
+    AllByRecursion (λ e. Contains actors (actor_of e)) entries → AllByRecursion (λ e. IsActor setup (actor_of e)) entries
+named_each setup actors [] all named = tt
+named_each setup actors (e ∷ entries) all named =
+    let k = named.0 in (by_recursion (IsActor setup) actors k.0 (actor_of e) all k.1 k.2, named_each setup actors entries all named.1)
+
+-- players at the places of a new board
+module _ {B A W : Type 0} (law : AppLaw A) (saving : Saving W) (sealing : Sealing B) (setup : Setup) (kinds : List ℕ) (steps : List Turn) (id : TableId)
+    (controllers : List (Controlling A)) (switches : List SwitchState) (stables : List W) (starts : StartsApart law saving setup kinds steps controllers switches stables) where
+  abbrev actors : List Actor
+  actors = actors_up_to (length controllers) (length switches)
+
+  abbrev places : List (PlaceState B)
+  places = map (fresh id) actors
+
+  abbrev first_members : List (Task B (Served A W))
+  first_members = seated places (served controllers stables)
+
+  abbrev first_others : List (Task B SwitchState)
+  first_others = seated (drop (length controllers) places) switches
+
+  group_is : length controllers ≡ setup.controllers
+  group_is = starts.members.group
+
+  count_is : length switches ≡ length setup.ports
+  count_is = ap length starts.others ∙ mapped_long (λ s. starting_switch s setup) 0 (length setup.ports)
+
+  -- a controller as it starts, beside what it saves to
+  record IsServedAt (c : ℕ) : Type 0 where
+    pub controller : Controlling A
+    pub stable : W
+    pub controller_stands : slice_get controllers c ≡ Some controller
+    pub stable_stands : slice_get stables c ≡ Some stable
+    pub plays : ServedPlays law saving sealing setup kinds (actor.Controller c) (record { controller = controller; stable = stable }) [] (record { controller = controller; stable = stable }) []
+
+  served_at : (c : ℕ) → c < setup.controllers → IsServedAt c
+  served_at c there =
+      let n = starts.members.each c there in
+      let p = starts.pairs c n.0 n.1 in
+      record { controller = n.0; stable = p.0; controller_stands = n.1; stable_stands = p.1; plays = served_fresh sealing setup kinds law saving c n.0 p.0 n.2 p.2 }
+
+  member_at : (c : ℕ) (there : c < setup.controllers) (s : IsServedAt c) →
+      slice_get first_members c ≡ Some (task_of (fresh id (actor.Controller c)) (record { controller = s.controller; stable = s.stable }))
+  member_at c there s =
+      let group = group_is in
+      got_map (λ x. task_of x.0 x.1) (zip places (served controllers stables)) c _
+      (got_zip places (served controllers stables) c _ _
+      (got_map (fresh id) actors c (actor.Controller c) (controller_at (length controllers) (length switches) c (omega (arith, group, there))))
+      (got_map (λ x. record { controller = x.0; stable = x.1 }) (zip controllers stables) c _ (got_zip controllers stables c s.controller s.stable s.controller_stands s.stable_stands)))
+
+  switches_long : length (map (λ (c : ℕ). actor.Controller c) (range_with_len 0 (length controllers))) ≡ length controllers
+  switches_long = mapped_long (λ (c : ℕ). actor.Controller c) 0 (length controllers)
+
+  other_places : drop (length controllers) places ≡ map (fresh id) (map (λ (s : ℕ). actor.Switch s) (range_with_len 0 (length switches)))
+  other_places =
+      ap (λ (n : ℕ). drop n places) (sym switches_long) ∙
+      drop_mapped (fresh id) (map (λ (c : ℕ). actor.Controller c) (range_with_len 0 (length controllers))) (map (λ (s : ℕ). actor.Switch s) (range_with_len 0 (length switches)))
+
+  switch_at : (s : ℕ) → s < length setup.ports → slice_get switches s ≡ Some (starting_switch s setup)
+  switch_at s there = ap (λ (l : List SwitchState). slice_get l s) starts.others ∙ mapped_at (λ n. starting_switch n setup) 0 (length setup.ports) s there ∙ ap (λ n. Some (starting_switch n setup)) (plus_none s)
+
+  other_at : (s : ℕ) → s < length setup.ports → slice_get first_others s ≡ Some (task_of (fresh id (actor.Switch s)) (starting_switch s setup))
+  other_at s there =
+      let count = count_is in
+      got_map (λ x. task_of x.0 x.1) (zip (drop (length controllers) places) switches) s _
+      (got_zip (drop (length controllers) places) switches s _ _
+      (ap (λ (l : List (PlaceState B)). slice_get l s) other_places ∙
+      got_map (fresh id) (map (λ (n : ℕ). actor.Switch n) (range_with_len 0 (length switches))) s (actor.Switch s)
+      (mapped_at (λ (n : ℕ). actor.Switch n) 0 (length switches) s (omega (arith, count, there)) ∙ ap (λ (n : ℕ). Some (actor.Switch n)) (plus_none s)))
+      (switch_at s there))
+
+  places_long : length places ≡ length controllers + length switches
+  places_long =
+      let one = mapped_long (λ (c : ℕ). actor.Controller c) 0 (length controllers) in
+      let two = mapped_long (λ (s : ℕ). actor.Switch s) 0 (length switches) in
+      let both = length-append (map (λ (c : ℕ). actor.Controller c) (range_with_len 0 (length controllers))) (map (λ (s : ℕ). actor.Switch s) (range_with_len 0 (length switches))) in
+      let all = map_long (fresh {B = B} id) actors in omega (arith, one, two, both, all)
+
+  served_long : length (served controllers stables) ≡ length controllers
+  served_long =
+      let enough = starts.enough in
+      let group = group_is in
+      map_long (λ x. record { controller = x.0; stable = x.1 }) (zip controllers stables) ∙ zip_first controllers stables (omega (arith, enough, group))
+
+  pub members_long : length first_members ≡ length controllers
+  members_long =
+      let long = places_long in
+      let its = served_long in
+      map_long (λ x. task_of x.0 x.1) (zip places (served controllers stables)) ∙ zip_second places (served controllers stables) (omega (arith, long, its)) ∙ served_long
+
+  pub others_long : length first_others ≡ length switches
+  others_long =
+      let long = ap length other_places ∙ map_long (fresh id) (map (λ (s : ℕ). actor.Switch s) (range_with_len 0 (length switches))) ∙ mapped_long (λ (s : ℕ). actor.Switch s) 0 (length switches) in
+      map_long (λ x. task_of x.0 x.1) (zip (drop (length controllers) places) switches) ∙ zip_second (drop (length controllers) places) switches (omega (arith, long))
+
+  some_is : {X : Type 0} (x y : X) → Some x ≡ Some y → y ≡ x
+  some_is x y h = cc
+
+  -- each is ready
+  pub members_ready : All (IsReady (ServedPlays law saving sealing) id steps) first_members
+  members_ready = by_number (IsReady (ServedPlays law saving sealing) id steps) first_members (λ c x within found.
+      let group = group_is in
+      let long = members_long in
+      let there : c < setup.controllers = omega (arith, group, long, within) in
+      let s = served_at c there in
+      let start : Served A W = record { controller = s.controller; stable = s.stable } in
+      subst (IsReady (ServedPlays law saving sealing) id steps) (some_is x (task_of (fresh id (actor.Controller c)) start) (sym found ∙ member_at c there s))
+      (record { board_is = refl; plays_it = (setup, kinds, start, job_fresh (ServedPlays law saving sealing setup kinds (actor.Controller c) start) steps id (actor.Controller c) start s.plays) }))
+
+  pub others_ready : All (IsReady (SwitchPlays sealing) id steps) first_others
+  others_ready = by_number (IsReady (SwitchPlays sealing) id steps) first_others (λ s x within found.
+      let count = count_is in
+      let long = others_long in
+      let there : s < length setup.ports = omega (arith, count, long, within) in
+      let start = starting_switch s setup in
+      subst (IsReady (SwitchPlays sealing) id steps) (some_is x (task_of (fresh id (actor.Switch s)) start) (sym found ∙ other_at s there))
+      (record { board_is = refl; plays_it = (setup, kinds, start, job_fresh (SwitchPlays sealing setup kinds (actor.Switch s) start) steps id (actor.Switch s) start (switch_fresh sealing setup kinds s)) }))
+
+  -- what they left
+  module _ (stables_after : List W) (played : Played B A) (stop : Option Stop)
+      (h : HavePlayed law saving sealing steps places controllers switches stables stables_after played stop) where
+    abbrev wire : List (JournalEntry B)
+    wire = played.wire
+
+    abbrev member_jobs : List (Job B (Served A W))
+    member_jobs = map (λ t. t.job) h.members
+
+    abbrev other_jobs : List (Job B SwitchState)
+    other_jobs = map (λ t. t.job) h.others
+
+    members_same : length h.members ≡ setup.controllers
+    members_same = h.members_ran.count ∙ members_long ∙ group_is
+
+    others_same : length h.others ≡ length setup.ports
+    others_same = h.others_ran.count ∙ others_long ∙ count_is
+
+    named : AllByRecursion (λ e. IsActor setup (actor_of e)) (past wire)
+    named =
+        let group = group_is in
+        let count = count_is in
+        all_reverse (λ e. IsActor setup (actor_of e)) wire
+        (named_each setup actors wire
+        (all_append (IsActor setup) (map (λ (n : ℕ). actor.Controller n) (range_with_len 0 (length controllers))) (map (λ (n : ℕ). actor.Switch n) (range_with_len 0 (length switches)))
+        (all_controllers 0 (length controllers) setup.controllers setup refl (omega (arith, group))) (all_switches 0 (length switches) (length setup.ports) setup refl (omega (arith, count))))
+        h.named)
+
+    -- a task as it ended
+    record HasEndedAs {P : Type 0} (plays : Setup → List ℕ → Actor → P → List _ → P → List _ → Type 0) (a : Actor) (start : P) (tasks : List (Task B P)) (number : ℕ) : Type 0 where
+      pub task : Task B P
+      pub stands : slice_get tasks number ≡ Some task
+      pub ran : HasRun plays sealing.size steps (task_of (fresh id a) start) task
+      pub part : IsPartOf wire task.job.place
+
+    controller_ends : (c : ℕ) (there : c < setup.controllers) (s : IsServedAt c) →
+        HasEndedAs (ServedPlays law saving sealing) (actor.Controller c) (record { controller = s.controller; stable = s.stable }) h.members c
+    controller_ends c there s =
+        let start = task_of (fresh id (actor.Controller c)) (record { controller = s.controller; stable = s.stable }) in
+        let same = members_same in
+        let old_long = members_long in
+        let group = group_is in
+        let now = slice_index_or h.members c start in
+        let stands : slice_get h.members c ≡ Some now = slice_get-get_or h.members c start (omega (arith, same, there)) in
+        record {
+          task = now;
+          stands = stands;
+          ran = subst (λ (t : Task B (Served A W)). HasRun (ServedPlays law saving sealing) sealing.size steps t now)
+              (get_or_from_slice_get first_members c start start (member_at c there s)) (h.members_ran.each c start (omega (arith, old_long, group, there)));
+          part = at_number (IsPartOf wire) (map place_of h.members ++ map place_of h.others) c now.job.place h.parts
+              (slice_get-append (map place_of h.members) (map place_of h.others) c now.job.place (got_map place_of h.members c now stands));
+        }
+
+    switch_ends : (s : ℕ) → s < length setup.ports → HasEndedAs (SwitchPlays sealing) (actor.Switch s) (starting_switch s setup) h.others s
+    switch_ends s there =
+        let start = task_of (fresh id (actor.Switch s)) (starting_switch s setup) in
+        let same = others_same in
+        let old_long = others_long in
+        let count = count_is in
+        let now = slice_index_or h.others s start in
+        let stands : slice_get h.others s ≡ Some now = slice_get-get_or h.others s start (omega (arith, same, there)) in
+        record {
+          task = now;
+          stands = stands;
+          ran = subst (λ (t : Task B SwitchState). HasRun (SwitchPlays sealing) sealing.size steps t now)
+              (get_or_from_slice_get first_others s start start (other_at s there)) (h.others_ran.each s start (omega (arith, old_long, count, there)));
+          part = at_number (IsPartOf wire) (map place_of h.members ++ map place_of h.others) (length (map place_of h.members) + s) now.job.place h.parts
+              (got_behind (map place_of h.members) (map place_of h.others) s (length (map place_of h.members) + s) refl ∙ got_map place_of h.others s now stands);
+        }
+
+    -- where no task was short of memory, the job of each has ended
+    ended : {P : Type 0} (plays : List _ → P → List _ → Type 0) (job : Job B P) (o : Option Stop) → (o ≡ Some OutOfMemory → ⊥) → IsWithinLimits sealing.size (past job.place.seen) →
+        EndsAs plays sealing.size steps job o → HasEnded plays steps job
+    ended plays job None calm within ends = done_ends plays sealing.size steps job ends
+    ended plays job (Some OutOfMemory) calm within ends = absurd (calm refl)
+    ended plays job (Some (JournalFull bytes letters)) calm within ends = stuck_ends plays sealing.size steps job bytes letters within ends
+
+    module _ (members_calm : AreCalm h.members) (others_calm : AreCalm h.others) where
+      controller_seated : (c : ℕ) (there : c < setup.controllers) (s : IsServedAt c) →
+          IsSeatedIn (ServedPlays law saving sealing setup kinds (actor.Controller c) (record { controller = s.controller; stable = s.stable })) steps wire (actor.Controller c) member_jobs c
+      controller_seated c there s =
+          let start : Served A W = record { controller = s.controller; stable = s.stable } in
+          let e = controller_ends c there s in
+          record {
+            job = e.task.job;
+            stands = got_map (λ t. t.job) h.members c e.task e.stands;
+            actor_is = e.ran.place.0;
+            part = e.part;
+            seen_part = e.ran.stands.part_is;
+            ends = ended (ServedPlays law saving sealing setup kinds (actor.Controller c) start) e.task.job e.task.stop (members_calm c e.task e.stands) e.ran.stands.within
+                (e.ran.ends setup kinds start (job_fresh (ServedPlays law saving sealing setup kinds (actor.Controller c) start) steps id (actor.Controller c) start s.plays));
+          }
+
+      switch_seated : (s : ℕ) → s < length setup.ports → IsSeatedIn (SwitchPlays sealing setup kinds (actor.Switch s) (starting_switch s setup)) steps wire (actor.Switch s) other_jobs s
+      switch_seated s there =
+          let start = starting_switch s setup in
+          let e = switch_ends s there in
+          record {
+            job = e.task.job;
+            stands = got_map (λ t. t.job) h.others s e.task e.stands;
+            actor_is = e.ran.place.0;
+            part = e.part;
+            seen_part = e.ran.stands.part_is;
+            ends = ended (SwitchPlays sealing setup kinds (actor.Switch s) start) e.task.job e.task.stop (others_calm s e.task e.stands) e.ran.stands.within
+                (e.ran.ends setup kinds start (job_fresh (SwitchPlays sealing setup kinds (actor.Switch s) start) steps id (actor.Switch s) start (switch_fresh sealing setup kinds s)));
+          }
+
+      -- what the joined parts are, in all
+      fused : (tasks : List (Task B (Served A W))) → map (λ j. j.player.controller) (map (λ (t : Task B (Served A W)). t.job) tasks) ≡ map controller_of (map player_of tasks)
+      fused [] = refl
+      fused (t ∷ tasks) = ap (λ l. t.job.player.controller ∷ l) (fused tasks)
+
+      fused_others : (tasks : List (Task B SwitchState)) → map (λ j. j.player) (map (λ (t : Task B SwitchState). t.job) tasks) ≡ map player_of tasks
+      fused_others [] = refl
+      fused_others (t ∷ tasks) = ap (λ l. t.job.player ∷ l) (fused_others tasks)
+
+      members_are : map (λ j. j.player.controller) member_jobs ≡ played.controllers.items
+      members_are = fused h.members ∙ sym h.controllers_are
+
+      others_are : map (λ j. j.player) other_jobs ≡ played.switches.items
+      others_are = fused_others h.others ∙ sym h.switches_are
+
+      -- all of them joined
+      abbrev joins_controllers : (c : ℕ) → c < setup.controllers →
+          (start : Served A W) × IsSeatedIn (ServedPlays law saving sealing setup kinds (actor.Controller c) start) steps wire (actor.Controller c) member_jobs c
+      joins_controllers c there = let s = served_at c there in (record { controller = s.controller; stable = s.stable }, controller_seated c there s)
+
+      jobs_long : length member_jobs ≡ setup.controllers
+      jobs_long = map_long (λ t. t.job) h.members ∙ members_same
+
+      other_jobs_long : length other_jobs ≡ length setup.ports
+      other_jobs_long = map_long (λ t. t.job) h.others ∙ others_same
+
+      abbrev started : ℕ → SwitchState
+      started s = starting_switch s setup
+
+      -- what is left is legal
+      legal : IsLegalPast (scene_of sealing setup kinds) (results_in played.controllers.items) (past wire)
+      legal = subst (λ (cs : List (Controlling A)). IsLegalPast (scene_of sealing setup kinds) (results_in cs) (past wire)) members_are
+          (joined.legal law saving sealing setup kinds steps wire member_jobs other_jobs started h.orderly named jobs_long other_jobs_long joins_controllers switch_seated)
+
+      plays_last : (c : ℕ) (there : c < setup.controllers) (s : IsServedAt c) → (e : HasEndedAs (ServedPlays law saving sealing) (actor.Controller c) (record { controller = s.controller; stable = s.stable }) h.members c) →
+          ServedPlays law saving sealing setup kinds (actor.Controller c) (record { controller = s.controller; stable = s.stable }) e.task.job.place.own e.task.job.player e.task.job.owed
+      plays_last c there s e =
+          let start : Served A W = record { controller = s.controller; stable = s.stable } in
+          (ended (ServedPlays law saving sealing setup kinds (actor.Controller c) start) e.task.job e.task.stop (members_calm c e.task e.stands) e.ran.stands.within
+          (e.ran.ends setup kinds start (job_fresh (ServedPlays law saving sealing setup kinds (actor.Controller c) start) steps id (actor.Controller c) start s.plays))).on.plays_it
+
+      -- a controller as it was left, with what it saved to
+      controller_left : (c : ℕ) (t : Task B (Served A W)) → slice_get h.members c ≡ Some t → slice_get played.controllers.items c ≡ Some t.job.player.controller
+      controller_left c t stands = ap (λ (l : List (Controlling A)). slice_get l c) h.controllers_are ∙ got_map controller_of (map player_of h.members) c t.job.player (got_map player_of h.members c t stands)
+
+      stable_left : (c : ℕ) (t : Task B (Served A W)) → slice_get h.members c ≡ Some t → slice_get stables_after c ≡ Some t.job.player.stable
+      stable_left c t stands =
+          ap (λ (l : List W). slice_get l c) h.stables_are ∙ slice_get-append (map stable_of (map player_of h.members)) (drop (length controllers) stables) c t.job.player.stable
+          (got_map stable_of (map player_of h.members) c t.job.player (got_map player_of h.members c t stands))
+
+      controllers_long : length played.controllers.items ≡ setup.controllers
+      controllers_long = ap length h.controllers_are ∙ map_long controller_of (map player_of h.members) ∙ map_long player_of h.members ∙ members_same
+
+      pairs : PairsStand saving stables_after played.controllers.items
+      pairs c x found =
+          let within = slice_get_within played.controllers.items c x found in
+          let long = controllers_long in
+          let there : c < setup.controllers = omega (arith, within, long) in
+          let s = served_at c there in
+          let e = controller_ends c there s in (
+            e.task.job.player.stable,
+            stable_left c e.task e.stands,
+            (plays_last c there s e).pair_is ∙ ap (λ (y : Controlling A). pair_in (state_of y)) (some_is x e.task.job.player.controller (sym found ∙ controller_left c e.task e.stands)),
+          )
+
+      told : AreTold saving stables stables_after controllers played.controllers.items
+      told c x stable found stable_found =
+          let within = slice_get_within controllers c x found in
+          let group = group_is in
+          let there : c < setup.controllers = omega (arith, within, group) in
+          let s = served_at c there in
+          let e = controller_ends c there s in (
+            e.task.job.player.controller,
+            e.task.job.player.stable,
+            controller_left c e.task e.stands,
+            stable_left c e.task e.stands,
+            subst (λ (z : W). SavesTold (saving.faults z) (saving.faults e.task.job.player.stable) x.results e.task.job.player.controller.results)
+                (some_is stable s.stable (sym stable_found ∙ s.stable_stands))
+                (subst (λ (y : Controlling A). SavesTold (saving.faults s.stable) (saving.faults e.task.job.player.stable) y.results e.task.job.player.controller.results)
+                (some_is x s.controller (sym found ∙ s.controller_stands)) (plays_last c there s e).told),
+          )
+
+      rest : drop setup.controllers stables_after ≡ drop setup.controllers stables
+      rest =
+          let long = map_long stable_of (map player_of h.members) ∙ map_long player_of h.members ∙ members_same in
+          ap (λ (l : List W). drop setup.controllers l) h.stables_are ∙
+          ap (λ (n : ℕ). drop n (map stable_of (map player_of h.members) ++ drop (length controllers) stables)) (sym long) ∙
+          drop-append_seam (map stable_of (map player_of h.members)) (drop (length controllers) stables) ∙ ap (λ (n : ℕ). drop n stables) group_is
+
+      pub left_legal : IsLeftLegal law saving sealing setup kinds controllers stables stables_after played
+      left_legal = record { legal = legal; within = h.within; pairs = pairs; told = told; rest = rest }
+
+      -- where each did all of its steps
+      module _ (members_done : (i : ℕ) (t : Task B (Served A W)) → slice_get h.members i ≡ Some t → t.stop ≡ None) (others_done : (i : ℕ) (t : Task B SwitchState) → slice_get h.others i ≡ Some t → t.stop ≡ None) where
+        none_owed : {P : Type 0} (plays : List _ → P → List _ → Type 0) (job : Job B P) (o : Option Stop) → o ≡ None → EndsAs plays sealing.size steps job o → job.owed ≡ []
+        none_owed plays job None is ends = ends.rests
+        none_owed plays job (Some stop) is ends = absurd (let h = is in cc)
+
+        owes_none : (a : Actor) → IsActor setup a → joined.owed law saving sealing setup kinds steps wire member_jobs other_jobs started h.orderly named jobs_long other_jobs_long joins_controllers switch_seated a ≡ []
+        unfolding controller_seated switch_seated
+        owes_none (actor.Controller c) there =
+            let s = served_at c there in
+            let start : Served A W = record { controller = s.controller; stable = s.stable } in
+            let e = controller_ends c there s in
+            let plays = ServedPlays law saving sealing setup kinds (actor.Controller c) start in
+            joined.owed_is plays steps wire (actor.Controller c) member_jobs c (controller_seated c there s) ∙
+            none_owed plays e.task.job e.task.stop (members_done c e.task e.stands) (e.ran.ends setup kinds start (job_fresh plays steps id (actor.Controller c) start s.plays))
+        owes_none (actor.Switch s) there =
+            let start = starting_switch s setup in
+            let e = switch_ends s there in
+            let plays = SwitchPlays sealing setup kinds (actor.Switch s) start in
+            joined.owed_is plays steps wire (actor.Switch s) other_jobs s (switch_seated s there) ∙
+            none_owed plays e.task.job e.task.stop (others_done s e.task e.stands) (e.ran.ends setup kinds start (job_fresh plays steps id (actor.Switch s) start (switch_fresh sealing setup kinds s)))
+
+        pub has_played : HasPlayedApart law saving sealing setup kinds steps controllers stables stables_after played
+        has_played = record {
+          left_legal = left_legal;
+          follows = subst (λ (cs : List (Controlling A)). FollowsApart (scene_of sealing setup kinds) (results_in cs) steps (past wire)) members_are
+              (joined.follows law saving sealing setup kinds steps wire member_jobs other_jobs started h.orderly named jobs_long other_jobs_long joins_controllers switch_seated owes_none);
+          played = subst (λ (cs : List (Controlling A)). IsPlayed law sealing (resting setup wire cs played.switches.items) kinds) members_are
+              (subst (λ (ss : List SwitchState). IsPlayed law sealing (resting setup wire (map (λ j. j.player.controller) member_jobs) ss) kinds) others_are
+              (joined.played law saving sealing setup kinds steps wire member_jobs other_jobs started h.orderly named jobs_long other_jobs_long joins_controllers switch_seated starts.is_setup starts.few owes_none));
+        }
+
+      -- one is stuck at these numbers
+      module _ (bytes letters : ℕ) where
+        full_at : {P : Type 0} (plays : List _ → P → List _ → Type 0) (job : Job B P) (o : Option Stop) → o ≡ Some (JournalFull bytes letters) → EndsAs plays sealing.size steps job o →
+            IsFull sealing.size (past job.place.seen) job.owed bytes letters
+        full_at plays job None is ends = absurd (let h = is in cc)
+        full_at plays job (Some OutOfMemory) is ends = absurd (let h = is in cc)
+        full_at plays job (Some (JournalFull b l)) is ends = let one : b ≡ bytes = cc in let two : l ≡ letters = cc in subst (λ n. IsFull sealing.size (past job.place.seen) job.owed n letters) one (subst (λ n. IsFull sealing.size (past job.place.seen) job.owed b n) two ends.full)
+
+        cut_short : (a : Actor) → IsCutFor (scene_of sealing setup kinds) (results_in (map (λ j. j.player.controller) member_jobs)) bytes letters (past wire) a →
+            BeginsApart (scene_of sealing setup kinds) (results_in played.controllers.items) steps bytes letters (past wire)
+        cut_short a cut = subst (λ (cs : List (Controlling A)). BeginsApart (scene_of sealing setup kinds) (results_in cs) steps bytes letters (past wire)) members_are
+            (joined.cut_short law saving sealing setup kinds steps wire member_jobs other_jobs started h.orderly named jobs_long other_jobs_long joins_controllers switch_seated bytes letters a cut)
+
+        pub member_stuck : HasStopped (JournalFull bytes letters) h.members → BeginsApart (scene_of sealing setup kinds) (results_in played.controllers.items) steps bytes letters (past wire)
+        unfolding controller_seated
+        member_stuck st =
+            let within = slice_get_within h.members st.number st.task st.stands in
+            let same = members_same in
+            let c = st.number in
+            let there : st.number < setup.controllers = omega (arith, within, same) in
+            let s = served_at c there in
+            let start : Served A W = record { controller = s.controller; stable = s.stable } in
+            let e = controller_ends c there s in
+            let plays = ServedPlays law saving sealing setup kinds (actor.Controller c) start in
+            cut_short (actor.Controller c)
+            (joined.cut law saving sealing setup kinds steps wire member_jobs other_jobs started h.orderly named jobs_long other_jobs_long joins_controllers switch_seated plays (actor.Controller c) member_jobs c bytes letters
+            there (controller_seated c there s) refl
+            (full_at plays e.task.job e.task.stop (ap (λ (t : Task B (Served A W)). t.stop) (some_is st.task e.task (sym st.stands ∙ e.stands)) ∙ st.stop_is)
+            (e.ran.ends setup kinds start (job_fresh plays steps id (actor.Controller c) start s.plays))))
+
+        pub other_stuck : HasStopped (JournalFull bytes letters) h.others → BeginsApart (scene_of sealing setup kinds) (results_in played.controllers.items) steps bytes letters (past wire)
+        unfolding switch_seated
+        other_stuck st =
+            let within = slice_get_within h.others st.number st.task st.stands in
+            let same = others_same in
+            let s = st.number in
+            let there : st.number < length setup.ports = omega (arith, within, same) in
+            let start = starting_switch s setup in
+            let e = switch_ends s there in
+            let plays = SwitchPlays sealing setup kinds (actor.Switch s) start in
+            cut_short (actor.Switch s)
+            (joined.cut law saving sealing setup kinds steps wire member_jobs other_jobs started h.orderly named jobs_long other_jobs_long joins_controllers switch_seated plays (actor.Switch s) other_jobs s bytes letters
+            there (switch_seated s there) refl
+            (full_at plays e.task.job e.task.stop (ap (λ (t : Task B SwitchState). t.stop) (some_is st.task e.task (sym st.stands ∙ e.stands)) ∙ st.stop_is)
+            (e.ran.ends setup kinds start (job_fresh plays steps id (actor.Switch s) start (switch_fresh sealing setup kinds s)))))
+
+    -- the answer of the call
+    pub none_stops : stop ≡ None → HasPlayedApart law saving sealing setup kinds steps controllers stables stables_after played
+    none_stops is =
+        let its : first_stop (first_stop None h.members) h.others ≡ None = sym h.stop_is ∙ is in
+        let first : first_stop None h.members ≡ None = none_first (first_stop None h.members) h.others its in
+        has_played (λ i t stands starved. absurd (let e = sym (none_stopped None h.members first i t stands) ∙ starved in let f : None ≡ Some OutOfMemory = e in cc))
+        (λ i t stands starved. absurd (let e = sym (none_stopped (first_stop None h.members) h.others its i t stands) ∙ starved in let f : None ≡ Some OutOfMemory = e in cc))
+        (none_stopped None h.members first) (none_stopped (first_stop None h.members) h.others its)
+
+    pub some_stops : (why : Stop) → stop ≡ Some why → HaltsApart law saving sealing setup kinds steps controllers stables stables_after played why
+    some_stops OutOfMemory is = tt
+    some_stops (JournalFull bytes letters) is = (left_legal members_calm others_calm, by_who (who_stopped (first_stop None h.members) h.others (JournalFull bytes letters) its))
+      where
+        its : first_stop (first_stop None h.members) h.others ≡ Some (JournalFull bytes letters)
+        its = sym h.stop_is ∙ is
+
+        calm : first_stop (first_stop None h.members) h.others ≡ Some OutOfMemory → ⊥
+        calm starved = let e : Some (JournalFull bytes letters) ≡ Some OutOfMemory = sym its ∙ starved in cc
+
+        members_calm : AreCalm h.members
+        members_calm = are_calm None h.members (was_calm (first_stop None h.members) h.others calm)
+
+        others_calm : AreCalm h.others
+        others_calm = are_calm (first_stop None h.members) h.others calm
+
+        by_member : (None ≡ Some (JournalFull bytes letters)) ⊎ HasStopped (JournalFull bytes letters) h.members →
+            BeginsApart (scene_of sealing setup kinds) (results_in played.controllers.items) steps bytes letters (past wire)
+        by_member (inl never) = absurd (let e = never in cc)
+        by_member (inr st) = member_stuck members_calm others_calm bytes letters st
+
+        by_who : (first_stop None h.members ≡ Some (JournalFull bytes letters)) ⊎ HasStopped (JournalFull bytes letters) h.others →
+            BeginsApart (scene_of sealing setup kinds) (results_in played.controllers.items) steps bytes letters (past wire)
+        by_who (inl first) = by_member (who_stopped None h.members (JournalFull bytes letters) first)
+        by_who (inr st) = other_stuck members_calm others_calm bytes letters st

@@ -1,0 +1,10 @@
+pub mod Apart
+pub mod Standing
+pub mod Hearing
+pub mod Playing
+pub mod Jobs
+pub mod Tasks
+pub mod Runs
+pub mod Together
+pub mod Threads
+pub mod Laws

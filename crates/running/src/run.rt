@@ -1,0 +1,186 @@
+//! A script that its actors play apart: each in a thread of its own, over one board.
+ghost use Rattle.std.specs.Prelude.{◌≡◌, ◌≤◌, ◌<◌, ℕ, List, All, IfOk, IfErr, drop, length, map, vec_len};
+ghost use Rattle.switch_board.specs.Places.{fresh};
+ghost use Rattle.running.specs.Playing.{ServedPlays, SwitchPlays};
+ghost use Rattle.running.specs.Tasks.{AllRan, IsReady};
+ghost use Rattle.running.specs.Threads.{HaltsApart, HasPlayedApart, StartsApart};
+ghost use Rattle.running.specs.Runs.{actors_up_to, seated, served};
+ghost use Rattle.running.specs.Together.{HasRoom, HavePlayed};
+
+use crate::gate::Gate;
+use crate::leaving::{close, part, put_back, take_apart};
+use crate::ready::Ready;
+use crate::seated::Served;
+use crate::seating::{seat, serve};
+use crate::task::{Task, run_all};
+use app_core::App;
+use group_controller::Controller;
+use of_switch::Switch;
+use of_types::Setup;
+use rv_base::{Stable, Stop, Turn, Wire};
+use rv_bodies::Body;
+use std::alloc::Global;
+use std::sync::Wait;
+use std::thread::Threads;
+use std::{mem, thread};
+use switch_board::Board;
+
+/// What the actors have played: their journal, and they themselves, by number.
+#[derive(Drop)]
+pub struct Played<B: Body, A: App> {
+    pub wire: Wire<B>,
+    pub controllers: Vec<Controller<A>>,
+    pub switches: Vec<Switch>,
+}
+
+/// Why a run was cut short: want of memory at any of its actors, and else the full journal that the first of them met, the
+/// controllers before the switches and each ascending. What was played stands beside it.
+#[derive(Drop)]
+pub struct Halt<B: Body, A: App> {
+    pub stop: Stop,
+    pub played: Played<B, A>,
+}
+
+/// Both kinds of actors at once, each actor in a thread of its own.
+fn run_both<
+    B: Body + Send,
+    A: App + Send,
+    W: Stable + Drop + Send,
+    G: Gate + Sync,
+    R: Threads + Wait + Sync,
+>(
+    rt: &R,
+    alloc: Global,
+    gate: &G,
+    board: &Board<B>,
+    steps: &[Turn],
+    members: Vec<Task<B, Served<A, W>>>,
+    others: Vec<Task<B, Switch>>,
+) -> (Vec<Task<B, Served<A, W>>>, Vec<Task<B, Switch>>)
+    requires members { All (IsReady (ServedPlays A.law W.saving B.sealing) board.now.id steps.now) members.items }
+    requires others { All (IsReady (SwitchPlays B.sealing) board.now.id steps.now) others.items }
+    ensures long { (vec_len result.0 ≡ vec_len members) × (vec_len result.1 ≡ vec_len others) }
+    ensures members { AllRan (ServedPlays A.law W.saving B.sealing) B.sealing.size steps.now members.items result.0.items }
+    ensures others { AllRan (SwitchPlays B.sealing) B.sealing.size steps.now others.items result.1.items }
+{
+    thread::join(
+        rt,
+        ||
+            requires { All (IsReady (ServedPlays A.law W.saving B.sealing) board.now.id steps.now) members.items }
+        { run_all::<Served<A, W>, B, G, R>(rt, alloc, gate, board, steps, members) },
+        ||
+            requires { All (IsReady (SwitchPlays B.sealing) board.now.id steps.now) others.items }
+        { run_all::<Switch, B, G, R>(rt, alloc, gate, board, steps, others) },
+    )
+}
+
+/// Controllers and switches take their places, play, and leave them. The stables go with the controllers, and come back in order.
+fn play_together<
+    B: Body + Send,
+    A: App + Send,
+    W: Stable + Drop + Send,
+    G: Gate + Sync,
+    R: Threads + Wait + Sync,
+>(
+    rt: &R,
+    alloc: Global,
+    gate: &G,
+    steps: &[Turn],
+    ready: Ready<B, A, W>,
+    controllers: Vec<Controller<A>>,
+    switches: Vec<Switch>,
+    stables: &mut Vec<W>,
+) -> (Played<B, A>, Option<Stop>)
+    requires room { HasRoom (vec_len controllers) (vec_len switches) (vec_len stables.old) ready }
+    requires places { ready.places.items ≡ map (fresh ready.board.id) ready.board.actors }
+    requires actors { ready.board.actors ≡ actors_up_to (length controllers.items) (length switches.items) }
+    requires served { vec_len controllers ≤ vec_len stables.old }
+    requires members { All (IsReady (ServedPlays A.law W.saving B.sealing) ready.board.id steps.now) (seated ready.places.items (served controllers.items stables.old.items)) }
+    requires others { All (IsReady (SwitchPlays B.sealing) ready.board.id steps.now) (seated (drop (length controllers.items) ready.places.items) switches.items) }
+    ensures { HavePlayed A.law W.saving B.sealing steps.now ready.places.items controllers.items switches.items stables.old.items stables.new.items result.0 result.1 }
+{
+    let Ready {
+        board,
+        places,
+        mut served,
+        mut members,
+        mut others,
+        mut left_places,
+        mut left_served,
+        mut left_controllers,
+        mut left_switches,
+        mut left_stables,
+    } = ready;
+    let mut places = places.into_iter();
+    let mut all = mem::replace(stables, Vec::new(alloc)).into_iter();
+    serve(controllers, &mut all, &mut served);
+    seat(alloc, served, &mut places, &mut members);
+    seat(alloc, switches, &mut places, &mut others);
+    let (members, others) = run_both::<B, A, W, G, R>(
+        rt, alloc, gate, &board, steps, members, others,
+    );
+    let stop = take_apart(members, &mut left_places, &mut left_served, None);
+    let stop = take_apart(others, &mut left_places, &mut left_switches, stop);
+    part(left_served, &mut left_controllers, &mut left_stables);
+    put_back(all, &mut left_stables);
+    *stables = left_stables;
+    let played = Played {
+        wire: close(board, left_places),
+        controllers: left_controllers,
+        switches: left_switches,
+    };
+    (played, stop)
+}
+
+/// Actors play their own steps of a script, each in a thread of its own, with what the controllers save to: the first stables, in
+/// order. These are put back in order, also where the run is cut short. All memory of this call itself is taken before a
+/// thread starts; where there is none for it, nothing was played.
+pub fn run_threads<
+    B: Body + Send,
+    A: App + Send,
+    W: Stable + Drop + Send,
+    G: Gate + Sync,
+    R: Threads + Wait + Sync,
+>(
+    rt: &R,
+    alloc: Global,
+    gate: &G,
+    setup: &Setup,
+    steps: &[Turn],
+    stables: &mut Vec<W>,
+    controllers: Vec<Controller<A>>,
+    switches: Vec<Switch>,
+) -> Result<Played<B, A>, Halt<B, A>>
+    requires some { (0 < vec_len controllers) × (vec_len controllers < 256) × (vec_len switches < 256) }
+    requires served { vec_len controllers ≤ vec_len stables.old }
+    requires starts { (kinds : List ℕ) × StartsApart A.law W.saving setup.now kinds steps.now controllers.items switches.items stables.old.items }
+    ensures played { (kinds : List ℕ) → StartsApart A.law W.saving setup.now kinds steps.now controllers.items switches.items stables.old.items →
+        IfOk result (HasPlayedApart A.law W.saving B.sealing setup.now kinds steps.now controllers.items stables.old.items stables.new.items) }
+    ensures halts { (kinds : List ℕ) → StartsApart A.law W.saving setup.now kinds steps.now controllers.items switches.items stables.old.items →
+        IfErr result (λ halt. HaltsApart A.law W.saving B.sealing setup.now kinds steps.now controllers.items stables.old.items stables.new.items halt.played halt.stop) }
+{
+    let Ok(ready) = Ready::new(alloc, controllers.len(), switches.len(), stables.len()) else {
+        return Err(Halt {
+            stop: Stop::OutOfMemory,
+            played: Played {
+                wire: Wire::new(alloc),
+                controllers,
+                switches,
+            },
+        });
+    };
+    let (played, stop) = play_together::<B, A, W, G, R>(
+        rt,
+        alloc,
+        gate,
+        steps,
+        ready,
+        controllers,
+        switches,
+        stables,
+    );
+    match stop {
+        None => Ok(played),
+        Some(stop) => Err(Halt { stop, played }),
+    }
+}

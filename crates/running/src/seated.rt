@@ -1,0 +1,95 @@
+//! Actors that play their own steps: a switch, and a controller beside what it saves to.
+ghost use Rattle.std.specs.Prelude.{◌≡◌, ◌∷◌, ℕ, ◌++◌, List, Option, Some, None, [], IfOk};
+ghost use Rattle.of_types.specs.declared.setup.Setup.{Setup};
+ghost use Rattle.rv_base.specs.declared.journal.Actor.{Actor};
+ghost use Rattle.rv_base.specs.declared.journal.JournalEntry.{JournalEntry};
+ghost use Rattle.rv_base.specs.declared.journal.Letter.{Letter};
+ghost use Rattle.rv_base.specs.declared.journal.Packet.{Packet};
+ghost use Rattle.rv_base.specs.Turns.{posting};
+ghost use Rattle.group_controller.specs.Turns.{Controls};
+ghost use Rattle.switch_board.specs.Calls.{beside};
+ghost use Rattle.running.specs.Hearing.{Hears};
+ghost use Rattle.running.specs.Playing.{ServedPlays, SwitchPlays};
+
+use app_core::App;
+use group_controller::{Controller, ControllerInput, ControllerSays};
+use of_switch::{Switch, SwitchInput, SwitchSays};
+use rv_base::{Letters, Local, Stable};
+use rv_bodies::Body;
+use rv_players::{Player, sealed};
+use rv_runs::Unsealed;
+use std::alloc::{AllocError, Global};
+
+/// An actor that plays its own steps.
+pub trait Seated<B: Body>: Player {
+    /// In a run of this setup, with applications of these kinds, this actor, which started so, is what these entries of its own make of it, the newest first and
+    /// each draw beside its packet, and owes these letters.
+    ghost plays: { Setup → List ℕ → Actor → Self → List (JournalEntry B × Option (Packet B)) → Self → List (Letter B) → Type 0 };
+
+    /// It stays what it is as it posts what it owes, and at an entry at which it hears nothing.
+    fn rests(&self)
+        ensures posts { (setup : Setup) (kinds : List ℕ) (a : Actor) (start : Self) (own : List (JournalEntry B × Option (Packet B))) (owed : List (Letter B)) (before : List (JournalEntry B)) →
+            plays setup kinds a start own self.now owed → plays setup kinds a start (beside (posting B.sealing.size a owed before) before ++ own) self.now [] }
+        ensures quiet { (setup : Setup) (kinds : List ℕ) (a : Actor) (start : Self) (own : List (JournalEntry B × Option (Packet B))) (e : JournalEntry B) (found : Option (Packet B)) →
+            Hears B.sealing Self.hears Self.locally e found None → plays setup kinds a start own self.now [] → plays setup kinds a start ((e, found) ∷ own) self.now [] };
+
+    /// Takes an input, and says what it says, sealed.
+    fn take(&mut self, alloc: Global, input: Self::Input) -> Result<Letters<B>, AllocError>
+        requires { (setup : Setup) × (kinds : List ℕ) × (a : Actor) × (start : Self) × (own : List (JournalEntry B × Option (Packet B))) × plays setup kinds a start own self.old [] }
+        ensures { (setup : Setup) (kinds : List ℕ) (a : Actor) (start : Self) (own : List (JournalEntry B × Option (Packet B))) (e : JournalEntry B) (found : Option (Packet B)) →
+            Hears B.sealing Self.hears Self.locally e found (Some input) → plays setup kinds a start own self.old [] →
+            IfOk result (λ letters. plays setup kinds a start ((e, found) ∷ own) self.new letters) };
+}
+
+impl<B: Body> Seated<B> for Switch {
+    ghost plays = { SwitchPlays B.sealing };
+
+    fn rests(&self) {}
+
+    fn take(&mut self, alloc: Global, input: SwitchInput) -> Result<Letters<B>, AllocError> {
+        let letters = self.turn(input)?;
+        sealed::<Switch, B>(alloc, letters.as_slice())
+    }
+}
+
+/// A controller beside what it saves to.
+#[derive(Drop)]
+pub struct Served<A: App, W: Stable> {
+    pub controller: Controller<A>,
+    pub stable: W,
+}
+
+impl<A: App, W: Stable> Player for Served<A, W> {
+    type Input = ControllerInput;
+
+    type Says = ControllerSays;
+
+    ghost locally = { λ input. ⟦<Controller<A> as Player>⟧.locally input };
+
+    ghost hears = { ⟦<Controller<A> as Player>⟧.hears };
+
+    ghost said = { ⟦<Controller<A> as Player>⟧.said };
+
+    fn take_local(input: Local) -> ControllerInput {
+        Controller::<A>::take_local(input)
+    }
+
+    fn hear(alloc: Global, from: rv_base::Actor, unsealed: Unsealed) -> ControllerInput {
+        Controller::<A>::hear(alloc, from, unsealed)
+    }
+
+    fn seal<C: Body>(alloc: Global, says: &ControllerSays) -> Result<C, AllocError> {
+        Controller::<A>::seal::<C>(alloc, says)
+    }
+}
+
+impl<B: Body, A: App, W: Stable> Seated<B> for Served<A, W> {
+    ghost plays = { ServedPlays A.law W.saving B.sealing };
+
+    fn rests(&self) {}
+
+    fn take(&mut self, alloc: Global, input: ControllerInput) -> Result<Letters<B>, AllocError> {
+        let letters = self.controller.turn(input, &mut self.stable)?;
+        sealed::<Controller<A>, B>(alloc, letters.as_slice())
+    }
+}

@@ -9,10 +9,10 @@ use Rattle.rv_base.specs.Limits.{bytes_limit, letters_limit}
 use Rattle.rv_base.specs.Pool.{past}
 use Rattle.rv_base.specs.Turns.{IsFull, IsWithinLimits}
 use Rattle.running.specs.declared.job.Job.{Job}
-use Rattle.running.specs.Jobs.{HasDone, HasEnded, IsStuck}
+use Rattle.running.specs.Jobs.{HasDone, IsAtEnd, HasNoRoom}
 
 module _ {B P : Type 0} (plays : List (JournalEntry B × Option (Packet B)) → P → List (Letter B) → Type 0) (size : B → ℕ) (steps : List Turn) (job : Job B P) where
-  pub done_ends : HasDone plays steps job → HasEnded plays steps job
+  pub done_ends : HasDone plays steps job → IsAtEnd plays steps job
   done_ends h = record { number = _; on = h.on; all = λ none. refl }
 
   -- an empty outbox has room
@@ -24,7 +24,7 @@ module _ {B P : Type 0} (plays : List (JournalEntry B × Option (Packet B)) → 
       by_limit (inl more) = let b = within.bytes in let is = full.bytes_are in omega (arith, b, is, more)
       by_limit (inr more) = let l = within.letters in let is = full.letters_are in omega (arith, l, is, more)
 
-  pub stuck_ends : (bytes letters : ℕ) → IsWithinLimits size (past job.place.seen) → IsStuck plays size steps bytes letters job → HasEnded plays steps job
+  pub stuck_ends : (bytes letters : ℕ) → IsWithinLimits size (past job.place.seen) → HasNoRoom plays size steps bytes letters job → IsAtEnd plays steps job
   stuck_ends bytes letters within h = record {
     number = h.number;
     on = h.on;

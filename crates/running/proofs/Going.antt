@@ -23,7 +23,7 @@ use Rattle.rv_runs.proofs.Pools.{orderly_before}
 use Rattle.rv_base.proofs.Pools.{Rising-pool, packet_of-at, waiting-at}
 use Rattle.switch_board.specs.Places.{PlaceState}
 use Rattle.switch_board.specs.Calls.{beside, Adds, AddsNothing}
-use Rattle.running.specs.Hearing.{GoesOn, Hears}
+use Rattle.running.specs.Hearing.{Advances, Hears}
 
 -- (these four stand in rv_world.proofs.Drawing, which keeps them to itself)
 picked_packet : {B : Type 0} (size : B → ℕ) (a : Actor) (choice : ℕ) (entries : List (JournalEntry B)) (p : Packet B) → IsOrderly size entries → pick a choice entries ≡ Some p → packet_of p.id (pool entries) ≡ Some p
@@ -57,7 +57,7 @@ module _ {B I : Type 0} (sealing : Sealing B) (hears : Actor → Unsealed → I)
   -- a call of the board went on to a step
   pub goes_on : (input : Option I) → turn_actor step ≡ p.actor → (a : Adds p q (turn_entries sealing.size letters step)) →
       (let before = posted sealing.size p.actor letters (past a.met) in Hears sealing hears locally (entry_of step before) (drawn (entry_of step before) before) input) →
-      GoesOn sealing hears locally p q letters step input
+      Advances sealing hears locally p q letters step input
   goes_on input mine a heard = record {
     met = a.met;
     later = a.later;
@@ -72,7 +72,7 @@ module _ {B I : Type 0} (sealing : Sealing B) (hears : Actor → Unsealed → I)
   }
 
   -- and then looked at the journal once more
-  pub still_on : (r : PlaceState B) (input : Option I) → GoesOn sealing hears locally p q letters step input → AddsNothing q r → GoesOn sealing hears locally p r letters step input
+  pub still_on : (r : PlaceState B) (input : Option I) → Advances sealing hears locally p q letters step input → AddsNothing q r → Advances sealing hears locally p r letters step input
   still_on r input g n = record {
     met = g.met;
     later = g.later;
@@ -89,27 +89,27 @@ module _ {B I : Type 0} (sealing : Sealing B) (hears : Actor → Unsealed → I)
   lost_hears a (Some p) before = refl
 
   -- nothing is heard at a loss
-  pub loses_on : (p q : PlaceState B) (letters : List (Letter B)) (choice : ℕ) → Adds p q (turn_entries sealing.size letters (turn.Lose p.actor choice)) → GoesOn sealing hears locally p q letters (turn.Lose p.actor choice) None
+  pub loses_on : (p q : PlaceState B) (letters : List (Letter B)) (choice : ℕ) → Adds p q (turn_entries sealing.size letters (turn.Lose p.actor choice)) → Advances sealing hears locally p q letters (turn.Lose p.actor choice) None
   loses_on p q letters choice a = goes_on sealing hears locally p q letters (turn.Lose p.actor choice) None refl a
       (let before = posted sealing.size p.actor letters (past a.met) in lost_hears p.actor (pick p.actor choice before) before)
 
   -- a local input is
   pub local_on : (p q : PlaceState B) (letters : List (Letter B)) (local : LocalInput) (input : I) → FitsTypes local → input ≡ locally local →
-      Adds p q (turn_entries sealing.size letters (turn.Local p.actor local)) → GoesOn sealing hears locally p q letters (turn.Local p.actor local) (Some input)
+      Adds p q (turn_entries sealing.size letters (turn.Local p.actor local)) → Advances sealing hears locally p q letters (turn.Local p.actor local) (Some input)
   local_on p q letters local input fits is a = goes_on sealing hears locally p q letters (turn.Local p.actor local) (Some input) refl a (fits, ap (λ i. Some i) is)
 
   module _ (p q : PlaceState B) (letters : List (Letter B)) (choice : ℕ) (keep : Bool) (a : Adds p q (turn_entries sealing.size letters (turn.Draw p.actor choice keep))) where
     abbrev before : List (JournalEntry B)
     before = posted sealing.size p.actor letters (past a.met)
 
-    g : {input : Option I} → Hears sealing hears locally (entry_of (turn.Draw p.actor choice keep) before) (drawn (entry_of (turn.Draw p.actor choice keep) before) before) input → GoesOn sealing hears locally p q letters (turn.Draw p.actor choice keep) input
+    g : {input : Option I} → Hears sealing hears locally (entry_of (turn.Draw p.actor choice keep) before) (drawn (entry_of (turn.Draw p.actor choice keep) before) before) input → Advances sealing hears locally p q letters (turn.Draw p.actor choice keep) input
     g {input = input} heard = goes_on sealing hears locally p q letters (turn.Draw p.actor choice keep) input refl a heard
 
     seen_is : drop 1 (past q.seen) ≡ before
     seen_is = ap (drop 1) (ap past a.seen ∙ reverse-append a.met (turn_entries sealing.size letters (turn.Draw p.actor choice keep) (past a.met)) ∙ ap (λ l. l ++ past a.met) (turned sealing hears locally p q letters (turn.Draw p.actor choice keep) (past a.met)))
 
     -- nothing is heard where no packet waits
-    pub finds_nothing : IsFound q.seen None (pick p.actor choice (drop 1 (past q.seen))) → GoesOn sealing hears locally p q letters (turn.Draw p.actor choice keep) None
+    pub finds_nothing : IsFound q.seen None (pick p.actor choice (drop 1 (past q.seen))) → Advances sealing hears locally p q letters (turn.Draw p.actor choice keep) None
     finds_nothing found = g (by_pick (pick p.actor choice before) refl (subst (λ l. IsFound q.seen None (pick p.actor choice l)) seen_is found))
       where
         by_pick : (o : Option (Packet B)) → pick p.actor choice before ≡ o → IsFound q.seen None (pick p.actor choice before) →
@@ -119,7 +119,7 @@ module _ {B I : Type 0} (sealing : Sealing B) (hears : Actor → Unsealed → I)
 
     -- and else what the packet says
     pub finds : (place : PacketPlace) → IsFound q.seen (Some place) (pick p.actor choice (drop 1 (past q.seen))) → IsOrderly sealing.size (past q.seen) → (body : B) → IfSome (packet_at place q.seen) (λ x. body ≡ x.body) →
-        (input : I) → input ≡ hears place.from (sealing.spelled (way_of place.from place.to) body) → GoesOn sealing hears locally p q letters (turn.Draw p.actor choice keep) (Some input)
+        (input : I) → input ≡ hears place.from (sealing.spelled (way_of place.from place.to) body) → Advances sealing hears locally p q letters (turn.Draw p.actor choice keep) (Some input)
     finds place found orderly body body_is input input_is = g heard
       where
         k : IsPicked q.seen place (pick p.actor choice before)

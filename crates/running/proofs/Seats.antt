@@ -14,7 +14,7 @@ use Rattle.switch_board.specs.Places.{fresh, PlaceState, TableId}
 use Rattle.running.specs.declared.seated.Served.{Served}
 use Rattle.running.specs.declared.task.Task.{Task}
 use Rattle.running.specs.Runs.{place_of, seated, served}
-use Rattle.running.specs.Tasks.{AllRan, HasRun, IsReady}
+use Rattle.running.specs.Tasks.{AllRan, WasRun, MayBegin}
 use Rattle.running.proofs.Lists.{behind_none, drop_long, got_map, map_long, same_maps, some_at, take_and_drop, take_whole}
 
 -- controllers beside their stables, at the places of a board
@@ -35,13 +35,13 @@ module _ {B P : Type 0} (plays : Setup → List ℕ → Actor → P → List (Jo
   abbrev actor_in : Task B P → Actor
   actor_in t = t.job.place.actor
 
-  has_run : (k : ℕ) (x y : Task B P) → k < length old → slice_get old k ≡ Some x → slice_get new k ≡ Some y → HasRun plays size steps x y
+  has_run : (k : ℕ) (x y : Task B P) → k < length old → slice_get old k ≡ Some x → slice_get new k ≡ Some y → WasRun plays size steps x y
   has_run k x y less old_at new_at =
-      subst (λ (t : Task B P). HasRun plays size steps t y) (get_or_from_slice_get old k x y old_at)
-      (subst (λ (t : Task B P). HasRun plays size steps (slice_index_or old k y) t) (get_or_from_slice_get new k y y new_at) (ran.each k y less))
+      subst (λ (t : Task B P). WasRun plays size steps t y) (get_or_from_slice_get old k x y old_at)
+      (subst (λ (t : Task B P). WasRun plays size steps (slice_index_or old k y) t) (get_or_from_slice_get new k y y new_at) (ran.each k y less))
 
   -- the boards stay
-  pub boards_stay : All (IsReady plays id steps) old → All (λ p. p.board ≡ id) (map place_of new)
+  pub boards_stay : All (MayBegin plays id steps) old → All (λ p. p.board ≡ id) (map place_of new)
   boards_stay ready k d less =
       let long = map_long place_of new in
       let count = ran.count in

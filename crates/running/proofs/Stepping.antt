@@ -27,7 +27,7 @@ use Rattle.switch_board.specs.Calls.{beside, Adds, Refuses}
 use Rattle.switch_board.proofs.Parts.{AllBy, part-own, same_of}
 use Rattle.switch_board.proofs.Turns.{by_posting}
 use Rattle.running.specs.Apart.{steps_of, inputs_of, IsStepAt}
-use Rattle.running.specs.Hearing.{GoesOn, StopsAt}
+use Rattle.running.specs.Hearing.{Advances, StopsAt}
 use Rattle.running.specs.Jobs.{PlaysOn, StopsIn}
 use Rattle.running.proofs.Following.{Taken, still}
 
@@ -86,7 +86,7 @@ module _ {B : Type 0} where
       (still p.actor steps number (past later.0) (past p.seen) (ap (part p.actor) (sym met) ∙ ap (λ (x : Actor). part x (past q.seen)) (sym same) ∙ sym q_part ∙ own ∙ p_part) t)
 
 module _ {B I : Type 0} (sealing : Sealing B) (hears : Actor → Unsealed → I) (locally : LocalInput → I) (p q : PlaceState B) (letters : List (Letter B)) (step : Turn) (input : Option I)
-    (g : GoesOn sealing hears locally p q letters step input) (mine : turn_actor step ≡ p.actor) (same : q.actor ≡ p.actor)
+    (g : Advances sealing hears locally p q letters step input) (mine : turn_actor step ≡ p.actor) (same : q.actor ≡ p.actor)
     (p_part : p.own ≡ part p.actor (past p.seen)) (q_part : q.own ≡ part q.actor (past q.seen)) (steps : List Turn) (number : ℕ) (next : slice_get (steps_of p.actor steps) number ≡ Some step)
     (t : Taken p.actor steps number (past p.seen)) where
   abbrev before : List (JournalEntry B)

@@ -30,10 +30,10 @@ use Rattle.running.specs.declared.run.Played.{Played}
 use Rattle.running.specs.declared.seated.Served.{Served}
 use Rattle.running.specs.declared.task.Task.{Task}
 use Rattle.running.specs.Apart.{BeginsApart, FollowsApart, IsCutFor}
-use Rattle.running.specs.Jobs.{EndsAs, HasEnded, IsSeatedIn}
+use Rattle.running.specs.Jobs.{EndsAs, IsAtEnd, IsSeatedIn}
 use Rattle.running.specs.Playing.{ServedPlays, SwitchPlays, scene_of}
 use Rattle.running.specs.Runs.{actors_up_to, controller_of, first_stop, place_of, player_of, seated, served, stable_of, task_of}
-use Rattle.running.specs.Tasks.{HasRun, IsReady}
+use Rattle.running.specs.Tasks.{WasRun, MayBegin}
 use Rattle.running.specs.Threads.{HaltsApart, HasPlayedApart, IsLeftLegal, StartsApart}
 use Rattle.running.specs.Together.{HavePlayed}
 use Rattle.running.proofs.Ends.{done_ends, stuck_ends}
@@ -164,23 +164,23 @@ module _ {B A W : Type 0} (law : AppLaw A) (saving : Saving W) (sealing : Sealin
   some_is x y h = cc
 
   -- each is ready
-  pub members_ready : All (IsReady (ServedPlays law saving sealing) id steps) first_members
-  members_ready = by_number (IsReady (ServedPlays law saving sealing) id steps) first_members (λ c x within found.
+  pub members_ready : All (MayBegin (ServedPlays law saving sealing) id steps) first_members
+  members_ready = by_number (MayBegin (ServedPlays law saving sealing) id steps) first_members (λ c x within found.
       let group = group_is in
       let long = members_long in
       let there : c < setup.controllers = omega (arith, group, long, within) in
       let s = served_at c there in
       let start : Served A W = record { controller = s.controller; stable = s.stable } in
-      subst (IsReady (ServedPlays law saving sealing) id steps) (some_is x (task_of (fresh id (actor.Controller c)) start) (sym found ∙ member_at c there s))
+      subst (MayBegin (ServedPlays law saving sealing) id steps) (some_is x (task_of (fresh id (actor.Controller c)) start) (sym found ∙ member_at c there s))
       (record { board_is = refl; plays_it = (setup, kinds, start, job_fresh (ServedPlays law saving sealing setup kinds (actor.Controller c) start) steps id (actor.Controller c) start s.plays) }))
 
-  pub others_ready : All (IsReady (SwitchPlays sealing) id steps) first_others
-  others_ready = by_number (IsReady (SwitchPlays sealing) id steps) first_others (λ s x within found.
+  pub others_ready : All (MayBegin (SwitchPlays sealing) id steps) first_others
+  others_ready = by_number (MayBegin (SwitchPlays sealing) id steps) first_others (λ s x within found.
       let count = count_is in
       let long = others_long in
       let there : s < length setup.ports = omega (arith, count, long, within) in
       let start = starting_switch s setup in
-      subst (IsReady (SwitchPlays sealing) id steps) (some_is x (task_of (fresh id (actor.Switch s)) start) (sym found ∙ other_at s there))
+      subst (MayBegin (SwitchPlays sealing) id steps) (some_is x (task_of (fresh id (actor.Switch s)) start) (sym found ∙ other_at s there))
       (record { board_is = refl; plays_it = (setup, kinds, start, job_fresh (SwitchPlays sealing setup kinds (actor.Switch s) start) steps id (actor.Switch s) start (switch_fresh sealing setup kinds s)) }))
 
   -- what they left
@@ -215,7 +215,7 @@ module _ {B A W : Type 0} (law : AppLaw A) (saving : Saving W) (sealing : Sealin
     record HasEndedAs {P : Type 0} (plays : Setup → List ℕ → Actor → P → List _ → P → List _ → Type 0) (a : Actor) (start : P) (tasks : List (Task B P)) (number : ℕ) : Type 0 where
       pub task : Task B P
       pub stands : slice_get tasks number ≡ Some task
-      pub ran : HasRun plays sealing.size steps (task_of (fresh id a) start) task
+      pub ran : WasRun plays sealing.size steps (task_of (fresh id a) start) task
       pub part : IsPartOf wire task.job.place
 
     controller_ends : (c : ℕ) (there : c < setup.controllers) (s : IsServedAt c) →
@@ -230,7 +230,7 @@ module _ {B A W : Type 0} (law : AppLaw A) (saving : Saving W) (sealing : Sealin
         record {
           task = now;
           stands = stands;
-          ran = subst (λ (t : Task B (Served A W)). HasRun (ServedPlays law saving sealing) sealing.size steps t now)
+          ran = subst (λ (t : Task B (Served A W)). WasRun (ServedPlays law saving sealing) sealing.size steps t now)
               (get_or_from_slice_get first_members c start start (member_at c there s)) (h.members_ran.each c start (omega (arith, old_long, group, there)));
           part = at_number (IsPartOf wire) (map place_of h.members ++ map place_of h.others) c now.job.place h.parts
               (slice_get-append (map place_of h.members) (map place_of h.others) c now.job.place (got_map place_of h.members c now stands));
@@ -247,7 +247,7 @@ module _ {B A W : Type 0} (law : AppLaw A) (saving : Saving W) (sealing : Sealin
         record {
           task = now;
           stands = stands;
-          ran = subst (λ (t : Task B SwitchState). HasRun (SwitchPlays sealing) sealing.size steps t now)
+          ran = subst (λ (t : Task B SwitchState). WasRun (SwitchPlays sealing) sealing.size steps t now)
               (get_or_from_slice_get first_others s start start (other_at s there)) (h.others_ran.each s start (omega (arith, old_long, count, there)));
           part = at_number (IsPartOf wire) (map place_of h.members ++ map place_of h.others) (length (map place_of h.members) + s) now.job.place h.parts
               (got_behind (map place_of h.members) (map place_of h.others) s (length (map place_of h.members) + s) refl ∙ got_map place_of h.others s now stands);
@@ -255,7 +255,7 @@ module _ {B A W : Type 0} (law : AppLaw A) (saving : Saving W) (sealing : Sealin
 
     -- where no task was short of memory, the job of each has ended
     ended : {P : Type 0} (plays : List _ → P → List _ → Type 0) (job : Job B P) (o : Option Stop) → (o ≡ Some OutOfMemory → ⊥) → IsWithinLimits sealing.size (past job.place.seen) →
-        EndsAs plays sealing.size steps job o → HasEnded plays steps job
+        EndsAs plays sealing.size steps job o → IsAtEnd plays steps job
     ended plays job None calm within ends = done_ends plays sealing.size steps job ends
     ended plays job (Some OutOfMemory) calm within ends = absurd (calm refl)
     ended plays job (Some (JournalFull bytes letters)) calm within ends = stuck_ends plays sealing.size steps job bytes letters within ends

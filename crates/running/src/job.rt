@@ -38,12 +38,16 @@ fn take_step<P: Seated<B> + Drop, B: Body, R: Wait>(
 ) -> Result<(), Stop>
     requires board { job.old.place.board ≡ board.now.id }
     requires mine { turn_actor step.now ≡ job.old.place.actor }
-    requires plays { (setup : Setup) × (kinds : List ℕ) × (start : P) × P.plays setup kinds job.old.place.actor start job.old.place.own job.old.player job.old.owed }
+    requires plays { (setup : Setup) × (kinds : List ℕ) × (start : P) ×
+        P.plays setup kinds job.old.place.actor start job.old.place.own job.old.player job.old.owed }
     ensures place { IsSamePlace job.old.place job.new.place }
-    ensures on { (setup : Setup) (kinds : List ℕ) (start : P) (steps : List ATurn) (number : ℕ) → slice_get (steps_of job.old.place.actor steps) number ≡ Some step.now →
-        PlaysOn (P.plays setup kinds job.old.place.actor start) steps number job.old → OnOk result (PlaysOn (P.plays setup kinds job.old.place.actor start) steps (number + 1) job.new) }
+    ensures on { (setup : Setup) (kinds : List ℕ) (start : P) (steps : List ATurn) (number : ℕ) →
+        slice_get (steps_of job.old.place.actor steps) number ≡ Some step.now →
+        PlaysOn (P.plays setup kinds job.old.place.actor start) steps number job.old →
+        OnOk result (PlaysOn (P.plays setup kinds job.old.place.actor start) steps (number + 1) job.new) }
     ensures stops { (setup : Setup) (kinds : List ℕ) (start : P) (steps : List ATurn) (number : ℕ) →
-        PlaysOn (P.plays setup kinds job.old.place.actor start) steps number job.old → IfErr result (StopsIn (P.plays setup kinds job.old.place.actor start) B.sealing.size steps job.new) }
+        PlaysOn (P.plays setup kinds job.old.place.actor start) steps number job.old →
+        IfErr result (StopsIn (P.plays setup kinds job.old.place.actor start) B.sealing.size steps job.new) }
 {
     job.place.lawful();
     job.player.rests();
@@ -67,9 +71,11 @@ fn post_last<P: Seated<B> + Drop, B: Body, R: Wait>(
     ensures place { IsSamePlace job.old.place job.new.place }
     ensures rests { OnOk result (job.new.owed ≡ []) }
     ensures on { (setup : Setup) (kinds : List ℕ) (start : P) (steps : List ATurn) (number : ℕ) →
-        PlaysOn (P.plays setup kinds job.old.place.actor start) steps number job.old → OnOk result (PlaysOn (P.plays setup kinds job.old.place.actor start) steps number job.new) }
+        PlaysOn (P.plays setup kinds job.old.place.actor start) steps number job.old →
+        OnOk result (PlaysOn (P.plays setup kinds job.old.place.actor start) steps number job.new) }
     ensures stops { (setup : Setup) (kinds : List ℕ) (start : P) (steps : List ATurn) (number : ℕ) →
-        PlaysOn (P.plays setup kinds job.old.place.actor start) steps number job.old → IfErr result (StopsIn (P.plays setup kinds job.old.place.actor start) B.sealing.size steps job.new) }
+        PlaysOn (P.plays setup kinds job.old.place.actor start) steps number job.old →
+        IfErr result (StopsIn (P.plays setup kinds job.old.place.actor start) B.sealing.size steps job.new) }
 {
     job.place.lawful();
     job.player.rests();
@@ -96,14 +102,17 @@ fn own_step<P: Seated<B> + Drop, B: Body, G: Gate, R: Wait>(
     turn: u64,
 ) -> Result<(), Stop>
     requires board { job.old.place.board ≡ board.now.id }
-    requires plays { (setup : Setup) × (kinds : List ℕ) × (start : P) × P.plays setup kinds job.old.place.actor start job.old.place.own job.old.player job.old.owed }
+    requires plays { (setup : Setup) × (kinds : List ℕ) × (start : P) ×
+        P.plays setup kinds job.old.place.actor start job.old.place.own job.old.player job.old.owed }
     ensures place { IsSamePlace job.old.place job.new.place }
     ensures on { (setup : Setup) (kinds : List ℕ) (start : P) (steps : List ATurn) (number : ℕ) →
         (same_actor (turn_actor step.now) job.old.place.actor ≡ true → slice_get (steps_of job.old.place.actor steps) number ≡ Some step.now) →
         PlaysOn (P.plays setup kinds job.old.place.actor start) steps number job.old →
-        OnOk result (PlaysOn (P.plays setup kinds job.old.place.actor start) steps (if same_actor (turn_actor step.now) job.old.place.actor then number + 1 else number) job.new) }
+        OnOk result (PlaysOn (P.plays setup kinds job.old.place.actor start) steps
+        (if same_actor (turn_actor step.now) job.old.place.actor then number + 1 else number) job.new) }
     ensures stops { (setup : Setup) (kinds : List ℕ) (start : P) (steps : List ATurn) (number : ℕ) →
-        PlaysOn (P.plays setup kinds job.old.place.actor start) steps number job.old → IfErr result (StopsIn (P.plays setup kinds job.old.place.actor start) B.sealing.size steps job.new) }
+        PlaysOn (P.plays setup kinds job.old.place.actor start) steps number job.old →
+        IfErr result (StopsIn (P.plays setup kinds job.old.place.actor start) B.sealing.size steps job.new) }
 {
     let actor = job.place.actor();
     if !step.actor().is(actor) {

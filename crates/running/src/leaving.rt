@@ -67,7 +67,8 @@ pub fn part<A: App, W: Stable + Drop>(
     controllers: &mut Vec<Controller<A>>,
     stables: &mut Vec<W>,
 )
-    requires room { (vec_len controllers.old + vec_len served ≤ vec_capacity controllers.old) × (vec_len stables.old + vec_len served ≤ vec_capacity stables.old) }
+    requires room { (vec_len controllers.old + vec_len served ≤ vec_capacity controllers.old) ×
+        (vec_len stables.old + vec_len served ≤ vec_capacity stables.old) }
     ensures controllers { controllers.new.items ≡ controllers.old.items ++ map controller_of served.items }
     ensures stables { stables.new.items ≡ stables.old.items ++ map stable_of served.items }
     ensures room { vec_capacity stables.new ≡ vec_capacity stables.old }

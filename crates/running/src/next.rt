@@ -6,7 +6,7 @@ ghost use Rattle.rv_base.specs.Turns.{turn_actor, turn_entries};
 ghost use Rattle.rv_base.specs.declared.journal.Turn.TheVariants as turn;
 ghost use Rattle.switch_board.specs.Calls.{Adds};
 ghost use Rattle.switch_board.specs.Places.{IsSamePlace};
-ghost use Rattle.running.specs.Hearing.{GoesOn, StopsAt};
+ghost use Rattle.running.specs.Hearing.{Advances, StopsAt};
 
 use crate::fitting::fits_types;
 use of_types::Items;
@@ -58,7 +58,7 @@ fn draws<P: Player, B: Body, R: Wait>(
     requires { place.old.board ≡ board.now.id }
     ensures place { IsSamePlace place.old place.new }
     ensures owed { IfOk result (λ _. owed.new ≡ []) }
-    ensures ok { IfOk result (GoesOn B.sealing P.hears P.locally place.old place.new owed.old (turn.Draw place.old.actor choice keep)) }
+    ensures ok { IfOk result (Advances B.sealing P.hears P.locally place.old place.new owed.old (turn.Draw place.old.actor choice keep)) }
     ensures err { IfErr result (StopsAt B.sealing.size place.old place.new owed.old owed.new) }
 {
     let Some(packet) = draw_next(rt, alloc, board, place, owed, choice, keep)? else {
@@ -82,7 +82,7 @@ fn loses<P: Player, B: Body, R: Wait>(
     requires { place.old.board ≡ board.now.id }
     ensures place { IsSamePlace place.old place.new }
     ensures owed { IfOk result (λ _. owed.new ≡ []) }
-    ensures ok { IfOk result (GoesOn B.sealing P.hears P.locally place.old place.new owed.old (turn.Lose place.old.actor choice)) }
+    ensures ok { IfOk result (Advances B.sealing P.hears P.locally place.old place.new owed.old (turn.Lose place.old.actor choice)) }
     ensures err { IfErr result (StopsAt B.sealing.size place.old place.new owed.old owed.new) }
 {
     let post = mem::replace(owed, Items::new(alloc));
@@ -107,7 +107,7 @@ fn takes_local<P: Player, B: Body, R: Wait>(
     requires { place.old.board ≡ board.now.id }
     ensures place { IsSamePlace place.old place.new }
     ensures owed { IfOk result (λ _. owed.new ≡ []) }
-    ensures ok { IfOk result (GoesOn B.sealing P.hears P.locally place.old place.new owed.old (turn.Local place.old.actor input.now)) }
+    ensures ok { IfOk result (Advances B.sealing P.hears P.locally place.old place.new owed.old (turn.Local place.old.actor input.now)) }
     ensures err { IfErr result (StopsAt B.sealing.size place.old place.new owed.old owed.new) }
 {
     fits_types(input);
@@ -136,7 +136,7 @@ pub fn next_input<P: Player, B: Body, R: Wait>(
     requires mine { turn_actor step.now ≡ place.old.actor }
     ensures place { IsSamePlace place.old place.new }
     ensures owed { IfOk result (λ _. owed.new ≡ []) }
-    ensures ok { IfOk result (GoesOn B.sealing P.hears P.locally place.old place.new owed.old step.now) }
+    ensures ok { IfOk result (Advances B.sealing P.hears P.locally place.old place.new owed.old step.now) }
     ensures err { IfErr result (StopsAt B.sealing.size place.old place.new owed.old owed.new) }
 {
     match step {

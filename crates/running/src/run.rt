@@ -2,7 +2,7 @@
 ghost use Rattle.std.specs.Prelude.{◌≡◌, ◌≤◌, ◌<◌, ℕ, List, All, IfOk, IfErr, drop, length, map, vec_len};
 ghost use Rattle.switch_board.specs.Places.{fresh};
 ghost use Rattle.running.specs.Playing.{ServedPlays, SwitchPlays};
-ghost use Rattle.running.specs.Tasks.{AllRan, IsReady};
+ghost use Rattle.running.specs.Tasks.{AllRan, MayBegin};
 ghost use Rattle.running.specs.Threads.{HaltsApart, HasPlayedApart, StartsApart};
 ghost use Rattle.running.specs.Runs.{actors_up_to, seated, served};
 ghost use Rattle.running.specs.Together.{HasRoom, HavePlayed};
@@ -57,8 +57,8 @@ fn run_both<
     members: Vec<Task<B, Served<A, W>>>,
     others: Vec<Task<B, Switch>>,
 ) -> (Vec<Task<B, Served<A, W>>>, Vec<Task<B, Switch>>)
-    requires members { All (IsReady (ServedPlays A.law W.saving B.sealing) board.now.id steps.now) members.items }
-    requires others { All (IsReady (SwitchPlays B.sealing) board.now.id steps.now) others.items }
+    requires members { All (MayBegin (ServedPlays A.law W.saving B.sealing) board.now.id steps.now) members.items }
+    requires others { All (MayBegin (SwitchPlays B.sealing) board.now.id steps.now) others.items }
     ensures long { (vec_len result.0 ≡ vec_len members) × (vec_len result.1 ≡ vec_len others) }
     ensures members { AllRan (ServedPlays A.law W.saving B.sealing) B.sealing.size steps.now members.items result.0.items }
     ensures others { AllRan (SwitchPlays B.sealing) B.sealing.size steps.now others.items result.1.items }
@@ -66,10 +66,10 @@ fn run_both<
     thread::join(
         rt,
         ||
-            requires { All (IsReady (ServedPlays A.law W.saving B.sealing) board.now.id steps.now) members.items }
+            requires { All (MayBegin (ServedPlays A.law W.saving B.sealing) board.now.id steps.now) members.items }
         { run_all::<Served<A, W>, B, G, R>(rt, alloc, gate, board, steps, members) },
         ||
-            requires { All (IsReady (SwitchPlays B.sealing) board.now.id steps.now) others.items }
+            requires { All (MayBegin (SwitchPlays B.sealing) board.now.id steps.now) others.items }
         { run_all::<Switch, B, G, R>(rt, alloc, gate, board, steps, others) },
     )
 }
@@ -95,9 +95,12 @@ fn play_together<
     requires places { ready.places.items ≡ map (fresh ready.board.id) ready.board.actors }
     requires actors { ready.board.actors ≡ actors_up_to (length controllers.items) (length switches.items) }
     requires served { vec_len controllers ≤ vec_len stables.old }
-    requires members { All (IsReady (ServedPlays A.law W.saving B.sealing) ready.board.id steps.now) (seated ready.places.items (served controllers.items stables.old.items)) }
-    requires others { All (IsReady (SwitchPlays B.sealing) ready.board.id steps.now) (seated (drop (length controllers.items) ready.places.items) switches.items) }
-    ensures { HavePlayed A.law W.saving B.sealing steps.now ready.places.items controllers.items switches.items stables.old.items stables.new.items result.0 result.1 }
+    requires members { All (MayBegin (ServedPlays A.law W.saving B.sealing) ready.board.id steps.now)
+        (seated ready.places.items (served controllers.items stables.old.items)) }
+    requires others { All (MayBegin (SwitchPlays B.sealing) ready.board.id steps.now)
+        (seated (drop (length controllers.items) ready.places.items) switches.items) }
+    ensures { HavePlayed A.law W.saving B.sealing steps.now ready.places.items controllers.items switches.items
+        stables.old.items stables.new.items result.0 result.1 }
 {
     let Ready {
         board,
@@ -157,7 +160,8 @@ pub fn run_threads<
     ensures played { (kinds : List ℕ) → StartsApart A.law W.saving setup.now kinds steps.now controllers.items switches.items stables.old.items →
         IfOk result (HasPlayedApart A.law W.saving B.sealing setup.now kinds steps.now controllers.items stables.old.items stables.new.items) }
     ensures halts { (kinds : List ℕ) → StartsApart A.law W.saving setup.now kinds steps.now controllers.items switches.items stables.old.items →
-        IfErr result (λ halt. HaltsApart A.law W.saving B.sealing setup.now kinds steps.now controllers.items stables.old.items stables.new.items halt.played halt.stop) }
+        IfErr result (λ halt. HaltsApart A.law W.saving B.sealing setup.now kinds steps.now controllers.items
+        stables.old.items stables.new.items halt.played halt.stop) }
 {
     let Ok(ready) = Ready::new(alloc, controllers.len(), switches.len(), stables.len()) else {
         return Err(Halt {

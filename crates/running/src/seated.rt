@@ -22,21 +22,26 @@ use std::alloc::{AllocError, Global};
 
 /// An actor that plays its own steps.
 pub trait Seated<B: Body>: Player {
-    /// In a run of this setup, with applications of these kinds, this actor, which started so, is what these entries of its own make of it, the newest first and
-    /// each draw beside its packet, and owes these letters.
+    /// In a run of this setup, with applications of these kinds, this actor, which started so, is what these entries of its own
+    /// make of it, the newest first and each draw beside its packet, and owes these letters.
     ghost plays: { Setup → List ℕ → Actor → Self → List (JournalEntry B × Option (Packet B)) → Self → List (Letter B) → Type 0 };
 
     /// It stays what it is as it posts what it owes, and at an entry at which it hears nothing.
     fn rests(&self)
-        ensures posts { (setup : Setup) (kinds : List ℕ) (a : Actor) (start : Self) (own : List (JournalEntry B × Option (Packet B))) (owed : List (Letter B)) (before : List (JournalEntry B)) →
+        ensures posts { (setup : Setup) (kinds : List ℕ) (a : Actor) (start : Self) (own : List (JournalEntry B × Option (Packet B)))
+            (owed : List (Letter B)) (before : List (JournalEntry B)) →
             plays setup kinds a start own self.now owed → plays setup kinds a start (beside (posting B.sealing.size a owed before) before ++ own) self.now [] }
-        ensures quiet { (setup : Setup) (kinds : List ℕ) (a : Actor) (start : Self) (own : List (JournalEntry B × Option (Packet B))) (e : JournalEntry B) (found : Option (Packet B)) →
-            Hears B.sealing Self.hears Self.locally e found None → plays setup kinds a start own self.now [] → plays setup kinds a start ((e, found) ∷ own) self.now [] };
+        ensures quiet { (setup : Setup) (kinds : List ℕ) (a : Actor) (start : Self) (own : List (JournalEntry B × Option (Packet B)))
+            (e : JournalEntry B) (found : Option (Packet B)) →
+            Hears B.sealing Self.hears Self.locally e found None →
+            plays setup kinds a start own self.now [] → plays setup kinds a start ((e, found) ∷ own) self.now [] };
 
     /// Takes an input, and says what it says, sealed.
     fn take(&mut self, alloc: Global, input: Self::Input) -> Result<Letters<B>, AllocError>
-        requires { (setup : Setup) × (kinds : List ℕ) × (a : Actor) × (start : Self) × (own : List (JournalEntry B × Option (Packet B))) × plays setup kinds a start own self.old [] }
-        ensures { (setup : Setup) (kinds : List ℕ) (a : Actor) (start : Self) (own : List (JournalEntry B × Option (Packet B))) (e : JournalEntry B) (found : Option (Packet B)) →
+        requires { (setup : Setup) × (kinds : List ℕ) × (a : Actor) × (start : Self) × (own : List (JournalEntry B × Option (Packet B))) ×
+            plays setup kinds a start own self.old [] }
+        ensures { (setup : Setup) (kinds : List ℕ) (a : Actor) (start : Self) (own : List (JournalEntry B × Option (Packet B)))
+            (e : JournalEntry B) (found : Option (Packet B)) →
             Hears B.sealing Self.hears Self.locally e found (Some input) → plays setup kinds a start own self.old [] →
             IfOk result (λ letters. plays setup kinds a start ((e, found) ∷ own) self.new letters) };
 }

@@ -1,6 +1,6 @@
 //! What a thread is given: the job of an actor, and why it stopped.
 ghost use Rattle.std.specs.Prelude.{All, length};
-ghost use Rattle.running.specs.Tasks.{AllRan, HasRun, IsReady};
+ghost use Rattle.running.specs.Tasks.{AllRan, WasRun, MayBegin};
 
 use crate::gate::Gate;
 use crate::job::{Job, play_alone};
@@ -29,8 +29,8 @@ fn run_task<P: Seated<B> + Drop, B: Body, G: Gate, R: Wait>(
     steps: &[Turn],
     task: &mut Task<B, P>,
 )
-    requires { IsReady P.plays board.now.id steps.now task.old }
-    ensures { HasRun P.plays B.sealing.size steps.now task.old task.new }
+    requires { MayBegin P.plays board.now.id steps.now task.old }
+    ensures { WasRun P.plays B.sealing.size steps.now task.old task.new }
 {
     let answer = play_alone::<P, B, G, R>(rt, alloc, gate, board, &mut task.job, steps);
     task.job.place.lawful();
@@ -52,7 +52,7 @@ fn run_tasks<P: Seated<B> + Drop + Send, B: Body + Send, G: Gate + Sync, R: Thre
 where
     P::Input: Send,
     P::Says: Send,
-    requires { All (IsReady P.plays board.now.id steps.now) tasks.old }
+    requires { All (MayBegin P.plays board.now.id steps.now) tasks.old }
     ensures { AllRan P.plays B.sealing.size steps.now tasks.old tasks.new }
 {
     if tasks.is_empty() {
@@ -85,7 +85,7 @@ pub fn run_all<
 where
     P::Input: Send,
     P::Says: Send,
-    requires { All (IsReady P.plays board.now.id steps.now) tasks.items }
+    requires { All (MayBegin P.plays board.now.id steps.now) tasks.items }
     ensures { AllRan P.plays B.sealing.size steps.now tasks.items result.items }
 {
     let mut tasks = tasks;

@@ -6,7 +6,7 @@ use Rattle.switch_board.specs.Places.{fresh, IsPartOf, PlaceState}
 use Rattle.switch_board.specs.Rule.{AreNamed}
 use Rattle.running.specs.Playing.{ServedPlays, SwitchPlays}
 use Rattle.running.specs.Runs.{controller_of, first_stop, place_of, player_of, seated, served, stable_of}
-use Rattle.running.specs.Tasks.{AllRan, IsReady}
+use Rattle.running.specs.Tasks.{AllRan, MayBegin}
 use Rattle.running.proofs.Distinct.{how_many}
 use Rattle.running.proofs.Lists.{behind_none, contains_each, map_long, no_items, served_long}
 use Rattle.running.proofs.Seats.{actors_stay, all_seated, boards_stay, members_seated, others_seated}
@@ -44,7 +44,7 @@ seat-requires-2-clause-places g c =
 pub run_both-members-requires-clause-members : goal.run_both-members-requires-clause-members
 run_both-members-requires-clause-members g c = λ κs bounds.
     let none = c.requires.room.none in
-    subst (λ l. All (IsReady (ServedPlays g.A.App.law g.W.Stable.saving g.B.Body.sealing) c.args.ready.board.id c.args.steps.now) l)
+    subst (λ l. All (MayBegin (ServedPlays g.A.App.law g.W.Stable.saving g.B.Body.sealing) c.args.ready.board.id c.args.steps.now) l)
     (sym (members_seated c.seat.new.tasks.items c.args.ready.members.items _ c.args.ready.places.items c.serve.new.beside.items c.args.ready.served.items c.args.controllers.items _ c.args.stables.now.items
     c.seat.ensures.tasks (no_items c.args.ready.members.len c.args.ready.members.items c.args.ready.members.ok.0 none.1) c.into_iter-places.ensures.rest
     c.serve.ensures.served (no_items c.args.ready.served.len c.args.ready.served.items c.args.ready.served.ok.0 none.0) (c.into_iter-all.ensures.rest ∙ ap (λ v. v.items) c.replace.ensures.value)))
@@ -55,7 +55,7 @@ run_both-members-requires-clause-others g c = λ κs bounds.
     let none = c.requires.room.none in
     let long = c.serve.ensures.long in
     let group = c.args.controllers.ok.0 in
-    subst (λ l. All (IsReady (SwitchPlays g.B.Body.sealing) c.args.ready.board.id c.args.steps.now) l)
+    subst (λ l. All (MayBegin (SwitchPlays g.B.Body.sealing) c.args.ready.board.id c.args.steps.now) l)
     (sym (others_seated c.seat-2.new.tasks.items c.args.ready.others.items _ _ c.args.ready.places.items c.args.switches.items (vec_len c.serve.new.beside) (length c.args.controllers.items)
     c.seat-2.ensures.tasks (no_items c.args.ready.others.len c.args.ready.others.items c.args.ready.others.ok.0 none.2) c.seat.ensures.places c.into_iter-places.ensures.rest (omega (arith, none.0, long, group))))
     c.requires.others

@@ -3,7 +3,7 @@ use Rattle.std.specs.Prelude.{All}
 use Rattle.switch_board.specs.Places.{fresh}
 use Rattle.running.specs.Playing.{ServedPlays, SwitchPlays}
 use Rattle.running.specs.Runs.{actors_up_to, seated, served}
-use Rattle.running.specs.Tasks.{IsReady}
+use Rattle.running.specs.Tasks.{MayBegin}
 use Rattle.running.specs.Together.{HavePlayed}
 use Rattle.running.proofs.Together as together
 use Rattle.running.proofs.run.run_threads.Goals as goal
@@ -14,7 +14,7 @@ play_together-played-requires-clause-members g c = λ κs bounds.
     let id = c.in-Ok.ready.board.id in
     let places_are = c.in-Ok.ensures.places ∙ ap (λ n. map (fresh id) (actors_up_to n c.len-2.result)) (c.len.ensures ∙ c.args.controllers.ok.0)
     ∙ ap (λ n. map (fresh id) (actors_up_to (length c.args.controllers.items) n)) (c.len-2.ensures ∙ c.args.switches.ok.0) in
-    subst (λ p. All (IsReady (ServedPlays g.A.App.law g.W.Stable.saving g.B.Body.sealing) id c.args.steps.now) (seated p (served c.args.controllers.items c.args.stables.now.items))) (sym places_are)
+    subst (λ p. All (MayBegin (ServedPlays g.A.App.law g.W.Stable.saving g.B.Body.sealing) id c.args.steps.now) (seated p (served c.args.controllers.items c.args.stables.now.items))) (sym places_are)
     (together.members_ready g.A.App.law g.W.Stable.saving g.B.Body.sealing c.args.setup.now kinds c.args.steps.now id c.args.controllers.items c.args.switches.items c.args.stables.now.items c.requires.starts.1)
 
 pub play_together-played-requires-clause-others : goal.play_together-played-requires-clause-others
@@ -23,7 +23,7 @@ play_together-played-requires-clause-others g c = λ κs bounds.
     let id = c.in-Ok.ready.board.id in
     let places_are = c.in-Ok.ensures.places ∙ ap (λ n. map (fresh id) (actors_up_to n c.len-2.result)) (c.len.ensures ∙ c.args.controllers.ok.0)
     ∙ ap (λ n. map (fresh id) (actors_up_to (length c.args.controllers.items) n)) (c.len-2.ensures ∙ c.args.switches.ok.0) in
-    subst (λ p. All (IsReady (SwitchPlays g.B.Body.sealing) id c.args.steps.now) (seated (drop (length c.args.controllers.items) p) c.args.switches.items)) (sym places_are)
+    subst (λ p. All (MayBegin (SwitchPlays g.B.Body.sealing) id c.args.steps.now) (seated (drop (length c.args.controllers.items) p) c.args.switches.items)) (sym places_are)
     (together.others_ready g.A.App.law g.W.Stable.saving g.B.Body.sealing c.args.setup.now kinds c.args.steps.now id c.args.controllers.items c.args.switches.items c.args.stables.now.items c.requires.starts.1)
 
 pub returns-in-None-clause-played : goal.returns-in-None-clause-played

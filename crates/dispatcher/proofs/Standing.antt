@@ -134,16 +134,10 @@ module _ (kinds : List ℕ) (setup : Setup) (log : List Entry) (ledger : Ledger)
       (filter_same (wants ledger marks) (is_wanted log marks) (first_commands ledger.pending.items) (wants_is marks) ∙ ap (λ (l : List Issued). filter (is_wanted log marks) l) first_is) in
       rw (unprocessed_is, same) refl
 
-  pub finished_yes : (marks : Marks) (has : Bool) (count : ℕ) → has ≡ nat_lt 0 (length ledger.pending.items) → count ≡ count_by (wants ledger marks) (first_commands ledger.pending.items) →
-      has ≡ true → nat_eq count 0 ≡ is_finished kinds setup log marks
-  finished_yes marks has count h n is =
-      let c : nat_eq count 0 ≡ (true && nat_eq (count_by (wants ledger marks) (first_commands ledger.pending.items)) 0) = ap (λ (k : ℕ). nat_eq k 0) n in
-      c ∙ ap (λ (b : Bool). b && nat_eq (count_by (wants ledger marks) (first_commands ledger.pending.items)) 0) (sym is ∙ h) ∙ finished_is marks
-
-  pub finished_no : (marks : Marks) (has : Bool) → has ≡ nat_lt 0 (length ledger.pending.items) → has ≡ false → has ≡ is_finished kinds setup log marks
-  finished_no marks has h is =
-      let c : has ≡ (false && nat_eq (count_by (wants ledger marks) (first_commands ledger.pending.items)) 0) = is in
-      c ∙ ap (λ (b : Bool). b && nat_eq (count_by (wants ledger marks) (first_commands ledger.pending.items)) 0) (sym is ∙ h) ∙ finished_is marks
+  pub finished_as : (marks : Marks) (has : Bool) (count : ℕ) → has ≡ nat_lt 0 (length ledger.pending.items) → count ≡ count_by (wants ledger marks) (first_commands ledger.pending.items) →
+      (has && nat_eq count 0) ≡ is_finished kinds setup log marks
+  finished_as marks has count h n =
+      ap (λ (b : Bool). b && nat_eq count 0) h ∙ ap (λ (k : ℕ). nat_lt 0 (length ledger.pending.items) && nat_eq k 0) n ∙ finished_is marks
 
   told_is : (commands : List Issued) (switch : ℕ) → has_told ledger commands switch ≡ is_told log commands switch
   told_is commands switch = any_same _ _ commands (λ x. ap (λ (b : Bool). nat_eq x.switch switch && not b) (ended_is x.switch x.life))

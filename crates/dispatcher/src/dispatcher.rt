@@ -22,7 +22,7 @@ use app_core::App;
 use of_types::{Event, Setup};
 use std::alloc::{AllocError, Global};
 use std::marker::Model;
-use two_stage_log::may_come;
+use two_stage_log::{is_processed_by, may_come, may_process};
 use vr_log::{Entry, Log};
 
 /// What a primary makes of the committed log: its application has taken the events of that log, each once and in
@@ -119,7 +119,7 @@ impl<A: App> Dispatcher<A> {
             return Wish::Propose;
         }
         let through = self.ledger.counts_of(event.switch, event.life).processed;
-        if event.life == life && event.number < through {
+        if is_processed_by(event, life, through) {
             Wish::Acknowledge { through }
         } else {
             Wish::Nothing
@@ -203,7 +203,8 @@ impl<A: App> Dispatcher<A> {
     pub fn finished(&self) -> bool
         ensures { ForEachLog (StandsFor A.law self.now) (λ kinds setup log. result ≡ is_finished kinds setup log self.now.marks) }
     {
-        self.ledger.has_unprocessed() && commands::count_wanted(&self.ledger, &self.marks) == 0
+        let wanted = commands::count_wanted(&self.ledger, &self.marks);
+        may_process(self.ledger.has_unprocessed(), wanted)
     }
 
     /// What acknowledges an event that is processed: so many events of its life are, while that life goes on.

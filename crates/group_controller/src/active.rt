@@ -25,6 +25,7 @@ use rv_base::{Letter, Letters, Local};
 use std::alloc::{AllocError, Global};
 use std::marker::Model;
 use std::mem::replace;
+use two_stage_log::committed_behind;
 use vr_core::{Replica, VrInput};
 use vr_log::{Entry, LogFull, Status, VrOut};
 use vr_normal::ProposeFault;
@@ -130,8 +131,8 @@ impl<A: App> Active<A> {
         ensures work { self.new.work ≡ self.old.work }
         ensures promise { self.new.promise ≡ self.old.promise }
     {
-        let committed = self.replica.committed() as usize;
-        let entries = &self.replica.log().as_slice()[before as usize..committed];
+        let committed = self.replica.committed();
+        let entries = committed_behind(self.replica.log(), before, committed);
         self.dispatcher.fold_each(entries)
     }
 

@@ -14,6 +14,10 @@ may_come life next event =
     if nat_eq event.life life then nat_eq event.number next
     else nat_lt life event.life && nat_eq event.number 0 && is_switch_up event.what
 
+-- An event is processed in a log in which its switch has this life, and so many events of it are processed
+abbrev pub is_processed_by : ℕ → ℕ → Event → Bool
+is_processed_by life through event = nat_eq event.life life && nat_lt event.number through
+
 -- an event that is received is not processed
 abbrev pub has_unprocessed : List Entry → Bool
 has_unprocessed log = nat_lt (processed log) (length (received log))

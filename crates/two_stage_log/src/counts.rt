@@ -1,5 +1,5 @@
 //! What is counted in a log. None of these calls takes memory.
-ghost use Rattle.std.specs.Prelude.{◌≡◌, ◌↔◌, ◌≤◌, nat_eq, ◌&&◌, true, length, take, None};
+ghost use Rattle.std.specs.Prelude.{◌≡◌, ◌↔◌, ◌≤◌, nat_eq, ◌&&◌, true, length, take, drop, None};
 ghost use Rattle.of_types.specs.Lives.{count_in};
 ghost use Rattle.vr_log.specs.Log as logs;
 ghost use Rattle.vr_log.specs.Log.{is_log, received, processed, may_follow as may_stand};
@@ -28,6 +28,21 @@ pub fn may_come(event: &Event, life: u32, next: u64) -> bool
     }
 }
 
+/// Whether an event is processed, in a log in which its switch has this life, and so many events of it are processed.
+pub fn is_processed_by(event: &Event, life: u32, through: u64) -> bool
+    ensures { result ≡ counts.is_processed_by life through event.now }
+{
+    event.life == life && event.number < through
+}
+
+/// Whether the first event that is not processed may be proposed as processed: there is one, and none of its commands wants a
+/// result.
+pub fn may_process(unprocessed: bool, wanted: usize) -> bool
+    ensures { result ≡ (unprocessed && nat_eq wanted 0) }
+{
+    unprocessed && wanted == 0
+}
+
 /// The life that a switch has in the log, and the number that its next event of that life has.
 pub fn next_place(log: &Log, switch: u8) -> (u32, u64)
     ensures { result ≡ logs.next_place log.now switch }
@@ -43,6 +58,14 @@ fn front(log: &Log, through: u64) -> &[Entry]
     let entries = log.as_slice();
     let len = entries.len() as u64;
     &entries[..through.min(len) as usize]
+}
+
+/// The committed entries of a log behind so many of them.
+pub fn committed_behind(log: &Log, before: u64, committed: u64) -> &[Entry]
+    requires { (before ≤ committed) × (committed ≤ length log.now) }
+    ensures { result.now ≡ drop before (take committed log.now) }
+{
+    &front(log, committed)[before as usize..]
 }
 
 fn is_processed(entry: &Entry) -> bool

@@ -3,4 +3,7 @@
 
 mod counts;
 
-pub use counts::{first_unprocessed, may_come, may_follow, next_place, processed_of};
+pub use counts::{
+    committed_behind, first_unprocessed, is_processed_by, may_come, may_follow, may_process,
+    next_place, processed_of,
+};

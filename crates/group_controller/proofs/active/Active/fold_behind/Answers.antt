@@ -14,10 +14,11 @@ returns-clause-folds g c = λ kinds setup acts.
     subst (λ a. ActsUpTo g.A.App.law c.args.before a kinds setup) (sym c.self.view_is) acts in
     let log = c.self.inside.replica.log in
     let commit = c.self.inside.replica.commit in
-    let entries : List Entry = take (c.committed-committed.result - c.args.before) (drop c.args.before c.as_slice.result.now) in
+    let entries : List Entry = c.committed_behind-entries.result.now in
     let is : entries ≡ drop c.args.before (take commit log) =
-    ap (λ (n : ℕ). take (n - c.args.before) (drop c.args.before c.as_slice.result.now)) c.committed-committed.ensures
-    ∙ ap (λ (l : List Entry). take (commit - c.args.before) (drop c.args.before l)) (c.as_slice.ensures.entries ∙ c.log.ensures) ∙ part_is c.args.before commit log inside.reach in
+    c.committed_behind-entries.ensures
+    ∙ ap (λ (n : ℕ). drop c.args.before (take n c.log.result.now)) c.committed-committed.ensures
+    ∙ ap (λ (l : List Entry). drop c.args.before (take commit l)) c.log.ensures in
     let joined = parts_join c.args.before commit log inside.reach in
     let folded = c.fold_each.ensures.folds kinds setup (take c.args.before log) inside.stands
     (subst (λ (l : List Entry). follows (take c.args.before log) l ≡ true) (sym is) (part_follows c.args.before commit log inside.reach inside.valid.log.follow)) in

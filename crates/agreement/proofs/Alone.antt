@@ -1,49 +1,40 @@
 -- A group of one: its log only goes on, and so what it shows agrees.
-use Rattle.std.proofs.Common.{◌≡◌, ℕ, ◌<◌, ◌⊎◌, inl, inr, true, Some, None, List, [], ◌∷◌, ◌++◌, refl, sym, ap, ◌∙◌, subst, arith}
-use Rattle.std.proofs.lemmas.Bool.{cases_eq, cases_Bool, false≢true, cond-true, cond-false}
+use Rattle.std.proofs.Common.{◌≡◌, ℕ, ◌<◌, ◌⊎◌, inl, inr, true, List, [], ◌∷◌, ◌++◌, sym, ap, ◌∙◌, subst, arith}
+use Rattle.std.proofs.lemmas.Bool.{cases_Bool, false≢true, cond-true, cond-false}
 use Rattle.lists.proofs.Prefixes.{comparable, front_prefix, prefix_nil, prefix_refl, prefix_trans}
 use Rattle.lists.specs.Lists.{IsPrefix}
-use Rattle.agreement.specs.History.{Group, size, Down, State}
+use Rattle.actor_fold.specs.Fold as step
+use Rattle.actor_fold.specs.Fold.{Step, Standing, standing_on, standing}
+use Rattle.agreement.specs.History.{Group, size, Letter, State}
 use Rattle.agreement.specs.Invariant.{is_up}
 use Rattle.agreement.specs.Laws.{committed_log}
-use Rattle.agreement.specs.Journals.{Rules, Entry, Takes, Posts, Refused, Held, settled_by, held, settled, Follows, GoesOn, kept}
-use Rattle.agreement.proofs.Journals.{held_other, taken, posted_now, refused_now, then_ok}
-
-same_state : {E : Type 0} (s s' : State E) → s' ≡ s → is_up s'.status ≡ true → GoesOn s s'
-same_state {E = E} s s' e u = record { up = ap (λ (x : State E). is_up x.status) (sym e) ∙ u; longer = subst (λ (x : State E). IsPrefix s.log x.log) (sym e) (prefix_refl s.log) }
+use Rattle.agreement.specs.Journals.{Input, Rules, Entry, own_steps, actor_rules, stands, Follows, GoesOn, kept}
+use Rattle.agreement.proofs.Standing.{own_more, AreValid, valid_after}
 
 module _ {Own A E : Type 0} {r : Rules Own A E} {g : Group E} (f : Follows r g) (o : g.most_failures ≡ 0) where
-  -- what the entries so far make of c
-  abbrev stands : ℕ → Held Own A E → State E
-  stands c w = r.state (settled_by r c w.now w.open_input)
+  abbrev after : ℕ → List (Step (Input Own E)) → State E
+  after c steps = r.state (standing (actor_rules r c) (r.start c) steps).now
 
-  entry_goes : (c : ℕ) (e : Entry Own E) (past : List (Entry Own E)) → c < size g → is_up (stands c (held r c (e ∷ past))).status ≡ true → GoesOn (stands c (held r c past)) (stands c (held r c (e ∷ past)))
-  entry_goes c (Takes d x) past b u = elim (cases_eq c d) [
-    | inr ne ↦ same_state (stands c (held r c past)) _ (ap (λ (w : Held Own A E). stands c w) (held_other r c (held r c past) (Takes d x) ne)) u
-    | inl z ↦
-        let is : held r c (Takes d x ∷ past) ≡ record { now = settled r c past; open_input = Some x } = subst (λ (j : ℕ). held r c (Takes j x ∷ past) ≡ record { now = settled r c past; open_input = Some x }) z (taken r c (held r c past) x) in
-        subst (λ (w : Held Own A E). GoesOn (stands c (held r c past)) (stands c w)) (sym is)
-        (f.alone o c (settled r c past) x b (then_ok f c past b) (ap (λ (w : Held Own A E). is_up (stands c w).status) (sym is) ∙ u))
-  ]
-  entry_goes c (Posts d) past b u = elim (cases_eq c d) [
-    | inr ne ↦ same_state (stands c (held r c past)) _ (ap (λ (w : Held Own A E). stands c w) (held_other r c (held r c past) (Posts d) ne)) u
-    | inl z ↦ same_state (stands c (held r c past)) _ (ap (λ (w : Held Own A E). stands c w) (subst (λ (j : ℕ). held r c (Posts j ∷ past) ≡ record { now = settled r c past; open_input = None }) z (posted_now r c (held r c past)))) u
-  ]
-  entry_goes c (Refused d) past b u = elim (cases_eq c d) [
-    | inr ne ↦ same_state (stands c (held r c past)) _ (ap (λ (w : Held Own A E). stands c w) (held_other r c (held r c past) (Refused d) ne)) u
-    | inl z ↦
-        let is : held r c (Refused d ∷ past) ≡ record { now = r.refused c (held r c past).now; open_input = None } =
-        subst (λ (j : ℕ). held r c (Refused j ∷ past) ≡ record { now = r.refused c (held r c past).now; open_input = None }) z (refused_now r c (held r c past)) in
-        let down : (stands c (held r c (Refused d ∷ past))).status ≡ Down = ap (λ (w : Held Own A E). (stands c w).status) is ∙ (f.refuses c (held r c past).now).0.status in
-        absurd (false≢true (ap is_up (sym down) ∙ u))
-  ]
+  step_goes : (c : ℕ) (w : Standing A (Letter E)) (s : Step (Input Own E)) → c < size g → AreValid r c w
+      → (let w' = standing_on (actor_rules r c) w s in is_up (r.state w'.now).status ≡ true → GoesOn (r.state w.now) (r.state w'.now))
+  step_goes c w (step.Takes x) b fine u = f.alone o c w.now x b fine.now u
+  step_goes c w step.Posts b fine u = record { up = u; longer = prefix_refl (r.state w.now).log }
+  step_goes c w step.Refuses b fine u = absurd (false≢true (ap is_up (sym (f.refuses c w.before).0.status) ∙ u))
+  step_goes c w step.Rests b fine u = record { up = u; longer = prefix_refl (r.state w.now).log }
 
-  pub journal_goes : (c : ℕ) (more past : List (Entry Own E)) → c < size g → is_up (stands c (held r c (more ++ past))).status ≡ true → GoesOn (stands c (held r c past)) (stands c (held r c (more ++ past)))
-  journal_goes c [] past b u = same_state (stands c (held r c past)) (stands c (held r c past)) refl u
-  journal_goes c (e ∷ more) past b u =
-      let last = entry_goes c e (more ++ past) b u in
-      let first = journal_goes c more past b last.up in
+  steps_go : (c : ℕ) (more past : List (Step (Input Own E))) → c < size g → is_up (after c (more ++ past)).status ≡ true
+      → GoesOn (after c past) (after c (more ++ past))
+  steps_go c [] past b u = record { up = u; longer = prefix_refl (after c past).log }
+  steps_go c (s ∷ more) past b u =
+      let last = step_goes c (standing (actor_rules r c) (r.start c) (more ++ past)) s b (valid_after f c b (more ++ past)) u in
+      let first = steps_go c more past b last.up in
       record { up = first.up; longer = prefix_trans first.longer last.longer }
+
+  pub journal_goes : (c : ℕ) (more past : List (Entry Own E)) → c < size g
+      → is_up (r.state (stands r c (more ++ past)).now).status ≡ true → GoesOn (r.state (stands r c past).now) (r.state (stands r c (more ++ past)).now)
+  journal_goes c more past b =
+      subst (λ (steps : List (Step (Input Own E))). is_up (after c steps).status ≡ true → GoesOn (after c (own_steps c past)) (after c steps))
+      (sym (own_more c more past)) (λ u. steps_go c (own_steps c more) (own_steps c past) b u)
 
   pub alone_below : (c : ℕ) → c < size g → c ≡ 0
   unfolding size
@@ -53,8 +44,8 @@ module _ {Own A E : Type 0} {r : Rules Own A E} {g : Group E} (f : Follows r g) 
   alone_agrees more past c d b b' =
       let same : d ≡ c = alone_below d b' ∙ sym (alone_below c b) in
       subst (λ (j : ℕ). IsPrefix (kept r c past) (kept r j (more ++ past)) ⊎ IsPrefix (kept r j (more ++ past)) (kept r c past)) (sym same)
-      (let s : State E = stands c (held r c past) in
-      let s' : State E = stands c (held r c (more ++ past)) in
+      (let s : State E = r.state (stands r c past).now in
+      let s' : State E = r.state (stands r c (more ++ past)).now in
       elim (cases_Bool (is_up s'.status)) [
         | inr u ↦ inr (subst (λ (l : List E). IsPrefix l (kept r c past)) (sym (cond-false (is_up s'.status) (committed_log s') [] u)) (prefix_nil (kept r c past)))
         | inl u ↦

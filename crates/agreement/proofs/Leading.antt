@@ -1,16 +1,17 @@
 -- Whose log begins with what is decided.
-use Rattle.std.proofs.Common.{◌≡◌, ℕ, ◌+◌, ◌<◌, ◌≤◌, inl, inr, Bool, true, leb, ltb, None, List, [], ◌∷◌, ◌++◌, length, sym, ap, ◌∙◌, subst, arith}
-use Rattle.std.proofs.lemmas.Bool.{cases_lt, leb-true, ltb-true, cond-true}
+use Rattle.std.proofs.Common.{◌≡◌, ℕ, ◌+◌, ◌<◌, ◌≤◌, inl, inr, Bool, true, false, leb, ltb, List, [], ◌∷◌, ◌++◌, length, sym, ap, ◌∙◌, subst, arith}
+use Rattle.std.proofs.lemmas.Bool.{cases_lt, leb-true, ltb-true, cond-true, cond-false}
 use Rattle.agreement.specs.Lists.{IsAtMost, count_below}
 use Rattle.lists.proofs.Prefixes.{front_prefix, prefix_both, prefix_nil, prefix_trans, take_within}
 use Rattle.lists.specs.Lists.{IsPrefix}
-use Rattle.agreement.specs.History.{Group, size, primary_of, Normal, State, History}
+use Rattle.actor_fold.specs.Fold.{Standing}
+use Rattle.agreement.specs.History.{Group, size, primary_of, Normal, Letter, State, History}
 use Rattle.agreement.specs.Quorums.{has_accepted, HasQuorum, IsSafe, IsCertified, empty, shown}
 use Rattle.agreement.specs.Invariant.{is_up, Invariant, IsGroup}
 use Rattle.agreement.specs.Laws.{Run, still, then, committed_log}
-use Rattle.agreement.specs.Journals.{Rules, Entry, settled_by, held, settled, history, IsLegal, Follows, kept}
+use Rattle.agreement.specs.Journals.{Rules, Entry, stands, history, IsLegal, Follows, kept}
 use Rattle.agreement.specs.Decided.{decided}
-use Rattle.agreement.specs.Leading.{SafeLogsBegin, LaterLogsBegin, PrimariesLead, DecidedIsLed}
+use Rattle.agreement.specs.Leading.{MostPromiseUpTo, SafeLogsBegin, LaterLogsBegin, PrimariesLead, DecidedIsLed}
 use Rattle.agreement.proofs.Counts.{count_share}
 use Rattle.agreement.proofs.Numbers.{below_trans}
 use Rattle.agreement.proofs.Quorums.{quorum_begins}
@@ -108,26 +109,36 @@ module _ {Own A E : Type 0} {r : Rules Own A E} {g : Group E} (f : Follows r g) 
         subst (λ (l : List E). IsCertified g (history r g past) l) (sym x.5) (subst (λ (l : List (Entry Own E)). IsCertified g (history r g l) (kept r x.2 x.1)) (sym x.3) now)
   ]
 
-  many_led : 1 ≤ g.most_failures → (past : List (Entry Own E)) (c : ℕ) → IsLegal r g past → c < size g → (let s = r.state (held r c past).now in
-      s.status ≡ Normal → c ≡ primary_of g s.view → g.most_failures < count_below (λ j. leb (r.promise (held r j past).now) s.view) (size g) → IsPrefix (decided r g past) s.log)
-  many_led o past c k b n is many = lead_law g (history r g past) c (decided r g past) (journal_good f o past k) b n is many (decided_certified o past k)
+  -- where c leads at state s, its log begins with what is decided
+  abbrev IsLed : List (Entry Own E) → ℕ → State E → Type 0
+  IsLed past c s = s.status ≡ Normal → c ≡ primary_of g s.view → MostPromiseUpTo g (history r g past) s.view → IsPrefix (decided r g past) s.log
 
-  one_led : g.most_failures ≡ 0 → (past : List (Entry Own E)) (c : ℕ) → c < size g → (held r c past).open_input ≡ None → (r.state (held r c past).now).status ≡ Normal → IsPrefix (decided r g past) (r.state (held r c past).now).log
-  one_led o past c b closed n = elim (decided_is f past) [
-    | inl e ↦ subst (λ (l : List E). IsPrefix l (r.state (held r c past).now).log) (sym e) (prefix_nil (r.state (held r c past).now).log)
+  many_led : 1 ≤ g.most_failures → (past : List (Entry Own E)) (c : ℕ) → IsLegal r g past → c < size g → (stands r c past).fresh ≡ false
+      → IsLed past c (r.state (stands r c past).now)
+  many_led o past c k b closed =
+      let w : Standing A (Letter E) = stands r c past in
+      subst (λ (a : A). IsLed past c (r.state a)) (cond-false w.fresh w.before w.now closed)
+      (λ n is many. lead_law g (history r g past) c (decided r g past) (journal_good f o past k) b n is many (decided_certified o past k))
+
+  one_led : g.most_failures ≡ 0 → (past : List (Entry Own E)) (c : ℕ) → c < size g
+      → (let s = r.state (stands r c past).now in s.status ≡ Normal → IsPrefix (decided r g past) s.log)
+  one_led o past c b n = elim (decided_is f past) [
+    | inl e ↦ subst (λ (l : List E). IsPrefix l (r.state (stands r c past).now).log) (sym e) (prefix_nil (r.state (stands r c past).now).log)
     | inr x ↦
         let same : x.2 ≡ c = alone_below f o x.2 x.4 ∙ sym (alone_below f o c b) in
-        let is : r.state (settled r c past) ≡ r.state (held r c past).now = ap (λ (q : _). r.state (settled_by r c (held r c past).now q)) closed in
-        let up : is_up (r.state (settled r c (x.0 ++ x.1))).status ≡ true = ap (λ (l : List (Entry Own E)). is_up (r.state (settled r c l)).status) (sym x.3) ∙ ap (λ (s : State E). is_up s.status) is ∙ ap is_up n in
+        let s : State E = r.state (stands r c x.1).now in
+        let up : is_up (r.state (stands r c (x.0 ++ x.1)).now).status ≡ true =
+        ap (λ (l : List (Entry Own E)). is_up (r.state (stands r c l).now).status) (sym x.3) ∙ ap is_up n in
         let on = journal_goes f o c x.0 x.1 b up in
-        let s : State E = r.state (settled r c x.1) in
-        let front : IsPrefix (committed_log s) (r.state (settled r c (x.0 ++ x.1))).log = prefix_trans (front_prefix s.commit s.log) on.longer in
-        let now : IsPrefix (committed_log s) (r.state (held r c past).now).log = subst (λ (z : State E). IsPrefix (committed_log s) z.log) is (subst (λ (l : List (Entry Own E)). IsPrefix (committed_log s) (r.state (settled r c l)).log) (sym x.3) front) in
-        subst (λ (l : List E). IsPrefix l (r.state (held r c past).now).log) (sym (x.5 ∙ ap (λ (j : ℕ). kept r j x.1) same ∙ cond-true (is_up s.status) (committed_log s) [] on.up)) now
+        let front : IsPrefix (committed_log s) (r.state (stands r c (x.0 ++ x.1)).now).log = prefix_trans (front_prefix s.commit s.log) on.longer in
+        let now : IsPrefix (committed_log s) (r.state (stands r c past).now).log =
+        subst (λ (l : List (Entry Own E)). IsPrefix (committed_log s) (r.state (stands r c l).now).log) (sym x.3) front in
+        let decided_is_it : decided r g past ≡ committed_log s = x.5 ∙ ap (λ (j : ℕ). kept r j x.1) same ∙ cond-true (is_up s.status) (committed_log s) [] on.up in
+        subst (λ (l : List E). IsPrefix l (r.state (stands r c past).now).log) (sym decided_is_it) now
   ]
 
 pub led_law : {Own A E : Type 0} → DecidedIsLed Own A E
 led_law r g past c f k b closed n is many = elim (cases_lt 0 g.most_failures) [
-  | inl o ↦ many_led f (omega arith) past c k b n is many
-  | inr o ↦ one_led f (omega arith) past c b closed n
+  | inl o ↦ many_led f (omega arith) past c k b closed n is many
+  | inr o ↦ one_led f (omega arith) past c b n
 ]

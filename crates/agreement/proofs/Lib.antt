@@ -17,10 +17,10 @@ pub mod Walks
 pub mod Conditions
 pub mod Starting
 pub mod Cases
+pub mod Standing
 pub mod Journals
 pub mod Alone
 pub mod Agreeing
 pub mod Lasting
 pub mod Leading
-pub mod Standing
 pub mod Fitting

@@ -1,56 +1,81 @@
--- The two folds of a controller's entries agree.
-use Rattle.std.proofs.Common.{◌≡◌, ◌≢◌, ℕ, inl, inr, true, false, eqb, Some, None, List, [], ◌∷◌, refl, sym, ap, ◌∙◌, subst}
-use Rattle.std.proofs.lemmas.Bool.{cases_eq, false≢true, eq-eqb, ne_eqb, cond-true, cond-false}
-use Rattle.agreement.specs.History.{Group}
-use Rattle.agreement.specs.Journals.{Rules, Entry, Takes, Posts, Refused, Held, settled_by, owed_by, held, settled, IsLegal}
-use Rattle.agreement.specs.Standing.{Standing, standing_on, standing, Stays, IsOrderly, FoldsAgree}
-use Rattle.agreement.proofs.Journals.{actor_of, held_other, taken, posted_now, refused_now}
+-- Where a controller stands after its entries.
+use Rattle.std.proofs.Common.{◌≡◌, ◌≢◌, ℕ, ◌<◌, inl, inr, Bool, true, false, nat_eq, eqb, List, [], ◌∷◌, ◌++◌, map, filter, refl, sym, ap, ◌∙◌, subst}
+use Rattle.std.proofs.lemmas.Bool.{cases_eq, eq-eqb, ne_eqb, cond-true, cond-false}
+use Rattle.std.proofs.lemmas.List.{map-append}
+use Rattle.std.proofs.lemmas.List.Elements.{filter-append}
+use Rattle.lists.proofs.Elements.{in_right}
+use Rattle.actor_fold.specs.Fold as step
+use Rattle.actor_fold.specs.Fold.{Step, Standing, standing, standing_on}
+use Rattle.agreement.specs.History.{Group, size, Letter}
+use Rattle.agreement.specs.Journals.{Input, Local, Heard, Rules, Entry, Takes, Posts, Refused, controller_of, own_step, own_steps, actor_rules, stands, left_by, posted, Comes, MayStand, IsLegal, Follows}
 
--- what stands after some entries, by either fold
-record Same {Own A E : Type 0} (r : Rules Own A E) (c : ℕ) (w : Held Own A E) (v : Standing A E) : Type 0 where
-  now : settled_by r c w.now w.open_input ≡ v.now
-  owes : owed_by r c w.now w.open_input ≡ v.owes
-  before : v.fresh ≡ true → w.now ≡ v.before
+-- the steps of more entries stand behind those of fewer
+pub own_more : {Own E : Type 0} (c : ℕ) (more past : List (Entry Own E)) → own_steps c (more ++ past) ≡ own_steps c more ++ own_steps c past
+own_more {Own} {E} c more past =
+    let is_own : Entry Own E → Bool = λ e. nat_eq (controller_of e) c in
+    ap (λ (own : List (Entry Own E)). map own_step own) (filter-append is_own more past) ∙ map-append own_step (filter is_own more) (filter is_own past)
+
+module _ {Own A E : Type 0} (r : Rules Own A E) where
+  abbrev after : ℕ → List (Entry Own E) → Standing A (Letter E)
+  after c own = standing (actor_rules r c) (r.start c) (map own_step own)
+
+  -- an entry of another changes nothing
+  pub stands_other : (c : ℕ) (e : Entry Own E) (past : List (Entry Own E)) → c ≢ controller_of e → stands r c (e ∷ past) ≡ stands r c past
+  stands_other c e past ne =
+      let d : ℕ = controller_of e in
+      ap (λ (own : List (Entry Own E)). after c own) (cond-false (eqb d c) _ _ (ne_eqb d c (λ z. ne (sym z))))
+
+  -- its own one is its next step
+  pub stands_own : (e : Entry Own E) (past : List (Entry Own E))
+      → (let c = controller_of e in stands r c (e ∷ past) ≡ standing_on (actor_rules r c) (stands r c past) (own_step e))
+  stands_own e past =
+      let c : ℕ = controller_of e in
+      ap (λ (own : List (Entry Own E)). after c own) (cond-true (eqb c c) _ _ (eq-eqb c c refl))
+
+-- its states are valid
+pub record AreValid {Own A E : Type 0} (r : Rules Own A E) (c : ℕ) (w : Standing A (Letter E)) : Type 0 where
+  pub now : r.is_valid c w.now ≡ true
+  pub before : r.is_valid c w.before ≡ true
+
+module _ {Own A E : Type 0} {r : Rules Own A E} {g : Group E} (f : Follows r g) (c : ℕ) (b : c < size g) where
+  pub valid_after : (steps : List (Step (Input Own E))) → AreValid r c (standing (actor_rules r c) (r.start c) steps)
+  valid_after [] = record { now = f.starts_valid c b; before = f.starts_valid c b }
+  valid_after (step.Takes x ∷ steps) = let old = valid_after steps in record { now = f.turns_valid c _ x b old.now; before = old.now }
+  valid_after (step.Posts ∷ steps) = let old = valid_after steps in record { now = old.now; before = old.before }
+  valid_after (step.Refuses ∷ steps) = let old = valid_after steps in record { now = f.refuses_valid c _ b old.before; before = old.before }
+  valid_after (step.Rests ∷ steps) = let old = valid_after steps in record { now = old.now; before = old.before }
+
+  pub stands_valid : (past : List (Entry Own E)) → AreValid r c (stands r c past)
+  stands_valid past = valid_after (own_steps c past)
+
+-- The turn of c that is open: it may still be refused, and was done for an input that has come. Or none is, and c owes nothing.
+pub data OpenTurn {Own A E : Type 0} (r : Rules Own A E) (c : ℕ) (sent : List (Letter E)) (w : Standing A (Letter E)) : Type 0 where
+  turn_open : (x : Input Own E) → Comes c x sent → w.fresh ≡ true
+      → w.now ≡ (r.turn c w.before x).0 → w.owed ≡ (r.turn c w.before x).1 → OpenTurn r c sent w
+  none_open : w.fresh ≡ false → w.owed ≡ [] → OpenTurn r c sent w
+
+comes_more : {Own E : Type 0} (c : ℕ) (x : Input Own E) (new old : List (Letter E)) → Comes c x old → Comes c x (new ++ old)
+comes_more c (Local i) new old k = k
+comes_more c (Heard l) new old k = (k.0, in_right l new old k.1)
 
 module _ {Own A E : Type 0} (r : Rules Own A E) (g : Group E) where
-  standing_other : (c : ℕ) (v : Standing A E) (e : Entry Own E) → c ≢ actor_of e → standing_on r c v e ≡ v
-  standing_other c v (Takes d x) ne = cond-false (eqb d c) _ _ (ne_eqb d c (λ z. ne (sym z)))
-  standing_other c v (Posts d) ne = cond-false (eqb d c) _ _ (ne_eqb d c (λ z. ne (sym z)))
-  standing_other c v (Refused d) ne = cond-false (eqb d c) _ _ (ne_eqb d c (λ z. ne (sym z)))
+  open_more : (c : ℕ) (new old : List (Letter E)) (w : Standing A (Letter E)) → OpenTurn r c old w → OpenTurn r c (new ++ old) w
+  open_more c new old w (turn_open x comes fresh now owed) = turn_open x (comes_more c x new old comes) fresh now owed
+  open_more c new old w (none_open fresh owed) = none_open fresh owed
 
-  same_own : (e : Entry Own E) (past : List (Entry Own E)) → Stays r g e past → Same r (actor_of e) (held r (actor_of e) past) (standing r (actor_of e) past) → Same r (actor_of e) (held r (actor_of e) (e ∷ past)) (standing r (actor_of e) (e ∷ past))
-  same_own (Takes d x) past k s =
-      let v : Standing A E = standing r d past in
-      let new : Standing A E = record { now = (r.turn d v.now x).0; before = v.now; owes = (r.turn d v.now x).1; fresh = true } in
-      let is : standing r d (Takes d x ∷ past) ≡ new = cond-true (eqb d d) _ _ (eq-eqb d d refl) in
-      subst (λ (w : Held Own A E). Same r d w (standing r d (Takes d x ∷ past))) (sym (taken r d (held r d past) x)) (subst (λ (q : Standing A E). Same r d (record { now = settled r d past; open_input = Some x }) q) (sym is)
-      (record { now = ap (λ (a : A). (r.turn d a x).0) s.now; owes = ap (λ (a : A). (r.turn d a x).1) s.now; before = λ e. s.now }))
-  same_own (Posts d) past k s =
-      let v : Standing A E = standing r d past in
-      let new : Standing A E = record v { owes = []; fresh = false } in
-      let is : standing r d (Posts d ∷ past) ≡ new = cond-true (eqb d d) _ _ (eq-eqb d d refl) in
-      subst (λ (w : Held Own A E). Same r d w (standing r d (Posts d ∷ past))) (sym (posted_now r d (held r d past))) (subst (λ (q : Standing A E). Same r d (record { now = settled r d past; open_input = None }) q) (sym is)
-      (record { now = s.now; owes = refl; before = λ e. absurd (false≢true e) }))
-  same_own (Refused d) past k s =
-      let v : Standing A E = standing r d past in
-      let new : Standing A E = record { now = r.refused d v.before; before = v.before; owes = []; fresh = false } in
-      let is : standing r d (Refused d ∷ past) ≡ new = cond-true (eqb d d) _ _ (eq-eqb d d refl) in
-      subst (λ (w : Held Own A E). Same r d w (standing r d (Refused d ∷ past))) (sym (refused_now r d (held r d past))) (subst (λ (q : Standing A E). Same r d (record { now = r.refused d (held r d past).now; open_input = None }) q) (sym is)
-      (record { now = ap (λ (a : A). r.refused d a) (s.before k.1); owes = refl; before = λ e. absurd (false≢true e) }))
+  open_own : (e : Entry Own E) (past : List (Entry Own E)) → MayStand r g e past
+      → (let c = controller_of e in OpenTurn r c (posted r (e ∷ past)) (standing_on (actor_rules r c) (stands r c past) (own_step e)))
+  open_own (Takes d x) past k = turn_open x k.1 refl refl refl
+  open_own (Posts d) past k = none_open refl refl
+  open_own (Refused d) past k = none_open refl refl
 
-  same_all : (past : List (Entry Own E)) → IsOrderly r g past → (c : ℕ) → Same r c (held r c past) (standing r c past)
-  same_all [] k c = record { now = refl; owes = refl; before = λ e. absurd (false≢true e) }
-  same_all (e ∷ past) k c = elim (cases_eq c (actor_of e)) [
-    | inl z ↦ subst (λ (j : ℕ). Same r j (held r j (e ∷ past)) (standing r j (e ∷ past))) (sym z) (same_own e past k.0 (same_all past k.1 (actor_of e)))
-    | inr ne ↦ subst (λ (w : Held Own A E). Same r c w (standing r c (e ∷ past))) (sym (held_other r c (held r c past) e ne))
-        (subst (λ (v : Standing A E). Same r c (held r c past) v) (sym (standing_other c (standing r c past) e ne)) (same_all past k.1 c))
+  pub open_turn : (past : List (Entry Own E)) → IsLegal r g past → (c : ℕ) → OpenTurn r c (posted r past) (stands r c past)
+  open_turn [] k c = none_open refl refl
+  open_turn (e ∷ past) k c = elim (cases_eq c (controller_of e)) [
+    | inl z ↦
+        let own : OpenTurn r (controller_of e) (posted r (e ∷ past)) (stands r (controller_of e) (e ∷ past)) =
+        subst (λ (w : Standing A (Letter E)). OpenTurn r (controller_of e) (posted r (e ∷ past)) w) (sym (stands_own r e past)) (open_own e past k.0) in
+        subst (λ (j : ℕ). OpenTurn r j (posted r (e ∷ past)) (stands r j (e ∷ past))) (sym z) own
+    | inr ne ↦ subst (λ (w : Standing A (Letter E)). OpenTurn r c (posted r (e ∷ past)) w) (sym (stands_other r c e past ne))
+        (open_more c (left_by r e past) (posted r past) (stands r c past) (open_turn past k.1 c))
   ]
-
-  legal : (past : List (Entry Own E)) → IsOrderly r g past → IsLegal r g past
-  legal [] k = tt
-  legal (Takes d x ∷ past) k = ((k.0.0, k.0.1, (same_all past k.1 d).owes ∙ k.0.2), legal past k.1)
-  legal (Posts d ∷ past) k = (k.0, legal past k.1)
-  legal (Refused d ∷ past) k = (k.0.0, legal past k.1)
-
-pub folds_law : {Own A E : Type 0} → FoldsAgree Own A E
-folds_law r g past k = (legal r g past k, (λ c. let s = same_all r g past k c in record { now = s.now; owes = s.owes }))

@@ -1,6 +1,8 @@
 -- Histories of journals, for any rules of a controller. A journal lists what controllers take and post. Its past stands
 -- newest first.
-use Rattle.std.specs.Prelude.{◌≡◌, ◌≢◌, ℕ, ◌<◌, ◌≤◌, ◌⊎◌, Bool, true, false, ◌&&◌, nat_eq, Option, Some, None, List, [], ◌∷◌, ◌++◌, if◌then◌else◌, ⊤}
+use Rattle.std.specs.Prelude.{◌≡◌, ◌≢◌, ℕ, ◌<◌, ◌≤◌, ◌⊎◌, Bool, true, false, ◌&&◌, nat_eq, List, [], ◌∷◌, ◌++◌, map, filter, if◌then◌else◌, ⊤}
+use Rattle.actor_fold.specs.Fold as step
+use Rattle.actor_fold.specs.Fold.{Step, Standing, ActorRules, standing}
 use Rattle.lists.specs.Lists.{IsIn, IsPrefix}
 use Rattle.agreement.specs.History.{Group, size, primary_of, Status, Normal, ViewChange, Recovering, Down, Letter, State, History}
 use Rattle.agreement.specs.Invariant.{is_up, Invariant, IsGroup}
@@ -30,41 +32,41 @@ pub data Entry (Own E : Type 0) : Type 0 where
   Posts : (c : ℕ) → Entry Own E
   Refused : (c : ℕ) → Entry Own E
 
--- a state that no refusal takes back any more, and the input since then, which is open
-pub record Held (Own A E : Type 0) : Type 0 where
-  pub now : A
-  pub open_input : Option (Input Own E)
+-- whose entry it is, and what it is to that controller
+abbrev pub controller_of : {Own E : Type 0} → Entry Own E → ℕ
+controller_of (Takes c x) = c
+controller_of (Posts c) = c
+controller_of (Refused c) = c
 
--- the state with the open input done, and what that input owes
-abbrev pub settled_by : {Own A E : Type 0} → Rules Own A E → ℕ → A → Option (Input Own E) → A
-settled_by r c a None = a
-settled_by r c a (Some x) = (r.turn c a x).0
+abbrev pub own_step : {Own E : Type 0} → Entry Own E → Step (Input Own E)
+own_step (Takes c x) = step.Takes x
+own_step (Posts c) = step.Posts
+own_step (Refused c) = step.Refuses
 
-abbrev pub owed_by : {Own A E : Type 0} → Rules Own A E → ℕ → A → Option (Input Own E) → List (Letter E)
-owed_by r c a None = []
-owed_by r c a (Some x) = (r.turn c a x).1
+-- the entries of controller c in a past, as its steps
+abbrev pub own_steps : {Own E : Type 0} → ℕ → List (Entry Own E) → List (Step (Input Own E))
+own_steps c past = map own_step (filter (λ e. nat_eq (controller_of e) c) past)
 
--- an entry of c closes its open input: a next one or a post lets it stand, and a refusal takes it back
-abbrev pub held_on : {Own A E : Type 0} → Rules Own A E → ℕ → Held Own A E → Entry Own E → Held Own A E
-held_on r c w (Takes d x) = if nat_eq d c then record { now = settled_by r c w.now w.open_input; open_input = Some x } else w
-held_on r c w (Posts d) = if nat_eq d c then record { now = settled_by r c w.now w.open_input; open_input = None } else w
-held_on r c w (Refused d) = if nat_eq d c then record { now = r.refused c w.now; open_input = None } else w
+-- controller c takes an input, and owes what its turn says. No saves are counted here
+abbrev pub took : {Own A E : Type 0} → Rules Own A E → ℕ → Standing A (Letter E) → Input Own E → Standing A (Letter E)
+took r c w x = let turn = r.turn c w.now x in record w { now = turn.0; before = w.now; owed = turn.1; fresh = true }
 
--- where c stands after a past
-abbrev pub held : {Own A E : Type 0} → Rules Own A E → ℕ → List (Entry Own E) → Held Own A E
-held r c [] = record { now = r.start c; open_input = None }
-held r c (e ∷ past) = held_on r c (held r c past) e
+-- the rules of controller c as those of an actor
+abbrev pub actor_rules : {Own A E : Type 0} → Rules Own A E → ℕ → ActorRules A (Input Own E) (Letter E)
+actor_rules r c = record { takes = took r c; refused = r.refused c }
 
-abbrev pub settled : {Own A E : Type 0} → Rules Own A E → ℕ → List (Entry Own E) → A
-settled r c past = settled_by r c (held r c past).now (held r c past).open_input
+-- where controller c stands after a past
+abbrev pub stands : {Own A E : Type 0} → Rules Own A E → ℕ → List (Entry Own E) → Standing A (Letter E)
+stands r c past = standing (actor_rules r c) (r.start c) (own_steps c past)
 
-abbrev pub owed : {Own A E : Type 0} → Rules Own A E → ℕ → List (Entry Own E) → List (Letter E)
-owed r c past = owed_by r c (held r c past).now (held r c past).open_input
+-- the state that no refusal takes back any more: that before the newest entry, where it took an input
+abbrev pub firm : {A L : Type 0} → Standing A L → A
+firm w = if w.fresh then w.before else w.now
 
 -- the letters that an entry adds to those that were posted
 abbrev pub left_by : {Own A E : Type 0} → Rules Own A E → Entry Own E → List (Entry Own E) → List (Letter E)
 left_by r (Takes d x) past = []
-left_by r (Posts d) past = owed r d past
+left_by r (Posts d) past = (stands r d past).owed
 left_by r (Refused d) past = []
 
 abbrev pub posted : {Own A E : Type 0} → Rules Own A E → List (Entry Own E) → List (Letter E)
@@ -83,15 +85,15 @@ tracked v s old = if is_normal s.status && nat_eq s.view v then s.log else old
 
 abbrev pub logs : {Own A E : Type 0} → Rules Own A E → Group E → List (Entry Own E) → ℕ → List E
 logs r g [] v = []
-logs r g (e ∷ past) v = tracked v (r.state (held r (primary_of g v) (e ∷ past)).now) (logs r g past v)
+logs r g (e ∷ past) v = tracked v (r.state (firm (stands r (primary_of g v) (e ∷ past)))) (logs r g past v)
 
 -- the history of a past: of each controller the state that no refusal takes back
 abbrev pub history : {Own A E : Type 0} → Rules Own A E → Group E → List (Entry Own E) → History E
 history r g past =
     record {
-      state = λ c. r.state (held r c past).now;
-      promise = λ c. r.promise (held r c past).now;
-      life = λ c. r.life (held r c past).now;
+      state = λ c. r.state (firm (stands r c past));
+      promise = λ c. r.promise (firm (stands r c past));
+      life = λ c. r.life (firm (stands r c past));
       sent = posted r past;
       logs = logs r g past;
     }
@@ -101,11 +103,12 @@ abbrev pub Comes : {Own E : Type 0} → ℕ → Input Own E → List (Letter E) 
 Comes c (Local i) sent = ⊤
 Comes c (Heard l) sent = (l.receiver ≡ c) × IsIn l sent
 
--- The entry may stand behind a past. An input comes where nothing is owed. A letter may come again, late, or never.
+-- The entry may stand behind a past. An input comes where nothing is owed, and is refused where it is still its controller's
+-- newest entry. A letter may come again, late, or never.
 abbrev pub MayStand : {Own A E : Type 0} → Rules Own A E → Group E → Entry Own E → List (Entry Own E) → Type 0
-MayStand r g (Takes c x) past = (c < size g) × Comes c x (posted r past) × (owed r c past ≡ [])
+MayStand r g (Takes c x) past = (c < size g) × Comes c x (posted r past) × ((stands r c past).owed ≡ [])
 MayStand r g (Posts c) past = c < size g
-MayStand r g (Refused c) past = c < size g
+MayStand r g (Refused c) past = (c < size g) × ((stands r c past).fresh ≡ true)
 
 abbrev pub IsLegal : {Own A E : Type 0} → Rules Own A E → Group E → List (Entry Own E) → Type 0
 IsLegal r g [] = ⊤
@@ -141,9 +144,9 @@ pub record Follows {Own A E : Type 0} (r : Rules Own A E) (g : Group E) : Type 0
   pub refuses : (c : ℕ) (a : A) → Resembles (fallen (r.state a)) (r.state (r.refused c a))
       × (r.promise (r.refused c a) ≡ r.promise a) × (r.life (r.refused c a) ≡ r.life a)
 
--- what c shows as committed, where it is up: that of its state with the open input done
+-- what c shows as committed, where it is up: that of its state, also while its newest input may still be refused
 abbrev pub kept : {Own A E : Type 0} → Rules Own A E → ℕ → List (Entry Own E) → List E
-kept r c past = let s = r.state (settled r c past) in if is_up s.status then committed_log s else []
+kept r c past = let s = r.state (stands r c past).now in if is_up s.status then committed_log s else []
 
 -- whatever two controllers show, at any two times of a journal, one of the two logs begins the other
 abbrev pub JournalsAgree : Type 0 → Type 0 → Type 0 → Type 0

@@ -1,12 +1,12 @@
 -- Whose log begins with what is decided: one that is safe for a view that f + 1 promises are below.
-use Rattle.std.specs.Prelude.{◌≡◌, ℕ, ◌<◌, nat_lt, nat_le, None, List}
+use Rattle.std.specs.Prelude.{◌≡◌, ℕ, ◌<◌, false, nat_lt, nat_le, List}
 use Rattle.agreement.specs.Lists.{count_below}
 use Rattle.lists.specs.Lists.{IsPrefix}
 use Rattle.agreement.specs.History.{Group, size, primary_of, Normal, History}
 use Rattle.agreement.specs.Quorums.{IsSafe, IsCertified}
 use Rattle.agreement.specs.Invariant.{Invariant, IsGroup}
 use Rattle.agreement.specs.Laws.{Run}
-use Rattle.agreement.specs.Journals.{Rules, Entry, held, history, IsLegal, Follows}
+use Rattle.agreement.specs.Journals.{Rules, Entry, stands, history, IsLegal, Follows}
 use Rattle.agreement.specs.Decided.{decided}
 
 -- f + 1 controllers have promised a view below w
@@ -32,9 +32,9 @@ abbrev pub PrimariesLead : Type 0 → Type 0
 PrimariesLead E = (g : Group E) (h : History E) (c : ℕ) (ys : List E) → Invariant g h → c < size g
     → (h.state c).status ≡ Normal → c ≡ primary_of g (h.state c).view → MostPromiseUpTo g h (h.state c).view → IsCertified g h ys → IsPrefix ys (h.state c).log
 
--- and so with what a journal has decided, where no input of the primary is open
+-- and so with what a journal has decided, where no input of the primary may still be refused
 abbrev pub DecidedIsLed : Type 0 → Type 0 → Type 0 → Type 0
 DecidedIsLed Own A E = (r : Rules Own A E) (g : Group E) (past : List (Entry Own E)) (c : ℕ) → Follows r g → IsLegal r g past → c < size g
-    → (held r c past).open_input ≡ None
-    → (let s = r.state (held r c past).now in
+    → (stands r c past).fresh ≡ false
+    → (let s = r.state (stands r c past).now in
     s.status ≡ Normal → c ≡ primary_of g s.view → MostPromiseUpTo g (history r g past) s.view → IsPrefix (decided r g past) s.log)

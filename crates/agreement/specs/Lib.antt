@@ -9,5 +9,4 @@ pub mod Effects
 pub mod Journals
 pub mod Decided
 pub mod Leading
-pub mod Standing
 pub mod Fitting

@@ -6,7 +6,6 @@ ghost use Rattle.agreement.specs.Laws.{CertifiedLogsAgree, CommittedLogsAgree, F
 ghost use Rattle.agreement.specs.Turns.{ShownLogsAgree};
 ghost use Rattle.agreement.specs.Journals.{JournalsAgree};
 ghost use Rattle.agreement.specs.Decided.{DecisionsLast};
-ghost use Rattle.agreement.specs.Standing.{FoldsAgree};
 ghost use Rattle.agreement.specs.Leading.{DecidedIsLed, LaterLogsBegin, PrimariesLead, SafeLogsBegin};
 ghost use Rattle.agreement.specs.Fitting.{FitsMakeGroups, FitsTestLast};
 
@@ -100,10 +99,4 @@ pub fn fits_make_groups<E>()
 /// Such a list with one entry more is a log just where the list is one and the entry fits behind it.
 pub fn fits_test_last<E>()
     ensures { FitsTestLast E }
-{}
-
-/// A past that is orderly by the fold which keeps the state before the newest input is legal, and both folds
-/// give each controller the same state and the same debt.
-pub fn folds_agree<Own, A, E>()
-    ensures { FoldsAgree Own A E }
 {}

@@ -9,9 +9,8 @@ use Rattle.lists.proofs.Prefixes.{front_prefix, prefix_nil, prefix_trans}
 use Rattle.agreement.specs.History.{Group, State}
 use Rattle.agreement.specs.Invariant as agreed
 use Rattle.agreement.specs.Journals as journal
-use Rattle.agreement.specs.Journals.{Rules, GoesOn, settled}
+use Rattle.agreement.specs.Journals.{Rules, GoesOn, stands}
 use Rattle.agreement.proofs.Alone.{journal_goes}
-use Rattle.agreement.proofs.Standing.{folds_law}
 use Rattle.vr_log.specs.declared.entry.Entry.{Entry}
 use Rattle.vr_log.specs.declared.state.Status.{Status}
 use Rattle.vr_log.specs.declared.state.Status.TheVariants.{Normal, ViewChange, Recovering, Down}
@@ -27,7 +26,7 @@ use Rattle.rv_runs.specs.Committed.{controller_state, decided, kept}
 use Rattle.rv_agreement.specs.Projection.{past_of, rules_of}
 use Rattle.rv_agreement.specs.Reading.{WhereValid}
 use Rattle.rv_agreement.proofs.Agreeing.{past_on}
-use Rattle.rv_agreement.proofs.Journals.{in_group, past_orderly}
+use Rattle.rv_agreement.proofs.Journals.{in_group}
 use Rattle.rv_agreement.proofs.Lasting.{decided_kept}
 use Rattle.rv_agreement.proofs.Reading.{IsReadPast, read_drop, read_past}
 use Rattle.rv_agreement.proofs.Standing.{stands_alike}
@@ -52,10 +51,8 @@ module _ {B : Type 0} (scene : Scene B) (results : List (List SaveResult)) (setu
   read = read_past scene results P possible (WhereValid faithful (events_valid scene results P possible (λ i. always scene results setup faithful P possible (suc i))))
 
   -- the state of a member after an earlier past
-  state_at : (c : ℕ) (Q : List (JournalEntry B)) → IsReadPast scene results Q → r.state (settled r c (past_of scene Q)) ≡ state_of (controller_state scene results c Q).vr
-  state_at c Q was =
-      let agrees = folds_law r g (past_of scene Q) (past_orderly scene results 0 alone Q was).orderly in
-      ap (λ (a : SavingController). r.state a) ((agrees.1 c).now ∙ (stands_alike scene results 0 c alone Q was.possible.orderly).now)
+  state_at : (c : ℕ) (Q : List (JournalEntry B)) → IsReadPast scene results Q → r.state (stands r c (past_of scene Q)).now ≡ state_of (controller_state scene results c Q).vr
+  state_at c Q was = ap (λ (a : SavingController). r.state a) (stands_alike scene results 0 c alone Q was.possible.orderly).now
 
   goes : (c i : ℕ) → c < scene.setup.controllers → is_up (controller_state scene results c P).vr ≡ true →
       IsPrefix (controller_state scene results c (drop i P)).vr.log (controller_state scene results c P).vr.log
@@ -64,12 +61,12 @@ module _ {B : Type 0} (scene : Scene B) (results : List (List SaveResult)) (setu
       let x = past_on scene results 0 alone (take i P) late in
       let whole : past_of scene P ≡ x.0 ++ past_of scene late = ap (λ (es : List (JournalEntry B)). past_of scene es) (sym (take-append-drop i P)) ∙ x.1 in
       let then_is = state_at c late (read_drop scene results i P read) in
-      let now_is = ap (λ (es : List (journal.Entry OwnInput Entry)). r.state (settled r c es)) (sym whole) ∙ state_at c P read in
-      let on : GoesOn (r.state (settled r c (past_of scene late))) (r.state (settled r c (x.0 ++ past_of scene late))) =
+      let now_is = ap (λ (es : List (journal.Entry OwnInput Entry)). r.state (stands r c es).now) (sym whole) ∙ state_at c P read in
+      let on : GoesOn (r.state (stands r c (past_of scene late)).now) (r.state (stands r c (x.0 ++ past_of scene late)).now) =
       journal_goes (follow_law scene.kinds scene.setup 0 (λ d. results_of results d)) refl c x.0 (past_of scene late) (in_group scene results 0 alone c there)
       (ap (λ (s : State Entry). agreed.is_up s.status) now_is ∙ status_up (controller_state scene results c P).vr.status up) in
       subst (λ (s : State Entry). IsPrefix (controller_state scene results c late).vr.log s.log) now_is
-      (subst (λ (s : State Entry). IsPrefix s.log (r.state (settled r c (x.0 ++ past_of scene late))).log) then_is on.longer)
+      (subst (λ (s : State Entry). IsPrefix s.log (r.state (stands r c (x.0 ++ past_of scene late)).now).log) then_is on.longer)
 
   kept_before : (c i : ℕ) → c < scene.setup.controllers → is_up (controller_state scene results c P).vr ≡ true → IsPrefix (kept scene results c (drop i P)) (controller_state scene results c P).vr.log
   kept_before c i there up =

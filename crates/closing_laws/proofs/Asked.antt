@@ -43,7 +43,7 @@ use Rattle.rv_runs.specs.Messages.{IsValidMessage, FitsMessage, way_of, way_of_m
 use Rattle.rv_runs.specs.States.{Scene, Sealing, ControllerAt, SwitchAt, IsFaithful, content, switch_hears, controller_hears, controller_message, controller_saved, controller_took, controller_at, switch_at, switch_step}
 use Rattle.rv_runs.specs.Legal.{IsPossible, results_of}
 use Rattle.rv_runs.specs.Committed.{controller_state}
-use Rattle.rv_runs.specs.Inputs.{IsHeardAt, From_draw, From_local}
+use Rattle.rv_runs.specs.Inputs.{IsHeardAt, By_draw, By_local}
 use Rattle.rv_runs.proofs.Entries.{Mine, Another, switch_after, SwitchGoes, Takes, Rests, Posts, Refuses, switch_goes}
 use Rattle.rv_runs.proofs.Pasts.{possible_before, from_some, self_controller}
 use Rattle.rv_runs.proofs.Pools.{one_actor, drawn_found, IsPosted, Was, New, pool_after}
@@ -209,7 +209,7 @@ module _ {B : Type 0} (scene : Scene B) (results : List (List SaveResult)) (setu
     -- a request that a switch hears is for a master, and stood in the pool
     hears_asked : (s : ℕ) (x : SwitchInput) → same_actor (actor_of e) (actor.Switch s) ≡ true → IsHeardAt scene e (drawn e before) x → (c xid role generation : ℕ) → x ≡ switch_input.Of c xid (asks_for role generation) →
         (role ≡ MASTER) × Led before generation
-    hears_asked s x same (From_draw a id keep p is found hears) c xid role generation asks =
+    hears_asked s x same (By_draw a id keep p is found hears) c xid role generation asks =
         let r = drawn_found scene.sealing.size a id keep before (subst (λ (y : JournalEntry B). IsOrderly scene.sealing.size (y ∷ before)) is legal.orderly) in
         let it : r.packet ≡ p = from_some r.packet p (sym r.found ∙ ap (λ (y : JournalEntry B). drawn y before) (sym is) ∙ found) in
         let mine : a ≡ actor.Switch s = one_actor a (actor.Switch s) (ap (λ (y : JournalEntry B). same_actor (actor_of y) (actor.Switch s)) (sym is) ∙ same) in
@@ -219,7 +219,7 @@ module _ {B : Type 0} (scene : Scene B) (results : List (List SaveResult)) (setu
         let told = heard_by_switch scene.kinds scene.setup (facts_of scene results before) s p.from p.to (content scene.sealing p) goes (holds.packets p among) in
         let heard = subst (λ (y : SwitchInput). IsHeardBySwitch scene.kinds scene.setup (facts_of scene results before) s y) (sym hears ∙ asks) told in
         (heard.0, old.packets p among c xid role generation says.0 says.1)
-    hears_asked s x same (From_local a input is hears) c xid role generation asks =
+    hears_asked s x same (By_local a input is hears) c xid role generation asks =
         let no : switch_input.Local input ≡ switch_input.Of c xid (asks_for role generation) = sym hears ∙ asks in absurd cc
 
     abbrev BothAsked : List (JournalEntry B) → SwitchAt → Type 0

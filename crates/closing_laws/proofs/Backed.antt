@@ -7,21 +7,22 @@ use Rattle.rv_base.specs.declared.journal.JournalEntry.TheVariants.{Post}
 use Rattle.rv_base.specs.declared.journal.Letter.{Letter}
 use Rattle.rv_base.specs.declared.journal.SaveResult.{SaveResult}
 use Rattle.rv_base.specs.Part.{part}
+use Rattle.actor_fold.specs.Fold.{Standing}
 use Rattle.agreement.specs.Lists.{count_below}
 use Rattle.agreement.specs.History as core
 use Rattle.agreement.specs.History.{Group, History, size, primary_of}
 use Rattle.agreement.specs.Invariant.{Invariant, IsGroup}
 use Rattle.agreement.specs.Journals as journal
-use Rattle.agreement.specs.Journals.{Rules, Follows, history, held, settled}
+use Rattle.agreement.specs.Journals.{Rules, Follows, history, stands, firm}
 use Rattle.agreement.specs.Laws.{Run, still, then}
 use Rattle.agreement.proofs.Agreeing as agreeing
 use Rattle.agreement.proofs.Backing.{backed_law}
 use Rattle.agreement.proofs.Counts.{count_more}
 use Rattle.agreement.proofs.Frame.{promise_more}
-use Rattle.agreement.proofs.Journals.{journal_runs, posted_now, then_ok}
+use Rattle.agreement.proofs.Journals.{journal_runs}
 use Rattle.agreement.proofs.Keeping.{move_keeps}
 use Rattle.agreement.proofs.Runs.{start_good, run_keeps}
-use Rattle.agreement.proofs.Standing.{folds_law}
+use Rattle.agreement.proofs.Standing.{stands_own, stands_valid}
 use Rattle.vr_log.specs.declared.entry.Entry.{Entry}
 use Rattle.vr_log.specs.declared.state.VrState.{VrState}
 use Rattle.vr_log.specs.Members as member
@@ -35,7 +36,7 @@ use Rattle.rv_runs.specs.Legal.{results_of}
 use Rattle.rv_runs.specs.Committed.{controller_state}
 use Rattle.rv_agreement.specs.Projection.{past_of, rules_of}
 use Rattle.rv_agreement.proofs.Agreeing.{past_on}
-use Rattle.rv_agreement.proofs.Journals.{in_group, past_orderly}
+use Rattle.rv_agreement.proofs.Journals.{in_group, past_legal}
 use Rattle.rv_agreement.proofs.Reading.{IsReadPast, read_before}
 use Rattle.rv_agreement.proofs.Standing.{saving, stands_alike}
 
@@ -46,23 +47,23 @@ run_promises gr i (then c b r m) j = le_trans (run_promises gr i r j) (promise_m
 
 module _ {Own A E : Type 0} {r : Rules Own A E} {g : Group E} (f : Follows r g) (o : 1 ≤ g.most_failures) where
   -- nor in a journal, of what no refusal takes back
-  pub promises_rise : (more past : List (journal.Entry Own E)) → journal.IsLegal r g (more ++ past) → (j : ℕ) → r.promise (held r j past).now ≤ r.promise (held r j (more ++ past)).now
+  pub promises_rise : (more past : List (journal.Entry Own E)) → journal.IsLegal r g (more ++ past) → (j : ℕ) → r.promise (firm (stands r j past)) ≤ r.promise (firm (stands r j (more ++ past)))
   promises_rise more past k j =
       let good = agreeing.journal_good f o past (agreeing.legal_past r g more past k) in
       run_promises f.group good (journal_runs f o more past good k) j
 
   -- f + 1 controllers promise the view of one that leads, at each later time
-  pub backed_since : (more past : List (journal.Entry Own E)) (c : ℕ) → journal.IsLegal r g (more ++ past) → c < size g → (let s = r.state (held r c past).now in
-      s.status ≡ core.Normal → c ≡ primary_of g s.view → 1 ≤ s.view → g.most_failures < count_below (λ j. leb s.view (r.promise (held r j (more ++ past)).now)) (size g))
+  pub backed_since : (more past : List (journal.Entry Own E)) (c : ℕ) → journal.IsLegal r g (more ++ past) → c < size g → (let s = r.state (firm (stands r c past)) in
+      s.status ≡ core.Normal → c ≡ primary_of g s.view → 1 ≤ s.view → g.most_failures < count_below (λ j. leb s.view (r.promise (firm (stands r j (more ++ past))))) (size g))
   backed_since more past c k b n is some =
       let k1 = agreeing.legal_past r g more past k in
       let i0 = start_good f.group f.starts in
       let run : Run g (history r g []) (history r g past) =
       subst (λ (x : List (journal.Entry Own E)). Run g (history r g []) (history r g x)) (append-nil past) (journal_runs f o past [] i0 (subst (λ (x : List (journal.Entry Own E)). journal.IsLegal r g x) (sym (append-nil past)) k1)) in
-      let view : ℕ = (r.state (held r c past).now).view in
+      let view : ℕ = (r.state (firm (stands r c past))).view in
       let then_many = backed_law g (history r g []) (history r g past) f.group f.starts run c b n is some in
-      let more_now = count_more (λ j. leb view (r.promise (held r j past).now)) (λ j. leb view (r.promise (held r j (more ++ past)).now)) (size g)
-      (λ j l e. let u = leb-true view (r.promise (held r j past).now) e in let p = promises_rise more past k j in le-leb view (r.promise (held r j (more ++ past)).now) (omega (arith, u, p))) in
+      let more_now = count_more (λ j. leb view (r.promise (firm (stands r j past)))) (λ j. leb view (r.promise (firm (stands r j (more ++ past))))) (size g)
+      (λ j l e. let u = leb-true view (r.promise (firm (stands r j past))) e in let p = promises_rise more past k j in le-leb view (r.promise (firm (stands r j (more ++ past)))) (omega (arith, u, p))) in
       omega (arith, then_many, more_now)
 
 pub read_more : {B : Type 0} (scene : Scene B) (results : List (List SaveResult)) (more past : List (JournalEntry B)) → IsReadPast scene results (more ++ past) → IsReadPast scene results past
@@ -84,17 +85,16 @@ module _ {B : Type 0} (scene : Scene B) (results : List (List SaveResult)) (most
   at j past = saving (controller_at scene (results_of results j) j (part (actor.Controller j) past))
 
   legal : (past : List (JournalEntry B)) → IsReadPast scene results past → journal.IsLegal r g (past_of scene past)
-  legal past k = (folds_law r g (past_of scene past) (past_orderly scene results most_failures n past k).orderly).0
+  legal past k = (past_legal scene results most_failures n past k).legal
 
-  is_now : (past : List (JournalEntry B)) → IsReadPast scene results past → (j : ℕ) → settled r j (past_of scene past) ≡ at j past
-  is_now past k j =
-      ((folds_law r g (past_of scene past) (past_orderly scene results most_failures n past k).orderly).1 j).now ∙ (stands_alike scene results most_failures j n past k.possible.orderly).now
+  is_now : (past : List (JournalEntry B)) → IsReadPast scene results past → (j : ℕ) → (stands r j (past_of scene past)).now ≡ at j past
+  is_now past k j = (stands_alike scene results most_failures j n past k.possible.orderly).now
 
   -- each is a member of the group
   pub member_at : (past : List (JournalEntry B)) → IsReadPast scene results past → (d : ℕ) → d < scene.setup.controllers → is_member g d (controller_state scene results d past).vr ≡ true
   member_at past k d b =
       let follow = follow_law scene.kinds scene.setup most_failures (λ c. results_of results c) in
-      subst (λ (a : SavingController). r.is_valid d a ≡ true) (is_now past k d) (then_ok follow d (past_of scene past) (in_group scene results most_failures n d b))
+      subst (λ (a : SavingController). r.is_valid d a ≡ true) (is_now past k d) (stands_valid follow d (in_group scene results most_failures n d b) (past_of scene past)).now
 
   -- one that leads is normal, and the primary of its view
   leads_as : (past : List (JournalEntry B)) → IsReadPast scene results past → (d : ℕ) → d < scene.setup.controllers → (let s = (controller_state scene results d past).vr in
@@ -106,21 +106,21 @@ module _ {B : Type 0} (scene : Scene B) (results : List (List SaveResult)) (most
       (normal_of s.status x.0, sym (sym (same_primary g s of.controllers s.view) ∙ eqb-true (member.primary_of s s.view) s.me x.1 ∙ of.me))
 
   abbrev Backed : ℕ → List (journal.Entry OwnInput Entry) → Type 0
-  Backed view es = most_failures < count_below (λ j. leb view (r.promise (held r j es).now)) (size g)
+  Backed view es = most_failures < count_below (λ j. leb view (r.promise (firm (stands r j es)))) (size g)
 
   module _ (o : 1 ≤ most_failures) where
     -- what f + 1 have promised for good they promise now
     now_promised : (view : ℕ) (es : List (journal.Entry OwnInput Entry)) (past : List (JournalEntry B)) → IsReadPast scene results past → journal.IsLegal r g es →
-        ((j : ℕ) → settled r j es ≡ settled r j (past_of scene past)) → Backed view es → most_failures < count_below (λ j. nat_le view (controller_state scene results j past).vr.promise) scene.setup.controllers
+        ((j : ℕ) → (stands r j es).now ≡ (stands r j (past_of scene past)).now) → Backed view es → most_failures < count_below (λ j. nat_le view (controller_state scene results j past).vr.promise) scene.setup.controllers
     now_promised view es past k fine same many =
         let follow = follow_law scene.kinds scene.setup most_failures (λ c. results_of results c) in
-        let settle : count_below (λ j. leb view (r.promise (held r j es).now)) (size g) ≤ count_below (λ j. nat_le view (controller_state scene results j past).vr.promise) (size g) =
-        count_more (λ j. leb view (r.promise (held r j es).now)) (λ j. nat_le view (controller_state scene results j past).vr.promise) (size g)
+        let settle : count_below (λ j. leb view (r.promise (firm (stands r j es)))) (size g) ≤ count_below (λ j. nat_le view (controller_state scene results j past).vr.promise) (size g) =
+        count_more (λ j. leb view (r.promise (firm (stands r j es)))) (λ j. nat_le view (controller_state scene results j past).vr.promise) (size g)
         (λ j l h.
         let rises = promises_rise follow o (journal.Posts j ∷ []) es (l, fine) j in
-        let is : r.promise (held r j (journal.Posts j ∷ es)).now ≡ (controller_state scene results j past).vr.promise =
-        ap (λ (w : journal.Held OwnInput SavingController Entry). r.promise w.now) (posted_now r j (held r j es)) ∙ ap (λ (a : SavingController). r.promise a) (same j ∙ is_now past k j) in
-        let u = leb-true view (r.promise (held r j es).now) h in
+        let is : r.promise (firm (stands r j (journal.Posts j ∷ es))) ≡ (controller_state scene results j past).vr.promise =
+        ap (λ (w : Standing SavingController (core.Letter Entry)). r.promise (firm w)) (stands_own r (journal.Posts j) es) ∙ ap (λ (a : SavingController). r.promise a) (same j ∙ is_now past k j) in
+        let u = leb-true view (r.promise (firm (stands r j es))) h in
         le-leb view (controller_state scene results j past).vr.promise (omega (arith, u, rises, is))) in
         subst (λ (m : ℕ). most_failures < count_below (λ j. nat_le view (controller_state scene results j past).vr.promise) m) (sym (whole_group n)) (omega (arith, many, settle))
 
@@ -137,7 +137,8 @@ module _ {B : Type 0} (scene : Scene B) (results : List (List SaveResult)) (most
         let there = in_group scene results most_failures n d b in
         let s : VrState = (controller_state scene results d before).vr in
         let as_it = leads_as before k1 d b leading in
-        let mine : (held r d (past_of scene (e ∷ before))).now ≡ at d before = ap (λ (w : journal.Held OwnInput SavingController Entry). w.now) (posted_now r d (held r d (past_of scene before))) ∙ is_now before k1 d in
+        let mine : firm (stands r d (past_of scene (e ∷ before))) ≡ at d before =
+        ap (λ (w : Standing SavingController (core.Letter Entry)). firm w) (stands_own r (journal.Posts d) (past_of scene before)) ∙ is_now before k1 d in
         let on = past_on scene results most_failures n more (e ∷ before) in
         let many : Backed s.view (past_of scene past) =
         subst (λ (es : List (journal.Entry OwnInput Entry)). Backed s.view es) (sym on.1)

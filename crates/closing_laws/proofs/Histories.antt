@@ -1,14 +1,14 @@
 -- What the laws of agreement make of a past of a group of several, where all have posted.
-use Rattle.std.proofs.Common.{◌≡◌, ◌≤◌, ◌<◌, ℕ, suc, ◌+◌, ◌*◌, ◌/◌, None, List, ◌++◌, ap, ◌∙◌, arith}
+use Rattle.std.proofs.Common.{◌≡◌, ◌≤◌, ◌<◌, ℕ, suc, ◌+◌, ◌*◌, ◌/◌, List, ◌++◌, ap, ◌∙◌, arith}
 use Rattle.of_types.specs.Setups.{IsSetup}
 use Rattle.rv_base.specs.declared.journal.JournalEntry.{JournalEntry}
 use Rattle.rv_base.specs.declared.journal.SaveResult.{SaveResult}
-use Rattle.agreement.specs.History.{Group, History, size}
+use Rattle.actor_fold.specs.Fold.{Standing}
+use Rattle.agreement.specs.History.{Group, History, Letter, size}
 use Rattle.agreement.specs.Invariant.{Invariant}
 use Rattle.agreement.specs.Journals as journal
-use Rattle.agreement.specs.Journals.{Held, Rules}
+use Rattle.agreement.specs.Journals.{Rules, firm}
 use Rattle.agreement.proofs.Agreeing.{journal_good}
-use Rattle.agreement.proofs.Standing.{folds_law}
 use Rattle.vr_log.specs.declared.entry.Entry.{Entry}
 use Rattle.members.specs.Projection.{group_of, state_of}
 use Rattle.controllers.specs.Projection.{OwnInput}
@@ -20,8 +20,8 @@ use Rattle.rv_runs.specs.Committed.{controller_state}
 use Rattle.rv_agreement.specs.Projection.{past_of, rules_of}
 use Rattle.rv_agreement.specs.Reading.{WhereValid}
 use Rattle.rv_agreement.proofs.Groups.{odd_law}
-use Rattle.rv_agreement.proofs.Journals.{in_group, past_orderly}
-use Rattle.rv_agreement.proofs.Leading.{posting, posting_held, posting_legal}
+use Rattle.rv_agreement.proofs.Journals.{in_group, past_legal}
+use Rattle.rv_agreement.proofs.Leading.{posting, posting_legal, posting_stands}
 use Rattle.rv_agreement.proofs.Reading.{IsReadPast, read_past}
 use Rattle.rv_agreement.proofs.Standing.{stands_alike}
 use Rattle.rv_laws.proofs.Events.{events_valid}
@@ -54,7 +54,7 @@ module _ {B : Type 0} (scene : Scene B) (results : List (List SaveResult)) (setu
   read = read_past scene results P possible (WhereValid faithful (events_valid scene results P possible (λ i. always scene results setup faithful P possible (suc i))))
 
   pub legal : journal.IsLegal r g all
-  legal = posting_legal r g (size g) (past_of scene P) (omega arith) (folds_law r g (past_of scene P) (past_orderly scene results f odd.1 P read).orderly).0
+  legal = posting_legal r g (size g) (past_of scene P) (omega arith) (past_legal scene results f odd.1 P read).legal
 
   pub good : Invariant g h
   good = journal_good (follow_law scene.kinds scene.setup f (λ c. results_of results c)) some all legal
@@ -64,7 +64,5 @@ module _ {B : Type 0} (scene : Scene B) (results : List (List SaveResult)) (setu
 
   pub state_is : (c : ℕ) → c < scene.setup.controllers → h.state c ≡ state_of (controller_state scene results c P).vr
   state_is c there =
-      let agrees = folds_law r g (past_of scene P) (past_orderly scene results f odd.1 P read).orderly in
-      ap (λ (x : Held OwnInput SavingController Entry). r.state x.now)
-      (posting_held r g (size g) c (past_of scene P) (within c there)
-      ∙ ap (λ (a : SavingController). record { now = a; open_input = None }) ((agrees.1 c).now ∙ (stands_alike scene results f c odd.1 P possible.orderly).now))
+      ap (λ (w : Standing SavingController (Letter Entry)). r.state (firm w)) (posting_stands r g (size g) c (past_of scene P) (within c there))
+      ∙ ap (λ (a : SavingController). r.state a) (stands_alike scene results f c odd.1 P possible.orderly).now

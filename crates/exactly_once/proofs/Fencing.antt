@@ -26,7 +26,7 @@ use Rattle.rv_runs.specs.Legal.{IsPossible}
 use Rattle.rv_runs.specs.Committed.{switch_state}
 use Rattle.rv_runs.specs.Laws.{Heard, Asked, asked_step, master_asked, masters_asked, IsFenced, IsFencedEntry, IsOfMaster}
 use Rattle.exactly_once.specs.Facts.{PastFacts}
-use Rattle.rv_runs.specs.Inputs.{IsHeardAt, From_draw}
+use Rattle.rv_runs.specs.Inputs.{IsHeardAt, By_draw}
 use Rattle.rv_runs.proofs.Entries.{Mine, Another, switch_after}
 use Rattle.exactly_once.specs.Invariant.{IsHeardBySwitch}
 use Rattle.exactly_once.proofs.Generations.{Unasked, IsFenced as Fenced, life_stays, may_pass, no_fewer, passes_greatest, told_turn, frame_turn, local_turn}
@@ -59,7 +59,7 @@ module _ (kinds : List ℕ) (setup : Setup) (f : PastFacts) (s : ℕ) where
         FencesAt setup.controllers asked w → FencesAt setup.controllers (asked_step scene.sealing asked e found) (switch_step scene w e found)
     step_fences asked w (Draw a id keep) (Some p) hears h =
         record {
-          now = heard_turn asked.now w.now p.from (content scene.sealing p) (hears _ (From_draw a id keep p refl refl refl)) h.now;
+          now = heard_turn asked.now w.now p.from (content scene.sealing p) (hears _ (By_draw a id keep p refl refl refl)) h.now;
           before = h.now;
           grown = no_fewer (switch_hears p.from (content scene.sealing p)) w.now;
         }

@@ -33,7 +33,7 @@ use Rattle.rv_runs.specs.Legal.{Fits, AreTyped, IsTurn, IsSoundSwitch, IsSoundCo
 use Rattle.rv_runs.proofs.Pasts.{possible_before, from_some, self_switch, self_controller, legal_finds, turn_fresh}
 use Rattle.rv_runs.specs.Committed.{controller_state, kept_of, kept, decided}
 use Rattle.exactly_once.specs.Facts.{PastFacts, Later, firm, facts_of}
-use Rattle.rv_runs.specs.Inputs.{IsHeardAt, From_draw, From_local}
+use Rattle.rv_runs.specs.Inputs.{IsHeardAt, By_draw, By_local}
 use Rattle.rv_runs.proofs.Entries.{ControllerGoes, Turns, Falls, Stays, Own, Other, controller_after, SwitchGoes, Takes, Rests, Posts, Refuses, switch_goes, Mine, Another, switch_after}
 use Rattle.rv_runs.specs.States.{IsFaithful}
 use Rattle.rv_runs.specs.Inputs.{IsHeard, By_draw, By_local}
@@ -137,7 +137,7 @@ module _ {B : Type 0} (scene : Scene B) (results : List (List SaveResult)) (fait
 
     -- what a switch hears is true
     pub switch_hears_truth : (s : ℕ) (x : SwitchInput) → same_actor (actor_of e) (actor.Switch s) ≡ true → IsHeardAt scene e (drawn e before) x → IsHeardBySwitch scene.kinds scene.setup (facts_of scene results before) s x
-    switch_hears_truth s x same (From_draw a id keep p is found hears) =
+    switch_hears_truth s x same (By_draw a id keep p is found hears) =
         let r = drawn_found scene.sealing.size a id keep before (subst (λ (y : JournalEntry B). IsOrderly scene.sealing.size (y ∷ before)) is legal.orderly) in
         let it : r.packet ≡ p = from_some r.packet p (sym r.found ∙ ap (λ (y : JournalEntry B). drawn y before) (sym is) ∙ found) in
         let mine : a ≡ actor.Switch s = one_actor a (actor.Switch s) (ap (λ (y : JournalEntry B). same_actor (actor_of y) (actor.Switch s)) (sym is) ∙ same) in
@@ -145,7 +145,7 @@ module _ {B : Type 0} (scene : Scene B) (results : List (List SaveResult)) (fait
         subst (λ (y : SwitchInput). IsHeardBySwitch scene.kinds scene.setup (facts_of scene results before) s y) (sym hears)
         (heard_by_switch scene.kinds scene.setup (facts_of scene results before) s p.from p.to (content scene.sealing p) goes
         (holds.packets p (subst (λ (y : Packet B). IsIn y (pool before)) it r.among)))
-    switch_hears_truth s x same (From_local a input is hears) =
+    switch_hears_truth s x same (By_local a input is hears) =
         subst (λ (y : SwitchInput). IsHeardBySwitch scene.kinds scene.setup (facts_of scene results before) s y) (sym hears) (subst (λ (y : JournalEntry B). EntryFits y) is legal.fits.0)
 
     pub controller_hears_truth : (c : ℕ) (x : ControllerInput) → same_actor (actor_of e) (actor.Controller c) ≡ true → IsHeard scene e (drawn e before) x → IsHeardByController scene.kinds scene.setup (facts_of scene results before) x

@@ -1,3 +1,4 @@
+mod Alone
 mod Ending
 pub mod Following
 pub mod Stopping

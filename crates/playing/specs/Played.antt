@@ -8,11 +8,16 @@ use Rattle.rv_base.specs.declared.wire.Stop.{Stop}
 use Rattle.rv_base.specs.declared.wire.Stop.TheVariants.{OutOfMemory, JournalFull}
 use Rattle.rv_base.specs.Pool.{past}
 use Rattle.rv_laws.specs.Laws.{SuspectsUpTo}
-use Rattle.rv_runs.specs.Schedule.{Closes, FollowsInOrder, IsBegun}
-use Rattle.rv_runs.specs.States.{Scene}
-use Rattle.rv_world.specs.World.{AreMore, Worlding, results_in}
+use Rattle.rv_runs.specs.Schedule.{Closes}
+use Rattle.rv_runs.specs.States.{Scene, Sealing}
+use Rattle.rv_base.specs.Stables.{Saving}
+use Rattle.app_core.specs.Law.{AppLaw}
+use Rattle.rv_world.specs.World.{AreMore, Worlding, results_in, scene_in}
+use Rattle.running.specs.declared.run.Played.{Played}
+use Rattle.running.specs.Threads.{IsLeftLegal}
 use Rattle.closing.specs.declared.closed.Closed.{Closed}
 use Rattle.closing.specs.Closing.{HasReason, IsBounded, answer_of}
+use Rattle.playing.specs.Manners.{Manner, In_order, Apart, Begins, Follows}
 
 -- a step suspects a view up to this one, or none
 abbrev pub StepSuspectsUpTo : ℕ → Turn → Type 0
@@ -23,26 +28,34 @@ StepSuspectsUpTo limit _ = Unit {0}
 abbrev pub Lastingly : {B A : Type 0} → Worlding B A → (List (List SaveResult) → Type 0) → Type 0
 Lastingly w claim = (later : List (List SaveResult)) → AreMore w.setup.controllers (results_in w.controllers) later → claim later
 
--- a script was followed in order
-abbrev pub HasFollowed : {B A : Type 0} → Scene B → List Turn → Worlding B A → Type 0
-HasFollowed scene steps w = Lastingly w (λ later. FollowsInOrder scene later steps (past w.journal))
+-- a script was followed in this manner
+abbrev pub HasFollowed : {B A : Type 0} → Manner → Scene B → List Turn → Worlding B A → Type 0
+HasFollowed manner scene steps w = Lastingly w (λ later. Follows manner scene later steps (past w.journal))
 
--- a script was followed in order, and a closing has ended as a call tells: by its schedule, for a reason, within its bounds
-pub record HasPlayed {B A : Type 0} (scene : Scene B) (steps : List Turn) (script : ℕ) (ended : Closed) (w : Worlding B A) : Type 0 where
+-- a script was followed in this manner, and a closing has ended as a call tells: by its schedule, for a reason, within its bounds
+pub record HasPlayed {B A : Type 0} (manner : Manner) (scene : Scene B) (steps : List Turn) (script : ℕ) (ended : Closed) (w : Worlding B A) : Type 0 where
   pub front : List (JournalEntry B)
   pub rest : List (JournalEntry B)
   pub joined : w.journal ≡ front ++ rest
   pub counted : script ≡ length front
-  pub follows : Lastingly w (λ later. FollowsInOrder scene later steps (past front))
+  pub follows : Lastingly w (λ later. Follows manner scene later steps (past front))
   pub closes : Lastingly w (λ later. Closes scene later (past front) rest (answer_of ended))
   pub reason : HasReason ended scene (results_in w.controllers) (past front) (past w.journal)
   pub bounded : IsBounded scene (results_in w.controllers) (past front) rest
 
 -- and so by what a call tells: how the closing ended, and how many entries the script made
 abbrev pub HasPlayedTo : {B A : Type 0} → Scene B → List Turn → Worlding B A → Closed × ℕ → Type 0
-HasPlayedTo scene steps w played = HasPlayed scene steps played.1 played.0 w
+HasPlayedTo scene steps w played = HasPlayed In_order scene steps played.1 played.0 w
 
 -- why playing stopped: at a full journal the run is cut short where an outbox met the limit
 abbrev pub RunStops : {B A : Type 0} → Scene B → List Turn → Worlding B A → Stop → Type 0
 RunStops scene steps new OutOfMemory = Unit {0}
-RunStops scene steps new (JournalFull bytes letters) = IsBegun scene (results_in new.controllers) steps bytes letters (past new.journal)
+RunStops scene steps new (JournalFull bytes letters) = Begins In_order scene (results_in new.controllers) steps bytes letters (past new.journal)
+
+-- what is left of a run whose actors play apart, where it was cut short for no want of memory: a legal journal, cut short where an
+-- outbox met the limit
+abbrev pub HaltsAs : {B A W : Type 0} → AppLaw A → Saving W → Sealing B → List Turn → List ℕ → Worlding B A → List W → List W → Played B A → Stop → Type 0
+HaltsAs law saving sealing steps kinds start stables stables_after left OutOfMemory = Unit {0}
+HaltsAs law saving sealing steps kinds start stables stables_after left (JournalFull bytes letters) =
+    IsLeftLegal law saving sealing start.setup kinds start.controllers stables stables_after left
+    × Begins Apart (scene_in sealing start kinds) (results_in left.controllers.items) steps bytes letters (past left.wire)

@@ -1,73 +1,9 @@
-//! Playing a script in a world, from its first step until the world is at rest.
+//! Playing a script in a world, from its first step until the world is at rest: its steps in order, or each actor in a thread of
+//! its own.
 #![tactic(auto)]
 
-ghost use Rattle.std.specs.Prelude.{◌≡◌, ℕ, List, None, [], OnOk, IfOk, IfErr};
-ghost use Rattle.std.specs.List.{AllByRecursion};
-ghost use Rattle.rv_base.specs.Actors.{IsActor};
-ghost use Rattle.rv_base.specs.Pool.{past};
-ghost use Rattle.rv_base.specs.Turns.{turn_actor};
-ghost use Rattle.rv_laws.specs.Laws.{IsSuspectedUpTo};
-ghost use Rattle.rv_world.specs.World.{ForEachScene, Holds, IfMemory, Keeps, PairsStand};
-ghost use Rattle.closing.specs.Closing.{HasMajority};
-ghost use Rattle.closing.specs.Views.{most_view_of_a_script};
-ghost use Rattle.playing.specs.Played.{HasFollowed, HasPlayedTo, RunStops, StepSuspectsUpTo};
+mod apart;
+mod script;
 
-use app_core::App;
-use closing::Closed;
-use rv_base::{Stable, Stop, Turn};
-use rv_bodies::Body;
-use rv_world::World;
-use std::alloc::Global;
-
-/// Does the steps of a script in order.
-fn do_steps<B: Body, A: App, W: Stable>(
-    world: &mut World<B, A>,
-    stables: &mut [W],
-    steps: &[Turn],
-) -> Result<(), Stop>
-    requires holds { (kinds : List ℕ) × Holds A.law B.sealing world.old kinds }
-    requires pairs { PairsStand W.saving stables.old world.old.controllers }
-    requires rests { world.old.owed ≡ None }
-    requires fresh { world.old.journal ≡ [] }
-    requires named { AllByRecursion (λ t. IsActor world.old.setup (turn_actor t)) steps.now }
-    requires views { AllByRecursion (λ t. StepSuspectsUpTo most_view_of_a_script t) steps.now }
-    ensures keeps { IfMemory result
-        (Keeps A.law W.saving B.sealing world.old stables.old world.new stables.new) }
-    ensures rests { OnOk result (world.new.owed ≡ None) }
-    ensures views { OnOk result (IsSuspectedUpTo most_view_of_a_script (past world.new.journal)) }
-    ensures follows { ForEachScene A.law B.sealing world.old (λ scene.
-        OnOk result (HasFollowed scene steps.now world.new)) }
-    ensures stops { ForEachScene A.law B.sealing world.old (λ scene.
-        IfErr result (RunStops scene steps.now world.new)) }
-{
-    for step in steps {
-        world.apply(stables, step)?;
-    }
-    Ok(())
-}
-
-/// Does the steps of a script in a world with an empty journal, and brings it to rest. Tells how the closing ended, and how
-/// many entries the script made. No step suspects a view above 4,000,000,000 (`most_view_of_a_script`).
-pub fn play<B: Body, A: App, W: Stable>(
-    alloc: Global,
-    world: &mut World<B, A>,
-    stables: &mut [W],
-    steps: &[Turn],
-) -> Result<(Closed, usize), Stop>
-    requires holds { (kinds : List ℕ) × Holds A.law B.sealing world.old kinds }
-    requires pairs { PairsStand W.saving stables.old world.old.controllers }
-    requires rests { world.old.owed ≡ None }
-    requires fresh { world.old.journal ≡ [] }
-    requires named { AllByRecursion (λ t. IsActor world.old.setup (turn_actor t)) steps.now }
-    requires views { AllByRecursion (λ t. StepSuspectsUpTo most_view_of_a_script t) steps.now }
-    ensures keeps { IfMemory result (Keeps A.law W.saving B.sealing world.old stables.old world.new stables.new) }
-    ensures rests { OnOk result (world.new.owed ≡ None) }
-    ensures played { ForEachScene A.law B.sealing world.old (λ scene. IfOk result (HasPlayedTo scene steps.now world.new)) }
-    ensures up { IfOk result (λ played. HasMajority played.0 world.old world.new) }
-    ensures stops { ForEachScene A.law B.sealing world.old (λ scene. IfErr result (RunStops scene steps.now world.new)) }
-{
-    do_steps(world, stables, steps)?;
-    let script = world.journal().len();
-    let closed = closing::run(alloc, world, stables)?;
-    Ok((closed, script))
-}
+pub use apart::{Rested, play_apart};
+pub use script::play;

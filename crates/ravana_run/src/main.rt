@@ -5,18 +5,22 @@ use app_core::Part;
 use endings::{NO_MEMORY, words_of};
 use firewall_app::Firewall;
 use learning_app::Learning;
-use rv_base::{StdSink, StdSource};
-use std::alloc::AllocError;
+use rv_base::{FreeGate, Sink, Source, StdSink, StdSource};
+use std::alloc::{AllocError, Global};
 use std::io::ErrorKind;
 use std::process::ExitCode;
+use std::sync::Wait;
+use std::thread::Threads;
 use top_call::{CONTROLLERS, LIVES, push_life, ravana, stables};
 
-/// The status of a call with the program's words, input and output. Each life of each controller runs a firewall before a
-/// learning.
-fn serve(rt: &HostRuntime, words: &[String]) -> Result<u8, AllocError> {
-    let alloc = rt.alloc();
-    let mut source = StdSource::new(rt.stdin());
-    let mut sink = StdSink::new(rt.stdout());
+/// Serves the words, with these ends. Each life of each controller runs a firewall before a learning.
+fn serve<S: Source, K: Sink, R: Threads + Wait + Sync>(
+    rt: &R,
+    alloc: Global,
+    words: &[String],
+    source: &mut S,
+    sink: &mut K,
+) -> Result<u8, AllocError> {
     let mut stables = stables(alloc)?;
     let mut chains = Vec::with_capacity(alloc, CONTROLLERS * LIVES)?;
     'making: for number in 0..(CONTROLLERS * LIVES) as u8 {
@@ -25,15 +29,28 @@ fn serve(rt: &HostRuntime, words: &[String]) -> Result<u8, AllocError> {
         parts.push(Box::new(alloc, Learning::new(alloc))?)?;
         push_life(&mut chains, number, parts)?;
     }
-    Ok(ravana(alloc, words, &mut source, &mut sink, &mut stables, chains))
+    Ok(ravana(
+        rt,
+        alloc,
+        &FreeGate,
+        words,
+        source,
+        sink,
+        &mut stables,
+        chains,
+    ))
 }
 
 /// A faulty command line is served as one of no words.
 fn main(rt: HostRuntime) -> ExitCode {
+    let alloc = rt.alloc();
     let words = match words_of(&rt) {
         Ok(words) => words,
         Err(error) if error.kind() == ErrorKind::OutOfMemory => return ExitCode::from(NO_MEMORY),
-        Err(_) => Vec::new(rt.alloc()),
+        Err(_) => Vec::new(alloc),
     };
-    ExitCode::from(serve(&rt, &words).unwrap_or(NO_MEMORY))
+    let mut source = StdSource::new(rt.stdin());
+    let mut sink = StdSink::new(rt.stdout());
+    let served = serve(&rt, alloc, &words, &mut source, &mut sink);
+    ExitCode::from(served.unwrap_or(NO_MEMORY))
 }

@@ -1,14 +1,19 @@
 //! The index: a line names a case that is kept in files, or a table of rows.
 
+use crate::meeting::{meet_at_gate, meet_in_saves};
 use crate::play::play;
 use cases::{Difference, Kind, Tally, name_of, read_case, read_row, read_text, shown};
 use std::io;
 use std::rt::Files;
+use std::sync::Wait;
+use std::thread::Threads;
 
 /// What a line of an index names, and its path.
 enum Entry<'a> {
     Case(Kind, &'a str),
     Rows(&'a str),
+    MeetAtGate(&'a str),
+    MeetInSaves(&'a str),
 }
 
 impl<'a> Entry<'a> {
@@ -18,13 +23,15 @@ impl<'a> Entry<'a> {
             ("saves", path) => Some(Entry::Case(Kind::Saves, path)),
             ("audit", path) => Some(Entry::Case(Kind::Audit, path)),
             ("rows", path) => Some(Entry::Rows(path)),
+            ("gate", path) => Some(Entry::MeetAtGate(path)),
+            ("save", path) => Some(Entry::MeetInSaves(path)),
             _ => None,
         }
     }
 }
 
 /// Plays all that an index names.
-pub fn play_index<R: Files + AllocGlobal + Print>(
+pub fn play_index<R: Files + AllocGlobal + Print + Threads + Wait + Sync>(
     rt: &R,
     path: &str,
     tally: &mut Tally,
@@ -39,6 +46,8 @@ pub fn play_index<R: Files + AllocGlobal + Print>(
         match Entry::of(line) {
             Some(Entry::Case(kind, path)) => tally.count(rt, path, play_case(rt, kind, path))?,
             Some(Entry::Rows(path)) => play_table(rt, path, tally)?,
+            Some(Entry::MeetAtGate(path)) => tally.count(rt, path, play_at_gate(rt, path))?,
+            Some(Entry::MeetInSaves(path)) => tally.count(rt, path, play_in_saves(rt, path))?,
             None => {
                 let line = shown(rt.alloc(), Some(line))?;
                 tally.count(rt, path, Err(Difference::Grammar { number, line }))?;
@@ -48,16 +57,40 @@ pub fn play_index<R: Files + AllocGlobal + Print>(
     Ok(())
 }
 
-fn play_case<R: Files + AllocGlobal>(rt: &R, kind: Kind, path: &str) -> Result<(), Difference> {
-    play(rt.alloc(), &read_case(rt, kind, path)?)
+fn play_case<R: Files + AllocGlobal + Threads + Wait + Sync>(
+    rt: &R,
+    kind: Kind,
+    path: &str,
+) -> Result<(), Difference> {
+    play(rt, rt.alloc(), &read_case(rt, kind, path)?)
 }
 
-fn play_row<R: Files + AllocGlobal>(rt: &R, block: &str, before: usize) -> Result<(), Difference> {
-    play(rt.alloc(), &read_row(rt, block, before)?)
+fn play_row<R: Files + AllocGlobal + Threads + Wait + Sync>(
+    rt: &R,
+    block: &str,
+    before: usize,
+) -> Result<(), Difference> {
+    play(rt, rt.alloc(), &read_row(rt, block, before)?)
+}
+
+fn play_at_gate<R: Files + AllocGlobal + Threads + Wait + Sync>(
+    rt: &R,
+    path: &str,
+) -> Result<(), Difference> {
+    let scenario = read_text(rt, path)?;
+    meet_at_gate(rt, rt.alloc(), scenario.as_bytes())
+}
+
+fn play_in_saves<R: Files + AllocGlobal + Threads + Wait + Sync>(
+    rt: &R,
+    path: &str,
+) -> Result<(), Difference> {
+    let scenario = read_text(rt, path)?;
+    meet_in_saves(rt, rt.alloc(), scenario.as_bytes())
 }
 
 /// Plays the rows of a table, which are parted by one empty line.
-fn play_table<R: Files + AllocGlobal + Print>(
+fn play_table<R: Files + AllocGlobal + Print + Threads + Wait + Sync>(
     rt: &R,
     path: &str,
     tally: &mut Tally,

@@ -3,6 +3,7 @@
 #![tactic(auto)]
 
 mod index;
+mod meeting;
 mod play;
 mod serving;
 
@@ -12,17 +13,13 @@ use std::process::ExitCode;
 use std::{env, io};
 
 /// Plays the index that each word names, and tells whether all is as it is to be.
-fn run(rt: &HostRuntime) -> io::Result<bool> {
-    let mut tally = Tally::new();
-    for path in env::args(rt)?.skip(1) {
-        play_index(rt, path.as_str(), &mut tally)?;
-    }
-    tally.print(rt)?;
-    Ok(tally.is_sound())
-}
-
 fn main(rt: HostRuntime) -> io::Result<ExitCode> {
-    if run(&rt)? {
+    let mut tally = Tally::new();
+    for path in env::args(&rt)?.skip(1) {
+        play_index(&rt, path.as_str(), &mut tally)?;
+    }
+    tally.print(&rt)?;
+    if tally.is_sound() {
         Ok(ExitCode::SUCCESS)
     } else {
         Ok(ExitCode::FAILURE)

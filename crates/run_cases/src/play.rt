@@ -5,6 +5,8 @@ use crate::serving::{PLAIN, Way, serve};
 use cases::{Answer, Call, Case, Difference, words_of};
 use of_types::Octets;
 use std::alloc::Global;
+use std::sync::Wait;
+use std::thread::Threads;
 
 /// What a call writes whose source failed, and its status.
 const UNREAD: &[u8] = b"fault 4 read\n";
@@ -14,24 +16,37 @@ const UNREAD_STATUS: u8 = 4;
 /// The status of a call whose sink failed.
 const UNWRITTEN_STATUS: u8 = 5;
 
+/// The status of a run that ended since too few controllers took part.
+const NO_QUORUM_STATUS: u8 = 7;
+
 /// What the audit of a report without a fault writes.
 const SAME: &[u8] = b"same\n";
 
 /// Plays it, and tells the first thing that differs. A report that a call without a fault wrote is audited.
-pub fn play(alloc: Global, case: &Case) -> Result<(), Difference> {
-    let answer = serve(alloc, &case.call, PLAIN)?;
+pub fn play<R: Threads + Wait + Sync>(
+    rt: &R,
+    alloc: Global,
+    case: &Case,
+) -> Result<(), Difference> {
+    let answer = serve(rt, alloc, &case.call, PLAIN)?;
     case.wanted.check(alloc, &answer)?;
     if answer.status == 0 && case.call.is_sim() {
-        check_audit(alloc, answer.written.as_slice())?;
+        check_audit(rt, alloc, answer.written.as_slice())?;
+        check_apart(rt, alloc, case)?;
     }
-    check_lists(alloc, case, &answer)?;
+    check_lists(rt, alloc, case, &answer)?;
     for most in &case.pieces {
-        check_pieces(alloc, case, (*most).max(1), &answer)?;
+        check_pieces(rt, alloc, case, (*most).max(1), &answer)?;
     }
     Ok(())
 }
 
-fn check_lists(alloc: Global, case: &Case, answer: &Answer) -> Result<(), Difference> {
+fn check_lists<R: Threads + Wait + Sync>(
+    rt: &R,
+    alloc: Global,
+    case: &Case,
+    answer: &Answer,
+) -> Result<(), Difference> {
     let Some(from) = case.lists else {
         return Ok(());
     };
@@ -39,7 +54,7 @@ fn check_lists(alloc: Global, case: &Case, answer: &Answer) -> Result<(), Differ
         lists: from,
         ..PLAIN
     };
-    if serve(alloc, &case.call, in_lists)?.is_same(answer) {
+    if serve(rt, alloc, &case.call, in_lists)?.is_same(answer) {
         Ok(())
     } else {
         Err(Difference::Lists { from })
@@ -48,22 +63,29 @@ fn check_lists(alloc: Global, case: &Case, answer: &Answer) -> Result<(), Differ
 
 /// Reads and writes of so many bytes, first with none that fails, and then with each of them failing once. The last read
 /// is the one that finds nothing left.
-fn check_pieces(alloc: Global, case: &Case, most: usize, answer: &Answer) -> Result<(), Difference>
+fn check_pieces<R: Threads + Wait + Sync>(
+    rt: &R,
+    alloc: Global,
+    case: &Case,
+    most: usize,
+    answer: &Answer,
+) -> Result<(), Difference>
     requires { 0 < most }
 {
-    if !serve(alloc, &case.call, Way { most, ..PLAIN })?.is_same(answer) {
+    if !serve(rt, alloc, &case.call, Way { most, ..PLAIN })?.is_same(answer) {
         return Err(Difference::Pieces { most });
     }
     for number in 0..=case.call.input.len().div_ceil(most) {
-        check_failing_read(alloc, case, most, number)?;
+        check_failing_read(rt, alloc, case, most, number)?;
     }
     for number in 0..answer.written.len().div_ceil(most) {
-        check_failing_write(alloc, case, most, number, answer.written.as_slice())?;
+        check_failing_write(rt, alloc, case, most, number, answer.written.as_slice())?;
     }
     Ok(())
 }
 
-fn check_failing_read(
+fn check_failing_read<R: Threads + Wait + Sync>(
+    rt: &R,
     alloc: Global,
     case: &Case,
     most: usize,
@@ -74,7 +96,7 @@ fn check_failing_read(
         failing_read: Some(number as u64),
         ..PLAIN
     };
-    let answer = serve(alloc, &case.call, way)?;
+    let answer = serve(rt, alloc, &case.call, way)?;
     if answer.status == UNREAD_STATUS && answer.written.as_slice() == UNREAD {
         Ok(())
     } else {
@@ -83,7 +105,8 @@ fn check_failing_read(
 }
 
 /// What was taken is a front of the whole.
-fn check_failing_write(
+fn check_failing_write<R: Threads + Wait + Sync>(
+    rt: &R,
     alloc: Global,
     case: &Case,
     most: usize,
@@ -95,7 +118,7 @@ fn check_failing_write(
         failing_write: Some(number as u64),
         ..PLAIN
     };
-    let answer = serve(alloc, &case.call, way)?;
+    let answer = serve(rt, alloc, &case.call, way)?;
     let taken = answer.written.as_slice();
     if answer.status == UNWRITTEN_STATUS
         && whole.starts_with(taken)
@@ -107,14 +130,41 @@ fn check_failing_write(
     }
 }
 
+/// Plays its scenario with a thread for each actor, and audits the report. The threads come in any order, so the report may be
+/// another one; and where more controllers crash than may, the run may end otherwise.
+fn check_apart<R: Threads + Wait + Sync>(
+    rt: &R,
+    alloc: Global,
+    case: &Case,
+) -> Result<(), Difference> {
+    let apart = Call {
+        words: words_of(alloc, "run")?,
+        input: Octets::from_slice(alloc, case.call.input.as_slice())?,
+        saves: Vec::new(alloc),
+    };
+    let answer = serve(rt, alloc, &apart, PLAIN)?;
+    match answer.status {
+        0 => check_audit(rt, alloc, answer.written.as_slice()),
+        NO_QUORUM_STATUS => Ok(()),
+        status => Err(Difference::Status {
+            found: status,
+            wanted: 0,
+        }),
+    }
+}
+
 /// Audits what was written.
-fn check_audit(alloc: Global, written: &[u8]) -> Result<(), Difference> {
+fn check_audit<R: Threads + Wait + Sync>(
+    rt: &R,
+    alloc: Global,
+    written: &[u8],
+) -> Result<(), Difference> {
     let audit = Call {
         words: words_of(alloc, "audit")?,
         input: Octets::from_slice(alloc, written)?,
         saves: Vec::new(alloc),
     };
-    let answer = serve(alloc, &audit, PLAIN)?;
+    let answer = serve(rt, alloc, &audit, PLAIN)?;
     if answer.status == 0 && answer.written.as_slice() == SAME {
         Ok(())
     } else {

@@ -7,8 +7,10 @@ use cases::{Answer, Call, ControllerSave};
 use firewall_app::Firewall;
 use learning_app::{Learning, PlainLearning};
 use of_types::Octets;
-use rv_base::{FailingSave, MemorySink, MemorySource, MemoryStable, Stable};
+use rv_base::{FailingSave, FreeGate, Gate, MemorySink, MemorySource, MemoryStable, Stable};
 use std::alloc::{AllocError, Global};
+use std::sync::Wait;
+use std::thread::Threads;
 use top_call::{CONTROLLERS, LIVES, push_life, ravana};
 
 /// How a call is played.
@@ -32,8 +34,40 @@ pub const PLAIN: Way = Way {
     lists: CONTROLLERS,
 };
 
-/// Serves a call in a way. Each controller runs a firewall before a learning.
-pub fn serve(alloc: Global, call: &Call, way: Way) -> Result<Answer, AllocError> {
+/// The status of a call, and what it wrote.
+#[derive(Drop)]
+pub struct Served {
+    pub status: u8,
+    pub written: Octets,
+}
+
+/// Serves a call in a way.
+pub fn serve<R: Threads + Wait + Sync>(
+    rt: &R,
+    alloc: Global,
+    call: &Call,
+    way: Way,
+) -> Result<Answer, AllocError> {
+    let mut stables = stables(alloc, &call.saves)?;
+    let served = serve_by(rt, alloc, &FreeGate, call, way, &mut stables)?;
+    Ok(Answer {
+        status: served.status,
+        written: served.written,
+        failed_saves: failed_of(&stables),
+    })
+}
+
+/// Serves a call in a way, at a gate, with these stable pairs. Each controller runs a firewall before a learning.
+pub fn serve_by<W: Stable + Drop + Send, G: Gate + Sync, R: Threads + Wait + Sync>(
+    rt: &R,
+    alloc: Global,
+    gate: &G,
+    call: &Call,
+    way: Way,
+    stables: &mut Vec<W>,
+) -> Result<Served, AllocError>
+    requires { AreFresh W.saving stables.old.items }
+{
     let mut chains = Vec::new(alloc);
     'making: for number in 0..(CONTROLLERS * LIVES) as u8 {
         let mut parts: Vec<Box<dyn Part + Send>> = Vec::new(alloc);
@@ -46,35 +80,39 @@ pub fn serve(alloc: Global, call: &Call, way: Way) -> Result<Answer, AllocError>
             push_life(&mut chains, number, parts)?;
         }
     }
-    serve_chains(alloc, call, way, chains)
+    serve_chains(rt, alloc, gate, call, way, stables, chains)
 }
 
 /// Serves a call in a way, by these applications.
-fn serve_chains<A: App>(
+fn serve_chains<A: App + Send, W: Stable + Drop + Send, G: Gate + Sync, R: Threads + Wait + Sync>(
+    rt: &R,
     alloc: Global,
+    gate: &G,
     call: &Call,
     way: Way,
+    stables: &mut Vec<W>,
     chains: Vec<A>,
-) -> Result<Answer, AllocError>
-    requires { (kinds : List ℕ) × AreChains A.law kinds chains.items }
+) -> Result<Served, AllocError>
+    requires chains { (kinds : List ℕ) × AreChains A.law kinds chains.items }
+    requires fresh { AreFresh W.saving stables.old.items }
 {
     let bytes = Octets::from_slice(alloc, call.input.as_slice())?;
     let most = way.most.max(1);
     let mut source = MemorySource::new(bytes, most, listed(alloc, way.failing_read)?);
     let mut sink = MemorySink::new(alloc, most, listed(alloc, way.failing_write)?);
-    let mut stables = stables(alloc, &call.saves)?;
     let status = ravana(
+        rt,
         alloc,
+        gate,
         &call.words,
         &mut source,
         &mut sink,
-        &mut stables,
+        stables,
         chains,
     );
-    Ok(Answer {
+    Ok(Served {
         status,
         written: Octets::from_slice(alloc, sink.taken())?,
-        failed_saves: failed_of(&stables),
     })
 }
 

@@ -15,27 +15,16 @@ use Rattle.group_controller.specs.Rules.{controller_work}
 use Rattle.group_controller.specs.Turns.{Controlling, Done, Turns, state_of}
 use Rattle.rv_runs.specs.Messages.{way_of}
 use Rattle.rv_runs.specs.States.{Scene, ControllerAt, controller_at, controller_took, controller_step, controller_hears, controller_message}
-use Rattle.rv_runs.specs.Legal.{Fits, EntryFits, IsSoundController}
-use Rattle.rv_runs.proofs.Saves.{EachFinds as AllFind, same_results, sound_with_more}
+use Rattle.rv_runs.specs.Legal.{EachFinds, Fits, EntryFits, IsSoundController}
+use Rattle.rv_runs.proofs.Saves.{same_results, sound_with_more}
 use Rattle.rv_world.specs.World.{IsOwed}
 use Rattle.rv_world.proofs.Keeping.{none_said}
 use Rattle.rv_world.proofs.Taking.{IsTaken, took_is}
 use Rattle.switch_board.specs.Calls.{beside}
 use Rattle.running.specs.Hearing.{Hears}
-use Rattle.running.specs.Standing.{ControllerStands, EachFinds}
+use Rattle.running.specs.Standing.{ControllerStands}
 use Rattle.app_core.specs.Law.{AppLaw}
 use Rattle.group_controller.specs.Turns.{Controls}
-
-module _ {B : Type 0} where
-  all_find : (own : List (JournalEntry B × Option (Packet B))) → EachFinds own → AllFind own
-  all_find [] h = tt
-  all_find ((Draw a id keep, Some p) ∷ own) h = all_find own h
-  all_find ((Draw a id keep, None) ∷ own) h = absurd h
-  all_find ((Post a first letters lost, found) ∷ own) h = all_find own h
-  all_find ((Lose a id, found) ∷ own) h = all_find own h
-  all_find ((Local a input, found) ∷ own) h = all_find own h
-  all_find ((Idle a, found) ∷ own) h = all_find own h
-  all_find ((Refused a, found) ∷ own) h = all_find own h
 
 module _ {B A : Type 0} (law : AppLaw A) (scene : Scene B) (c : ℕ) where
   -- what it owes is posted
@@ -95,7 +84,7 @@ module _ {B A : Type 0} (law : AppLaw A) (scene : Scene B) (c : ℕ) where
     same_then = same_results scene old.results taken.more c own few ∙ ap (λ (rs : List SaveResult). controller_at scene rs c own) (sym taken.joined)
 
     sound_now : IsSoundController scene new.results c own
-    sound_now = subst (λ (rs : List SaveResult). IsSoundController scene rs c own) (sym taken.joined) (sound_with_more scene old.results taken.more c own (all_find own h.finds) few h.sound)
+    sound_now = subst (λ (rs : List SaveResult). IsSoundController scene rs c own) (sym taken.joined) (sound_with_more scene old.results taken.more c own h.finds few h.sound)
 
     owes_none : (controller_at scene new.results c own).owed ≡ []
     owes_none = ap (λ w. w.owed) (sym same_then) ∙ quiet own old h

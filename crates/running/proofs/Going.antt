@@ -20,30 +20,10 @@ use Rattle.rv_runs.specs.Legal.{FitsTypes}
 use Rattle.rv_runs.specs.Messages.{way_of}
 use Rattle.rv_runs.specs.States.{Sealing, content}
 use Rattle.rv_runs.proofs.Pools.{orderly_before}
-use Rattle.rv_base.proofs.Pools.{Rising-pool, packet_of-at, waiting-at}
+use Rattle.rv_base.proofs.Found.{IsPicked, body_of, picked, picked_packet}
 use Rattle.switch_board.specs.Places.{PlaceState}
 use Rattle.switch_board.specs.Calls.{beside, Adds, AddsNothing}
 use Rattle.running.specs.Hearing.{Advances, Hears}
-
--- (these four stand in rv_world.proofs.Drawing, which keeps them to itself)
-picked_packet : {B : Type 0} (size : B → ℕ) (a : Actor) (choice : ℕ) (entries : List (JournalEntry B)) (p : Packet B) → IsOrderly size entries → pick a choice entries ≡ Some p → packet_of p.id (pool entries) ≡ Some p
-picked_packet size a choice entries p orderly is =
-    let at = waiting-at a (pool entries) _ p is in
-    packet_of-at (pool entries) at.0 p (Rising-pool size entries orderly) at.1
-
-record IsPicked {B : Type 0} (journal : List (JournalEntry B)) (place : PacketPlace) (found : Option (Packet B)) : Type 0 where
-  pub packet : Packet B
-  pub is : found ≡ Some packet
-  pub stands : packet_at place journal ≡ Some packet
-  pub from_is : place.from ≡ packet.from
-  pub to_is : place.to ≡ packet.to
-
-picked : {B : Type 0} (journal : List (JournalEntry B)) (place : PacketPlace) (found : Option (Packet B)) → IsFound journal (Some place) found → IsPicked journal place found
-picked journal place None h = absurd h
-picked journal place (Some p) h = record { packet = p; is = refl; stands = h.stands; from_is = h.from_is; to_is = h.to_is }
-
-body_of : {B : Type 0} (o : Option (Packet B)) (p : Packet B) (body : B) → o ≡ Some p → IfSome o (λ q. body ≡ q.body) → body ≡ p.body
-body_of o p body is h = subst (λ q. IfSome q (λ r. body ≡ r.body)) is h
 
 module _ {B I : Type 0} (sealing : Sealing B) (hears : Actor → Unsealed → I) (locally : LocalInput → I) (p q : PlaceState B) (letters : List (Letter B)) (step : Turn) where
   -- the newest entries of a turn come first

@@ -21,7 +21,7 @@ use Rattle.group_controller.specs.Turns.{Controlling}
 use Rattle.rv_runs.specs.States.{Scene, Sealing, controller_at, controller_message, switch_at, switch_message}
 use Rattle.rv_runs.specs.Legal.{IsLegalPast, results_of}
 use Rattle.rv_runs.specs.Schedule.{owed_of}
-use Rattle.rv_world.specs.World.{IsOwed, IsPlayed, resting, results_in}
+use Rattle.rv_world.specs.World.{IsMember, IsOwed, IsPlayed, resting, results_in}
 use Rattle.rv_world.proofs.Keeping.{none_said}
 use Rattle.running.specs.declared.job.Job.{Job}
 use Rattle.running.specs.declared.seated.Served.{Served}
@@ -119,6 +119,9 @@ module _ {B A W : Type 0} (law : AppLaw A) (saving : Saving W) (sealing : Sealin
   pub legal : IsLegalPast scene (results_in members) (past journal)
   legal = joining.legal law scene (past journal) members states owed stand named orderly
 
+  pub are_members : (c : ℕ) → c < setup.controllers → IsMember law scene (results_in members) (past journal) members c
+  are_members c there = joining.members law scene (past journal) members states owed stand named orderly c there
+
   -- what each owes by the journal is what its job owes
   pub owes : (a : Actor) → IsActor setup a → owed_of scene (results_in members) a (past journal) ≡ owed a
   owes (actor.Controller c) there = sym (joining.controller_owes law scene (past journal) members states owed stand named orderly c there).sealed
@@ -173,7 +176,7 @@ module _ {B A W : Type 0} (law : AppLaw A) (saving : Saving W) (sealing : Sealin
     legal = legal;
     group = stand.group;
     count = stand.count;
-    controllers = λ c there. joining.members law scene (past journal) members states owed stand named orderly c there;
+    controllers = are_members;
     switches = λ s there. joining.switches_are law scene (past journal) members states owed stand named orderly s there;
     controllers_rest = λ c there. none_said sealing controller_message (controller_at scene (results_of (results_in members) c) c (part (actor.Controller c) (past journal))).owed []
         (subst (λ o. IsOwed controller_message sealing (controller_at scene (results_of (results_in members) c) c (part (actor.Controller c) (past journal))).owed o) (rest (actor.Controller c) there)

@@ -11,6 +11,7 @@ pub mod Stops
 pub mod Ends
 pub mod Distinct
 pub mod Starting
+pub mod Fresh
 pub mod Stopping
 pub mod Seats
 pub mod Together

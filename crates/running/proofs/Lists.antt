@@ -1,5 +1,5 @@
 -- Lists, by number.
-use Rattle.std.proofs.Common.{◌≡◌, ◌≤◌, ◌<◌, ℕ, ◌+◌, zero, suc, List, [], ◌∷◌, ◌++◌, length, map, take, drop, refl, sym, ◌∙◌, ap, subst, arith, append_assoc, length-append}
+use Rattle.std.proofs.Common.{◌≡◌, ◌≤◌, ◌<◌, ℕ, ◌+◌, ◌-◌, zero, suc, List, [], ◌∷◌, ◌++◌, length, map, take, drop, refl, sym, ◌∙◌, ap, subst, arith, append_assoc, length-append}
 use Rattle.std.specs.Prelude.{Some, All, Contains, slice_get, slice_index_or}
 use Rattle.std.specs.List.{range_with_len, zip}
 use Rattle.group_controller.specs.Turns.{Controlling}
@@ -19,21 +19,21 @@ pub map_long : {X Y : Type 0} (f : X → Y) (xs : List X) → length (map f xs) 
 map_long f [] = refl
 map_long f (x ∷ xs) = ap suc (map_long f xs)
 
--- a list by numbers, at a number
-pub mapped_at : {X : Type 0} (f : ℕ → X) (first count i : ℕ) → i < count → slice_get (map f (range_with_len first count)) i ≡ Some (f (first + i))
-mapped_at f first zero i less = absurd (omega (arith, less))
-mapped_at f first (suc count) zero less = ap (λ n. Some (f n)) (omega arith)
-mapped_at f first (suc count) (suc i) less = let next : first + 1 + i ≡ first + suc i = omega arith in mapped_at f (first + 1) count i (omega (arith, less)) ∙ ap (λ n. Some (f n)) next
-
-pub mapped_long : {X : Type 0} (f : ℕ → X) (first count : ℕ) → length (map f (range_with_len first count)) ≡ count
-mapped_long f first zero = refl
-mapped_long f first (suc count) = ap suc (mapped_long f (first + 1) count)
-
 -- what stands behind a list
 pub got_behind : {X : Type 0} (xs ys : List X) (i j : ℕ) → j ≡ length xs + i → slice_get (xs ++ ys) j ≡ slice_get ys i
 got_behind [] ys i j is = ap (slice_get ys) (omega (arith, is))
 got_behind (x ∷ xs) ys i zero is = absurd (omega (arith, is))
 got_behind (x ∷ xs) ys i (suc j) is = got_behind xs ys i j (omega (arith, is))
+
+-- lists that are the same behind a place
+got_dropped : {X : Type 0} (n : ℕ) (xs : List X) (i : ℕ) → n ≤ i → slice_get xs i ≡ slice_get (drop n xs) (i - n)
+got_dropped zero xs i past = ap (slice_get xs) (omega arith)
+got_dropped (suc n) xs zero past = absurd (omega (arith, past))
+got_dropped (suc n) [] (suc i) past = refl
+got_dropped (suc n) (x ∷ xs) (suc i) past = got_dropped n xs i (omega (arith, past)) ∙ ap (slice_get (drop n xs)) (omega arith)
+
+pub same_behind : {X : Type 0} (n : ℕ) (xs ys : List X) → drop n xs ≡ drop n ys → (i : ℕ) → n ≤ i → slice_get xs i ≡ slice_get ys i
+same_behind n xs ys same i past = got_dropped n xs i past ∙ ap (λ l. slice_get l (i - n)) same ∙ sym (got_dropped n ys i past)
 
 -- pairs
 pub got_zip : {X Y : Type 0} (xs : List X) (ys : List Y) (i : ℕ) (x : X) (y : Y) → slice_get xs i ≡ Some x → slice_get ys i ≡ Some y → slice_get (zip xs ys) i ≡ Some (x, y)

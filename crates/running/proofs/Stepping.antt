@@ -25,26 +25,13 @@ use Rattle.rv_base.specs.declared.wire.Refused.{Refused as Refusal}
 use Rattle.rv_base.specs.Answers.{RefusedBy}
 use Rattle.switch_board.specs.Calls.{beside, Adds, Refuses}
 use Rattle.switch_board.proofs.Parts.{AllBy, part-own, same_of}
-use Rattle.switch_board.proofs.Turns.{by_posting}
+use Rattle.switch_board.proofs.Turns.{by_entry, by_posting}
 use Rattle.running.specs.Apart.{steps_of, inputs_of, IsStepAt}
 use Rattle.running.specs.Hearing.{Advances, StopsAt}
 use Rattle.running.specs.Jobs.{PlaysOn, StopsIn}
 use Rattle.running.proofs.Following.{Taken, still}
 
 module _ {B : Type 0} where
-  by_entry : (step : Turn) (before : List (JournalEntry B)) → actor_of (entry_of step before) ≡ turn_actor step
-  by_entry (turn.Draw a choice keep) before = by_pick (pick a choice before)
-    where
-      by_pick : (o : Option (Packet B)) → actor_of (drawn_entry a keep o) ≡ a
-      by_pick None = refl
-      by_pick (Some p) = refl
-  by_entry (turn.Lose a choice) before = by_pick (pick a choice before)
-    where
-      by_pick : (o : Option (Packet B)) → actor_of (lost_entry a o) ≡ a
-      by_pick None = refl
-      by_pick (Some p) = refl
-  by_entry (turn.Local a input) before = refl
-
   an_input : (step : Turn) (before : List (JournalEntry B)) → is_input (entry_of step before) ≡ true
   an_input (turn.Draw a choice keep) before = by_pick (pick a choice before)
     where

@@ -22,7 +22,7 @@ use Rattle.group_controller.specs.Turns.{Controlling, pair_in, state_of}
 use Rattle.rv_runs.specs.States.{Sealing}
 use Rattle.rv_runs.specs.Legal.{IsLegalPast}
 use Rattle.rv_base.specs.Turns.{IsFull, IsWithinLimits}
-use Rattle.rv_world.specs.World.{AreTold, IsPlayed, PairsStand, SavesTold, resting, results_in}
+use Rattle.rv_world.specs.World.{AreTold, IsMember, IsPlayed, PairsStand, SavesTold, resting, results_in}
 use Rattle.switch_board.specs.Places.{fresh, IsPartOf, PlaceState, TableId}
 use Rattle.switch_board.proofs.Lists.{all_reverse}
 use Rattle.running.specs.declared.job.Job.{Job}
@@ -38,7 +38,8 @@ use Rattle.running.specs.Threads.{HaltsApart, HasPlayedApart, IsLeftLegal, Start
 use Rattle.running.specs.Together.{HavePlayed}
 use Rattle.running.proofs.Ends.{done_ends, stuck_ends}
 use Rattle.running.proofs.Joined as joined
-use Rattle.running.proofs.Lists.{at_number, by_number, drop_mapped, got_behind, got_map, got_zip, map_long, mapped_at, mapped_long, zip_first, zip_second}
+use Rattle.rv_world.proofs.Starts.{mapped_at, mapped_length}
+use Rattle.running.proofs.Lists.{at_number, by_number, drop_mapped, got_behind, got_map, got_zip, map_long, same_behind, zip_first, zip_second}
 use Rattle.running.proofs.Starting.{job_fresh, served_fresh, switch_fresh}
 use Rattle.running.proofs.Stopping.{AreCalm, HasStopped, are_calm, none_first, none_stopped, was_calm, who_stopped}
 
@@ -90,7 +91,7 @@ module _ {B A W : Type 0} (law : AppLaw A) (saving : Saving W) (sealing : Sealin
   group_is = starts.members.group
 
   count_is : length switches ≡ length setup.ports
-  count_is = ap length starts.others ∙ mapped_long (λ s. starting_switch s setup) 0 (length setup.ports)
+  count_is = ap length starts.others ∙ mapped_length (λ s. starting_switch s setup) 0 (length setup.ports)
 
   -- a controller as it starts, beside what it saves to
   record IsServedAt (c : ℕ) : Type 0 where
@@ -116,7 +117,7 @@ module _ {B A W : Type 0} (law : AppLaw A) (saving : Saving W) (sealing : Sealin
       (got_map (λ x. record { controller = x.0; stable = x.1 }) (zip controllers stables) c _ (got_zip controllers stables c s.controller s.stable s.controller_stands s.stable_stands)))
 
   switches_long : length (map (λ (c : ℕ). actor.Controller c) (range_with_len 0 (length controllers))) ≡ length controllers
-  switches_long = mapped_long (λ (c : ℕ). actor.Controller c) 0 (length controllers)
+  switches_long = mapped_length (λ (c : ℕ). actor.Controller c) 0 (length controllers)
 
   other_places : drop (length controllers) places ≡ map (fresh id) (map (λ (s : ℕ). actor.Switch s) (range_with_len 0 (length switches)))
   other_places =
@@ -138,8 +139,8 @@ module _ {B A W : Type 0} (law : AppLaw A) (saving : Saving W) (sealing : Sealin
 
   places_long : length places ≡ length controllers + length switches
   places_long =
-      let one = mapped_long (λ (c : ℕ). actor.Controller c) 0 (length controllers) in
-      let two = mapped_long (λ (s : ℕ). actor.Switch s) 0 (length switches) in
+      let one = mapped_length (λ (c : ℕ). actor.Controller c) 0 (length controllers) in
+      let two = mapped_length (λ (s : ℕ). actor.Switch s) 0 (length switches) in
       let both = length-append (map (λ (c : ℕ). actor.Controller c) (range_with_len 0 (length controllers))) (map (λ (s : ℕ). actor.Switch s) (range_with_len 0 (length switches))) in
       let all = map_long (fresh {B = B} id) actors in omega (arith, one, two, both, all)
 
@@ -157,7 +158,7 @@ module _ {B A W : Type 0} (law : AppLaw A) (saving : Saving W) (sealing : Sealin
 
   pub others_long : length first_others ≡ length switches
   others_long =
-      let long = ap length other_places ∙ map_long (fresh id) (map (λ (s : ℕ). actor.Switch s) (range_with_len 0 (length switches))) ∙ mapped_long (λ (s : ℕ). actor.Switch s) 0 (length switches) in
+      let long = ap length other_places ∙ map_long (fresh id) (map (λ (s : ℕ). actor.Switch s) (range_with_len 0 (length switches))) ∙ mapped_length (λ (s : ℕ). actor.Switch s) 0 (length switches) in
       map_long (λ x. task_of x.0 x.1) (zip (drop (length controllers) places) switches) ∙ zip_second (drop (length controllers) places) switches (omega (arith, long))
 
   some_is : {X : Type 0} (x y : X) → Some x ≡ Some y → y ≡ x
@@ -324,6 +325,10 @@ module _ {B A W : Type 0} (law : AppLaw A) (saving : Saving W) (sealing : Sealin
       legal = subst (λ (cs : List (Controlling A)). IsLegalPast (scene_of sealing setup kinds) (results_in cs) (past wire)) members_are
           (joined.legal law saving sealing setup kinds steps wire member_jobs other_jobs started h.orderly named jobs_long other_jobs_long joins_controllers switch_seated)
 
+      left_members : (c : ℕ) → c < setup.controllers → IsMember law (scene_of sealing setup kinds) (results_in played.controllers.items) (past wire) played.controllers.items c
+      left_members = subst (λ (cs : List (Controlling A)). (c : ℕ) → c < setup.controllers → IsMember law (scene_of sealing setup kinds) (results_in cs) (past wire) cs c) members_are
+          (joined.are_members law saving sealing setup kinds steps wire member_jobs other_jobs started h.orderly named jobs_long other_jobs_long joins_controllers switch_seated)
+
       plays_last : (c : ℕ) (there : c < setup.controllers) (s : IsServedAt c) → (e : HasEndedAs (ServedPlays law saving sealing) (actor.Controller c) (record { controller = s.controller; stable = s.stable }) h.members c) →
           ServedPlays law saving sealing setup kinds (actor.Controller c) (record { controller = s.controller; stable = s.stable }) e.task.job.place.own e.task.job.player e.task.job.owed
       plays_last c there s e =
@@ -380,7 +385,7 @@ module _ {B A W : Type 0} (law : AppLaw A) (saving : Saving W) (sealing : Sealin
           drop-append_seam (map stable_of (map player_of h.members)) (drop (length controllers) stables) ∙ ap (λ (n : ℕ). drop n stables) group_is
 
       pub left_legal : IsLeftLegal law saving sealing setup kinds controllers stables stables_after played
-      left_legal = record { legal = legal; within = h.within; pairs = pairs; told = told; rest = rest }
+      left_legal = record { legal = legal; within = h.within; members = left_members; pairs = pairs; told = told; beyond = λ i past. same_behind setup.controllers stables_after stables rest i past }
 
       -- where each did all of its steps
       module _ (members_done : (i : ℕ) (t : Task B (Served A W)) → slice_get h.members i ≡ Some t → t.stop ≡ None) (others_done : (i : ℕ) (t : Task B SwitchState) → slice_get h.others i ≡ Some t → t.stop ≡ None) where

@@ -1,5 +1,5 @@
 -- Which journals a script gives where each actor does its own steps, in a thread of its own. Pasts have their newest entry first.
-use Rattle.std.specs.Prelude.{◌≡◌, ℕ, true, ◌&&◌, List, [], ◌∷◌, ◌++◌, length, filter, count_by, slice_get, Some}
+use Rattle.std.specs.Prelude.{◌≡◌, ℕ, true, ◌&&◌, List, [], ◌∷◌, ◌++◌, length, filter, count_by, reverse, slice_get, Some}
 use Rattle.rv_base.specs.declared.journal.Actor.{Actor}
 use Rattle.rv_base.specs.declared.journal.JournalEntry.{JournalEntry}
 use Rattle.rv_base.specs.declared.journal.JournalEntry.TheVariants.{Post, Refused}
@@ -9,7 +9,7 @@ use Rattle.rv_base.specs.Actors.{same_actor, actor_of, is_input, IsActor}
 use Rattle.rv_base.specs.Part.{part}
 use Rattle.rv_base.specs.Turns.{entry_of, turn_actor, IsFull}
 use Rattle.rv_runs.specs.States.{Scene}
-use Rattle.rv_runs.specs.Schedule.{owed_of}
+use Rattle.rv_runs.specs.Schedule.{ClosesTo, IsJournalFull, Losing, Phase, owed_of}
 
 -- the steps of one actor
 abbrev pub steps_of : Actor → List Turn → List Turn
@@ -62,3 +62,10 @@ pub record BeginsApart {B : Type 0} (scene : Scene B) (results : List (List Save
   pub each : (a : Actor) → IsActor scene.setup a → BeginsAlone scene results steps entries a
   pub stuck : Actor
   pub cut : IsCutFor scene results bytes letters entries stuck
+
+-- a run that is cut short where an outbox met the limits of the journal, in the script or in the closing
+pub data IsBegunApart {B : Type 0} (scene : Scene B) (results : List (List SaveResult)) (steps : List Turn) (bytes letters : ℕ) : List (JournalEntry B) → Type 0 where
+  In_the_script : {entries : List (JournalEntry B)} → BeginsApart scene results steps bytes letters entries → IsBegunApart scene results steps bytes letters entries
+  In_the_closing : (script entries : List (JournalEntry B)) (last : Phase) → FollowsApart scene results steps script →
+      ClosesTo scene results Losing script entries last → IsJournalFull scene results (reverse entries ++ script) bytes letters →
+      IsBegunApart scene results steps bytes letters (reverse entries ++ script)

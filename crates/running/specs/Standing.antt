@@ -1,17 +1,16 @@
 -- What an actor that plays its own entries keeps true of them.
-use Rattle.std.specs.Prelude.{◌≡◌, ◌<◌, ℕ, List, [], ◌∷◌, length, slice_get, Option, Some, None}
+use Rattle.std.specs.Prelude.{◌≡◌, ◌<◌, ℕ, List, length, slice_get, Option, Some}
 use Rattle.std.specs.List.{AllByRecursion}
 use Rattle.rv_base.specs.declared.journal.Actor.{Actor}
 use Rattle.rv_base.specs.declared.journal.Actor.TheVariants as actor
 use Rattle.rv_base.specs.declared.journal.JournalEntry.{JournalEntry}
-use Rattle.rv_base.specs.declared.journal.JournalEntry.TheVariants.{Draw}
 use Rattle.rv_base.specs.declared.journal.Letter.{Letter}
 use Rattle.rv_base.specs.declared.journal.Packet.{Packet}
 use Rattle.rv_base.specs.Part.{part}
 use Rattle.of_switch.specs.State.{SwitchState}
 use Rattle.group_controller.specs.Turns.{Controlling, state_of}
 use Rattle.rv_runs.specs.States.{Scene, switch_at, controller_at, switch_message, controller_message}
-use Rattle.rv_runs.specs.Legal.{EntryFits, IsSoundSwitch, IsSoundController}
+use Rattle.rv_runs.specs.Legal.{EachFinds, EntryFits, IsSoundSwitch, IsSoundController}
 use Rattle.rv_world.specs.World.{IsOwed}
 use Rattle.app_core.specs.Law.{AppLaw}
 use Rattle.group_controller.specs.Turns.{Controls}
@@ -22,12 +21,6 @@ pub record SwitchStands {B : Type 0} (scene : Scene B) (s : ℕ) (own : List (Jo
   pub sound : IsSoundSwitch scene s own
   pub state_is : state ≡ (switch_at scene s own).now
   pub owes : IsOwed switch_message scene.sealing (switch_at scene s own).owed owed
-
--- each draw among these finds its packet
-abbrev pub EachFinds : {B : Type 0} → List (JournalEntry B × Option (Packet B)) → Type 0
-EachFinds [] = Unit {0}
-EachFinds ((Draw a id keep, None) ∷ own) = ⊥
-EachFinds (x ∷ own) = EachFinds own
 
 -- and a controller, whose saves had these results, and no more
 pub record ControllerStands {B A : Type 0} (law : AppLaw A) (scene : Scene B) (c : ℕ) (own : List (JournalEntry B × Option (Packet B)))

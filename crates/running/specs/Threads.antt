@@ -1,5 +1,5 @@
 -- What a run of threads starts from, and what it leaves.
-use Rattle.std.specs.Prelude.{◌≡◌, ◌≤◌, ℕ, List, length, drop}
+use Rattle.std.specs.Prelude.{◌≡◌, ◌<◌, ◌≤◌, ℕ, List, length, slice_get}
 use Rattle.std.specs.List.{AllByRecursion}
 use Rattle.of_types.specs.declared.setup.Setup.{Setup}
 use Rattle.of_types.specs.Setups.{IsSetup}
@@ -13,7 +13,7 @@ use Rattle.of_switch.specs.State.{SwitchState}
 use Rattle.group_controller.specs.Turns.{Controlling}
 use Rattle.rv_runs.specs.States.{Sealing}
 use Rattle.rv_runs.specs.Legal.{IsLegalPast}
-use Rattle.rv_world.specs.World.{AreNew, AreTold, IsPlayed, PairsStand, resting, results_in, starting_switches}
+use Rattle.rv_world.specs.World.{AreNew, AreTold, IsMember, IsPlayed, PairsStand, resting, results_in, starting_switches}
 use Rattle.running.specs.declared.run.Played.{Played}
 use Rattle.running.specs.Apart.{BeginsApart, FollowsApart}
 use Rattle.running.specs.Playing.{scene_of}
@@ -34,14 +34,15 @@ pub record StartsApart {A W : Type 0} (law : AppLaw A) (saving : Saving W) (setu
   pub named : AllByRecursion (λ t. IsActor setup (turn_actor t)) steps
 
 -- What threads left, whatever became of them but for want of memory: a legal journal, with the results of the saves that the controllers
--- kept. Their stable pairs stand, and their counts of faults rose with each save that failed
+-- kept, and the controllers that it gives. Their stable pairs stand, and their counts of faults rose with each save that failed
 pub record IsLeftLegal {B A W : Type 0} (law : AppLaw A) (saving : Saving W) (sealing : Sealing B) (setup : Setup) (kinds : List ℕ)
     (before : List (Controlling A)) (stables stables_after : List W) (left : Played B A) : Type 0 where
   pub legal : IsLegalPast (scene_of sealing setup kinds) (results_in left.controllers.items) (past left.wire)
   pub within : IsWithinLimits sealing.size (past left.wire)
+  pub members : (c : ℕ) → c < setup.controllers → IsMember law (scene_of sealing setup kinds) (results_in left.controllers.items) (past left.wire) left.controllers.items c
   pub pairs : PairsStand saving stables_after left.controllers.items
   pub told : AreTold saving stables stables_after before left.controllers.items
-  pub rest : drop setup.controllers stables_after ≡ drop setup.controllers stables
+  pub beyond : (i : ℕ) → setup.controllers ≤ i → slice_get stables_after i ≡ slice_get stables i
 
 -- the threads did all steps: a world may take over what they left, and each actor's inputs are its own steps in order
 pub record HasPlayedApart {B A W : Type 0} (law : AppLaw A) (saving : Saving W) (sealing : Sealing B) (setup : Setup) (kinds : List ℕ) (steps : List Turn)

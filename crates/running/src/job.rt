@@ -8,11 +8,10 @@ ghost use Rattle.switch_board.specs.Places.{IsSamePlace};
 ghost use Rattle.running.specs.Apart.{steps_of};
 ghost use Rattle.running.specs.Jobs.{HasDone, PlaysOn, StopsIn};
 
-use crate::gate::Gate;
 use crate::next::next_input;
 use crate::seated::Seated;
 use of_types::Items;
-use rv_base::{Letters, Stop, Turn};
+use rv_base::{Gate, Letters, Stop, Turn};
 use rv_bodies::Body;
 use std::alloc::Global;
 use std::mem;

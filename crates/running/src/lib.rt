@@ -3,8 +3,6 @@
 
 ghost use Rattle.running.specs.Laws.{PartsJoin, StepsStay};
 
-mod fitting;
-mod gate;
 mod job;
 mod leaving;
 mod next;
@@ -15,7 +13,6 @@ mod seating;
 mod task;
 
 use app_core::App;
-pub use gate::{FreeGate, Gate};
 pub use run::{Halt, Played, run_threads};
 pub use seated::{Seated, Served};
 

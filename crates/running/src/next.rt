@@ -8,11 +8,11 @@ ghost use Rattle.switch_board.specs.Calls.{Adds};
 ghost use Rattle.switch_board.specs.Places.{IsSamePlace};
 ghost use Rattle.running.specs.Hearing.{Advances, StopsAt};
 
-use crate::fitting::fits_types;
 use of_types::Items;
 use rv_base::{Letters, Local, PacketPlace, Stop, Turn};
 use rv_bodies::Body;
 use rv_players::{Player, heard};
+use rv_world::fits_types;
 use std::alloc::Global;
 use std::mem;
 use std::sync::Wait;

@@ -1,13 +1,18 @@
 //! A script that its actors play apart: each in a thread of its own, over one board.
-ghost use Rattle.std.specs.Prelude.{◌≡◌, ◌≤◌, ◌<◌, ℕ, List, All, IfOk, IfErr, drop, length, map, vec_len};
+ghost use Rattle.std.specs.Prelude.{◌≡◌, ◌≤◌, ◌<◌, ℕ, List, [], None, All, IfOk, IfErr, drop, length, map, vec_len};
+ghost use Rattle.std.specs.List.{AllByRecursion};
+ghost use Rattle.rv_base.specs.Actors.{IsActor};
+ghost use Rattle.rv_base.specs.Pool.{past};
+ghost use Rattle.rv_base.specs.Turns.{turn_actor};
+ghost use Rattle.rv_world.specs.World.{ForEachScene, Holds, Keeps, PairsStand, results_in};
 ghost use Rattle.switch_board.specs.Places.{fresh};
+ghost use Rattle.running.specs.Apart.{FollowsApart};
 ghost use Rattle.running.specs.Playing.{ServedPlays, SwitchPlays};
 ghost use Rattle.running.specs.Tasks.{AllRan, MayBegin};
 ghost use Rattle.running.specs.Threads.{HaltsApart, HasPlayedApart, StartsApart};
 ghost use Rattle.running.specs.Runs.{actors_up_to, seated, served};
 ghost use Rattle.running.specs.Together.{HasRoom, HavePlayed};
 
-use crate::gate::Gate;
 use crate::leaving::{close, part, put_back, take_apart};
 use crate::ready::Ready;
 use crate::seated::Served;
@@ -17,8 +22,9 @@ use app_core::App;
 use group_controller::Controller;
 use of_switch::Switch;
 use of_types::Setup;
-use rv_base::{Stable, Stop, Turn, Wire};
+use rv_base::{Gate, Stable, Stop, Turn, Wire};
 use rv_bodies::Body;
+use rv_world::World;
 use std::alloc::Global;
 use std::sync::Wait;
 use std::thread::Threads;
@@ -39,6 +45,26 @@ pub struct Played<B: Body, A: App> {
 pub struct Halt<B: Body, A: App> {
     pub stop: Stop,
     pub played: Played<B, A>,
+}
+
+impl<B: Body, A: App> Halt<B, A> {
+    /// Of a world that goes no further.
+    pub fn of(stop: Stop, world: World<B, A>) -> Halt<B, A>
+        ensures stop { result.stop ≡ stop }
+        ensures wire { result.played.wire ≡ world.journal }
+        ensures controllers { result.played.controllers.items ≡ world.controllers }
+        ensures switches { result.played.switches.items ≡ world.switches }
+    {
+        let (_, wire, controllers, switches) = world.into_parts();
+        Halt {
+            stop,
+            played: Played {
+                wire,
+                controllers,
+                switches,
+            },
+        }
+    }
 }
 
 /// Both kinds of actors at once, each actor in a thread of its own.
@@ -135,10 +161,9 @@ fn play_together<
     (played, stop)
 }
 
-/// Actors play their own steps of a script, each in a thread of its own, with what the controllers save to: the first stables, in
-/// order. These are put back in order, also where the run is cut short. All memory of this call itself is taken before a
-/// thread starts; where there is none for it, nothing was played.
-pub fn run_threads<
+/// The actors of a setup as they start, with what the controllers save to: the first stables, in order. All memory of this call
+/// itself is taken before a thread starts; where there is none for it, nothing was played.
+fn run_actors<
     B: Body + Send,
     A: App + Send,
     W: Stable + Drop + Send,
@@ -187,4 +212,53 @@ pub fn run_threads<
         None => Ok(played),
         Some(stop) => Err(Halt { stop, played }),
     }
+}
+
+/// The actors of a world as it starts play their own steps of a script, each in a thread of its own, with what its controllers save
+/// to: the first stables, in order. These are put back in order, also where the run is cut short.
+pub fn run_threads<
+    B: Body + Send,
+    A: App + Send,
+    W: Stable + Drop + Send,
+    G: Gate + Sync,
+    R: Threads + Wait + Sync,
+>(
+    rt: &R,
+    alloc: Global,
+    gate: &G,
+    world: World<B, A>,
+    stables: &mut Vec<W>,
+    steps: &[Turn],
+) -> Result<World<B, A>, Halt<B, A>>
+    requires holds { (kinds : List ℕ) × Holds A.law B.sealing world kinds }
+    requires pairs { PairsStand W.saving stables.old.items world.controllers }
+    requires rests { world.owed ≡ None }
+    requires fresh { world.journal ≡ [] }
+    requires named { AllByRecursion (λ t. IsActor world.setup (turn_actor t)) steps.now }
+    ensures keeps { IfOk result (λ after. Keeps A.law W.saving B.sealing world stables.old.items after stables.new.items) }
+    ensures rests { IfOk result (λ after. after.owed ≡ None) }
+    ensures follows { ForEachScene A.law B.sealing world (λ scene.
+        IfOk result (λ after. FollowsApart scene (results_in after.controllers) steps.now (past after.journal))) }
+    ensures halts { (kinds : List ℕ) → Holds A.law B.sealing world kinds → IfErr result (λ halt.
+        HaltsApart A.law W.saving B.sealing world.setup kinds steps.now world.controllers stables.old.items stables.new.items halt.played halt.stop) }
+{
+    let (setup, wire, controllers, switches) = world.into_parts();
+    drop(wire);
+    let played = run_actors::<B, A, W, G, R>(
+        rt,
+        alloc,
+        gate,
+        &setup,
+        steps,
+        stables,
+        controllers,
+        switches,
+    )?;
+    Ok(World::adopt(
+        alloc,
+        setup,
+        played.wire,
+        played.controllers,
+        played.switches,
+    ))
 }

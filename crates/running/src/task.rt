@@ -2,10 +2,9 @@
 ghost use Rattle.std.specs.Prelude.{All, length};
 ghost use Rattle.running.specs.Tasks.{AllRan, WasRun, MayBegin};
 
-use crate::gate::Gate;
 use crate::job::{Job, play_alone};
 use crate::seated::Seated;
-use rv_base::{Stop, Turn};
+use rv_base::{Gate, Stop, Turn};
 use rv_bodies::Body;
 use std::alloc::Global;
 use std::sync::Wait;

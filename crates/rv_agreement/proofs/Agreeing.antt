@@ -8,10 +8,8 @@ use Rattle.rv_base.specs.Part.{part, drawn}
 use Rattle.lists.specs.Lists.{IsPrefix}
 use Rattle.agreement.specs.Invariant as invariant
 use Rattle.agreement.specs.Journals as journal
-use Rattle.agreement.specs.Journals.{settled}
 use Rattle.agreement.specs.Laws.{committed_log}
 use Rattle.agreement.proofs.Agreeing.{journals_law}
-use Rattle.agreement.proofs.Standing.{folds_law}
 use Rattle.vr_log.specs.declared.entry.Entry.{Entry}
 use Rattle.vr_log.specs.declared.state.Status.{Status}
 use Rattle.vr_log.specs.declared.state.Status.TheVariants as status
@@ -25,9 +23,9 @@ use Rattle.rv_runs.specs.Legal.{results_of}
 use Rattle.rv_runs.specs.Committed.{kept}
 use Rattle.rv_agreement.specs.Projection.{entries_of, past_of, rules_of}
 use Rattle.rv_agreement.specs.Laws.{KeptLogsAgree}
-use Rattle.rv_agreement.proofs.Journals.{in_group, past_orderly}
+use Rattle.rv_agreement.proofs.Journals.{in_group, past_legal}
 use Rattle.rv_agreement.proofs.Reading.{IsReadPast, read_drop, read_past}
-use Rattle.rv_agreement.proofs.Standing.{saving, stands_alike}
+use Rattle.rv_agreement.proofs.Standing.{stands_alike}
 
 turned : {xs ys : List Entry} → IsPrefix xs ys ⊎ IsPrefix ys xs → IsPrefix ys xs ⊎ IsPrefix xs ys
 turned z = elim z [ inl p ↦ inr p | inr p ↦ inl p ]
@@ -53,21 +51,17 @@ module _ {B : Type 0} (scene : Scene B) (results : List (List SaveResult)) (most
   -- what a controller has committed is what the moves show
   pub kept_is : (c : ℕ) (past : List (JournalEntry B)) → IsReadPast scene results past → journal.kept (rules_of scene most_failures results) c (past_of scene past) ≡ kept scene results c past
   kept_is c past k =
-      let good = past_orderly scene results most_failures n past k in
-      let agrees = (folds_law (rules_of scene most_failures results) (group_of most_failures) (past_of scene past) good.orderly).1 c in
       let same = stands_alike scene results most_failures c n past k.possible.orderly in
       let at = controller_at scene (results_of results c) c (part (actor.Controller c) past) in
       let now : ControllerState = at.now in
-      let is : settled (rules_of scene most_failures results) c (past_of scene past) ≡ saving at = agrees.now ∙ same.now in
-      ap (λ (a : SavingController). cond (invariant.is_up (state_of a.state.vr).status) (committed_log (state_of a.state.vr)) []) is
+      ap (λ (a : SavingController). cond (invariant.is_up (state_of a.state.vr).status) (committed_log (state_of a.state.vr)) []) same.now
       ∙ ap (λ (t : Bool). cond t (committed now) []) (same_up now.vr.status)
 
   later_agree : (more past : List (JournalEntry B)) (c d : ℕ) → IsReadPast scene results (more ++ past) → IsReadPast scene results past → c < scene.setup.controllers → d < scene.setup.controllers
       → IsPrefix (kept scene results c past) (kept scene results d (more ++ past)) ⊎ IsPrefix (kept scene results d (more ++ past)) (kept scene results c past)
   later_agree more past c d k k' b b' =
       let r = rules_of scene most_failures results in
-      let good = past_orderly scene results most_failures n (more ++ past) k in
-      let legal = (folds_law r (group_of most_failures) (past_of scene (more ++ past)) good.orderly).0 in
+      let legal = (past_legal scene results most_failures n (more ++ past) k).legal in
       let x = past_on more past in
       let law = journals_law r (group_of most_failures) x.0 (past_of scene past) c d (follow_law scene.kinds scene.setup most_failures (λ c. results_of results c))
       (subst (λ (es : List (journal.Entry OwnInput Entry)). journal.IsLegal r (group_of most_failures) es) x.1 legal) (in_group scene results most_failures n c b) (in_group scene results most_failures n d b') in

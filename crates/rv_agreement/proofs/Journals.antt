@@ -1,4 +1,4 @@
--- A possible past is orderly for the fold of agreement, and what waits between members was posted.
+-- A possible past is legal for agreement, and what waits between members was posted.
 use Rattle.std.proofs.Common.{◌≡◌, ℕ, ◌+◌, ◌*◌, ◌<◌, inl, inr, Bool, Option, Some, None, List, [], ◌∷◌, ◌++◌, refl, sym, ap, ◌∙◌, subst}
 use Rattle.rv_base.specs.declared.journal.Actor.{Actor}
 use Rattle.rv_base.specs.declared.journal.Actor.TheVariants as actor
@@ -14,16 +14,14 @@ use Rattle.lists.specs.Lists.{IsIn}
 use Rattle.agreement.specs.History as core
 use Rattle.agreement.specs.History.{size, letter}
 use Rattle.agreement.specs.Journals as journal
-use Rattle.agreement.specs.Journals.{Comes, posted, left_by, owed}
-use Rattle.agreement.specs.Standing as fold
-use Rattle.agreement.specs.Standing.{standing}
-use Rattle.agreement.proofs.Standing.{folds_law}
+use Rattle.agreement.specs.Journals.{Rules, Comes, posted, left_by, stands}
 use Rattle.vr_log.specs.declared.entry.Entry.{Entry}
 use Rattle.vr_log.specs.declared.message.VrMessage.{VrMessage}
 use Rattle.members.specs.Projection.{group_of, message_of}
 use Rattle.group_controller.specs.declared.messages.ControllerSays.{ControllerSays}
 use Rattle.group_controller.specs.declared.messages.ControllerSays.TheVariants as controller_says
 use Rattle.controllers.specs.Projection.{OwnInput, letters_to, letters_to_members}
+use Rattle.controllers.specs.Rules.{SavingController}
 use Rattle.rv_runs.specs.declared.messages.Message.TheVariants as message
 use Rattle.rv_runs.specs.declared.messages.Unsealed.{Unsealed}
 use Rattle.rv_runs.specs.declared.messages.Unsealed.TheVariants as unsealed
@@ -59,8 +57,14 @@ comes c sent (actor.Switch s) (unsealed.Message (message.Frame port bytes)) k = 
 comes c sent (actor.Switch s) (unsealed.Malformed kind code xid head) k = tt
 
 module _ {B : Type 0} (scene : Scene B) (results : List (List SaveResult)) (most_failures : ℕ) (n : scene.setup.controllers ≡ 2 * most_failures + 1) where
+  abbrev r : Rules OwnInput SavingController Entry
+  r = rules_of scene most_failures results
+
+  abbrev IsLegalForMoves : List (journal.Entry OwnInput Entry) → Type 0
+  IsLegalForMoves past = journal.IsLegal r (group_of most_failures) past
+
   abbrev posts : List (journal.Entry OwnInput Entry) → List (core.Letter Entry)
-  posts past = posted (rules_of scene most_failures results) past
+  posts past = posted r past
 
   abbrev owes : ℕ → List (JournalEntry B) → List (Letter ControllerSays)
   owes c past = (controller_at scene (results_of results c) c (part (actor.Controller c) past)).owed
@@ -76,19 +80,20 @@ module _ {B : Type 0} (scene : Scene B) (results : List (List SaveResult)) (most
     pub read : IsRead scene p.to said
     pub sent : (x : core.Letter Entry) → IsIn x (letters_to j p.to said) → IsIn x (posts (past_of scene past))
 
-  pub record IsOrderlyPast (past : List (JournalEntry B)) : Type 0 where
-    pub orderly : fold.IsOrderly (rules_of scene most_failures results) (group_of most_failures) (past_of scene past)
+  -- a past is legal for agreement, and so was posted what waits of members
+  pub record IsAgreementPast (past : List (JournalEntry B)) : Type 0 where
+    pub legal : IsLegalForMoves (past_of scene past)
     pub packets : (p : Packet B) → IsIn p (pool past) → (j : ℕ) → p.from ≡ actor.Controller j → IsPostedBy past p j
 
   posts_more : (ys past : List (journal.Entry OwnInput Entry)) (x : core.Letter Entry) → IsIn x (posts past) → IsIn x (posts (ys ++ past))
   posts_more [] past x i = i
-  posts_more (y ∷ ys) past x i = in_right x (left_by (rules_of scene most_failures results) y (ys ++ past)) (posts (ys ++ past)) (posts_more ys past x i)
+  posts_more (y ∷ ys) past x i = in_right x (left_by r y (ys ++ past)) (posts (ys ++ past)) (posts_more ys past x i)
 
   posted_more : (e : JournalEntry B) (before : List (JournalEntry B)) (p : Packet B) (j : ℕ) → IsPostedBy before p j → IsPostedBy (e ∷ before) p j
   posted_more e before p j k = record { said = k.said; body = k.body; read = k.read; sent = λ x i. posts_more (entries_of scene e (drawn e before)) (past_of scene before) x (k.sent x i) }
 
   -- a packet that is drawn was posted
-  drawn_comes : (d : ℕ) (before : List (JournalEntry B)) → IsOrderlyPast before → (p : Packet B) → IsIn p (pool before) → p.to ≡ actor.Controller d
+  drawn_comes : (d : ℕ) (before : List (JournalEntry B)) → IsAgreementPast before → (p : Packet B) → IsIn p (pool before) → p.to ≡ actor.Controller d
       → Comes d (taken_by d (controller_hears p.from (content scene.sealing p))) (posts (past_of scene before))
   drawn_comes d before k p i to =
       comes d (posts (past_of scene before)) p.from (content scene.sealing p) (λ j m from says.
@@ -98,59 +103,61 @@ module _ {B : Type 0} (scene : Scene B) (results : List (List SaveResult)) (most
       (subst (λ (a : Actor). IsIn (letter j d (message_of m)) (letters_to j a s.said)) (sym to)
       (subst (λ (b : ControllerSays). IsIn (letter j d (message_of m)) (letters_to j (actor.Controller d) b)) (sym is) (inl refl))))
 
-  nothing_owed : (d : ℕ) (before : List (JournalEntry B)) → IsReadPast scene results before → owes d before ≡ [] → (standing (rules_of scene most_failures results) d (past_of scene before)).owes ≡ []
+  nothing_owed : (d : ℕ) (before : List (JournalEntry B)) → IsReadPast scene results before → owes d before ≡ []
+      → (stands r d (past_of scene before)).owed ≡ []
   nothing_owed d before k e =
-      (stands_alike scene results most_failures d n before k.possible.orderly).owes
+      (stands_alike scene results most_failures d n before k.possible.orderly).owed
       ∙ ap (λ (ls : List (Letter ControllerSays)). letters_to_members d ls) e
 
-  drawing : (d id : ℕ) (keep : Bool) (before : List (JournalEntry B)) → IsOrderlyPast before → d < size (group_of most_failures) → (standing (rules_of scene most_failures results) d (past_of scene before)).owes ≡ []
-      → (p : Packet B) → IsIn p (pool before) → p.to ≡ actor.Controller d → (q : Option (Packet B)) → q ≡ Some p
-      → fold.IsOrderly (rules_of scene most_failures results) (group_of most_failures) (entries_of scene (Draw (actor.Controller d) id keep) q ++ past_of scene before)
+  drawing : (d id : ℕ) (keep : Bool) (before : List (JournalEntry B)) → IsAgreementPast before → d < size (group_of most_failures)
+      → (stands r d (past_of scene before)).owed ≡ [] → (p : Packet B) → IsIn p (pool before) → p.to ≡ actor.Controller d → (q : Option (Packet B)) → q ≡ Some p
+      → IsLegalForMoves (entries_of scene (Draw (actor.Controller d) id keep) q ++ past_of scene before)
   drawing d id keep before k b none p i to None e = absurd cc
   drawing d id keep before k b none p i to (Some q) e =
       let same : q ≡ p = cc in (
         (b, subst (λ (z : Packet B). Comes d (taken_by d (controller_hears z.from (content scene.sealing z))) (posts (past_of scene before))) (sym same) (drawn_comes d before k p i to), none),
-        k.orderly,
+        k.legal,
       )
 
   -- the newest entry may stand
-  entry_stands : (e : JournalEntry B) (before : List (JournalEntry B)) → IsReadPast scene results (e ∷ before) → IsOrderlyPast before → fold.IsOrderly (rules_of scene most_failures results) (group_of most_failures) (past_of scene (e ∷ before))
-  entry_stands (Post (actor.Controller d) first letters lost) before k old = (in_group d k.possible.named.0, old.orderly)
+  entry_stands : (e : JournalEntry B) (before : List (JournalEntry B)) → IsReadPast scene results (e ∷ before) → IsAgreementPast before
+      → IsLegalForMoves (past_of scene (e ∷ before))
+  entry_stands (Post (actor.Controller d) first letters lost) before k old = (in_group d k.possible.named.0, old.legal)
   entry_stands (Draw (actor.Controller d) id keep) before k old =
       let found = drawn_found scene.sealing.size (actor.Controller d) id keep before k.possible.orderly in
       let none = nothing_owed d before (read_before scene results _ before k) (fits scene results _ before k.possible d (self_controller d)) in
       drawing d id keep before old (in_group d k.possible.named.0) none found.packet found.among found.goes_to (packet_of id (pool before)) found.found
   entry_stands (Local (actor.Controller d) what) before k old =
-      ((in_group d k.possible.named.0, tt, nothing_owed d before (read_before scene results _ before k) (fits scene results _ before k.possible d (self_controller d))), old.orderly)
+      ((in_group d k.possible.named.0, tt, nothing_owed d before (read_before scene results _ before k) (fits scene results _ before k.possible d (self_controller d))), old.legal)
   entry_stands (Refused (actor.Controller d)) before k old =
-      ((in_group d k.possible.named.0, (stands_alike scene results most_failures d n before k.possible.orderly).fresh (fits scene results _ before k.possible d (self_controller d))), old.orderly)
-  entry_stands (Lose a id) before k old = old.orderly
-  entry_stands (Idle a) before k old = old.orderly
-  entry_stands (Post (actor.Switch s) first letters lost) before k old = old.orderly
-  entry_stands (Draw (actor.Switch s) id keep) before k old = old.orderly
-  entry_stands (Local (actor.Switch s) what) before k old = old.orderly
-  entry_stands (Refused (actor.Switch s)) before k old = old.orderly
+      let same = stands_alike scene results most_failures d n before k.possible.orderly in
+      ((in_group d k.possible.named.0, same.fresh (fits scene results _ before k.possible d (self_controller d))), old.legal)
+  entry_stands (Lose a id) before k old = old.legal
+  entry_stands (Idle a) before k old = old.legal
+  entry_stands (Post (actor.Switch s) first letters lost) before k old = old.legal
+  entry_stands (Draw (actor.Switch s) id keep) before k old = old.legal
+  entry_stands (Local (actor.Switch s) what) before k old = old.legal
+  entry_stands (Refused (actor.Switch s)) before k old = old.legal
 
   -- a packet that is new was posted by its controller
-  new_packet : (d first : ℕ) (letters : List (Letter B)) (lost : ℕ) (before : List (JournalEntry B)) → IsReadPast scene results (Post (actor.Controller d) first letters lost ∷ before) → IsOrderlyPast before
+  new_packet : (d first : ℕ) (letters : List (Letter B)) (lost : ℕ) (before : List (JournalEntry B)) → IsReadPast scene results (Post (actor.Controller d) first letters lost ∷ before) → IsAgreementPast before
       → (p : Packet B) → IsPosted (actor.Controller d) letters p → IsPostedBy (Post (actor.Controller d) first letters lost ∷ before) p d
   new_packet d first letters lost before k old p posted_so =
       let e : JournalEntry B = Post (actor.Controller d) first letters lost in
       let w = was_owed scene results e before k.possible d first letters lost p refl posted_so in
       let there = named scene results e before k.possible d (self_controller d) in
       let same = stands_alike scene results most_failures d n before k.possible.orderly.2 in
-      let agrees = (folds_law (rules_of scene most_failures results) (group_of most_failures) (past_of scene before) old.orderly).1 d in
       record {
         said = w.letter.body;
         body = w.body_is;
         read = subst (λ (a : Actor). IsRead scene a w.letter.body) (sym w.to_is) (all_of (λ (l : Letter ControllerSays). FitsMessage (controller_message l.body) → IsRead scene l.to l.body) (owes d before) w.letter (k.letters.0 d there) w.among w.typed);
         sent = λ x y.
             let z : IsIn x (letters_to d w.letter.to w.letter.body) = subst (λ (a : Actor). IsIn x (letters_to d a w.letter.body)) w.to_is y in
-            in_left x (owed (rules_of scene most_failures results) d (past_of scene before)) (posts (past_of scene before))
-            (subst (λ (ls : List (core.Letter Entry)). IsIn x ls) (sym (agrees.owes ∙ same.owes)) (said_among d (owes d before) w.letter w.among x z));
+            in_left x (stands r d (past_of scene before)).owed (posts (past_of scene before))
+            (subst (λ (ls : List (core.Letter Entry)). IsIn x ls) (sym same.owed) (said_among d (owes d before) w.letter w.among x z));
       }
 
-  packet_posted : (e : JournalEntry B) (before : List (JournalEntry B)) → IsReadPast scene results (e ∷ before) → IsOrderlyPast before
+  packet_posted : (e : JournalEntry B) (before : List (JournalEntry B)) → IsReadPast scene results (e ∷ before) → IsAgreementPast before
       → (a : Actor) (first : ℕ) (letters : List (Letter B)) (lost : ℕ) (p : Packet B) → e ≡ Post a first letters lost → IsPosted a letters p → (j : ℕ) → p.from ≡ actor.Controller j → IsPostedBy (e ∷ before) p j
   packet_posted e before k old (actor.Switch s) first letters lost p is posted_so j from = absurd (let no : actor.Switch s ≡ actor.Controller j = sym posted_so.from_is ∙ from in cc)
   packet_posted e before k old (actor.Controller d) first letters lost p is posted_so j from =
@@ -160,12 +167,12 @@ module _ {B : Type 0} (scene : Scene B) (results : List (List SaveResult)) (most
       (subst (λ (y : JournalEntry B). IsPostedBy (y ∷ before) p d) (sym is)
       (new_packet d first letters lost before (subst (λ (y : JournalEntry B). IsReadPast scene results (y ∷ before)) is k) old p posted_so))
 
-  pub past_orderly : (past : List (JournalEntry B)) → IsReadPast scene results past → IsOrderlyPast past
-  past_orderly [] k = record { orderly = tt; packets = λ p i. absurd i }
-  past_orderly (e ∷ before) k =
-      let old = past_orderly before (read_before scene results e before k) in
+  pub past_legal : (past : List (JournalEntry B)) → IsReadPast scene results past → IsAgreementPast past
+  past_legal [] k = record { legal = tt; packets = λ p i. absurd i }
+  past_legal (e ∷ before) k =
+      let old = past_legal before (read_before scene results e before k) in
       record {
-        orderly = entry_stands e before k old;
+        legal = entry_stands e before k old;
         packets = λ p i j from. elim (pool_after e before p i) [
           | Was was ↦ posted_more e before p j (old.packets p was j from)
           | New a first letters lost is posted_so ↦ packet_posted e before k old a first letters lost p is posted_so j from

@@ -1,6 +1,6 @@
 -- The log of a controller that leads begins with what is decided.
-use Rattle.std.proofs.Common.{◌≡◌, ◌≢◌, ℕ, zero, suc, ◌+◌, ◌*◌, ◌<◌, ◌≤◌, inl, inr, Bool, true, false, cond, nat_le, eqb, leb, None, List, [], ◌∷◌, ◌++◌, take, drop, refl, sym, ap, ◌∙◌, subst, subst₂, arith, append_assoc, take-append-drop}
-use Rattle.std.proofs.lemmas.Bool.{cases_eq, cases_lt, and_parts, eqb-true, eq-eqb, ne_eqb, cond-true, cond-false}
+use Rattle.std.proofs.Common.{◌≡◌, ◌≢◌, ℕ, zero, suc, ◌+◌, ◌*◌, ◌<◌, ◌≤◌, inl, inr, true, false, nat_le, leb, List, [], ◌∷◌, ◌++◌, take, drop, refl, sym, ap, ◌∙◌, subst, subst₂, arith, append_assoc, take-append-drop}
+use Rattle.std.proofs.lemmas.Bool.{cases_eq, cases_lt, and_parts, eqb-true}
 use Rattle.rv_base.specs.declared.journal.Actor.TheVariants as actor
 use Rattle.rv_base.specs.declared.journal.JournalEntry.{JournalEntry}
 use Rattle.rv_base.specs.declared.journal.SaveResult.{SaveResult}
@@ -8,15 +8,15 @@ use Rattle.rv_base.specs.Part.{part}
 use Rattle.agreement.specs.Lists.{count_below}
 use Rattle.lists.proofs.Prefixes.{prefix_nil, prefix_trans}
 use Rattle.lists.specs.Lists.{IsPrefix}
+use Rattle.actor_fold.specs.Fold.{Standing}
 use Rattle.agreement.specs.History as core
-use Rattle.agreement.specs.History.{Group, size, primary_of}
+use Rattle.agreement.specs.History.{Group, size, primary_of, Letter}
 use Rattle.agreement.specs.Decided as decision
 use Rattle.agreement.specs.Journals as journal
-use Rattle.agreement.specs.Journals.{Rules, Held, settled, settled_by, held}
+use Rattle.agreement.specs.Journals.{Rules, stands, firm}
 use Rattle.agreement.specs.Leading as leading
 use Rattle.agreement.proofs.Counts.{count_more}
-use Rattle.agreement.proofs.Standing.{folds_law}
-use Rattle.agreement.proofs.Journals.{then_ok}
+use Rattle.agreement.proofs.Standing.{stands_other, stands_own, stands_valid}
 use Rattle.agreement.proofs.Lasting as lasting
 use Rattle.agreement.proofs.Leading.{led_law}
 use Rattle.vr_log.specs.declared.entry.Entry.{Entry}
@@ -33,40 +33,43 @@ use Rattle.rv_runs.specs.Committed.{kept, decided, controller_state}
 use Rattle.rv_agreement.specs.Projection.{past_of, rules_of}
 use Rattle.rv_agreement.specs.Laws.{MostPromiseUpTo, DecidedIsLed}
 use Rattle.rv_agreement.proofs.Agreeing.{past_on, kept_is}
-use Rattle.rv_agreement.proofs.Journals.{in_group, past_orderly}
+use Rattle.rv_agreement.proofs.Journals.{in_group, past_legal}
 use Rattle.rv_agreement.proofs.Lasting.{WasKept, decided_kept}
 use Rattle.rv_agreement.proofs.Reading.{IsReadPast, read_drop, read_past}
 use Rattle.rv_agreement.proofs.Standing.{saving, stands_alike}
 
--- each of the first m posts, so that no input is open
+-- each of the first m posts, so that no input of theirs may be refused any more
 abbrev pub posting : {Own E : Type 0} → ℕ → List (journal.Entry Own E)
 posting zero = []
 posting (suc m) = journal.Posts m ∷ posting m
+
+-- nothing is owed, and no input may be refused any more
+abbrev pub at_rest : {A L : Type 0} → Standing A L → Standing A L
+at_rest w = record w { owed = []; fresh = false }
 
 module _ {Own A E : Type 0} (r : Rules Own A E) (g : Group E) where
   pub posting_legal : (m : ℕ) (past : List (journal.Entry Own E)) → m ≤ size g → journal.IsLegal r g past → journal.IsLegal r g (posting m ++ past)
   posting_legal zero past b k = k
   posting_legal (suc m) past b k = (omega arith, posting_legal m past (omega arith) k)
 
-  posting_settled : (m j : ℕ) (past : List (journal.Entry Own E)) → settled r j (posting m ++ past) ≡ settled r j past
-  posting_settled zero j past = refl
-  posting_settled (suc m) j past = by_own (eqb m j) ∙ posting_settled m j past
-    where
-      by_own : (t : Bool)
-          → (let w = held r j (posting m ++ past) in
-          let v = cond t (record { now = settled_by r j w.now w.open_input; open_input = None }) w in
-          settled_by r j v.now v.open_input ≡ settled_by r j w.now w.open_input)
-      by_own true = refl
-      by_own false = refl
+  -- who is not among them stands where it stood
+  posting_other : (m j : ℕ) (past : List (journal.Entry Own E)) → m ≤ j → stands r j (posting m ++ past) ≡ stands r j past
+  posting_other zero j past b = refl
+  posting_other (suc m) j past b = stands_other r j (journal.Posts m) (posting m ++ past) (λ e. absurd (omega arith)) ∙ posting_other m j past (omega arith)
 
-  pub posting_held : (m j : ℕ) (past : List (journal.Entry Own E)) → j < m → held r j (posting m ++ past) ≡ record { now = settled r j past; open_input = None }
-  posting_held zero j past b = absurd (omega arith)
-  posting_held (suc m) j past b = elim (cases_eq m j) [
-    | inl e ↦ cond-true (eqb m j) _ _ (eq-eqb m j e) ∙ ap (λ (a : A). record { now = a; open_input = None }) (posting_settled m j past)
-    | inr ne ↦ cond-false (eqb m j) _ _ (ne_eqb m j ne) ∙ posting_held m j past (below ne b)
+  -- and who is owes nothing from then on
+  pub posting_stands : (m j : ℕ) (past : List (journal.Entry Own E)) → j < m → stands r j (posting m ++ past) ≡ at_rest (stands r j past)
+  posting_stands zero j past b = absurd (omega arith)
+  posting_stands (suc m) j past b = elim (cases_eq j m) [
+    | inl e ↦
+        let rest : List (journal.Entry Own E) = posting m ++ past in
+        let own : stands r j (journal.Posts m ∷ rest) ≡ at_rest (stands r j rest) =
+        subst (λ (i : ℕ). stands r i (journal.Posts m ∷ rest) ≡ at_rest (stands r i rest)) (sym e) (stands_own r (journal.Posts m) rest) in
+        own ∙ ap (λ (w : Standing A (Letter E)). at_rest w) (posting_other m j past (omega arith))
+    | inr ne ↦ stands_other r j (journal.Posts m) (posting m ++ past) ne ∙ posting_stands m j past (below ne b)
   ]
     where
-      below : m ≢ j → j < suc m → j < m
+      below : j ≢ m → j < suc m → j < m
       below ne b = elim (cases_lt j m) [ inl l ↦ l | inr l ↦ absurd (ne (omega arith)) ]
 
 module _ {B : Type 0} (scene : Scene B) (results : List (List SaveResult)) (most_failures : ℕ) (n : scene.setup.controllers ≡ 2 * most_failures + 1) where
@@ -85,7 +88,7 @@ module _ {B : Type 0} (scene : Scene B) (results : List (List SaveResult)) (most
   whole_group e = e
 
   legal_past : (past : List (JournalEntry B)) → IsReadPast scene results past → journal.IsLegal r g (all_posted past)
-  legal_past past k = posting_legal r g (size g) (past_of scene past) (omega arith) (folds_law r g (past_of scene past) (past_orderly scene results most_failures n past k).orderly).0
+  legal_past past k = posting_legal r g (size g) (past_of scene past) (omega arith) (past_legal scene results most_failures n past k).legal
 
   -- what was committed begins what the moves have decided
   kept_begins : (past : List (JournalEntry B)) → IsReadPast scene results past → (i d : ℕ) → d < scene.setup.controllers → IsPrefix (kept scene results d (drop i past)) (decision.decided r g (all_posted past))
@@ -118,29 +121,32 @@ module _ {B : Type 0} (scene : Scene B) (results : List (List SaveResult)) (most
       → IsPrefix (decided scene results past) (controller_state scene results c past).vr.log
   led past c k b leading_now many =
       let follow = follow_law scene.kinds scene.setup most_failures (λ c. results_of results c) in
-      let agrees = folds_law r g (past_of scene past) (past_orderly scene results most_failures n past k).orderly in
       let all : List (journal.Entry OwnInput Entry) = all_posted past in
-      let is_now : (j : ℕ) → settled r j (past_of scene past) ≡ saving (controller_at scene (results_of results j) j (part (actor.Controller j) past)) = λ j.
-      (agrees.1 j).now ∙ (stands_alike scene results most_failures j n past k.possible.orderly).now in
-      let at : (j : ℕ) → j < size g → held r j all ≡ record { now = saving (controller_at scene (results_of results j) j (part (actor.Controller j) past)); open_input = None } = λ j l.
-      posting_held r g (size g) j (past_of scene past) l ∙ ap (λ (a : SavingController). record { now = a; open_input = None }) (is_now j) in
+      let is_now : (j : ℕ) → (stands r j (past_of scene past)).now ≡ saving (controller_at scene (results_of results j) j (part (actor.Controller j) past)) =
+      λ j. (stands_alike scene results most_failures j n past k.possible.orderly).now in
+      let at : (j : ℕ) → j < size g → stands r j all ≡ at_rest (stands r j (past_of scene past)) =
+      λ j l. posting_stands r g (size g) j (past_of scene past) l in
       let there = in_group scene results most_failures n c b in
       let s : VrState = (controller_state scene results c past).vr in
-      let mine : (held r c all).now ≡ saving (controller_at scene (results_of results c) c (part (actor.Controller c) past)) = ap (λ (w : Held OwnInput SavingController Entry). w.now) (at c there) in
-      let none_open : (held r c all).open_input ≡ None = ap (λ (w : Held OwnInput SavingController Entry). w.open_input) (at c there) in
-      let of : IsMemberOf g c s = member_of g c s (subst (λ (a : SavingController). r.is_valid c a ≡ true) (is_now c) (then_ok follow c (past_of scene past) there)) in
+      let mine : (stands r c all).now ≡ saving (controller_at scene (results_of results c) c (part (actor.Controller c) past)) =
+      ap (λ (w : Standing SavingController (Letter Entry)). w.now) (at c there) ∙ is_now c in
+      let over : (stands r c all).fresh ≡ false = ap (λ (w : Standing SavingController (Letter Entry)). w.fresh) (at c there) in
+      let of : IsMemberOf g c s = member_of g c s (subst (λ (a : SavingController). r.is_valid c a ≡ true) (is_now c) (stands_valid follow c there (past_of scene past)).now) in
       let x = and_parts (member.is_normal s) (member.is_primary s) leading_now in
       let normal : (state_of s).status ≡ core.Normal = normal_of s.status x.0 in
       let own : c ≡ primary_of g s.view = sym (sym (same_primary g s of.controllers s.view) ∙ eqb-true (member.primary_of s s.view) s.me x.1 ∙ of.me) in
-      let promises : count_below (λ j. nat_le (controller_state scene results j past).vr.promise s.view) (size g) ≤ count_below (λ j. leb (r.promise (held r j all).now) s.view) (size g) =
-      count_more (λ j. nat_le (controller_state scene results j past).vr.promise s.view) (λ j. leb (r.promise (held r j all).now) s.view) (size g)
-      (λ j l e. ap (λ (w : Held OwnInput SavingController Entry). leb (r.promise w.now) s.view) (at j l) ∙ e) in
+      let promises : count_below (λ j. nat_le (controller_state scene results j past).vr.promise s.view) (size g) ≤ count_below (λ j. leb (r.promise (firm (stands r j all))) s.view) (size g) =
+      count_more (λ j. nat_le (controller_state scene results j past).vr.promise s.view) (λ j. leb (r.promise (firm (stands r j all))) s.view) (size g)
+      (λ j l e.
+      let is : firm (stands r j all) ≡ saving (controller_at scene (results_of results j) j (part (actor.Controller j) past)) =
+      ap (λ (w : Standing SavingController (Letter Entry)). firm w) (at j l) ∙ is_now j in
+      ap (λ (a : SavingController). leb (r.promise a) s.view) is ∙ e) in
       let many' : most_failures < count_below (λ j. nat_le (controller_state scene results j past).vr.promise s.view) (size g) =
       subst (λ (m : ℕ). most_failures < count_below (λ j. nat_le (controller_state scene results j past).vr.promise s.view) m) (whole_group n) many in
       let law = subst
       (λ (a : SavingController).
       (let z = r.state a in z.status ≡ core.Normal → c ≡ primary_of g z.view → leading.MostPromiseUpTo g (journal.history r g all) z.view → IsPrefix (decision.decided r g all) z.log))
-      mine (led_law r g all c follow (legal_past past k) there none_open) in
+      mine (led_law r g all c follow (legal_past past k) there over) in
       prefix_trans (decided_begins past k) (law normal own (omega arith))
 
 pub decided_law : {B : Type 0} → DecidedIsLed B

@@ -11,3 +11,4 @@ pub mod Turning
 pub mod Picking
 pub mod Among
 pub mod All
+pub mod Found

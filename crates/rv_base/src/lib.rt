@@ -3,6 +3,7 @@
 //! controller that crashes.
 #![tactic(auto)]
 
+mod gate;
 mod journal;
 mod ledger;
 mod memory;
@@ -14,6 +15,7 @@ mod stable;
 mod standard;
 mod wire;
 
+pub use gate::{FreeGate, Gate};
 pub use journal::{
     Actor, Journal, JournalEntry, Letter, Letters, Local, Packet, SaveResult, Turn, Weight,
 };

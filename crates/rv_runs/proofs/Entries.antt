@@ -15,7 +15,7 @@ use Rattle.group_controller.specs.State.{ControllerState, down}
 use Rattle.group_controller.specs.Rules.{controller_work}
 use Rattle.of_switch.specs.declared.says.SwitchInput.{SwitchInput}
 use Rattle.of_switch.specs.Rules.{switch_turn}
-use Rattle.rv_runs.specs.Inputs.{IsHeard, By_draw, By_local, IsHeardAt, From_draw, From_local}
+use Rattle.rv_runs.specs.Inputs.{IsHeard, By_draw, By_local, IsHeardAt}
 use Rattle.rv_runs.specs.States.{SwitchAt, switch_step, switch_took, Scene, ControllerAt, controller_at, controller_step, controller_took, controller_saved}
 
 -- what an entry of a controller does to it
@@ -71,12 +71,12 @@ pub data SwitchGoes {B : Type 0} (scene : Scene B) (e : JournalEntry B) (found :
   Takes : (x : SwitchInput) → IsHeardAt scene e found x → w' ≡ switch_took w (switch_turn w.now x) → SwitchGoes scene e found w w'
   Rests : w' ≡ record w { fresh = false } → SwitchGoes scene e found w w'
   Posts : w' ≡ record w { owed = []; fresh = false } → SwitchGoes scene e found w w'
-  Refuses : (a : Actor) → e ≡ Refused a → w' ≡ record w { now = w.before; owed = []; fresh = false } → SwitchGoes scene e found w w'
+  Refuses : (a : Actor) → e ≡ Refused a → w' ≡ record w { now = w.before; owed = []; fresh = false; saves = w.saves_before } → SwitchGoes scene e found w w'
 
 pub switch_goes : {B : Type 0} (scene : Scene B) (w : SwitchAt) (e : JournalEntry B) (found : Option (Packet B)) → SwitchGoes scene e found w (switch_step scene w e found)
-switch_goes scene w (Draw a id keep) (Some p) = Takes _ (From_draw a id keep p refl refl refl) refl
+switch_goes scene w (Draw a id keep) (Some p) = Takes _ (By_draw a id keep p refl refl refl) refl
 switch_goes scene w (Draw a id keep) None = Rests refl
-switch_goes scene w (Local a input) found = Takes _ (From_local a input refl refl) refl
+switch_goes scene w (Local a input) found = Takes _ (By_local a input refl refl) refl
 switch_goes scene w (Post a first letters lost) found = Posts refl
 switch_goes scene w (Refused a) found = Refuses a refl refl
 switch_goes scene w (Lose a id) found = Rests refl

@@ -10,7 +10,7 @@ use Rattle.rv_base.specs.declared.journal.SaveResult.TheVariants.{Saved, KeptOld
 use Rattle.group_controller.specs.declared.messages.ControllerInput.TheVariants as controller_input
 use Rattle.group_controller.specs.State.{ControllerState, Work, down}
 use Rattle.group_controller.specs.Rules.{controller_work}
-use Rattle.rv_runs.specs.Legal.{Fits, IsTurn, IsSoundController}
+use Rattle.rv_runs.specs.Legal.{EachFinds, Fits, IsTurn, IsSoundController}
 use Rattle.rv_runs.specs.States.{Scene, ControllerAt, content, controller_hears, controller_message, controller_saved, controller_took, controller_step, controller_at}
 
 -- the results so far are the first ones
@@ -25,12 +25,6 @@ data Alike (count : ℕ) (w v : ControllerAt) : Type 0 where
   Same : w ≡ v → Alike count w v
   Unsaved : w.before ≡ v.before → w.saves_before ≡ v.saves_before → count ≤ w.saves_before → w.saves_before < w.saves → Alike count w v
   Beyond : count < w.saves_before → count < w.saves → Alike count w v
-
--- each draw of a part finds its packet
-abbrev pub EachFinds : {B : Type 0} → List (JournalEntry B × Option (Packet B)) → Type 0
-EachFinds [] = Unit {0}
-EachFinds ((Draw a id keep, None) ∷ ps) = ⊥
-EachFinds (p ∷ ps) = EachFinds ps
 
 module _ {B : Type 0} (scene : Scene B) (results more : List SaveResult) where
   saved_counts : (w : ControllerAt) (work : Work) (pair : ℕ × ℕ) (r : SaveResult) →

@@ -1,6 +1,7 @@
 -- Which journals are those of a run.
-use Rattle.std.specs.Prelude.{◌≡◌, ◌≢◌, ◌<◌, ◌^◌, ℕ, List, [], ◌∷◌, length, slice_index_or, Option}
+use Rattle.std.specs.Prelude.{◌≡◌, ◌≢◌, ◌<◌, ◌^◌, ℕ, List, [], ◌∷◌, length, slice_index_or, Option, None}
 use Rattle.std.specs.List.{AllByRecursion}
+use Rattle.actor_fold.specs.Fold.{ActorRules}
 use Rattle.rv_base.specs.declared.journal.Actor.TheVariants as actor
 use Rattle.rv_base.specs.declared.journal.JournalEntry.{JournalEntry}
 use Rattle.rv_base.specs.declared.journal.JournalEntry.TheVariants.{Post, Draw, Lose, Local, Idle, Refused}
@@ -15,7 +16,9 @@ use Rattle.rv_base.specs.Part.{part}
 use Rattle.rv_base.specs.Orderly.{IsOrderly}
 use Rattle.rv_runs.specs.declared.messages.Message.{Message}
 use Rattle.rv_runs.specs.Messages.{FitsMessage}
-use Rattle.rv_runs.specs.States.{Scene, Sealing, switch_at, controller_at, sealed_letters, switch_message, controller_message}
+use Rattle.group_controller.specs.State.{starting_controller}
+use Rattle.of_switch.specs.State.{starting_switch}
+use Rattle.rv_runs.specs.States.{Scene, Sealing, Speech, actor_at, controller_at, controller_rules, controller_speech, sealed_letters, switch_rules, switch_speech}
 
 -- the newest entry took an input that may want memory
 abbrev pub IsTurn : {B : Type 0} → List (JournalEntry B × Option (Packet B)) → Type 0
@@ -39,17 +42,24 @@ Fits said sealing owed before (Local a input) = owed ≡ []
 Fits said sealing owed before (Idle a) = owed ≡ []
 Fits said sealing owed before (Refused a) = IsTurn before
 
--- each entry of a switch's part stands where it may
-abbrev pub IsSoundSwitch : {B : Type 0} → Scene B → ℕ → List (JournalEntry B × Option (Packet B)) → Type 0
-IsSoundSwitch scene s [] = Unit {0}
-IsSoundSwitch scene s (step ∷ before) =
-    Fits switch_message scene.sealing (switch_at scene s before).owed before step.0 × IsSoundSwitch scene s before
+-- each entry of an actor's part stands where it may
+abbrev pub IsSound : {B S I A : Type 0} → ActorRules S I (Letter A) → Speech I A → Sealing B → S → List (JournalEntry B × Option (Packet B)) → Type 0
+IsSound rules speech sealing start [] = Unit {0}
+IsSound rules speech sealing start (step ∷ before) =
+    Fits speech.said sealing (actor_at rules speech sealing start before).owed before step.0 × IsSound rules speech sealing start before
 
--- each entry of a controller's part stands where it may
+abbrev pub IsSoundSwitch : {B : Type 0} → Scene B → ℕ → List (JournalEntry B × Option (Packet B)) → Type 0
+IsSoundSwitch scene s own = IsSound switch_rules switch_speech scene.sealing (starting_switch s scene.setup) own
+
 abbrev pub IsSoundController : {B : Type 0} → Scene B → List SaveResult → ℕ → List (JournalEntry B × Option (Packet B)) → Type 0
-IsSoundController scene results c [] = Unit {0}
-IsSoundController scene results c (step ∷ before) =
-    Fits controller_message scene.sealing (controller_at scene results c before).owed before step.0 × IsSoundController scene results c before
+IsSoundController scene results c own =
+    IsSound (controller_rules scene results) controller_speech scene.sealing (starting_controller c scene.setup.controllers) own
+
+-- each draw of a part finds its packet
+abbrev pub EachFinds : {B : Type 0} → List (JournalEntry B × Option (Packet B)) → Type 0
+EachFinds [] = Unit {0}
+EachFinds ((Draw a id keep, None) ∷ own) = ⊥
+EachFinds (x ∷ own) = EachFinds own
 
 -- the numbers of a local input fit their types
 abbrev pub FitsTypes : LocalInput → Type 0

@@ -1,11 +1,13 @@
 -- What an actor holds after its part of a journal, and what it owes. Parts have their newest entry first.
-use Rattle.std.specs.Prelude.{◌≡◌, ℕ, ◌+◌, Bool, true, false, List, [], ◌∷◌, map, slice_index_or, Option, Some, None}
+use Rattle.std.specs.Prelude.{◌≡◌, ℕ, ◌+◌, true, List, [], ◌∷◌, map, slice_index_or, Option, Some, None}
+use Rattle.actor_fold.specs.Fold.{ActorRules, Standing, Step, Takes, Posts, Refuses, Rests, standing, standing_on}
 use Rattle.of_types.specs.declared.setup.Setup.{Setup}
 use Rattle.rv_base.specs.declared.journal.Actor.{Actor}
 use Rattle.rv_base.specs.declared.journal.Actor.TheVariants as actor
 use Rattle.rv_base.specs.declared.journal.JournalEntry.{JournalEntry}
 use Rattle.rv_base.specs.declared.journal.JournalEntry.TheVariants.{Post, Draw, Lose, Local, Idle, Refused}
 use Rattle.rv_base.specs.declared.journal.Letter.{Letter}
+use Rattle.rv_base.specs.declared.journal.Local.{Local as LocalInput}
 use Rattle.rv_base.specs.declared.journal.Packet.{Packet}
 use Rattle.rv_base.specs.declared.journal.SaveResult.{SaveResult}
 use Rattle.rv_base.specs.declared.journal.SaveResult.TheVariants.{Saved, KeptOld, KeptNew}
@@ -72,47 +74,63 @@ controller_message (controller_says.Vr said) = message.Vr said
 abbrev pub sealed_letters : {A B : Type 0} → (B → Message) → Sealing A → List (Letter B) → List (Letter A)
 sealed_letters said sealing letters = map (λ l. record { to = l.to; body = sealing.sealed (said l.body) }) letters
 
--- a switch after its part: its state, the state before its last input, what it owes, and whether that
--- input is its newest entry, so that it may still be refused
-pub record SwitchAt : Type 0 where
-  pub now : SwitchState
-  pub before : SwitchState
-  pub owed : List (Letter SwitchSays)
-  pub fresh : Bool
+-- how an actor hears, and what its words are as messages
+pub record Speech (Input Says : Type 0) : Type 0 where
+  pub hears : Actor → Unsealed → Input
+  pub locally : LocalInput → Input
+  pub said : Says → Message
+
+abbrev pub switch_speech : Speech SwitchInput SwitchSays
+switch_speech = record { hears = switch_hears; locally = λ input. switch_input.Local input; said = switch_message }
+
+abbrev pub controller_speech : Speech ControllerInput ControllerSays
+controller_speech = record { hears = controller_hears; locally = λ input. controller_input.Local input; said = controller_message }
+
+-- what an entry is to its actor, beside the packet that it draws
+abbrev pub step_of : {B I A : Type 0} → Speech I A → Sealing B → JournalEntry B → Option (Packet B) → Step I
+step_of speech sealing (Draw a id keep) (Some p) = Takes (speech.hears p.from (content sealing p))
+step_of speech sealing (Draw a id keep) None = Rests
+step_of speech sealing (Local a input) found = Takes (speech.locally input)
+step_of speech sealing (Post a first letters lost) found = Posts
+step_of speech sealing (Refused a) found = Refuses
+step_of speech sealing (Lose a id) found = Rests
+step_of speech sealing (Idle a) found = Rests
+
+-- what an actor of these rules holds after its part, as it started so
+abbrev pub actor_at : {B S I A : Type 0} → ActorRules S I (Letter A) → Speech I A → Sealing B → S → List (JournalEntry B × Option (Packet B)) → Standing S (Letter A)
+actor_at rules speech sealing start own = standing rules start (map (λ x. step_of speech sealing x.0 x.1) own)
+
+-- a switch after its part
+abbrev pub SwitchAt : Type 0
+SwitchAt = Standing SwitchState (Letter SwitchSays)
 
 abbrev pub switch_took : SwitchAt → SwitchTurn → SwitchAt
-switch_took w turn = record { now = turn.state; before = w.now; owed = turn.letters; fresh = true }
+switch_took w turn = record w { now = turn.state; before = w.now; owed = turn.letters; fresh = true; saves_before = w.saves }
 
--- after one more entry
+-- a switch saves nothing, and is as it was where an input is refused
+abbrev pub switch_rules : ActorRules SwitchState SwitchInput (Letter SwitchSays)
+switch_rules = record { takes = λ w input. switch_took w (switch_turn w.now input); refused = λ state. state }
+
 abbrev pub switch_step : {B : Type 0} → Scene B → SwitchAt → JournalEntry B → Option (Packet B) → SwitchAt
-switch_step scene w (Draw a id keep) (Some p) = switch_took w (switch_turn w.now (switch_hears p.from (content scene.sealing p)))
-switch_step scene w (Draw a id keep) None = record w { fresh = false }
-switch_step scene w (Local a input) p = switch_took w (switch_turn w.now (switch_input.Local input))
-switch_step scene w (Post a first letters lost) p = record w { owed = []; fresh = false }
-switch_step scene w (Refused a) p = record w { now = w.before; owed = []; fresh = false }
-switch_step scene w (Lose a id) p = record w { fresh = false }
-switch_step scene w (Idle a) p = record w { fresh = false }
+switch_step scene w e found = standing_on switch_rules w (step_of switch_speech scene.sealing e found)
 
 abbrev pub switch_at : {B : Type 0} → Scene B → ℕ → List (JournalEntry B × Option (Packet B)) → SwitchAt
-switch_at scene s [] =
-    let start = starting_switch s scene.setup in record { now = start; before = start; owed = []; fresh = false }
-switch_at scene s (step ∷ before) = switch_step scene (switch_at scene s before) step.0 step.1
+switch_at scene s own = actor_at switch_rules switch_speech scene.sealing (starting_switch s scene.setup) own
 
--- a controller after its part: the same, and how many saves it has made
-pub record ControllerAt : Type 0 where
-  pub now : ControllerState
-  pub before : ControllerState
-  pub owed : List (Letter ControllerSays)
-  pub fresh : Bool
-  pub saves : ℕ
-  pub saves_before : ℕ
+-- a controller that fell: it is down, with the pair that it had
+abbrev pub crashed : ControllerState → ControllerState
+crashed c = down c c.vr.promise c.vr.life
+
+-- a controller after its part
+abbrev pub ControllerAt : Type 0
+ControllerAt = Standing ControllerState (Letter ControllerSays)
 
 -- a turn with a save: the letters go out only where it succeeds
 abbrev pub controller_saved : ControllerAt → Work → ℕ → ℕ → SaveResult → ControllerAt
 controller_saved w work promise life Saved =
     record { now = work.state; before = w.now; owed = work.letters; fresh = true; saves = w.saves + 1; saves_before = w.saves }
 controller_saved w work promise life KeptOld =
-    record { now = down w.now w.now.vr.promise w.now.vr.life; before = w.now; owed = []; fresh = true; saves = w.saves + 1; saves_before = w.saves }
+    record { now = crashed w.now; before = w.now; owed = []; fresh = true; saves = w.saves + 1; saves_before = w.saves }
 controller_saved w work promise life KeptNew =
     record { now = down w.now promise life; before = w.now; owed = []; fresh = true; saves = w.saves + 1; saves_before = w.saves }
 
@@ -123,21 +141,13 @@ controller_took results w work =
       | Some pair ↦ controller_saved w work pair.0 pair.1 (slice_index_or results w.saves Saved)
     ]
 
+-- a controller is down with the pair from before where an input is refused
+abbrev pub controller_rules : {B : Type 0} → Scene B → List SaveResult → ActorRules ControllerState ControllerInput (Letter ControllerSays)
+controller_rules scene results = record { takes = λ w input. controller_took results w (controller_work scene.kinds scene.setup w.now input); refused = crashed }
+
 abbrev pub controller_step : {B : Type 0} → Scene B → List SaveResult → ControllerAt → JournalEntry B → Option (Packet B) → ControllerAt
-controller_step scene results w (Draw a id keep) (Some p) =
-    controller_took results w (controller_work scene.kinds scene.setup w.now (controller_hears p.from (content scene.sealing p)))
-controller_step scene results w (Draw a id keep) None = record w { fresh = false }
-controller_step scene results w (Local a input) p =
-    controller_took results w (controller_work scene.kinds scene.setup w.now (controller_input.Local input))
-controller_step scene results w (Post a first letters lost) p = record w { owed = []; fresh = false }
-controller_step scene results w (Refused a) p =
-    record { now = down w.before w.before.vr.promise w.before.vr.life; before = w.before; owed = []; fresh = false; saves = w.saves_before; saves_before = w.saves_before }
-controller_step scene results w (Lose a id) p = record w { fresh = false }
-controller_step scene results w (Idle a) p = record w { fresh = false }
+controller_step scene results w e found = standing_on (controller_rules scene results) w (step_of controller_speech scene.sealing e found)
 
 abbrev pub controller_at : {B : Type 0} → Scene B → List SaveResult → ℕ → List (JournalEntry B × Option (Packet B)) → ControllerAt
-controller_at scene results c [] =
-    let start = starting_controller c scene.setup.controllers in
-    record { now = start; before = start; owed = []; fresh = false; saves = 0; saves_before = 0 }
-controller_at scene results c (step ∷ before) =
-    controller_step scene results (controller_at scene results c before) step.0 step.1
+controller_at scene results c own =
+    actor_at (controller_rules scene results) controller_speech scene.sealing (starting_controller c scene.setup.controllers) own

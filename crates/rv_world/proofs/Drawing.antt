@@ -17,14 +17,14 @@ use Rattle.rv_base.specs.Part.{drawn, packet_of}
 use Rattle.rv_base.specs.Places.{IsFound, packet_at}
 use Rattle.rv_base.specs.Pool.{past, pick, pool}
 use Rattle.rv_base.specs.Turns.{entry_of, lost_entry, posted, turn_entries}
-use Rattle.rv_base.proofs.Pools.{Rising-pool, packet_of-at, waiting-at}
+use Rattle.rv_base.proofs.Found.{IsPicked, body_of, none_picked, picked, picked_packet}
 use Rattle.of_switch.specs.declared.says.SwitchInput.{SwitchInput}
 use Rattle.of_switch.specs.declared.says.SwitchInput.TheVariants as switch_input
 use Rattle.rv_base.specs.Stables.{Saving}
 use Rattle.app_core.specs.Law.{AppLaw}
 use Rattle.group_controller.specs.declared.messages.ControllerInput.{ControllerInput}
 use Rattle.group_controller.specs.declared.messages.ControllerInput.TheVariants as controller_input
-use Rattle.rv_runs.specs.Inputs.{By_draw, By_local, From_draw, From_local}
+use Rattle.rv_runs.specs.Inputs.{By_draw, By_local}
 use Rattle.rv_runs.specs.Legal.{FitsTypes}
 use Rattle.rv_runs.specs.Messages.{way_of}
 use Rattle.rv_runs.specs.States.{IsFaithful, Sealing, controller_hears, switch_hears}
@@ -32,35 +32,10 @@ use Rattle.rv_world.specs.Actors.{ControllerOwes, SwitchOwes}
 use Rattle.rv_world.specs.World.{Holds, PairsStand, Steps, Worlding}
 use Rattle.rv_world.proofs.Turning.{IsIdle, controller_steps, idle_steps, switch_steps}
 
--- a packet that was picked is found in the pool by its number
-picked_packet : {B : Type 0} (size : B → ℕ) (a : Actor) (choice : ℕ) (entries : List (JournalEntry B)) (p : Packet B) → IsOrderly size entries → pick a choice entries ≡ Some p → packet_of p.id (pool entries) ≡ Some p
-picked_packet size a choice entries p orderly is =
-    let at = waiting-at a (pool entries) _ p is in
-    packet_of-at (pool entries) at.0 p (Rising-pool size entries orderly) at.1
-
--- the place of what was picked
-record IsPicked {B : Type 0} (journal : List (JournalEntry B)) (place : PacketPlace) (found : Option (Packet B)) : Type 0 where
-  pub packet : Packet B
-  pub is : found ≡ Some packet
-  pub stands : packet_at place journal ≡ Some packet
-  pub from_is : place.from ≡ packet.from
-  pub to_is : place.to ≡ packet.to
-
-picked : {B : Type 0} (journal : List (JournalEntry B)) (place : PacketPlace) (found : Option (Packet B)) → IsFound journal (Some place) found → IsPicked journal place found
-picked journal place None h = absurd h
-picked journal place (Some p) h = record { packet = p; is = refl; stands = h.stands; from_is = h.from_is; to_is = h.to_is }
-
-none_picked : {B : Type 0} (journal : List (JournalEntry B)) (found : Option (Packet B)) → IsFound journal None found → found ≡ None
-none_picked journal None h = refl
-none_picked journal (Some p) h = absurd h
-
 -- the entry of a loss
 lost_idle : {B : Type 0} (a : Actor) (o : Option (Packet B)) → IsIdle (lost_entry a o) × (actor_of (lost_entry a o) ≡ a)
 lost_idle a None = (tt, refl)
 lost_idle a (Some p) = (tt, refl)
-
-body_of : {B : Type 0} (o : Option (Packet B)) (p : Packet B) (body : B) → o ≡ Some p → IfSome o (λ q. body ≡ q.body) → body ≡ p.body
-body_of o p body is h = subst (λ q. IfSome q (λ r. body ≡ r.body)) is h
 
 module _ {B A W : Type 0} (law : AppLaw A) (saving : Saving W) (sealing : Sealing B) (faithful : IsFaithful sealing) (w : Worlding B A) (stables : List W)
     (rests : w.owed ≡ None) (some : (kinds : List ℕ) × Holds law sealing w kinds) (stand : PairsStand saving stables w.controllers) (journal : List (JournalEntry B)) (letters : List (Letter B)) (none : letters ≡ []) where
@@ -128,7 +103,7 @@ module _ {B A W : Type 0} (law : AppLaw A) (saving : Saving W) (sealing : Sealin
         (v : Worlding B A) → SwitchOwes sealing x (record w { journal = journal }) s v → Steps law saving sealing (turn.Draw a choice keep) w stables v stables
     switch_draws s mine there x x_is v t =
         switch_steps law saving sealing faithful w stables rests some stand e (turn.Draw a choice keep) entry s there mine mine x v
-        (λ kinds. From_draw a p.packet.id keep p.packet refl drawn_is (x_is ∙ ap (λ y. switch_hears y (sealing.spelled (way_of place.from place.to) body)) p.from_is ∙ ap (λ y. switch_hears p.packet.from y) said_is))
+        (λ kinds. By_draw a p.packet.id keep p.packet refl drawn_is (x_is ∙ ap (λ y. switch_hears y (sealing.spelled (way_of place.from place.to) body)) p.from_is ∙ ap (λ y. switch_hears p.packet.from y) said_is))
         tt (subst (λ l. IsOrderly sealing.size (past l)) same orderly) (subst (λ l. SwitchOwes sealing x (record w { journal = l }) s v) same t)
 
   module _ (a : Actor) (input : LocalInput) (is : journal ≡ behind (turn.Local a input)) (orderly : IsOrderly sealing.size (past journal)) (fits : FitsTypes input) where
@@ -147,4 +122,4 @@ module _ {B A W : Type 0} (law : AppLaw A) (saving : Saving W) (sealing : Sealin
         (v : Worlding B A) → SwitchOwes sealing x (record w { journal = journal }) s v → Steps law saving sealing (turn.Local a input) w stables v stables
     switch_takes_local s mine there x x_is v t =
         switch_steps law saving sealing faithful w stables rests some stand (Local a input) (turn.Local a input) refl s there mine mine x v
-        (λ kinds. From_local a input refl x_is) fits (subst (λ l. IsOrderly sealing.size (past l)) same_local orderly) (subst (λ l. SwitchOwes sealing x (record w { journal = l }) s v) same_local t)
+        (λ kinds. By_local a input refl x_is) fits (subst (λ l. IsOrderly sealing.size (past l)) same_local orderly) (subst (λ l. SwitchOwes sealing x (record w { journal = l }) s v) same_local t)

@@ -11,7 +11,7 @@ use Rattle.rv_base.specs.Orderly.{IsOrderly}
 use Rattle.rv_base.specs.Part.{part, drawn}
 use Rattle.rv_runs.specs.States.{Scene}
 use Rattle.rv_runs.proofs.Pools.{orderly_before, drawn_found}
-use Rattle.rv_runs.proofs.Saves.{EachFinds}
+use Rattle.rv_runs.specs.Legal.{EachFinds}
 
 module _ {B : Type 0} (scene : Scene B) (results more : List SaveResult) where
   one_finds : (e : JournalEntry B) (before : List (JournalEntry B)) (ps : List (JournalEntry B × Option (Packet B))) →

@@ -15,7 +15,7 @@ use Rattle.of_switch.specs.declared.says.SwitchSays.{SwitchSays}
 use Rattle.of_switch.specs.State.{SwitchState}
 use Rattle.of_switch.specs.Rules.{switch_turn}
 use Rattle.app_core.specs.Law.{AppLaw}
-use Rattle.rv_runs.specs.Inputs.{IsHeardAt, From_draw, From_local}
+use Rattle.rv_runs.specs.Inputs.{IsHeardAt, By_draw, By_local}
 use Rattle.rv_runs.specs.States.{Scene, controller_at, switch_at, controller_message, switch_message, sealed_letters}
 use Rattle.rv_runs.specs.Legal.{EntryFits, results_of}
 use Rattle.rv_runs.specs.Committed.{switch_state}
@@ -26,8 +26,8 @@ use Rattle.rv_world.proofs.Places.{got_set, got_other, set_length}
 use Rattle.rv_world.proofs.Switching.{SwitchGoesOn, switch_goes_on}
 
 heard_input : {B : Type 0} (scene : Scene B) (e : JournalEntry B) (found : Option (Packet B)) (x : SwitchInput) → IsHeardAt scene e found x → is_input e ≡ true
-heard_input scene e found x (From_draw a id keep p is finds says) = rw is refl
-heard_input scene e found x (From_local a input is says) = rw is refl
+heard_input scene e found x (By_draw a id keep p is finds says) = rw is refl
+heard_input scene e found x (By_local a input is says) = rw is refl
 
 -- where nothing is sealed, nothing is said
 pub none_said : {A B : Type 0} (sealing : Rattle.rv_runs.specs.States.Sealing B) (said : A → Rattle.rv_runs.specs.declared.messages.Message.Message) (says : List (Letter A)) (ls : List (Letter B)) →

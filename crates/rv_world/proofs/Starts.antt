@@ -18,12 +18,12 @@ use Rattle.rv_world.specs.World.{AreNew, AreStocked, Holds, HoldsAt, Worlding, r
 use Rattle.rv_world.proofs.Places.{results_at}
 
 -- a list by numbers, at a number
-mapped_at : {X : Type 0} (f : ℕ → X) (first count i : ℕ) → i < count → slice_get (map f (range_with_len first count)) i ≡ Some (f (first + i))
+pub mapped_at : {X : Type 0} (f : ℕ → X) (first count i : ℕ) → i < count → slice_get (map f (range_with_len first count)) i ≡ Some (f (first + i))
 mapped_at f first zero i less = absurd (omega (arith, less))
 mapped_at f first (suc count) zero less = ap (λ n. Some (f n)) (omega arith)
 mapped_at f first (suc count) (suc i) less = let next : first + 1 + i ≡ first + suc i = omega arith in mapped_at f (first + 1) count i (omega (arith, less)) ∙ ap (λ n. Some (f n)) next
 
-mapped_length : {X : Type 0} (f : ℕ → X) (first count : ℕ) → length (map f (range_with_len first count)) ≡ count
+pub mapped_length : {X : Type 0} (f : ℕ → X) (first count : ℕ) → length (map f (range_with_len first count)) ≡ count
 mapped_length f first zero = refl
 mapped_length f first (suc count) = ap suc (mapped_length f (first + 1) count)
 

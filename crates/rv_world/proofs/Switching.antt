@@ -14,20 +14,20 @@ use Rattle.rv_base.specs.Part.{part, drawn}
 use Rattle.of_switch.specs.declared.says.SwitchInput.{SwitchInput}
 use Rattle.of_switch.specs.Rules.{switch_turn}
 use Rattle.rv_runs.specs.declared.messages.Message.{Message}
-use Rattle.rv_runs.specs.Inputs.{IsHeardAt, From_draw, From_local}
+use Rattle.rv_runs.specs.Inputs.{IsHeardAt, By_draw, By_local}
 use Rattle.rv_runs.specs.States.{Scene, Sealing, SwitchAt, switch_took, switch_step, switch_at, switch_message, controller_at}
 use Rattle.rv_runs.specs.Legal.{Fits, EntryFits, IsLegalPast, results_of}
 use Rattle.rv_runs.proofs.Pasts.{possible_after, self_switch}
 
 heard_step : {B : Type 0} (scene : Scene B) (w : SwitchAt) (e : JournalEntry B) (found : Option (Packet B)) (x : SwitchInput) →
     IsHeardAt scene e found x → switch_step scene w e found ≡ switch_took w (switch_turn w.now x)
-heard_step scene w e found x (From_draw a id keep p is finds says) = rw (is, finds, says) refl
-heard_step scene w e found x (From_local a input is says) = rw (is, says) refl
+heard_step scene w e found x (By_draw a id keep p is finds says) = rw (is, finds, says) refl
+heard_step scene w e found x (By_local a input is says) = rw (is, says) refl
 
 heard_fits : {A B : Type 0} (scene : Scene B) (said : A → Message) (sealing : Sealing B) (owed : List (Letter A)) (before : List (JournalEntry B × Option (Packet B)))
     (e : JournalEntry B) (found : Option (Packet B)) (x : SwitchInput) → IsHeardAt scene e found x → owed ≡ [] → Fits said sealing owed before e
-heard_fits scene said sealing owed before e found x (From_draw a id keep p is finds says) rests = rw is rests
-heard_fits scene said sealing owed before e found x (From_local a input is says) rests = rw is rests
+heard_fits scene said sealing owed before e found x (By_draw a id keep p is finds says) rests = rw is rests
+heard_fits scene said sealing owed before e found x (By_local a input is says) rests = rw is rests
 
 -- the past that goes on: each controller, and each other switch, is as it was
 pub record SwitchGoesOn {B : Type 0} (scene : Scene B) (results : List (List SaveResult)) (entries : List (JournalEntry B)) (e : JournalEntry B) (s : ℕ) (x : SwitchInput) : Type 0 where

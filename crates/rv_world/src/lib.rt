@@ -5,6 +5,6 @@ mod actors;
 mod debt;
 mod world;
 
-pub use actors::takes_part;
+pub use actors::{controllers_of, fits_types, switches_of, takes_part};
 pub use debt::Debt;
 pub use world::World;

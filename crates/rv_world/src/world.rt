@@ -112,6 +112,24 @@ impl<B: Body, A: App> World<B, A> {
         self.wire.into_journal()
     }
 
+    /// Its setup, its journal, and its actors by number. What is owed is let go. It takes no memory.
+    pub fn into_parts(self) -> (Setup, Wire<B>, Vec<Controller<A>>, Vec<Switch>)
+        ensures setup { result.0 ≡ self.setup }
+        ensures wire { result.1 ≡ self.journal }
+        ensures controllers { result.2.items ≡ self.controllers }
+        ensures switches { result.3.items ≡ self.switches }
+    {
+        let World {
+            alloc: _,
+            setup,
+            wire,
+            controllers,
+            switches,
+            debt: _debt,
+        } = self;
+        (setup, wire, controllers, switches)
+    }
+
     /// Its journal is orderly, and within its limits.
     pub fn lawful(&self)
         ensures orderly { IsOrderly B.sealing.size (past self.now.journal) }

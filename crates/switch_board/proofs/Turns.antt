@@ -40,7 +40,7 @@ module _ {B : Type 0} where
   by_lost a None = refl
   by_lost a (Some p) = refl
 
-  by_entry : (step : Turn) (before : List (JournalEntry B)) → actor_of (entry_of step before) ≡ turn_actor step
+  pub by_entry : (step : Turn) (before : List (JournalEntry B)) → actor_of (entry_of step before) ≡ turn_actor step
   by_entry (turn.Draw a choice keep) before = by_drawn a keep (pick a choice before)
   by_entry (turn.Lose a choice) before = by_lost a (pick a choice before)
   by_entry (turn.Local a input) before = refl

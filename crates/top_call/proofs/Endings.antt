@@ -1,8 +1,9 @@
 -- The cause of an ending, from what was read.
 use Rattle.std.proofs.Common.{◌≡◌, ◌≢◌, ◌≤◌, ◌<◌, ◌⊎◌, inl, inr, ℕ, ◌+◌, true, false, List, [], ◌++◌, length, Some, None, Ok, Err, refl, sym, ◌∙◌, ap, subst, arith, append-nil, length-append}
-use Rattle.std.specs.Prelude.{Option, is_some, option_map, Result, IfOk, IfErr, Bool, Contains}
+use Rattle.std.specs.Prelude.{Option, is_some, option_map, Result, IfOk, IfErr, Bool, Contains, drop, take}
 use Rattle.std.specs.Io.KnownBytes.{Consumes, IsAtEnd}
 use Rattle.std.proofs.lemmas.Bool.{lt-leb, cases_lt}
+use Rattle.std.proofs.Math.Seq.{take-append_seam}
 use Rattle.top_call.specs.declared.sim.Output.{Output}
 use Rattle.top_call.specs.declared.sim.Output.TheVariants as told_as
 use Rattle.scenario.specs.declared.scenario.Fault.{Fault}
@@ -22,9 +23,11 @@ use Rattle.top_call.specs.declared.service.Service.TheVariants as service
 use Rattle.top_call.specs.Audited.{report_limit, too_large}
 use Rattle.top_call.specs.Ending.{ending_status, ending_text, EndsRead, EndsReport, EndsRun, EndsScenario}
 use Rattle.top_call.specs.Service.{limit_of}
-use Rattle.top_call.specs.Outcome.{Outcome, statuses, statuses_of_audit, IsOneLine, HasRead, To_the_end, Past_the_limit, IsUnserved, IsAudit, IsOfFourNumbers, IsUnplayed, PlaysNothing, ReadsNothing, statuses_of_made, IsAsked, Of_bytes, Of_numbers, service_for}
+use Rattle.top_call.specs.Outcome.{Outcome, statuses, statuses_of_audit, IsOneLine, HasRead, To_the_end, Past_the_limit, IsUnserved, IsAudit, IsOfFourNumbers, IsUnplayed, PlaysNothing, ReadsNothing, statuses_of_made, IsAsked, Of_bytes, Of_numbers, manner_of, service_for}
 use Rattle.top_call.specs.Outcome as outcome
-use Rattle.top_call.specs.Runs.{Telling}
+use Rattle.playing.specs.Manners.{Manner, In_order, Apart}
+use Rattle.rv_base.specs.Stables.{Saving}
+use Rattle.top_call.specs.Runs.{StablesTell, Telling}
 use Rattle.top_call.proofs.Complete.{no_audit, no_audit_made, never_served, never_made, made_no_run, made_no_audit}
 
 -- more bytes than a scenario has are refused
@@ -44,6 +47,7 @@ IsServed words s = service_for (job_of words) ≡ Some s
 
 abbrev reads_for : Reader → Job
 reads_for reader.Sim = Sim
+reads_for reader.Run = Run
 reads_for reader.Audit = Audit
 
 abbrev job_for : Service → Job
@@ -54,7 +58,7 @@ job_for (service.Gen number controllers switches frames) = Gen number controller
 served_is : (job : Option Job) (s : Service) → service_for job ≡ Some s → job ≡ Some (job_for s)
 served_is None s e = absurd cc
 served_is (Some Sim) s e = ap (λ x. option_map (λ y. job_for y) x) e
-served_is (Some Run) s e = absurd cc
+served_is (Some Run) s e = ap (λ x. option_map (λ y. job_for y) x) e
 served_is (Some Audit) s e = ap (λ x. option_map (λ y. job_for y) x) e
 served_is (Some (Gen number controllers switches frames)) s e = ap (λ x. option_map (λ y. job_for y) x) e
 
@@ -65,35 +69,35 @@ never_both : (words : List (List ℕ)) (s : Service) → IsServed words s → Is
 never_both words s said other = no_truth (sym other ∙ ap (λ x. is_some x) said)
 
 -- a scenario's bytes are refused, or its run ends so
-refused_or_ran : (kinds : List ℕ) (saves : Telling) (bytes : List ℕ) (e : Ending) → EndsScenario kinds saves bytes e →
+refused_or_ran : (manner : Manner) (kinds : List ℕ) (saves : Telling) (bytes : List ℕ) (e : Ending) → EndsScenario manner kinds saves bytes e →
     ((fault : Fault) × (e ≡ ending.Refused fault) × (scenario_of bytes ≡ Err fault))
-    ⊎ ((scenario : Scenario) × (scenario_of bytes ≡ Ok scenario) × EndsRun kinds saves told_as.Report scenario e)
-refused_or_ran kinds saves bytes (ending.Refused fault) is = inl (fault, refl, is)
-refused_or_ran kinds saves bytes (ending.Report written) ends = inr ends
-refused_or_ran kinds saves bytes ending.Usage ends = inr ends
-refused_or_ran kinds saves bytes ending.Unread ends = inr ends
-refused_or_ran kinds saves bytes (ending.NoQuorum up needed) ends = inr ends
-refused_or_ran kinds saves bytes (ending.Overfull limit) ends = inr ends
-refused_or_ran kinds saves bytes (ending.Unposted count letters) ends = inr ends
-refused_or_ran kinds saves bytes ending.Same ends = inr ends
-refused_or_ran kinds saves bytes (ending.Differs n) ends = inr ends
+    ⊎ ((scenario : Scenario) × (scenario_of bytes ≡ Ok scenario) × EndsRun manner kinds saves told_as.Report scenario e)
+refused_or_ran manner kinds saves bytes (ending.Refused fault) is = inl (fault, refl, is)
+refused_or_ran manner kinds saves bytes (ending.Report written) ends = inr ends
+refused_or_ran manner kinds saves bytes ending.Usage ends = inr ends
+refused_or_ran manner kinds saves bytes ending.Unread ends = inr ends
+refused_or_ran manner kinds saves bytes (ending.NoQuorum up needed) ends = inr ends
+refused_or_ran manner kinds saves bytes (ending.Overfull limit) ends = inr ends
+refused_or_ran manner kinds saves bytes (ending.Unposted count letters) ends = inr ends
+refused_or_ran manner kinds saves bytes ending.Same ends = inr ends
+refused_or_ran manner kinds saves bytes (ending.Differs n) ends = inr ends
 
 -- the bytes of a scenario whose run ends so
-ran_ends : (kinds : List ℕ) (saves : Telling) (bytes : List ℕ) (scenario : Scenario) (e : Ending) → scenario_of bytes ≡ Ok scenario → EndsRun kinds saves told_as.Report scenario e → EndsScenario kinds saves bytes e
-ran_ends kinds saves bytes scenario (ending.Refused fault) is never = absurd never
-ran_ends kinds saves bytes scenario (ending.Report written) is ran = (scenario, is, ran)
-ran_ends kinds saves bytes scenario ending.Usage is ran = (scenario, is, ran)
-ran_ends kinds saves bytes scenario ending.Unread is ran = (scenario, is, ran)
-ran_ends kinds saves bytes scenario (ending.NoQuorum up needed) is ran = (scenario, is, ran)
-ran_ends kinds saves bytes scenario (ending.Overfull limit) is ran = (scenario, is, ran)
-ran_ends kinds saves bytes scenario (ending.Unposted count letters) is ran = (scenario, is, ran)
-ran_ends kinds saves bytes scenario ending.Same is ran = (scenario, is, ran)
-ran_ends kinds saves bytes scenario (ending.Differs n) is ran = (scenario, is, ran)
+ran_ends : (manner : Manner) (kinds : List ℕ) (saves : Telling) (bytes : List ℕ) (scenario : Scenario) (e : Ending) → scenario_of bytes ≡ Ok scenario → EndsRun manner kinds saves told_as.Report scenario e → EndsScenario manner kinds saves bytes e
+ran_ends manner kinds saves bytes scenario (ending.Refused fault) is never = absurd never
+ran_ends manner kinds saves bytes scenario (ending.Report written) is ran = (scenario, is, ran)
+ran_ends manner kinds saves bytes scenario ending.Usage is ran = (scenario, is, ran)
+ran_ends manner kinds saves bytes scenario ending.Unread is ran = (scenario, is, ran)
+ran_ends manner kinds saves bytes scenario (ending.NoQuorum up needed) is ran = (scenario, is, ran)
+ran_ends manner kinds saves bytes scenario (ending.Overfull limit) is ran = (scenario, is, ran)
+ran_ends manner kinds saves bytes scenario (ending.Unposted count letters) is ran = (scenario, is, ran)
+ran_ends manner kinds saves bytes scenario ending.Same is ran = (scenario, is, ran)
+ran_ends manner kinds saves bytes scenario (ending.Differs n) is ran = (scenario, is, ran)
 
-pub scenario_ends : {X : Type 0} (kinds : List ℕ) (saves : Telling) (bytes : List ℕ) (scenario : Scenario) (result : Result Ending X) → scenario_of bytes ≡ Ok scenario →
-    IfOk result (λ e. EndsRun kinds saves told_as.Report scenario e) → IfOk result (λ e. EndsScenario kinds saves bytes e)
-scenario_ends kinds saves bytes scenario (Ok e) is ran = ran_ends kinds saves bytes scenario e is ran
-scenario_ends kinds saves bytes scenario (Err x) is ran = tt
+pub scenario_ends : {X : Type 0} (manner : Manner) (kinds : List ℕ) (saves : Telling) (bytes : List ℕ) (scenario : Scenario) (result : Result Ending X) → scenario_of bytes ≡ Ok scenario →
+    IfOk result (λ e. EndsRun manner kinds saves told_as.Report scenario e) → IfOk result (λ e. EndsScenario manner kinds saves bytes e)
+scenario_ends manner kinds saves bytes scenario (Ok e) is ran = ran_ends manner kinds saves bytes scenario e is ran
+scenario_ends manner kinds saves bytes scenario (Err x) is ran = tt
 
 module _ (words : List (List ℕ)) (unread unfailed : Type 0) where
   pub usage_tells : service_for (job_of words) ≡ None → unfailed → Tells words unread unfailed ending.Usage
@@ -109,7 +113,8 @@ module _ (words : List (List ℕ)) (unread unfailed : Type 0) where
 
   -- words for which something is read make no scenario of numbers
   pub read_no_made : {A : Type 0} (r : Reader) → IsServed words (service.Reads r) → IsOfFourNumbers words → A
-  read_no_made reader.Sim said made = made_no_run words (job_served words (service.Reads reader.Sim) said) made
+  read_no_made reader.Sim said made = made_no_run words In_order (ap (λ j. manner_of j) (job_served words (service.Reads reader.Sim) said)) made
+  read_no_made reader.Run said made = made_no_run words Apart (ap (λ j. manner_of j) (job_served words (service.Reads reader.Run) said)) made
   read_no_made reader.Audit said made = made_no_audit words (job_served words (service.Reads reader.Audit) said) made
 
   pub unread_tells : (r : Reader) → IsServed words (service.Reads r) → unread → Tells words unread unfailed ending.Unread
@@ -125,24 +130,25 @@ module _ (words : List (List ℕ)) (unread unfailed : Type 0) where
   audit_tells e said kept no_usage no_failure range = ends_tells (service.Reads reader.Audit) e said no_usage (λ is. absurd (no_failure is)) (λ _. kept) (λ _. range) (λ made. read_no_made reader.Audit said made)
 
   module _ (kinds : List ℕ) (saves : Telling) where
-    tells_run : (s : Service) (e : Ending) (output : Output) (scenario : Scenario) → IsServed words s → (IsAudit words → ⊥) → unfailed → EndsRun kinds saves output scenario e → Tells words unread unfailed e
-    tells_run s (ending.Report written) output scenario said other kept ends = run_tells s (ending.Report written) said other kept (λ is. omega (arith, is)) (λ is. omega (arith, is)) (λ _. (0, omega arith, refl))
-    tells_run s ending.Usage output scenario said other kept never = absurd never
-    tells_run s (ending.Refused fault) output scenario said other kept never = absurd never
-    tells_run s ending.Unread output scenario said other kept never = absurd never
-    tells_run s (ending.NoQuorum up needed) output scenario said other kept ends = run_tells s (ending.NoQuorum up needed) said other kept (λ is. omega (arith, is)) (λ is. omega (arith, is)) (λ _. (3, omega arith, refl))
-    tells_run s (ending.Overfull limit) output scenario said other kept ends = run_tells s (ending.Overfull limit) said other kept (λ is. omega (arith, is)) (λ is. omega (arith, is)) (λ _. (4, omega arith, refl))
-    tells_run s (ending.Unposted count letters) output scenario said other kept ends = run_tells s (ending.Unposted count letters) said other kept (λ is. omega (arith, is)) (λ is. omega (arith, is)) (λ _. (5, omega arith, refl))
-    tells_run s ending.Same output scenario said other kept never = absurd never
-    tells_run s (ending.Differs n) output scenario said other kept never = absurd never
+    tells_run : (manner : Manner) (s : Service) (e : Ending) (output : Output) (scenario : Scenario) → IsServed words s → (IsAudit words → ⊥) → unfailed → EndsRun manner kinds saves output scenario e → Tells words unread unfailed e
+    tells_run manner s (ending.Report written) output scenario said other kept ends = run_tells s (ending.Report written) said other kept (λ is. omega (arith, is)) (λ is. omega (arith, is)) (λ _. (0, omega arith, refl))
+    tells_run manner s ending.Usage output scenario said other kept never = absurd never
+    tells_run manner s (ending.Refused fault) output scenario said other kept never = absurd never
+    tells_run manner s ending.Unread output scenario said other kept never = absurd never
+    tells_run manner s (ending.NoQuorum up needed) output scenario said other kept ends = run_tells s (ending.NoQuorum up needed) said other kept (λ is. omega (arith, is)) (λ is. omega (arith, is)) (λ _. (3, omega arith, refl))
+    tells_run manner s (ending.Overfull limit) output scenario said other kept ends = run_tells s (ending.Overfull limit) said other kept (λ is. omega (arith, is)) (λ is. omega (arith, is)) (λ _. (4, omega arith, refl))
+    tells_run manner s (ending.Unposted count letters) output scenario said other kept ends = run_tells s (ending.Unposted count letters) said other kept (λ is. omega (arith, is)) (λ is. omega (arith, is)) (λ _. (5, omega arith, refl))
+    tells_run manner s ending.Same output scenario said other kept never = absurd never
+    tells_run manner s (ending.Differs n) output scenario said other kept never = absurd never
 
-    tells_scenario : (e : Ending) (bytes : List ℕ) → IsServed words (service.Reads reader.Sim) → unfailed → EndsScenario kinds saves bytes e → Tells words unread unfailed e
-    tells_scenario e bytes said kept ends =
-        let other : IsAudit words → ⊥ = λ audit. no_audit words (job_served words (service.Reads reader.Sim) said) audit in
-        elim (refused_or_ran kinds saves bytes e ends) [
+    tells_scenario : (manner : Manner) (r : Reader) (e : Ending) (bytes : List ℕ) → manner_of (Some (reads_for r)) ≡ Some manner → IsServed words (service.Reads r) → unfailed → EndsScenario manner kinds saves bytes e →
+        Tells words unread unfailed e
+    tells_scenario manner r e bytes plays said kept ends =
+        let other : IsAudit words → ⊥ = λ audit. no_audit words manner (ap (λ j. manner_of j) (job_served words (service.Reads r) said) ∙ plays) audit in
+        elim (refused_or_ran manner kinds saves bytes e ends) [
           | inl refused ↦ subst (λ x. Tells words unread unfailed x) (sym refused.1)
-              (run_tells (service.Reads reader.Sim) (ending.Refused refused.0) said other kept (λ is. omega (arith, is)) (λ is. omega (arith, is)) (λ made. read_no_made reader.Sim said made))
-          | inr ran ↦ tells_run (service.Reads reader.Sim) e told_as.Report ran.0 said other kept ran.2
+              (run_tells (service.Reads r) (ending.Refused refused.0) said other kept (λ is. omega (arith, is)) (λ is. omega (arith, is)) (λ made. read_no_made r said made))
+          | inr ran ↦ tells_run manner (service.Reads r) e told_as.Report ran.0 said other kept ran.2
         ]
 
     tells_report : (e : Ending) (bytes : List ℕ) → IsServed words (service.Reads reader.Audit) → unfailed → EndsReport kinds bytes e → Tells words unread unfailed e
@@ -159,7 +165,8 @@ module _ (words : List (List ℕ)) (unread unfailed : Type 0) where
         audit_tells (ending.Differs n) said kept (λ is. omega (arith, is)) (λ is. omega (arith, is)) (5, omega arith, refl)
 
     tells_read : (r : Reader) (e : Ending) (bytes : List ℕ) → IsServed words (service.Reads r) → unfailed → EndsRead kinds saves r bytes e → Tells words unread unfailed e
-    tells_read reader.Sim e bytes said kept ends = tells_scenario e bytes said kept ends
+    tells_read reader.Sim e bytes said kept ends = tells_scenario In_order reader.Sim e bytes refl said kept ends
+    tells_read reader.Run e bytes said kept ends = tells_scenario Apart reader.Run e bytes refl said kept ends
     tells_read reader.Audit e bytes said kept ends = tells_report e bytes said kept ends
 
     pub read_tells : {X : Type 0} (r : Reader) (bytes : List ℕ) (result : Result Ending X) → IsServed words (service.Reads r) → unfailed → IfOk result (λ e. EndsRead kinds saves r bytes e) →
@@ -168,9 +175,9 @@ module _ (words : List (List ℕ)) (unread unfailed : Type 0) where
     read_tells r bytes (Err x) said kept ends = tt
 
     pub made_tells : {X : Type 0} (number controllers switches frames : ℕ) (scenario : Scenario) (output : Output) (result : Result Ending X) → IsServed words (service.Gen number controllers switches frames) → unfailed →
-        IfOk result (λ e. EndsRun kinds saves output scenario e) → IfOk result (λ e. Tells words unread unfailed e)
+        IfOk result (λ e. EndsRun In_order kinds saves output scenario e) → IfOk result (λ e. Tells words unread unfailed e)
     made_tells number controllers switches frames scenario output (Ok e) said kept ends =
-        tells_run (service.Gen number controllers switches frames) e output scenario said
+        tells_run In_order (service.Gen number controllers switches frames) e output scenario said
         (λ audit. no_audit_made words number controllers switches frames (job_served words (service.Gen number controllers switches frames) said) audit) kept ends
     made_tells number controllers switches frames scenario output (Err x) said kept ends = tt
 
@@ -189,42 +196,42 @@ module _ (kinds : List ℕ) (saves : Telling) (words : List (List ℕ)) (unread 
   IsCaused input rest e = Outcome kinds saves words input rest unread (ending_status e) (ending_text e)
 
   -- the run of the scenario that was asked
-  ran_caused : (input rest : List ℕ) (e : Ending) (scenario : Scenario) (output : Output) → IsAsked words input rest scenario output → EndsRun kinds saves output scenario e → IsCaused input rest e
-  ran_caused input rest (ending.Report written) scenario output asked done = outcome.Closed scenario output asked done
-  ran_caused input rest ending.Usage scenario output asked never = absurd never
-  ran_caused input rest (ending.Refused fault) scenario output asked never = absurd never
-  ran_caused input rest ending.Unread scenario output asked never = absurd never
-  ran_caused input rest (ending.NoQuorum up needed) scenario output asked left = outcome.Left scenario output up needed asked left
-  ran_caused input rest (ending.Overfull limit) scenario output asked full = outcome.Overfull scenario output limit asked full
-  ran_caused input rest (ending.Unposted bytes letters) scenario output asked full = outcome.Unposted scenario output bytes letters asked full
-  ran_caused input rest ending.Same scenario output asked never = absurd never
-  ran_caused input rest (ending.Differs n) scenario output asked never = absurd never
+  ran_caused : (input rest : List ℕ) (e : Ending) (manner : Manner) (scenario : Scenario) (output : Output) → IsAsked words input rest manner scenario output → EndsRun manner kinds saves output scenario e → IsCaused input rest e
+  ran_caused input rest (ending.Report written) manner scenario output asked done = outcome.Closed manner scenario output asked done
+  ran_caused input rest ending.Usage manner scenario output asked never = absurd never
+  ran_caused input rest (ending.Refused fault) manner scenario output asked never = absurd never
+  ran_caused input rest ending.Unread manner scenario output asked never = absurd never
+  ran_caused input rest (ending.NoQuorum up needed) manner scenario output asked left = outcome.Left manner scenario output up needed asked left
+  ran_caused input rest (ending.Overfull limit) manner scenario output asked full = outcome.Overfull manner scenario output limit asked full
+  ran_caused input rest (ending.Unposted bytes letters) manner scenario output asked full = outcome.Unposted manner scenario output bytes letters asked full
+  ran_caused input rest ending.Same manner scenario output asked never = absurd never
+  ran_caused input rest (ending.Differs n) manner scenario output asked never = absurd never
 
   -- the scenario that four numbers make
   made_ended : (before after : Option (List ℕ)) (e : Ending) (number controllers switches frames : ℕ) → IsServed words (service.Gen number controllers switches frames) → after ≡ before →
-      EndsRun kinds saves told_as.LastLine (generated number controllers switches frames) e → HasEndingCause kinds saves words unread before after e
+      EndsRun In_order kinds saves told_as.LastLine (generated number controllers switches frames) e → HasEndingCause kinds saves words unread before after e
   made_ended None after e number controllers switches frames said same ends = tt
   made_ended (Some input) None e number controllers switches frames said same ends = tt
   made_ended (Some input) (Some rest) e number controllers switches frames said same ends =
-      ran_caused input rest e (generated number controllers switches frames) told_as.LastLine
+      ran_caused input rest e In_order (generated number controllers switches frames) told_as.LastLine
       (Of_numbers number controllers switches frames (job_served words (service.Gen number controllers switches frames) said) (one same)) ends
     where
       one : Some rest ≡ Some input → rest ≡ input
       one h = cc
 
   pub made_caused : {X : Type 0} (before after : Option (List ℕ)) (number controllers switches frames : ℕ) (scenario : Scenario) (result : Result Ending X) → IsServed words (service.Gen number controllers switches frames) → after ≡ before →
-      scenario ≡ generated number controllers switches frames → IfOk result (λ e. EndsRun kinds saves told_as.LastLine scenario e) → IfOk result (λ e. HasEndingCause kinds saves words unread before after e)
+      scenario ≡ generated number controllers switches frames → IfOk result (λ e. EndsRun In_order kinds saves told_as.LastLine scenario e) → IfOk result (λ e. HasEndingCause kinds saves words unread before after e)
   made_caused before after number controllers switches frames scenario (Ok e) said same is ends =
-      made_ended before after e number controllers switches frames said same (subst (λ s. EndsRun kinds saves told_as.LastLine s e) is ends)
+      made_ended before after e number controllers switches frames said same (subst (λ s. EndsRun In_order kinds saves told_as.LastLine s e) is ends)
   made_caused before after number controllers switches frames scenario (Err x) said same is ends = tt
 
   -- the same, whatever the source tells
   pub made_of_numbers : {X : Type 0} (number controllers switches frames : ℕ) (scenario : Scenario) (result : Result Ending X) → IsServed words (service.Gen number controllers switches frames) →
-      scenario ≡ generated number controllers switches frames → IfOk result (λ e. EndsRun kinds saves told_as.LastLine scenario e) → IfOk result (λ e. IsOfNumbers kinds saves words unread e)
+      scenario ≡ generated number controllers switches frames → IfOk result (λ e. EndsRun In_order kinds saves told_as.LastLine scenario e) → IfOk result (λ e. IsOfNumbers kinds saves words unread e)
   made_of_numbers number controllers switches frames scenario (Ok e) said is ends =
-      λ made input. ran_caused input input e (generated number controllers switches frames) told_as.LastLine
+      λ made input. ran_caused input input e In_order (generated number controllers switches frames) told_as.LastLine
       (Of_numbers number controllers switches frames (job_served words (service.Gen number controllers switches frames) said) refl)
-      (subst (λ s. EndsRun kinds saves told_as.LastLine s e) is ends)
+      (subst (λ s. EndsRun In_order kinds saves told_as.LastLine s e) is ends)
   made_of_numbers number controllers switches frames scenario (Err x) said is ends = tt
 
   pub usage_of_numbers : service_for (job_of words) ≡ None → IsOfNumbers kinds saves words unread ending.Usage
@@ -242,11 +249,11 @@ module _ (kinds : List ℕ) (saves : Telling) (words : List (List ℕ)) (unread 
         | inr within ↦ To_the_end within
       ])
 
-  run_of_all : (input rest : List ℕ) (e : Ending) → job_of words ≡ Some Sim → rest ≡ [] → length input ≤ scenario_limit + 1 → EndsScenario kinds saves input e → IsCaused input rest e
-  run_of_all input rest e said none most ends =
-      elim (refused_or_ran kinds saves input e ends) [
-        | inl refused ↦ subst (λ x. IsCaused input rest x) (sym refused.1) (outcome.Refused refused.0 said (read_whole scenario_limit input rest none most) refused.2)
-        | inr ran ↦ ran_caused input rest e ran.0 told_as.Report (Of_bytes said none ran.1) ran.2
+  run_of_all : (manner : Manner) (input rest : List ℕ) (e : Ending) → manner_of (job_of words) ≡ Some manner → rest ≡ [] → length input ≤ scenario_limit + 1 → EndsScenario manner kinds saves input e → IsCaused input rest e
+  run_of_all manner input rest e said none most ends =
+      elim (refused_or_ran manner kinds saves input e ends) [
+        | inl refused ↦ subst (λ x. IsCaused input rest x) (sym refused.1) (outcome.Refused refused.0 manner said (read_whole scenario_limit input rest none most) refused.2)
+        | inr ran ↦ ran_caused input rest e manner ran.0 told_as.Report (Of_bytes said none ran.1) ran.2
       ]
 
   -- too much was read
@@ -268,11 +275,11 @@ module _ (kinds : List ℕ) (saves : Telling) (words : List (List ℕ)) (unread 
   never_found : {A : Type 0} (bytes : List ℕ) {scenario : _} → scenario_of bytes ≡ Err too_large → scenario_of bytes ≡ Ok scenario → A
   never_found bytes none is = absurd (subst (λ r. IfErr r (λ _. ⊥)) (sym is ∙ none) tt)
 
-  run_past : (input rest bytes : List ℕ) (e : Ending) → job_of words ≡ Some Sim → input ≡ bytes ++ rest → length bytes ≡ scenario_limit + 1 → EndsScenario kinds saves bytes e → IsCaused input rest e
-  run_past input rest bytes e said is long ends =
+  run_past : (manner : Manner) (input rest bytes : List ℕ) (e : Ending) → manner_of (job_of words) ≡ Some manner → input ≡ bytes ++ rest → length bytes ≡ scenario_limit + 1 → EndsScenario manner kinds saves bytes e → IsCaused input rest e
+  run_past manner input rest bytes e said is long ends =
       let lengths = ap length is ∙ length-append bytes rest in
-      elim (refused_or_ran kinds saves bytes e ends) [
-        | inl refused ↦ subst (λ x. IsCaused input rest x) (sym refused.1) (outcome.Refused refused.0 said (Past_the_limit (omega (arith, lengths, long)))
+      elim (refused_or_ran manner kinds saves bytes e ends) [
+        | inl refused ↦ subst (λ x. IsCaused input rest x) (sym refused.1) (outcome.Refused refused.0 manner said (Past_the_limit (omega (arith, lengths, long)))
             (too_long input (omega (arith, lengths, long)) ∙ sym (too_long bytes (omega (arith, long))) ∙ refused.2))
         | inr ran ↦ never_found bytes (too_long bytes (omega (arith, long))) ran.1
       ]
@@ -291,11 +298,13 @@ module _ (kinds : List ℕ) (saves : Telling) (words : List (List ℕ)) (unread 
   audit_past input rest bytes (ending.Differs n) said is long (few, differs) = absurd (omega (arith, long, few))
 
   read_all : (r : Reader) (input rest : List ℕ) (e : Ending) → IsServed words (service.Reads r) → rest ≡ [] → length input ≤ limit_of r + 1 → EndsRead kinds saves r input e → IsCaused input rest e
-  read_all reader.Sim input rest e said none most ends = run_of_all input rest e (job_served words (service.Reads reader.Sim) said) none most ends
+  read_all reader.Sim input rest e said none most ends = run_of_all In_order input rest e (ap (λ j. manner_of j) (job_served words (service.Reads reader.Sim) said)) none most ends
+  read_all reader.Run input rest e said none most ends = run_of_all Apart input rest e (ap (λ j. manner_of j) (job_served words (service.Reads reader.Run) said)) none most ends
   read_all reader.Audit input rest e said none most ends = audit_of_all input rest e (job_served words (service.Reads reader.Audit) said) none most ends
 
   read_past : (r : Reader) (input rest bytes : List ℕ) (e : Ending) → IsServed words (service.Reads r) → input ≡ bytes ++ rest → length bytes ≡ limit_of r + 1 → EndsRead kinds saves r bytes e → IsCaused input rest e
-  read_past reader.Sim input rest bytes e said is long ends = run_past input rest bytes e (job_served words (service.Reads reader.Sim) said) is long ends
+  read_past reader.Sim input rest bytes e said is long ends = run_past In_order input rest bytes e (ap (λ j. manner_of j) (job_served words (service.Reads reader.Sim) said)) is long ends
+  read_past reader.Run input rest bytes e said is long ends = run_past Apart input rest bytes e (ap (λ j. manner_of j) (job_served words (service.Reads reader.Run) said)) is long ends
   read_past reader.Audit input rest bytes e said is long ends = audit_past input rest bytes e (job_served words (service.Reads reader.Audit) said) is long ends
 
   ended : (r : Reader) (before after : Option (List ℕ)) (bytes : List ℕ) (e : Ending) → IsServed words (service.Reads r) → Consumes before after bytes →
@@ -339,16 +348,16 @@ played status two three four eight unplayed =
       ]
     ]
 
-run_played : (kinds : List ℕ) (saves : Telling) (output : Output) (scenario : Scenario) (e : Ending) → EndsRun kinds saves output scenario e → IsUnplayed (ending_status e) → ⊥
-run_played kinds saves output scenario (ending.Report written) ends = played 0 (λ is. omega (arith, is)) (λ is. omega (arith, is)) (λ is. omega (arith, is)) (λ is. omega (arith, is))
-run_played kinds saves output scenario ending.Usage never = absurd never
-run_played kinds saves output scenario (ending.Refused fault) never = absurd never
-run_played kinds saves output scenario ending.Unread never = absurd never
-run_played kinds saves output scenario (ending.NoQuorum up needed) ends = played 7 (λ is. omega (arith, is)) (λ is. omega (arith, is)) (λ is. omega (arith, is)) (λ is. omega (arith, is))
-run_played kinds saves output scenario (ending.Overfull limit) ends = played 9 (λ is. omega (arith, is)) (λ is. omega (arith, is)) (λ is. omega (arith, is)) (λ is. omega (arith, is))
-run_played kinds saves output scenario (ending.Unposted count letters) ends = played 10 (λ is. omega (arith, is)) (λ is. omega (arith, is)) (λ is. omega (arith, is)) (λ is. omega (arith, is))
-run_played kinds saves output scenario ending.Same never = absurd never
-run_played kinds saves output scenario (ending.Differs n) never = absurd never
+run_played : (manner : Manner) (kinds : List ℕ) (saves : Telling) (output : Output) (scenario : Scenario) (e : Ending) → EndsRun manner kinds saves output scenario e → IsUnplayed (ending_status e) → ⊥
+run_played manner kinds saves output scenario (ending.Report written) ends = played 0 (λ is. omega (arith, is)) (λ is. omega (arith, is)) (λ is. omega (arith, is)) (λ is. omega (arith, is))
+run_played manner kinds saves output scenario ending.Usage never = absurd never
+run_played manner kinds saves output scenario (ending.Refused fault) never = absurd never
+run_played manner kinds saves output scenario ending.Unread never = absurd never
+run_played manner kinds saves output scenario (ending.NoQuorum up needed) ends = played 7 (λ is. omega (arith, is)) (λ is. omega (arith, is)) (λ is. omega (arith, is)) (λ is. omega (arith, is))
+run_played manner kinds saves output scenario (ending.Overfull limit) ends = played 9 (λ is. omega (arith, is)) (λ is. omega (arith, is)) (λ is. omega (arith, is)) (λ is. omega (arith, is))
+run_played manner kinds saves output scenario (ending.Unposted count letters) ends = played 10 (λ is. omega (arith, is)) (λ is. omega (arith, is)) (λ is. omega (arith, is)) (λ is. omega (arith, is))
+run_played manner kinds saves output scenario ending.Same never = absurd never
+run_played manner kinds saves output scenario (ending.Differs n) never = absurd never
 
 -- nor do a failed write and want of memory
 pub unwritten_played : IsUnplayed 5 → ⊥
@@ -357,11 +366,20 @@ unwritten_played = played 5 (λ is. omega (arith, is)) (λ is. omega (arith, is)
 pub memoryless_played : IsUnplayed 6 → ⊥
 memoryless_played = played 6 (λ is. omega (arith, is)) (λ is. omega (arith, is)) (λ is. omega (arith, is)) (λ is. omega (arith, is))
 
+-- what the stable pairs of a slice tell, those of its vector tell, over which they are written back
+pub ends_over : {X W : Type 0} (saving : Saving W) (kinds : List ℕ) (output : Output) (scenario : Scenario) (result : Result Ending X) (n : ℕ) (before lent left : List W) → n ≡ length before → lent ≡ before → length left ≡ length lent →
+    IfOk result (λ e. EndsRun In_order kinds (StablesTell saving lent left) output scenario e) →
+    IfOk result (λ e. EndsRun In_order kinds (StablesTell saving before (take n (left ++ drop (length left) before))) output scenario e)
+ends_over saving kinds output scenario result n before lent left all lends long ends =
+    let lies = ap (λ m. take m (left ++ drop (length left) before)) (all ∙ sym (long ∙ ap (λ l. length l) lends)) ∙ take-append_seam left (drop (length left) before) in
+    subst (λ (l : List _). IfOk result (λ e. EndsRun In_order kinds (StablesTell saving before l) output scenario e)) (sym lies)
+    (subst (λ (l : List _). IfOk result (λ e. EndsRun In_order kinds (StablesTell saving l left) output scenario e)) lends ends)
+
 -- so the stable pairs that a run leaves need not be the first ones only where it ends otherwise
-pub run_untouched : {X W : Type 0} (kinds : List ℕ) (saves : Telling) (output : Output) (scenario : Scenario) (result : Result Ending X) (before after : List W) →
-    IfOk result (λ e. EndsRun kinds saves output scenario e) → IfOk result (λ e. IsUnplayed (ending_status e) → after ≡ before)
-run_untouched kinds saves output scenario (Ok e) before after ends = λ unplayed. absurd (run_played kinds saves output scenario e ends unplayed)
-run_untouched kinds saves output scenario (Err x) before after ends = tt
+pub run_untouched : {X W : Type 0} (manner : Manner) (kinds : List ℕ) (saves : Telling) (output : Output) (scenario : Scenario) (result : Result Ending X) (before after : List W) →
+    IfOk result (λ e. EndsRun manner kinds saves output scenario e) → IfOk result (λ e. IsUnplayed (ending_status e) → after ≡ before)
+run_untouched manner kinds saves output scenario (Ok e) before after ends = λ unplayed. absurd (run_played manner kinds saves output scenario e ends unplayed)
+run_untouched manner kinds saves output scenario (Err x) before after ends = tt
 
 -- a scenario that numbers make is played
 pub made_plays : {A : Type 0} (words : List (List ℕ)) (number controllers switches frames : ℕ) → IsServed words (service.Gen number controllers switches frames) → PlaysNothing words → A
@@ -373,7 +391,8 @@ made_plays words number controllers switches frames said (inr audit) =
 pub reads_plays : (words : List (List ℕ)) (r : Reader) → IsServed words (service.Reads r) → PlaysNothing words → r ≡ reader.Audit
 reads_plays words r said (inl other) = absurd (never_both words (service.Reads r) said other)
 reads_plays words reader.Audit said (inr audit) = refl
-reads_plays words reader.Sim said (inr audit) = no_audit words (job_served words (service.Reads reader.Sim) said) audit
+reads_plays words reader.Sim said (inr audit) = no_audit words In_order (ap (λ j. manner_of j) (job_served words (service.Reads reader.Sim) said)) audit
+reads_plays words reader.Run said (inr audit) = no_audit words Apart (ap (λ j. manner_of j) (job_served words (service.Reads reader.Run) said)) audit
 
 pub reads_some : {A : Type 0} (words : List (List ℕ)) (r : Reader) → IsServed words (service.Reads r) → ReadsNothing words → A
 reads_some words r said (inl other) = absurd (never_both words (service.Reads r) said other)

@@ -19,7 +19,8 @@ use Rattle.rv_laws.proofs.Told.{told_law}
 use Rattle.rv_laws.proofs.Laws.{agreement_law, lasting_law, once_law, fence_law, valid_law}
 use Rattle.rv_runs.specs.Committed.{count_up, kept, kept_of, members_up, switch_state}
 use Rattle.rv_runs.specs.Legal.{IsPossible, results_of}
-use Rattle.rv_runs.specs.Schedule.{Answer, Closes, FollowsInOrder, IsBegun, count_turns, majority}
+use Rattle.playing.specs.Manners.{Manner, In_order, Apart, Begins, Follows}
+use Rattle.rv_runs.specs.Schedule.{Answer, Closes, count_turns, majority}
 use Rattle.rv_runs.specs.Schedule as schedule
 use Rattle.rv_runs.specs.States.{Scene, controller_at}
 use Rattle.rv_base.specs.declared.journal.Actor.TheVariants as actor
@@ -32,7 +33,10 @@ use Rattle.rv_runs.proofs.Playing as one_run
 use Rattle.rv_base.specs.declared.wire.Stop.{Stop}
 use Rattle.rv_base.specs.declared.wire.Stop.TheVariants.{OutOfMemory, JournalFull}
 use Rattle.rv_base.specs.Stables.{Saving}
-use Rattle.rv_world.specs.World.{AreMore, Holds, IfMemory, Keeps, PairsStand, StartsAs, Worlding, is_failed, results_in, scene_in}
+use Rattle.running.specs.declared.run.Played.{Played}
+use Rattle.running.specs.Threads.{IsLeftLegal}
+use Rattle.top_call.specs.declared.sim.Output.TheVariants as told_as
+use Rattle.rv_world.specs.World.{AreMore, Holds, IfMemory, IsMember, Keeps, PairsStand, StartsAs, Worlding, is_failed, results_in, scene_in}
 use Rattle.rv_world.proofs.Growing.{no_more}
 use Rattle.rv_world.proofs.Places.{results_at}
 use Rattle.closing.specs.declared.closed.Closed.{Closed}
@@ -52,13 +56,14 @@ use Rattle.report.specs.declared.record.Record.{Record}
 use Rattle.report.specs.Fits.{FitsRecord}
 use Rattle.report.specs.Writable.{IsWritable}
 use Rattle.rv_record.specs.Shows.{Shows, committed_at, told_by, told_of}
-use Rattle.playing.specs.Played.{HasPlayed, RunStops}
+use Rattle.playing.specs.Played.{HaltsAs, HasPlayed, RunStops}
 use Rattle.top_call.specs.declared.sim.Output.{Output}
 use Rattle.top_call.specs.Play.{AreFresh, IfDone, IfReport, StopsAs, ending_by, told_text}
-use Rattle.top_call.proofs.Recorded.{one_record, told_writable}
+use Rattle.rv_base.specs.Actors.{actor_of, IsActor}
+use Rattle.top_call.proofs.Recorded.{follow_lines, one_record, told_writable}
 use Rattle.top_call.specs.declared.ending.Ending.{Ending}
 use Rattle.top_call.specs.Ending.{EndsRun}
-use Rattle.top_call.specs.Runs.{AreSaved, HasRun, IsDone, IsLawful, IsLeft, IsOverfull, IsRun, IsTheOne, IsUnposted, StableTells, StablesTell, scene_for}
+use Rattle.top_call.specs.Runs.{AreSaved, HasRun, IfInOrder, IsDone, IsLawful, IsLeft, IsOverfull, IsRun, IsTheOne, IsUnposted, StableTells, StablesTell, scene_for}
 use Rattle.top_call.proofs.Playing.{rest_is, within_journal}
 
 -- of the first stables
@@ -84,6 +89,29 @@ one_past a b same = sym (reverse-reverse a) ∙ ap (λ l. reverse l) same ∙ re
 none_left : {X : Type 0} (xs : List X) → length xs ≡ 0 → xs ≡ []
 none_left [] h = refl
 none_left (x ∷ xs) h = cc
+
+-- the laws hold of each run
+is_lawful : (kinds : List ℕ) (scenario : Scenario) (results : List (List SaveResult)) (entries : List (JournalEntry (List ℕ))) → IsSetup scenario.setup →
+    IsPossible (scene_for kinds scenario) results entries → IsLawful (scene_for kinds scenario) results entries
+is_lawful kinds scenario results entries setup possible =
+    let scene = scene_for kinds scenario in
+    record {
+      agreed = agreement_law scene results entries setup bytes_again possible;
+      logged = valid_law scene results entries setup bytes_again possible;
+      exactly_once = once_law scene results entries setup bytes_again possible;
+      fenced = fence_law scene results entries setup bytes_again possible;
+      lasting = lasting_law scene results entries setup bytes_again possible;
+      kept = kept_law scene entries setup;
+    }
+
+-- no save was made before
+unsaved_at : {A : Type 0} (law : AppLaw A) (scenario : Scenario) (kinds : List ℕ) (start : Worlding (List ℕ) A) → StartsAs scenario.setup start → Holds law byte_bodies start kinds →
+    (c : ℕ) (x : Controlling A) → c < scenario.setup.controllers → slice_get start.controllers c ≡ Some x → x.results ≡ []
+unsaved_at law scenario kinds start begins holds c x there found =
+    let scene = scene_in byte_bodies start kinds in
+    let low : c < start.setup.controllers = subst (λ (s : Setup). c < s.controllers) (sym begins.setup_is) there in
+    none_left x.results (ap length (sym (results_at start.controllers c x found)) ∙ holds.run.legal.saves c low
+    ∙ ap (λ l. (controller_at scene (results_of (results_in start.controllers) c) c (part (actor.Controller c) (past l))).saves) begins.journal)
 
 module _ {A W : Type 0} (law : AppLaw A) (saving : Saving W) (scenario : Scenario) (kinds : List ℕ)
     (start : Worlding (List ℕ) A) (stables : List W) (w : Worlding (List ℕ) A) (stables_after : List W)
@@ -112,19 +140,7 @@ module _ {A W : Type 0} (law : AppLaw A) (saving : Saving W) (scenario : Scenari
   none_yet = no_more scenario.setup.controllers Results
 
   lawful : IsLawful OfRun Results (past w.journal)
-  lawful = record {
-    agreed = agreement_law OfRun Results (past w.journal) runs.setup bytes_again runs.legal.possible;
-    logged = valid_law OfRun Results (past w.journal) runs.setup bytes_again runs.legal.possible;
-    exactly_once = once_law OfRun Results (past w.journal) runs.setup bytes_again runs.legal.possible;
-    fenced = fence_law OfRun Results (past w.journal) runs.setup bytes_again runs.legal.possible;
-    lasting = lasting_law OfRun Results (past w.journal) runs.setup bytes_again runs.legal.possible;
-    kept = kept_law OfRun (past w.journal) runs.setup;
-  }
-
-  -- no save was made before
-  unsaved : (c : ℕ) (x : Controlling A) → c < scenario.setup.controllers → slice_get start.controllers c ≡ Some x → x.results ≡ []
-  unsaved c x there found =
-      none_left x.results (ap length (sym (results_at start.controllers c x found)) ∙ first_runs.legal.saves c there ∙ ap (λ l. (controller_at OfRun (results_of (results_in start.controllers) c) c (part (actor.Controller c) (past l))).saves) begins.journal)
+  lawful = is_lawful kinds scenario Results (past w.journal) runs.setup runs.legal.possible
 
   -- what the stable pairs tell
   each_tells : (c : ℕ) → c < scenario.setup.controllers → StableTells saving stables stables_after OfRun Results w.journal c
@@ -134,7 +150,7 @@ module _ {A W : Type 0} (law : AppLaw A) (saving : Saving W) (scenario : Scenari
       let t = k.told c m.member s.0 m.stands s.1 in
       let n = runs.controllers c there in
       let last = k.pairs c t.0 t.2 in
-      let none : m.member.results ≡ [] = unsaved c m.member there m.stands in
+      let none : m.member.results ≡ [] = unsaved_at law scenario kinds start begins holds c m.member there m.stands in
       let more : t.4.more ≡ results_of Results c = sym (results_at w.controllers c t.0 t.2 ∙ t.4.joined ∙ ap (λ l. l ++ t.4.more) none) in
       record {
         old = s.0;
@@ -154,7 +170,7 @@ module _ {A W : Type 0} (law : AppLaw A) (saving : Saving W) (scenario : Scenari
   each_saved (r ∷ rs) all zero = all.0
   each_saved (r ∷ rs) all (suc i) = each_saved rs all.1 i
 
-  module _ (count : ℕ) (ended : Closed) (played : HasPlayed (scene_in byte_bodies start kinds) scenario.steps count ended w) where
+  module _ (manner : Manner) (count : ℕ) (ended : Closed) (played : HasPlayed manner (scene_in byte_bodies start kinds) scenario.steps count ended w) where
     abbrev answer : Answer
     answer = answer_of ended
 
@@ -164,44 +180,14 @@ module _ {A W : Type 0} (law : AppLaw A) (saving : Saving W) (scenario : Scenari
     as_group : AreMore w.setup.controllers Results Results
     as_group = no_more w.setup.controllers Results
 
-    follows : FollowsInOrder OfRun Results scenario.steps (past played.front)
-    follows = same_scene (λ s. FollowsInOrder s Results scenario.steps (past played.front)) (played.follows Results as_group)
+    follows : Follows manner OfRun Results scenario.steps (past played.front)
+    follows = same_scene (λ s. Follows manner s Results scenario.steps (past played.front)) (played.follows Results as_group)
 
     closes : Closes OfRun Results (past played.front) played.rest answer
     closes = same_scene (λ s. Closes s Results (past played.front) played.rest answer) (played.closes Results as_group)
 
     whole : past w.journal ≡ reverse played.rest ++ past played.front
     whole = ap past played.joined ∙ past_joined played.front played.rest
-
-    -- a run of the scenario in which every save is made is one whole run
-    is_whole : (results : List (List SaveResult)) (script closing journal : List (JournalEntry (List ℕ))) (end : Answer) → IsRun kinds scenario results script closing journal end →
-        AllByRecursion (λ saves. AllByRecursion (λ r. r ≡ Saved) saves) results → IsWholeRun OfRun scenario.steps (past script) closing end
-    is_whole results script closing journal end run saved = record {
-      results = results;
-      saved = one_run.each_saved results saved;
-      possible = subst (λ l. IsPossible OfRun results l) (ap past run.joined ∙ past_joined script closing) run.legal.possible;
-      follows = run.follows;
-      closes = run.closes;
-    }
-
-    one : AreSaved scenario.setup.controllers Results → IsTheOne kinds scenario w.journal answer
-    one saved =
-        let count_is = length-map w.controllers (λ c. c.results) ∙ runs.group in
-        let run : IsWholeRun OfRun scenario.steps (past played.front) played.rest answer = record {
-          results = Results;
-          saved = all_saved Results (λ c less. saved c (omega (arith, less, count_is)));
-          possible = subst (λ l. IsPossible OfRun Results l) whole runs.legal.possible;
-          follows = follows;
-          closes = closes;
-        } in
-        let found = the_one_journal OfRun scenario.steps (past played.front) played.rest answer run in
-        record {
-          most = found.0;
-          plays_it = found.1 ∙ ap (λ l. record { entries = l; answer = Some answer }) (sym whole);
-          only = λ results script closing other end ran each.
-              let same = one_journal OfRun scenario.steps (past script) closing end (past played.front) played.rest answer (is_whole results script closing other end ran each) run in
-              (one_past other w.journal (ap past ran.joined ∙ past_joined script closing ∙ same.0 ∙ sym whole), same.1);
-        }
 
     -- where each save was made, each of its closing succeeded
     saves_succeed : AreSaved scenario.setup.controllers Results → SavesSucceed OfRun Results (past played.front)
@@ -213,8 +199,8 @@ module _ {A W : Type 0} (law : AppLaw A) (saving : Saving W) (scenario : Scenari
     reason : HasReason ended OfRun Results (past played.front) (past w.journal)
     reason = same_scene (λ s. HasReason ended s Results (past played.front) (past w.journal)) played.reason
 
-    pub has_run : HasRun kinds (StablesTell saving stables stables_after) scenario answer
-    has_run = record {
+    pub has_run : IfInOrder manner (AreSaved scenario.setup.controllers Results → IsTheOne kinds scenario w.journal answer) → HasRun manner kinds (StablesTell saving stables stables_after) scenario answer
+    has_run one = record {
       results = Results;
       script = played.front;
       closing = played.rest;
@@ -239,7 +225,7 @@ module _ {A W : Type 0} (law : AppLaw A) (saving : Saving W) (scenario : Scenari
       journal_is = ap (λ t. t.journal) is;
       log = ap (λ t. t.log) is ∙ committed_is primary there;
       script = ap (λ t. t.script) is;
-      closing_is = ap (λ t. t.closing) is ∙ ap count_turns (rest_is (scene_in byte_bodies start kinds) scenario.steps count ended w played);
+      closing_is = ap (λ t. t.closing) is ∙ ap count_turns (rest_is manner (scene_in byte_bodies start kinds) scenario.steps count ended w played);
       switches = ap (λ t. t.switches) is ∙ sym (ap (λ n. map (λ s. told_of (switch_state OfRun s (past w.journal))) (range_with_len 0 n)) (sym runs.count)
           ∙ map_range (λ s. told_of (switch_state OfRun s (past w.journal))) told_of w.switches 0 told_at);
     }
@@ -252,52 +238,91 @@ module _ {A W : Type 0} (law : AppLaw A) (saving : Saving W) (scenario : Scenari
             let number : 0 + i ≡ i = omega arith in
             ap (λ n. told_of (switch_state OfRun n (past w.journal))) number ∙ ap told_of (from_some (switch_state OfRun i (past w.journal)) x (sym (runs.switches i there) ∙ found))
 
-  pub is_done : (count primary : ℕ) (output : Output) (told : Record) (written : List ℕ) (played : HasPlayed (scene_in byte_bodies start kinds) scenario.steps count (closed.Done primary) w) →
+  -- where the steps were done in order it is the one journal of the scenario
+  module _ (count : ℕ) (ended : Closed) (played : HasPlayed In_order (scene_in byte_bodies start kinds) scenario.steps count ended w) where
+    -- a run of the scenario in which every save is made is one whole run
+    is_whole : (results : List (List SaveResult)) (script closing journal : List (JournalEntry (List ℕ))) (end : Answer) → IsRun In_order kinds scenario results script closing journal end →
+        AllByRecursion (λ saves. AllByRecursion (λ r. r ≡ Saved) saves) results → IsWholeRun OfRun scenario.steps (past script) closing end
+    is_whole results script closing journal end run saved = record {
+      results = results;
+      saved = one_run.each_saved results saved;
+      possible = subst (λ l. IsPossible OfRun results l) (ap past run.joined ∙ past_joined script closing) run.legal.possible;
+      follows = run.follows;
+      closes = run.closes;
+    }
+
+    one : AreSaved scenario.setup.controllers Results → IsTheOne kinds scenario w.journal (answer_of ended)
+    one saved =
+        let count_is = length-map w.controllers (λ c. c.results) ∙ runs.group in
+        let run : IsWholeRun OfRun scenario.steps (past played.front) played.rest (answer_of ended) = record {
+          results = Results;
+          saved = all_saved Results (λ c less. saved c (omega (arith, less, count_is)));
+          possible = subst (λ l. IsPossible OfRun Results l) (whole In_order count ended played) runs.legal.possible;
+          follows = follows In_order count ended played;
+          closes = closes In_order count ended played;
+        } in
+        let found = the_one_journal OfRun scenario.steps (past played.front) played.rest (answer_of ended) run in
+        record {
+          most = found.0;
+          plays_it = found.1 ∙ ap (λ l. record { entries = l; answer = Some (answer_of ended) }) (sym (whole In_order count ended played));
+          only = λ results script closing other end ran each.
+              let same = one_journal OfRun scenario.steps (past script) closing end (past played.front) played.rest (answer_of ended) (is_whole results script closing other end ran each) run in
+              (one_past other w.journal (ap past ran.joined ∙ past_joined script closing ∙ same.0 ∙ sym (whole In_order count ended played)), same.1);
+        }
+
+  one_of : (manner : Manner) (count : ℕ) (ended : Closed) → HasPlayed manner (scene_in byte_bodies start kinds) scenario.steps count ended w →
+      IfInOrder manner (AreSaved scenario.setup.controllers Results → IsTheOne kinds scenario w.journal (answer_of ended))
+  one_of In_order count ended played = one count ended played
+  one_of Apart count ended played = tt
+
+  pub is_done : (manner : Manner) (count primary : ℕ) (output : Output) (told : Record) (written : List ℕ) (played : HasPlayed manner (scene_in byte_bodies start kinds) scenario.steps count (closed.Done primary) w) →
       HasMajority (closed.Done primary) start w → told ≡ told_by w primary (length scenario.steps) count → written ≡ told_text output told → IfReport output (FitsRecord told) →
-      IsDone kinds (StablesTell saving stables stables_after) scenario output written
+      IsDone manner kinds (StablesTell saving stables stables_after) scenario output written
   unfolding has_run
-  is_done count primary output told written played up is wrote fits =
+  is_done manner count primary output told written played up is wrote fits =
       let end : Closed = closed.Done primary in
       let group : start.setup.controllers ≡ scenario.setup.controllers = ap (λ (s : Setup). s.controllers) begins.setup_is in
       let there : primary < scenario.setup.controllers = subst (λ (n : ℕ). primary < n) group up.0 in
       let same = states_are law OfRun w runs Results none_yet in
-      let rested : HasRested OfRun Results primary (past w.journal) = reason count end played in
+      let rested : HasRested OfRun Results primary (past w.journal) = reason manner count end played in
       record {
         primary = primary;
-        ran = has_run count end played;
+        ran = has_run manner count end played (one_of manner count end played);
         rested = rested;
         up = subst (λ n. majority n ≤ count_up OfRun Results (past w.journal)) group (subst (λ l. majority start.setup.controllers ≤ length (members_up l)) (sym same) up.1);
         told = told;
-        shows = shows count end played primary there told is;
+        shows = shows manner count end played primary there told is;
         wrote = wrote;
-        one_record = one_record output told written wrote fits (subst (λ (t : Record). IsWritable t) (sym is) (told_writable OfRun Results scenario.steps played.front played.rest (schedule.Done primary) w primary
-            (subst (λ (s : Setup). IsSetup s) (sym same_setup) runs.setup) same_setup played.joined (follows count end played) (closes count end played) runs.count runs.switches
-            (sym rested.kept ∙ sym (committed_is count end played primary there))
+        one_record = one_record output told written wrote fits (subst (λ (t : Record). IsWritable t) (sym is) (told_writable OfRun Results played.front played.rest (schedule.Done primary) w primary
+            (subst (λ (s : Setup). IsSetup s) (sym same_setup) runs.setup) same_setup played.joined
+            (follow_lines manner OfRun Results scenario.steps (reverse played.rest) (past played.front)
+            (subst (λ l. AllByRecursion (λ e. IsActor scenario.setup (actor_of e)) l) (whole manner count end played) runs.legal.possible.named) (follows manner count end played)) (closes manner count end played) runs.count runs.switches
+            (sym rested.kept ∙ sym (committed_is manner count end played primary there))
             (told_law OfRun Results (past w.journal) runs.setup bytes_again runs.legal.possible) (length scenario.steps) count));
       }
 
-  pub is_left : (count up needed : ℕ) (played : HasPlayed (scene_in byte_bodies start kinds) scenario.steps count (closed.NoQuorum up needed) w) → IsLeft kinds (StablesTell saving stables stables_after) scenario up needed
+  pub is_left : (manner : Manner) (count up needed : ℕ) (played : HasPlayed manner (scene_in byte_bodies start kinds) scenario.steps count (closed.NoQuorum up needed) w) → IsLeft manner kinds (StablesTell saving stables stables_after) scenario up needed
   unfolding has_run
-  is_left count up needed played =
+  is_left manner count up needed played =
       let end : Closed = closed.NoQuorum up needed in
-      let few = reason count end played in
-      record { ran = has_run count end played; few = λ saved. few (saves_succeed count end played saved) }
+      let few = reason manner count end played in
+      record { ran = has_run manner count end played (one_of manner count end played); few = λ saved. few (saves_succeed manner count end played saved) }
 
-  pub is_overfull : (count : ℕ) (limit : LogFull) (played : HasPlayed (scene_in byte_bodies start kinds) scenario.steps count (closed.Overfull limit) w) → IsOverfull kinds (StablesTell saving stables stables_after) scenario limit
+  pub is_overfull : (manner : Manner) (count : ℕ) (limit : LogFull) (played : HasPlayed manner (scene_in byte_bodies start kinds) scenario.steps count (closed.Overfull limit) w) → IsOverfull manner kinds (StablesTell saving stables stables_after) scenario limit
   unfolding has_run
-  is_overfull count limit played =
+  is_overfull manner count limit played =
       let end : Closed = closed.Overfull limit in
-      let at = reason count end played in
-      record { ran = has_run count end played; controller = at.0; entry = at.1; full = at.2 }
+      let at = reason manner count end played in
+      record { ran = has_run manner count end played (one_of manner count end played); controller = at.0; entry = at.1; full = at.2 }
 
-  pub is_unposted : (bytes letters : ℕ) → IsBegun (scene_in byte_bodies start kinds) Results scenario.steps bytes letters (past w.journal) → IsUnposted kinds (StablesTell saving stables stables_after) scenario bytes letters
-  is_unposted bytes letters begun = record {
+  pub is_unposted : (manner : Manner) (bytes letters : ℕ) → Begins manner (scene_in byte_bodies start kinds) Results scenario.steps bytes letters (past w.journal) → IsUnposted manner kinds (StablesTell saving stables stables_after) scenario bytes letters
+  is_unposted manner bytes letters begun = record {
     results = Results;
     journal = w.journal;
     run = record {
       legal = runs.legal;
       within = within;
-      begun = subst (λ (s : Setup). IsBegun (record { setup = s; kinds = kinds; sealing = byte_bodies }) Results scenario.steps bytes letters (past w.journal)) begins.setup_is begun;
+      begun = subst (λ (s : Setup). Begins manner (record { setup = s; kinds = kinds; sealing = byte_bodies }) Results scenario.steps bytes letters (past w.journal)) begins.setup_is begun;
       lawful = lawful;
     };
     saved = stables_tell;
@@ -307,69 +332,137 @@ module _ {A W : Type 0} (law : AppLaw A) (saving : Saving W) (scenario : Scenari
 module _ {A W : Type 0} (law : AppLaw A) (saving : Saving W) (scenario : Scenario) (kinds : List ℕ)
     (start : Worlding (List ℕ) A) (stables : List W) (w : Worlding (List ℕ) A) (stables_after : List W)
     (begins : StartsAs scenario.setup start) (holds : Holds law byte_bodies start kinds) (pairs : PairsStand saving stables start.controllers)
-    (within : IsWithinLimits byte_bodies.size (past w.journal)) (taken : List Turn) (same : taken ≡ scenario.steps) where
+    (within : IsWithinLimits byte_bodies.size (past w.journal)) (manner : Manner) (taken : List Turn) (same : taken ≡ scenario.steps) where
   abbrev Kept : Type 0
   Kept = Keeps law saving byte_bodies start stables w stables_after
 
   abbrev Ends : Output → Ending → Type 0
-  Ends output e = EndsRun kinds (StablesTell saving stables stables_after) output scenario e
+  Ends output e = EndsRun manner kinds (StablesTell saving stables stables_after) output scenario e
 
-  one_ending : (closed : Closed) (count : ℕ) (output : Output) → Kept → HasPlayed (scene_in byte_bodies start kinds) scenario.steps count closed w →
+  one_ending : (closed : Closed) (count : ℕ) (output : Output) → Kept → HasPlayed manner (scene_in byte_bodies start kinds) scenario.steps count closed w →
       HasMajority closed start w → IfDone closed (λ p. IfReport output (FitsRecord (told_by w p (length scenario.steps) count))) →
       Ends output (ending_by closed (λ p. told_text output (told_by w p (length scenario.steps) count)))
   one_ending (closed.Done primary) count output k played up fits =
-      is_done law saving scenario kinds start stables w stables_after begins holds pairs k within count primary output (told_by w primary (length scenario.steps) count) (told_text output (told_by w primary (length scenario.steps) count)) played up refl refl fits
-  one_ending (closed.NoQuorum up needed) count output k played most fits = is_left law saving scenario kinds start stables w stables_after begins holds pairs k within count up needed played
-  one_ending (closed.Overfull limit) count output k played most fits = is_overfull law saving scenario kinds start stables w stables_after begins holds pairs k within count limit played
+      is_done law saving scenario kinds start stables w stables_after begins holds pairs k within manner count primary output (told_by w primary (length scenario.steps) count) (told_text output (told_by w primary (length scenario.steps) count)) played up refl refl fits
+  one_ending (closed.NoQuorum up needed) count output k played most fits = is_left law saving scenario kinds start stables w stables_after begins holds pairs k within manner count up needed played
+  one_ending (closed.Overfull limit) count output k played most fits = is_overfull law saving scenario kinds start stables w stables_after begins holds pairs k within manner count limit played
 
-  ok_ending : {X : Type 0} (closed : Closed) (count : ℕ) (output : Output) (steps : ℕ) (ended : Result Ending X) → steps ≡ length scenario.steps → Kept → HasPlayed (scene_in byte_bodies start kinds) taken count closed w →
+  pub ok_ending : {X : Type 0} (closed : Closed) (count : ℕ) (output : Output) (steps : ℕ) (ended : Result Ending X) → steps ≡ length scenario.steps → Kept → HasPlayed manner (scene_in byte_bodies start kinds) taken count closed w →
       HasMajority closed start w → IfOk ended (λ e. e ≡ ending_by closed (λ p. told_text output (told_by w p steps count))) → IfOk ended (λ _. IfDone closed (λ p. IfReport output (FitsRecord (told_by w p steps count)))) → IfOk ended (λ e. Ends output e)
   ok_ending closed count output steps (Err x) long k played up is fits = tt
   ok_ending closed count output steps (Ok e) long k played up is fits =
       subst (λ x. Ends output x) (sym (is ∙ ap (λ n. ending_by closed (λ p. told_text output (told_by w p n count))) long))
-      (one_ending closed count output k (subst (λ (l : List Turn). HasPlayed (scene_in byte_bodies start kinds) l count closed w) same played) up (subst (λ (n : ℕ). IfDone closed (λ p. IfReport output (FitsRecord (told_by w p n count)))) long fits))
+      (one_ending closed count output k (subst (λ (l : List Turn). HasPlayed manner (scene_in byte_bodies start kinds) l count closed w) same played) up (subst (λ (n : ℕ). IfDone closed (λ p. IfReport output (FitsRecord (told_by w p n count)))) long fits))
+
+-- the same by the answer of a call that did the steps in order
+module _ {A W : Type 0} (law : AppLaw A) (saving : Saving W) (scenario : Scenario) (kinds : List ℕ)
+    (start : Worlding (List ℕ) A) (stables : List W) (w : Worlding (List ℕ) A) (stables_after : List W)
+    (begins : StartsAs scenario.setup start) (holds : Holds law byte_bodies start kinds) (pairs : PairsStand saving stables start.controllers)
+    (within : IsWithinLimits byte_bodies.size (past w.journal)) (taken : List Turn) (same : taken ≡ scenario.steps) where
+  abbrev KeptInOrder : Type 0
+  KeptInOrder = Keeps law saving byte_bodies start stables w stables_after
+
+  abbrev EndsInOrder : Output → Ending → Type 0
+  EndsInOrder output e = EndsRun In_order kinds (StablesTell saving stables stables_after) output scenario e
 
   -- it came to the end of its closing
   pub ends_closed : {X : Type 0} (result : Result (Closed × ℕ) Stop) (closed : Closed) (count : ℕ) (output : Output) (steps : ℕ) (ended : Result Ending X) → result ≡ Ok (closed, count) → steps ≡ length scenario.steps →
-      IfMemory result Kept → IfOk result (λ played. HasPlayed (scene_in byte_bodies start kinds) taken played.1 played.0 w) → IfOk result (λ played. HasMajority played.0 start w) →
-      IfOk ended (λ e. e ≡ ending_by closed (λ p. told_text output (told_by w p steps count))) → IfOk ended (λ _. IfDone closed (λ p. IfReport output (FitsRecord (told_by w p steps count)))) → IfOk ended (λ e. Ends output e)
+      IfMemory result KeptInOrder → IfOk result (λ played. HasPlayed In_order (scene_in byte_bodies start kinds) taken played.1 played.0 w) → IfOk result (λ played. HasMajority played.0 start w) →
+      IfOk ended (λ e. e ≡ ending_by closed (λ p. told_text output (told_by w p steps count))) → IfOk ended (λ _. IfDone closed (λ p. IfReport output (FitsRecord (told_by w p steps count)))) → IfOk ended (λ e. EndsInOrder output e)
   ends_closed result closed count output steps ended is long k played up ending_is fits =
-      ok_ending closed count output steps ended long
-      (subst (λ (r : Result (Closed × ℕ) Stop). IfMemory r Kept) is k)
-      (subst (λ (r : Result (Closed × ℕ) Stop). IfOk r (λ played. HasPlayed (scene_in byte_bodies start kinds) taken played.1 played.0 w)) is played)
+      ok_ending law saving scenario kinds start stables w stables_after begins holds pairs within In_order taken same closed count output steps ended long
+      (subst (λ (r : Result (Closed × ℕ) Stop). IfMemory r KeptInOrder) is k)
+      (subst (λ (r : Result (Closed × ℕ) Stop). IfOk r (λ played. HasPlayed In_order (scene_in byte_bodies start kinds) taken played.1 played.0 w)) is played)
       (subst (λ (r : Result (Closed × ℕ) Stop). IfOk r (λ played. HasMajority played.0 start w)) is up)
       ending_is fits
 
-  one_stop : {X : Type 0} (stop : Stop) (output : Output) (ended : Result Ending X) → IfMemory {T = Closed × ℕ} (Err stop) Kept → RunStops (scene_in byte_bodies start kinds) taken w stop →
-      IfOk ended (λ e. StopsAs stop e) → IfOk ended (λ e. Ends output e)
+  one_stop : {X : Type 0} (stop : Stop) (output : Output) (ended : Result Ending X) → IfMemory {T = Closed × ℕ} (Err stop) KeptInOrder → RunStops (scene_in byte_bodies start kinds) taken w stop →
+      IfOk ended (λ e. StopsAs stop e) → IfOk ended (λ e. EndsInOrder output e)
   one_stop stop output (Err x) k stops is = tt
   one_stop OutOfMemory output (Ok e) k stops never = absurd never
   one_stop (JournalFull bytes letters) output (Ok e) k stops is =
-      subst (λ x. Ends output x) (sym is)
-      (is_unposted law saving scenario kinds start stables w stables_after begins holds pairs k within bytes letters
-      (subst (λ (l : List Turn). IsBegun (scene_in byte_bodies start kinds) (results_in w.controllers) l bytes letters (past w.journal)) same stops))
+      subst (λ x. EndsInOrder output x) (sym is)
+      (is_unposted law saving scenario kinds start stables w stables_after begins holds pairs k within In_order bytes letters
+      (subst (λ (l : List Turn). Begins In_order (scene_in byte_bodies start kinds) (results_in w.controllers) l bytes letters (past w.journal)) same stops))
 
   -- or it stopped
-  pub ends_stopped : {X : Type 0} (result : Result (Closed × ℕ) Stop) (stop : Stop) (output : Output) (ended : Result Ending X) → result ≡ Err stop → IfMemory result Kept →
-      IfErr result (RunStops (scene_in byte_bodies start kinds) taken w) → IfOk ended (λ e. StopsAs stop e) → IfOk ended (λ e. Ends output e)
+  pub ends_stopped : {X : Type 0} (result : Result (Closed × ℕ) Stop) (stop : Stop) (output : Output) (ended : Result Ending X) → result ≡ Err stop → IfMemory result KeptInOrder →
+      IfErr result (RunStops (scene_in byte_bodies start kinds) taken w) → IfOk ended (λ e. StopsAs stop e) → IfOk ended (λ e. EndsInOrder output e)
   ends_stopped result stop output ended is k stops ending_is =
-      one_stop stop output ended (subst (λ (r : Result (Closed × ℕ) Stop). IfMemory r Kept) is k)
+      one_stop stop output ended (subst (λ (r : Result (Closed × ℕ) Stop). IfMemory r KeptInOrder) is k)
       (subst (λ (r : Result (Closed × ℕ) Stop). IfErr r (RunStops (scene_in byte_bodies start kinds) taken w)) is stops) ending_is
+
+-- ---- where actors played apart, and the run was cut short
+
+module _ {A W : Type 0} (law : AppLaw A) (saving : Saving W) (scenario : Scenario) (kinds : List ℕ) (start : Worlding (List ℕ) A) (stables stables_after : List W)
+    (begins : StartsAs scenario.setup start) (holds : Holds law byte_bodies start kinds) (pairs : PairsStand saving stables start.controllers) (left : Played (List ℕ) A)
+    (l : IsLeftLegal law saving byte_bodies scenario.setup kinds start.controllers stables stables_after left) where
+  abbrev LeftResults : List (List SaveResult)
+  LeftResults = results_in left.controllers.items
+
+  left_lawful : IsLawful (scene_for kinds scenario) LeftResults (past left.wire)
+  left_lawful = is_lawful kinds scenario LeftResults (past left.wire) (subst (λ s. IsSetup s) begins.setup_is holds.run.setup) l.legal.possible
+
+  first_at : (c : ℕ) → c < scenario.setup.controllers → IsMember law (scene_for kinds scenario) (results_in start.controllers) (past start.journal) start.controllers c
+  first_at = subst (λ (s : Setup). (c : ℕ) → c < s.controllers → IsMember law (record { setup = s; kinds = kinds; sealing = byte_bodies }) (results_in start.controllers) (past start.journal) start.controllers c)
+      begins.setup_is holds.run.controllers
+
+  left_tells : (c : ℕ) → c < scenario.setup.controllers → StableTells saving stables stables_after (scene_for kinds scenario) LeftResults left.wire c
+  left_tells c there =
+      let m = first_at c there in
+      let s = pairs c m.member m.stands in
+      let t = l.told c m.member s.0 m.stands s.1 in
+      let n = l.members c there in
+      let last = l.pairs c t.0 t.2 in
+      let none : m.member.results ≡ [] = unsaved_at law scenario kinds start begins holds c m.member there m.stands in
+      let more : t.4.more ≡ results_of LeftResults c = sym (results_at left.controllers.items c t.0 t.2 ∙ t.4.joined ∙ ap (λ r. r ++ t.4.more) none) in
+      record {
+        old = s.0;
+        new = t.1;
+        stood = s.1;
+        stands = t.3;
+        rose = subst (λ r. (saving.faults s.0 + count_by is_failed r ≤ saving.faults t.1) ⊎ (2 ^ 64 - 1 ≤ saving.faults t.1)) more t.4.rose;
+        pair_is = ap saving.pair (from_some t.1 last.0 (sym t.3 ∙ last.1)) ∙ last.2 ∙ ap (λ x. pair_in (state_of x)) (from_some t.0 n.member (sym t.2 ∙ n.stands)) ∙ ap pair_in n.state;
+      }
+
+  left_unposted : (bytes letters : ℕ) → Begins Apart (scene_for kinds scenario) LeftResults scenario.steps bytes letters (past left.wire) →
+      IsUnposted Apart kinds (StablesTell saving stables stables_after) scenario bytes letters
+  left_unposted bytes letters begun = record {
+    results = LeftResults;
+    journal = left.wire;
+    run = record { legal = l.legal; within = l.within; begun = begun; lawful = left_lawful };
+    saved = record { each = left_tells; beyond = l.beyond };
+  }
+
+module _ {A W : Type 0} (law : AppLaw A) (saving : Saving W) (scenario : Scenario) (kinds : List ℕ) (start : Worlding (List ℕ) A) (stables stables_after : List W)
+    (begins : StartsAs scenario.setup start) (holds : Holds law byte_bodies start kinds) (pairs : PairsStand saving stables start.controllers) (taken : List Turn) (same : taken ≡ scenario.steps) where
+  pub ends_halted : {X : Type 0} (left : Played (List ℕ) A) (stop : Stop) (ended : Result Ending X) → HaltsAs law saving byte_bodies taken kinds start stables stables_after left stop →
+      IfOk ended (λ e. StopsAs stop e) → IfOk ended (λ e. EndsRun Apart kinds (StablesTell saving stables stables_after) told_as.Report scenario e)
+  ends_halted left stop (Err x) halts is = tt
+  ends_halted left OutOfMemory (Ok e) halts never = absurd never
+  ends_halted left (JournalFull bytes letters) (Ok e) halts is =
+      subst (λ x. EndsRun Apart kinds (StablesTell saving stables stables_after) told_as.Report scenario x) (sym is)
+      (left_unposted law saving scenario kinds start stables stables_after begins holds pairs left
+      (subst (λ (s : Setup). IsLeftLegal law saving byte_bodies s kinds start.controllers stables stables_after left) begins.setup_is halts.0) bytes letters
+      (subst (λ (steps : List Turn). Begins Apart (scene_for kinds scenario) (results_in left.controllers.items) steps bytes letters (past left.wire)) same
+      (subst (λ (s : Setup). Begins Apart (record { setup = s; kinds = kinds; sealing = byte_bodies }) (results_in left.controllers.items) taken bytes letters (past left.wire)) begins.setup_is halts.1)))
 
 -- the script's part is not longer than the journal
 pub script_within : {A : Type 0} (scene : Scene (List ℕ)) (taken : List Turn) (w : Worlding (List ℕ) A) (result : Result (Closed × ℕ) Stop) (closed : Closed) (count : ℕ) → result ≡ Ok (closed, count) →
-    IfOk result (λ played. HasPlayed scene taken played.1 played.0 w) → count ≤ length w.journal
+    IfOk result (λ played. HasPlayed In_order scene taken played.1 played.0 w) → count ≤ length w.journal
 script_within scene taken w result closed count is played =
-    within_journal scene taken count closed w (subst (λ (r : Result (Closed × ℕ) Stop). IfOk r (λ p. HasPlayed scene taken p.1 p.0 w)) is played)
+    within_journal In_order scene taken count closed w (subst (λ (r : Result (Closed × ℕ) Stop). IfOk r (λ p. HasPlayed In_order scene taken p.1 p.0 w)) is played)
 
 -- and the primary of a closing is one of its controllers
+pub primary_of : {B A : Type 0} (law : AppLaw A) (scene : Scene B) (start w : Worlding B A) → Runs law scene w → start.setup ≡ scene.setup → (ended : Closed) → HasMajority ended start w →
+    IfDone ended (λ primary. primary < length w.controllers)
+primary_of law scene start w runs same (closed.Done primary) m =
+    let group : start.setup.controllers ≡ length w.controllers = ap (λ (s : Setup). s.controllers) same ∙ sym runs.group in
+    subst (λ (n : ℕ). primary < n) group m.0
+primary_of law scene start w runs same (closed.NoQuorum up needed) m = tt
+primary_of law scene start w runs same (closed.Overfull limit) m = tt
+
 pub primary_there : {B A : Type 0} (law : AppLaw A) (scene : Scene B) (start w : Worlding B A) → Runs law scene w → start.setup ≡ scene.setup → (result : Result (Closed × ℕ) Stop) (ended : Closed) (count : ℕ) → result ≡ Ok (ended, count) →
     IfOk result (λ played. HasMajority played.0 start w) → IfDone ended (λ primary. primary < length w.controllers)
-primary_there law scene start w runs same result ended count is up = by_end ended (subst (λ (r : Result (Closed × ℕ) Stop). IfOk r (λ played. HasMajority played.0 start w)) is up)
-  where
-    by_end : (c : Closed) → HasMajority c start w → IfDone c (λ primary. primary < length w.controllers)
-    by_end (closed.Done primary) m =
-        let group : start.setup.controllers ≡ length w.controllers = ap (λ (s : Setup). s.controllers) same ∙ sym runs.group in
-        subst (λ (n : ℕ). primary < n) group m.0
-    by_end (closed.NoQuorum up needed) m = tt
-    by_end (closed.Overfull limit) m = tt
+primary_there law scene start w runs same result ended count is up =
+    primary_of law scene start w runs same ended (subst (λ (r : Result (Closed × ℕ) Stop). IfOk r (λ played. HasMajority played.0 start w)) is up)

@@ -29,8 +29,13 @@ use Rattle.vr_log.specs.Sizes.{IsValidEntry}
 use Rattle.of_switch.specs.State.{SwitchState}
 use Rattle.group_controller.specs.State.{ControllerState}
 use Rattle.rv_runs.specs.Committed.{decided, members_up, states_of, switch_state}
-use Rattle.rv_runs.specs.Schedule.{Answer, Closes, ClosesTo, Draining, Ends, FollowsInOrder, IsMove, Losing, Met, Move, Phase, Suspecting, NoQuorum, Takes, TakesInOrder, after_move, closing_view, drained, is_drawn, majority, next_drained, next_lost, next_move, next_suspicion, next_view, quorum_of}
+use Rattle.rv_runs.specs.Schedule.{Answer, Closes, ClosesTo, Draining, Ends, IsMove, Losing, Met, Move, Phase, Suspecting, NoQuorum, Takes, TakesInOrder, after_move, closing_view, drained, is_drawn, majority, next_drained, next_lost, next_move, next_suspicion, next_view, quorum_of}
 use Rattle.rv_runs.specs.States.{Scene}
+use Rattle.rv_base.specs.declared.journal.Actor.{Actor}
+use Rattle.rv_base.specs.Actors.{actor_of, IsActor}
+use Rattle.running.specs.Apart.{IsStepAt, TakesOwn, inputs_of, steps_of}
+use Rattle.playing.specs.Manners.{Manner, In_order, Apart, Follows}
+use Rattle.playing.proofs.Stopping.{same_self}
 use Rattle.rv_runs.proofs.Pasts.{from_some}
 use Rattle.rv_laws.specs.Told.{IsSpellable, IsSpellableEntry, IsSpellableEvent, IsSpellableOrder, IsSpellableRow, IsSpellableRun, IsSpellableSwitch}
 use Rattle.rv_world.specs.World.{Worlding}
@@ -60,6 +65,32 @@ script_lines scene results steps (Lose a id ∷ before) takes = (tt, script_line
 script_lines scene results steps (Local a input ∷ before) takes = (tt, script_lines scene results steps before takes.2)
 script_lines scene results steps (Idle a ∷ before) takes = (tt, script_lines scene results steps before takes.2)
 script_lines scene results steps (Refused a ∷ before) takes = absurd takes.0
+
+-- and those of a script whose actors played apart: each is a step of its actor, or a post
+step_line : (a : Actor) (steps : List Turn) (e : JournalEntry (List ℕ)) (before : List (JournalEntry (List ℕ))) → IsStepAt (steps_of a steps) (inputs_of a before) e before → HasLine e
+step_line a steps (Post b first letters lost) before is = tt
+step_line a steps (Draw b id keep) before is = tt
+step_line a steps (Lose b id) before is = tt
+step_line a steps (Local b input) before is = tt
+step_line a steps (Idle b) before is = tt
+step_line a steps (Refused b) before is = absurd is
+
+apart_lines : (setup : Setup) (steps : List Turn) (entries : List (JournalEntry (List ℕ))) → AllByRecursion (λ e. IsActor setup (actor_of e)) entries → ((a : Actor) → IsActor setup a → TakesOwn a steps entries) →
+    AllByRecursion HasLine entries
+apart_lines setup steps [] named takes = tt
+apart_lines setup steps (e ∷ before) named takes =
+    (step_line (actor_of e) steps e before ((takes (actor_of e) named.0).0 (same_self (actor_of e))), apart_lines setup steps before named.1 (λ a there. (takes a there).1))
+
+all_behind : {X : Type 0} (P : X → Type 0) (xs ys : List X) → AllByRecursion P (xs ++ ys) → AllByRecursion P ys
+all_behind P [] ys all = all
+all_behind P (x ∷ xs) ys all = all_behind P xs ys all.1
+
+-- of a script that was done in either manner, before what came later
+pub follow_lines : (manner : Manner) (scene : Scene (List ℕ)) (results : List (List SaveResult)) (steps : List Turn) (later entries : List (JournalEntry (List ℕ))) → AllByRecursion (λ e. IsActor scene.setup (actor_of e)) (later ++ entries) →
+    Follows manner scene results steps entries → AllByRecursion HasLine entries
+follow_lines In_order scene results steps later entries named follows = script_lines scene results steps entries follows.takes
+follow_lines Apart scene results steps later entries named follows =
+    apart_lines scene.setup steps entries (all_behind (λ e. IsActor scene.setup (actor_of e)) later entries named) (λ a there. (follows a there).takes)
 
 -- what comes next in a closing has a line
 abbrev HasMoveLine : Move (List ℕ) → Type 0
@@ -159,15 +190,15 @@ entry_valid : (setup : Setup) (e : Entry) → IsSpellableEntry setup e → IsVal
 entry_valid setup (Received e) h = happening_fits e.what h.1.1
 entry_valid setup (Processed j) h = tt
 
-module _ {A : Type 0} (scene : Scene (List ℕ)) (results : List (List SaveResult)) (steps : List Turn) (front rest : List (JournalEntry (List ℕ))) (answer : Answer) (w : Worlding (List ℕ) A) (primary : ℕ) where
-  pub told_writable : IsSetup w.setup → w.setup ≡ scene.setup → w.journal ≡ front ++ rest → FollowsInOrder scene results steps (past front) → Closes scene results (past front) rest answer →
+module _ {A : Type 0} (scene : Scene (List ℕ)) (results : List (List SaveResult)) (front rest : List (JournalEntry (List ℕ))) (answer : Answer) (w : Worlding (List ℕ) A) (primary : ℕ) where
+  pub told_writable : IsSetup w.setup → w.setup ≡ scene.setup → w.journal ≡ front ++ rest → AllByRecursion HasLine (past front) → Closes scene results (past front) rest answer →
       length w.switches ≡ length scene.setup.ports → ((s : ℕ) → s < length scene.setup.ports → slice_get w.switches s ≡ Some (switch_state scene s (past w.journal))) →
       decided scene results (past w.journal) ≡ committed_at w.controllers primary → IsSpellableRun scene results (past w.journal) → (count closing : ℕ) → IsWritable (told_by w primary count closing)
-  told_writable is_setup setup_is joined follows closes count_is switches decided_is law count closing = record {
+  told_writable is_setup setup_is joined lines closes count_is switches decided_is law count closing = record {
     setup = is_setup;
     journal_is = subst (λ (l : List (JournalEntry (List ℕ))). AllByRecursion HasLine l) (sym joined)
         (all_append HasLine front rest
-        (subst (λ (l : List (JournalEntry (List ℕ))). AllByRecursion HasLine l) (reverse-reverse front) (all_reversed HasLine (past front) (script_lines scene results steps (past front) follows.takes)))
+        (subst (λ (l : List (JournalEntry (List ℕ))). AllByRecursion HasLine l) (reverse-reverse front) (all_reversed HasLine (past front) lines))
         (closing_lines scene results Losing (past front) rest closes.last closes.steps));
     log = all_weaker (λ e. IsSpellableEntry scene.setup e) (λ e. IsValidEntry e) (λ e h. entry_valid scene.setup e h) (committed_at w.controllers primary) (subst (λ (l : List Entry). AllByRecursion (λ e. IsSpellableEntry scene.setup e) l) decided_is law.log);
     switches = length-map w.switches told_of ∙ count_is ∙ ap (λ (s : Setup). length s.ports) (sym setup_is);

@@ -11,7 +11,8 @@ use Rattle.top_call.specs.Lines.{usage_line, fault_line, no_quorum_line, overful
 use Rattle.audit.specs.Audit.{differs}
 use Rattle.top_call.specs.Audited.{report_limit, too_large}
 use Rattle.top_call.specs.declared.service.Reader.{Reader}
-use Rattle.top_call.specs.declared.service.Reader.TheVariants.{Sim, Audit}
+use Rattle.top_call.specs.declared.service.Reader.TheVariants.{Sim, Run, Audit}
+use Rattle.playing.specs.Manners.{Manner, In_order, Apart}
 use Rattle.top_call.specs.Runs.{IsDone, IsLeft, IsOverfull, IsUnposted, Telling}
 
 abbrev pub ending_status : Ending → ℕ
@@ -36,22 +37,22 @@ ending_text (Unposted bytes letters) = unposted_line bytes letters
 ending_text Same = same_line
 ending_text (Differs n) = differs_line n
 
--- how a run of a scenario ends, of which this is told at rest
-abbrev pub EndsRun : List ℕ → Telling → Output → Scenario → Ending → Type 0
-EndsRun kinds saves output scenario (Report words) = IsDone kinds saves scenario output words
-EndsRun kinds saves output scenario (NoQuorum up needed) = IsLeft kinds saves scenario up needed
-EndsRun kinds saves output scenario (Overfull limit) = IsOverfull kinds saves scenario limit
-EndsRun kinds saves output scenario (Unposted bytes letters) = IsUnposted kinds saves scenario bytes letters
-EndsRun kinds saves output scenario Usage = ⊥
-EndsRun kinds saves output scenario (Refused fault) = ⊥
-EndsRun kinds saves output scenario Unread = ⊥
-EndsRun kinds saves output scenario Same = ⊥
-EndsRun kinds saves output scenario (Differs n) = ⊥
+-- how a run of a scenario, done in this manner, ends, of which this is told at rest
+abbrev pub EndsRun : Manner → List ℕ → Telling → Output → Scenario → Ending → Type 0
+EndsRun manner kinds saves output scenario (Report words) = IsDone manner kinds saves scenario output words
+EndsRun manner kinds saves output scenario (NoQuorum up needed) = IsLeft manner kinds saves scenario up needed
+EndsRun manner kinds saves output scenario (Overfull limit) = IsOverfull manner kinds saves scenario limit
+EndsRun manner kinds saves output scenario (Unposted bytes letters) = IsUnposted manner kinds saves scenario bytes letters
+EndsRun manner kinds saves output scenario Usage = ⊥
+EndsRun manner kinds saves output scenario (Refused fault) = ⊥
+EndsRun manner kinds saves output scenario Unread = ⊥
+EndsRun manner kinds saves output scenario Same = ⊥
+EndsRun manner kinds saves output scenario (Differs n) = ⊥
 
 -- how the bytes of a scenario end: they are refused by their first fault, or the run of their scenario ends so
-abbrev pub EndsScenario : List ℕ → Telling → List ℕ → Ending → Type 0
-EndsScenario kinds saves bytes (Refused fault) = scenario_of bytes ≡ Err fault
-EndsScenario kinds saves bytes ending = (scenario : Scenario) × (scenario_of bytes ≡ Ok scenario) × EndsRun kinds saves told_as.Report scenario ending
+abbrev pub EndsScenario : Manner → List ℕ → Telling → List ℕ → Ending → Type 0
+EndsScenario manner kinds saves bytes (Refused fault) = scenario_of bytes ≡ Err fault
+EndsScenario manner kinds saves bytes ending = (scenario : Scenario) × (scenario_of bytes ≡ Ok scenario) × EndsRun manner kinds saves told_as.Report scenario ending
 
 -- how the bytes of a report end, for controllers with applications of these kinds: they are too many, or no line differs, or
 -- the first one that does
@@ -63,5 +64,6 @@ EndsReport kinds bytes _ = ⊥
 
 -- how the bytes that are read end
 abbrev pub EndsRead : List ℕ → Telling → Reader → List ℕ → Ending → Type 0
-EndsRead kinds saves Sim bytes ending = EndsScenario kinds saves bytes ending
+EndsRead kinds saves Sim bytes ending = EndsScenario In_order kinds saves bytes ending
+EndsRead kinds saves Run bytes ending = EndsScenario Apart kinds saves bytes ending
 EndsRead kinds saves Audit bytes ending = EndsReport kinds bytes ending

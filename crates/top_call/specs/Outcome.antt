@@ -8,7 +8,7 @@ use Rattle.scenario.specs.Generated.{generated}
 use Rattle.top_call.specs.declared.sim.Output.{Output}
 use Rattle.top_call.specs.declared.sim.Output.TheVariants.{Report, LastLine}
 use Rattle.words.specs.declared.Job.{Job}
-use Rattle.words.specs.declared.Job.TheVariants.{Sim, Audit, Gen}
+use Rattle.words.specs.declared.Job.TheVariants.{Sim, Run, Audit, Gen}
 use Rattle.words.specs.Words.{job_of}
 use Rattle.endings.specs.Lines.{unread_line, differs_line}
 use Rattle.top_call.specs.Lines.{usage_line, fault_line, no_quorum_line, overfull_line, unposted_line, same_line}
@@ -18,6 +18,7 @@ use Rattle.top_call.specs.declared.service.Service.{Service}
 use Rattle.top_call.specs.declared.service.Service.TheVariants.{Reads}
 use Rattle.top_call.specs.Audited.{report_limit, too_large}
 use Rattle.top_call.specs.Service.{service_of}
+use Rattle.playing.specs.Manners.{Manner, In_order, Apart}
 use Rattle.top_call.specs.Runs.{IsDone, IsInLimits, IsLeft, IsOverfull, IsUnposted, Telling}
 
 -- a claim on what is read and written, where both ends tell it: what the source had left at first, what
@@ -39,15 +40,11 @@ pub data HasRead (limit : ℕ) (input : List ℕ) : List ℕ → Type 0 where
 -- what serves the job that was found
 abbrev pub service_for : Option Job → Option Service
 service_for None = None
-service_for (Some job) = service_of job
+service_for (Some job) = Some (service_of job)
 
--- whether a job was found and is served
-abbrev pub is_served_job : Option Job → Bool
-is_served_job job = is_some (service_for job)
-
--- words that are not accepted, or ask for what is not served yet
+-- words that are not accepted
 abbrev pub IsUnserved : List (List ℕ) → Type 0
-IsUnserved words = is_served_job (job_of words) ≡ false
+IsUnserved words = is_some (service_for (job_of words)) ≡ false
 
 -- words that ask for an audit
 abbrev pub IsAudit : List (List ℕ) → Type 0
@@ -64,25 +61,31 @@ ReadsNothing words = IsUnserved words ⊎ IsOfFourNumbers words
 abbrev pub PlaysNothing : List (List ℕ) → Type 0
 PlaysNothing words = IsUnserved words ⊎ IsAudit words
 
--- the scenario that words ask to play, and what is told of its run at rest: of bytes that were all read, its report; of
--- four numbers, the report's last line
-pub data IsAsked (words : List (List ℕ)) (input rest : List ℕ) : Scenario → Output → Type 0 where
-  Of_bytes : {scenario : Scenario} → job_of words ≡ Some Sim → rest ≡ [] → scenario_of input ≡ Ok scenario → IsAsked words input rest scenario Report
+-- in which manner a job plays the scenario that is read, if it does
+abbrev pub manner_of : Option Job → Option Manner
+manner_of (Some Sim) = Some In_order
+manner_of (Some Run) = Some Apart
+manner_of _ = None
+
+-- the scenario that words ask to play, in which manner, and what is told of its run at rest: of bytes that were all read, its
+-- report; of four numbers, the report's last line
+pub data IsAsked (words : List (List ℕ)) (input rest : List ℕ) : Manner → Scenario → Output → Type 0 where
+  Of_bytes : {manner : Manner} {scenario : Scenario} → manner_of (job_of words) ≡ Some manner → rest ≡ [] → scenario_of input ≡ Ok scenario → IsAsked words input rest manner scenario Report
   Of_numbers : (number controllers switches frames : ℕ) → job_of words ≡ Some (Gen number controllers switches frames) → rest ≡ input →
-      IsAsked words input rest (generated number controllers switches frames) LastLine
+      IsAsked words input rest In_order (generated number controllers switches frames) LastLine
 
 -- what a call has to write, with its status, by the cause of it: one case for each
 pub data Outcome (kinds : List ℕ) (saves : Telling) (words : List (List ℕ)) (input rest : List ℕ) (unread : Type 0) : ℕ → List ℕ → Type 0 where
   Usage : IsUnserved words → Outcome kinds saves words input rest unread 2 usage_line
-  Refused : (fault : Fault) → job_of words ≡ Some Sim → HasRead scenario_limit input rest → scenario_of input ≡ Err fault → Outcome kinds saves words input rest unread 3 (fault_line fault)
+  Refused : (fault : Fault) (manner : Manner) → manner_of (job_of words) ≡ Some manner → HasRead scenario_limit input rest → scenario_of input ≡ Err fault → Outcome kinds saves words input rest unread 3 (fault_line fault)
   Unread : (reader : Reader) → service_for (job_of words) ≡ Some (Reads reader) → unread → Outcome kinds saves words input rest unread 4 unread_line
-  Closed : (scenario : Scenario) (output : Output) {written : List ℕ} → IsAsked words input rest scenario output → IsDone kinds saves scenario output written →
+  Closed : (manner : Manner) (scenario : Scenario) (output : Output) {written : List ℕ} → IsAsked words input rest manner scenario output → IsDone manner kinds saves scenario output written →
       Outcome kinds saves words input rest unread 0 written
-  Left : (scenario : Scenario) (output : Output) (up needed : ℕ) → IsAsked words input rest scenario output → IsLeft kinds saves scenario up needed →
+  Left : (manner : Manner) (scenario : Scenario) (output : Output) (up needed : ℕ) → IsAsked words input rest manner scenario output → IsLeft manner kinds saves scenario up needed →
       Outcome kinds saves words input rest unread 7 (no_quorum_line up needed)
-  Overfull : (scenario : Scenario) (output : Output) (limit : LogFull) → IsAsked words input rest scenario output → IsOverfull kinds saves scenario limit →
+  Overfull : (manner : Manner) (scenario : Scenario) (output : Output) (limit : LogFull) → IsAsked words input rest manner scenario output → IsOverfull manner kinds saves scenario limit →
       Outcome kinds saves words input rest unread 9 (overfull_line limit)
-  Unposted : (scenario : Scenario) (output : Output) (bytes letters : ℕ) → IsAsked words input rest scenario output → IsUnposted kinds saves scenario bytes letters →
+  Unposted : (manner : Manner) (scenario : Scenario) (output : Output) (bytes letters : ℕ) → IsAsked words input rest manner scenario output → IsUnposted manner kinds saves scenario bytes letters →
       Outcome kinds saves words input rest unread 10 (unposted_line bytes letters)
   Oversized : IsAudit words → length rest + (report_limit + 1) ≡ length input → Outcome kinds saves words input rest unread 3 (fault_line too_large)
   Same : IsAudit words → rest ≡ [] → length input ≤ report_limit → differs kinds input ≡ None → Outcome kinds saves words input rest unread 0 same_line
@@ -130,13 +133,13 @@ pub record IsOneLine (status : ℕ) (written : List ℕ) : Type 0 where
 abbrev pub audit_status : List ℕ → List ℕ → ℕ
 audit_status kinds input = if nat_lt report_limit (length input) then 3 else elim (differs kinds input) [ None ↦ 0 | Some n ↦ 8 ]
 
--- words ask to play this scenario: of the bytes that are read, or of four numbers
-pub data AsksFor (words : List (List ℕ)) (input : List ℕ) : Scenario → Type 0 where
-  Its_bytes : {scenario : Scenario} → job_of words ≡ Some Sim → scenario_of input ≡ Ok scenario → AsksFor words input scenario
-  Its_numbers : (number controllers switches frames : ℕ) → job_of words ≡ Some (Gen number controllers switches frames) → AsksFor words input (generated number controllers switches frames)
+-- words ask to play this scenario in this manner: of the bytes that are read, or of four numbers
+pub data AsksFor (words : List (List ℕ)) (input : List ℕ) : Manner → Scenario → Type 0 where
+  Its_bytes : {manner : Manner} {scenario : Scenario} → manner_of (job_of words) ≡ Some manner → scenario_of input ≡ Ok scenario → AsksFor words input manner scenario
+  Its_numbers : (number controllers switches frames : ℕ) → job_of words ≡ Some (Gen number controllers switches frames) → AsksFor words input In_order (generated number controllers switches frames)
 
 -- An audit in which nothing failed ends by that, or finds no memory. A scenario that keeps within the limits comes to rest, where
 -- nothing failed and the stable pairs are calm, or finds no memory.
 pub record IsComplete (kinds : List ℕ) (words : List (List ℕ)) (input : List ℕ) (unread unwritten calm : Type 0) (status : ℕ) : Type 0 where
   pub ends : IsAudit words → (unread → ⊥) → (unwritten → ⊥) → Contains (audit_status kinds input ∷ 6 ∷ []) status
-  pub rests : (scenario : Scenario) → AsksFor words input scenario → IsInLimits kinds scenario → calm → (unread → ⊥) → (unwritten → ⊥) → Contains (0 ∷ 6 ∷ []) status
+  pub rests : (manner : Manner) (scenario : Scenario) → AsksFor words input manner scenario → IsInLimits manner kinds scenario → calm → (unread → ⊥) → (unwritten → ⊥) → Contains (0 ∷ 6 ∷ []) status

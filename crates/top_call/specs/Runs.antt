@@ -16,7 +16,8 @@ use Rattle.rv_laws.specs.Laws.{AreAgreed, AreValidLogs}
 use Rattle.rv_runs.specs.Laws.{IsExactlyOnce, IsFenced, IsLasting}
 use Rattle.rv_runs.specs.Legal.{IsLegal, results_of}
 use Rattle.rv_runs.specs.Play.{plays}
-use Rattle.rv_runs.specs.Schedule.{Answer, Closes, FollowsInOrder, IsBegun, majority}
+use Rattle.playing.specs.Manners.{Manner, In_order, Apart, Begins, Follows}
+use Rattle.rv_runs.specs.Schedule.{Answer, Closes, majority}
 use Rattle.rv_runs.specs.Schedule as schedule
 use Rattle.rv_runs.specs.States.{Scene}
 use Rattle.closing_laws.specs.Ends.{HasRested}
@@ -62,47 +63,52 @@ pub record StablesTell {W : Type 0} (saving : Saving W) (stables stables_after :
   pub beyond : (c : ℕ) → scene.setup.controllers ≤ c → slice_get stables_after c ≡ slice_get stables c
 
 -- a run of a scenario up to the answer of its closing: a legal journal within the limits, in which the script follows the
--- steps in order, and the entries behind it are those of the closing schedule
-pub record IsRun (kinds : List ℕ) (scenario : Scenario) (results : List (List SaveResult)) (script closing journal : List (JournalEntry (List ℕ))) (answer : Answer) : Type 0 where
+-- steps in this manner, and the entries behind it are those of the closing schedule
+pub record IsRun (manner : Manner) (kinds : List ℕ) (scenario : Scenario) (results : List (List SaveResult)) (script closing journal : List (JournalEntry (List ℕ))) (answer : Answer) : Type 0 where
   pub joined : journal ≡ script ++ closing
   pub legal : IsLegal (scene_for kinds scenario) results journal
   pub within : IsWithinLimits (scene_for kinds scenario).sealing.size (past journal)
-  pub follows : FollowsInOrder (scene_for kinds scenario) results scenario.steps (past script)
+  pub follows : Follows manner (scene_for kinds scenario) results scenario.steps (past script)
   pub closes : Closes (scene_for kinds scenario) results (past script) closing answer
   pub lawful : IsLawful (scene_for kinds scenario) results (past journal)
 
 -- a run that is cut short where an outbox passes the limits of the journal, in the script or in the closing
-pub record IsCutShort (kinds : List ℕ) (scenario : Scenario) (results : List (List SaveResult)) (bytes letters : ℕ) (journal : List (JournalEntry (List ℕ))) : Type 0 where
+pub record IsCutShort (manner : Manner) (kinds : List ℕ) (scenario : Scenario) (results : List (List SaveResult)) (bytes letters : ℕ) (journal : List (JournalEntry (List ℕ))) : Type 0 where
   pub legal : IsLegal (scene_for kinds scenario) results journal
   pub within : IsWithinLimits (scene_for kinds scenario).sealing.size (past journal)
-  pub begun : IsBegun (scene_for kinds scenario) results scenario.steps bytes letters (past journal)
+  pub begun : Begins manner (scene_for kinds scenario) results scenario.steps bytes letters (past journal)
   pub lawful : IsLawful (scene_for kinds scenario) results (past journal)
 
 -- each save was made
 abbrev pub AreSaved : ℕ → List (List SaveResult) → Type 0
 AreSaved group results = (c : ℕ) → c < group → AllByRecursion (λ r. r ≡ Saved) (results_of results c)
 
--- the one journal that a scenario has where each save is made: it can be computed, and each run of the scenario in which every
+-- the one journal that a scenario has where its steps are done in order and each save is made: it can be computed, and each run of the scenario in which every
 -- save is made has this journal and this answer
 pub record IsTheOne (kinds : List ℕ) (scenario : Scenario) (journal : List (JournalEntry (List ℕ))) (answer : Answer) : Type 0 where
   pub most : ℕ
   pub plays_it : plays most (scene_for kinds scenario) [] scenario.steps ≡ record { entries = past journal; answer = Some answer }
   pub only : (results : List (List SaveResult)) (script closing other : List (JournalEntry (List ℕ))) (end : Answer) →
-      IsRun kinds scenario results script closing other end → AllByRecursion (λ saves. AllByRecursion (λ r. r ≡ Saved) saves) results → (other ≡ journal) × (end ≡ answer)
+      IsRun In_order kinds scenario results script closing other end → AllByRecursion (λ saves. AllByRecursion (λ r. r ≡ Saved) saves) results → (other ≡ journal) × (end ≡ answer)
+
+-- a claim on runs whose steps are done in order: threads may come in any order, so these have many journals
+abbrev pub IfInOrder : Manner → Type 0 → Type 0
+IfInOrder In_order claim = claim
+IfInOrder Apart claim = Unit {0}
 
 -- what a call tells of the stable pairs, over a run's results and journal
 abbrev pub Telling : Type 1
 Telling = Scene (List ℕ) → List (List SaveResult) → List (JournalEntry (List ℕ)) → Type 0
 
 -- A run up to this answer, and what its stable pairs tell. Its closing takes no more turns than the bounds say, where each save was made.
-pub record HasRun (kinds : List ℕ) (saves : Telling) (scenario : Scenario) (answer : Answer) : Type 0 where
+pub record HasRun (manner : Manner) (kinds : List ℕ) (saves : Telling) (scenario : Scenario) (answer : Answer) : Type 0 where
   pub results : List (List SaveResult)
   pub script : List (JournalEntry (List ℕ))
   pub closing : List (JournalEntry (List ℕ))
   pub journal : List (JournalEntry (List ℕ))
-  pub run : IsRun kinds scenario results script closing journal answer
+  pub run : IsRun manner kinds scenario results script closing journal answer
   pub saved : saves (scene_for kinds scenario) results journal
-  pub one : AreSaved scenario.setup.controllers results → IsTheOne kinds scenario journal answer
+  pub one : IfInOrder manner (AreSaved scenario.setup.controllers results → IsTheOne kinds scenario journal answer)
   pub quick : AreSaved scenario.setup.controllers results → IsQuick (scene_for kinds scenario) results (past script) closing
   pub sharp : AreSaved scenario.setup.controllers results → IsSharplyBounded (scene_for kinds scenario) results (past script) closing
 
@@ -111,9 +117,9 @@ abbrev pub IsOneRecord : Output → Record → List ℕ → Type 0
 IsOneRecord output told written = IfReport output (IsRecord told × ((other : Record) → IsRecord other → text other ≡ written → other ≡ told))
 
 -- A run to its end and what is told of it. At least f + 1 of the 2 f + 1 controllers take part in the end. Nothing is left undone.
-pub record IsDone (kinds : List ℕ) (saves : Telling) (scenario : Scenario) (output : Output) (written : List ℕ) : Type 0 where
+pub record IsDone (manner : Manner) (kinds : List ℕ) (saves : Telling) (scenario : Scenario) (output : Output) (written : List ℕ) : Type 0 where
   pub primary : ℕ
-  pub ran : HasRun kinds saves scenario (schedule.Done primary)
+  pub ran : HasRun manner kinds saves scenario (schedule.Done primary)
   pub up : majority scenario.setup.controllers ≤ count_up (scene_for kinds scenario) ran.results (past ran.journal)
   pub rested : HasRested (scene_for kinds scenario) ran.results primary (past ran.journal)
   pub told : Record
@@ -122,34 +128,34 @@ pub record IsDone (kinds : List ℕ) (saves : Telling) (scenario : Scenario) (ou
   pub one_record : IsOneRecord output told written
 
 -- a run that ended since too few controllers took part: where each save was made, they did so where its closing began
-pub record IsLeft (kinds : List ℕ) (saves : Telling) (scenario : Scenario) (up needed : ℕ) : Type 0 where
-  pub ran : HasRun kinds saves scenario (schedule.NoQuorum up needed)
+pub record IsLeft (manner : Manner) (kinds : List ℕ) (saves : Telling) (scenario : Scenario) (up needed : ℕ) : Type 0 where
+  pub ran : HasRun manner kinds saves scenario (schedule.NoQuorum up needed)
   pub few : AreSaved scenario.setup.controllers ran.results → count_up (scene_for kinds scenario) ran.results (past ran.script) < majority scenario.setup.controllers
 
 -- a run that ended since a proposal in the closing found no room in the log: the log of a controller that leads is as the limit tells, an
 -- entry more would take it past the limits of a log, and the events that the switches have made don't fit a log
-pub record IsOverfull (kinds : List ℕ) (saves : Telling) (scenario : Scenario) (limit : LogFull) : Type 0 where
-  pub ran : HasRun kinds saves scenario (schedule.Overfull limit)
+pub record IsOverfull (manner : Manner) (kinds : List ℕ) (saves : Telling) (scenario : Scenario) (limit : LogFull) : Type 0 where
+  pub ran : HasRun manner kinds saves scenario (schedule.Overfull limit)
   pub controller : ℕ
   pub entry : Entry
   pub full : IsAtLimit (scene_for kinds scenario) ran.results (past ran.journal) limit controller entry
 
 -- a run that was cut short since an outbox found no room in the journal
-pub record IsUnposted (kinds : List ℕ) (saves : Telling) (scenario : Scenario) (bytes letters : ℕ) : Type 0 where
+pub record IsUnposted (manner : Manner) (kinds : List ℕ) (saves : Telling) (scenario : Scenario) (bytes letters : ℕ) : Type 0 where
   pub results : List (List SaveResult)
   pub journal : List (JournalEntry (List ℕ))
-  pub run : IsCutShort kinds scenario results bytes letters journal
+  pub run : IsCutShort manner kinds scenario results bytes letters journal
   pub saved : saves (scene_for kinds scenario) results journal
 
--- A scenario keeps within the limits, where each save is made: f + 1 of its controllers take part behind its script, its letters are
+-- A scenario keeps within the limits, done in this manner, where each save is made: f + 1 of its controllers take part behind its script, its letters are
 -- within those of a journal, and the events that its switches make fit a log.
-pub record IsInLimits (kinds : List ℕ) (scenario : Scenario) : Type 0 where
+pub record IsInLimits (manner : Manner) (kinds : List ℕ) (scenario : Scenario) : Type 0 where
   pub up : (results : List (List SaveResult)) (script closing journal : List (JournalEntry (List ℕ))) (answer : Answer) →
-      IsRun kinds scenario results script closing journal answer → AreSaved scenario.setup.controllers results → majority scenario.setup.controllers ≤ count_up (scene_for kinds scenario) results (past script)
+      IsRun manner kinds scenario results script closing journal answer → AreSaved scenario.setup.controllers results → majority scenario.setup.controllers ≤ count_up (scene_for kinds scenario) results (past script)
   pub posted : (results : List (List SaveResult)) (bytes letters : ℕ) (journal : List (JournalEntry (List ℕ))) →
-      IsCutShort kinds scenario results bytes letters journal → AreSaved scenario.setup.controllers results → ⊥
+      IsCutShort manner kinds scenario results bytes letters journal → AreSaved scenario.setup.controllers results → ⊥
   pub logged : (results : List (List SaveResult)) (script closing journal : List (JournalEntry (List ℕ))) (answer : Answer) →
-      IsRun kinds scenario results script closing journal answer → AreSaved scenario.setup.controllers results → FitALog (events_made (scene_for kinds scenario) (past journal))
+      IsRun manner kinds scenario results script closing journal answer → AreSaved scenario.setup.controllers results → FitALog (events_made (scene_for kinds scenario) (past journal))
 
 -- no count of the faults of stable pairs rose, nor stands at the greatest number
 abbrev pub AreCalm : {W : Type 0} → Saving W → List W → List W → Type 0

@@ -17,7 +17,7 @@ use vr_log::LogFull;
 pub enum Ending {
     /// The run came to rest. What is told of it.
     Report(Octets),
-    /// The words are not accepted, or ask for what is not served yet.
+    /// The words are not accepted.
     Usage,
     /// The bytes are no scenario, or more than a report has.
     Refused(Fault),

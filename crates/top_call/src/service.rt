@@ -1,4 +1,4 @@
-//! What is served yet.
+//! What serves a call.
 ghost use Rattle.std.specs.Prelude.{◌≡◌};
 ghost use Rattle.top_call.specs.Service.{service_of, limit_of};
 
@@ -11,11 +11,13 @@ use words::Job;
 pub enum Reader {
     /// To play a scenario turn by turn, and to report the run.
     Sim,
+    /// To play a scenario with a thread for each actor, and to report the run.
+    Run,
     /// To audit a report.
     Audit,
 }
 
-/// What a job asks for, of what is served yet.
+/// What a job asks for.
 #[derive(Clone, Copy)]
 pub enum Service {
     /// To read, and to serve what was read.
@@ -31,24 +33,24 @@ pub enum Service {
 
 impl Service {
     /// What serves a job.
-    pub fn of(job: Job) -> Option<Service>
+    pub fn of(job: Job) -> Service
         ensures { result ≡ service_of job }
     {
         match job {
-            Job::Sim => Some(Service::Reads(Reader::Sim)),
-            Job::Audit => Some(Service::Reads(Reader::Audit)),
+            Job::Sim => Service::Reads(Reader::Sim),
+            Job::Run => Service::Reads(Reader::Run),
+            Job::Audit => Service::Reads(Reader::Audit),
             Job::Gen {
                 number,
                 controllers,
                 switches,
                 frames,
-            } => Some(Service::Gen {
+            } => Service::Gen {
                 number,
                 controllers,
                 switches,
                 frames,
-            }),
-            Job::Run => None,
+            },
         }
     }
 }
@@ -59,7 +61,7 @@ impl Reader {
         ensures { result ≡ limit_of self }
     {
         match self {
-            Reader::Sim => SCENARIO_LIMIT,
+            Reader::Sim | Reader::Run => SCENARIO_LIMIT,
             Reader::Audit => REPORT_LIMIT,
         }
     }

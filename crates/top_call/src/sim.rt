@@ -1,8 +1,10 @@
 //! Playing a scenario from its first step to its report.
 ghost use Rattle.std.specs.Prelude.{◌≡◌, ◌<◌, ◌≤◌, ℕ, List, length, IfOk};
 ghost use Rattle.rv_world.specs.World.{AreStocked};
+ghost use Rattle.playing.specs.Manners.{In_order, Apart};
 ghost use Rattle.rv_record.specs.Shows.{told_by};
 ghost use Rattle.scenario.specs.Scenario.{IsScenario};
+ghost use Rattle.top_call.specs.declared.sim.Output.TheVariants as told_as;
 ghost use Rattle.top_call.specs.Ending.{EndsRun};
 ghost use Rattle.report.specs.Fits.{FitsRecord};
 ghost use Rattle.top_call.specs.Play.{AreFresh, IfDone, IfReport, StopsAs, ending_by, told_text};
@@ -12,14 +14,16 @@ use crate::ending::Ending;
 use app_core::App;
 use closing::Closed;
 use of_types::Octets;
-use playing::play;
+use playing::{play, play_apart};
 use report::{last_line, record_fits, text};
 use rv_actors::Bytes;
-use rv_base::{Stable, Stop};
+use rv_base::{Gate, Stable, Stop};
 use rv_record::{record_of, sums_of};
 use rv_world::World;
 use scenario::Scenario;
 use std::alloc::{AllocError, Global};
+use std::sync::Wait;
+use std::thread::Threads;
 
 /// What is told of a run that came to rest: its report, or the report's last line alone.
 #[derive(Clone, Copy)]
@@ -92,7 +96,7 @@ fn stopped(stop: Stop) -> Result<Ending, AllocError>
     }
 }
 
-/// Plays a scenario with the applications of the lives of each controller.
+/// Plays a scenario turn by turn, with the applications of the lives of each controller.
 pub fn simulate<A: App, W: Stable>(
     alloc: Global,
     scenario: &Scenario,
@@ -105,7 +109,7 @@ pub fn simulate<A: App, W: Stable>(
     requires stocked { (kinds : List ℕ) × AreStocked A.law kinds shelves.items }
     requires fresh { AreFresh W.saving stables.old }
     ensures { (kinds : List ℕ) → AreStocked A.law kinds shelves.items →
-        IfOk result (EndsRun kinds (StablesTell W.saving stables.old stables.new) output scenario.now) }
+        IfOk result (EndsRun In_order kinds (StablesTell W.saving stables.old stables.new) output scenario.now) }
 {
     let mut world = World::<Bytes, A>::new(alloc, &scenario.setup, shelves)?;
     let ended = play(alloc, &mut world, stables, scenario.steps.as_slice());
@@ -113,5 +117,43 @@ pub fn simulate<A: App, W: Stable>(
     match ended {
         Ok((closed, script)) => rested(alloc, world, output, closed, scenario.steps.len(), script),
         Err(stop) => stopped(stop),
+    }
+}
+
+/// The same with each actor in a thread of its own. What is told is the report.
+pub fn simulate_apart<
+    A: App + Send,
+    W: Stable + Drop + Send,
+    G: Gate + Sync,
+    R: Threads + Wait + Sync,
+>(
+    rt: &R,
+    alloc: Global,
+    gate: &G,
+    scenario: &Scenario,
+    stables: &mut Vec<W>,
+    shelves: Vec<Vec<A>>,
+) -> Result<Ending, AllocError>
+    requires is { IsScenario scenario.now }
+    requires each { length shelves.items ≡ scenario.now.setup.controllers }
+    requires stocked { (kinds : List ℕ) × AreStocked A.law kinds shelves.items }
+    requires fresh { AreFresh W.saving stables.old.items }
+    ensures { (kinds : List ℕ) → AreStocked A.law kinds shelves.items →
+        IfOk result (EndsRun Apart kinds (StablesTell W.saving stables.old.items stables.new.items) told_as.Report scenario.now) }
+{
+    let world = World::<Bytes, A>::new(alloc, &scenario.setup, shelves)?;
+    match play_apart(rt, alloc, gate, world, stables, scenario.steps.as_slice()) {
+        Ok(rest) => {
+            let steps = scenario.steps.len();
+            rested(
+                alloc,
+                rest.world,
+                Output::Report,
+                rest.closed,
+                steps,
+                rest.script,
+            )
+        }
+        Err(halt) => stopped(halt.stop),
     }
 }

@@ -8,7 +8,7 @@ use Rattle.ravana_run.proofs.serve.Hidden.{sends-own-1}
 use Rattle.ravana_run.proofs.serve.Given as goal
 
 abbrev pub invariant-making : goal.invariant-making
-invariant-making l =
+invariant-making g l =
     let boxes = ghosts (own-1, lawful-own-1, sends-own-1) in
     record {
       count : length l.chains.items ≡ l.number;

@@ -7,7 +7,7 @@ use Rattle.top_call.specs.Runs.{StablesTell}
 use Rattle.top_call.proofs.top.ravana.Goals as goal
 
 pub returns-in_default-clause-answer : goal.returns-in_default-clause-answer
-returns-in_default-clause-answer g c = λ kinds chains. nothing kinds (StablesTell g.W.Stable.saving c.args.stables.now c.outcome.new.stables) _ _ _ _ _ _
+returns-in_default-clause-answer g c = λ kinds chains. nothing kinds (StablesTell g.W.Stable.saving c.args.stables.now.items c.outcome.new.stables.items) _ _ _ _ _ _
 
 pub returns-in_default-clause-audit : goal.returns-in_default-clause-audit
 returns-in_default-clause-audit g c = λ _. (4, omega arith, refl)
@@ -15,14 +15,14 @@ returns-in_default-clause-audit g c = λ _. (4, omega arith, refl)
 pub returns-in_default-clause-complete : goal.returns-in_default-clause-complete
 returns-in_default-clause-complete g c =
     λ kinds chains.
-    let saves = StablesTell g.W.Stable.saving c.args.stables.now c.outcome.new.stables in
-    complete kinds saves _ _ _ _ (calm_saves g.W.Stable.saving c.args.stables.now c.outcome.new.stables) _ _ _ _ _ (nothing kinds saves _ _ _ _ _ _)
+    let saves = StablesTell g.W.Stable.saving c.args.stables.now.items c.outcome.new.stables.items in
+    complete kinds saves _ _ _ _ (calm_saves g.W.Stable.saving c.args.stables.now.items c.outcome.new.stables.items) _ _ _ _ _ (nothing kinds saves _ _ _ _ _ _)
 
 pub returns-in_default-clause-range : goal.returns-in_default-clause-range
 returns-in_default-clause-range g c = (5, omega arith, refl)
 
 pub returns-in_default-into_text-clause-answer : goal.returns-in_default-into_text-clause-answer
-returns-in_default-into_text-clause-answer g c = λ kinds chains. nothing kinds (StablesTell g.W.Stable.saving c.args.stables.now c.outcome.new.stables) _ _ _ _ _ _
+returns-in_default-into_text-clause-answer g c = λ kinds chains. nothing kinds (StablesTell g.W.Stable.saving c.args.stables.now.items c.outcome.new.stables.items) _ _ _ _ _ _
 
 pub returns-in_default-into_text-clause-audit : goal.returns-in_default-into_text-clause-audit
 returns-in_default-into_text-clause-audit g c = λ _. (4, omega arith, refl)
@@ -30,22 +30,22 @@ returns-in_default-into_text-clause-audit g c = λ _. (4, omega arith, refl)
 pub returns-in_default-into_text-clause-complete : goal.returns-in_default-into_text-clause-complete
 returns-in_default-into_text-clause-complete g c =
     λ kinds chains.
-    let saves = StablesTell g.W.Stable.saving c.args.stables.now c.outcome.new.stables in
-    complete kinds saves _ _ _ _ (calm_saves g.W.Stable.saving c.args.stables.now c.outcome.new.stables) _ _ _ _ _ (nothing kinds saves _ _ _ _ _ _)
+    let saves = StablesTell g.W.Stable.saving c.args.stables.now.items c.outcome.new.stables.items in
+    complete kinds saves _ _ _ _ (calm_saves g.W.Stable.saving c.args.stables.now.items c.outcome.new.stables.items) _ _ _ _ _ (nothing kinds saves _ _ _ _ _ _)
 
 pub returns-in_default-into_text-clause-range : goal.returns-in_default-into_text-clause-range
 returns-in_default-into_text-clause-range g c = (5, omega arith, refl)
 
 pub returns-in-Ok-write_all-clause-answer : goal.returns-in-Ok-write_all-clause-answer
 returns-in-Ok-write_all-clause-answer g c =
-    let saves = StablesTell g.W.Stable.saving c.args.stables.now c.outcome.new.stables in
+    let saves = StablesTell g.W.Stable.saving c.args.stables.now.items c.outcome.new.stables.items in
     λ kinds chains. rw c.status-status.ensures (served kinds saves _ _ _ _ _ _ _ c.in-Ok.ending _ (c.in-Ok.ensures.cause kinds chains) (c.as_slice.ensures ∙ c.in-Ok-into_text.ensures.ok) c.in-Ok-write_all.ensures.ok)
 
 pub returns-in-Ok-write_all-clause-complete : goal.returns-in-Ok-write_all-clause-complete
 returns-in-Ok-write_all-clause-complete g c =
     λ kinds chains.
-    let saves = StablesTell g.W.Stable.saving c.args.stables.now c.outcome.new.stables in
-    rw c.status-status.ensures (complete kinds saves _ _ _ _ (calm_saves g.W.Stable.saving c.args.stables.now c.outcome.new.stables) _ _ _ _ _ (served kinds saves _ _ _ _ _ _ _ c.in-Ok.ending _ (c.in-Ok.ensures.cause kinds chains) (c.as_slice.ensures ∙ c.in-Ok-into_text.ensures.ok) c.in-Ok-write_all.ensures.ok))
+    let saves = StablesTell g.W.Stable.saving c.args.stables.now.items c.outcome.new.stables.items in
+    rw c.status-status.ensures (complete kinds saves _ _ _ _ (calm_saves g.W.Stable.saving c.args.stables.now.items c.outcome.new.stables.items) _ _ _ _ _ (served kinds saves _ _ _ _ _ _ _ c.in-Ok.ending _ (c.in-Ok.ensures.cause kinds chains) (c.as_slice.ensures ∙ c.in-Ok-into_text.ensures.ok) c.in-Ok-write_all.ensures.ok))
 
 pub returns-in-Ok-write_all-clause-audit : goal.returns-in-Ok-write_all-clause-audit
 returns-in-Ok-write_all-clause-audit g c = λ is. rw c.status-status.ensures (c.in-Ok.ensures.told.audit is)
@@ -64,14 +64,14 @@ returns-in-Ok-write_all-clause-range g c = rw c.status-status.ensures (in_range 
 
 pub returns-clause-answer : goal.returns-clause-answer
 returns-clause-answer g c =
-    let saves = StablesTell g.W.Stable.saving c.args.stables.now c.outcome.new.stables in
+    let saves = StablesTell g.W.Stable.saving c.args.stables.now.items c.outcome.new.stables.items in
     λ kinds chains. cut kinds saves _ _ _ _ _ _ _ c.in-Ok.ending _ (c.in-Ok.ensures.cause kinds chains) (c.as_slice.ensures ∙ c.in-Ok-into_text.ensures.ok) c.in-Err.ensures.cause.failed c.in-Err.ensures.err
 
 pub returns-clause-complete : goal.returns-clause-complete
 returns-clause-complete g c =
     λ kinds chains.
-    let saves = StablesTell g.W.Stable.saving c.args.stables.now c.outcome.new.stables in
-    complete kinds saves _ _ _ _ (calm_saves g.W.Stable.saving c.args.stables.now c.outcome.new.stables) _ _ _ _ _ (cut kinds saves _ _ _ _ _ _ _ c.in-Ok.ending _ (c.in-Ok.ensures.cause kinds chains) (c.as_slice.ensures ∙ c.in-Ok-into_text.ensures.ok) c.in-Err.ensures.cause.failed c.in-Err.ensures.err)
+    let saves = StablesTell g.W.Stable.saving c.args.stables.now.items c.outcome.new.stables.items in
+    complete kinds saves _ _ _ _ (calm_saves g.W.Stable.saving c.args.stables.now.items c.outcome.new.stables.items) _ _ _ _ _ (cut kinds saves _ _ _ _ _ _ _ c.in-Ok.ending _ (c.in-Ok.ensures.cause kinds chains) (c.as_slice.ensures ∙ c.in-Ok-into_text.ensures.ok) c.in-Err.ensures.cause.failed c.in-Err.ensures.err)
 
 pub returns-clause-audit : goal.returns-clause-audit
 returns-clause-audit g c = λ _. (3, omega arith, refl)
@@ -92,7 +92,7 @@ pub returns-in_default-clause-lines : goal.returns-in_default-clause-lines
 returns-in_default-clause-lines g c = line_nothing _
 
 pub returns-in_default-clause-numbers : goal.returns-in_default-clause-numbers
-returns-in_default-clause-numbers g c = λ kinds chains. numbers_nothing kinds (StablesTell g.W.Stable.saving c.args.stables.now c.outcome.new.stables) _ _ _ _
+returns-in_default-clause-numbers g c = λ kinds chains. numbers_nothing kinds (StablesTell g.W.Stable.saving c.args.stables.now.items c.outcome.new.stables.items) _ _ _ _
 
 pub returns-in_default-into_text-clause-made : goal.returns-in_default-into_text-clause-made
 returns-in_default-into_text-clause-made g c = λ _. (2, omega arith, refl)
@@ -104,7 +104,7 @@ pub returns-in_default-into_text-clause-lines : goal.returns-in_default-into_tex
 returns-in_default-into_text-clause-lines g c = line_nothing _
 
 pub returns-in_default-into_text-clause-numbers : goal.returns-in_default-into_text-clause-numbers
-returns-in_default-into_text-clause-numbers g c = λ kinds chains. numbers_nothing kinds (StablesTell g.W.Stable.saving c.args.stables.now c.outcome.new.stables) _ _ _ _
+returns-in_default-into_text-clause-numbers g c = λ kinds chains. numbers_nothing kinds (StablesTell g.W.Stable.saving c.args.stables.now.items c.outcome.new.stables.items) _ _ _ _
 
 pub returns-in-Ok-write_all-clause-made : goal.returns-in-Ok-write_all-clause-made
 returns-in-Ok-write_all-clause-made g c = λ is. rw c.status-status.ensures (c.in-Ok.ensures.told.made is)
@@ -117,7 +117,7 @@ returns-in-Ok-write_all-clause-lines g c = rw c.status-status.ensures (line_serv
 
 pub returns-in-Ok-write_all-clause-numbers : goal.returns-in-Ok-write_all-clause-numbers
 returns-in-Ok-write_all-clause-numbers g c = λ kinds chains.
-    rw c.status-status.ensures (numbers_served kinds (StablesTell g.W.Stable.saving c.args.stables.now c.outcome.new.stables) _ _ _ _ _ c.in-Ok.ending _ (c.in-Ok.ensures.numbers kinds chains) (c.as_slice.ensures ∙ c.in-Ok-into_text.ensures.ok) c.in-Ok-write_all.ensures.ok)
+    rw c.status-status.ensures (numbers_served kinds (StablesTell g.W.Stable.saving c.args.stables.now.items c.outcome.new.stables.items) _ _ _ _ _ c.in-Ok.ending _ (c.in-Ok.ensures.numbers kinds chains) (c.as_slice.ensures ∙ c.in-Ok-into_text.ensures.ok) c.in-Ok-write_all.ensures.ok)
 
 pub returns-clause-made : goal.returns-clause-made
 returns-clause-made g c = λ _. (1, omega arith, refl)
@@ -130,4 +130,4 @@ returns-clause-lines g c = line_cut _ _ _ c.in-Err.ensures.err
 
 pub returns-clause-numbers : goal.returns-clause-numbers
 returns-clause-numbers g c = λ kinds chains.
-    numbers_cut kinds (StablesTell g.W.Stable.saving c.args.stables.now c.outcome.new.stables) _ _ _ _ _ c.in-Ok.ending _ (c.in-Ok.ensures.numbers kinds chains) (c.as_slice.ensures ∙ c.in-Ok-into_text.ensures.ok) c.in-Err.ensures.cause.failed c.in-Err.ensures.err
+    numbers_cut kinds (StablesTell g.W.Stable.saving c.args.stables.now.items c.outcome.new.stables.items) _ _ _ _ _ c.in-Ok.ending _ (c.in-Ok.ensures.numbers kinds chains) (c.as_slice.ensures ∙ c.in-Ok-into_text.ensures.ok) c.in-Err.ensures.cause.failed c.in-Err.ensures.err

@@ -1,6 +1,6 @@
 use Rattle.closing.specs.Views.{most_view_of_a_script}
 use Rattle.playing.proofs.Following.{Stands}
-use Rattle.playing.proofs.do_steps.Given as goal
+use Rattle.playing.proofs.script.do_steps.Given as goal
 
 abbrev pub invariant-loop-step : goal.invariant-loop-step
 invariant-loop-step g l =

@@ -3,12 +3,12 @@ use Rattle.app_core.specs.contracts.part.BoxDynPartSendPart.TheImpl.{ghosts}
 use Rattle.app_core.specs.Law.{chain_law}
 use Rattle.top_call.specs.Play.{program_kinds}
 use Rattle.group_controller.specs.Turns.{AreAlike}
-use Rattle.run_cases.proofs.serving.serve.OwnLists.{own-1, lawful-own-1}
-use Rattle.run_cases.proofs.serving.serve.Hidden.{sends-own-1}
-use Rattle.run_cases.proofs.serving.serve.Given as goal
+use Rattle.run_cases.proofs.serving.serve_by.OwnLists.{own-1, lawful-own-1}
+use Rattle.run_cases.proofs.serving.serve_by.Hidden.{sends-own-1}
+use Rattle.run_cases.proofs.serving.serve_by.Given as goal
 
 abbrev pub invariant-making : goal.invariant-making
-invariant-making l =
+invariant-making g l =
     let boxes = ghosts (own-1, lawful-own-1, sends-own-1) in
     record {
       count : length l.chains.items ≡ l.number;

@@ -1,8 +1,9 @@
 use Rattle.std.proofs.Common.{length, ap}
 use Rattle.std.proofs.lemmas.Result.{err_from_is_err_and}
 use Rattle.rv_world.proofs.Turning.{keeps_then}
+use Rattle.playing.specs.Manners.{In_order}
 use Rattle.playing.proofs.Ending.{closing_keeps, closing_stops_at, played}
-use Rattle.playing.proofs.play.Goals as goal
+use Rattle.playing.proofs.script.play.Goals as goal
 
 pub returns-in_err-do_steps-clause-stops : goal.returns-in_err-do_steps-clause-stops
 returns-in_err-do_steps-clause-stops g c = let p = err_from_is_err_and c.from_residual.result c.from_residual.ensures.1 in rw (p.1, p.2) c.in_err-do_steps.ensures.stops
@@ -29,6 +30,6 @@ returns-clause-keeps g c = keeps_then g.A.App.law g.W.Stable.saving g.B.Body.sea
 
 pub returns-clause-played : goal.returns-clause-played
 returns-clause-played g c = λ kinds holds. played g.A.App.law g.W.Stable.saving g.B.Body.sealing c.args.steps.now c.args.world.now c.args.stables.now c.do_steps.new.world c.do_steps.new.stables c.run.new.world c.run.new.stables
-    c.in_ok-do_steps.ensures.keeps kinds holds (c.in_ok-do_steps.ensures.follows kinds holds) c.in_ok-closed.ensures.keeps
+    c.in_ok-do_steps.ensures.keeps In_order kinds holds (c.in_ok-do_steps.ensures.follows kinds holds) c.in_ok-closed.ensures.keeps
     (length c.journal-script.result.now) (ap (λ l. length l) c.journal-script.ensures) c.in_ok-closed.closed
     (c.in_ok-closed.ensures.closes kinds (c.in_ok-do_steps.ensures.keeps.holds kinds holds))

@@ -7,7 +7,7 @@ use Rattle.closing.specs.Views.{most_view_of_a_script}
 use Rattle.playing.specs.Played.{StepSuspectsUpTo}
 use Rattle.playing.proofs.Following.{keeps_stop, kept_or, stands_last, stands_next, stops_next}
 use Rattle.playing.proofs.Stopping.{all_found}
-use Rattle.playing.proofs.do_steps.Goals as goal
+use Rattle.playing.proofs.script.do_steps.Goals as goal
 
 pub apply-requires-clause-holds : goal.apply-requires-clause-holds
 apply-requires-clause-holds g c = (c.requires.holds.0, c.loop-step.invariant.keeps.holds c.requires.holds.0 c.requires.holds.1)

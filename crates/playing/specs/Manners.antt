@@ -1,0 +1,22 @@
+-- How a script is done: its steps in order, or by each actor for itself, in a thread of its own.
+use Rattle.std.specs.Prelude.{ℕ, List}
+use Rattle.rv_base.specs.declared.journal.JournalEntry.{JournalEntry}
+use Rattle.rv_base.specs.declared.journal.SaveResult.{SaveResult}
+use Rattle.rv_base.specs.declared.journal.Turn.{Turn}
+use Rattle.rv_runs.specs.Schedule.{FollowsInOrder, IsBegun}
+use Rattle.rv_runs.specs.States.{Scene}
+use Rattle.running.specs.Apart.{FollowsApart, IsBegunApart}
+
+pub data Manner : Type 0 where
+  In_order : Manner
+  Apart : Manner
+
+-- the script's part of a journal, done in this manner
+abbrev pub Follows : {B : Type 0} → Manner → Scene B → List (List SaveResult) → List Turn → List (JournalEntry B) → Type 0
+Follows In_order = FollowsInOrder
+Follows Apart = FollowsApart
+
+-- a run that is cut short where an outbox met the limits of the journal
+abbrev pub Begins : {B : Type 0} → Manner → Scene B → List (List SaveResult) → List Turn → ℕ → ℕ → List (JournalEntry B) → Type 0
+Begins In_order = IsBegun
+Begins Apart = IsBegunApart

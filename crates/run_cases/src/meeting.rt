@@ -15,7 +15,7 @@ use std::thread::Threads;
 use top_call::CONTROLLERS;
 
 /// How often one looks for the other's flag.
-const LOOKS: u64 = 50_000_000;
+const LOOKS: u64 = 1_000_000_000;
 
 /// What a meeting lacks that wasn't held.
 const MISSED: Difference = Difference::Row("two controllers that are there at the same time");

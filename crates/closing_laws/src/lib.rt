@@ -52,14 +52,16 @@ pub fn alone_starts()
 /// A vote is counted, while a member lacks votes. With the last one a member tells the primary its log, and the primary
 /// keeps its own.
 pub fn votes_are_counted()
-    ensures { (n w from j : ℕ) (s : VrState) (voters : List ℕ) → IsReadyMember n w j s → from < n → (from ≡ j → ⊥) → has voters from ≡ false → length voters < n / 2 →
+    ensures { (n w from j : ℕ) (s : VrState) (voters : List ℕ) → IsReadyMember n w j s → from < n → (from ≡ j → ⊥) →
+        has voters from ≡ false → length voters < n / 2 →
         vr_step (voting (n / 2) w (w % n) s voters) (vr_input.From from (message.StartViewChange w)) ≡
         sends (voting (n / 2) w (w % n) s (with_number from voters)) (vote_letters (n / 2) w (w % n) s voters) }
 {}
 
 /// A log of another member is collected by the primary, and nothing is said while logs are lacking.
 pub fn logs_are_collected()
-    ensures { (n w : ℕ) (s : VrState) (voters : List ℕ) (logs : List Collected) (c : Collected) → IsReadyMember n w (w % n) s → c.from < n → (c.from ≡ w % n → ⊥) →
+    ensures { (n w : ℕ) (s : VrState) (voters : List ℕ) (logs : List Collected) (c : Collected) → IsReadyMember n w (w % n) s →
+        c.from < n → (c.from ≡ w % n → ⊥) →
         has_collected (gathering s w voters logs None) c.from ≡ false → suc (length logs) < n / 2 →
         vr_step (gathering s w voters logs None) (vr_input.From c.from (message.DoViewChange w c.normal c.commit c.log)) ≡ quiet (gathering s w voters (logs ++ c ∷ []) None) }
 {}
@@ -67,16 +69,21 @@ pub fn logs_are_collected()
 /// With the last log the view starts from the best of them, where that begins no later than what the primary knows as
 /// committed, and leaves all of this in place.
 pub fn last_log_starts()
-    ensures { (n w : ℕ) (s : VrState) (voters : List ℕ) (logs : List Collected) (c : Collected) → IsReadyMember n w (w % n) s → c.from < n → (c.from ≡ w % n → ⊥) →
-        has_collected (gathering s w voters logs None) c.from ≡ false → suc (length logs) ≡ n / 2 → (best : Collected) → best_of (own_log s) (logs ++ c ∷ []) ≡ best →
-        best.commit ≤ s.commit → (log : List Entry) → take best.commit s.log ++ best.log ≡ log → is_sound s (started_with s w voters (logs ++ c ∷ []) log) ≡ true →
+    ensures { (n w : ℕ) (s : VrState) (voters : List ℕ) (logs : List Collected) (c : Collected) → IsReadyMember n w (w % n) s →
+        c.from < n → (c.from ≡ w % n → ⊥) →
+        has_collected (gathering s w voters logs None) c.from ≡ false → suc (length logs) ≡ n / 2 → (best : Collected) →
+        best_of (own_log s) (logs ++ c ∷ []) ≡ best →
+        best.commit ≤ s.commit → (log : List Entry) → take best.commit s.log ++ best.log ≡ log →
+        is_sound s (started_with s w voters (logs ++ c ∷ []) log) ≡ true →
         vr_step (gathering s w voters logs None) (vr_input.From c.from (message.DoViewChange w c.normal c.commit c.log)) ≡ tells_start (started_with s w voters (logs ++ c ∷ []) log) }
 {}
 
 /// Where it begins later, what the primary lacks is fetched from the member of that log.
 pub fn last_log_is_fetched()
-    ensures { (n w : ℕ) (s : VrState) (voters : List ℕ) (logs : List Collected) (c : Collected) → IsReadyMember n w (w % n) s → c.from < n → (c.from ≡ w % n → ⊥) →
-        has_collected (gathering s w voters logs None) c.from ≡ false → suc (length logs) ≡ n / 2 → (best : Collected) → best_of (own_log s) (logs ++ c ∷ []) ≡ best →
+    ensures { (n w : ℕ) (s : VrState) (voters : List ℕ) (logs : List Collected) (c : Collected) → IsReadyMember n w (w % n) s →
+        c.from < n → (c.from ≡ w % n → ⊥) →
+        has_collected (gathering s w voters logs None) c.from ≡ false → suc (length logs) ≡ n / 2 → (best : Collected) →
+        best_of (own_log s) (logs ++ c ∷ []) ≡ best →
         s.commit < best.commit →
         vr_step (gathering s w voters logs None) (vr_input.From c.from (message.DoViewChange w c.normal c.commit c.log)) ≡
         sends (gathering s w voters (logs ++ c ∷ []) None) (letter (message.Fetch w s.commit) best.from ∷ []) }
@@ -91,7 +98,8 @@ pub fn one_log_is_best()
 /// came are the whole log, nothing is asked for, and what goes beyond the commit number is acknowledged.
 pub fn log_is_adopted()
     ensures { (n w j : ℕ) (s : VrState) (voters : List ℕ) (sent : Bool) (logs : List Collected) (supply : Option Supplied) (log : List Entry) (base commit : ℕ) →
-        IsReadyMember n w j s → (w % n ≡ j → ⊥) → base ≤ s.commit → s.commit ≤ commit → commit ≤ length log → is_log log ≡ true → take s.commit s.log ≡ take s.commit log →
+        IsReadyMember n w j s → (w % n ≡ j → ⊥) → base ≤ s.commit → s.commit ≤ commit → commit ≤ length log → is_log log ≡ true →
+        take s.commit s.log ≡ take s.commit log →
         vr_step (in_view s w voters sent logs supply) (vr_input.From (w % n) (message.StartView w base commit (drop base log))) ≡
         sends (in_started (in_view s w voters sent logs supply) w log commit)
         (if nat_lt commit (length log) then letter (message.PrepareOk w (length log)) (w % n) ∷ [] else []) }
@@ -101,7 +109,8 @@ pub fn log_is_adopted()
 /// waits is drained, the packet of the lowest number first. The view starts, from the best log of the quorum, in exactly
 /// f * f + 3 * f + 1 turns, and two more where its primary has to fetch.
 pub fn view_starts()
-    ensures { (n w : ℕ) (quorum : List ℕ) (start : ℕ → VrState) → IsQuorum n w quorum → ((j : ℕ) → has quorum j ≡ true → IsReadyMember n w j (start j)) → 0 < n / 2 →
+    ensures { (n w : ℕ) (quorum : List ℕ) (start : ℕ → VrState) → IsQuorum n w quorum → ((j : ℕ) → has quorum j ≡ true →
+        IsReadyMember n w j (start j)) → 0 < n / 2 →
         (best : ℕ) → HasBest quorum start best → IsCovered quorum start best →
         (packets : ℕ) × HasStarted n w quorum start best (drains packets quorum (all_suspected (resting start) w quorum)) }
 {}

@@ -22,15 +22,15 @@ use Rattle.rv_runs.specs.States.{Scene, Sealing, controller_at, controller_messa
 use Rattle.rv_runs.specs.Legal.{IsLegalPast, results_of}
 use Rattle.rv_runs.specs.Schedule.{owed_of}
 use Rattle.rv_world.specs.World.{IsMember, IsOwed, IsPlayed, resting, results_in}
-use Rattle.rv_world.proofs.Keeping.{none_said}
+use Rattle.rv_world.specs.Standing.{AllStand, ControllerStands, SwitchStands}
+use Rattle.rv_world.proofs.Joining as joining
+use Rattle.rv_world.proofs.Standing.{none_said}
 use Rattle.running.specs.declared.job.Job.{Job}
 use Rattle.running.specs.declared.seated.Served.{Served}
 use Rattle.running.specs.Apart.{steps_of, BeginsAlone, BeginsApart, FollowsApart, IsCutFor}
 use Rattle.running.specs.Jobs.{IsSeatedIn, owed_at}
 use Rattle.running.specs.Playing.{ServedPlays, SwitchPlays, scene_of}
-use Rattle.running.specs.Standing.{AllStand, ControllerStands, SwitchStands}
 use Rattle.running.proofs.Following.{Taken, still}
-use Rattle.running.proofs.Joining as joining
 use Rattle.running.proofs.Lists.{got_map, map_long}
 use Rattle.app_core.specs.Law.{AppLaw}
 use Rattle.rv_base.specs.Stables.{Saving}

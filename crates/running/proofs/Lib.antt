@@ -1,6 +1,6 @@
 pub mod Lists
-pub mod Joining
 pub mod Following
+pub mod Hearing
 pub mod Switching
 pub mod Controlling
 pub mod Going

@@ -9,9 +9,9 @@ use Rattle.rv_base.specs.declared.journal.Packet.{Packet}
 use Rattle.group_controller.specs.declared.messages.ControllerInput.{ControllerInput}
 use Rattle.group_controller.specs.declared.messages.ControllerInput.TheVariants as controller_input
 use Rattle.group_controller.specs.declared.messages.ControllerSays.{ControllerSays}
-use Rattle.group_controller.specs.Turns.{Controlling, ForEachKinds, Turns, state_of, pair_in}
 use Rattle.rv_runs.specs.States.{Sealing, controller_hears, controller_message}
-use Rattle.rv_world.specs.World.{IsOwed, SavesTold}
+use Rattle.rv_players.specs.Turns.{ControllerTurned}
+use Rattle.rv_world.specs.World.{IsOwed}
 use Rattle.rv_world.proofs.Stables.{saves_told, told_then}
 use Rattle.running.specs.declared.seated.Served.{Served}
 use Rattle.running.specs.Hearing.{Hears}
@@ -19,7 +19,6 @@ use Rattle.running.specs.Playing.{ServedPlays, scene_of}
 use Rattle.running.proofs.Controlling.{controller_takes}
 use Rattle.app_core.specs.Law.{AppLaw}
 use Rattle.rv_base.specs.Stables.{Saving}
-use Rattle.group_controller.specs.Turns.{Controls}
 
 pub if_ok : {T E : Type 0} (r : Result T E) (P Q : T → Type 0) → ((x : T) → P x → Q x) → IfOk r P → IfOk r Q
 if_ok (Ok x) P Q made h = made x h
@@ -39,26 +38,17 @@ on_both (Ok x) P Q R h k made = made h k
 on_both (Err e) P Q R h k made = tt
 
 module _ {B A W : Type 0} (law : AppLaw A) (saving : Saving W) (sealing : Sealing B) where
-  -- what its saves tell
-  told_now : (input : ControllerInput) (old new : Controlling A) (stable stable_after : W) (letters : List (Letter ControllerSays)) (kinds : List ℕ) → Controls law old kinds →
-      ForEachKinds (Controls law old) (λ k. Turns k old input letters new (saving.pair stable) (saving.pair stable_after) (saving.faults stable) (saving.faults stable_after)) → ForEachKinds (Controls law old) (λ k. Controls law new k) →
-      saving.pair stable_after ≡ pair_in (state_of new) → (new.setup ≡ old.setup) × (new.me ≡ old.me) → SavesTold (saving.faults stable) (saving.faults stable_after) old.results new.results
-  told_now input old new stable stable_after letters kinds keeps turn kept pair_is who =
-      saves_told law saving input (old ∷ []) (new ∷ []) (stable ∷ []) (stable_after ∷ []) 0 letters
-      (record { old = old; new = new; stable = stable; stable_after = stable_after; stood = refl; stable_stood = refl; state = refl; stables_are = refl; setup = who.0; me = who.1; turn = turn; kept = kept; stands = pair_is }) kinds keeps
-
   pub served_takes : (setup : Setup) (kinds : List ℕ) (a : Actor) (start : Served A W) (own : List (JournalEntry B × Option (Packet B))) (e : JournalEntry B) (found : Option (Packet B)) (input : ControllerInput)
       (old new : Served A W) (letters : List (Letter ControllerSays)) (sealed : List (Letter B)) →
       Hears sealing controller_hears (λ l. controller_input.Local l) e found (Some input) → ServedPlays law saving sealing setup kinds a start own old [] →
-      ForEachKinds (Controls law old.controller) (λ k. Turns k old.controller input letters new.controller (saving.pair old.stable) (saving.pair new.stable) (saving.faults old.stable) (saving.faults new.stable)) →
-      ForEachKinds (Controls law old.controller) (λ k. Controls law new.controller k) → saving.pair new.stable ≡ pair_in (state_of new.controller) → (new.controller.setup ≡ old.controller.setup) × (new.controller.me ≡ old.controller.me) →
-      IsOwed controller_message sealing letters sealed → ServedPlays law saving sealing setup kinds a start ((e, found) ∷ own) new sealed
-  served_takes setup kinds a start own e found input old new letters sealed hears h turn kept pair_is who owes = record {
+      ControllerTurned law saving old.controller old.stable input new.controller new.stable letters → IsOwed controller_message sealing letters sealed →
+      ServedPlays law saving sealing setup kinds a start ((e, found) ∷ own) new sealed
+  served_takes setup kinds a start own e found input old new letters sealed hears h t owes = record {
     number = h.number;
     is = h.is;
-    pair_is = pair_is;
+    pair_is = t.stands;
     told = told_then (saving.faults start.stable) (saving.faults old.stable) (saving.faults new.stable) start.controller.results old.controller.results new.controller.results h.told
-        (told_now input old.controller new.controller old.stable new.stable letters kinds h.stands.keeps turn kept pair_is who);
+        (saves_told law saving input old.controller new.controller old.stable new.stable letters t kinds h.stands.keeps);
     stands = controller_takes law (scene_of sealing setup kinds) h.number own old.controller new.controller e found input letters sealed (saving.pair old.stable) (saving.pair new.stable) (saving.faults old.stable) (saving.faults new.stable)
-        hears h.stands (turn kinds h.stands.keeps) who.0 who.1 (kept kinds h.stands.keeps) owes;
+        hears h.stands (t.turn kinds h.stands.keeps) t.setup t.me (t.kept kinds h.stands.keeps) owes;
   }

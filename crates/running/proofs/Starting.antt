@@ -21,7 +21,7 @@ use Rattle.rv_base.specs.Stables.{Saving}
 
 module _ {B : Type 0} (sealing : Sealing B) (setup : Setup) (kinds : List ℕ) where
   pub switch_fresh : (s : ℕ) → SwitchPlays sealing setup kinds (actor.Switch s) (starting_switch s setup) [] (starting_switch s setup) []
-  switch_fresh s = record { number = s; is = refl; stands = record { typed = tt; sound = tt; state_is = refl; owes = record { sealed = refl; typed = tt } } }
+  switch_fresh s = record { number = s; is = refl; stands = record { typed = tt; finds = tt; sound = tt; state_is = refl; owes = record { sealed = refl; typed = tt } } }
 
   pub served_fresh : {A W : Type 0} (law : AppLaw A) (saving : Saving W) (c : ℕ) (x : Controlling A) (stable : W) →
       IsNew law setup kinds c x → saving.pair stable ≡ pair_in (state_of x) →
@@ -35,12 +35,8 @@ module _ {B : Type 0} (sealing : Sealing B) (setup : Setup) (kinds : List ℕ) w
       keeps = new.keeps;
       setup_is = new.setup_is;
       me_is = new.me;
-      typed = tt;
-      finds = tt;
-      sound = tt;
       saves = ap length new.unsaved;
-      state_is = new.state;
-      owes = record { sealed = refl; typed = tt };
+      stands = record { typed = tt; finds = tt; sound = tt; state_is = new.state; owes = record { sealed = refl; typed = tt } };
     };
   }
 

@@ -4,7 +4,8 @@ use Rattle.std.specs.Prelude.{Option, Some, None, slice_get}
 use Rattle.rv_base.specs.declared.wire.Stop.{Stop}
 use Rattle.rv_base.specs.declared.wire.Stop.TheVariants.{OutOfMemory, JournalFull}
 use Rattle.running.specs.declared.task.Task.{Task}
-use Rattle.running.specs.Runs.{first_stop, worst}
+use Rattle.thread_rules.specs.Rules.{worst}
+use Rattle.running.specs.Runs.{first_stop}
 
 worst_starved : (first next : Option Stop) → first ≡ Some OutOfMemory → worst first next ≡ Some OutOfMemory
 worst_starved first next is = rw is refl

@@ -13,8 +13,8 @@ use Rattle.group_controller.specs.Turns.{Controlling}
 use Rattle.rv_runs.specs.States.{Scene}
 use Rattle.rv_runs.specs.Legal.{IsLegalPast}
 use Rattle.rv_world.specs.World.{results_in}
+use Rattle.rv_world.specs.Standing.{AllStand}
 use Rattle.running.specs.Apart.{TakesOwn, inputs_of}
-use Rattle.running.specs.Standing.{AllStand}
 use Rattle.app_core.specs.Law.{AppLaw}
 
 -- a past in which each actor stands behind its part is that of a run

@@ -1,5 +1,4 @@
 pub mod Apart
-pub mod Standing
 pub mod Hearing
 pub mod Playing
 pub mod Jobs

@@ -10,8 +10,8 @@ use Rattle.of_switch.specs.State.{SwitchState}
 use Rattle.group_controller.specs.Turns.{state_of, pair_in}
 use Rattle.rv_runs.specs.States.{Scene, Sealing}
 use Rattle.rv_world.specs.World.{SavesTold}
+use Rattle.rv_world.specs.Standing.{ControllerStands, SwitchStands}
 use Rattle.running.specs.declared.seated.Served.{Served}
-use Rattle.running.specs.Standing.{ControllerStands, SwitchStands}
 use Rattle.app_core.specs.Law.{AppLaw}
 use Rattle.rv_base.specs.Stables.{Saving}
 

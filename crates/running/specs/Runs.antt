@@ -4,18 +4,11 @@ use Rattle.std.specs.List.{range_with_len, zip}
 use Rattle.rv_base.specs.declared.journal.Actor.{Actor}
 use Rattle.rv_base.specs.declared.journal.Actor.TheVariants as actor
 use Rattle.rv_base.specs.declared.wire.Stop.{Stop}
-use Rattle.rv_base.specs.declared.wire.Stop.TheVariants.{OutOfMemory, JournalFull}
 use Rattle.switch_board.specs.Places.{PlaceState}
+use Rattle.thread_rules.specs.Rules.{worst}
 use Rattle.group_controller.specs.Turns.{Controlling}
 use Rattle.running.specs.declared.seated.Served.{Served}
 use Rattle.running.specs.declared.task.Task.{Task}
-
--- the first of two causes, but want of memory before a full journal
-abbrev pub worst : Option Stop → Option Stop → Option Stop
-worst (Some OutOfMemory) next = Some OutOfMemory
-worst (Some (JournalFull bytes letters)) (Some OutOfMemory) = Some OutOfMemory
-worst (Some (JournalFull bytes letters)) next = Some (JournalFull bytes letters)
-worst None next = next
 
 module _ {B P : Type 0} where
   -- an actor at its place, with nothing owed

@@ -17,6 +17,7 @@ use std::alloc::Global;
 use std::mem;
 use std::sync::Wait;
 use switch_board::{Board, Place};
+use thread_rules::is_own;
 
 /// An actor at its place, with what it owes.
 #[derive(Drop)]
@@ -114,7 +115,7 @@ fn own_step<P: Seated<B> + Drop, B: Body, G: Gate, R: Wait>(
         IfErr result (StopsIn (P.plays setup kinds job.old.place.actor start) B.sealing.size steps job.new) }
 {
     let actor = job.place.actor();
-    if !step.actor().is(actor) {
+    if !is_own(step, actor) {
         return Ok(());
     }
     gate.pass(actor, turn);
@@ -141,7 +142,7 @@ fn do_own_steps<P: Seated<B> + Drop, B: Body, G: Gate, R: Wait>(
     let mut turn = 0u64;
     for step in steps {
         own_step::<P, B, G, R>(rt, alloc, gate, board, job, step, turn)?;
-        if step.actor().is(job.place.actor()) {
+        if is_own(step, job.place.actor()) {
             turn = turn.saturating_add(1);
         }
     }

@@ -6,7 +6,7 @@ ghost use Rattle.rv_base.specs.Pool.{past};
 ghost use Rattle.rv_base.specs.Turns.{IsWithinLimits};
 ghost use Rattle.switch_board.specs.Places.{IsPartOf};
 ghost use Rattle.switch_board.specs.Rule.{AreNamed};
-ghost use Rattle.running.specs.Runs.{controller_of, first_stop, place_of, player_of, stable_of, worst};
+ghost use Rattle.running.specs.Runs.{controller_of, first_stop, place_of, player_of, stable_of};
 
 use crate::job::Job;
 use crate::seated::Served;
@@ -18,18 +18,7 @@ use rv_bodies::Body;
 use std::alloc::Global;
 use std::vec::IntoIter;
 use switch_board::{Board, Place};
-
-/// The first of two causes, but want of memory before a full journal.
-fn worst(first: Option<Stop>, next: Option<Stop>) -> Option<Stop>
-    ensures { result ≡ worst first next }
-{
-    match (first, next) {
-        (Some(Stop::OutOfMemory), _) => Some(Stop::OutOfMemory),
-        (_, Some(Stop::OutOfMemory)) => Some(Stop::OutOfMemory),
-        (Some(stop), _) => Some(stop),
-        (None, next) => next,
-    }
-}
+use thread_rules::worst;
 
 /// What is left of tasks: the places, the players, and the cause that counts. There is room for them.
 pub fn take_apart<B: Body, P: Drop>(

@@ -16,7 +16,7 @@ use group_controller::{Controller, ControllerInput, ControllerSays};
 use of_switch::{Switch, SwitchInput, SwitchSays};
 use rv_base::{Letters, Local, Stable};
 use rv_bodies::Body;
-use rv_players::{Player, sealed};
+use rv_players::{Player, sealed_turn};
 use rv_runs::Unsealed;
 use std::alloc::{AllocError, Global};
 
@@ -52,8 +52,7 @@ impl<B: Body> Seated<B> for Switch {
     fn rests(&self) {}
 
     fn take(&mut self, alloc: Global, input: SwitchInput) -> Result<Letters<B>, AllocError> {
-        let letters = self.turn(input)?;
-        sealed::<Switch, B>(alloc, letters.as_slice())
+        sealed_turn::<Switch, (), B>(alloc, self, &mut (), input)
     }
 }
 
@@ -94,7 +93,6 @@ impl<B: Body, A: App, W: Stable> Seated<B> for Served<A, W> {
     fn rests(&self) {}
 
     fn take(&mut self, alloc: Global, input: ControllerInput) -> Result<Letters<B>, AllocError> {
-        let letters = self.controller.turn(input, &mut self.stable)?;
-        sealed::<Controller<A>, B>(alloc, letters.as_slice())
+        sealed_turn::<Controller<A>, W, B>(alloc, &mut self.controller, &mut self.stable, input)
     }
 }

@@ -4,7 +4,8 @@
 mod hearing;
 mod player;
 mod sealing;
+mod turns;
 
 pub use hearing::heard;
 pub use player::Player;
-pub use sealing::sealed;
+pub use turns::{TakesTurns, sealed_turn};

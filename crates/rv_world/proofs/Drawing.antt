@@ -30,7 +30,8 @@ use Rattle.rv_runs.specs.Messages.{way_of}
 use Rattle.rv_runs.specs.States.{IsFaithful, Sealing, controller_hears, switch_hears}
 use Rattle.rv_world.specs.Actors.{ControllerOwes, SwitchOwes}
 use Rattle.rv_world.specs.World.{Holds, PairsStand, Steps, Worlding}
-use Rattle.rv_world.proofs.Turning.{IsIdle, controller_steps, idle_steps, switch_steps}
+use Rattle.rv_world.proofs.Standing.{IsIdle}
+use Rattle.rv_world.proofs.Turning.{controller_steps, idle_steps, switch_steps}
 
 -- the entry of a loss
 lost_idle : {B : Type 0} (a : Actor) (o : Option (Packet B)) → IsIdle (lost_entry a o) × (actor_of (lost_entry a o) ≡ a)

@@ -5,12 +5,10 @@ pub mod Places
 pub mod Finding
 pub mod Taking
 pub mod Growing
-pub mod Stepping
-pub mod Switching
-pub mod Resting
-pub mod Holding
-pub mod Keeping
-pub mod Quiet
+pub mod Standing
+pub mod Controlling
+pub mod Joining
+pub mod Entering
 pub mod Starts
 pub mod Adopting
 pub mod Stables

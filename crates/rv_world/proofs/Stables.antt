@@ -16,6 +16,7 @@ use Rattle.group_controller.specs.Rules.{controller_work}
 use Rattle.group_controller.specs.Turns.{Controlling, Done, Saves, state_of, pair_in, Controls}
 use Rattle.rv_runs.proofs.Pasts.{from_some}
 use Rattle.rv_world.specs.World.{AreTold, PairsStand, SavesTold, is_failed}
+use Rattle.rv_players.specs.Turns.{ControllerTurned}
 use Rattle.rv_world.specs.Actors.{ControllerTakes}
 use Rattle.rv_world.proofs.Places.{got_set, got_other}
 
@@ -61,6 +62,34 @@ each_told_then saving s0 s1 s2 c0 c1 c2 first next c x stable found stands =
     let b = next c a.0 a.1 a.2 a.3 in
     (b.0, b.1, b.2, b.3, told_then (saving.faults stable) (saving.faults a.1) (saving.faults b.1) x.results a.0.results b.0.results a.4 b.4)
 
+-- what the saves of a turn tell
+module _ {A W : Type 0} (law : AppLaw A) (saving : Saving W) (x : ControllerInput) (old new : Controlling A) (stable stable_after : W)
+    (letters : List (Letter ControllerSays)) (t : ControllerTurned law saving old stable x new stable_after letters) where
+  saved_told : (saved old_pair new_pair : ℕ × ℕ) (r : SaveResult) → Saves r saved old_pair new_pair (saving.faults stable) (saving.faults stable_after) →
+      (saving.faults stable + count_by is_failed (r ∷ []) ≤ saving.faults stable_after) ⊎ (2 ^ 64 - 1 ≤ saving.faults stable_after)
+  saved_told saved old_pair new_pair Saved s = let later = s.later in inl (omega (arith, later))
+  saved_told saved old_pair new_pair KeptOld s = one_more (saving.faults stable) (saving.faults stable_after) (s.failed (λ h. cc))
+  saved_told saved old_pair new_pair KeptNew s = one_more (saving.faults stable) (saving.faults stable_after) (s.failed (λ h. cc))
+
+  told_by : (state : ControllerState) (work : Work) (o : Option (ℕ × ℕ)) → Done state work o (state_of new) letters old.results new.results (saving.pair stable) (saving.pair stable_after) (saving.faults stable) (saving.faults stable_after) →
+      SavesTold (saving.faults stable) (saving.faults stable_after) old.results new.results
+  told_by state work None d = let same = d.faults_are in record {
+    more = [];
+    joined = d.kept ∙ sym (append-nil old.results);
+    later = omega (arith, same);
+    rose = inl (omega (arith, same));
+  }
+  told_by state work (Some saved) d = record {
+    more = d.result ∷ [];
+    joined = d.kept;
+    later = d.saves.later;
+    rose = saved_told saved (saving.pair stable) (saving.pair stable_after) d.result d.saves;
+  }
+
+  -- the count of faults rises with each save that fails
+  pub saves_told : (kinds : List ℕ) → Controls law old kinds → SavesTold (saving.faults stable) (saving.faults stable_after) old.results new.results
+  saves_told kinds keeps = told_by (state_of old) (controller_work kinds old.setup (state_of old) x) (controller_work kinds old.setup (state_of old) x).save (t.turn kinds keeps)
+
 module _ {A W : Type 0} (law : AppLaw A) (saving : Saving W) (x : ControllerInput) (before after : List (Controlling A))
     (stables stables_after : List W) (c : ℕ) (letters : List (Letter ControllerSays)) (t : ControllerTakes law saving x before stables c after stables_after letters) where
   -- each controller still knows what is stable
@@ -73,7 +102,7 @@ module _ {A W : Type 0} (law : AppLaw A) (saving : Saving W) (x : ControllerInpu
           let one : t.new ≡ y = from_some t.new y (sym new_found ∙ subst (λ (n : ℕ). slice_get after n ≡ Some y) (sym same) found) in (
             t.stable_after,
             subst (λ (n : ℕ). slice_get stables_after n ≡ Some t.stable_after) same (ap (λ l. slice_get l c) t.stables_are ∙ got_set stables c t.stable t.stable_after t.stable_stood),
-            t.stands ∙ ap (λ z. pair_in (state_of z)) one,
+            t.turned.stands ∙ ap (λ z. pair_in (state_of z)) one,
           )
 
       by_number : (b : Bool) → nat_eq c d ≡ b → (stable : W) × (slice_get stables_after d ≡ Some stable) × (saving.pair stable ≡ pair_in (state_of y))
@@ -82,31 +111,6 @@ module _ {A W : Type 0} (law : AppLaw A) (saving : Saving W) (x : ControllerInpu
           let old_found : slice_get before d ≡ Some y = sym (ap (λ l. slice_get l d) t.state ∙ got_other before c d t.new (eqb-false c d is)) ∙ found in
           let s = stand d y old_found in
           (s.0, ap (λ l. slice_get l d) t.stables_are ∙ got_other stables c d t.stable_after (eqb-false c d is) ∙ s.1, s.2)
-
-  saved_told : (saved old_pair new_pair : ℕ × ℕ) (r : SaveResult) → Saves r saved old_pair new_pair (saving.faults t.stable) (saving.faults t.stable_after) →
-      (saving.faults t.stable + count_by is_failed (r ∷ []) ≤ saving.faults t.stable_after) ⊎ (2 ^ 64 - 1 ≤ saving.faults t.stable_after)
-  saved_told saved old_pair new_pair Saved s = let later = s.later in inl (omega (arith, later))
-  saved_told saved old_pair new_pair KeptOld s = one_more (saving.faults t.stable) (saving.faults t.stable_after) (s.failed (λ h. cc))
-  saved_told saved old_pair new_pair KeptNew s = one_more (saving.faults t.stable) (saving.faults t.stable_after) (s.failed (λ h. cc))
-
-  told_by : (state : ControllerState) (work : Work) (o : Option (ℕ × ℕ)) → Done state work o (state_of t.new) letters t.old.results t.new.results (saving.pair t.stable) (saving.pair t.stable_after) (saving.faults t.stable) (saving.faults t.stable_after) →
-      SavesTold (saving.faults t.stable) (saving.faults t.stable_after) t.old.results t.new.results
-  told_by state work None d = let same = d.faults_are in record {
-    more = [];
-    joined = d.kept ∙ sym (append-nil t.old.results);
-    later = omega (arith, same);
-    rose = inl (omega (arith, same));
-  }
-  told_by state work (Some saved) d = record {
-    more = d.result ∷ [];
-    joined = d.kept;
-    later = d.saves.later;
-    rose = saved_told saved (saving.pair t.stable) (saving.pair t.stable_after) d.result d.saves;
-  }
-
-  -- the count of faults rises with each save that fails
-  pub saves_told : (kinds : List ℕ) → Controls law t.old kinds → SavesTold (saving.faults t.stable) (saving.faults t.stable_after) t.old.results t.new.results
-  saves_told kinds keeps = told_by (state_of t.old) (controller_work kinds t.old.setup (state_of t.old) x) (controller_work kinds t.old.setup (state_of t.old) x).save (t.turn kinds keeps)
 
   -- those of the others stay
   pub each_told : (kinds : List ℕ) → Controls law t.old kinds → AreTold saving stables stables_after before after
@@ -121,7 +125,7 @@ module _ {A W : Type 0} (law : AppLaw A) (saving : Saving W) (x : ControllerInpu
             subst (λ (n : ℕ). slice_get after n ≡ Some t.new) same (ap (λ l. slice_get l c) t.state ∙ got_set before c t.old t.new t.stood),
             subst (λ (n : ℕ). slice_get stables_after n ≡ Some t.stable_after) same (ap (λ l. slice_get l c) t.stables_are ∙ got_set stables c t.stable t.stable_after t.stable_stood),
             subst (λ (s : W). SavesTold (saving.faults s) (saving.faults t.stable_after) y.results t.new.results) other
-                (subst (λ (o : Controlling A). SavesTold (saving.faults t.stable) (saving.faults t.stable_after) o.results t.new.results) one (saves_told kinds keeps)),
+                (subst (λ (o : Controlling A). SavesTold (saving.faults t.stable) (saving.faults t.stable_after) o.results t.new.results) one (saves_told law saving x t.old t.new t.stable t.stable_after letters t.turned kinds keeps)),
           )
 
       by_number : (b : Bool) → nat_eq c d ≡ b → (z : Controlling A) × (stable_after : W) × (slice_get after d ≡ Some z) × (slice_get stables_after d ≡ Some stable_after) × SavesTold (saving.faults stable) (saving.faults stable_after) y.results z.results

@@ -35,57 +35,14 @@ use Rattle.rv_runs.proofs.Pasts.{from_some}
 use Rattle.rv_world.specs.declared.debt.Debt.{Debt}
 use Rattle.rv_world.specs.Actors.{ControllerOwes, ControllerTakes, SwitchOwes}
 use Rattle.rv_world.specs.World.{AreTold, Holds, HoldsAt, IfMemory, IsOwed, Keeps, PairsStand, Steps, Worlding, debt_of, posts_of, results_in, scene_in}
-use Rattle.rv_world.proofs.Holding.{controller_holds}
-use Rattle.rv_world.proofs.Keeping.{none_said, switch_holds}
+use Rattle.rv_world.proofs.Entering.{controller_enters, idle_enters, post_enters, switch_enters}
 use Rattle.rv_world.proofs.Places.{got_other, got_set}
-use Rattle.rv_world.proofs.Quiet.{quiet_holds}
-use Rattle.rv_world.proofs.Resting.{IsQuiet, owed_behind}
+use Rattle.rv_world.proofs.Standing.{IsIdle}
 use Rattle.rv_world.proofs.Stables.{each_told, each_told_then, pairs_stand, unsaved_told}
 
 -- nothing is saved
 pub none_told : {A W : Type 0} (saving : Saving W) (stables : List W) (controllers : List (Controlling A)) → AreTold saving stables stables controllers controllers
 none_told saving stables controllers c x stable found stands = (x, stable, found, stands, unsaved_told (saving.faults stable) x.results)
-
--- an entry in which no actor takes or posts anything
-abbrev pub IsIdle : {B : Type 0} → JournalEntry B → Type 0
-IsIdle (Lose a id) = Unit {0}
-IsIdle (Idle a) = Unit {0}
-IsIdle (Post a first letters lost) = ⊥
-IsIdle (Draw a id keep) = ⊥
-IsIdle (Local a input) = ⊥
-IsIdle (Refused a) = ⊥
-
-idle_quiet : {B : Type 0} (e : JournalEntry B) → IsIdle e → IsQuiet e
-idle_quiet (Lose a id) h = tt
-idle_quiet (Idle a) h = tt
-idle_quiet (Post a first letters lost) h = absurd h
-idle_quiet (Draw a id keep) h = absurd h
-idle_quiet (Local a input) h = absurd h
-idle_quiet (Refused a) h = absurd h
-
-idle_fits : {B : Type 0} (e : JournalEntry B) → IsIdle e → EntryFits e
-idle_fits (Lose a id) h = tt
-idle_fits (Idle a) h = tt
-idle_fits (Post a first letters lost) h = absurd h
-idle_fits (Draw a id keep) h = absurd h
-idle_fits (Local a input) h = absurd h
-idle_fits (Refused a) h = absurd h
-
-idle_stands : {A B : Type 0} (said : A → Message) (sealing : Sealing B) (owed : List (Letter A)) (before : List (JournalEntry B × Option (Packet B))) (e : JournalEntry B) → IsIdle e → owed ≡ [] → Fits said sealing owed before e
-idle_stands said sealing owed before (Lose a id) h none = none
-idle_stands said sealing owed before (Idle a) h none = none
-idle_stands said sealing owed before (Post a first letters lost) h none = absurd h
-idle_stands said sealing owed before (Draw a id keep) h none = absurd h
-idle_stands said sealing owed before (Local a input) h none = absurd h
-idle_stands said sealing owed before (Refused a) h none = absurd h
-
-idle_behind : {A B : Type 0} (e : JournalEntry B) (owed : List (Letter A)) → IsIdle e → owed ≡ [] → owed_behind e owed ≡ []
-idle_behind (Lose a id) owed h none = none
-idle_behind (Idle a) owed h none = none
-idle_behind (Post a first letters lost) owed h none = refl
-idle_behind (Draw a id keep) owed h none = none
-idle_behind (Local a input) owed h none = none
-idle_behind (Refused a) owed h none = none
 
 -- one that owes is an actor of the setup
 named_debtor : {B : Type 0} (scene : Scene B) (entries : List (JournalEntry B)) (a : Actor) → AllByRecursion (λ e. IsActor scene.setup (actor_of e)) entries → IsInputOf a entries → IsActor scene.setup a
@@ -134,7 +91,7 @@ module _ {B A W : Type 0} (law : AppLaw A) (saving : Saving W) (sealing : Sealin
         setup = ap (λ (z : Worlding B A). z.setup) t.left;
         holds = λ kinds h.
             let held : HoldsAt law (scene_in sealing w kinds) (results_in v.controllers) (e ∷ past w.journal) u =
-            controller_holds law saving (scene_in sealing w kinds) (past w.journal) w u h.run rests e c there mine x (heard kinds) typed orderly stables stables_after t.letters t.sealed
+            controller_enters law (scene_in sealing w kinds) (past w.journal) w h.run saving u rests e c there mine x (heard kinds) typed orderly stables stables_after t.letters t.sealed
             t.takes refl refl t.owes in
             subst (λ (z : Worlding B A). Holds law sealing z kinds) (sym t.left)
             (record {
@@ -157,7 +114,7 @@ module _ {B A W : Type 0} (law : AppLaw A) (saving : Saving W) (sealing : Sealin
         setup = ap (λ (z : Worlding B A). z.setup) t.left;
         holds = λ kinds h.
             let held : HoldsAt law (scene_in sealing w kinds) (results_in w.controllers) (e ∷ past w.journal) u =
-            switch_holds law (scene_in sealing w kinds) (past w.journal) w u h.run rests e s there mine x (heard kinds) typed orderly t.letters t.sealed t.takes refl refl t.owes in
+            switch_enters law (scene_in sealing w kinds) (past w.journal) w h.run u rests e s there mine x (heard kinds) typed orderly t.letters t.sealed t.takes refl refl t.owes in
             subst (λ (z : Worlding B A). Holds law sealing z kinds) (sym t.left)
             (known_after kinds h v.switches (Some (record { actor = actor.Switch s; letters = t.sealed })) held);
         pairs = λ c x found. stand c x (ap (λ (l : List (Controlling A)). slice_get l c) (sym same) ∙ found);
@@ -170,18 +127,8 @@ module _ {B A W : Type 0} (law : AppLaw A) (saving : Saving W) (sealing : Sealin
   idle_keeps idle named orderly v is = subst (λ (z : Worlding B A). Keeps law saving sealing w stables z stables) (sym is) (record {
     setup = refl;
     holds = λ kinds h.
-        let scene = scene_in sealing w kinds in
-        let none_of_controller = λ (c : ℕ) (within : c < w.setup.controllers). none_said sealing controller_message
-        (controller_at scene (results_of (results_in w.controllers) c) c (part (actor.Controller c) (past w.journal))).owed _ ((h.run.controller_debts c within).sealed) (ap (λ o. debt_of o (actor.Controller c)) rests) in
-        let none_of_switch = λ (s : ℕ) (within : s < length w.setup.ports). none_said sealing switch_message
-        (switch_at scene s (part (actor.Switch s) (past w.journal))).owed _ ((h.run.switch_debts s within).sealed) (ap (λ o. debt_of o (actor.Switch s)) rests) in
-        let held : HoldsAt law scene (results_in w.controllers) (e ∷ past w.journal) entered =
-        quiet_holds law scene (past w.journal) w entered h.run e (idle_quiet e idle) named (idle_fits e idle) orderly refl refl rests
-        (λ c within own. idle_stands controller_message sealing _ _ e idle (none_of_controller c within))
-        (λ s within own. idle_stands switch_message sealing _ _ e idle (none_of_switch s within))
-        (λ c within own. idle_behind e _ idle (none_of_controller c within))
-        (λ s within own. idle_behind e _ idle (none_of_switch s within))
-        (λ a other. ap (λ o. debt_of o a) rests) in
+        let held : HoldsAt law (scene_in sealing w kinds) (results_in w.controllers) (e ∷ past w.journal) entered =
+        idle_enters law (scene_in sealing w kinds) (past w.journal) w h.run entered rests e idle named orderly refl refl rests in
         known_after kinds h w.switches w.owed held;
     pairs = stand;
     told = none_told saving stables w.controllers;
@@ -249,12 +196,8 @@ module _ {B A : Type 0} (law : AppLaw A) (sealing : Sealing B) (faithful : IsFai
       let v : Worlding B A = record w { journal = w.journal ++ e ∷ []; owed = None } in
       let scene = scene_in sealing w kinds in
       let held : HoldsAt law scene (results_in w.controllers) (e ∷ past w.journal) v =
-      quiet_holds law scene (past w.journal) w v h.run e tt (named_debtor scene (past w.journal) a h.run.legal.possible.named (rw is at h.run.debtor)) tt orderly refl refl refl
-      (λ c within own. let o = rw (is, own) at (h.run.controller_debts c within) in (o.sealed, (λ none. cc), o.typed))
-      (λ s within own. let o = rw (is, own) at (h.run.switch_debts s within) in (o.sealed, (λ none. cc), o.typed))
-      (λ c within own. refl)
-      (λ s within own. refl)
-      (λ b other. rw (is, other) refl) in
+      post_enters law scene (past w.journal) w h.run v a l ls (letters_posted (past w.journal)) (lost_of sealing.size (pool (past w.journal)) (l ∷ ls)) is
+      (named_debtor scene (past w.journal) a h.run.legal.possible.named (rw is at h.run.debtor)) orderly refl refl refl in
       record {
         run = subst (λ (p : List (JournalEntry B)). HoldsAt law scene (results_in w.controllers) p v) (sym (past-push w.journal e)) held;
         few = h.few;

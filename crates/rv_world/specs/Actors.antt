@@ -5,28 +5,29 @@ use Rattle.rv_base.specs.declared.journal.Letter.{Letter}
 use Rattle.of_switch.specs.declared.says.SwitchInput.{SwitchInput}
 use Rattle.of_switch.specs.declared.says.SwitchSays.{SwitchSays}
 use Rattle.of_switch.specs.State.{SwitchState}
-use Rattle.of_switch.specs.Rules.{switch_turn}
 use Rattle.rv_base.specs.Stables.{Saving}
 use Rattle.app_core.specs.Law.{AppLaw}
 use Rattle.group_controller.specs.declared.messages.ControllerInput.{ControllerInput}
 use Rattle.group_controller.specs.declared.messages.ControllerSays.{ControllerSays}
-use Rattle.group_controller.specs.Turns.{Controlling, Turns, state_of, pair_in, Controls}
+use Rattle.group_controller.specs.Turns.{Controlling, Controls, pair_in, state_of}
 use Rattle.rv_runs.specs.States.{Sealing, switch_message, controller_message}
+use Rattle.rv_players.specs.Turns.{ControllerTurned, SwitchTurned}
 use Rattle.rv_world.specs.World.{IsOwed, Worlding}
 
 -- the switch of a number takes a turn
 pub record SwitchTakes (input : SwitchInput) (before : List SwitchState) (number : ℕ) (after : List SwitchState) (letters : List (Letter SwitchSays)) : Type 0 where
   pub old : SwitchState
+  pub new : SwitchState
   pub stood : slice_get before number ≡ Some old
-  pub state : after ≡ slice_set before number (switch_turn old input).state
-  pub says : letters ≡ (switch_turn old input).letters
+  pub state : after ≡ slice_set before number new
+  pub turned : SwitchTurned old input new letters
 
 -- the controller of a number keeps to its invariant, and its stable pair stands at the number
 pub record IsServed {A W : Type 0} (law : AppLaw A) (saving : Saving W) (controllers : List (Controlling A)) (stables : List W) (number : ℕ) : Type 0 where
   pub kept : (x : Controlling A) → slice_get controllers number ≡ Some x → (kinds : List ℕ) × Controls law x kinds
   pub stands : (x : Controlling A) (stable : W) → slice_get controllers number ≡ Some x → slice_get stables number ≡ Some stable → saving.pair stable ≡ pair_in (state_of x)
 
--- the controller of a number takes a turn, whatever the kinds of its applications are, beside its stable pair
+-- the controller of a number takes a turn beside its stable pair
 pub record ControllerTakes {A W : Type 0} (law : AppLaw A) (saving : Saving W) (input : ControllerInput)
     (before : List (Controlling A)) (stables : List W) (number : ℕ) (after : List (Controlling A)) (stables_after : List W) (letters : List (Letter ControllerSays)) : Type 0 where
   pub old : Controlling A
@@ -37,11 +38,7 @@ pub record ControllerTakes {A W : Type 0} (law : AppLaw A) (saving : Saving W) (
   pub stable_stood : slice_get stables number ≡ Some stable
   pub state : after ≡ slice_set before number new
   pub stables_are : stables_after ≡ slice_set stables number stable_after
-  pub setup : new.setup ≡ old.setup
-  pub me : new.me ≡ old.me
-  pub turn : (kinds : List ℕ) → Controls law old kinds → Turns kinds old input letters new (saving.pair stable) (saving.pair stable_after) (saving.faults stable) (saving.faults stable_after)
-  pub kept : (kinds : List ℕ) → Controls law old kinds → Controls law new kinds
-  pub stands : saving.pair stable_after ≡ pair_in (state_of new)
+  pub turned : ControllerTurned law saving old stable input new stable_after letters
 
 -- a switch of a world takes a turn, and owes what it says
 pub record SwitchOwes {B A : Type 0} (sealing : Sealing B) (input : SwitchInput) (old : Worlding B A) (number : ℕ) (new : Worlding B A) : Type 0 where

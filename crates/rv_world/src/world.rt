@@ -22,7 +22,7 @@ use of_switch::{Switch, SwitchInput};
 use of_types::{Items, Setup};
 use rv_base::{Actor, Journal, JournalEntry, Local, PacketPlace, Stable, Stop, Turn, Wire};
 use rv_bodies::Body;
-use rv_players::{Player, heard, sealed};
+use rv_players::{Player, heard};
 use std::alloc::{AllocError, Global};
 use std::marker::Model;
 
@@ -219,8 +219,14 @@ impl<B: Body, A: App> World<B, A> {
         ensures { OnOk result
             (ControllerOwes A.law W.saving B.sealing input self.old stables.old number self.new stables.new) }
     {
-        let letters = controller_takes(&mut self.controllers, stables, number, input)?;
-        let letters = sealed::<Controller<A>, B>(self.alloc, letters.as_slice())?;
+        let alloc = self.alloc;
+        let letters = controller_takes::<B, A, W>(
+            alloc,
+            &mut self.controllers,
+            stables,
+            number,
+            input,
+        )?;
         self.debt = Some(Debt {
             actor: Actor::Controller(number),
             letters,
@@ -233,8 +239,7 @@ impl<B: Body, A: App> World<B, A> {
         requires { number < length self.old.switches }
         ensures { OnOk result (SwitchOwes B.sealing input self.old number self.new) }
     {
-        let letters = switch_takes(&mut self.switches, number, input)?;
-        let letters = sealed::<Switch, B>(self.alloc, letters.as_slice())?;
+        let letters = switch_takes::<B>(self.alloc, &mut self.switches, number, input)?;
         self.debt = Some(Debt {
             actor: Actor::Switch(number),
             letters,

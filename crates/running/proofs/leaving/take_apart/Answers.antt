@@ -1,5 +1,6 @@
 use Rattle.std.proofs.Common.{rules, ◌∙◌, ap, sym}
-use Rattle.running.specs.Runs.{place_of, player_of, worst}
+use Rattle.thread_rules.specs.Rules.{worst}
+use Rattle.running.specs.Runs.{place_of, player_of}
 use Rattle.running.proofs.Stops.{map_next, stops_next}
 use Rattle.running.proofs.leaving.take_apart.Goals as goal
 

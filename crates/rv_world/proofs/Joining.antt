@@ -3,6 +3,7 @@ use Rattle.std.proofs.Common.{◌≡◌, ◌<◌, ℕ, Bool, true, false, List, 
 use Rattle.std.specs.Prelude.{Option, Some, slice_get}
 use Rattle.std.specs.List.{AllByRecursion}
 use Rattle.of_types.specs.declared.setup.Setup.{Setup}
+use Rattle.of_types.specs.Setups.{IsSetup}
 use Rattle.rv_base.specs.declared.journal.Actor.{Actor}
 use Rattle.rv_base.specs.declared.journal.Actor.TheVariants as actor
 use Rattle.rv_base.specs.declared.journal.JournalEntry.{JournalEntry}
@@ -17,17 +18,21 @@ use Rattle.group_controller.specs.Turns.{Controlling, state_of}
 use Rattle.rv_runs.specs.States.{Scene, controller_at, switch_at, controller_message, switch_message}
 use Rattle.rv_runs.specs.Legal.{EntryFits, IsSoundController, IsPossible, IsLegalPast, results_of}
 use Rattle.rv_runs.specs.Committed.{switch_state}
-use Rattle.rv_world.specs.World.{IsMember, IsOwed, results_in}
+use Rattle.rv_world.specs.World.{HoldsAt, IsDebtor, IsMember, IsOwed, Worlding, debt_of, results_in}
+use Rattle.rv_runs.proofs.Pasts.{self_controller, self_switch}
+use Rattle.rv_world.specs.Standing.{AllStand}
 use Rattle.rv_world.proofs.Places.{results_at}
-use Rattle.switch_board.proofs.Parts.{same_refl}
-use Rattle.running.specs.Standing.{AllStand}
 use Rattle.app_core.specs.Law.{AppLaw}
 
+same_refl : (a : Actor) → same_actor a a ≡ true
+same_refl (actor.Controller c) = self_controller c
+same_refl (actor.Switch s) = self_switch s
+
 module _ {B : Type 0} where
-  own_part : (a : Actor) (e : JournalEntry B) (before : List (JournalEntry B)) → same_actor (actor_of e) a ≡ true → part a (e ∷ before) ≡ (e, drawn e before) ∷ part a before
+  pub own_part : (a : Actor) (e : JournalEntry B) (before : List (JournalEntry B)) → same_actor (actor_of e) a ≡ true → part a (e ∷ before) ≡ (e, drawn e before) ∷ part a before
   own_part a e before is = rw is refl
 
-  other_part : (a : Actor) (e : JournalEntry B) (before : List (JournalEntry B)) → same_actor (actor_of e) a ≡ false → part a (e ∷ before) ≡ part a before
+  pub other_part : (a : Actor) (e : JournalEntry B) (before : List (JournalEntry B)) → same_actor (actor_of e) a ≡ false → part a (e ∷ before) ≡ part a before
   other_part a e before is = rw is refl
 
   abbrev AreTyped : List (JournalEntry B × Option (Packet B)) → Type 0
@@ -60,7 +65,7 @@ module _ {B A : Type 0} (law : AppLaw A) (scene : Scene B) (entries : List (Jour
   typed = from_parts scene.setup entries named each
     where
       each : (a : Actor) → IsActor scene.setup a → AreTyped (part a entries)
-      each (actor.Controller c) there = (stand.controllers_stand c there).2.typed
+      each (actor.Controller c) there = (stand.controllers_stand c there).2.stands.typed
       each (actor.Switch s) there = (stand.switches_stand s there).2.typed
 
   pub possible : IsPossible scene Results entries
@@ -69,7 +74,7 @@ module _ {B A : Type 0} (law : AppLaw A) (scene : Scene B) (entries : List (Jour
     fits = typed;
     orderly = orderly;
     switches = λ s there. (stand.switches_stand s there).2.sound;
-    controllers = λ c there. subst (λ (rs : List SaveResult). IsSoundController scene rs c (part (actor.Controller c) entries)) (sym (result_of c there)) (stand.controllers_stand c there).2.sound;
+    controllers = λ c there. subst (λ (rs : List SaveResult). IsSoundController scene rs c (part (actor.Controller c) entries)) (sym (result_of c there)) (stand.controllers_stand c there).2.stands.sound;
   }
 
   pub legal : IsLegalPast scene Results entries
@@ -87,7 +92,7 @@ module _ {B A : Type 0} (law : AppLaw A) (scene : Scene B) (entries : List (Jour
         keeps = x.2.keeps;
         setup = x.2.setup_is;
         me = x.2.me_is;
-        state = subst (λ (rs : List SaveResult). state_of x.0 ≡ (controller_at scene rs c (part (actor.Controller c) entries)).now) (sym (result_of c there)) x.2.state_is;
+        state = subst (λ (rs : List SaveResult). state_of x.0 ≡ (controller_at scene rs c (part (actor.Controller c) entries)).now) (sym (result_of c there)) x.2.stands.state_is;
       }
 
   pub switches_are : (s : ℕ) → s < length scene.setup.ports → slice_get switches s ≡ Some (switch_state scene s entries)
@@ -97,7 +102,23 @@ module _ {B A : Type 0} (law : AppLaw A) (scene : Scene B) (entries : List (Jour
       IsOwed controller_message scene.sealing (controller_at scene (results_of Results c) c (part (actor.Controller c) entries)).owed (owed (actor.Controller c))
   controller_owes c there =
       subst (λ (rs : List SaveResult). IsOwed controller_message scene.sealing (controller_at scene rs c (part (actor.Controller c) entries)).owed (owed (actor.Controller c)))
-      (sym (result_of c there)) (stand.controllers_stand c there).2.owes
+      (sym (result_of c there)) (stand.controllers_stand c there).2.stands.owes
 
   pub switch_owes : (s : ℕ) → s < length scene.setup.ports → IsOwed switch_message scene.sealing (switch_at scene s (part (actor.Switch s) entries)).owed (owed (actor.Switch s))
   switch_owes s there = (stand.switches_stand s there).2.owes
+
+-- a world whose actors stand so is that of a run
+pub joined : {B A : Type 0} (law : AppLaw A) (scene : Scene B) (entries : List (JournalEntry B)) (w : Worlding B A) → AllStand law scene entries w.controllers w.switches (debt_of w.owed) →
+    IsSetup scene.setup → AllByRecursion (λ e. IsActor scene.setup (actor_of e)) entries → IsOrderly scene.sealing.size entries → IsDebtor w.owed entries →
+    HoldsAt law scene (results_in w.controllers) entries w
+joined law scene entries w stand setup named orderly debtor = record {
+  setup = setup;
+  legal = legal law scene entries w.controllers w.switches (debt_of w.owed) stand named orderly;
+  group = stand.group;
+  count = stand.count;
+  controllers = members law scene entries w.controllers w.switches (debt_of w.owed) stand named orderly;
+  switches = switches_are law scene entries w.controllers w.switches (debt_of w.owed) stand named orderly;
+  controller_debts = controller_owes law scene entries w.controllers w.switches (debt_of w.owed) stand named orderly;
+  switch_debts = switch_owes law scene entries w.controllers w.switches (debt_of w.owed) stand named orderly;
+  debtor = debtor;
+}

@@ -1,26 +1,34 @@
--- What an actor that plays its own entries keeps true of them.
+-- What an actor is behind its own entries, and what it owes there: for a world of actors, and for actors that play apart.
 use Rattle.std.specs.Prelude.{◌≡◌, ◌<◌, ℕ, List, length, slice_get, Option, Some}
 use Rattle.std.specs.List.{AllByRecursion}
+use Rattle.actor_fold.specs.Fold.{ActorRules}
 use Rattle.rv_base.specs.declared.journal.Actor.{Actor}
 use Rattle.rv_base.specs.declared.journal.Actor.TheVariants as actor
 use Rattle.rv_base.specs.declared.journal.JournalEntry.{JournalEntry}
 use Rattle.rv_base.specs.declared.journal.Letter.{Letter}
 use Rattle.rv_base.specs.declared.journal.Packet.{Packet}
 use Rattle.rv_base.specs.Part.{part}
-use Rattle.of_switch.specs.State.{SwitchState}
-use Rattle.group_controller.specs.Turns.{Controlling, state_of}
-use Rattle.rv_runs.specs.States.{Scene, switch_at, controller_at, switch_message, controller_message}
-use Rattle.rv_runs.specs.Legal.{EachFinds, EntryFits, IsSoundSwitch, IsSoundController}
-use Rattle.rv_world.specs.World.{IsOwed}
+use Rattle.of_switch.specs.State.{SwitchState, starting_switch}
 use Rattle.app_core.specs.Law.{AppLaw}
-use Rattle.group_controller.specs.Turns.{Controls}
+use Rattle.group_controller.specs.State.{starting_controller}
+use Rattle.group_controller.specs.Turns.{Controlling, Controls, state_of}
+use Rattle.rv_runs.specs.States.{Scene, Sealing, Speech, actor_at, controller_at, controller_rules, controller_speech, switch_rules, switch_speech}
+use Rattle.rv_runs.specs.Legal.{EachFinds, EntryFits, IsSound}
+use Rattle.rv_world.specs.World.{IsOwed}
 
--- a switch of this number, behind these entries of its own with the newest first, is what they make of it, and owes these letters
-pub record SwitchStands {B : Type 0} (scene : Scene B) (s : ℕ) (own : List (JournalEntry B × Option (Packet B))) (state : SwitchState) (owed : List (Letter B)) : Type 0 where
+-- an actor of these rules, which started so, is what these entries of its own make of it, and owes these letters. They stand
+-- with the newest first, each draw beside its packet
+pub record Stands {B S I A : Type 0} (rules : ActorRules S I (Letter A)) (speech : Speech I A) (sealing : Sealing B) (start : S)
+    (own : List (JournalEntry B × Option (Packet B))) (state : S) (owed : List (Letter B)) : Type 0 where
   pub typed : AllByRecursion (λ x. EntryFits x.0) own
-  pub sound : IsSoundSwitch scene s own
-  pub state_is : state ≡ (switch_at scene s own).now
-  pub owes : IsOwed switch_message scene.sealing (switch_at scene s own).owed owed
+  pub finds : EachFinds own
+  pub sound : IsSound rules speech sealing start own
+  pub state_is : state ≡ (actor_at rules speech sealing start own).now
+  pub owes : IsOwed speech.said sealing (actor_at rules speech sealing start own).owed owed
+
+-- a switch of a number does
+abbrev pub SwitchStands : {B : Type 0} → Scene B → ℕ → List (JournalEntry B × Option (Packet B)) → SwitchState → List (Letter B) → Type 0
+SwitchStands scene s own state owed = Stands switch_rules switch_speech scene.sealing (starting_switch s scene.setup) own state owed
 
 -- and a controller, whose saves had these results, and no more
 pub record ControllerStands {B A : Type 0} (law : AppLaw A) (scene : Scene B) (c : ℕ) (own : List (JournalEntry B × Option (Packet B)))
@@ -28,12 +36,8 @@ pub record ControllerStands {B A : Type 0} (law : AppLaw A) (scene : Scene B) (c
   pub keeps : Controls law x scene.kinds
   pub setup_is : x.setup ≡ scene.setup
   pub me_is : x.me ≡ c
-  pub typed : AllByRecursion (λ y. EntryFits y.0) own
-  pub finds : EachFinds own
-  pub sound : IsSoundController scene x.results c own
   pub saves : length x.results ≡ (controller_at scene x.results c own).saves
-  pub state_is : state_of x ≡ (controller_at scene x.results c own).now
-  pub owes : IsOwed controller_message scene.sealing (controller_at scene x.results c own).owed owed
+  pub stands : Stands (controller_rules scene x.results) controller_speech scene.sealing (starting_controller c scene.setup.controllers) own (state_of x) owed
 
 -- each actor of a setup stands behind its part of a past, owing these letters
 pub record AllStand {B A : Type 0} (law : AppLaw A) (scene : Scene B) (entries : List (JournalEntry B))

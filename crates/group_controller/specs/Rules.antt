@@ -11,6 +11,7 @@ use Rattle.of_types.specs.declared.message.Spoken.TheVariants as spoken
 use Rattle.of_types.specs.declared.numbers.TheConstants.{MASTER}
 use Rattle.of_types.specs.declared.setup.Setup.{Setup}
 use Rattle.of_types.specs.Lives.{last_life}
+use Rattle.controller_life.specs.Life as life
 use Rattle.rv_base.specs.declared.journal.Letter.{Letter}
 use Rattle.rv_base.specs.declared.journal.Local.{Local}
 use Rattle.rv_base.specs.declared.journal.Local.TheVariants as local
@@ -157,11 +158,11 @@ on_input kinds setup c (controller_input.Malformed sender) = resting c
 on_input kinds setup c (controller_input.Vr from message) = after_step kinds setup c (vr_step c.vr (vr_input.From from message))
 
 abbrev pub is_crash : ControllerInput → Bool
-is_crash (controller_input.Local local.Crash) = true
+is_crash (controller_input.Local what) = life.is_crash what
 is_crash _ = false
 
 abbrev pub is_restart : ControllerInput → Bool
-is_restart (controller_input.Local local.Restart) = true
+is_restart (controller_input.Local what) = life.is_restart what
 is_restart _ = false
 
 -- one that is down drops all but a restart

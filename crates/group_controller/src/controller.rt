@@ -14,7 +14,7 @@ use crate::active::Active;
 use crate::messages::{ControllerInput, ControllerSays};
 use app_core::App;
 use of_types::{LAST_LIFE, Setup};
-use rv_base::{Failed, Letters, Local, SaveResult, Stable};
+use rv_base::{Failed, Letters, SaveResult, Stable};
 use std::alloc::{AllocError, Global};
 use std::marker::Model;
 use vr_core::Replica;
@@ -69,14 +69,20 @@ fn is_pair(stands: (u64, u64), promise: u64, life: u64) -> bool
 fn is_crash(input: &ControllerInput) -> bool
     ensures { result ≡ is_crash input.now }
 {
-    matches!(input, ControllerInput::Local(Local::Crash))
+    match input {
+        ControllerInput::Local(local) => controller_life::is_crash(local),
+        _ => false,
+    }
 }
 
 /// Whether this is what one that is down takes. All else is let go.
 fn is_restart(input: ControllerInput) -> bool
     ensures { result ≡ is_restart input }
 {
-    matches!(input, ControllerInput::Local(Local::Restart))
+    match &input {
+        ControllerInput::Local(local) => controller_life::is_restart(local),
+        _ => false,
+    }
 }
 
 impl<A: App> Controller<A> {

@@ -20,8 +20,8 @@ use Rattle.scenario.specs.Scenario.{scenario_of}
 use Rattle.top_call.specs.declared.sim.Output.{Output}
 use Rattle.scenario.specs.declared.scenario.Scenario.{Scenario}
 use Rattle.words.specs.declared.Job.{Job}
-use Rattle.words.specs.declared.Job.TheVariants.{Sim, Run, Audit, Gen}
-use Rattle.playing.specs.Manners.{Manner, In_order, Apart}
+use Rattle.words.specs.declared.Job.TheVariants.{Audit, Gen}
+use Rattle.playing.specs.Manners.{Manner}
 use Rattle.words.specs.Words.{job_of}
 use Rattle.audit.specs.Audit.{differs}
 use Rattle.top_call.specs.Audited.{report_limit}

@@ -7,3 +7,4 @@ pub mod Records
 pub mod Report
 pub mod Writable
 pub mod Spelled
+pub mod Words

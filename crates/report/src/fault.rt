@@ -7,7 +7,7 @@ ghost use Rattle.report.specs.Lines.{IsOnLine};
 use std::alloc::{AllocError, AllocFailed};
 
 /// Why bytes are no record's text.
-#[derive(Clone, Copy, PartialEq, Eq, Debug)]
+#[derive(Clone, Copy)]
 pub enum ReportFault {
     /// The first line, from 1 on, that is none of a report's, stands in a wrong place or tells a wrong sum.
     NotText { line: u64 },
@@ -16,7 +16,7 @@ pub enum ReportFault {
 }
 
 /// Why a word or a line is not read.
-#[derive(Clone, Copy, PartialEq, Eq, Debug)]
+#[derive(Clone, Copy)]
 pub enum Misfit {
     /// It is none that stands there.
     Text,
@@ -41,7 +41,7 @@ impl<T: Drop> From<AllocFailed<T>> for Misfit {
 }
 
 /// Why several lines are not read.
-#[derive(Clone, Copy, PartialEq, Eq, Debug)]
+#[derive(Clone, Copy)]
 pub enum Broken {
     /// A line does not fit, with which so many bytes are left.
     Line { left: usize },

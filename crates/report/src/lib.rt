@@ -16,6 +16,7 @@ mod setup_lines;
 mod spelled;
 mod switch_lines;
 mod switches;
+mod word;
 mod words;
 mod writing;
 

@@ -1,13 +1,9 @@
 //! The lines of a report.
-ghost use Rattle.std.specs.Prelude.{◌≡◌, ◌++◌, ℕ, List, OnOk};
+ghost use Rattle.std.specs.Prelude.{◌≡◌, ◌++◌, ◌∷◌, [], ℕ, List, OnOk, codes};
 ghost use Rattle.rv_base.specs.declared.journal.JournalEntry.TheVariants as entry;
-ghost use Rattle.rv_base.specs.declared.journal.Local.TheVariants as local;
-ghost use Rattle.report.specs.Report.{lines_of, newline, word, further, input_words, entry_lines, event_words};
+ghost use Rattle.report.specs.Report.{lines_of, line, actor_word, entry_lines, event_words};
 
-use crate::words::{
-    write_actor, write_address, write_flag, write_hex, write_newline, write_number,
-    write_number_or_dash, write_word,
-};
+use crate::word::{Word, write_line};
 use of_ravana::canonical_happening;
 use of_types::{Event, Link, Octets, Rule};
 use rv_base::{Actor, JournalEntry, Letter, Local};
@@ -39,15 +35,14 @@ impl Lines for Link {
 
     ghost lines = { link_line };
 
-    #[tactic(auto, unfolding(crate::specs::Report::line, crate::specs::Report::number))]
     fn write_lines(&self, _: Global, out: &mut Octets) -> Result<(), AllocError> {
-        out.append(b"link")?;
-        write_number(out, self.switch)?;
-        write_number(out, self.port)?;
-        write_number(out, self.peer)?;
-        write_number(out, self.peer_port)?;
-        write_newline(out)?;
-        Ok(())
+        let words = [
+            Word::Number(u64::from(self.switch)),
+            Word::Number(u64::from(self.port)),
+            Word::Number(u64::from(self.peer)),
+            Word::Number(u64::from(self.peer_port)),
+        ];
+        write_line(out, b"link", &words)
     }
 }
 
@@ -56,17 +51,16 @@ impl Lines for Rule {
 
     ghost lines = { deny_line };
 
-    #[tactic(auto, unfolding(crate::specs::Report::line, crate::specs::Report::number))]
     fn write_lines(&self, _: Global, out: &mut Octets) -> Result<(), AllocError> {
-        out.append(b"deny")?;
-        write_number(out, self.proto)?;
-        write_address(out, self.src.address)?;
-        write_number(out, self.src.length)?;
-        write_address(out, self.dst.address)?;
-        write_number(out, self.dst.length)?;
-        write_number_or_dash(out, self.port.map(u64::from))?;
-        write_newline(out)?;
-        Ok(())
+        let words = [
+            Word::Number(u64::from(self.proto)),
+            Word::Address(self.src.address),
+            Word::Number(u64::from(self.src.length)),
+            Word::Address(self.dst.address),
+            Word::Number(u64::from(self.dst.length)),
+            Word::NumberOrDash(self.port.map(u64::from)),
+        ];
+        write_line(out, b"deny", &words)
     }
 }
 
@@ -75,76 +69,13 @@ impl Lines for Letter<Octets> {
 
     ghost lines = { letter_line };
 
-    #[tactic(auto, unfolding(crate::specs::Report::line))]
     fn write_lines(&self, _: Global, out: &mut Octets) -> Result<(), AllocError> {
-        out.append(b"letter")?;
-        write_actor(out, self.to)?;
-        write_hex(out, self.body.as_slice())?;
-        write_newline(out)?;
-        Ok(())
+        let words = [Word::Actor(self.to), Word::Hex(self.body.as_slice())];
+        write_line(out, b"letter", &words)
     }
-}
-
-/// Writes what a line says of a frame that came in.
-#[tactic(auto, unfolding(crate::specs::Report::number))]
-fn write_frame(out: &mut Octets, port: u32, bytes: &[u8]) -> Result<(), AllocError>
-    ensures { OnOk result (out.new ≡ out.old ++ further (input_words (local.Frame port bytes.now))) }
-{
-    write_word(out, b"frame")?;
-    write_number(out, port)?;
-    write_hex(out, bytes)?;
-    write_newline(out)?;
-    Ok(())
-}
-
-/// Writes what a line says of a port that changed.
-#[tactic(auto, unfolding(crate::specs::Report::number))]
-fn write_port(out: &mut Octets, port: u32, up: bool) -> Result<(), AllocError>
-    ensures { OnOk result (out.new ≡ out.old ++ further (input_words (local.Port port up))) }
-{
-    write_word(out, b"port")?;
-    write_number(out, port)?;
-    write_flag(out, up)?;
-    write_newline(out)?;
-    Ok(())
-}
-
-/// Writes what a line says of a suspicion.
-#[tactic(auto, unfolding(crate::specs::Report::number))]
-fn write_suspicion(out: &mut Octets, view: u32) -> Result<(), AllocError>
-    ensures { OnOk result (out.new ≡ out.old ++ further (input_words (local.Suspect view))) }
-{
-    write_word(out, b"suspect")?;
-    write_number(out, view)?;
-    write_newline(out)?;
-    Ok(())
-}
-
-/// Writes a local input, and the end of its line.
-fn write_input(out: &mut Octets, input: &Local) -> Result<(), AllocError>
-    ensures { OnOk result (out.new ≡ out.old ++ further (input_words input.now)) }
-{
-    match input {
-        Local::Frame { port, bytes } => write_frame(out, *port, bytes.as_slice()),
-        Local::Port { port, up } => write_port(out, *port, *up),
-        Local::Suspect { view } => write_suspicion(out, *view),
-        Local::Tick => write_last_word(out, b"tick"),
-        Local::Crash => write_last_word(out, b"crash"),
-        Local::Restart => write_last_word(out, b"restart"),
-    }
-}
-
-/// Writes a word, and the end of its line.
-fn write_last_word(out: &mut Octets, text: &[u8]) -> Result<(), AllocError>
-    ensures { OnOk result (out.new ≡ out.old ++ (word text.now ++ newline)) }
-{
-    write_word(out, text)?;
-    write_newline(out)?;
-    Ok(())
 }
 
 /// Writes a post, and its letters.
-#[tactic(auto, unfolding(crate::specs::Report::line, crate::specs::Report::number))]
 fn write_post(
     alloc: Global,
     out: &mut Octets,
@@ -155,57 +86,58 @@ fn write_post(
 ) -> Result<(), AllocError>
     ensures { OnOk result (out.new ≡ out.old ++ entry_lines (entry.Post actor first letters.now lost)) }
 {
-    out.append(b"post")?;
-    write_actor(out, actor)?;
-    write_number(out, first)?;
-    write_number(out, letters.len())?;
-    write_number(out, lost)?;
-    write_newline(out)?;
+    let words = [
+        Word::Actor(actor),
+        Word::Number(first),
+        Word::Number(letters.len() as u64),
+        Word::Number(lost),
+    ];
+    write_line(out, b"post", &words)?;
     write_each(alloc, out, letters)?;
     Ok(())
 }
 
-#[tactic(auto, unfolding(crate::specs::Report::line, crate::specs::Report::number))]
-fn write_draw(out: &mut Octets, actor: Actor, id: u64, keep: bool) -> Result<(), AllocError>
-    ensures { OnOk result (out.new ≡ out.old ++ entry_lines (entry.Draw actor id keep)) }
+/// Writes the line of an input of one word.
+fn write_bare(out: &mut Octets, actor: Actor, name: &[u8]) -> Result<(), AllocError>
+    ensures { OnOk result (out.new ≡ out.old ++ line (codes "local") (actor_word actor ∷ name.now ∷ [])) }
 {
-    out.append(b"draw")?;
-    write_actor(out, actor)?;
-    write_number(out, id)?;
-    write_flag(out, keep)?;
-    write_newline(out)?;
-    Ok(())
+    write_line(out, b"local", &[Word::Actor(actor), Word::Text(name)])
 }
 
-#[tactic(auto, unfolding(crate::specs::Report::line, crate::specs::Report::number))]
-fn write_loss(out: &mut Octets, actor: Actor, id: u64) -> Result<(), AllocError>
-    ensures { OnOk result (out.new ≡ out.old ++ entry_lines (entry.Lose actor id)) }
-{
-    out.append(b"lose")?;
-    write_actor(out, actor)?;
-    write_number(out, id)?;
-    write_newline(out)?;
-    Ok(())
-}
-
-#[tactic(auto, unfolding(crate::specs::Report::line))]
 fn write_local(out: &mut Octets, actor: Actor, input: &Local) -> Result<(), AllocError>
     ensures { OnOk result (out.new ≡ out.old ++ entry_lines (entry.Local actor input.now)) }
 {
-    out.append(b"local")?;
-    write_actor(out, actor)?;
-    write_input(out, input)?;
-    Ok(())
-}
-
-#[tactic(auto, unfolding(crate::specs::Report::line))]
-fn write_idle(out: &mut Octets, actor: Actor) -> Result<(), AllocError>
-    ensures { OnOk result (out.new ≡ out.old ++ entry_lines (entry.Idle actor)) }
-{
-    out.append(b"idle")?;
-    write_actor(out, actor)?;
-    write_newline(out)?;
-    Ok(())
+    match input {
+        Local::Frame { port, bytes } => {
+            let words = [
+                Word::Actor(actor),
+                Word::Text(b"frame"),
+                Word::Number(u64::from(*port)),
+                Word::Hex(bytes.as_slice()),
+            ];
+            write_line(out, b"local", &words)
+        }
+        Local::Port { port, up } => {
+            let words = [
+                Word::Actor(actor),
+                Word::Text(b"port"),
+                Word::Number(u64::from(*port)),
+                Word::Flag(*up),
+            ];
+            write_line(out, b"local", &words)
+        }
+        Local::Suspect { view } => {
+            let words = [
+                Word::Actor(actor),
+                Word::Text(b"suspect"),
+                Word::Number(u64::from(*view)),
+            ];
+            write_line(out, b"local", &words)
+        }
+        Local::Tick => write_bare(out, actor, b"tick"),
+        Local::Crash => write_bare(out, actor, b"crash"),
+        Local::Restart => write_bare(out, actor, b"restart"),
+    }
 }
 
 impl Lines for JournalEntry<Octets> {
@@ -219,13 +151,37 @@ impl Lines for JournalEntry<Octets> {
                 letters,
                 lost,
             } => write_post(alloc, out, *actor, *first, letters.as_slice(), *lost),
-            JournalEntry::Draw { actor, id, keep } => write_draw(out, *actor, *id, *keep),
-            JournalEntry::Lose { actor, id } => write_loss(out, *actor, *id),
+            JournalEntry::Draw { actor, id, keep } => {
+                let words = [Word::Actor(*actor), Word::Number(*id), Word::Flag(*keep)];
+                write_line(out, b"draw", &words)
+            }
+            JournalEntry::Lose { actor, id } => {
+                write_line(out, b"lose", &[Word::Actor(*actor), Word::Number(*id)])
+            }
             JournalEntry::Local { actor, input } => write_local(out, *actor, input),
-            JournalEntry::Idle { actor } => write_idle(out, *actor),
+            JournalEntry::Idle { actor } => write_line(out, b"idle", &[Word::Actor(*actor)]),
             JournalEntry::Refused { .. } => Ok(()),
         }
     }
+}
+
+/// Writes a line that tells an event.
+fn write_event(
+    alloc: Global,
+    out: &mut Octets,
+    first: &[u8],
+    event: &Event,
+) -> Result<(), AllocError>
+    ensures { OnOk result (out.new ≡ out.old ++ line first.now (event_words event.now)) }
+{
+    let told = canonical_happening(alloc, &event.what)?;
+    let words = [
+        Word::Number(u64::from(event.switch)),
+        Word::Number(u64::from(event.life)),
+        Word::Number(event.number),
+        Word::Hex(told.as_slice()),
+    ];
+    write_line(out, first, &words)
 }
 
 impl Lines for Entry {
@@ -233,20 +189,10 @@ impl Lines for Entry {
 
     ghost lines = { log_line };
 
-    #[tactic(auto, unfolding(crate::specs::Report::line, crate::specs::Report::number))]
     fn write_lines(&self, alloc: Global, out: &mut Octets) -> Result<(), AllocError> {
         match self {
-            Entry::Received(event) => {
-                out.append(b"received")?;
-                write_event(alloc, out, event)?;
-                Ok(())
-            }
-            Entry::Processed(place) => {
-                out.append(b"processed")?;
-                write_number(out, *place)?;
-                write_newline(out)?;
-                Ok(())
-            }
+            Entry::Received(event) => write_event(alloc, out, b"received", event),
+            Entry::Processed(place) => write_line(out, b"processed", &[Word::Number(*place)]),
         }
     }
 }
@@ -256,24 +202,7 @@ impl Lines for Event {
 
     ghost lines = { event_line };
 
-    #[tactic(auto, unfolding(crate::specs::Report::line))]
     fn write_lines(&self, alloc: Global, out: &mut Octets) -> Result<(), AllocError> {
-        out.append(b"event")?;
-        write_event(alloc, out, self)?;
-        Ok(())
+        write_event(alloc, out, b"event", self)
     }
-}
-
-/// Writes what a line says of an event.
-#[tactic(auto, unfolding(crate::specs::Report::number))]
-fn write_event(alloc: Global, out: &mut Octets, event: &Event) -> Result<(), AllocError>
-    ensures { OnOk result (out.new ≡ out.old ++ further (event_words event.now)) }
-{
-    let told = canonical_happening(alloc, &event.what)?;
-    write_number(out, event.switch)?;
-    write_number(out, event.life)?;
-    write_number(out, event.number)?;
-    write_hex(out, told.as_slice())?;
-    write_newline(out)?;
-    Ok(())
 }

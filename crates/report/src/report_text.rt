@@ -5,21 +5,19 @@ ghost use Rattle.report.specs.Report.{port_line, port_lines, setup_line, setup_l
 
 use crate::lines::write_each;
 use crate::record::{Record, Told};
-use crate::switches::{write_labelled, write_switches};
-use crate::words::{write_newline, write_number};
+use crate::switches::write_switches;
+use crate::word::{Word, write_line, write_words};
+use crate::words::write_newline;
 use of_types::{Happening, Octets, Setup};
 use std::alloc::{AllocError, Global};
 use vr_log::Entry;
 
-#[tactic(auto, unfolding(crate::specs::Report::line, crate::specs::Report::number, crate::specs::Report::port_line))]
+#[tactic(auto, unfolding(crate::specs::Report::port_line))]
 fn write_port_line(out: &mut Octets, switch: usize, count: u32) -> Result<(), AllocError>
     ensures { OnOk result (out.new ≡ out.old ++ port_line switch count) }
 {
-    out.append(b"ports")?;
-    write_number(out, switch)?;
-    write_number(out, count)?;
-    write_newline(out)?;
-    Ok(())
+    let words = [Word::Number(switch as u64), Word::Number(u64::from(count))];
+    write_line(out, b"ports", &words)
 }
 
 /// Writes how many ports each switch has.
@@ -33,15 +31,15 @@ fn write_ports(out: &mut Octets, counts: &[u32]) -> Result<(), AllocError>
     Ok(())
 }
 
-#[tactic(auto, unfolding(crate::specs::Report::line, crate::specs::Report::number, crate::specs::Report::setup_line))]
+#[tactic(auto, unfolding(crate::specs::Report::setup_line))]
 fn write_setup_line(out: &mut Octets, setup: &Setup) -> Result<(), AllocError>
     ensures { OnOk result (out.new ≡ out.old ++ setup_line setup.now) }
 {
-    out.append(b"setup")?;
-    write_number(out, setup.controllers)?;
-    write_number(out, setup.ports.len())?;
-    write_newline(out)?;
-    Ok(())
+    let words = [
+        Word::Number(u64::from(setup.controllers)),
+        Word::Number(setup.ports.len() as u64),
+    ];
+    write_line(out, b"setup", &words)
 }
 
 #[tactic(auto, unfolding(crate::specs::Report::setup_lines))]
@@ -80,14 +78,12 @@ pub fn size_of_log(log: &[Entry]) -> u128
     size
 }
 
-#[tactic(auto, unfolding(crate::specs::Report::line, crate::specs::Report::number, crate::specs::Report::log_lines))]
+#[tactic(auto, unfolding(crate::specs::Report::log_lines))]
 fn write_log(alloc: Global, out: &mut Octets, log: &[Entry]) -> Result<(), AllocError>
     ensures { OnOk result (out.new ≡ out.old ++ log_lines log.now) }
 {
-    out.append(b"log")?;
-    write_number(out, log.len())?;
-    write_number(out, size_of_log(log))?;
-    write_newline(out)?;
+    let words = [Word::Number(log.len() as u64), Word::Sum(size_of_log(log))];
+    write_line(out, b"log", &words)?;
     write_each(alloc, out, log)?;
     Ok(())
 }
@@ -107,7 +103,7 @@ fn sums(switches: &[Told]) -> (u128, u128, u128)
     (events, executed, rows)
 }
 
-#[tactic(auto, unfolding(crate::specs::Report::number, crate::specs::Report::sum_words))]
+#[tactic(auto, unfolding(crate::specs::Report::labelled, crate::specs::Report::sum_words))]
 pub fn write_sum_words(
     out: &mut Octets,
     entries: usize,
@@ -116,20 +112,31 @@ pub fn write_sum_words(
     ensures { OnOk result (out.new ≡ out.old ++ sum_words entries switches.now) }
 {
     let (events, executed, rows) = sums(switches);
-    write_labelled(out, b"events", events)?;
-    write_labelled(out, b"log", entries)?;
-    write_labelled(out, b"commands", executed)?;
-    write_labelled(out, b"rows", rows)?;
-    Ok(())
+    let words = [
+        Word::Text(b"events"),
+        Word::Sum(events),
+        Word::Text(b"log"),
+        Word::Number(entries as u64),
+        Word::Text(b"commands"),
+        Word::Sum(executed),
+        Word::Text(b"rows"),
+        Word::Sum(rows),
+    ];
+    write_words(out, &words)
 }
 
-#[tactic(auto, unfolding(crate::specs::Report::number, crate::specs::Report::end_line))]
+#[tactic(auto, unfolding(crate::specs::Report::labelled, crate::specs::Report::end_line))]
 fn write_end(out: &mut Octets, told: &Record) -> Result<(), AllocError>
     ensures { OnOk result (out.new ≡ out.old ++ end_line told.now) }
 {
     out.append(b"end")?;
-    write_labelled(out, b"script", told.script)?;
-    write_labelled(out, b"closing", told.closing)?;
+    let turns = [
+        Word::Text(b"script"),
+        Word::Number(told.script),
+        Word::Text(b"closing"),
+        Word::Number(told.closing),
+    ];
+    write_words(out, &turns)?;
     write_sum_words(out, told.log.len(), told.switches.as_slice())?;
     write_newline(out)?;
     Ok(())
@@ -145,13 +152,12 @@ pub fn last_line(alloc: Global, told: &Record) -> Result<Octets, AllocError>
 }
 
 /// The text of a report. It is made in a fixed number of passes over the record.
-#[tactic(auto, unfolding(crate::specs::Report::text))]
+#[tactic(auto, unfolding(crate::specs::Report::line, crate::specs::Report::text))]
 pub fn text(alloc: Global, told: &Record) -> Result<Octets, AllocError>
     ensures { IfOk result (λ bytes. bytes ≡ text told.now) }
 {
     let mut out = Octets::new(alloc);
-    out.append(b"ravana report 1")?;
-    write_newline(&mut out)?;
+    write_line(&mut out, b"ravana report 1", &[])?;
     write_setup(alloc, &mut out, &told.setup)?;
     write_each(alloc, &mut out, told.journal.as_slice())?;
     write_log(alloc, &mut out, told.log.as_slice())?;

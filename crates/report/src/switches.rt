@@ -1,14 +1,11 @@
 //! The lines of the switches.
 ghost use Rattle.std.specs.Prelude.{◌≡◌, ◌++◌, OnOk};
-ghost use Rattle.report.specs.Report.{lines_of, executed_line, row_line, labelled, role_words, count_words, switch_line, told_lines, switch_lines};
+ghost use Rattle.report.specs.Report.{lines_of, executed_line, row_line, role_words, count_words, switch_line, told_lines, switch_lines};
 
 use crate::lines::write_each;
 use crate::record::{Shown, Told};
-use crate::words::{
-    write_actor, write_hex, write_master, write_newline, write_number, write_number_or_dash,
-    write_word,
-};
-use itoa::Integer;
+use crate::word::{Word, write_line, write_words};
+use crate::words::{write_newline, write_number};
 use of_match::bare_match;
 use of_messages::actions_of;
 use of_ravana::canonical_order;
@@ -16,17 +13,6 @@ use of_types::{Executed, Octets};
 use rv_base::Actor;
 use std::alloc::{AllocError, Global};
 
-/// Writes a name and a number.
-#[tactic(auto, unfolding(crate::specs::Report::labelled))]
-pub fn write_labelled<N: Integer>(out: &mut Octets, name: &[u8], n: N) -> Result<(), AllocError>
-    ensures { OnOk result (out.new ≡ out.old ++ labelled name.now (N.text n)) }
-{
-    write_word(out, name)?;
-    write_number(out, n)?;
-    Ok(())
-}
-
-#[tactic(auto, unfolding(crate::specs::Report::line, crate::specs::Report::number))]
 fn write_executed(
     alloc: Global,
     out: &mut Octets,
@@ -36,15 +22,15 @@ fn write_executed(
     ensures { OnOk result (out.new ≡ out.old ++ executed_line switch command.now) }
 {
     let held = canonical_order(alloc, &command.order)?;
-    out.append(b"executed")?;
-    write_number(out, switch)?;
-    write_number(out, command.life)?;
-    write_number(out, command.number)?;
-    write_number(out, command.generation)?;
-    write_actor(out, Actor::Controller(command.from))?;
-    write_hex(out, held.as_slice())?;
-    write_newline(out)?;
-    Ok(())
+    let words = [
+        Word::Number(switch as u64),
+        Word::Number(u64::from(command.life)),
+        Word::Number(command.number),
+        Word::Number(command.generation),
+        Word::Actor(Actor::Controller(command.from)),
+        Word::Hex(held.as_slice()),
+    ];
+    write_line(out, b"executed", &words)
 }
 
 #[tactic(auto, unfolding(crate::specs::Report::lines_of))]
@@ -62,19 +48,18 @@ fn write_executed_all(
     Ok(())
 }
 
-#[tactic(auto, unfolding(crate::specs::Report::line, crate::specs::Report::number))]
 fn write_row(alloc: Global, out: &mut Octets, switch: usize, row: &Shown) -> Result<(), AllocError>
     ensures { OnOk result (out.new ≡ out.old ++ row_line switch row.now) }
 {
     let matching = bare_match(alloc, &row.matching)?;
     let actions = actions_of(alloc, row.actions.as_slice())?;
-    out.append(b"row")?;
-    write_number(out, switch)?;
-    write_number(out, row.priority)?;
-    write_hex(out, matching.as_slice())?;
-    write_hex(out, actions.as_slice())?;
-    write_newline(out)?;
-    Ok(())
+    let words = [
+        Word::Number(switch as u64),
+        Word::Number(u64::from(row.priority)),
+        Word::Hex(matching.as_slice()),
+        Word::Hex(actions.as_slice()),
+    ];
+    write_line(out, b"row", &words)
 }
 
 #[tactic(auto, unfolding(crate::specs::Report::lines_of))]
@@ -92,28 +77,38 @@ fn write_rows(
     Ok(())
 }
 
-#[tactic(auto, unfolding(crate::specs::Report::labelled, crate::specs::Report::number, crate::specs::Report::role_words))]
+#[tactic(auto, unfolding(crate::specs::Report::labelled, crate::specs::Report::role_words))]
 fn write_role_words(out: &mut Octets, told: &Told) -> Result<(), AllocError>
     ensures { OnOk result (out.new ≡ out.old ++ role_words told.now) }
 {
-    write_word(out, b"generation")?;
-    write_number_or_dash(out, told.generation)?;
-    write_word(out, b"master")?;
-    write_master(out, told.master)?;
-    write_labelled(out, b"life", told.life)?;
-    Ok(())
+    let words = [
+        Word::Text(b"generation"),
+        Word::NumberOrDash(told.generation),
+        Word::Text(b"master"),
+        Word::Master(told.master),
+        Word::Text(b"life"),
+        Word::Number(u64::from(told.life)),
+    ];
+    write_words(out, &words)
 }
 
-#[tactic(auto, unfolding(crate::specs::Report::number, crate::specs::Report::count_words))]
+#[tactic(auto, unfolding(crate::specs::Report::labelled, crate::specs::Report::count_words))]
 fn write_count_words(out: &mut Octets, told: &Told) -> Result<(), AllocError>
     ensures { OnOk result (out.new ≡ out.old ++ count_words told.now) }
 {
-    write_labelled(out, b"events", told.events.len())?;
-    write_labelled(out, b"held", told.held)?;
-    write_labelled(out, b"executed", told.executed.len())?;
-    write_labelled(out, b"rows", told.rows.len())?;
-    write_labelled(out, b"sent", told.sent)?;
-    Ok(())
+    let words = [
+        Word::Text(b"events"),
+        Word::Number(told.events.len() as u64),
+        Word::Text(b"held"),
+        Word::Number(told.held),
+        Word::Text(b"executed"),
+        Word::Number(told.executed.len() as u64),
+        Word::Text(b"rows"),
+        Word::Number(told.rows.len() as u64),
+        Word::Text(b"sent"),
+        Word::Number(told.sent),
+    ];
+    write_words(out, &words)
 }
 
 #[tactic(auto, unfolding(crate::specs::Report::number, crate::specs::Report::switch_line))]

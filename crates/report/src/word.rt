@@ -1,0 +1,72 @@
+//! The words of a line as values, so that one call writes a line.
+ghost use Rattle.std.specs.Prelude.{◌≡◌, ◌++◌, map, OnOk};
+ghost use Rattle.report.specs.Report as report;
+ghost use Rattle.report.specs.Words.{told, spaced};
+
+use crate::words::{
+    write_actor, write_address, write_flag, write_hex, write_master, write_newline, write_number,
+    write_number_or_dash, write_word,
+};
+use of_types::Octets;
+use rv_base::Actor;
+use std::alloc::AllocError;
+
+/// A word of a line.
+#[derive(Clone, Copy)]
+pub enum Word<'a> {
+    Text(&'a [u8]),
+    Number(u64),
+    /// A sum over many numbers.
+    Sum(u128),
+    /// A number, or a dash for none.
+    NumberOrDash(Option<u64>),
+    Actor(Actor),
+    /// A controller, or a dash for none.
+    Master(Option<u8>),
+    Flag(bool),
+    /// An IPv4 address.
+    Address(u32),
+    /// Bytes as digits of base sixteen.
+    Hex(&'a [u8]),
+}
+
+/// Writes a space and a word.
+#[tactic(auto, unfolding(crate::specs::Report::number))]
+fn write_one(out: &mut Octets, word: &Word<'_>) -> Result<(), AllocError>
+    ensures { OnOk result (out.new ≡ out.old ++ report.word (told word.now)) }
+{
+    match word {
+        Word::Text(text) => write_word(out, text),
+        Word::Number(n) => write_number(out, *n),
+        Word::Sum(n) => write_number(out, *n),
+        Word::NumberOrDash(n) => write_number_or_dash(out, *n),
+        Word::Actor(actor) => write_actor(out, *actor),
+        Word::Master(master) => write_master(out, *master),
+        Word::Flag(is_set) => write_flag(out, *is_set),
+        Word::Address(address) => write_address(out, *address),
+        Word::Hex(bytes) => write_hex(out, bytes),
+    }
+}
+
+/// Writes words.
+pub fn write_words(out: &mut Octets, words: &[Word<'_>]) -> Result<(), AllocError>
+    ensures { OnOk result (out.new ≡ out.old ++ spaced (map told words.now)) }
+{
+    for word in words {
+        write_one(out, word)?;
+    }
+    Ok(())
+}
+
+/// Writes a line: its first word, and further ones.
+#[tactic(auto, unfolding(crate::specs::Report::line))]
+pub fn write_line(out: &mut Octets, first: &[u8], words: &[Word<'_>]) -> Result<(), AllocError>
+    ensures { OnOk result (out.new ≡ out.old ++ report.line first.now (map told words.now)) }
+{
+    out.append(first)?;
+    for word in words {
+        write_one(out, word)?;
+    }
+    write_newline(out)?;
+    Ok(())
+}

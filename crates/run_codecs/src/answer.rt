@@ -7,6 +7,7 @@ use of_ravana::{canonical, decode_extension, encode_extension};
 use of_types::{Extension, Match, Octets, OfMessage, Spoken};
 use std::alloc::{AllocError, Global};
 use vr_codec::{VrFault, decode_vr, encode_vr};
+use vr_log::VrMessage;
 
 /// What bytes are said to be.
 #[derive(Clone, Copy)]
@@ -44,11 +45,16 @@ fn told_octets(alloc: Global, octets: &Octets) -> Result<String, AllocError> {
     format!(in alloc; "ok {digits}")
 }
 
+fn told_behind(alloc: Global, number: u64, octets: &Octets) -> Result<String, AllocError> {
+    let digits = hex::encode(alloc, octets.as_slice())?;
+    format!(in alloc; "ok {number} {digits}")
+}
+
 /// What is read of a message, with the number of the request.
 fn told_spoken(alloc: Global, xid: u32, said: &Spoken) -> Result<String, AllocError> {
-    let bytes = canonical(alloc, xid, &said.copy()?)?;
-    let digits = hex::encode(alloc, bytes.as_slice())?;
-    format!(in alloc; "ok {xid} {digits}")
+    let copied = said.copy()?;
+    let bytes = canonical(alloc, xid, &copied)?;
+    told_behind(alloc, u64::from(xid), &bytes)
 }
 
 fn experimenter_answer(alloc: Global, xid: u32, body: &[u8]) -> Result<String, AllocError> {
@@ -74,9 +80,15 @@ fn message_answer(alloc: Global, bytes: &[u8]) -> Result<String, AllocError> {
     }
 }
 
+fn told_member(alloc: Global, message: &VrMessage) -> Result<String, AllocError> {
+    let copied = message.copy()?;
+    let bytes = encode_vr(alloc, &copied)?;
+    told_octets(alloc, &bytes)
+}
+
 fn members_answer(alloc: Global, bytes: &[u8]) -> Result<String, AllocError> {
     match decode_vr(alloc, bytes) {
-        Ok(message) => told_octets(alloc, &encode_vr(alloc, &message.copy()?)?),
+        Ok(message) => told_member(alloc, &message),
         Err(VrFault::Refused(refusal)) => format!(in alloc; "fault {refusal:?}"),
         Err(VrFault::OutOfMemory) => no_memory(alloc),
     }
@@ -86,8 +98,7 @@ fn members_answer(alloc: Global, bytes: &[u8]) -> Result<String, AllocError> {
 fn told_match(alloc: Global, matching: &Match, taken: usize) -> Result<String, AllocError> {
     let mut out = Octets::new(alloc);
     write_match(alloc, matching, &mut out)?;
-    let digits = hex::encode(alloc, out.as_slice())?;
-    format!(in alloc; "ok {taken} {digits}")
+    told_behind(alloc, taken as u64, &out)
 }
 
 fn match_answer(alloc: Global, bytes: &[u8]) -> Result<String, AllocError> {
@@ -98,7 +109,9 @@ fn match_answer(alloc: Global, bytes: &[u8]) -> Result<String, AllocError> {
 }
 
 fn told_extension(alloc: Global, said: &Extension) -> Result<String, AllocError> {
-    told_octets(alloc, &encode_extension(alloc, &said.copy()?)?)
+    let copied = said.copy()?;
+    let bytes = encode_extension(alloc, &copied)?;
+    told_octets(alloc, &bytes)
 }
 
 fn extension_answer(alloc: Global, bytes: &[u8]) -> Result<String, AllocError> {

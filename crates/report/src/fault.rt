@@ -7,7 +7,7 @@ ghost use Rattle.report.specs.Lines.{IsOnLine};
 use std::alloc::{AllocError, AllocFailed};
 
 /// Why bytes are no record's text.
-#[derive(Clone, Copy)]
+#[derive(Clone, Copy, Debug)]
 pub enum ReportFault {
     /// The first line, from 1 on, that is none of a report's, stands in a wrong place or tells a wrong sum.
     NotText { line: u64 },

@@ -13,13 +13,19 @@ pub fn named(out: &mut Octets, name: &[u8], number: u64) -> Result<(), AllocErro
     write_number(out, number)
 }
 
+/// Writes how many there are of what one is called so, and several so.
+pub fn counted(out: &mut Octets, number: u8, one: &[u8], several: &[u8]) -> Result<(), AllocError> {
+    write_number(out, number)?;
+    out.append(if number == 1 { one } else { several })
+}
+
 fn role_name(role: u32) -> &'static [u8] {
     match role {
-        NO_CHANGE => b" NOCHANGE, generation",
-        EQUAL => b" EQUAL, generation",
-        MASTER => b" MASTER, generation",
-        SLAVE => b" SLAVE, generation",
-        _ => b" of no known role, generation",
+        NO_CHANGE => b" NOCHANGE",
+        EQUAL => b" EQUAL",
+        MASTER => b" MASTER",
+        SLAVE => b" SLAVE",
+        _ => b" of no known role",
     }
 }
 

@@ -231,11 +231,11 @@ impl Marks {
                 *actor
             }
             JournalEntry::Draw { actor, id, .. } => {
-                named(&mut text, b"draws what was posted before, packet", *id)?;
+                named(&mut text, b"draws earlier packet", *id)?;
                 *actor
             }
             JournalEntry::Lose { actor, id } => {
-                named(&mut text, b"loses what was posted before, packet", *id)?;
+                named(&mut text, b"loses earlier packet", *id)?;
                 *actor
             }
             JournalEntry::Idle { actor } => {

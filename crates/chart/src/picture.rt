@@ -1,38 +1,61 @@
 //! A drawing as SVG. A number stands behind a space, which the forms of SVG that are used here allow.
 ghost use Rattle.std.specs.Prelude.{◌≤◌, ◌^◌};
 
-use crate::captions::{caption, named};
+use crate::captions::{caption, counted, named};
 use crate::shapes::{Arrow, Band, Carried, Drawing, End, Note};
 use of_types::Octets;
 use report::{write_actor, write_digits, write_number};
 use rv_base::Actor;
 use std::alloc::{AllocError, Global};
 
+/// Where the name of a view begins, and where the number of an entry ends.
+const VIEW: u128 = 8;
+
+const NUMBER: u128 = 170;
+
 /// Where the first lifeline stands, how far apart two of them are, and the room behind the last one.
-const LEFT: u128 = 350;
+const LEFT: u128 = 310;
 
-const SPACING: u128 = 180;
+const SPACING: u128 = 210;
 
-const RIGHT: u128 = 60;
+const RIGHT: u128 = 50;
 
 /// How far from its lifeline an arrow turns into the row where it ends.
 const KNEE: u128 = 16;
 
-/// Where the first entry stands, how far apart two entries are, and the room below the last one.
-const TOP: u128 = 100;
+/// How far from a lifeline words stand, which is behind the knees of its arrows.
+const ASIDE: u128 = 20;
 
-const ROW: u128 = 20;
+/// Where the first entry stands, how far apart two entries are, and the room below the last one.
+const TOP: u128 = 104;
+
+const ROW: u128 = 22;
 
 const BOTTOM: u128 = 40;
 
-/// After how many entries the names of the actors are written again.
+/// How far words stand below the middle of their row, and those on an arrow above it.
+const BELOW: u128 = 4;
+
+const ABOVE: u128 = 4;
+
+/// After how many entries the names of the actors are written again, in a row of their own.
 const NAMES: usize = 40;
+
+/// Half of the box of a name, across and down.
+const HALF_WIDTH: u128 = 17;
+
+const HALF_HEIGHT: u128 = 9;
+
+/// Half of the box of a note.
+const HALF_NOTE: u128 = 3;
 
 const STYLE: &[u8] = b"\" xmlns=\"http://www.w3.org/2000/svg\">
 <style>
 text{font:11px sans-serif;fill:#222;stroke:#fff;stroke-width:3px;stroke-linejoin:round;paint-order:stroke}
-path{fill:none}.title{font-size:15px}.name{font-weight:bold}.number,.before{text-anchor:end}.number{fill:#888}.note{fill:#a0380c}
-.life{stroke:#bbb}.spoken{stroke:#1f5fa8}.member{stroke:#2e7d32}.frame{stroke:#8a6d00}.unread{stroke:#555}
+path{fill:none}.title{font-size:15px}.name,.view{font-weight:bold}.name{text-anchor:middle}.number,.before{text-anchor:end}
+.number{fill:#888}.note{fill:#a0380c}
+.life{stroke:#bbb}.box{fill:#fff;stroke:#bbb}
+.spoken{stroke:#1f5fa8}.member{stroke:#2e7d32}.frame{stroke:#8a6d00}.unread{stroke:#555}
 .kept{stroke-dasharray:7 3}.lost{stroke-dasharray:2 3;marker-end:url(#cross)}.drawn,.kept{marker-end:url(#head)}
 .cross{stroke:#c00;stroke-width:2}.dot{fill:#222}.even{fill:#f3f6fb}.odd{fill:#fdf3e3}
 </style>
@@ -40,7 +63,7 @@ path{fill:none}.title{font-size:15px}.name{font-weight:bold}.number,.before{text
 <marker id=\"head\" viewBox=\"0 0 8 8\" refX=\"8\" refY=\"4\" markerWidth=\"7\" markerHeight=\"7\" orient=\"auto\"><path class=\"dot\" d=\"M0 0 8 4 0 8z\"/></marker>
 <marker id=\"cross\" viewBox=\"-6 -6 12 12\" markerWidth=\"12\" markerHeight=\"12\"><path class=\"cross\" d=\"M-5 -5 5 5M-5 5 5 -5\"/></marker>
 </defs>
-<text class=\"title\" transform=\"translate(20 26)\">entries";
+<text class=\"title\" transform=\"translate(20 26)\">";
 
 const LEGEND: &[u8] =
     b"<g transform=\"translate(20 50)\"><path class=\"spoken\" d=\"M0 0H30\"/><text x=\"36\" y=\"4\">OpenFlow</text>
@@ -67,12 +90,12 @@ fn column(drawing: &Drawing, actor: Actor) -> u128
     LEFT + SPACING * number
 }
 
-/// Where an entry stands.
+/// Where an entry stands. Above each entry before which the names stand is a row for them.
 fn row(place: usize) -> u128
     ensures least { TOP ≤ result }
     ensures most { result ≤ 2 ^ 70 }
 {
-    TOP + ROW * place as u128
+    TOP + ROW * (place as u128 + (place / NAMES) as u128)
 }
 
 /// Writes a text of a class up to its words.
@@ -152,16 +175,17 @@ fn write_line(svg: &mut Octets, drawing: &Drawing, arrow: &Arrow) -> Result<(), 
     end_path(svg)
 }
 
-/// Writes what an arrow carries, behind its end.
+/// Writes what an arrow carries, on its line and before its end.
 fn write_caption(svg: &mut Octets, drawing: &Drawing, arrow: &Arrow) -> Result<(), AllocError> {
     let (from, to) = (
         column(drawing, arrow.sender),
         column(drawing, arrow.receiver),
     );
+    let y = row(arrow.ended) - ABOVE;
     if from < to {
-        begin_text(svg, b"behind", to + 9, row(arrow.ended) + 4)?;
+        begin_text(svg, b"before", to - ASIDE, y)?;
     } else {
-        begin_text(svg, b"before", to - 9, row(arrow.ended) + 4)?;
+        begin_text(svg, b"behind", to + ASIDE, y)?;
     }
     caption(svg, &arrow.carried)?;
     end_text(svg)
@@ -169,45 +193,56 @@ fn write_caption(svg: &mut Octets, drawing: &Drawing, arrow: &Arrow) -> Result<(
 
 fn write_note(svg: &mut Octets, drawing: &Drawing, note: &Note) -> Result<(), AllocError> {
     let (x, y) = (column(drawing, note.actor), row(note.place));
-    begin_path(svg, b"dot", b"", x - 3, y - 3)?;
+    begin_path(svg, b"dot", b"", x - HALF_NOTE, y - HALF_NOTE)?;
     svg.append(b"h6v6h-6z")?;
     end_path(svg)?;
-    begin_text(svg, b"note", x + 9, y + 4)?;
+    begin_text(svg, b"note", x + ASIDE, y + BELOW)?;
     svg.append(note.text.as_slice())?;
     end_text(svg)
 }
 
-/// Writes the name of an actor beside its lifeline.
+/// Writes the name of an actor into a box on its lifeline, in the row above an entry.
 fn write_name(
     svg: &mut Octets,
     drawing: &Drawing,
     actor: Actor,
-    y: u128,
+    place: usize,
 ) -> Result<(), AllocError> {
-    begin_text(svg, b"name", column(drawing, actor) + 2, y)?;
+    let (x, y) = (column(drawing, actor), row(place) - ROW);
+    begin_path(svg, b"box", b"", x - HALF_WIDTH, y - HALF_HEIGHT)?;
+    svg.append(b"h34v18h-34z")?;
+    end_path(svg)?;
+    begin_text(svg, b"name", x, y + BELOW)?;
     write_actor(svg, actor)?;
     end_text(svg)
 }
 
-fn write_names(svg: &mut Octets, drawing: &Drawing, y: u128) -> Result<(), AllocError> {
+/// Writes the names of the actors, in the row above an entry.
+fn write_names(svg: &mut Octets, drawing: &Drawing, place: usize) -> Result<(), AllocError> {
     for number in 0..drawing.controllers {
-        write_name(svg, drawing, Actor::Controller(number), y)?;
+        write_name(svg, drawing, Actor::Controller(number), place)?;
     }
     for number in 0..drawing.switches {
-        write_name(svg, drawing, Actor::Switch(number), y)?;
+        write_name(svg, drawing, Actor::Switch(number), place)?;
     }
     Ok(())
 }
 
-/// Writes which entries are shown, counted from 1, and how many are left out.
+/// Writes how many actors there are, and which entries are shown, counted from 1.
 fn write_title(svg: &mut Octets, drawing: &Drawing) -> Result<(), AllocError> {
     let last = drawing.before.saturating_add(drawing.shown);
-    let behind = drawing.entries.saturating_sub(last);
-    write_number(svg, drawing.before as u128 + 1)?;
-    named(svg, b" to", last as u64)?;
-    named(svg, b" of", drawing.entries as u64)?;
-    named(svg, b"; left out: before these", drawing.before as u64)?;
-    named(svg, b", behind them", behind as u64)
+    counted(svg, drawing.controllers, b" controller", b" controllers")?;
+    svg.append(b",")?;
+    counted(svg, drawing.switches, b" switch", b" switches")?;
+    if drawing.shown == 0 {
+        svg.append(b": none of the entries, which are")?;
+    } else {
+        svg.append(b": entries")?;
+        write_number(svg, drawing.before as u128 + 1)?;
+        named(svg, b" to", last as u64)?;
+        svg.append(b" of")?;
+    }
+    write_number(svg, drawing.entries as u64)
 }
 
 /// Writes the beginning: the size, the title and what the lines mean.
@@ -241,7 +276,7 @@ fn write_band(
     step(svg, b"V", row(drawing.shown) + BOTTOM)?;
     svg.append(b"H 0z")?;
     end_path(svg)?;
-    begin_text(svg, b"name", 8, y + 14)?;
+    begin_text(svg, b"view", VIEW, row(band.place) + BELOW)?;
     named(svg, b"view", u64::from(band.view))?;
     svg.append(b", primary")?;
     let primary = band.view % u32::from(drawing.controllers).max(1);
@@ -272,12 +307,23 @@ fn write_grid(svg: &mut Octets, drawing: &Drawing, width: u128) -> Result<(), Al
 /// Writes the number of each entry, counted from 1, and now and then the names of the actors.
 fn write_rows(svg: &mut Octets, drawing: &Drawing) -> Result<(), AllocError> {
     for place in 0..drawing.shown {
-        begin_text(svg, b"number", 130, row(place) + 4)?;
+        begin_text(svg, b"number", NUMBER, row(place) + BELOW)?;
         write_number(svg, drawing.before as u128 + place as u128 + 1)?;
         end_text(svg)?;
         if place % NAMES == 0 {
-            write_names(svg, drawing, row(place) - 8)?;
+            write_names(svg, drawing, place)?;
         }
+    }
+    Ok(())
+}
+
+/// Writes the words beside arrows and lifelines.
+fn write_words(svg: &mut Octets, drawing: &Drawing) -> Result<(), AllocError> {
+    for arrow in drawing.arrows.as_slice() {
+        write_caption(svg, drawing, arrow)?;
+    }
+    for note in &drawing.notes {
+        write_note(svg, drawing, note)?;
     }
     Ok(())
 }
@@ -292,12 +338,7 @@ pub fn svg(alloc: Global, drawing: &Drawing) -> Result<Octets, AllocError> {
         write_line(&mut svg, drawing, arrow)?;
     }
     write_rows(&mut svg, drawing)?;
-    for arrow in drawing.arrows.as_slice() {
-        write_caption(&mut svg, drawing, arrow)?;
-    }
-    for note in &drawing.notes {
-        write_note(&mut svg, drawing, note)?;
-    }
+    write_words(&mut svg, drawing)?;
     svg.append(b"</svg>\n")?;
     Ok(svg)
 }

@@ -4,9 +4,9 @@ ghost use Rattle.rv_base.specs.Pool.{past};
 ghost use Rattle.chart.specs.declared.shapes.Arrow.{Arrow};
 ghost use Rattle.chart.specs.Arrows.{IsArrow, arrows as arrows_of, before_of, shown as shown_of};
 
-use crate::marks::Marks;
+use crate::marks::{Marks, Seen};
 use crate::packets::arrows;
-use crate::shapes::{Arrow, Band, Drawing, Note, Window};
+use crate::shapes::{Arrow, Band, Drawing, Logged, Note, Window};
 use of_types::Octets;
 use report::Record;
 use rv_base::JournalEntry;
@@ -22,30 +22,59 @@ fn is_ended_at(arrows: &[Arrow], next: usize, place: usize) -> bool
     }
 }
 
-/// The bands and the notes of the entries that are shown, behind those before them.
+/// What is marked beside the arrows.
+#[derive(Drop)]
+struct Marked {
+    bands: Vec<Band>,
+    notes: Vec<Note>,
+    log: Vec<Logged>,
+}
+
+impl Marked {
+    fn new(alloc: Global) -> Marked {
+        Marked {
+            bands: Vec::new(alloc),
+            notes: Vec::new(alloc),
+            log: Vec::new(alloc),
+        }
+    }
+
+    /// Adds what an entry at a place tells. Beside the end of an arrow stands no note.
+    fn add(&mut self, place: usize, seen: Seen, is_end: bool) -> Result<(), AllocError> {
+        let Seen { actor, text, log } = seen;
+        if !is_end && !text.is_empty() {
+            self.notes.push(Note { place, actor, text })?;
+        }
+        if !log.is_empty() {
+            self.log.push(Logged { place, text: log })?;
+        }
+        Ok(())
+    }
+}
+
+/// What is marked beside the arrows of the entries that are shown, behind those before them.
 fn mark(
     alloc: Global,
     marks: &mut Marks,
     shown: &[JournalEntry<Octets>],
     arrows: &[Arrow],
-) -> Result<(Vec<Band>, Vec<Note>), AllocError> {
-    let mut bands = Vec::new(alloc);
-    let mut notes = Vec::new(alloc);
+) -> Result<Marked, AllocError> {
+    let mut marked = Marked::new(alloc);
     let mut view = marks.view;
     let mut next = 0;
     for (place, entry) in shown.iter().enumerate() {
-        let (actor, text) = marks.see(entry)?;
-        if is_ended_at(arrows, next, place) {
+        let seen = marks.see(place, entry)?;
+        let is_end = is_ended_at(arrows, next, place);
+        if is_end {
             next += 1;
-        } else if !text.is_empty() {
-            notes.push(Note { place, actor, text })?;
         }
+        marked.add(place, seen, is_end)?;
         if place == 0 || marks.view > view {
             view = marks.view;
-            bands.push(Band { place, view })?;
+            marked.bands.push(Band { place, view })?;
         }
     }
-    Ok((bands, notes))
+    Ok(marked)
 }
 
 /// How many entries a window leaves out before it, and those that it shows.
@@ -75,9 +104,10 @@ pub fn draw(alloc: Global, told: &Record, window: Window) -> Result<Drawing, All
     let arrows = arrows(alloc, shown)?;
     let mut marks = Marks::new(alloc, told)?;
     for entry in &journal[..before] {
-        marks.see(entry)?;
+        marks.see(0, entry)?;
     }
-    let (bands, notes) = mark(alloc, &mut marks, shown, arrows.as_slice())?;
+    let Marked { bands, notes, log } = mark(alloc, &mut marks, shown, arrows.as_slice())?;
+    let lives = marks.lifelines.end(shown.len())?;
     Ok(Drawing {
         controllers: told.setup.controllers,
         switches: told.setup.ports.len().min(255) as u8,
@@ -87,5 +117,7 @@ pub fn draw(alloc: Global, told: &Record, window: Window) -> Result<Drawing, All
         arrows,
         bands,
         notes,
+        log,
+        lives,
     })
 }

@@ -4,6 +4,7 @@
 mod bodies;
 mod captions;
 mod drawing;
+mod lifelines;
 mod marks;
 mod packets;
 mod picture;
@@ -13,4 +14,4 @@ pub use bodies::carried;
 pub use drawing::draw;
 pub use packets::arrows;
 pub use picture::svg;
-pub use shapes::{Arrow, Band, Carried, Drawing, End, Note, Window};
+pub use shapes::{Arrow, Band, Carried, Drawing, End, Life, Logged, Note, Standing, Window};

@@ -1,10 +1,11 @@
-//! What is marked beside the arrows: views, inputs, what was carried out, and the committed log.
+//! What is marked beside the arrows: views, inputs, what was carried out, the committed log, and how each actor stands.
 
 use crate::bodies::carried;
 use crate::captions::{input_words, named};
-use crate::shapes::Carried;
-use of_types::{Extension, Octets, Spoken};
-use report::{Record, Told};
+use crate::lifelines::Lifelines;
+use crate::shapes::{Carried, Standing};
+use of_types::{Extension, MASTER, Octets, OfMessage, Spoken};
+use report::{Record, Told, write_number};
 use rv_base::{Actor, JournalEntry, Letter, Local};
 use std::alloc::{AllocError, Global};
 use vr_log::Entry;
@@ -91,12 +92,73 @@ fn add(text: &mut Octets, words: &[u8], number: u64) -> Result<(), AllocError> {
     named(text, words, number)
 }
 
-/// What is still to be marked of a run, and the greatest view that was suspected so far.
+/// Adds the place of an entry of the log behind those that stand there.
+fn add_place(log: &mut Octets, place: u64) -> Result<(), AllocError> {
+    if !log.is_empty() {
+        log.append(b",")?;
+    }
+    write_number(log, u128::from(place))
+}
+
+/// The generation with which a body grants the role of master.
+fn granted_generation(said: &Carried) -> Option<u64> {
+    match said {
+        Carried::Spoken(Spoken::Plain(OfMessage::RoleReply { role, generation }))
+            if *role == MASTER => Some(*generation),
+        _ => None,
+    }
+}
+
+/// What an entry of the journal tells: whom it names, what is written beside it, and which entries of the log it tells of.
+/// Both texts may be nothing.
+#[derive(Drop)]
+pub struct Seen {
+    pub actor: Actor,
+    pub text: Octets,
+    pub log: Octets,
+}
+
+impl Seen {
+    fn of(alloc: Global, actor: Actor) -> Seen {
+        Seen {
+            actor,
+            text: Octets::new(alloc),
+            log: Octets::new(alloc),
+        }
+    }
+}
+
+/// Writes what became of the entries of the log behind their places: a switch tells of its events, and a controller of what
+/// is processed.
+fn end_places(log: &mut Octets, sender: Actor) -> Result<(), AllocError> {
+    if log.is_empty() {
+        return Ok(());
+    }
+    match sender {
+        Actor::Switch(_) => log.append(b" received"),
+        Actor::Controller(_) => log.append(b" processed"),
+    }
+}
+
+/// Whom an entry names.
+fn actor_of(entry: &JournalEntry<Octets>) -> Actor {
+    match entry {
+        JournalEntry::Post { actor, .. } => *actor,
+        JournalEntry::Local { actor, .. } => *actor,
+        JournalEntry::Draw { actor, .. } => *actor,
+        JournalEntry::Lose { actor, .. } => *actor,
+        JournalEntry::Idle { actor } => *actor,
+        JournalEntry::Refused { actor } => *actor,
+    }
+}
+
+/// What is still to be marked of a run, the greatest view that was suspected so far, and the lifelines up to there.
 #[derive(Drop)]
 pub struct Marks {
     alloc: Global,
     switches: Vec<SwitchMarks>,
     pub view: u32,
+    pub lifelines: Lifelines,
 }
 
 impl Marks {
@@ -106,10 +168,13 @@ impl Marks {
         for switch in told.switches.as_slice() {
             switches.push(SwitchMarks::new(alloc, switch)?)?;
         }
+        let ports = told.setup.ports.len().min(255) as u8;
+        let lifelines = Lifelines::new(alloc, told.setup.controllers, ports)?;
         let mut marks = Marks {
             alloc,
             switches,
             view: 0,
+            lifelines,
         };
         marks.list_log(told.log.as_slice())?;
         Ok(marks)
@@ -143,7 +208,7 @@ impl Marks {
         &mut self,
         switch: u8,
         said: &Extension,
-        text: &mut Octets,
+        seen: &mut Seen,
     ) -> Result<(), AllocError> {
         let Some(of) = self.switches.get_mut(usize::from(switch)) else {
             return Ok(());
@@ -151,7 +216,7 @@ impl Marks {
         match *said {
             Extension::Event { life, number, .. } => {
                 if let Some(place) = of.received.mark(life, number) {
-                    add(text, b"received: log entry", place)?;
+                    add_place(&mut seen.log, place)?;
                 }
             }
             Extension::EventAck { life, through } if through > 0 => {
@@ -159,12 +224,12 @@ impl Marks {
                     let Some(place) = of.processed.mark(life, through - 1) else {
                         break
                     };
-                    add(text, b"processed: log entry", place)?;
+                    add_place(&mut seen.log, place)?;
                 }
             }
             Extension::CmdAck { life, number, .. } => {
                 if of.executed.mark(life, number).is_some() {
-                    add(text, b"carried out: command", number)?;
+                    add(&mut seen.text, b"carried out: command", number)?;
                 }
             }
             _ => {}
@@ -172,81 +237,95 @@ impl Marks {
         Ok(())
     }
 
+    /// Takes note of a letter that an entry at a place posts.
     fn see_letter(
         &mut self,
-        sender: Actor,
+        place: usize,
         letter: &Letter<Octets>,
-        text: &mut Octets,
+        seen: &mut Seen,
     ) -> Result<(), AllocError> {
-        let switch = match (sender, letter.to) {
-            (Actor::Switch(switch), Actor::Controller(_)) => switch,
-            (Actor::Controller(_), Actor::Switch(switch)) => switch,
-            _ => return Ok(()),
-        };
-        match carried(self.alloc, sender, letter.to, letter.body.as_slice())? {
-            Carried::Spoken(Spoken::Ravana(said)) => self.see_extension(switch, &said, text),
+        let said = carried(self.alloc, seen.actor, letter.to, letter.body.as_slice())?;
+        match (seen.actor, letter.to) {
+            (Actor::Switch(switch), Actor::Controller(controller)) => {
+                self.see_answer(place, switch, controller, &said, seen)
+            }
+            (Actor::Controller(_), Actor::Switch(switch)) => self.see_said(switch, &said, seen),
             _ => Ok(()),
         }
     }
 
-    /// Writes what is told beside a post.
+    /// Takes note of what a switch says to a controller.
+    fn see_answer(
+        &mut self,
+        place: usize,
+        switch: u8,
+        controller: u8,
+        said: &Carried,
+        seen: &mut Seen,
+    ) -> Result<(), AllocError> {
+        match granted_generation(said) {
+            Some(generation) => self.lifelines.grant(controller, generation, place),
+            None => self.see_said(switch, said, seen),
+        }
+    }
+
+    fn see_said(&mut self, switch: u8, said: &Carried, seen: &mut Seen) -> Result<(), AllocError> {
+        match said {
+            Carried::Spoken(Spoken::Ravana(said)) => self.see_extension(switch, said, seen),
+            _ => Ok(()),
+        }
+    }
+
+    /// Takes note of a post at a place.
     fn see_post(
         &mut self,
-        sender: Actor,
+        place: usize,
         letters: &[Letter<Octets>],
         lost: u64,
-        text: &mut Octets,
+        seen: &mut Seen,
     ) -> Result<(), AllocError> {
         for letter in letters {
-            self.see_letter(sender, letter, text)?;
+            self.see_letter(place, letter, seen)?;
         }
         if lost > 0 {
-            add(text, b"no room, lost:", lost)?;
+            add(&mut seen.text, b"no room, lost:", lost)?;
         }
-        Ok(())
+        end_places(&mut seen.log, seen.actor)
     }
 
-    fn see_input(&mut self, input: &Local, text: &mut Octets) -> Result<(), AllocError> {
-        if let Local::Suspect { view } = input {
-            self.view = self.view.max(*view);
+    /// Takes note of an input at a place.
+    fn see_input(
+        &mut self,
+        place: usize,
+        input: &Local,
+        seen: &mut Seen,
+    ) -> Result<(), AllocError> {
+        match input {
+            Local::Suspect { view } => self.view = self.view.max(*view),
+            Local::Crash => self.lifelines.turn(seen.actor, Standing::Down, place)?,
+            Local::Restart => self.lifelines.turn(seen.actor, Standing::Up, place)?,
+            _ => {}
         }
-        input_words(text, input)
+        input_words(&mut seen.text, input)
     }
 
-    /// Takes note of the next entry, and gives who it names and what is written beside it, which may be nothing.
-    pub fn see(&mut self, entry: &JournalEntry<Octets>) -> Result<(Actor, Octets), AllocError> {
-        let mut text = Octets::new(self.alloc);
-        let actor = match entry {
-            JournalEntry::Post {
-                actor,
-                letters,
-                lost,
-                ..
-            } => {
-                self.see_post(*actor, letters.as_slice(), *lost, &mut text)?;
-                *actor
+    /// Takes note of the next entry, which stands at a place, and gives what it tells.
+    pub fn see(&mut self, place: usize, entry: &JournalEntry<Octets>) -> Result<Seen, AllocError> {
+        let mut seen = Seen::of(self.alloc, actor_of(entry));
+        match entry {
+            JournalEntry::Post { letters, lost, .. } => {
+                self.see_post(place, letters.as_slice(), *lost, &mut seen)?;
             }
-            JournalEntry::Local { actor, input } => {
-                self.see_input(input, &mut text)?;
-                *actor
+            JournalEntry::Local { input, .. } => self.see_input(place, input, &mut seen)?,
+            JournalEntry::Draw { id, .. } => {
+                named(&mut seen.text, b"draws earlier packet", *id)?;
             }
-            JournalEntry::Draw { actor, id, .. } => {
-                named(&mut text, b"draws earlier packet", *id)?;
-                *actor
+            JournalEntry::Lose { id, .. } => {
+                named(&mut seen.text, b"loses earlier packet", *id)?;
             }
-            JournalEntry::Lose { actor, id } => {
-                named(&mut text, b"loses earlier packet", *id)?;
-                *actor
-            }
-            JournalEntry::Idle { actor } => {
-                text.append(b"nothing waits")?;
-                *actor
-            }
-            JournalEntry::Refused { actor } => {
-                text.append(b"no memory")?;
-                *actor
-            }
-        };
-        Ok((actor, text))
+            JournalEntry::Idle { .. } => seen.text.append(b"nothing waits")?,
+            JournalEntry::Refused { .. } => seen.text.append(b"no memory")?,
+        }
+        Ok(seen)
     }
 }

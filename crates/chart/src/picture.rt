@@ -2,16 +2,18 @@
 ghost use Rattle.std.specs.Prelude.{◌≤◌, ◌^◌};
 
 use crate::captions::{caption, counted, named};
-use crate::shapes::{Arrow, Band, Carried, Drawing, End, Note};
+use crate::shapes::{Arrow, Band, Carried, Drawing, End, Life, Logged, Note, Standing};
 use of_types::Octets;
 use report::{write_actor, write_digits, write_number};
 use rv_base::Actor;
 use std::alloc::{AllocError, Global};
 
-/// Where the name of a view begins, and where the number of an entry ends.
+/// Where the name of a view begins, where the number of an entry ends, and where the column of the log begins.
 const VIEW: u128 = 8;
 
 const NUMBER: u128 = 170;
+
+const LOG: u128 = 182;
 
 /// Where the first lifeline stands, how far apart two of them are, and the room behind the last one.
 const LEFT: u128 = 310;
@@ -53,8 +55,8 @@ const STYLE: &[u8] = b"\" xmlns=\"http://www.w3.org/2000/svg\">
 <style>
 text{font:11px sans-serif;fill:#222;stroke:#fff;stroke-width:3px;stroke-linejoin:round;paint-order:stroke}
 path{fill:none}.title{font-size:15px}.name,.view{font-weight:bold}.name{text-anchor:middle}.number,.before{text-anchor:end}
-.number{fill:#888}.note{fill:#a0380c}
-.life{stroke:#bbb}.box{fill:#fff;stroke:#bbb}
+.number{fill:#888}.note{fill:#a0380c}.log{fill:#5b3a9c}
+.up{stroke:#bbb}.down{stroke:#888;stroke-dasharray:2 6}.master{stroke:#b9a3e3;stroke-width:7}.box{fill:#fff;stroke:#bbb}
 .spoken{stroke:#1f5fa8}.member{stroke:#2e7d32}.frame{stroke:#8a6d00}.unread{stroke:#555}
 .kept{stroke-dasharray:7 3}.lost{stroke-dasharray:2 3;marker-end:url(#cross)}.drawn,.kept{marker-end:url(#head)}
 .cross{stroke:#c00;stroke-width:2}.dot{fill:#222}.even{fill:#f3f6fb}.odd{fill:#fdf3e3}
@@ -70,7 +72,9 @@ const LEGEND: &[u8] =
 <path class=\"member\" d=\"M110 0H140\"/><text x=\"146\" y=\"4\">between controllers</text>
 <path class=\"frame\" d=\"M270 0H300\"/><text x=\"306\" y=\"4\">on a link</text>
 <path class=\"kept unread\" d=\"M370 0H400\"/><text x=\"406\" y=\"4\">drawn and stays</text>
-<path class=\"lost unread\" d=\"M510 0H540\"/><text x=\"552\" y=\"4\">lost</text></g>
+<path class=\"lost unread\" d=\"M510 0H540\"/><text x=\"552\" y=\"4\">lost</text>
+<path class=\"master\" d=\"M590 0H620\"/><text x=\"626\" y=\"4\">master</text>
+<path class=\"down\" d=\"M680 0H710\"/><text x=\"716\" y=\"4\">down</text></g>
 ";
 
 /// How many lifelines there are.
@@ -155,6 +159,14 @@ fn style(end: End) -> &'static [u8] {
     }
 }
 
+fn look(standing: Standing) -> &'static [u8] {
+    match standing {
+        Standing::Up => b"up",
+        Standing::Down => b"down",
+        Standing::Master => b"master",
+    }
+}
+
 /// Writes the line of an arrow: from its post into the row where it ends, and along that to its receiver.
 fn write_line(svg: &mut Octets, drawing: &Drawing, arrow: &Arrow) -> Result<(), AllocError> {
     let (from, to) = (
@@ -201,6 +213,13 @@ fn write_note(svg: &mut Octets, drawing: &Drawing, note: &Note) -> Result<(), Al
     end_text(svg)
 }
 
+/// Writes into the column of the log.
+fn write_logged(svg: &mut Octets, logged: &Logged) -> Result<(), AllocError> {
+    begin_text(svg, b"log", LOG, row(logged.place) + BELOW)?;
+    svg.append(logged.text.as_slice())?;
+    end_text(svg)
+}
+
 /// Writes the name of an actor into a box on its lifeline, in the row above an entry.
 fn write_name(
     svg: &mut Octets,
@@ -217,8 +236,11 @@ fn write_name(
     end_text(svg)
 }
 
-/// Writes the names of the actors, in the row above an entry.
+/// Writes the names above the columns, into the row above an entry.
 fn write_names(svg: &mut Octets, drawing: &Drawing, place: usize) -> Result<(), AllocError> {
+    begin_text(svg, b"view", LOG, row(place) - ROW + BELOW)?;
+    svg.append(b"log")?;
+    end_text(svg)?;
     for number in 0..drawing.controllers {
         write_name(svg, drawing, Actor::Controller(number), place)?;
     }
@@ -284,27 +306,37 @@ fn write_band(
     end_text(svg)
 }
 
+/// Writes a part of a lifeline. The first one begins at the names.
+fn write_life(svg: &mut Octets, drawing: &Drawing, life: &Life) -> Result<(), AllocError> {
+    let top = if life.from == 0 {
+        TOP - ROW
+    } else {
+        row(life.from)
+    };
+    begin_path(
+        svg,
+        look(life.standing),
+        b"",
+        column(drawing, life.actor),
+        top,
+    )?;
+    step(svg, b"V", row(life.to))?;
+    end_path(svg)
+}
+
 /// Writes the bands and the lifelines.
 fn write_grid(svg: &mut Octets, drawing: &Drawing, width: u128) -> Result<(), AllocError> {
     for (index, band) in drawing.bands.iter().enumerate() {
         let class: &[u8] = if index % 2 == 0 { b"even" } else { b"odd" };
         write_band(svg, drawing, band, class, width)?;
     }
-    for number in 0..lifelines(drawing) {
-        begin_path(
-            svg,
-            b"life",
-            b"",
-            LEFT + SPACING * u128::from(number),
-            TOP - ROW,
-        )?;
-        step(svg, b"V", row(drawing.shown))?;
-        end_path(svg)?;
+    for life in &drawing.lives {
+        write_life(svg, drawing, life)?;
     }
     Ok(())
 }
 
-/// Writes the number of each entry, counted from 1, and now and then the names of the actors.
+/// Writes the number of each entry, counted from 1, what it tells of the log, and now and then the names above the columns.
 fn write_rows(svg: &mut Octets, drawing: &Drawing) -> Result<(), AllocError> {
     for place in 0..drawing.shown {
         begin_text(svg, b"number", NUMBER, row(place) + BELOW)?;
@@ -313,6 +345,9 @@ fn write_rows(svg: &mut Octets, drawing: &Drawing) -> Result<(), AllocError> {
         if place % NAMES == 0 {
             write_names(svg, drawing, place)?;
         }
+    }
+    for logged in &drawing.log {
+        write_logged(svg, logged)?;
     }
     Ok(())
 }

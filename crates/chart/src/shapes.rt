@@ -59,6 +59,30 @@ pub struct Note {
     pub text: Octets,
 }
 
+/// How an actor stands. Master is the controller that a switch granted this role, with the greatest generation so far.
+#[derive(Clone, Copy, PartialEq, Eq)]
+pub enum Standing {
+    Up,
+    Down,
+    Master,
+}
+
+/// A part of an actor's lifeline, from a place to another, on which it stands so.
+#[derive(Clone, Copy)]
+pub struct Life {
+    pub actor: Actor,
+    pub standing: Standing,
+    pub from: usize,
+    pub to: usize,
+}
+
+/// Which entries of the committed log an entry tells of for the first time, and what it tells.
+#[derive(Drop)]
+pub struct Logged {
+    pub place: usize,
+    pub text: Octets,
+}
+
 /// The shapes of a run. Its actors are so many controllers and switches. Of its `entries` in all, so many are left out
 /// before those `shown`, and the others behind them.
 #[derive(Drop)]
@@ -71,4 +95,6 @@ pub struct Drawing {
     pub arrows: Items<Arrow>,
     pub bands: Vec<Band>,
     pub notes: Vec<Note>,
+    pub log: Vec<Logged>,
+    pub lives: Vec<Life>,
 }

@@ -1,0 +1,4 @@
+pub mod Joining
+pub mod Known
+pub mod Sizes
+pub mod Sums

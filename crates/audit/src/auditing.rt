@@ -1,5 +1,5 @@
 //! The audit of a report.
-ghost use Rattle.std.specs.Prelude.{◌≡◌, ◌+◌, sum_by, IfOk};
+ghost use Rattle.std.specs.Prelude.{◌≡◌, ◌+◌, ℕ, List, sum_by, IfOk};
 ghost use Rattle.of_types.specs.Setups.{IsSetup};
 ghost use Rattle.audit.specs.Audit.{count_entry_lines, lines_before, lines_fail, first_failing, differs, verdict_of};
 ghost use Rattle.audit.specs.Judging.{IsEvidence, IsCommitted};
@@ -87,6 +87,25 @@ fn gather<A: App>(
     ))
 }
 
+/// The first line of a record that fails, by what its lines are judged by.
+fn first_judged(
+    lines: &Record,
+    evidence: &Evidence,
+    committed: &Committed,
+) -> Result<Option<u64>, AllocError>
+    ensures { (kinds : List ℕ) → IsEvidence kinds lines.now evidence.now → IsCommitted kinds lines.now committed.now →
+        IfOk result (λ first. first ≡ first_failing 1 (lines_fail kinds lines.now)) }
+{
+    let entries = add(lines_before(lines)?, 1)?;
+    match first_of_log(entries, lines.log.as_slice(), evidence)? {
+        Some(first) => Ok(Some(first)),
+        None => {
+            let switches = add(entries, lines.log.len() as u64)?;
+            first_of_switches(switches, lines.switches.as_slice(), committed)
+        }
+    }
+}
+
 /// The first line of a record that fails.
 fn first_of_record<A: App>(
     alloc: Global,
@@ -97,14 +116,7 @@ fn first_of_record<A: App>(
     ensures { IfOk result (λ first. first ≡ first_failing 1 (lines_fail (A.law.kinds app.old) lines.now)) }
 {
     let (evidence, committed) = gather(alloc, lines, app)?;
-    let entries = add(lines_before(lines)?, 1)?;
-    match first_of_log(entries, lines.log.as_slice(), &evidence)? {
-        Some(first) => Ok(Some(first)),
-        None => {
-            let switches = add(entries, lines.log.len() as u64)?;
-            first_of_switches(switches, lines.switches.as_slice(), &committed)
-        }
-    }
+    first_judged(lines, &evidence, &committed)
 }
 
 fn verdict_of(first: Option<u64>) -> Verdict

@@ -9,4 +9,4 @@ mod writing;
 pub use fault::MatchFault;
 pub use kind::{FieldHeader, FieldKind};
 pub use reading::{match_law, read_match};
-pub use writing::{bare_match, write_match};
+pub use writing::{MatchFront, bare_match, match_front, write_match};

@@ -3,6 +3,3 @@ use Rattle.of_match.proofs.writing.write_match.Goals as goal
 
 pub returns-clause-spelled : goal.returns-clause-spelled
 returns-clause-spelled c = λ v. is_form c.args.matching.now v c.fits.ensures
-
-pub returns-in_err-bytes-clause-spelled : goal.returns-in_err-bytes-clause-spelled
-returns-in_err-bytes-clause-spelled c = λ v. is_form c.args.matching.now v c.fits.ensures

@@ -1,0 +1,8 @@
+use Rattle.std.proofs.Common.{append_assoc, rules}
+use Rattle.of_match.specs.Writing.{link_fields}
+use Rattle.of_match.proofs.Spelled.{spelled-append}
+use Rattle.of_match.proofs.writing.put_link_fields.Goals as goal
+
+pub returns-clause-bytes : goal.returns-clause-bytes
+unfolding link_fields
+returns-clause-bytes c = search (rules, append_assoc, spelled-append)

@@ -4,3 +4,4 @@ pub mod Takes
 pub mod Forms
 pub mod Laws
 pub mod Written
+pub mod Fronts

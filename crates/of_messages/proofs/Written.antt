@@ -198,7 +198,7 @@ role_spelled role generation r g = record { whole = refl; role_is = number_bytes
 
 -- ---- sizes
 
-packet_in_size : (p : PacketIn) → length (packet_in_body p) ≡ 34 + length p.payload
+pub packet_in_size : (p : PacketIn) → length (packet_in_body p) ≡ 34 + length p.payload
 unfolding packet_in_body packet_in_front one two four eight zeros
 packet_in_size p =
     let m = canonical_match (port_match p.in_port) in
@@ -208,15 +208,15 @@ port_status_size : (p : PortStatus) → length (port_status_body p) ≡ 72
 unfolding port_status_body one four zeros
 port_status_size p = refl
 
-packet_out_size : (p : PacketOut) → length (packet_out_body p) ≡ 16 + 16 * length p.actions + length p.payload
+pub packet_out_size : (p : PacketOut) → length (packet_out_body p) ≡ 16 + 16 * length p.actions + length p.payload
 unfolding packet_out_body two four zeros
 packet_out_size p = omega (arith, length-append (actions_of p.actions) p.payload, actions_size p.actions)
 
-flow_mod_size : (c : FlowMod) → length (flow_mod_body c) ≡ 40 + match_size c.matching + instruction_size c.actions
+pub flow_mod_size : (c : FlowMod) → length (flow_mod_body c) ≡ 40 + match_size c.matching + instruction_size c.actions
 unfolding flow_mod_body flow_mod_cookies flow_mod_times flow_mod_filter one two four eight zeros
 flow_mod_size c = omega (arith, length-append (canonical_match c.matching) (instruction_of c.actions), has_size c.matching, instruction_has_size c.actions)
 
-error_size : (kind code : ℕ) (head : List ℕ) → length (error_body kind code head) ≡ 4 + length head
+pub error_size : (kind code : ℕ) (head : List ℕ) → length (error_body kind code head) ≡ 4 + length head
 unfolding error_body two
 error_size kind code head = omega arith
 

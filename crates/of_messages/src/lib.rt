@@ -14,4 +14,5 @@ pub use fitting::{flow_mod_fits, message_fits, packet_in_fits, packet_out_fits, 
 pub use reading::{decode, message_law, read_message, xid_of};
 pub use writing::{
     actions_of, encode, encode_flow_mod, encode_packet_in, encode_packet_out, encode_port_status,
+    exact_len, put_flow_mod, put_header, put_packet_in, put_packet_out, put_port_status, with_room,
 };

@@ -1,20 +1,67 @@
-//! Writing a message in its one form.
-ghost use Rattle.std.specs.Prelude.{◌≡◌, ◌≤◌, ◌+◌, ◌++◌, length, IfOk, OnOk};
+//! Writing a message in its one form: its numbers are made in fronts, and each is added to a list at once.
+ghost use Rattle.std.specs.Prelude.{◌≡◌, ◌≤◌, ◌<◌, ◌+◌, ◌-◌, ◌^◌, ◌++◌, [], length, IfOk, OnOk};
 ghost use Rattle.of_types.specs.Valid.{IsValidPlain};
 ghost use Rattle.of_types.specs.declared.message.OfMessage.TheVariants as plain;
-ghost use Rattle.of_types.specs.Sizes.{plain_size};
+ghost use Rattle.of_types.specs.Sizes.{plain_size, instruction_size};
 ghost use Rattle.of_messages.specs.Grammar.{Spells};
-ghost use Rattle.of_messages.specs.Canonical.{max_len, action, actions_of, applied, instruction_of, packet_in_front, port_match, packet_in_body, port_state, port_status_body, packet_out_body, command_number, flow_mod_cookies, flow_mod_times, flow_mod_filter, flow_mod_body, role_body, error_body, features_body, plain_body, plain_type, framed, canonical};
+ghost use Rattle.of_bytes.specs.Numbers.{two};
+ghost use Rattle.of_messages.specs.Canonical.{max_len, action, actions_of, apply_front, instruction_of, packet_in_front, in_port_front, port_state, port_status_body, packet_out_front, command_number, flow_mod_cookies, flow_mod_times, flow_mod_filter, role_body, error_body, features_body, plain_type, header, framed, canonical};
 
 use crate::fitting::message_fits;
-use of_bytes::{eight, four, long_length, one, two, u32_fits, zeros};
-use of_match::write_match;
+use of_bytes::{Front, eight, four, long_length, one, two, u32_fits, zeros};
+use of_match::match_front;
 use of_types::{
-    APPLY_ACTIONS, FlowCommand, FlowMod, LINK_DOWN, Match, NO_BUFFER, OUTPUT, OUTPUT_LENGTH,
-    Octets, OfMessage, PacketIn, PacketOut, PortStatus, TO_CONTROLLER, VERSION, WHOLE_FRAME,
-    any_match, flow_command, message_type,
+    APPLY_ACTIONS, FlowCommand, FlowMod, LINK_DOWN, MATCH_OF_FIELDS, NO_BUFFER, OPENFLOW_BASIC,
+    OUTPUT, OUTPUT_LENGTH, Octets, OfMessage, PacketIn, PacketOut, PortStatus, TO_CONTROLLER,
+    VERSION, WHOLE_FRAME, field_number, flow_command, message_type, size_of_plain,
 };
 use std::alloc::{AllocError, Global};
+
+/// An empty list with room for so many bytes.
+pub fn with_room(alloc: Global, len: usize) -> Result<Octets, AllocError>
+    ensures { IfOk result (λ out. out ≡ []) }
+{
+    Ok(Octets::from_vec(Vec::with_capacity(alloc, len)?))
+}
+
+/// A size as a length. The greatest number stands for all that pass it, and there is no room for as many bytes.
+pub fn exact_len(size: u64) -> Result<usize, AllocError>
+    ensures same { IfOk result (λ len. len ≡ size) }
+    ensures small { IfOk result (λ len. len < 2 ^ 64 - 1) }
+{
+    if size == u64::MAX {
+        return Err(AllocError);
+    }
+    Ok(size as usize)
+}
+
+/// The bytes of a header.
+const HEADER: usize = 8;
+
+/// Puts the header of a message of so many bytes.
+#[tactic(auto, unfolding(crate::specs::Canonical::header))]
+pub fn put_header<const N: usize>(front: &mut Front<N>, kind: u8, len: usize, xid: u32)
+    requires { length front.old + 8 ≤ N }
+    ensures bytes { front.new ≡ front.old ++ header kind len xid }
+    ensures len { length front.new ≡ length front.old + 8 }
+{
+    front.put(one(VERSION));
+    front.put(one(kind));
+    front.put(long_length(len));
+    front.put(four(xid));
+}
+
+/// Adds a message with its header.
+#[tactic(auto, using(crate::proofs::Fronts::framed_put))]
+fn put_framed(out: &mut Octets, kind: u8, xid: u32, body: &[u8]) -> Result<(), AllocError>
+    ensures { OnOk result (out.new ≡ out.old ++ framed kind xid body.now) }
+{
+    let mut front = Front::<HEADER>::new();
+    put_header(&mut front, kind, HEADER + body.len(), xid);
+    out.append(front.as_slice())?;
+    out.append(body)?;
+    Ok(())
+}
 
 #[tactic(auto, unfolding(crate::specs::Canonical::max_len))]
 fn max_len(port: u32) -> u16
@@ -28,81 +75,144 @@ fn max_len(port: u32) -> u16
 }
 
 #[tactic(auto, unfolding(crate::specs::Canonical::action))]
-fn write_action(out: &mut Octets, port: u32) -> Result<(), AllocError>
-    ensures { OnOk result (out.new ≡ out.old ++ action port) }
+fn action(port: u32) -> Front<16>
+    ensures { result ≡ action port }
 {
-    out.append(&two(OUTPUT))?;
-    out.append(&two(OUTPUT_LENGTH))?;
-    out.append(&four(port))?;
-    out.append(&two(max_len(port)))?;
-    out.append(&zeros::<6>())?;
+    let mut front = Front::new();
+    front.put(two(OUTPUT));
+    front.put(two(OUTPUT_LENGTH));
+    front.put(four(port));
+    front.put(two(max_len(port)));
+    front.put(zeros::<6>());
+    front
+}
+
+/// Adds outputs to ports, in order.
+#[tactic(auto, unfolding(crate::specs::Canonical::actions_of))]
+fn put_actions(out: &mut Octets, ports: &[u32]) -> Result<(), AllocError>
+    ensures { OnOk result (out.new ≡ out.old ++ actions_of ports.now) }
+{
+    for port in ports {
+        out.append(action(*port).as_slice())?;
+    }
     Ok(())
+}
+
+/// How many bytes the outputs take. For more than a number tells there is no room.
+#[tactic(auto, using(crate::proofs::Written::actions_size))]
+fn actions_len(ports: &[u32]) -> Result<usize, AllocError>
+    ensures { IfOk result (λ len. len ≡ length (actions_of ports.now)) }
+{
+    ports
+        .len()
+        .checked_mul(usize::from(OUTPUT_LENGTH))
+        .ok_or(AllocError)
 }
 
 /// Outputs to ports, in order.
-#[tactic(auto, unfolding(crate::specs::Canonical::actions_of))]
 pub fn actions_of(alloc: Global, ports: &[u32]) -> Result<Octets, AllocError>
     ensures { IfOk result (λ bytes. bytes ≡ actions_of ports.now) }
 {
-    let mut out = Octets::new(alloc);
-    for port in ports {
-        write_action(&mut out, *port)?;
-    }
+    let mut out = with_room(alloc, actions_len(ports)?)?;
+    put_actions(&mut out, ports)?;
     Ok(out)
 }
 
-#[tactic(auto, unfolding(crate::specs::Canonical::applied))]
-fn write_applied(out: &mut Octets, actions: &[u8]) -> Result<(), AllocError>
-    ensures { OnOk result (out.new ≡ out.old ++ applied actions.now) }
+#[tactic(auto, unfolding(crate::specs::Canonical::apply_front))]
+fn apply_front(len: usize) -> Front<8>
+    ensures { result ≡ apply_front len }
 {
-    out.append(&two(APPLY_ACTIONS))?;
-    out.append(&long_length(8 + actions.len()))?;
-    out.append(&zeros::<4>())?;
-    out.append(actions)?;
-    Ok(())
+    let mut front = Front::new();
+    front.put(two(APPLY_ACTIONS));
+    front.put(long_length(len));
+    front.put(zeros::<4>());
+    front
 }
 
-/// Writes the instruction that applies actions: none for no port.
-#[tactic(auto, unfolding(crate::specs::Canonical::instruction_of))]
-fn write_instruction(alloc: Global, out: &mut Octets, ports: &[u32]) -> Result<(), AllocError>
+/// How many bytes the instruction takes that applies outputs to ports.
+#[tactic(auto, using(crate::proofs::Written::actions_size))]
+fn instruction_len(ports: &[u32]) -> Result<usize, AllocError>
+    ensures { IfOk result (λ len. len ≡ instruction_size ports.now) }
+{
+    if ports.is_empty() {
+        return Ok(0);
+    }
+    actions_len(ports)?.checked_add(APPLY).ok_or(AllocError)
+}
+
+/// The bytes of an instruction that stand before its actions.
+const APPLY: usize = 8;
+
+/// Adds the instruction, of so many bytes, that applies outputs to ports: none for no port.
+#[tactic(auto, using(crate::proofs::Fronts::instruction_put), unfolding(crate::specs::Canonical::instruction_of))]
+fn put_instruction(out: &mut Octets, ports: &[u32], len: usize) -> Result<(), AllocError>
+    requires { len ≡ instruction_size ports.now }
     ensures { OnOk result (out.new ≡ out.old ++ instruction_of ports.now) }
 {
     if ports.is_empty() {
         return Ok(());
     }
-    let actions = actions_of(alloc, ports)?;
-    write_applied(out, actions.as_slice())
-}
-
-#[tactic(auto, unfolding(crate::specs::Canonical::packet_in_front))]
-fn write_packet_in_front(out: &mut Octets, packet: &PacketIn) -> Result<(), AllocError>
-    ensures { OnOk result (out.new ≡ out.old ++ packet_in_front packet.now) }
-{
-    out.append(&four(NO_BUFFER))?;
-    out.append(&long_length(packet.payload.len()))?;
-    out.append(&one(packet.reason))?;
-    out.append(&one(0))?;
-    out.append(&eight(packet.cookie))?;
+    out.append(apply_front(len).as_slice())?;
+    put_actions(out, ports)?;
     Ok(())
 }
 
-/// The match of a PACKET_IN asks for the port that the frame came in by.
-fn port_match(in_port: u32) -> Match
-    ensures { result ≡ port_match in_port }
+/// The bytes of a PACKET_IN that stand before its frame.
+const PACKET_IN: usize = 42;
+
+#[tactic(auto, unfolding(crate::specs::Canonical::packet_in_front))]
+fn put_packet_in_numbers(front: &mut Front<PACKET_IN>, packet: &PacketIn)
+    requires { length front.old + 16 ≤ PACKET_IN }
+    ensures bytes { front.new ≡ front.old ++ packet_in_front packet.now }
+    ensures len { length front.new ≡ length front.old + 16 }
 {
-    Match {
-        in_port: Some(in_port),
-        ..any_match()
-    }
+    front.put(four(NO_BUFFER));
+    front.put(long_length(packet.payload.len()));
+    front.put(one(packet.reason));
+    front.put(one(0));
+    front.put(eight(packet.cookie));
 }
 
-#[tactic(auto, unfolding(crate::specs::Canonical::packet_in_body))]
-fn write_packet_in(alloc: Global, out: &mut Octets, packet: &PacketIn) -> Result<(), AllocError>
-    ensures { OnOk result (out.new ≡ out.old ++ packet_in_body packet.now) }
+/// The match of a PACKET_IN asks for the port that the frame came in by.
+#[tactic(auto, unfolding(crate::specs::Canonical::in_port_front))]
+fn put_in_port(front: &mut Front<PACKET_IN>, port: u32)
+    requires { length front.old + 18 ≤ PACKET_IN }
+    ensures { front.new ≡ front.old ++ in_port_front port }
 {
-    write_packet_in_front(out, packet)?;
-    write_match(alloc, &port_match(packet.in_port), out)?;
-    out.append(&zeros::<2>())?;
+    front.put(two(MATCH_OF_FIELDS));
+    front.put(two(IN_PORT_MATCH));
+    front.put(two(OPENFLOW_BASIC));
+    front.put(one(field_number::IN_PORT));
+    front.put(one(IN_PORT_VALUE));
+    front.put(four(port));
+    front.put(zeros::<4>());
+    front.put(zeros::<2>());
+}
+
+/// The bytes of a match of one port, without padding.
+const IN_PORT_MATCH: u16 = 12;
+
+/// The bytes of a port in a match.
+const IN_PORT_VALUE: u8 = 4;
+
+/// What stands before the frame of a PACKET_IN.
+fn packet_in_front(xid: u32, packet: &PacketIn) -> Front<PACKET_IN>
+    ensures { result ≡ header 10 (42 + length packet.now.payload) xid ++ (packet_in_front packet.now ++ in_port_front packet.now.in_port) }
+{
+    let mut front = Front::new();
+    let len = PACKET_IN + packet.payload.as_slice().len();
+    put_header(&mut front, message_type::PACKET_IN, len, xid);
+    put_packet_in_numbers(&mut front, packet);
+    put_in_port(&mut front, packet.in_port);
+    front
+}
+
+/// Adds a PACKET_IN.
+#[tactic(auto, using(crate::proofs::Fronts::packet_in_put))]
+pub fn put_packet_in(out: &mut Octets, xid: u32, packet: &PacketIn) -> Result<(), AllocError>
+    ensures { OnOk result (out.new ≡ out.old ++ canonical xid (plain.PacketIn packet.now)) }
+{
+    out.append(packet_in_front(xid, packet).as_slice())?;
     out.append(packet.payload.as_slice())?;
     Ok(())
 }
@@ -115,30 +225,66 @@ fn port_state(up: bool) -> u32
 }
 
 #[tactic(auto, unfolding(crate::specs::Canonical::port_status_body))]
-fn write_port_status(out: &mut Octets, status: &PortStatus) -> Result<(), AllocError>
-    ensures { OnOk result (out.new ≡ out.old ++ port_status_body status.now) }
+fn port_status_body(status: &PortStatus) -> Front<72>
+    ensures { result ≡ port_status_body status.now }
 {
-    out.append(&one(status.reason))?;
-    out.append(&zeros::<7>())?;
-    out.append(&four(status.port))?;
-    out.append(&zeros::<28>())?;
-    out.append(&zeros::<4>())?;
-    out.append(&four(port_state(status.up)))?;
-    out.append(&zeros::<24>())?;
-    Ok(())
+    let mut front = Front::new();
+    front.put(one(status.reason));
+    front.put(zeros::<7>());
+    front.put(four(status.port));
+    front.put(zeros::<28>());
+    front.put(zeros::<4>());
+    front.put(four(port_state(status.up)));
+    front.put(zeros::<24>());
+    front
 }
 
-#[tactic(auto, unfolding(crate::specs::Canonical::packet_out_body))]
-fn write_packet_out(alloc: Global, out: &mut Octets, packet: &PacketOut) -> Result<(), AllocError>
-    ensures { OnOk result (out.new ≡ out.old ++ packet_out_body packet.now) }
+/// The bytes of a PORT_STATUS.
+const PORT_STATUS: usize = 80;
+
+/// Adds a PORT_STATUS.
+#[tactic(auto, unfolding(crate::specs::Canonical::canonical))]
+pub fn put_port_status(out: &mut Octets, xid: u32, status: &PortStatus) -> Result<(), AllocError>
+    ensures { OnOk result (out.new ≡ out.old ++ canonical xid (plain.PortStatus status.now)) }
 {
-    let actions = actions_of(alloc, packet.actions.as_slice())?;
-    out.append(&four(packet.buffer))?;
-    out.append(&four(packet.in_port))?;
-    out.append(&long_length(actions.len()))?;
-    out.append(&zeros::<6>())?;
-    out.append(actions.as_slice())?;
-    out.append(packet.payload.as_slice())?;
+    put_framed(
+        out,
+        message_type::PORT_STATUS,
+        xid,
+        port_status_body(status).as_slice(),
+    )
+}
+
+/// The bytes of a PACKET_OUT that stand before its actions.
+const PACKET_OUT: usize = 24;
+
+#[tactic(auto, unfolding(crate::specs::Canonical::packet_out_front))]
+fn put_packet_out_numbers(front: &mut Front<PACKET_OUT>, packet: &PacketOut, len: usize)
+    requires { length front.old + 16 ≤ PACKET_OUT }
+    ensures { front.new ≡ front.old ++ packet_out_front packet.now len }
+{
+    front.put(four(packet.buffer));
+    front.put(four(packet.in_port));
+    front.put(long_length(len));
+    front.put(zeros::<6>());
+}
+
+/// Adds a PACKET_OUT.
+#[tactic(auto, using(crate::proofs::Fronts::packet_out_put))]
+pub fn put_packet_out(out: &mut Octets, xid: u32, packet: &PacketOut) -> Result<(), AllocError>
+    ensures { OnOk result (out.new ≡ out.old ++ canonical xid (plain.PacketOut packet.now)) }
+{
+    let (ports, payload) = (packet.actions.as_slice(), packet.payload.as_slice());
+    let actions = actions_len(ports)?;
+    let len = actions
+        .checked_add(PACKET_OUT + payload.len())
+        .ok_or(AllocError)?;
+    let mut front = Front::new();
+    put_header(&mut front, message_type::PACKET_OUT, len, xid);
+    put_packet_out_numbers(&mut front, packet, actions);
+    out.append(front.as_slice())?;
+    put_actions(out, ports)?;
+    out.append(payload)?;
     Ok(())
 }
 
@@ -155,121 +301,124 @@ fn command_number(command: FlowCommand) -> u8
     }
 }
 
+/// The bytes of a FLOW_MOD that stand before its match.
+const FLOW_MOD: usize = 48;
+
 #[tactic(auto, unfolding(crate::specs::Canonical::flow_mod_cookies))]
-fn write_flow_mod_cookies(out: &mut Octets, change: &FlowMod) -> Result<(), AllocError>
-    ensures { OnOk result (out.new ≡ out.old ++ flow_mod_cookies change.now) }
+fn put_flow_mod_cookies(front: &mut Front<FLOW_MOD>, change: &FlowMod)
+    requires { length front.old + 18 ≤ FLOW_MOD }
+    ensures bytes { front.new ≡ front.old ++ flow_mod_cookies change.now }
+    ensures len { length front.new ≡ length front.old + 18 }
 {
-    out.append(&eight(change.cookie))?;
-    out.append(&eight(change.cookie_mask))?;
-    out.append(&one(change.table))?;
-    out.append(&one(command_number(change.command)))?;
-    Ok(())
+    front.put(eight(change.cookie));
+    front.put(eight(change.cookie_mask));
+    front.put(one(change.table));
+    front.put(one(command_number(change.command)));
 }
 
 #[tactic(auto, unfolding(crate::specs::Canonical::flow_mod_times))]
-fn write_flow_mod_times(out: &mut Octets, change: &FlowMod) -> Result<(), AllocError>
-    ensures { OnOk result (out.new ≡ out.old ++ flow_mod_times change.now) }
+fn put_flow_mod_times(front: &mut Front<FLOW_MOD>, change: &FlowMod)
+    requires { length front.old + 10 ≤ FLOW_MOD }
+    ensures bytes { front.new ≡ front.old ++ flow_mod_times change.now }
+    ensures len { length front.new ≡ length front.old + 10 }
 {
-    out.append(&two(change.idle))?;
-    out.append(&two(change.hard))?;
-    out.append(&two(change.priority))?;
-    out.append(&four(change.buffer))?;
-    Ok(())
+    front.put(two(change.idle));
+    front.put(two(change.hard));
+    front.put(two(change.priority));
+    front.put(four(change.buffer));
 }
 
 #[tactic(auto, unfolding(crate::specs::Canonical::flow_mod_filter))]
-fn write_flow_mod_filter(out: &mut Octets, change: &FlowMod) -> Result<(), AllocError>
-    ensures { OnOk result (out.new ≡ out.old ++ flow_mod_filter change.now) }
+fn put_flow_mod_filter(front: &mut Front<FLOW_MOD>, change: &FlowMod)
+    requires { length front.old + 12 ≤ FLOW_MOD }
+    ensures { front.new ≡ front.old ++ flow_mod_filter change.now }
 {
-    out.append(&four(change.out_port))?;
-    out.append(&four(change.out_group))?;
-    out.append(&two(change.flags))?;
-    out.append(&zeros::<2>())?;
-    Ok(())
+    front.put(four(change.out_port));
+    front.put(four(change.out_group));
+    front.put(two(change.flags));
+    front.put(zeros::<2>());
 }
 
-#[tactic(auto, unfolding(crate::specs::Canonical::flow_mod_body))]
-fn write_flow_mod(alloc: Global, out: &mut Octets, change: &FlowMod) -> Result<(), AllocError>
-    ensures { OnOk result (out.new ≡ out.old ++ flow_mod_body change.now) }
+/// What stands before the match of a FLOW_MOD of so many bytes.
+fn flow_mod_front(xid: u32, len: usize, change: &FlowMod) -> Front<FLOW_MOD>
+    ensures { result ≡ header 14 len xid ++ (flow_mod_cookies change.now ++ (flow_mod_times change.now ++ flow_mod_filter change.now)) }
 {
-    write_flow_mod_cookies(out, change)?;
-    write_flow_mod_times(out, change)?;
-    write_flow_mod_filter(out, change)?;
-    write_match(alloc, &change.matching, out)?;
-    write_instruction(alloc, out, change.actions.as_slice())?;
+    let mut front = Front::new();
+    put_header(&mut front, message_type::FLOW_MOD, len, xid);
+    put_flow_mod_cookies(&mut front, change);
+    put_flow_mod_times(&mut front, change);
+    put_flow_mod_filter(&mut front, change);
+    front
+}
+
+/// Adds a FLOW_MOD.
+#[tactic(auto, using(crate::proofs::Fronts::flow_mod_put))]
+pub fn put_flow_mod(out: &mut Octets, xid: u32, change: &FlowMod) -> Result<(), AllocError>
+    ensures { OnOk result (out.new ≡ out.old ++ canonical xid (plain.FlowMod change.now)) }
+{
+    let matching = match_front(&change.matching);
+    let (matching, ports) = (matching.as_slice(), change.actions.as_slice());
+    let instruction = instruction_len(ports)?;
+    let len = instruction
+        .checked_add(FLOW_MOD + matching.len())
+        .ok_or(AllocError)?;
+    out.append(flow_mod_front(xid, len, change).as_slice())?;
+    out.append(matching)?;
+    put_instruction(out, ports, instruction)?;
     Ok(())
 }
 
 #[tactic(auto, unfolding(crate::specs::Canonical::role_body))]
-fn write_role(out: &mut Octets, role: u32, generation: u64) -> Result<(), AllocError>
-    ensures { OnOk result (out.new ≡ out.old ++ role_body role generation) }
+fn role_body(role: u32, generation: u64) -> Front<16>
+    ensures { result ≡ role_body role generation }
 {
-    out.append(&four(role))?;
-    out.append(&zeros::<4>())?;
-    out.append(&eight(generation))?;
-    Ok(())
-}
-
-#[tactic(auto, unfolding(crate::specs::Canonical::error_body))]
-fn write_error(out: &mut Octets, kind: u16, code: u16, head: &[u8]) -> Result<(), AllocError>
-    ensures { OnOk result (out.new ≡ out.old ++ error_body kind code head.now) }
-{
-    out.append(&two(kind))?;
-    out.append(&two(code))?;
-    out.append(head)?;
-    Ok(())
+    let mut front = Front::new();
+    front.put(four(role));
+    front.put(zeros::<4>());
+    front.put(eight(generation));
+    front
 }
 
 #[tactic(auto, unfolding(crate::specs::Canonical::features_body))]
-fn write_features(out: &mut Octets, datapath: u64) -> Result<(), AllocError>
-    ensures { OnOk result (out.new ≡ out.old ++ features_body datapath) }
+fn features_body(datapath: u64) -> Front<24>
+    ensures { result ≡ features_body datapath }
 {
-    out.append(&eight(datapath))?;
-    out.append(&zeros::<4>())?;
-    out.append(&one(1))?;
-    out.append(&zeros::<11>())?;
+    let mut front = Front::new();
+    front.put(eight(datapath));
+    front.put(zeros::<4>());
+    front.put(one(1));
+    front.put(zeros::<11>());
+    front
+}
+
+/// The bytes of an ERROR that stand before what it cites.
+const ERROR: usize = 12;
+
+/// What stands before what an ERROR of so many bytes cites.
+fn error_front(xid: u32, len: usize, kind: u16, code: u16) -> Front<ERROR>
+    ensures { result ≡ header 1 len xid ++ (two kind ++ two code) }
+{
+    let mut front = Front::new();
+    put_header(&mut front, message_type::ERROR, len, xid);
+    front.put(two(kind));
+    front.put(two(code));
+    front
+}
+
+/// Adds an ERROR.
+#[tactic(auto, using(crate::proofs::Fronts::error_put))]
+fn put_error(
+    out: &mut Octets,
+    xid: u32,
+    kind: u16,
+    code: u16,
+    head: &[u8],
+) -> Result<(), AllocError>
+    ensures { OnOk result (out.new ≡ out.old ++ canonical xid (plain.Error kind code head.now)) }
+{
+    out.append(error_front(xid, ERROR + head.len(), kind, code).as_slice())?;
+    out.append(head)?;
     Ok(())
-}
-
-/// Writes what stands behind the header of a message of OpenFlow.
-fn write_plain(alloc: Global, out: &mut Octets, message: &OfMessage) -> Result<(), AllocError>
-    ensures { OnOk result (out.new ≡ out.old ++ plain_body message.now) }
-{
-    match message {
-        OfMessage::Hello
-        | OfMessage::FeaturesRequest
-        | OfMessage::BarrierRequest
-        | OfMessage::BarrierReply => Ok(()),
-        OfMessage::Error { kind, code, head } => write_error(out, *kind, *code, head.as_slice()),
-        OfMessage::EchoRequest { body }
-        | OfMessage::EchoReply { body }
-        | OfMessage::Experimenter { body } => out.append(body.as_slice()),
-        OfMessage::FeaturesReply { datapath } => write_features(out, *datapath),
-        OfMessage::PacketIn(packet) => write_packet_in(alloc, out, packet),
-        OfMessage::PortStatus(status) => write_port_status(out, status),
-        OfMessage::PacketOut(packet) => write_packet_out(alloc, out, packet),
-        OfMessage::FlowMod(change) => write_flow_mod(alloc, out, change),
-        OfMessage::RoleRequest { role, generation } | OfMessage::RoleReply { role, generation } => {
-            write_role(out, *role, *generation)
-        }
-    }
-}
-
-/// Room for the body of most messages, so that it seldom has to grow.
-const ROOM: usize = 128;
-
-/// A message with its header.
-#[tactic(auto, unfolding(crate::specs::Canonical::framed))]
-fn framed(alloc: Global, kind: u8, xid: u32, body: &[u8]) -> Result<Octets, AllocError>
-    ensures { IfOk result (λ bytes. bytes ≡ framed kind xid body.now) }
-{
-    let mut out = Octets::from_vec(Vec::with_capacity(alloc, 8 + body.len())?);
-    out.append(&one(VERSION))?;
-    out.append(&one(kind))?;
-    out.append(&long_length(8 + body.len()))?;
-    out.append(&four(xid))?;
-    out.append(body)?;
-    Ok(out)
 }
 
 fn plain_type(message: &OfMessage) -> u8
@@ -294,13 +443,44 @@ fn plain_type(message: &OfMessage) -> u8
     }
 }
 
+/// Adds a message of OpenFlow.
 #[tactic(auto, unfolding(crate::specs::Canonical::canonical))]
+fn put_message(out: &mut Octets, xid: u32, message: &OfMessage) -> Result<(), AllocError>
+    ensures { OnOk result (out.new ≡ out.old ++ canonical xid message.now) }
+{
+    let kind = plain_type(message);
+    match message {
+        OfMessage::Hello
+        | OfMessage::FeaturesRequest
+        | OfMessage::BarrierRequest
+        | OfMessage::BarrierReply => put_framed(out, kind, xid, &[]),
+        OfMessage::EchoRequest { body }
+        | OfMessage::EchoReply { body }
+        | OfMessage::Experimenter { body } => put_framed(out, kind, xid, body.as_slice()),
+        OfMessage::FeaturesReply { datapath } => {
+            put_framed(out, kind, xid, features_body(*datapath).as_slice())
+        }
+        OfMessage::RoleRequest { role, generation } | OfMessage::RoleReply { role, generation } => {
+            put_framed(out, kind, xid, role_body(*role, *generation).as_slice())
+        }
+        OfMessage::Error {
+            kind: error,
+            code,
+            head,
+        } => put_error(out, xid, *error, *code, head.as_slice()),
+        OfMessage::PacketIn(packet) => put_packet_in(out, xid, packet),
+        OfMessage::PortStatus(status) => put_port_status(out, xid, status),
+        OfMessage::PacketOut(packet) => put_packet_out(out, xid, packet),
+        OfMessage::FlowMod(change) => put_flow_mod(out, xid, change),
+    }
+}
+
 fn written(alloc: Global, xid: u32, message: &OfMessage) -> Result<Octets, AllocError>
     ensures { IfOk result (λ bytes. bytes ≡ canonical xid message.now) }
 {
-    let mut body = Octets::from_vec(Vec::with_capacity(alloc, ROOM)?);
-    write_plain(alloc, &mut body, message)?;
-    framed(alloc, plain_type(message), xid, body.as_slice())
+    let mut out = with_room(alloc, size_of_plain(message) as usize)?;
+    put_message(&mut out, xid, message)?;
+    Ok(out)
 }
 
 /// The bytes of a message, with the number of its request. The length is written in two bytes; of a
@@ -318,17 +498,16 @@ pub fn encode(alloc: Global, xid: u32, message: &OfMessage) -> Result<Octets, Al
 }
 
 /// A PACKET_IN, as `encode` writes it.
-#[tactic(auto, unfolding(crate::specs::Canonical::canonical))]
 pub fn encode_packet_in(alloc: Global, xid: u32, packet: &PacketIn) -> Result<Octets, AllocError>
     ensures { IfOk result (λ bytes. bytes ≡ canonical xid (plain.PacketIn packet.now)) }
 {
-    let mut body = Octets::new(alloc);
-    write_packet_in(alloc, &mut body, packet)?;
-    framed(alloc, message_type::PACKET_IN, xid, body.as_slice())
+    let len = PACKET_IN + packet.payload.as_slice().len();
+    let mut out = with_room(alloc, len)?;
+    put_packet_in(&mut out, xid, packet)?;
+    Ok(out)
 }
 
 /// A PORT_STATUS, as `encode` writes it.
-#[tactic(auto, unfolding(crate::specs::Canonical::canonical))]
 pub fn encode_port_status(
     alloc: Global,
     xid: u32,
@@ -336,27 +515,28 @@ pub fn encode_port_status(
 ) -> Result<Octets, AllocError>
     ensures { IfOk result (λ bytes. bytes ≡ canonical xid (plain.PortStatus status.now)) }
 {
-    let mut body = Octets::new(alloc);
-    write_port_status(&mut body, status)?;
-    framed(alloc, message_type::PORT_STATUS, xid, body.as_slice())
+    let mut out = with_room(alloc, PORT_STATUS)?;
+    put_port_status(&mut out, xid, status)?;
+    Ok(out)
 }
 
+/// Room for most orders.
+const ORDER: usize = 128;
+
 /// A PACKET_OUT, as `encode` writes it.
-#[tactic(auto, unfolding(crate::specs::Canonical::canonical))]
 pub fn encode_packet_out(alloc: Global, xid: u32, packet: &PacketOut) -> Result<Octets, AllocError>
     ensures { IfOk result (λ bytes. bytes ≡ canonical xid (plain.PacketOut packet.now)) }
 {
-    let mut body = Octets::new(alloc);
-    write_packet_out(alloc, &mut body, packet)?;
-    framed(alloc, message_type::PACKET_OUT, xid, body.as_slice())
+    let mut out = with_room(alloc, ORDER)?;
+    put_packet_out(&mut out, xid, packet)?;
+    Ok(out)
 }
 
 /// A FLOW_MOD, as `encode` writes it.
-#[tactic(auto, unfolding(crate::specs::Canonical::canonical))]
 pub fn encode_flow_mod(alloc: Global, xid: u32, change: &FlowMod) -> Result<Octets, AllocError>
     ensures { IfOk result (λ bytes. bytes ≡ canonical xid (plain.FlowMod change.now)) }
 {
-    let mut body = Octets::new(alloc);
-    write_flow_mod(alloc, &mut body, change)?;
-    framed(alloc, message_type::FLOW_MOD, xid, body.as_slice())
+    let mut out = with_room(alloc, ORDER)?;
+    put_flow_mod(&mut out, xid, change)?;
+    Ok(out)
 }

@@ -1,22 +1,28 @@
 -- What is written is spelled, and has the stated size.
-use Rattle.std.proofs.Common.{◌≡◌, ℕ, ◌+◌, ◌^◌, ◌≤◌, ◌<◌, List, [], ◌++◌, length, refl, arith, lit<}
+use Rattle.std.proofs.Common.{◌≡◌, ℕ, ◌+◌, ◌^◌, ◌≤◌, ◌<◌, List, [], ◌++◌, length, refl, sym, ◌∙◌, append_assoc, arith, lit<}
+use Rattle.std.proofs.lemmas.List.{append-nil}
 use Rattle.of_bytes.specs.Numbers.{two, four, eight, zeros}
 use Rattle.of_bytes.proofs.Bytes.{number_bytes}
+use Rattle.of_messages.specs.Canonical as messages
+use Rattle.of_messages.specs.Canonical.{header}
+use Rattle.of_messages.proofs.Fronts.{framed_of}
 use Rattle.of_messages.proofs.Written.{message_spelled, message_size}
 use Rattle.of_types.specs.declared.message.Extension.{Extension}
 use Rattle.of_types.specs.declared.message.Extension.TheVariants as extension
 use Rattle.of_types.specs.declared.message.Happening.{Happening}
 use Rattle.of_types.specs.declared.message.Happening.TheVariants as happening
+use Rattle.of_types.specs.declared.message.OfMessage.TheVariants as plain
 use Rattle.of_types.specs.declared.message.Order.{Order}
 use Rattle.of_types.specs.declared.message.Order.TheVariants as order
 use Rattle.of_types.specs.declared.message.Outcome.{Outcome}
 use Rattle.of_types.specs.declared.message.Outcome.TheVariants as outcome
+use Rattle.of_types.specs.declared.message.Spoken.TheVariants as spoken
 use Rattle.of_types.specs.Sizes.{happening_size, order_size, extension_size}
 use Rattle.of_types.specs.Valid.{IsValidOrder, IsValidExtension}
 use Rattle.of_messages.specs.Fits.{FitsPlain}
-use Rattle.of_ravana.specs.Canonical.{happening_message, order_message, canonical_happening, canonical_order, result_bytes, outcome_bytes, command_front, extension_rest, extension_type, extension_life, extension_body, canonical_extension}
+use Rattle.of_ravana.specs.Canonical.{happening_message, order_message, canonical_happening, canonical_order, result_bytes, outcome_bytes, command_front, extension_rest, extension_numbers, extension_inner, extension_type, extension_life, extension_front, extension_body, canonical_extension}
 use Rattle.of_ravana.specs.Fits.{FitsOutcome, FitsExtension}
-use Rattle.of_ravana.specs.Grammar.{SpellsInner, IsFront, IsEvent, IsThrough, IsCommand, SpellsOutcome, IsCmdAck, SpellsExtension}
+use Rattle.of_ravana.specs.Grammar.{SpellsInner, IsFront, IsEvent, IsThrough, IsCommand, SpellsOutcome, IsCmdAck, SpellsExtension, SpellsSpoken}
 
 -- ---- messages inside others
 
@@ -145,3 +151,48 @@ extension_spelled (extension.Command life generation command settled what) v f s
     command_spelled life generation command settled what f.0 f.1 f.2 f.3 (order_spelled what v f.4 (omega arith))
 extension_spelled (extension.CmdAck life command result) v f short = cmd_ack_spelled life command result f.0 f.1 f.2
 extension_spelled (extension.Clear life through) v f short = through_spelled 5 life through (lit< tt) f.0 f.1
+
+extension_least : (said : Extension) → 32 ≤ extension_size said
+extension_least (extension.Event life event what) = omega arith
+extension_least (extension.EventAck life through) = omega arith
+extension_least (extension.Command life generation command settled what) = omega arith
+extension_least (extension.CmdAck life command result) = omega arith
+extension_least (extension.Clear life through) = omega arith
+
+-- ---- added to a list
+
+body_is : (kind life : ℕ) (rest : List ℕ) → extension_body kind life rest ≡ extension_front kind life ++ rest
+unfolding extension_body extension_front four zeros
+body_is kind life rest = refl
+
+rest_is : (said : Extension) → extension_rest said ≡ extension_numbers said ++ extension_inner said
+rest_is (extension.Event life event what) = refl
+rest_is (extension.EventAck life through) = sym (append-nil (eight through))
+rest_is (extension.Command life generation command settled what) = refl
+rest_is (extension.CmdAck life command result) = sym (append-nil (eight command ++ outcome_bytes result))
+rest_is (extension.Clear life through) = sym (append-nil (eight through))
+
+-- its numbers, and the message inside
+pub extension_is : (said : Extension)
+    → canonical_extension said ≡ (extension_front (extension_type said) (extension_life said) ++ extension_numbers said) ++ extension_inner said
+unfolding canonical_extension
+extension_is said =
+    body_is (extension_type said) (extension_life said) (extension_rest said) ∙ rw rest_is (sym (append_assoc (extension_front (extension_type said) (extension_life said)) (extension_numbers said) (extension_inner said)))
+
+pub experimenter_is : (xid : ℕ) (said : Extension)
+    → messages.canonical xid (plain.Experimenter (canonical_extension said))
+    ≡ (header 4 (extension_size said) xid ++ (extension_front (extension_type said) (extension_life said) ++ extension_numbers said)) ++ extension_inner said
+unfolding messages.canonical
+experimenter_is xid said =
+    framed_of [] 4 (extension_size said) xid (canonical_extension said) (extension_has_size said)
+    ∙ rw (extension_is said) (sym (append_assoc (header 4 (extension_size said) xid) (extension_front (extension_type said) (extension_life said) ++ extension_numbers said) (extension_inner said)))
+
+pub said_spelled : (xid : ℕ) (said : Extension) → IsValidExtension said → FitsExtension said → extension_size said ≤ 65535 → xid < 2 ^ 32
+    → SpellsSpoken (messages.canonical xid (plain.Experimenter (canonical_extension said))) xid (spoken.Ravana said)
+said_spelled xid said v f short lt =
+    let size = extension_has_size said in
+    let there : 8 ≤ length (canonical_extension said) = omega (arith, extension_least said) in (
+      canonical_extension said,
+      message_spelled xid (plain.Experimenter (canonical_extension said)) there tt (omega (arith, size)) lt,
+      extension_spelled said v f short,
+    )

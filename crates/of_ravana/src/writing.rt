@@ -1,20 +1,47 @@
-//! Writing what a controller and a switch say in its one form.
+//! Writing what a controller and a switch say in its one form, each into one list.
 ghost use Rattle.std.specs.Prelude.{◌≡◌, ◌≤◌, ◌+◌, ◌++◌, length, IfOk, OnOk};
 ghost use Rattle.of_types.specs.Sizes.{extension_size};
 ghost use Rattle.of_types.specs.Valid.{IsValidExtension};
-ghost use Rattle.of_ravana.specs.Canonical.{canonical_happening, canonical_order, result_bytes, outcome_bytes, command_front, extension_rest, extension_type, extension_life, extension_body, canonical_extension, spoken_message, canonical};
+ghost use Rattle.of_types.specs.declared.message.OfMessage.TheVariants as plain;
+ghost use Rattle.of_types.specs.declared.message.Spoken.TheVariants as spoken;
+ghost use Rattle.of_messages.specs.Canonical as messages;
+ghost use Rattle.of_ravana.specs.Canonical.{canonical_happening, canonical_order, result_bytes, outcome_bytes, command_front, extension_type, extension_life, extension_front, extension_numbers, extension_inner, canonical_extension, canonical};
 ghost use Rattle.of_ravana.specs.Grammar.{SpellsExtension, SpellsSpoken, IsValidSpoken, spoken_size};
 
 use crate::fitting::extension_fits;
-use of_bytes::{eight, four, two, zeros};
+use of_bytes::{Front, eight, four, two, u32_fits, zeros};
 use of_messages::{
-    encode, encode_flow_mod, encode_packet_in, encode_packet_out, encode_port_status,
+    encode, encode_flow_mod, encode_packet_in, encode_packet_out, encode_port_status, exact_len,
+    put_flow_mod, put_header, put_packet_in, put_packet_out, put_port_status, with_room,
 };
 use of_types::{
-    Extension, Happening, Octets, OfMessage, Order, Outcome, RAVANA, Spoken, command_status,
-    extension_type,
+    Extension, Happening, Octets, Order, Outcome, RAVANA, Spoken, command_status, extension_type,
+    message_type, size_of_extension, size_of_happening,
 };
 use std::alloc::{AllocError, Global};
+
+/// The most bytes that stand before the message inside: a header, the experimenter's numbers and those of a command.
+const FRONT: usize = 48;
+
+/// How many bytes the message of an event takes. For more than a number tells there is no room.
+#[tactic(auto, using(crate::proofs::Written::happening_length))]
+pub fn happening_len(what: &Happening) -> Result<usize, AllocError>
+    ensures { IfOk result (λ len. len ≡ length (canonical_happening what.now)) }
+{
+    let len = exact_len(size_of_happening(what))?;
+    Ok(len)
+}
+
+/// Adds the message that an event tells, with number 0.
+#[tactic(auto, unfolding(crate::specs::Canonical::canonical_happening))]
+pub fn put_happening(out: &mut Octets, what: &Happening) -> Result<(), AllocError>
+    ensures { OnOk result (out.new ≡ out.old ++ canonical_happening what.now) }
+{
+    match what {
+        Happening::PacketIn(packet) => put_packet_in(out, 0, packet),
+        Happening::PortStatus(status) => put_port_status(out, 0, status),
+    }
+}
 
 /// The bytes of the message that an event tells, with number 0.
 #[tactic(auto, unfolding(crate::specs::Canonical::canonical_happening))]
@@ -24,6 +51,17 @@ pub fn canonical_happening(alloc: Global, what: &Happening) -> Result<Octets, Al
     match what {
         Happening::PacketIn(packet) => encode_packet_in(alloc, 0, packet),
         Happening::PortStatus(status) => encode_port_status(alloc, 0, status),
+    }
+}
+
+/// Adds the message that a command holds, with number 0.
+#[tactic(auto, unfolding(crate::specs::Canonical::canonical_order))]
+fn put_order(out: &mut Octets, what: &Order) -> Result<(), AllocError>
+    ensures { OnOk result (out.new ≡ out.old ++ canonical_order what.now) }
+{
+    match what {
+        Order::FlowMod(change) => put_flow_mod(out, 0, change),
+        Order::PacketOut(packet) => put_packet_out(out, 0, packet),
     }
 }
 
@@ -39,83 +77,36 @@ pub fn canonical_order(alloc: Global, what: &Order) -> Result<Octets, AllocError
 }
 
 #[tactic(auto, unfolding(crate::specs::Canonical::result_bytes))]
-fn write_result(out: &mut Octets, status: u16, kind: u16, code: u16) -> Result<(), AllocError>
-    ensures { OnOk result (out.new ≡ out.old ++ result_bytes status kind code) }
+fn put_result(front: &mut Front<FRONT>, status: u16, kind: u16, code: u16)
+    requires { length front.old + 8 ≤ FRONT }
+    ensures bytes { front.new ≡ front.old ++ result_bytes status kind code }
 {
-    out.append(&two(status))?;
-    out.append(&two(kind))?;
-    out.append(&two(code))?;
-    out.append(&zeros::<2>())?;
-    Ok(())
+    front.put(two(status));
+    front.put(two(kind));
+    front.put(two(code));
+    front.put(zeros::<2>());
 }
 
-fn write_outcome(out: &mut Octets, outcome: Outcome) -> Result<(), AllocError>
-    ensures { OnOk result (out.new ≡ out.old ++ outcome_bytes outcome) }
+fn put_outcome(front: &mut Front<FRONT>, outcome: Outcome)
+    requires { length front.old + 8 ≤ FRONT }
+    ensures { front.new ≡ front.old ++ outcome_bytes outcome }
 {
     match outcome {
-        Outcome::Done => write_result(out, command_status::DONE, 0, 0),
-        Outcome::Failed { kind, code } => write_result(out, command_status::FAILED, kind, code),
-        Outcome::Cleared => write_result(out, command_status::CLEARED, 0, 0),
+        Outcome::Done => put_result(front, command_status::DONE, 0, 0),
+        Outcome::Failed { kind, code } => put_result(front, command_status::FAILED, kind, code),
+        Outcome::Cleared => put_result(front, command_status::CLEARED, 0, 0),
     }
 }
 
 /// The three numbers of a command.
 #[tactic(auto, unfolding(crate::specs::Canonical::command_front))]
-fn write_command_front(
-    out: &mut Octets,
-    generation: u64,
-    number: u64,
-    settled: u64,
-) -> Result<(), AllocError>
-    ensures { OnOk result (out.new ≡ out.old ++ command_front generation number settled) }
+fn put_command_front(front: &mut Front<FRONT>, generation: u64, number: u64, settled: u64)
+    requires { length front.old + 24 ≤ FRONT }
+    ensures { front.new ≡ front.old ++ command_front generation number settled }
 {
-    out.append(&eight(generation))?;
-    out.append(&eight(number))?;
-    out.append(&eight(settled))?;
-    Ok(())
-}
-
-/// Room for what most messages say, so that it seldom has to grow.
-const ROOM: usize = 128;
-
-/// What a message says after its life.
-fn extension_rest(alloc: Global, said: &Extension) -> Result<Octets, AllocError>
-    ensures { IfOk result (λ bytes. bytes ≡ extension_rest said.now) }
-{
-    let mut out = Octets::from_vec(Vec::with_capacity(alloc, ROOM)?);
-    match said {
-        Extension::Event { number, what, .. } => {
-            let told = canonical_happening(alloc, what)?;
-            out.append(&eight(*number))?;
-            out.append(told.as_slice())?;
-            Ok(out)
-        }
-        Extension::Command {
-            generation,
-            number,
-            settled,
-            order,
-            ..
-        } => {
-            let held = canonical_order(alloc, order)?;
-            write_command_front(&mut out, *generation, *number, *settled)?;
-            out.append(held.as_slice())?;
-            Ok(out)
-        }
-        Extension::CmdAck {
-            number,
-            outcome,
-            ..
-        } => {
-            out.append(&eight(*number))?;
-            write_outcome(&mut out, *outcome)?;
-            Ok(out)
-        }
-        Extension::EventAck { through, .. } | Extension::Clear { through, .. } => {
-            out.append(&eight(*through))?;
-            Ok(out)
-        }
-    }
+    front.put(eight(generation));
+    front.put(eight(number));
+    front.put(eight(settled));
 }
 
 fn extension_type(said: &Extension) -> u32
@@ -142,30 +133,76 @@ fn extension_life(said: &Extension) -> u32
     }
 }
 
-#[tactic(auto, unfolding(crate::specs::Canonical::extension_body))]
-fn extension_body(alloc: Global, kind: u32, life: u32, rest: &[u8]) -> Result<Octets, AllocError>
-    ensures { IfOk result (λ bytes. bytes ≡ extension_body kind life rest.now) }
+/// The experimenter's number, the type and the life.
+#[tactic(auto, unfolding(crate::specs::Canonical::extension_front))]
+fn put_extension_front(front: &mut Front<FRONT>, kind: u32, life: u32)
+    requires { length front.old + 16 ≤ FRONT }
+    ensures bytes { front.new ≡ front.old ++ extension_front kind life }
+    ensures len { length front.new ≡ length front.old + 16 }
 {
-    let mut out = Octets::from_vec(Vec::with_capacity(alloc, rest.len().saturating_add(16))?);
-    out.append(&four(RAVANA))?;
-    out.append(&four(kind))?;
-    out.append(&four(life))?;
-    out.append(&zeros::<4>())?;
-    out.append(rest)?;
-    Ok(out)
+    front.put(four(RAVANA));
+    front.put(four(kind));
+    front.put(four(life));
+    front.put(zeros::<4>());
 }
 
-#[tactic(auto, unfolding(crate::specs::Canonical::canonical_extension))]
+/// The numbers behind the life.
+fn put_numbers(front: &mut Front<FRONT>, said: &Extension)
+    requires { length front.old + 24 ≤ FRONT }
+    ensures { front.new ≡ front.old ++ extension_numbers said.now }
+{
+    match said {
+        Extension::Event { number, .. } => front.put(eight(*number)),
+        Extension::Command {
+            generation,
+            number,
+            settled,
+            ..
+        } => put_command_front(front, *generation, *number, *settled),
+        Extension::CmdAck {
+            number,
+            outcome,
+            ..
+        } => {
+            front.put(eight(*number));
+            put_outcome(front, *outcome);
+        }
+        Extension::EventAck { through, .. } | Extension::Clear { through, .. } => {
+            front.put(eight(*through));
+        }
+    }
+}
+
+/// All that stands before the message inside, if there is one.
+fn put_front(front: &mut Front<FRONT>, said: &Extension)
+    requires { length front.old + 40 ≤ FRONT }
+    ensures { front.new ≡ front.old ++ (extension_front (extension_type said.now) (extension_life said.now) ++ extension_numbers said.now) }
+{
+    put_extension_front(front, extension_type(said), extension_life(said));
+    put_numbers(front, said);
+}
+
+/// Adds the message inside, if there is one.
+fn put_inner(out: &mut Octets, said: &Extension) -> Result<(), AllocError>
+    ensures { OnOk result (out.new ≡ out.old ++ extension_inner said.now) }
+{
+    match said {
+        Extension::Event { what, .. } => put_happening(out, what),
+        Extension::Command { order, .. } => put_order(out, order),
+        Extension::CmdAck { .. } | Extension::EventAck { .. } | Extension::Clear { .. } => Ok(()),
+    }
+}
+
+#[tactic(auto, using(crate::proofs::Written::extension_is))]
 fn written(alloc: Global, said: &Extension) -> Result<Octets, AllocError>
     ensures { IfOk result (λ bytes. bytes ≡ canonical_extension said.now) }
 {
-    let rest = extension_rest(alloc, said)?;
-    extension_body(
-        alloc,
-        extension_type(said),
-        extension_life(said),
-        rest.as_slice(),
-    )
+    let mut front = Front::<FRONT>::new();
+    put_front(&mut front, said);
+    let mut out = with_room(alloc, size_of_extension(said) as usize)?;
+    out.append(front.as_slice())?;
+    put_inner(&mut out, said)?;
+    Ok(out)
 }
 
 /// What stands behind the header of an EXPERIMENTER that says this. A message inside it has its length
@@ -181,6 +218,40 @@ pub fn encode_extension(alloc: Global, said: &Extension) -> Result<Octets, Alloc
     written(alloc, said)
 }
 
+/// How many bytes a message takes. For more than a number tells there is no room.
+fn extension_len(said: &Extension) -> Result<usize, AllocError>
+    ensures { IfOk result (λ len. len ≡ extension_size said.now) }
+{
+    let len = exact_len(size_of_extension(said))?;
+    Ok(len)
+}
+
+/// The bytes of a message of the extension behind the header of an EXPERIMENTER.
+#[tactic(auto, using(crate::proofs::Written::experimenter_is))]
+fn framed(alloc: Global, xid: u32, said: &Extension) -> Result<Octets, AllocError>
+    ensures { IfOk result (λ bytes. bytes ≡ messages.canonical xid (plain.Experimenter (canonical_extension said.now))) }
+{
+    let len = extension_len(said)?;
+    let mut front = Front::<FRONT>::new();
+    put_header(&mut front, message_type::EXPERIMENTER, len, xid);
+    put_front(&mut front, said);
+    let mut out = with_room(alloc, len)?;
+    out.append(front.as_slice())?;
+    put_inner(&mut out, said)?;
+    Ok(out)
+}
+
+/// The same, which spells a valid message and is as long as its size tells.
+fn experimenter(alloc: Global, xid: u32, said: &Extension) -> Result<Octets, AllocError>
+    ensures bytes { IfOk result (λ bytes. bytes ≡ messages.canonical xid (plain.Experimenter (canonical_extension said.now))) }
+    ensures spelled { IsValidExtension said.now → extension_size said.now ≤ 65535 → SpellsSpoken (messages.canonical xid (plain.Experimenter (canonical_extension said.now))) xid (spoken.Ravana said.now) }
+    ensures size { length (messages.canonical xid (plain.Experimenter (canonical_extension said.now))) ≡ extension_size said.now }
+{
+    extension_fits(said);
+    u32_fits(xid);
+    framed(alloc, xid, said)
+}
+
 /// The bytes of what a controller and a switch say to each other, with the number of the request.
 #[tactic(auto, unfolding(crate::specs::Canonical::canonical))]
 pub fn canonical(alloc: Global, xid: u32, said: &Spoken) -> Result<Octets, AllocError>
@@ -192,9 +263,6 @@ pub fn canonical(alloc: Global, xid: u32, said: &Spoken) -> Result<Octets, Alloc
 {
     match said {
         Spoken::Plain(message) => encode(alloc, xid, message),
-        Spoken::Ravana(said) => {
-            let body = encode_extension(alloc, said)?;
-            encode(alloc, xid, &OfMessage::Experimenter { body })
-        }
+        Spoken::Ravana(said) => experimenter(alloc, xid, said),
     }
 }

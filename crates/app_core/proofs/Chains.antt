@@ -8,9 +8,10 @@ use Rattle.of_types.specs.declared.message.Event.{Event}
 use Rattle.of_types.specs.declared.setup.Setup.{Setup}
 use Rattle.of_types.specs.Setups.{IsSetup}
 use Rattle.app_core.specs.declared.issued.Issued.{Issued}
-use Rattle.app_core.specs.Chain.{ChainStep, PartStep, chain_next, given_by, part_next, passes_on, reactions, reactions_from, rule_of, rule_step, starting_chain}
+use Rattle.app_core.specs.Chain.{ChainStep, chain_next, given_by, part_next, reactions, reactions_from, rule_of, starting_chain}
 use Rattle.app_core.specs.Issued.{commands_of, issue, issue_all, issue_each, issues}
 use Rattle.app_core.specs.Orders.{AreGoodCommands, IsGoodCommand}
+use Rattle.app_core.specs.PartRule.{PartStep, passes_on, rule_step}
 use Rattle.app_core.specs.Rules.{state_after}
 use Rattle.app_core.proofs.All.{all_append}
 use Rattle.app_core.proofs.Table.{laws_of}

@@ -9,9 +9,10 @@ use Rattle.of_types.specs.declared.setup.Rule.{Rule}
 use Rattle.of_types.specs.declared.setup.Setup.{Setup}
 use Rattle.of_types.specs.Lives.{is_switch_up}
 use Rattle.of_types.specs.Setups.{IsSetup}
-use Rattle.app_core.specs.Chain.{PartStep, firewall_rule, firewall_step, passes_on}
+use Rattle.app_core.specs.Chain.{firewall_rule, firewall_step}
 use Rattle.app_core.specs.Firewall.{IsInstalled, dropping_row, dropping_rows, first_hit, firewall_commands, installed_after, is_installed, rows_at}
 use Rattle.app_core.specs.Orders.{AreGoodCommands, IsGoodCommand}
+use Rattle.app_core.specs.PartRule.{PartStep, passes_on}
 use Rattle.app_core.specs.Rules.{HasLaws, state_after}
 use Rattle.app_core.proofs.All.{all_append, all_numbered}
 use Rattle.app_core.proofs.Denials.{denied_small, denied_valid}

@@ -7,5 +7,8 @@ pub mod All
 pub mod Spelled
 pub mod FirewallLaws
 pub mod LearningLaws
+pub mod HubLaws
+pub mod SlotLaws
+pub mod Rows
 pub mod Table
 pub mod Chains

@@ -1,16 +1,19 @@
--- Rows that ask for an address, and frames that are sent on, can be spelled.
-use Rattle.std.proofs.Common.{◌≤◌, ◌<◌, ℕ, ◌+◌, ◌-◌, ◌*◌, ◌^◌, List, [], ◌∷◌, length, get_or, zero, suc, refl, ◌∙◌, arith, pow-suc, mul-le-mul_right, mod-eq_of_lt}
+-- Rows that ask for an address, and frames that are sent on, can be spelled. Such a frame is a good command.
+use Rattle.std.proofs.Common.{◌≤◌, ◌<◌, inl, ℕ, ◌+◌, ◌-◌, ◌*◌, ◌^◌, List, [], ◌∷◌, length, get_or, zero, suc, refl, ◌∙◌, arith, pow-suc, mul-le-mul_right, mod-eq_of_lt}
 use Rattle.std.specs.Prelude.{nat_le, Some, None, unwrap_or}
 use Rattle.std.specs.List.{AllByRecursion}
 use Rattle.std.proofs.lemmas.Bool.{cond_both}
 use Rattle.std.proofs.lemmas.Nat.{and_mask}
 use Rattle.byteorder.specs.Endian.{big_from}
+use Rattle.of_types.specs.declared.message.Happening.TheVariants as happening
+use Rattle.of_types.specs.declared.message.PacketIn.{PacketIn}
 use Rattle.of_types.specs.declared.numbers.TheConstants.{LONGEST_FRAME}
+use Rattle.of_types.specs.declared.setup.Setup.{Setup}
 use Rattle.of_types.specs.Header.{number_at}
 use Rattle.of_types.specs.Matching.{any_match}
 use Rattle.of_types.specs.Valid.{IsValidMatch}
 use Rattle.app_core.specs.Commands.{packet_out}
-use Rattle.app_core.specs.Orders.{AreBytes, IsSendable}
+use Rattle.app_core.specs.Orders.{AreBytes, IsGoodCommand, IsSendable}
 
 bytes_at : (xs : List ℕ) → AllByRecursion (λ b. b < 256) xs → (k : ℕ) → get_or xs k 0 < 256
 bytes_at [] h k = omega arith
@@ -66,3 +69,9 @@ any_valid = record {
 
 pub out_sendable : (switch port : ℕ) (frame : List ℕ) (output : ℕ) → length frame ≤ LONGEST_FRAME → AreBytes frame → IsSendable (packet_out switch port frame output).order
 out_sendable switch port frame output short bytes = (tt, omega (arith, short), bytes)
+
+-- a frame that came in goes out by one output
+pub out_lawful : (setup : Setup) (life number switch : ℕ) → switch < length setup.ports → (p : PacketIn) (output : ℕ) →
+    IsGoodCommand setup (record { switch = switch; life = life; number = number; what = happening.PacketIn p }) (packet_out switch p.in_port p.payload output)
+out_lawful setup life number switch there p output =
+    record { named = there; few = inl (omega arith); sendable = λ short. out_sendable switch p.in_port p.payload output short.0 short.1 }

@@ -1,23 +1,22 @@
 -- Applications, and the plain controller that never fails and runs them on a list of events.
-use Rattle.std.specs.Prelude.{ℕ, Bool, false, not, nat_eq, nat_lt, is_some, List, [], ◌∷◌, ◌+◌, ◌++◌, length, map, if◌then◌else◌}
+use Rattle.std.specs.Prelude.{ℕ, false, nat_eq, is_some, List, [], ◌∷◌, ◌+◌, ◌++◌, map, if◌then◌else◌}
 use Rattle.of_types.specs.declared.message.Command.{Command}
 use Rattle.of_types.specs.declared.message.Event.{Event}
 use Rattle.of_types.specs.declared.setup.Setup.{Setup}
 use Rattle.app_core.specs.declared.host.Host.{Host}
+use Rattle.app_core.specs.declared.manner.Manner.{Manner}
 use Rattle.of_types.specs.Lives.{is_switch_up}
 use Rattle.app_core.specs.Firewall.{first_hit, installed_after, firewall_commands, rows_at}
-use Rattle.app_core.specs.Learning.{hosts_after, learning_commands}
+use Rattle.app_core.specs.Hub.{hub_commands}
+use Rattle.app_core.specs.Learning.{hosts_after, learning_commands, plainly, pinning, ageing}
+use Rattle.app_core.specs.Operator.{asked_version}
+use Rattle.app_core.specs.PartRule.{PartRule, PartStep, no_rule, passes_on, rule_step}
+use Rattle.app_core.specs.Slot.{slot_rule}
 
 -- lists, one after another
 abbrev pub concat : {A : Type 0} → List (List A) → List A
 concat [] = []
 concat (xs ∷ lists) = xs ++ concat lists
-
--- what a part of a chain does with an event. Its state is a list of numbers
-pub record PartStep : Type 0 where
-  pub state : List ℕ
-  pub commands : List Command
-  pub stops : Bool
 
 -- hosts as numbers, three for each
 abbrev pub flat : List Host → List ℕ
@@ -27,10 +26,6 @@ flat (h ∷ hosts) = h.switch ∷ h.address ∷ h.port ∷ flat hosts
 abbrev pub hosts_of : List ℕ → List Host
 hosts_of (switch ∷ address ∷ port ∷ numbers) = record { switch = switch; address = address; port = port } ∷ hosts_of numbers
 hosts_of _ = []
-
--- the event passes on, and nothing else happens
-abbrev pub passes_on : List ℕ → PartStep
-passes_on state = record { state = state; commands = []; stops = false }
 
 -- the firewall (Firewall.antt). A packet-in that a rule denies goes no further, and a switch that is up again gets its rows
 abbrev pub firewall_step : Setup → List ℕ → Event → PartStep
@@ -44,14 +39,18 @@ firewall_step setup installed event =
       stops = is_some hit;
     }
 
--- learning (Learning.antt): it learns first, and answers by what it then knows
-abbrev pub learning_step : List Host → Event → PartStep
-learning_step hosts event =
+-- what learns (Learning.antt), in some manner: it learns first, and answers by what it then knows
+abbrev pub learning_step : Manner → List Host → Event → PartStep
+learning_step manner hosts event =
     record {
-      state = flat (hosts_after hosts event.switch event.what);
-      commands = learning_commands (hosts_after hosts event.switch event.what) event.switch event.what;
+      state = flat (hosts_after manner hosts event.switch event.what);
+      commands = learning_commands manner (hosts_after manner hosts event.switch event.what) event.switch event.what;
       stops = false;
     }
+
+-- a hub (Hub.antt)
+abbrev pub hub_step : List ℕ → Event → PartStep
+hub_step state event = record (passes_on state) { commands = hub_commands event.switch event.what }
 
 -- the kinds of parts
 abbrev pub firewall : ℕ
@@ -60,28 +59,47 @@ firewall = 1
 abbrev pub learning : ℕ
 learning = 2
 
--- the rule of a kind: what a part of it does with an event at a switch of the setup, the state in which it starts, and the
--- most commands that it gives for an event
-pub record PartRule : Type 0 where
-  pub next : Setup → List ℕ → Event → PartStep
-  pub starts : List ℕ
-  pub most : ℕ
+abbrev pub slot : ℕ
+slot = 3
+
+abbrev pub hub : ℕ
+hub = 4
+
+abbrev pub pinned : ℕ
+pinned = 5
+
+abbrev pub aging : ℕ
+aging = 6
 
 -- a firewall has at most 16 rules, and a setup at most 64 switches, each of which gets a row
 abbrev pub firewall_rule : PartRule
 firewall_rule = record { next = λ setup state event. firewall_step setup state event; starts = []; most = 64 }
 
 -- a row and a frame
-abbrev pub learning_rule : PartRule
-learning_rule = record { next = λ setup state event. learning_step (hosts_of state) event; starts = []; most = 2 }
+abbrev pub learning_rule : Manner → PartRule
+learning_rule manner = record { next = λ setup state event. learning_step manner (hosts_of state) event; starts = []; most = 2 }
 
--- at a kind that there is not every event passes on
-abbrev pub no_rule : PartRule
-no_rule = record { next = λ setup state event. passes_on state; starts = []; most = 0 }
+-- a frame
+abbrev pub hub_rule : PartRule
+hub_rule = record { next = λ setup state event. hub_step state event; starts = []; most = 1 }
+
+-- the rules of the kinds whose parts hold no other part
+abbrev pub plain_rule_of : ℕ → PartRule
+plain_rule_of kind =
+    if nat_eq kind firewall then firewall_rule
+    else if nat_eq kind learning then learning_rule plainly
+    else if nat_eq kind hub then hub_rule
+    else if nat_eq kind pinned then learning_rule pinning
+    else if nat_eq kind aging then learning_rule ageing
+    else no_rule
+
+-- the kinds of the versions that a slot has, by the numbers of these. An operator asks for one (Operator.antt)
+abbrev pub versions : List ℕ
+versions = learning ∷ hub ∷ pinned ∷ []
 
 -- the table of kinds. That each rule in it keeps its laws is in proofs/Table.antt
-abbrev pub rule_of : ℕ → PartRule
-rule_of kind = if nat_eq kind firewall then firewall_rule else if nat_eq kind learning then learning_rule else no_rule
+unfoldable pub rule_of : ℕ → PartRule
+rule_of kind = if nat_eq kind slot then slot_rule asked_version (map plain_rule_of versions) else plain_rule_of kind
 
 -- at most so many commands does a part of a kind give for an event, and so many do the parts of a chain together
 abbrev pub most_given : ℕ → ℕ
@@ -90,10 +108,6 @@ most_given kind = (rule_of kind).most
 abbrev pub given_by : List ℕ → ℕ
 given_by [] = 0
 given_by (kind ∷ kinds) = most_given kind + given_by kinds
-
--- one step of a rule. An event of a switch that the setup does not have passes on
-abbrev pub rule_step : PartRule → Setup → List ℕ → Event → PartStep
-rule_step rule setup state event = if not (nat_lt event.switch (length setup.ports)) then passes_on state else rule.next setup state event
 
 -- one step of a part of a kind
 unfoldable pub part_next : ℕ → Setup → List ℕ → Event → PartStep

@@ -3,7 +3,7 @@ use Rattle.std.specs.Prelude.{◌<◌, ◌≤◌, ℕ, List, [], ◌∷◌, leng
 use Rattle.of_types.specs.declared.message.Event.{Event}
 use Rattle.of_types.specs.declared.setup.Setup.{Setup}
 use Rattle.of_types.specs.Setups.{IsSetup}
-use Rattle.app_core.specs.Chain.{PartRule, rule_step}
+use Rattle.app_core.specs.PartRule.{PartRule, rule_step}
 use Rattle.app_core.specs.Orders.{AreGoodCommands}
 
 -- the state of a part after events, the latest first

@@ -6,12 +6,18 @@ mod app;
 mod commands;
 mod host;
 mod issued;
+mod manner;
+mod operator;
 mod part;
 mod rules;
 
 pub use app::App;
-pub use commands::{flow_mod, packet_out};
+pub use commands::{flow_change, flow_mod, packet_out};
 pub use host::Host;
 pub use issued::{Issued, issued_is_single};
+pub use manner::Manner;
+pub use operator::{
+    OPERATOR_PORT, OPERATOR_SWITCH, OPERATOR_TYPE, VERSION_PLACE, asked_by, asked_version,
+};
 pub use part::{Part, joined_reactions, start_parts};
 pub use rules::rules_keep_their_laws;

@@ -62,6 +62,7 @@ impl Firewall {
     }
 }
 
+#[tactic(auto, unfolding(app_core::specs::Chain::rule_of))]
 impl Part for Firewall {
     ghost kind_of = { λ _. 1 };
 

@@ -2,9 +2,9 @@
 #![tactic(auto)]
 
 use app_core::Part;
+use app_upgrade::{Slot, all_versions};
 use endings::{NO_MEMORY, words_of};
 use firewall_app::Firewall;
-use learning_app::Learning;
 use rv_base::{FreeGate, Sink, Source, StdSink, StdSource};
 use std::alloc::{AllocError, Global};
 use std::io::ErrorKind;
@@ -13,7 +13,8 @@ use std::sync::Wait;
 use std::thread::Threads;
 use top_call::{CONTROLLERS, LIVES, push_life, ravana, stables};
 
-/// Serves the words, with these ends. Each life of each controller runs a firewall before a learning.
+/// Serves the words, with these ends. Each life of each controller runs a firewall before a slot of all versions: a learning, a
+/// hub, and a learning that pins.
 fn serve<S: Source, K: Sink, R: Threads + Wait + Sync>(
     rt: &R,
     alloc: Global,
@@ -26,7 +27,7 @@ fn serve<S: Source, K: Sink, R: Threads + Wait + Sync>(
     'making: for number in 0..(CONTROLLERS * LIVES) as u8 {
         let mut parts: Vec<Box<dyn Part + Send>> = Vec::with_capacity(alloc, 2)?;
         parts.push(Box::new(alloc, Firewall::new(alloc))?)?;
-        parts.push(Box::new(alloc, Learning::new(alloc))?)?;
+        parts.push(Box::new(alloc, Slot::new(all_versions(alloc)?))?)?;
         push_life(&mut chains, number, parts)?;
     }
     Ok(ravana(

@@ -3,9 +3,10 @@ ghost use Rattle.std.specs.Prelude.{◌≡◌, ℕ, List, IfOk};
 ghost use Rattle.top_call.specs.Play.{AreChains, AreFresh};
 
 use app_core::{App, Part};
+use app_upgrade::{Slot, Version, all_versions, versions_from};
 use cases::{Answer, Call, ControllerSave};
 use firewall_app::Firewall;
-use learning_app::{Learning, PlainLearning};
+use learning_app::PlainLearning;
 use of_types::Octets;
 use rv_base::{FailingSave, FreeGate, Gate, MemorySink, MemorySource, MemoryStable, Stable};
 use std::alloc::{AllocError, Global};
@@ -22,7 +23,7 @@ pub struct Way {
     pub failing_read: Option<u64>,
     /// The number of the write that fails, from 0.
     pub failing_write: Option<u64>,
-    /// The controllers from this one on learn in a list, and those before it in a map.
+    /// The controllers from this one on learn in a list at first, and those before it in a map.
     pub lists: usize,
 }
 
@@ -57,7 +58,7 @@ pub fn serve<R: Threads + Wait + Sync>(
     })
 }
 
-/// Serves a call in a way, at a gate, with these stable pairs. Each controller runs a firewall before a learning.
+/// Serves a call in a way, at a gate, with these stable pairs. Each controller runs a firewall before a slot.
 pub fn serve_by<W: Stable + Drop + Send, G: Gate + Sync, R: Threads + Wait + Sync>(
     rt: &R,
     alloc: Global,
@@ -73,10 +74,11 @@ pub fn serve_by<W: Stable + Drop + Send, G: Gate + Sync, R: Threads + Wait + Syn
         let mut parts: Vec<Box<dyn Part + Send>> = Vec::new(alloc);
         parts.push(Box::new(alloc, Firewall::new(alloc))?)?;
         if usize::from(number) / LIVES < way.lists {
-            parts.push(Box::new(alloc, Learning::new(alloc))?)?;
+            parts.push(Box::new(alloc, Slot::new(all_versions(alloc)?))?)?;
             push_life(&mut chains, number, parts)?;
         } else {
-            parts.push(Box::new(alloc, PlainLearning::new(alloc))?)?;
+            let first = Version::PlainLearning(PlainLearning::new(alloc));
+            parts.push(Box::new(alloc, Slot::new(versions_from(alloc, first)?))?)?;
             push_life(&mut chains, number, parts)?;
         }
     }

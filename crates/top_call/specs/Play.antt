@@ -5,7 +5,7 @@ use Rattle.rv_base.specs.declared.wire.Stop.{Stop}
 use Rattle.rv_base.specs.declared.wire.Stop.TheVariants.{OutOfMemory, JournalFull}
 use Rattle.of_types.specs.Lives.{last_life}
 use Rattle.rv_base.specs.Stables.{Saving}
-use Rattle.app_core.specs.Chain.{firewall, learning}
+use Rattle.app_core.specs.Chain.{firewall, slot}
 use Rattle.app_core.specs.Law.{AppLaw}
 use Rattle.group_controller.specs.Turns.{AreAlike}
 use Rattle.report.specs.declared.record.Record.{Record}
@@ -27,9 +27,9 @@ pub record AreChains {A : Type 0} (law : AppLaw A) (kinds : List ℕ) (chains : 
   pub count : length chains ≡ 7 * (last_life + 1)
   pub alike : AreAlike law kinds chains
 
--- the kinds of the parts that the program gives each life of a controller, in order: a firewall before a learning
+-- the kinds of the parts that the program gives each life of a controller, in order: a firewall before a slot
 abbrev pub program_kinds : List ℕ
-program_kinds = firewall ∷ learning ∷ []
+program_kinds = firewall ∷ slot ∷ []
 
 -- what is told of a run at rest: its report, or the report's last line
 abbrev pub told_text : Output → Record → List ℕ

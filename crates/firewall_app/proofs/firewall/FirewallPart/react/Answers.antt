@@ -1,5 +1,6 @@
 use Rattle.std.proofs.Common.{◌∙◌, sym, inr, arith}
 use Rattle.firewall_app.proofs.Firewalls.{passes_unknown, back_up, passes_on, stops}
+use Rattle.app_core.specs.Chain.{rule_of}
 use Rattle.app_core.proofs.Installed.{hit_there}
 use Rattle.firewall_app.proofs.Installed.{back_few, fits_either}
 use Rattle.firewall_app.proofs.Rows.{few_more}
@@ -14,6 +15,7 @@ returns-then-is_switch_up-clause-step c = λ s fits.
     (rw c.as_slice-installed.ensures.value at c.in_ok-drop_installed.ensures s (sym fits.rules_are ∙ sym c.as_slice.ensures))
 
 pub returns-then-is_switch_up-clause-few : goal.returns-then-is_switch_up-clause-few
+unfolding rule_of
 returns-then-is_switch_up-clause-few c = λ s fits.
     back_few s c.args.self.now.rules c.args.self.now.switches c.args.self.now.installed.items c.args.event.now.switch c.args.out.now c.drop_installed.new.out fits
     (rw c.as_slice-installed.ensures.value at c.in_ok-drop_installed.ensures s (sym fits.rules_are ∙ sym c.as_slice.ensures))
@@ -38,4 +40,5 @@ returns-clause-step c = λ s fits.
     c.in_ok-install.ensures.known (cc (fits.rules_are, fits.switches_are, c.in_ok-install.ensures.asked, c.as_slice-3.ensures))
 
 pub returns-clause-few : goal.returns-clause-few
+unfolding rule_of
 returns-clause-few c = λ s fits. omega (arith, few_more _ c.args.self.now.switches _ c.args.out.now c.install.new.out c.in_ok-install.ensures.asked, fits)

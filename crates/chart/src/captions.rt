@@ -1,9 +1,10 @@
 //! What is written beside arrows and lifelines.
 
 use crate::shapes::Carried;
+use app_core::asked_by;
 use of_types::{EQUAL, Extension, MASTER, NO_CHANGE, Octets, OfMessage, Outcome, SLAVE, Spoken};
 use report::write_number;
-use rv_base::Local;
+use rv_base::{Actor, Local};
 use std::alloc::AllocError;
 use vr_log::VrMessage;
 
@@ -150,13 +151,27 @@ pub fn caption(out: &mut Octets, carried: &Carried) -> Result<(), AllocError> {
     }
 }
 
-/// Writes the name of a local input.
-pub fn input_words(out: &mut Octets, input: &Local) -> Result<(), AllocError> {
+/// The version that an operator asks for by a frame that comes in at a port of an actor, if it is such.
+fn asked_of(actor: Actor, port: u32, frame: &[u8]) -> Option<u8> {
+    match actor {
+        Actor::Switch(switch) => asked_by(switch, port, frame),
+        Actor::Controller(_) => None,
+    }
+}
+
+/// Writes the name of a frame that comes in at a port of an actor: that of an operator names the version that it asks for.
+fn frame_words(out: &mut Octets, actor: Actor, port: u32, frame: &[u8]) -> Result<(), AllocError> {
+    named(out, b"frame at port", u64::from(port))?;
+    match asked_of(actor, port, frame) {
+        Some(version) => named(out, b", asks for version", u64::from(version)),
+        None => named(out, b", bytes", frame.len() as u64),
+    }
+}
+
+/// Writes the name of a local input of an actor.
+pub fn input_words(out: &mut Octets, actor: Actor, input: &Local) -> Result<(), AllocError> {
     match input {
-        Local::Frame { port, bytes } => {
-            named(out, b"frame at port", u64::from(*port))?;
-            named(out, b", bytes", bytes.len() as u64)
-        }
+        Local::Frame { port, bytes } => frame_words(out, actor, *port, bytes.as_slice()),
         Local::Port { port, up: true } => named(out, b"up: port", u64::from(*port)),
         Local::Port { port, up: false } => named(out, b"down: port", u64::from(*port)),
         Local::Tick => out.append(b"tick"),

@@ -306,7 +306,7 @@ impl Marks {
             Local::Restart => self.lifelines.turn(seen.actor, Standing::Up, place)?,
             _ => {}
         }
-        input_words(&mut seen.text, input)
+        input_words(&mut seen.text, seen.actor, input)
     }
 
     /// Takes note of the next entry, which stands at a place, and gives what it tells.

@@ -17,6 +17,7 @@ pub const CONTROLLERS: usize = 7;
 pub const LIVES: usize = LAST_LIFE as usize + 1;
 
 /// Puts the life of this number, with these parts, behind the lives of lower numbers. Each controller has its lives in order.
+#[tactic(auto, unfolding(app_core::specs::Chain::rule_of))]
 pub fn push_life<P: Part>(
     lives: &mut Vec<LifeOf<P>>,
     number: u8,

@@ -3,7 +3,7 @@ use Rattle.std.proofs.Common.{◌≡◌, ℕ, ◌+◌, ◌%◌, Bool, true, Opti
 use Rattle.std.proofs.lemmas.Option.{none-some, slice_get-get_or}
 use Rattle.rv_base.specs.declared.journal.Actor.{Actor}
 use Rattle.rv_base.specs.declared.journal.JournalEntry.{JournalEntry}
-use Rattle.rv_base.specs.declared.journal.JournalEntry.TheVariants.{Post, Draw, Lose, Local, Idle}
+use Rattle.rv_base.specs.declared.journal.JournalEntry.TheVariants.{Post, Draw, Lose, Local, Idle, Refused}
 use Rattle.rv_base.specs.declared.journal.Letter.{Letter}
 use Rattle.rv_base.specs.declared.journal.Packet.{Packet}
 use Rattle.rv_base.specs.declared.journal.Turn.{Turn}
@@ -75,6 +75,10 @@ module _ {B : Type 0} where
   IsKept-input size before next total (turn.Draw a choice keep) kept = drawn_kept size before next total a choice keep (pick a choice before) kept refl
   IsKept-input size before next total (turn.Lose a choice) kept = lost_kept size before next total a choice (pick a choice before) kept refl
   IsKept-input size before next total (turn.Local a input) kept = with_input size before next total (Local a input) kept (λ _ _. (refl, refl)) kept.orderly
+
+  -- an input was refused
+  pub IsKept-refused : (size : B → ℕ) (before : List (JournalEntry B)) (next total : ℕ) (a : Actor) → IsKept size before next total → IsKept size (Refused a ∷ before) next total
+  IsKept-refused size before next total a kept = with_input size before next total (Refused a) kept (λ _ _. (refl, refl)) kept.orderly
 
   drawn_is : (journal : List (JournalEntry B)) (a : Actor) (keep : Bool) (choice : ℕ) (place : Option PacketPlace) (p : Option (Packet B)) → IsFound journal place p →
       (entry_by (turn.Draw a choice keep) place ≡ drawn_entry a keep p) × (entry_by (turn.Lose a choice) place ≡ lost_entry a p)

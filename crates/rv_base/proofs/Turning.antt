@@ -1,12 +1,12 @@
 -- What the steps of a turn make of a ledger.
-use Rattle.std.proofs.Common.{◌≡◌, ◌≤◌, ℕ, ◌+◌, ◌-◌, false, Option, List, [], ◌∷◌, ◌++◌, length, take, refl, sym, ap, ◌∙◌, arith}
-use Rattle.std.specs.Prelude.{nat_eq}
+use Rattle.std.proofs.Common.{◌≡◌, ◌≤◌, ◌<◌, subst, ℕ, ◌+◌, ◌-◌, false, Option, List, [], ◌∷◌, ◌++◌, length, take, refl, sym, ap, ◌∙◌, arith}
+use Rattle.std.specs.Prelude.{nat_eq, vec_len, vec_capacity}
 use Rattle.std.proofs.lemmas.List.{length-append, length-take-le}
 use Rattle.std.proofs.lemmas.List.Elements.{filter-append}
 use Rattle.std.proofs.lemmas.List.Sums.{sum_by-append}
 use Rattle.rv_base.specs.declared.journal.Actor.{Actor}
 use Rattle.rv_base.specs.declared.journal.JournalEntry.{JournalEntry}
-use Rattle.rv_base.specs.declared.journal.JournalEntry.TheVariants.{Post}
+use Rattle.rv_base.specs.declared.journal.JournalEntry.TheVariants.{Post, Refused}
 use Rattle.rv_base.specs.declared.journal.Letter.{Letter}
 use Rattle.rv_base.specs.declared.journal.Packet.{Packet}
 use Rattle.rv_base.specs.declared.journal.Turn.{Turn}
@@ -20,8 +20,9 @@ use Rattle.rv_base.specs.Ledger.{found_in, entry_by, IsReady, Waits, IsLedger}
 use Rattle.rv_base.specs.Orderly.{lost_of, pool_bytes, fitting_count}
 use Rattle.rv_base.specs.Places.{IsFound, packet_as, placed, queue_of, sent_to}
 use Rattle.rv_base.specs.Pool.{past, pool, numbered, fitting, waiting, letters_posted, letter_bytes}
+use Rattle.rv_base.specs.Refusals.{MayBeRefused}
 use Rattle.rv_base.specs.Turns.{posting, entry_of}
-use Rattle.rv_base.proofs.Kept.{IsKept-post, IsKept-input, entry_by-entry_of}
+use Rattle.rv_base.proofs.Kept.{IsKept-post, IsKept-input, IsKept-refused, entry_by-entry_of}
 use Rattle.rv_base.proofs.Lists.{past-push, numbered-take}
 use Rattle.rv_base.proofs.Placing.{found_later, places_later, places_append, places_for, post_stands}
 
@@ -101,6 +102,7 @@ module _ {B : Type 0} where
         kept = record {
           kept = rw (past_now, posted_are) (IsKept-post size before start.posted.letters start.posted.bytes ready.lost a letters ready.posted kept.kept lost_is is.summed);
           waits = rw (past_now, now, queues_are, waiting_are, come) waits;
+          room = λ may. absurd (subst (λ (es : List (JournalEntry B)). MayBeRefused es) past_now may);
         };
         entries_are = now ∙ ap (λ es. start.entries.items ++ es) (posting_some size a letters before start.posted.letters ready.lost some kept.kept.next_is lost_is);
       }
@@ -113,8 +115,8 @@ module _ {B : Type 0} where
   pub takes : (size : B → ℕ) (start after : Ledger B) (step : Turn) (found : Option PacketPlace) (middle : List (JournalEntry B)) (entry : JournalEntry B) → IsLedger size start →
       IsFound start.entries.items found (found_in step (pool (past start.entries.items))) →
       Waits size start.entries.items (pool (entry_of step (past start.entries.items) ∷ past start.entries.items)) after.queues after.waiting → after.posted ≡ start.posted →
-      entry ≡ entry_by step found → middle ≡ start.entries.items → after.entries.items ≡ middle ++ entry ∷ [] → IsTaken start after size found step
-  takes size start after step found middle entry kept found_is waits posted_are entry_is middle_is entries_are =
+      entry ≡ entry_by step found → middle ≡ start.entries.items → after.entries.items ≡ middle ++ entry ∷ [] → vec_len after.entries < vec_capacity after.entries → IsTaken start after size found step
+  takes size start after step found middle entry kept found_is waits posted_are entry_is middle_is entries_are room =
       let before = past start.entries.items in
       let same : entry ≡ entry_of step before = entry_is ∙ entry_by-entry_of start.entries.items before step found found_is in
       let now : after.entries.items ≡ start.entries.items ++ entry_of step before ∷ [] = entries_are ∙ ap (λ es. es ++ entry ∷ []) middle_is ∙ ap (λ e. start.entries.items ++ e ∷ []) same in
@@ -123,6 +125,19 @@ module _ {B : Type 0} where
         kept = record {
           kept = rw (past_now, posted_are) (IsKept-input size before start.posted.letters start.posted.bytes step kept.kept);
           waits = rw (past_now, now) (Waits-later size start.entries.items (entry_of step before ∷ []) (pool (entry_of step before ∷ before)) after.queues after.waiting waits);
+          room = λ may. room;
         };
         found_is = rw now (found_later start.entries.items (entry_of step before ∷ []) found (found_in step (pool before)) found_is);
+      }
+
+  -- a ledger after the refusal of an input
+  pub refuses : (size : B → ℕ) (start after : Ledger B) (a : Actor) → IsLedger size start → after.entries.items ≡ start.entries.items ++ Refused a ∷ [] → after.queues ≡ start.queues → after.posted ≡ start.posted →
+      after.waiting ≡ start.waiting → IsLedger size after
+  refuses size start after a kept entries_are queues_are posted_are waiting_are =
+      let before = past start.entries.items in
+      let past_now : past after.entries.items ≡ Refused a ∷ before = ap past entries_are ∙ past-push start.entries.items (Refused a) in
+      record {
+        kept = rw (past_now, posted_are) (IsKept-refused size before start.posted.letters start.posted.bytes a kept.kept);
+        waits = rw (past_now, entries_are, queues_are, waiting_are) (Waits-later size start.entries.items (Refused a ∷ []) (pool before) start.queues start.waiting kept.waits);
+        room = λ may. absurd (subst (λ (es : List (JournalEntry B)). MayBeRefused es) past_now may);
       }

@@ -1,5 +1,5 @@
 -- What a ledger keeps, and what a turn adds to it.
-use Rattle.std.specs.Prelude.{◌≡◌, ◌<◌, ◌≤◌, ◌⊎◌, ℕ, ◌+◌, ◌-◌, ◌^◌, min, List, ◌++◌, length, take, Option, Some, None}
+use Rattle.std.specs.Prelude.{◌≡◌, ◌<◌, ◌≤◌, ◌⊎◌, ℕ, ◌+◌, ◌-◌, ◌^◌, min, List, ◌++◌, length, take, Option, Some, None, vec_len, vec_capacity}
 use Rattle.rv_base.specs.declared.journal.Actor.{Actor}
 use Rattle.rv_base.specs.declared.journal.JournalEntry.{JournalEntry}
 use Rattle.rv_base.specs.declared.journal.JournalEntry.TheVariants.{Draw, Lose, Local, Idle}
@@ -18,6 +18,7 @@ use Rattle.rv_base.specs.Limits.{letters_limit, bytes_limit}
 use Rattle.rv_base.specs.Places.{placed, queue_of, sent_to, ArePlacesOf}
 use Rattle.rv_base.specs.Pool.{past, pool, waiting, chosen, letter_bytes}
 use Rattle.rv_base.specs.Orderly.{pool_bytes, fitting_count}
+use Rattle.rv_base.specs.Refusals.{MayBeRefused}
 use Rattle.rv_base.specs.Turns.{IsKept}
 
 -- the packet that a step finds in a pool
@@ -79,7 +80,8 @@ pub record Waits {B : Type 0} (size : B → ℕ) (journal : List (JournalEntry B
   pub bytes_are : waits.bytes ≡ pool_bytes size packets
   pub queues_are : (a : Actor) → ArePlacesOf journal (queue_of queues a) (waiting a packets)
 
--- what a ledger keeps beside its entries
+-- what a ledger keeps beside its entries: behind an input that may want memory there is room for the entry that says so
 pub record IsLedger {B : Type 0} (size : B → ℕ) (ledger : Ledger B) : Type 0 where
   pub kept : IsKept size (past ledger.entries.items) ledger.posted.letters ledger.posted.bytes
   pub waits : Waits size ledger.entries.items (pool (past ledger.entries.items)) ledger.queues ledger.waiting
+  pub room : MayBeRefused (past ledger.entries.items) → vec_len ledger.entries < vec_capacity ledger.entries

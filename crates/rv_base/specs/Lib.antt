@@ -6,6 +6,7 @@ pub mod Places
 pub mod Stables
 pub mod Part
 pub mod Orderly
+pub mod Refusals
 pub mod Turns
 pub mod Answers
 pub mod Ledger

@@ -6,6 +6,7 @@ ghost use Rattle.rv_base.specs.Limits.{letters_limit, bytes_limit};
 ghost use Rattle.rv_base.specs.Ledger.{entry_by, found_in, IsSummed, IsRefusal, IsUnchanged, IsReady, Waits, IsLedger};
 ghost use Rattle.rv_base.specs.Places.{IsFound};
 ghost use Rattle.rv_base.specs.Pool.{past, pool, pick};
+ghost use Rattle.rv_base.specs.Refusals.{MayBeRefused};
 ghost use Rattle.rv_base.specs.Turns.{posting, drawn_entry, entry_of};
 
 use crate::journal::{Actor, JournalEntry, Letter, Letters, Turn, Weight};
@@ -99,9 +100,10 @@ impl<B: Weight> Ledger<B> {
     /// All of a post that may fail, with memory for its entry and `more` further ones. An `Err` changes
     /// nothing.
     fn prepare(&mut self, actor: Actor, letters: &[Letter<B>], more: usize) -> Result<Ready, Stop>
-        requires { more ≤ 1 }
+        requires { more ≤ 2 }
         ensures ok { IfOk result (IsReady B.size actor letters.now self.old self.new) }
         ensures room { OnOk result (vec_len self.new.entries + (1 + more) ≤ vec_capacity self.new.entries) }
+        ensures grows { (vec_len self.new.entries ≡ vec_len self.old.entries) × (vec_capacity self.old.entries ≤ vec_capacity self.new.entries) }
         ensures err { IfErr result (λ r. IsUnchanged self.old self.new × IsRefusal B.size self.old.posted.letters self.old.posted.bytes letters.now r) }
     {
         let posted = sums_with(self.posted, letters)?;
@@ -120,7 +122,7 @@ impl<B: Weight> Ledger<B> {
     /// Posts an outbox, with memory for `more` further entries. An `Err` changes nothing, and gives the
     /// letters back. For an empty outbox nothing is done.
     pub fn post(&mut self, actor: Actor, letters: Letters<B>, more: usize) -> Result<(), Refused<B>>
-        requires small { more ≤ 1 }
+        requires small { more ≤ 2 }
         requires kept { IsLedger B.size self.old }
         ensures kept { IsLedger B.size self.new }
         ensures ok { OnOk result (self.new.entries.items ≡ self.old.entries.items ++ posting B.size actor letters (past self.old.entries.items)) }
@@ -203,9 +205,17 @@ impl<B: Weight> Ledger<B> {
         }
     }
 
-    /// Takes a step, and gives what it finds.
+    /// The packet of a choice, which goes on waiting.
+    pub fn look(&self, actor: Actor, choice: u64) -> Option<PacketPlace>
+        requires { IsLedger B.size self.now }
+        ensures { IsFound self.now.entries.items result (pick actor choice (past self.now.entries.items)) }
+    {
+        self.queues.look(actor, choice)
+    }
+
+    /// Takes a step, and gives what it finds. There is memory for the entry, and for that of a refusal.
     pub fn take(&mut self, step: Turn) -> Option<PacketPlace>
-        requires room { vec_len self.old.entries < vec_capacity self.old.entries }
+        requires room { vec_len self.old.entries + 2 ≤ vec_capacity self.old.entries }
         requires kept { IsLedger B.size self.old }
         ensures kept { IsLedger B.size self.new }
         ensures entries { self.new.entries.items ≡ self.old.entries.items ++ entry_of step (past self.old.entries.items) ∷ [] }
@@ -214,5 +224,15 @@ impl<B: Weight> Ledger<B> {
         let found = self.find(&step);
         self.entries.push_reserved(entry_by(step, found));
         found
+    }
+
+    /// The input of the newest entry found no memory. There is memory for this entry.
+    pub fn refuse(&mut self, actor: Actor)
+        requires fresh { MayBeRefused (past self.old.entries.items) }
+        requires kept { IsLedger B.size self.old }
+        ensures kept { IsLedger B.size self.new }
+        ensures entries { self.new.entries.items ≡ self.old.entries.items ++ entries.Refused actor ∷ [] }
+    {
+        self.entries.push_reserved(JournalEntry::Refused { actor });
     }
 }

@@ -42,6 +42,17 @@ fn pick(queue: &mut VecDeque<PacketPlace>, choice: u64, keep: bool) -> Option<Pa
     }
 }
 
+/// The packet of a choice, counted round. It stays in the queue.
+fn look(queue: &VecDeque<PacketPlace>, choice: u64) -> Option<PacketPlace>
+    ensures { result ≡ picked choice queue.now.items }
+{
+    let count = queue.len() as u64;
+    if count == 0 {
+        return None;
+    }
+    queue.get((choice % count) as usize).copied()
+}
+
 /// The one of the lower number, the first of two with the same.
 fn lower(best: Option<PacketPlace>, place: PacketPlace) -> PacketPlace
     ensures { result ≡ lower best place }
@@ -105,6 +116,17 @@ impl Row {
             return None;
         }
         pick(&mut self.queues[index], choice, keep)
+    }
+
+    /// The packet of a choice, counted round. It stays in its queue.
+    fn look(&self, number: u8, choice: u64) -> Option<PacketPlace>
+        ensures { result ≡ picked choice (get_or self.now number []) }
+    {
+        let index = number as usize;
+        if index >= self.queues.len() {
+            return None;
+        }
+        look(&self.queues[index], choice)
     }
 
     /// The one of the lowest number, of `best` and the first of each queue.
@@ -205,6 +227,16 @@ impl Queues {
         match actor {
             Actor::Controller(number) => self.controllers.pick(number, choice, keep),
             Actor::Switch(number) => self.switches.pick(number, choice, keep),
+        }
+    }
+
+    /// The packet of a choice, counted round. It stays in the actor's queue.
+    pub fn look(&self, actor: Actor, choice: u64) -> Option<PacketPlace>
+        ensures { result ≡ picked choice (queue_of self.now actor) }
+    {
+        match actor {
+            Actor::Controller(number) => self.controllers.look(number, choice),
+            Actor::Switch(number) => self.switches.look(number, choice),
         }
     }
 

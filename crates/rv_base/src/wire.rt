@@ -1,11 +1,13 @@
 //! The journal beside the queues of what waits: what one turn of an actor adds to it.
-ghost use Rattle.std.specs.Prelude.{◌≡◌, [], ◌++◌, slice_get, OnOk, IfOk, IfErr, IfSome, IsSome};
+ghost use Rattle.std.specs.Prelude.{◌≡◌, [], ◌∷◌, ◌++◌, slice_get, OnOk, IfOk, IfErr, IfSome, IsSome};
 ghost use Rattle.rv_base.specs.Pool.{past, pool, pick};
 ghost use Rattle.rv_base.specs.Orderly.{IsOrderly};
+ghost use Rattle.rv_base.specs.Refusals.{MayBeRefused};
 ghost use Rattle.rv_base.specs.Turns.{posting, posted, turn_actor, turn_entries, IsWithinLimits};
 ghost use Rattle.rv_base.specs.Answers.{RefusedBy};
 ghost use Rattle.rv_base.specs.Places.{packet_at, IsFound};
 ghost use Rattle.rv_base.specs.Ledger.{found_in};
+ghost use Rattle.rv_base.specs.declared.journal.JournalEntry.TheVariants as entries;
 ghost use Rattle.rv_base.specs.declared.journal.Turn.TheVariants as turn;
 ghost use Rattle.rv_base.specs.declared.wire.Stop.TheVariants as refusals;
 
@@ -101,7 +103,14 @@ impl<B: Weight> Wire<B> {
         self.ledger.queues.first()
     }
 
-    /// The body of the letter at a place that `draw`, `lose` or `first` gave. It stands from then on.
+    /// The packet of a choice, if one waits for the actor. It goes on waiting. It takes no memory.
+    pub fn look(&self, actor: Actor, choice: u64) -> Option<PacketPlace>
+        ensures { IsFound self.now result (pick actor choice (past self.now)) }
+    {
+        self.ledger.look(actor, choice)
+    }
+
+    /// The body of the letter at a place that `draw`, `lose`, `look` or `first` gave. It stands from then on.
     pub fn body(&self, place: PacketPlace) -> &B
         requires { IsSome (packet_at place self.now) }
         ensures { IfSome (packet_at place self.now) (λ packet. result.now ≡ packet.body) }
@@ -176,7 +185,16 @@ impl<B: Weight> Wire<B> {
         ensures found { IfOk result (λ found. IsFound self.new found (found_in step (pool (posted B.size (turn_actor step) post (past self.old))))) }
         ensures err { IfErr result (λ r. (self.new ≡ self.old) × (r.post ≡ post) × RefusedBy B.size r.cause post (past self.old)) }
     {
-        self.ledger.post(step.actor(), post, 1)?;
+        self.ledger.post(step.actor(), post, 2)?;
         Ok(self.ledger.take(step))
+    }
+
+    /// Says that the input of the newest entry, a draw or a local one, found no memory. It takes none itself: each such
+    /// entry came with room for this one.
+    pub fn refuse(&mut self, actor: Actor)
+        requires { MayBeRefused (past self.old) }
+        ensures { self.new ≡ self.old ++ entries.Refused actor ∷ [] }
+    {
+        self.ledger.refuse(actor);
     }
 }

@@ -9,7 +9,7 @@ use Rattle.of_switch.specs.State.{SwitchState}
 use Rattle.of_switch.specs.Rules.{switch_turn}
 use Rattle.group_controller.specs.declared.messages.ControllerInput.{ControllerInput}
 use Rattle.group_controller.specs.declared.messages.ControllerSays.{ControllerSays}
-use Rattle.group_controller.specs.Turns.{Controlling, Controls, Turns, pair_in, state_of}
+use Rattle.group_controller.specs.Turns.{Controlling, Controls, Turns, Wants, pair_in, state_of}
 
 -- a switch takes a turn
 pub record SwitchTurned (old : SwitchState) (input : SwitchInput) (new : SwitchState) (letters : List (Letter SwitchSays)) : Type 0 where
@@ -28,5 +28,13 @@ pub record ControllerTurned {A W : Type 0} (law : AppLaw A) (saving : Saving W) 
   pub me : new.me ≡ old.me
   pub turn : (kinds : List ℕ) → Controls law old kinds →
       Turns kinds old input letters new (saving.pair stable) (saving.pair stable_after) (saving.faults stable) (saving.faults stable_after)
+  pub kept : (kinds : List ℕ) → Controls law old kinds → Controls law new kinds
+  pub stands : saving.pair stable_after ≡ pair_in (state_of new)
+
+-- or finds no memory for it: it is down, no save was made, and its stable pair stands
+pub record ControllerWanted {A W : Type 0} (law : AppLaw A) (saving : Saving W) (old : Controlling A) (stable : W) (new : Controlling A) (stable_after : W) : Type 0 where
+  pub setup : new.setup ≡ old.setup
+  pub me : new.me ≡ old.me
+  pub wants : Wants old new (saving.pair stable) (saving.pair stable_after) (saving.faults stable) (saving.faults stable_after)
   pub kept : (kinds : List ℕ) → Controls law old kinds → Controls law new kinds
   pub stands : saving.pair stable_after ≡ pair_in (state_of new)

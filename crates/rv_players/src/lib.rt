@@ -8,4 +8,5 @@ mod turns;
 
 pub use hearing::heard;
 pub use player::Player;
-pub use turns::{TakesTurns, sealed_turn};
+pub use sealing::sealed;
+pub use turns::{TakesTurns, sealed_turn, typed_turn};

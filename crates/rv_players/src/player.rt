@@ -42,10 +42,13 @@ pub trait Player {
     fn hear(alloc: Global, from: Actor, unsealed: Unsealed) -> Self::Input
         ensures { result ≡ hears from unsealed };
 
-    /// The body of what it says. Each number of it fits its field.
+    /// Each number of what it says fits its field. This call does nothing when it runs.
+    fn fits(says: &Self::Says)
+        ensures { FitsMessage (said says.now) };
+
+    /// The body of what it says.
     fn seal<B: Body>(alloc: Global, says: &Self::Says) -> Result<B, AllocError>
-        ensures body { IfOk result (λ body. body ≡ B.sealing.sealed (said says.now)) }
-        ensures typed { FitsMessage (said says.now) };
+        ensures { IfOk result (λ body. body ≡ B.sealing.sealed (said says.now)) };
 }
 
 /// A message that no such sender sends to a switch.
@@ -106,17 +109,23 @@ impl Player for Switch {
         }
     }
 
-    fn seal<B: Body>(alloc: Global, says: &SwitchSays) -> Result<B, AllocError> {
+    fn fits(says: &SwitchSays) {
         match says {
             SwitchSays::Of { xid, message } => {
                 u32_fits(*xid);
                 spoken_fits(message);
-                B::seal_spoken(alloc, *xid, message)
             }
             SwitchSays::Frame { port, bytes } => {
                 u32_fits(*port);
-                B::seal_frame(alloc, *port, bytes)
+                let _ = bytes;
             }
+        }
+    }
+
+    fn seal<B: Body>(alloc: Global, says: &SwitchSays) -> Result<B, AllocError> {
+        match says {
+            SwitchSays::Of { xid, message } => B::seal_spoken(alloc, *xid, message),
+            SwitchSays::Frame { port, bytes } => B::seal_frame(alloc, *port, bytes),
         }
     }
 }
@@ -155,17 +164,20 @@ impl<A: App> Player for Controller<A> {
         }
     }
 
-    fn seal<B: Body>(alloc: Global, says: &ControllerSays) -> Result<B, AllocError> {
+    fn fits(says: &ControllerSays) {
         match says {
             ControllerSays::Of { xid, message } => {
                 u32_fits(*xid);
                 spoken_fits(message);
-                B::seal_spoken(alloc, *xid, message)
             }
-            ControllerSays::Vr(message) => {
-                vr_fits(message);
-                B::seal_vr(alloc, message)
-            }
+            ControllerSays::Vr(message) => vr_fits(message),
+        }
+    }
+
+    fn seal<B: Body>(alloc: Global, says: &ControllerSays) -> Result<B, AllocError> {
+        match says {
+            ControllerSays::Of { xid, message } => B::seal_spoken(alloc, *xid, message),
+            ControllerSays::Vr(message) => B::seal_vr(alloc, message),
         }
     }
 }

@@ -9,12 +9,21 @@ use rv_base::{Letter, Letters};
 use rv_bodies::Body;
 use std::alloc::{AllocError, Global};
 
-/// What an actor says, sealed letter by letter. Each number of it fits its field.
+/// Each number of what an actor says fits its field. This call does nothing when it runs.
+pub fn letters_fit<P: Player>(letters: &[Letter<P::Says>])
+    ensures { AreTyped P.said letters.now }
+{
+    for letter in letters {
+        P::fits(&letter.body);
+    }
+}
+
+/// What an actor says, sealed letter by letter.
 pub fn sealed<P: Player, B: Body>(
     alloc: Global,
     letters: &[Letter<P::Says>],
 ) -> Result<Letters<B>, AllocError>
-    ensures { IfOk result (λ sealed. (sealed ≡ sealed_letters P.said B.sealing letters.now) × AreTyped P.said letters.now) }
+    ensures { IfOk result (λ sealed. sealed ≡ sealed_letters P.said B.sealing letters.now) }
 {
     let mut sealed = Items::from_vec(Vec::with_capacity(alloc, letters.len())?);
     for letter in letters {

@@ -1,12 +1,12 @@
 //! Actors take turns: an input, what it makes them save, and what they say.
-ghost use Rattle.std.specs.Prelude.{◌≡◌, List, IfOk};
+ghost use Rattle.std.specs.Prelude.{◌≡◌, ◌⊎◌, List, IfOk, OnErr};
 ghost use Rattle.rv_base.specs.declared.journal.Letter.{Letter};
 ghost use Rattle.rv_runs.specs.Legal.{AreTyped};
 ghost use Rattle.rv_runs.specs.States.{sealed_letters};
-ghost use Rattle.rv_players.specs.Turns.{ControllerTurned, IsReady, SwitchTurned};
+ghost use Rattle.rv_players.specs.Turns.{ControllerTurned, ControllerWanted, IsReady, SwitchTurned};
 
 use crate::player::Player;
-use crate::sealing::sealed;
+use crate::sealing::{letters_fit, sealed};
 use app_core::App;
 use group_controller::{Controller, ControllerInput, ControllerSays};
 use of_switch::{Switch, SwitchInput, SwitchSays};
@@ -20,21 +20,26 @@ pub trait TakesTurns<W>: Player {
     ghost ready: { Self → W → Type 0 };
     /// It takes an input, and says these letters.
     ghost turned: { Self → W → Self.Input → Self → W → List (Letter Self.Says) → Type 0 };
+    /// It found no memory for an input, and this is what that leaves.
+    ghost wanted: { Self → W → Self → W → Type 0 };
 
-    /// Takes an input, and gives what it says. One that has found no memory is to be dropped.
+    /// Takes an input, and gives what it says.
     fn take_turn(
         &mut self,
         beside: &mut W,
         input: Self::Input,
     ) -> Result<Letters<Self::Says>, AllocError>
         requires { ready self.old beside.old }
-        ensures { IfOk result (λ letters. turned self.old beside.old input self.new beside.new letters) };
+        ensures turned { IfOk result (λ letters. turned self.old beside.old input self.new beside.new letters) }
+        ensures wanted { OnErr result (wanted self.old beside.old self.new beside.new) };
 }
 
 impl TakesTurns<()> for Switch {
     ghost ready = { λ state nothing. Unit {0} };
 
     ghost turned = { λ old nothing input new none letters. SwitchTurned old input new letters };
+
+    ghost wanted = { λ old nothing new none. new ≡ old };
 
     fn take_turn(
         &mut self,
@@ -50,6 +55,8 @@ impl<A: App, W: Stable> TakesTurns<W> for Controller<A> {
 
     ghost turned = { ControllerTurned A.law W.saving };
 
+    ghost wanted = { ControllerWanted A.law W.saving };
+
     fn take_turn(
         &mut self,
         beside: &mut W,
@@ -59,7 +66,23 @@ impl<A: App, W: Stable> TakesTurns<W> for Controller<A> {
     }
 }
 
-/// An actor takes an input, and gives what it says, sealed. Each number of it fits its field.
+/// An actor takes an input, and gives what it says. Each number of it fits its field.
+pub fn typed_turn<P: TakesTurns<W>, W>(
+    player: &mut P,
+    beside: &mut W,
+    input: P::Input,
+) -> Result<Letters<P::Says>, AllocError>
+    requires { P.ready player.old beside.old }
+    ensures turned { IfOk result (λ letters. P.turned player.old beside.old input player.new beside.new letters × AreTyped P.said letters) }
+    ensures wanted { OnErr result (P.wanted player.old beside.old player.new beside.new) }
+{
+    let letters = player.take_turn(beside, input)?;
+    letters_fit::<P>(letters.as_slice());
+    Ok(letters)
+}
+
+/// An actor takes an input, and gives what it says, sealed. Each number of it fits its field. Where there is no memory to seal it, it
+/// is lost.
 pub fn sealed_turn<P: TakesTurns<W>, W, B: Body>(
     alloc: Global,
     player: &mut P,
@@ -67,9 +90,11 @@ pub fn sealed_turn<P: TakesTurns<W>, W, B: Body>(
     input: P::Input,
 ) -> Result<Letters<B>, AllocError>
     requires { P.ready player.old beside.old }
-    ensures { IfOk result (λ sealed. (letters : List (Letter P.Says)) × P.turned player.old beside.old input player.new beside.new letters
+    ensures turned { IfOk result (λ sealed. (letters : List (Letter P.Says)) × P.turned player.old beside.old input player.new beside.new letters
         × (sealed ≡ sealed_letters P.said B.sealing letters) × AreTyped P.said letters) }
+    ensures wanted { OnErr result (P.wanted player.old beside.old player.new beside.new
+        ⊎ ((letters : List (Letter P.Says)) × P.turned player.old beside.old input player.new beside.new letters × AreTyped P.said letters)) }
 {
-    let letters = player.take_turn(beside, input)?;
+    let letters = typed_turn(player, beside, input)?;
     sealed::<P, B>(alloc, letters.as_slice())
 }

@@ -10,7 +10,7 @@ use Rattle.app_core.specs.Law.{AppLaw}
 use Rattle.rv_runs.specs.declared.messages.Message.{Message}
 use Rattle.rv_runs.specs.Legal.{results_of}
 use Rattle.rv_runs.specs.States.{Sealing, controller_at, controller_message, switch_at, switch_message}
-use Rattle.rv_world.specs.declared.debt.Debt.{Debt}
+use Rattle.rv_world.specs.Debts.{Debt}
 use Rattle.rv_world.specs.World.{Holds, IsOwed, IsPlayed, Worlding, debt_of, results_in, scene_in}
 
 -- where nothing is owed, nothing was said

@@ -1,6 +1,7 @@
 -- A controller goes on behind its own entries.
 use Rattle.std.proofs.Common.{◌≡◌, ◌≤◌, ℕ, List, [], ◌∷◌, length, refl, sym, ◌∙◌, ap, subst, arith}
-use Rattle.std.specs.Prelude.{Option}
+use Rattle.std.specs.Prelude.{Option, Some, None, slice_index_or}
+use Rattle.actor_fold.specs.Fold.{ActorRules}
 use Rattle.app_core.specs.Law.{AppLaw}
 use Rattle.rv_base.specs.declared.journal.Actor.{Actor}
 use Rattle.rv_base.specs.declared.journal.JournalEntry.{JournalEntry}
@@ -8,19 +9,36 @@ use Rattle.rv_base.specs.declared.journal.JournalEntry.TheVariants.{Post, Draw, 
 use Rattle.rv_base.specs.declared.journal.Letter.{Letter}
 use Rattle.rv_base.specs.declared.journal.Packet.{Packet}
 use Rattle.rv_base.specs.declared.journal.SaveResult.{SaveResult}
+use Rattle.rv_base.specs.declared.journal.SaveResult.TheVariants.{Saved, KeptOld, KeptNew}
 use Rattle.group_controller.specs.declared.messages.ControllerInput.{ControllerInput}
 use Rattle.group_controller.specs.declared.messages.ControllerSays.{ControllerSays}
 use Rattle.group_controller.specs.Rules.{controller_work}
-use Rattle.group_controller.specs.State.{ControllerState, starting_controller}
+use Rattle.group_controller.specs.State.{ControllerState, Work, starting_controller}
 use Rattle.group_controller.specs.Turns.{Controlling, Controls, Done, Turns, state_of}
 use Rattle.rv_runs.specs.Inputs.{IsHeard}
 use Rattle.rv_runs.specs.Legal.{EntryFits, IsSoundController}
-use Rattle.rv_runs.specs.States.{Scene, ControllerAt, controller_at, controller_message, controller_rules, controller_speech, controller_took}
+use Rattle.rv_runs.specs.States.{Scene, ControllerAt, controller_at, controller_message, controller_rules, controller_saved, controller_speech, controller_took, crashed}
 use Rattle.rv_runs.proofs.Saves.{same_results, sound_with_more}
 use Rattle.rv_world.specs.World.{IsOwed}
 use Rattle.rv_world.specs.Standing.{ControllerStands, Stands}
-use Rattle.rv_world.proofs.Standing.{IsIdle, input_taken, posts, rests, takes}
+use Rattle.rv_world.proofs.Standing.{IsIdle, input_taken, posts, refuses, rests, takes}
 use Rattle.rv_world.proofs.Taking.{IsTaken, took_is}
+
+-- a controller that takes an input knows what it was before it
+abbrev Knows : ControllerAt → ControllerAt → Type 0
+Knows w v = (v.before ≡ w.now) × (v.saves_before ≡ w.saves)
+
+saved_knows : (w : ControllerAt) (work : Work) (promise life : ℕ) (r : SaveResult) → Knows w (controller_saved w work promise life r)
+saved_knows w work promise life Saved = (refl, refl)
+saved_knows w work promise life KeptOld = (refl, refl)
+saved_knows w work promise life KeptNew = (refl, refl)
+
+took_knows : (results : List SaveResult) (w : ControllerAt) (work : Work) → Knows w (controller_took results w work)
+took_knows results w work = by_save work.save refl
+  where
+    by_save : (o : Option (ℕ × ℕ)) → work.save ≡ o → Knows w (controller_took results w work)
+    by_save None is = rw is (refl, refl)
+    by_save (Some pair) is = rw is (saved_knows w work pair.0 pair.1 (slice_index_or results w.saves Saved))
 
 module _ {B A : Type 0} (law : AppLaw A) (scene : Scene B) (c : ℕ) (own : List (JournalEntry B × Option (Packet B))) where
   abbrev start : ControllerState
@@ -54,6 +72,27 @@ module _ {B A : Type 0} (law : AppLaw A) (scene : Scene B) (c : ℕ) (own : List
     saves = h.saves ∙ sym (idle_saves x e found idle);
     stands = rests (controller_rules scene x.results) controller_speech scene.sealing start own (state_of x) e found idle h.stands;
   }
+
+  -- what it hears is refused: it is down with the pair from before, and has made no save
+  pub controller_refuses : (old new : Controlling A) (x : ControllerInput) (e : JournalEntry B) (found nothing : Option (Packet B)) (a : Actor) → IsHeard scene e found x → EntryFits e →
+      ControllerStands law scene c own old [] → state_of new ≡ crashed (state_of old) → new.results ≡ old.results → new.setup ≡ old.setup → new.me ≡ old.me → Controls law new scene.kinds →
+      ControllerStands law scene c ((Refused a, nothing) ∷ (e, found) ∷ own) new []
+  controller_refuses old new x e found nothing a heard typed h down unsaved setup_is me_is keeps = record {
+    keeps = keeps;
+    setup_is = setup_is ∙ h.setup_is;
+    me_is = me_is ∙ h.me_is;
+    saves = subst (λ (rs : List SaveResult). length rs ≡ (controller_at scene rs c ((Refused a, nothing) ∷ (e, found) ∷ own)).saves) (sym unsaved)
+        (h.saves ∙ sym (ap (λ w. w.saves_before) on ∙ (knows).1));
+    stands = subst (λ (rs : List SaveResult). Stands (controller_rules scene rs) controller_speech scene.sealing start ((Refused a, nothing) ∷ (e, found) ∷ own) (state_of new) []) (sym unsaved)
+        (subst (λ (s : ControllerState). Stands (controller_rules scene old.results) controller_speech scene.sealing start ((Refused a, nothing) ∷ (e, found) ∷ own) s []) (sym down)
+        (refuses (controller_rules scene old.results) controller_speech scene.sealing start own (state_of old) e found nothing x a heard typed h.stands (knows).0));
+  }
+    where
+      knows : Knows (controller_at scene old.results c own) ((controller_rules scene old.results).takes (controller_at scene old.results c own) x)
+      knows = let before = controller_at scene old.results c own in took_knows old.results before (controller_work scene.kinds scene.setup before.now x)
+
+      on : controller_at scene old.results c ((e, found) ∷ own) ≡ (controller_rules scene old.results).takes (controller_at scene old.results c own) x
+      on = input_taken (controller_rules scene old.results) controller_speech scene.sealing start own e found x heard
 
   -- a turn over its own entries
   module _ (old new : Controlling A) (input : ControllerInput) (letters : List (Letter ControllerSays)) (sealed : List (Letter B)) (pair_before pair_after : ℕ × ℕ) (before after : ℕ)

@@ -7,7 +7,7 @@ use Rattle.app_core.specs.Law.{AppLaw}
 use Rattle.rv_base.specs.declared.journal.Actor.{Actor}
 use Rattle.rv_base.specs.declared.journal.Actor.TheVariants as actor
 use Rattle.rv_base.specs.declared.journal.JournalEntry.{JournalEntry}
-use Rattle.rv_base.specs.declared.journal.JournalEntry.TheVariants.{Post}
+use Rattle.rv_base.specs.declared.journal.JournalEntry.TheVariants.{Post, Refused}
 use Rattle.rv_base.specs.declared.journal.Letter.{Letter}
 use Rattle.rv_base.specs.declared.journal.Packet.{Packet}
 use Rattle.rv_base.specs.declared.journal.SaveResult.{SaveResult}
@@ -26,10 +26,10 @@ use Rattle.rv_runs.specs.Inputs.{IsHeard, IsHeardAt, IsInput, By_draw, By_local}
 use Rattle.rv_runs.specs.Legal.{EntryFits, IsSoundController, results_of}
 use Rattle.rv_runs.specs.States.{Scene, Speech, Sealing, controller_at, controller_message, switch_message, switch_rules, switch_speech}
 use Rattle.rv_runs.proofs.Pasts.{from_some, self_controller, self_switch}
-use Rattle.rv_world.specs.Actors.{ControllerTakes, SwitchTakes}
+use Rattle.rv_world.specs.Actors.{ControllerTakes, ControllerWants, SwitchTakes}
 use Rattle.rv_world.specs.Standing.{AllStand, ControllerStands, SwitchStands}
 use Rattle.rv_world.specs.World.{HoldsAt, IsDebtor, IsOwed, Worlding, debt_of, results_in}
-use Rattle.rv_world.proofs.Controlling.{controller_posts, controller_rests, controller_takes}
+use Rattle.rv_world.proofs.Controlling.{controller_posts, controller_refuses, controller_rests, controller_takes}
 use Rattle.rv_world.proofs.Finding.{each_finds}
 use Rattle.rv_world.proofs.Joining.{joined, other_part, own_part}
 use Rattle.rv_world.proofs.Places.{got_other, got_set, results_at, set_length}
@@ -117,6 +117,39 @@ module _ {B A : Type 0} (law : AppLaw A) (scene : Scene B) (entries : List (Jour
       let m = stand.switches_stand s there in
       subst (λ (o : List (Letter B)). SwitchStands scene s (part (actor.Switch s) entries) m.0 o) (its_debt a letters (actor.Switch s) owes own) m.2
 
+  -- an actor of a world stands behind its part of a past
+  abbrev ControllerAfter : Worlding B A → List (JournalEntry B) → ℕ → Type 0
+  ControllerAfter v after c = (x : Controlling A) × (slice_get v.controllers c ≡ Some x) × ControllerStands law scene c (part (actor.Controller c) after) x (debt_of v.owed (actor.Controller c))
+
+  abbrev SwitchAfter : Worlding B A → List (JournalEntry B) → ℕ → Type 0
+  SwitchAfter v after s = (state : SwitchState) × (slice_get v.switches s ≡ Some state) × SwitchStands scene s (part (actor.Switch s) after) state (debt_of v.owed (actor.Switch s))
+
+  -- the world goes on with entries of one actor, which stands behind them. All others stay
+  module _ (v : Worlding B A) (a : Actor) (after : List (JournalEntry B)) (other_parts : (b : Actor) → same_actor a b ≡ false → part b after ≡ part b entries)
+      (named : AllByRecursion (λ e. IsActor scene.setup (actor_of e)) after) (orderly : IsOrderly scene.sealing.size after)
+      (group : length v.controllers ≡ length w.controllers) (count : length v.switches ≡ length w.switches)
+      (others : (c : ℕ) → same_actor a (actor.Controller c) ≡ false → slice_get v.controllers c ≡ slice_get w.controllers c)
+      (other_switches : (s : ℕ) → same_actor a (actor.Switch s) ≡ false → slice_get v.switches s ≡ slice_get w.switches s)
+      (debts : (b : Actor) → same_actor a b ≡ false → debt_of v.owed b ≡ debt_of w.owed b)
+      (its : (c : ℕ) → c < scene.setup.controllers → same_actor a (actor.Controller c) ≡ true → ControllerAfter v after c)
+      (its_switch : (s : ℕ) → s < length scene.setup.ports → same_actor a (actor.Switch s) ≡ true → SwitchAfter v after s)
+      (debtor : IsDebtor v.owed after) where
+    controller_after : (c : ℕ) → c < scene.setup.controllers → (b : Bool) → same_actor a (actor.Controller c) ≡ b → ControllerAfter v after c
+    controller_after c there true is = its c there is
+    controller_after c there false is = let x = stand.controllers_stand c there in (x.0, others c is ∙ x.1, rw (other_parts (actor.Controller c) is, debts (actor.Controller c) is) x.2)
+
+    switch_after : (s : ℕ) → s < length scene.setup.ports → (b : Bool) → same_actor a (actor.Switch s) ≡ b → SwitchAfter v after s
+    switch_after s there true is = its_switch s there is
+    switch_after s there false is = let x = stand.switches_stand s there in (x.0, other_switches s is ∙ x.1, rw (other_parts (actor.Switch s) is, debts (actor.Switch s) is) x.2)
+
+    pub goes_on : HoldsAt law scene (results_in v.controllers) after v
+    goes_on = joined law scene after v (record {
+      group = group ∙ holds.group;
+      count = count ∙ holds.count;
+      controllers_stand = λ c there. controller_after c there (same_actor a (actor.Controller c)) refl;
+      switches_stand = λ s there. switch_after s there (same_actor a (actor.Switch s)) refl;
+    }) holds.setup named orderly debtor
+
   -- the actor of an entry stands behind it
   abbrev ControllerBehind : Worlding B A → JournalEntry B → ℕ → Type 0
   ControllerBehind v e c = (x : Controlling A) × (slice_get v.controllers c ≡ Some x) × ControllerStands law scene c ((e, drawn e entries) ∷ part (actor.Controller c) entries) x (debt_of v.owed (actor.Controller c))
@@ -133,27 +166,28 @@ module _ {B A : Type 0} (law : AppLaw A) (scene : Scene B) (entries : List (Jour
       (its : (c : ℕ) → c < scene.setup.controllers → same_actor (actor_of e) (actor.Controller c) ≡ true → ControllerBehind v e c)
       (its_switch : (s : ℕ) → s < length scene.setup.ports → same_actor (actor_of e) (actor.Switch s) ≡ true → SwitchBehind v e s)
       (debtor : IsDebtor v.owed (e ∷ entries)) where
-    abbrev ControllerAfter : ℕ → Type 0
-    ControllerAfter c = (x : Controlling A) × (slice_get v.controllers c ≡ Some x) × ControllerStands law scene c (part (actor.Controller c) (e ∷ entries)) x (debt_of v.owed (actor.Controller c))
-
-    abbrev SwitchAfter : ℕ → Type 0
-    SwitchAfter s = (state : SwitchState) × (slice_get v.switches s ≡ Some state) × SwitchStands scene s (part (actor.Switch s) (e ∷ entries)) state (debt_of v.owed (actor.Switch s))
-
-    controller_after : (c : ℕ) → c < scene.setup.controllers → (b : Bool) → same_actor (actor_of e) (actor.Controller c) ≡ b → ControllerAfter c
-    controller_after c there true is = let x = its c there is in (x.0, x.1, rw (own_part (actor.Controller c) e entries is) x.2)
-    controller_after c there false is = let x = stand.controllers_stand c there in (x.0, others c is ∙ x.1, rw (other_part (actor.Controller c) e entries is, debts (actor.Controller c) is) x.2)
-
-    switch_after : (s : ℕ) → s < length scene.setup.ports → (b : Bool) → same_actor (actor_of e) (actor.Switch s) ≡ b → SwitchAfter s
-    switch_after s there true is = let x = its_switch s there is in (x.0, x.1, rw (own_part (actor.Switch s) e entries is) x.2)
-    switch_after s there false is = let x = stand.switches_stand s there in (x.0, other_switches s is ∙ x.1, rw (other_part (actor.Switch s) e entries is, debts (actor.Switch s) is) x.2)
-
     pub enters : HoldsAt law scene (results_in v.controllers) (e ∷ entries) v
-    enters = joined law scene (e ∷ entries) v (record {
-      group = group ∙ holds.group;
-      count = count ∙ holds.count;
-      controllers_stand = λ c there. controller_after c there (same_actor (actor_of e) (actor.Controller c)) refl;
-      switches_stand = λ s there. switch_after s there (same_actor (actor_of e) (actor.Switch s)) refl;
-    }) holds.setup (named, holds.legal.possible.named) orderly debtor
+    enters =
+        goes_on v (actor_of e) (e ∷ entries) (λ b other. other_part b e entries other) (named, holds.legal.possible.named) orderly group count others other_switches debts
+        (λ c there own. let x = its c there own in (x.0, x.1, rw (own_part (actor.Controller c) e entries own) x.2))
+        (λ s there own. let x = its_switch s there own in (x.0, x.1, rw (own_part (actor.Switch s) e entries own) x.2))
+        debtor
+
+  -- an actor's input is refused: its part ends with the input and the refusal, and those of the others stay
+  module _ (e : JournalEntry B) (a : Actor) (mine : actor_of e ≡ a) where
+    abbrev refused : List (JournalEntry B)
+    refused = Refused a ∷ e ∷ entries
+
+    refused_part : (b : Actor) → same_actor a b ≡ true → part b refused ≡ (Refused a, None) ∷ (e, drawn e entries) ∷ part b entries
+    refused_part b own =
+        own_part b (Refused a) (e ∷ entries) own ∙
+        ap (λ (p : List (JournalEntry B × Option (Packet B))). (Refused a, None) ∷ p) (own_part b e entries (subst (λ x. same_actor x b ≡ true) (sym mine) own))
+
+    other_refused : (b : Actor) → same_actor a b ≡ false → part b refused ≡ part b entries
+    other_refused b other = other_part b (Refused a) (e ∷ entries) other ∙ other_part b e entries (subst (λ x. same_actor x b ≡ false) (sym mine) other)
+
+    refused_named : IsActor scene.setup a → AllByRecursion (λ x. IsActor scene.setup (actor_of x)) refused
+    refused_named named = (named, (subst (λ x. IsActor scene.setup x) (sym mine) named, holds.legal.possible.named))
 
   -- a controller takes an input
   pub controller_enters : {W : Type 0} (saving : Saving W) (v : Worlding B A) → w.owed ≡ None → (e : JournalEntry B) (c : ℕ) → c < scene.setup.controllers → actor_of e ≡ actor.Controller c → (x : ControllerInput) →
@@ -203,6 +237,53 @@ module _ {B A : Type 0} (law : AppLaw A) (scene : Scene B) (entries : List (Jour
       now = standing.takes switch_rules switch_speech scene.sealing (starting_switch s scene.setup) (part (actor.Switch s) entries) t.old e (drawn e entries) x t.new sealed heard typed stood
           (t.turned.state ∙ ap (λ (y : SwitchState). (switch_turn y x).state) stood.state_is)
           (subst (λ (ls : List (Letter SwitchSays)). IsOwed switch_message scene.sealing ls sealed) (t.turned.says ∙ ap (λ (y : SwitchState). (switch_turn y x).letters) stood.state_is) is_owed)
+
+  -- a controller finds no memory for an input
+  pub controller_left_out : {W : Type 0} (saving : Saving W) (v : Worlding B A) → w.owed ≡ None → (e : JournalEntry B) (c : ℕ) → c < scene.setup.controllers → (mine : actor_of e ≡ actor.Controller c) →
+      (x : ControllerInput) → IsHeard scene e (drawn e entries) x → EntryFits e → IsOrderly scene.sealing.size (Refused (actor.Controller c) ∷ e ∷ entries) → (stables stables_after : List W) →
+      ControllerWants law saving w.controllers stables c v.controllers stables_after → v.switches ≡ w.switches → v.owed ≡ None →
+      HoldsAt law scene (results_in v.controllers) (Refused (actor.Controller c) ∷ e ∷ entries) v
+  controller_left_out saving v rests e c there mine x heard typed orderly stables stables_after t switches_same owed =
+      goes_on v (actor.Controller c) (refused e (actor.Controller c) mine) (other_refused e (actor.Controller c) mine) (refused_named e (actor.Controller c) mine there) orderly
+      (ap length t.state ∙ set_length w.controllers c t.new) (ap length switches_same)
+      (λ d other. ap (λ l. slice_get l d) t.state ∙ got_other w.controllers c d t.new (eqb-false c d other))
+      (λ s other. ap (λ l. slice_get l s) switches_same)
+      (λ b other. rw (owed, rests) refl)
+      (λ d within own. subst (ControllerAfter v (refused e (actor.Controller c) mine)) (eqb-true c d own)
+      (t.new, ap (λ l. slice_get l c) t.state ∙ got_set w.controllers c t.old t.new t.stood, rw (owed, refused_part e (actor.Controller c) mine (actor.Controller c) (self_controller c)) now))
+      (λ s within own. absurd (let no = own in cc))
+      (rw owed tt)
+    where
+      stood : ControllerStands law scene c (part (actor.Controller c) entries) t.old []
+      stood =
+          let m = stand.controllers_stand c there in
+          subst (λ y. ControllerStands law scene c (part (actor.Controller c) entries) y []) (from_some m.0 t.old (sym m.1 ∙ t.stood)) (controller_quiet rests c there)
+
+      now : ControllerStands law scene c ((Refused (actor.Controller c), None) ∷ (e, drawn e entries) ∷ part (actor.Controller c) entries) t.new []
+      now = controller_refuses law scene c (part (actor.Controller c) entries) t.old t.new x e (drawn e entries) None (actor.Controller c) heard typed stood
+          t.wanted.wants.state_is t.wanted.wants.kept t.wanted.setup t.wanted.me (t.wanted.kept scene.kinds stood.keeps)
+
+  -- and a switch
+  pub switch_left_out : (v : Worlding B A) → w.owed ≡ None → (e : JournalEntry B) (s : ℕ) → s < length scene.setup.ports → (mine : actor_of e ≡ actor.Switch s) → (x : SwitchInput) →
+      IsHeardAt scene e (drawn e entries) x → EntryFits e → IsOrderly scene.sealing.size (Refused (actor.Switch s) ∷ e ∷ entries) → v.controllers ≡ w.controllers → v.switches ≡ w.switches → v.owed ≡ None →
+      HoldsAt law scene (results_in v.controllers) (Refused (actor.Switch s) ∷ e ∷ entries) v
+  switch_left_out v rests e s there mine x heard typed orderly controllers_same switches_same owed =
+      goes_on v (actor.Switch s) (refused e (actor.Switch s) mine) (other_refused e (actor.Switch s) mine) (refused_named e (actor.Switch s) mine there) orderly
+      (ap length controllers_same) (ap length switches_same)
+      (λ c other. ap (λ l. slice_get l c) controllers_same)
+      (λ r other. ap (λ l. slice_get l r) switches_same)
+      (λ b other. rw (owed, rests) refl)
+      (λ c within own. absurd (let no = own in cc))
+      (λ r within own. subst (SwitchAfter v (refused e (actor.Switch s) mine)) (eqb-true s r own)
+      (m.0, ap (λ l. slice_get l s) switches_same ∙ m.1, rw (owed, refused_part e (actor.Switch s) mine (actor.Switch s) (self_switch s)) now))
+      (rw owed tt)
+    where
+      m : (state : SwitchState) × (slice_get w.switches s ≡ Some state) × SwitchStands scene s (part (actor.Switch s) entries) state (debt_of w.owed (actor.Switch s))
+      m = stand.switches_stand s there
+
+      now : SwitchStands scene s ((Refused (actor.Switch s), None) ∷ (e, drawn e entries) ∷ part (actor.Switch s) entries) m.0 []
+      now = standing.refuses switch_rules switch_speech scene.sealing (starting_switch s scene.setup) (part (actor.Switch s) entries) m.0 e (drawn e entries) None x (actor.Switch s) heard typed
+          (switch_quiet rests s there) refl
 
   -- its actor takes and posts nothing
   pub idle_enters : (v : Worlding B A) → w.owed ≡ None → (e : JournalEntry B) → IsIdle e → IsActor scene.setup (actor_of e) → IsOrderly scene.sealing.size (e ∷ entries) →

@@ -14,6 +14,8 @@ pub mod Adopting
 pub mod Stables
 pub mod Turning
 pub mod Serving
+pub mod Refusing
 pub mod Drawing
+pub mod Applying
 pub mod Viewing
 pub mod Yielding

@@ -19,6 +19,16 @@ got_other (x ∷ xs) zero (suc j) new other = refl
 got_other (x ∷ xs) (suc i) zero new other = refl
 got_other (x ∷ xs) (suc i) (suc j) new other = got_other xs i j new (λ h. other (ap suc h))
 
+-- what is put where it stands changes nothing
+pub set_same : {X : Type 0} (xs : List X) (i : ℕ) (x : X) → slice_get xs i ≡ Some x → slice_set xs i x ≡ xs
+set_same [] zero x found = cc
+set_same [] (suc i) x found = cc
+set_same (y ∷ xs) zero x found = ap (λ z. z ∷ xs) (one found)
+  where
+    one : Some y ≡ Some x → x ≡ y
+    one h = cc
+set_same (y ∷ xs) (suc i) x found = ap (λ l. y ∷ l) (set_same xs i x found)
+
 -- the results of the saves of a controller
 pub results_at : {A : Type 0} (xs : List (Controlling A)) (i : ℕ) (x : Controlling A) → slice_get xs i ≡ Some x → results_of (results_in xs) i ≡ x.results
 results_at [] i x found = cc

@@ -1,6 +1,6 @@
 -- The stable pairs of controllers through a turn of one of them, and what its saves tell.
 use Rattle.std.proofs.Common.{◌≡◌, ◌≤◌, ◌<◌, ◌⊎◌, inl, inr, ℕ, ◌+◌, Bool, true, false, List, [], ◌∷◌, ◌++◌, refl, sym, ◌∙◌, ap, subst, arith, append-nil, append_assoc}
-use Rattle.std.specs.Prelude.{◌-◌, ◌^◌, nat_eq, count_by, slice_get, Option, Some, None, if◌then◌else◌}
+use Rattle.std.specs.Prelude.{◌-◌, ◌^◌, nat_eq, count_by, slice_get, slice_set, Option, Some, None, if◌then◌else◌}
 use Rattle.std.proofs.lemmas.List.Sums.{sum_by-append}
 use Rattle.std.proofs.lemmas.Bool.{cases_lt, eqb-true, eqb-false}
 use Rattle.rv_base.specs.declared.journal.Letter.{Letter}
@@ -17,7 +17,7 @@ use Rattle.group_controller.specs.Turns.{Controlling, Done, Saves, state_of, pai
 use Rattle.rv_runs.proofs.Pasts.{from_some}
 use Rattle.rv_world.specs.World.{AreTold, PairsStand, SavesTold, is_failed}
 use Rattle.rv_players.specs.Turns.{ControllerTurned}
-use Rattle.rv_world.specs.Actors.{ControllerTakes}
+use Rattle.rv_world.specs.Actors.{ControllerTakes, ControllerWants}
 use Rattle.rv_world.proofs.Places.{got_set, got_other}
 
 -- a count of two lists
@@ -90,50 +90,72 @@ module _ {A W : Type 0} (law : AppLaw A) (saving : Saving W) (x : ControllerInpu
   pub saves_told : (kinds : List ℕ) → Controls law old kinds → SavesTold (saving.faults stable) (saving.faults stable_after) old.results new.results
   saves_told kinds keeps = told_by (state_of old) (controller_work kinds old.setup (state_of old) x) (controller_work kinds old.setup (state_of old) x).save (t.turn kinds keeps)
 
+-- one controller has changed, and its stable pair
+module _ {A W : Type 0} (saving : Saving W) (before after : List (Controlling A)) (stables stables_after : List W) (c : ℕ) (old new : Controlling A) (stable stable_after : W)
+    (stood : slice_get before c ≡ Some old) (stable_stood : slice_get stables c ≡ Some stable) (state : after ≡ slice_set before c new) (stables_are : stables_after ≡ slice_set stables c stable_after) where
+  -- it stands there
+  new_there : (d : ℕ) → c ≡ d → slice_get after d ≡ Some new
+  new_there d same = subst (λ (n : ℕ). slice_get after n ≡ Some new) same (ap (λ l. slice_get l c) state ∙ got_set before c old new stood)
+
+  stable_there : (d : ℕ) → c ≡ d → slice_get stables_after d ≡ Some stable_after
+  stable_there d same = subst (λ (n : ℕ). slice_get stables_after n ≡ Some stable_after) same (ap (λ l. slice_get l c) stables_are ∙ got_set stables c stable stable_after stable_stood)
+
+  -- each controller still knows what is stable
+  pub pairs_at : saving.pair stable_after ≡ pair_in (state_of new) → PairsStand saving stables before → PairsStand saving stables_after after
+  pairs_at stands stand d y found = by_number (nat_eq c d) refl
+    where
+      by_number : (b : Bool) → nat_eq c d ≡ b → (s : W) × (slice_get stables_after d ≡ Some s) × (saving.pair s ≡ pair_in (state_of y))
+      by_number true is =
+          let same = eqb-true c d is in
+          (stable_after, stable_there d same, stands ∙ ap (λ z. pair_in (state_of z)) (from_some new y (sym (new_there d same) ∙ found)))
+      by_number false is =
+          let other = eqb-false c d is in
+          let s = stand d y (sym (ap (λ l. slice_get l d) state ∙ got_other before c d new other) ∙ found) in
+          (s.0, ap (λ l. slice_get l d) stables_are ∙ got_other stables c d stable_after other ∙ s.1, s.2)
+
+  -- what its saves tell is told, and those of the others stay
+  pub told_at : SavesTold (saving.faults stable) (saving.faults stable_after) old.results new.results → AreTold saving stables stables_after before after
+  told_at told d y s found stands = by_number (nat_eq c d) refl
+    where
+      by_number : (b : Bool) → nat_eq c d ≡ b →
+          (z : Controlling A) × (t : W) × (slice_get after d ≡ Some z) × (slice_get stables_after d ≡ Some t) × SavesTold (saving.faults s) (saving.faults t) y.results z.results
+      by_number true is =
+          let same = eqb-true c d is in
+          let one : old ≡ y = from_some old y (sym stood ∙ subst (λ (n : ℕ). slice_get before n ≡ Some y) (sym same) found) in
+          let other : stable ≡ s = from_some stable s (sym stable_stood ∙ subst (λ (n : ℕ). slice_get stables n ≡ Some s) (sym same) stands) in (
+            new,
+            stable_after,
+            new_there d same,
+            stable_there d same,
+            subst (λ (t : W). SavesTold (saving.faults t) (saving.faults stable_after) y.results new.results) other
+                (subst (λ (o : Controlling A). SavesTold (saving.faults stable) (saving.faults stable_after) o.results new.results) one told),
+          )
+      by_number false is =
+          let other = eqb-false c d is in (
+            y,
+            s,
+            ap (λ l. slice_get l d) state ∙ got_other before c d new other ∙ found,
+            ap (λ l. slice_get l d) stables_are ∙ got_other stables c d stable_after other ∙ stands,
+            unsaved_told (saving.faults s) y.results,
+          )
+
+-- a controller took its turn
 module _ {A W : Type 0} (law : AppLaw A) (saving : Saving W) (x : ControllerInput) (before after : List (Controlling A))
     (stables stables_after : List W) (c : ℕ) (letters : List (Letter ControllerSays)) (t : ControllerTakes law saving x before stables c after stables_after letters) where
-  -- each controller still knows what is stable
   pub pairs_stand : PairsStand saving stables before → PairsStand saving stables_after after
-  pairs_stand stand d y found = by_number (nat_eq c d) refl
-    where
-      mine : c ≡ d → (stable : W) × (slice_get stables_after d ≡ Some stable) × (saving.pair stable ≡ pair_in (state_of y))
-      mine same =
-          let new_found : slice_get after c ≡ Some t.new = ap (λ l. slice_get l c) t.state ∙ got_set before c t.old t.new t.stood in
-          let one : t.new ≡ y = from_some t.new y (sym new_found ∙ subst (λ (n : ℕ). slice_get after n ≡ Some y) (sym same) found) in (
-            t.stable_after,
-            subst (λ (n : ℕ). slice_get stables_after n ≡ Some t.stable_after) same (ap (λ l. slice_get l c) t.stables_are ∙ got_set stables c t.stable t.stable_after t.stable_stood),
-            t.turned.stands ∙ ap (λ z. pair_in (state_of z)) one,
-          )
+  pairs_stand = pairs_at saving before after stables stables_after c t.old t.new t.stable t.stable_after t.stood t.stable_stood t.state t.stables_are t.turned.stands
 
-      by_number : (b : Bool) → nat_eq c d ≡ b → (stable : W) × (slice_get stables_after d ≡ Some stable) × (saving.pair stable ≡ pair_in (state_of y))
-      by_number true is = mine (eqb-true c d is)
-      by_number false is =
-          let old_found : slice_get before d ≡ Some y = sym (ap (λ l. slice_get l d) t.state ∙ got_other before c d t.new (eqb-false c d is)) ∙ found in
-          let s = stand d y old_found in
-          (s.0, ap (λ l. slice_get l d) t.stables_are ∙ got_other stables c d t.stable_after (eqb-false c d is) ∙ s.1, s.2)
-
-  -- those of the others stay
   pub each_told : (kinds : List ℕ) → Controls law t.old kinds → AreTold saving stables stables_after before after
-  each_told kinds keeps d y stable found stands = by_number (nat_eq c d) refl
-    where
-      mine : c ≡ d → (z : Controlling A) × (stable_after : W) × (slice_get after d ≡ Some z) × (slice_get stables_after d ≡ Some stable_after) × SavesTold (saving.faults stable) (saving.faults stable_after) y.results z.results
-      mine same =
-          let one : t.old ≡ y = from_some t.old y (sym t.stood ∙ subst (λ (n : ℕ). slice_get before n ≡ Some y) (sym same) found) in
-          let other : t.stable ≡ stable = from_some t.stable stable (sym t.stable_stood ∙ subst (λ (n : ℕ). slice_get stables n ≡ Some stable) (sym same) stands) in (
-            t.new,
-            t.stable_after,
-            subst (λ (n : ℕ). slice_get after n ≡ Some t.new) same (ap (λ l. slice_get l c) t.state ∙ got_set before c t.old t.new t.stood),
-            subst (λ (n : ℕ). slice_get stables_after n ≡ Some t.stable_after) same (ap (λ l. slice_get l c) t.stables_are ∙ got_set stables c t.stable t.stable_after t.stable_stood),
-            subst (λ (s : W). SavesTold (saving.faults s) (saving.faults t.stable_after) y.results t.new.results) other
-                (subst (λ (o : Controlling A). SavesTold (saving.faults t.stable) (saving.faults t.stable_after) o.results t.new.results) one (saves_told law saving x t.old t.new t.stable t.stable_after letters t.turned kinds keeps)),
-          )
+  each_told kinds keeps = told_at saving before after stables stables_after c t.old t.new t.stable t.stable_after t.stood t.stable_stood t.state t.stables_are
+      (saves_told law saving x t.old t.new t.stable t.stable_after letters t.turned kinds keeps)
 
-      by_number : (b : Bool) → nat_eq c d ≡ b → (z : Controlling A) × (stable_after : W) × (slice_get after d ≡ Some z) × (slice_get stables_after d ≡ Some stable_after) × SavesTold (saving.faults stable) (saving.faults stable_after) y.results z.results
-      by_number true is = mine (eqb-true c d is)
-      by_number false is = (
-        y,
-        stable,
-        ap (λ l. slice_get l d) t.state ∙ got_other before c d t.new (eqb-false c d is) ∙ found,
-        ap (λ l. slice_get l d) t.stables_are ∙ got_other stables c d t.stable_after (eqb-false c d is) ∙ stands,
-        unsaved_told (saving.faults stable) y.results,
-      )
+-- and found no memory for it
+module _ {A W : Type 0} (law : AppLaw A) (saving : Saving W) (before after : List (Controlling A)) (stables stables_after : List W) (c : ℕ)
+    (t : ControllerWants law saving before stables c after stables_after) where
+  pub pairs_wanted : PairsStand saving stables before → PairsStand saving stables_after after
+  pairs_wanted = pairs_at saving before after stables stables_after c t.old t.new t.stable t.stable_after t.stood t.stable_stood t.state t.stables_are t.wanted.stands
+
+  pub told_wanted : AreTold saving stables stables_after before after
+  told_wanted = told_at saving before after stables stables_after c t.old t.new t.stable t.stable_after t.stood t.stable_stood t.state t.stables_are
+      (subst (λ (n : ℕ). SavesTold (saving.faults t.stable) n t.old.results t.new.results) (sym t.wanted.wants.faults_are)
+      (subst (λ (rs : List SaveResult). SavesTold (saving.faults t.stable) (saving.faults t.stable) t.old.results rs) (sym t.wanted.wants.kept) (unsaved_told (saving.faults t.stable) t.old.results)))

@@ -1,5 +1,5 @@
--- An actor goes on behind its own entries: it posts what it owes, rests, or takes what it hears.
-use Rattle.std.proofs.Common.{◌≡◌, ℕ, List, [], ◌∷◌, refl, ◌∙◌, ap, subst}
+-- An actor goes on behind its own entries: it posts what it owes, rests, takes what it hears, or is refused that.
+use Rattle.std.proofs.Common.{◌≡◌, ℕ, List, [], ◌∷◌, refl, sym, ◌∙◌, ap, subst}
 use Rattle.std.specs.Prelude.{Option}
 use Rattle.actor_fold.specs.Fold.{ActorRules, Standing, standing_on}
 use Rattle.rv_base.specs.declared.journal.Actor.{Actor}
@@ -82,4 +82,24 @@ module _ {B S I A : Type 0} (rules : ActorRules S I (Letter A)) (speech : Speech
         sound = (quiet state h, h.sound);
         state_is = new_is ∙ ap (λ (i : I). (rules.takes was i).now) says;
         owes = subst (λ (i : I). IsOwed speech.said sealing (rules.takes was i).owed owed) says owes;
+      })
+
+  -- what it hears is refused
+  pub refuses : (state : S) (e : JournalEntry B) (found nothing : Option (Packet B)) (x : I) (a : Actor) → IsInput speech sealing e found x → EntryFits e → At own state [] →
+      (rules.takes was x).before ≡ was.now → At ((Refused a, nothing) ∷ (e, found) ∷ own) (rules.refused state) []
+  refuses state e found nothing x a (By_draw b id keep p is finds says) typed h before =
+      rw (is, finds) (record {
+        typed = (tt, (tt, h.typed));
+        finds = h.finds;
+        sound = (tt, (quiet state h, h.sound));
+        state_is = ap rules.refused (h.state_is ∙ sym before ∙ ap (λ (i : I). (rules.takes was i).before) says);
+        owes = record { sealed = refl; typed = tt };
+      })
+  refuses state e found nothing x a (By_local b input is says) typed h before =
+      rw is (record {
+        typed = (tt, (rw is at typed, h.typed));
+        finds = h.finds;
+        sound = (tt, (quiet state h, h.sound));
+        state_is = ap rules.refused (h.state_is ∙ sym before ∙ ap (λ (i : I). (rules.takes was i).before) says);
+        owes = record { sealed = refl; typed = tt };
       })

@@ -15,8 +15,6 @@ use Rattle.rv_base.specs.Orderly.{IsOrderly, lost_of}
 use Rattle.rv_base.specs.Part.{part, drawn}
 use Rattle.rv_base.specs.declared.journal.Turn.{Turn}
 use Rattle.rv_base.specs.Pool.{past, pool, letters_posted}
-use Rattle.rv_base.specs.declared.wire.Stop.{Stop}
-use Rattle.rv_base.specs.declared.wire.Stop.TheVariants.{OutOfMemory, JournalFull}
 use Rattle.rv_base.specs.Turns.{entry_of, posting, turn_actor}
 use Rattle.rv_base.proofs.Lists.{past-push}
 use Rattle.of_switch.specs.State.{SwitchState}
@@ -32,9 +30,9 @@ use Rattle.rv_runs.specs.Legal.{EntryFits, Fits, results_of}
 use Rattle.rv_runs.specs.Schedule.{IsInputOf}
 use Rattle.rv_runs.specs.States.{IsFaithful, Scene, Sealing, controller_at, switch_at, controller_message, switch_message}
 use Rattle.rv_runs.proofs.Pasts.{from_some}
-use Rattle.rv_world.specs.declared.debt.Debt.{Debt}
+use Rattle.rv_world.specs.Debts.{Debt}
 use Rattle.rv_world.specs.Actors.{ControllerOwes, ControllerTakes, SwitchOwes}
-use Rattle.rv_world.specs.World.{AreTold, Holds, HoldsAt, IfMemory, IsOwed, Keeps, PairsStand, Steps, Worlding, debt_of, posts_of, results_in, scene_in}
+use Rattle.rv_world.specs.World.{AreTold, Holds, HoldsAt, IsOwed, Keeps, PairsStand, Steps, Worlding, debt_of, posts_of, results_in, scene_in}
 use Rattle.rv_world.proofs.Entering.{controller_enters, idle_enters, post_enters, switch_enters}
 use Rattle.rv_world.proofs.Places.{got_other, got_set}
 use Rattle.rv_world.proofs.Standing.{IsIdle}
@@ -265,12 +263,6 @@ pub post_same : {B A E : Type 0} (size : B → ℕ) (w v : Worlding B A) (result
     OnOk result (v ≡ record w { journal = w.journal ++ posts_of size w.owed w.journal; owed = None }) → IfErr result (λ stop. (v ≡ w) × P stop) → (v.setup ≡ w.setup) × (v.controllers ≡ w.controllers)
 post_same size w v (Ok x) P ok err = (ap (λ z. z.setup) ok, ap (λ z. z.controllers) ok)
 post_same size w v (Err e) P ok err = (ap (λ z. z.setup) err.0, ap (λ z. z.controllers) err.0)
-
--- what holds in any case holds unless memory was wanting
-pub in_any_case : {T : Type 0} (result : Result T Stop) (claim : Type 0) → claim → IfMemory result claim
-in_any_case (Ok x) claim h = h
-in_any_case (Err OutOfMemory) claim h = tt
-in_any_case (Err (JournalFull bytes letters)) claim h = h
 
 pub on_ok : {T E : Type 0} (result : Result T E) (P Q : Type 0) → (P → Q) → OnOk result P → OnOk result Q
 on_ok (Ok x) P Q next h = next h

@@ -1,6 +1,7 @@
 -- One actor of a list takes an input.
-use Rattle.std.specs.Prelude.{◌≡◌, ℕ, List, slice_get, slice_set, Some}
+use Rattle.std.specs.Prelude.{◌≡◌, ℕ, List, [], ◌∷◌, ◌++◌, slice_get, slice_set, Some}
 use Rattle.rv_base.specs.declared.journal.Actor.TheVariants as actor
+use Rattle.rv_base.specs.declared.journal.JournalEntry.TheVariants.{Refused}
 use Rattle.rv_base.specs.declared.journal.Letter.{Letter}
 use Rattle.of_switch.specs.declared.says.SwitchInput.{SwitchInput}
 use Rattle.of_switch.specs.declared.says.SwitchSays.{SwitchSays}
@@ -11,7 +12,7 @@ use Rattle.group_controller.specs.declared.messages.ControllerInput.{ControllerI
 use Rattle.group_controller.specs.declared.messages.ControllerSays.{ControllerSays}
 use Rattle.group_controller.specs.Turns.{Controlling, Controls, pair_in, state_of}
 use Rattle.rv_runs.specs.States.{Sealing, switch_message, controller_message}
-use Rattle.rv_players.specs.Turns.{ControllerTurned, SwitchTurned}
+use Rattle.rv_players.specs.Turns.{ControllerTurned, ControllerWanted, SwitchTurned}
 use Rattle.rv_world.specs.World.{IsOwed, Worlding}
 
 -- the switch of a number takes a turn
@@ -56,3 +57,26 @@ pub record ControllerOwes {B A W : Type 0} (law : AppLaw A) (saving : Saving W) 
   pub takes : ControllerTakes law saving input old.controllers stables number new.controllers stables_after letters
   pub owes : IsOwed controller_message sealing letters sealed
   pub left : new ≡ record old { controllers = new.controllers; owed = Some (record { actor = actor.Controller number; letters = sealed }) }
+
+-- the controller of a number finds no memory for its turn
+pub record ControllerWants {A W : Type 0} (law : AppLaw A) (saving : Saving W)
+    (before : List (Controlling A)) (stables : List W) (number : ℕ) (after : List (Controlling A)) (stables_after : List W) : Type 0 where
+  pub old : Controlling A
+  pub new : Controlling A
+  pub stable : W
+  pub stable_after : W
+  pub stood : slice_get before number ≡ Some old
+  pub stable_stood : slice_get stables number ≡ Some stable
+  pub state : after ≡ slice_set before number new
+  pub stables_are : stables_after ≡ slice_set stables number stable_after
+  pub wanted : ControllerWanted law saving old stable new stable_after
+
+-- a switch of a world finds no memory for the input of the newest entry: it is as it was, and the entry is refused
+abbrev pub SwitchRefused : {B A : Type 0} → Worlding B A → ℕ → Worlding B A → Type 0
+SwitchRefused old number new = new ≡ record old { journal = old.journal ++ Refused (actor.Switch number) ∷ [] }
+
+-- a controller of a world finds none
+pub record ControllerRefused {B A W : Type 0} (law : AppLaw A) (saving : Saving W)
+    (old : Worlding B A) (stables : List W) (number : ℕ) (new : Worlding B A) (stables_after : List W) : Type 0 where
+  pub wants : ControllerWants law saving old.controllers stables number new.controllers stables_after
+  pub left : new ≡ record old { journal = old.journal ++ Refused (actor.Controller number) ∷ []; controllers = new.controllers }

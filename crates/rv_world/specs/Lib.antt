@@ -1,3 +1,5 @@
+pub mod Debts
 pub mod World
+pub mod Refusals
 pub mod Actors
 pub mod Standing

@@ -28,7 +28,7 @@ use Rattle.rv_runs.specs.States.{Scene, Sealing, switch_at, controller_at, seale
 use Rattle.rv_runs.specs.Legal.{AreTyped, IsLegalPast, results_of}
 use Rattle.rv_runs.specs.Committed.{controller_state, switch_state}
 use Rattle.rv_runs.specs.Schedule.{IsInputOf}
-use Rattle.rv_world.specs.declared.debt.Debt.{Debt}
+use Rattle.rv_world.specs.Debts.{Debt}
 
 -- a world, as contracts see it: its setup, its journal, its controllers and its switches by number, and what is owed
 pub record Worlding (B A : Type 0) : Type 0 where
@@ -191,21 +191,10 @@ IsStuck size w bytes letters = elim w.owed [
   | Some d ↦ IsFull size (past w.journal) d.letters bytes letters
 ]
 
--- why a post was refused
+-- why a post was refused: something is owed, and there was no memory or no room for it
 abbrev pub PostStops : {B A : Type 0} → (B → ℕ) → Worlding B A → Stop → Type 0
-PostStops size w OutOfMemory = Unit {0}
+PostStops {B = B} size w OutOfMemory = (d : Debt B) × (w.owed ≡ Some d)
 PostStops size w (JournalFull bytes letters) = IsStuck size w bytes letters
-
--- why a turn stopped: at a full journal what was owed had no room, or what the turn owes has none
-abbrev pub TurnStops : {B A : Type 0} → (B → ℕ) → Turn → Worlding B A → Worlding B A → Stop → Type 0
-TurnStops size turn old new OutOfMemory = Unit {0}
-TurnStops size turn old new (JournalFull bytes letters) =
-    IsStuck size new bytes letters × ((new ≡ old) ⊎ (new.journal ≡ taken turn (old.journal ++ posts_of size old.owed old.journal)))
-
--- a claim that want of memory takes back
-abbrev pub IfMemory : {T : Type 0} → Result T Stop → Type 0 → Type 0
-IfMemory (Err OutOfMemory) claim = Unit {0}
-IfMemory _ claim = claim
 
 -- the applications of a controller, all of these kinds. One is there for its first life
 pub record IsStocked {A : Type 0} (law : AppLaw A) (kinds : List ℕ) (shelf : List A) : Type 0 where

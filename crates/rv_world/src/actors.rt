@@ -1,24 +1,20 @@
 //! The actors of a world: as they start, which take part, and one of them takes an input.
-ghost use Rattle.std.specs.Prelude.{◌≡◌, ◌<◌, ◌^◌, ℕ, List, length, IfOk};
+ghost use Rattle.std.specs.Prelude.{◌≡◌, ◌<◌, ◌^◌, ℕ, List, length, IfOk, OnErr};
 ghost use Rattle.std.specs.List.{AllByRecursion};
 ghost use Rattle.of_types.specs.Setups.{IsSetup};
 ghost use Rattle.vr_log.specs.Members.{is_up};
 ghost use Rattle.group_controller.specs.Turns.{AreAlike, ForEachKinds, state_of};
-ghost use Rattle.rv_base.specs.declared.journal.Letter.{Letter};
-ghost use Rattle.of_switch.specs.declared.says.SwitchSays.{SwitchSays};
-ghost use Rattle.group_controller.specs.declared.messages.ControllerSays.{ControllerSays};
-ghost use Rattle.rv_runs.specs.Legal.{FitsTypes};
+ghost use Rattle.rv_runs.specs.Legal.{AreTyped, FitsTypes};
 ghost use Rattle.rv_runs.specs.States.{controller_message, switch_message};
-ghost use Rattle.rv_world.specs.World.{AreNew, AreStocked, IsNew, IsOwed, IsStocked, starting_switches};
-ghost use Rattle.rv_world.specs.Actors.{SwitchTakes, ControllerTakes, IsServed};
+ghost use Rattle.rv_world.specs.World.{AreNew, AreStocked, IsNew, IsStocked, starting_switches};
+ghost use Rattle.rv_world.specs.Actors.{SwitchTakes, ControllerTakes, ControllerWants, IsServed};
 
 use app_core::App;
-use group_controller::{Controller, ControllerInput};
-use of_switch::{Switch, SwitchInput};
+use group_controller::{Controller, ControllerInput, ControllerSays};
+use of_switch::{Switch, SwitchInput, SwitchSays};
 use of_types::Setup;
 use rv_base::{Letters, Local, Stable};
-use rv_bodies::Body;
-use rv_players::sealed_turn;
+use rv_players::typed_turn;
 use std::alloc::{AllocError, Global};
 use vr_log::Status;
 
@@ -116,37 +112,35 @@ pub fn fits_types(input: &Local)
     }
 }
 
-/// The switch of a number takes an input. What it says is sealed.
-pub fn switch_takes<B: Body>(
-    alloc: Global,
+/// The switch of a number takes an input. Each number of what it says fits its field. Where it finds no memory it is as it was.
+pub fn switch_takes(
     switches: &mut [Switch],
     number: u8,
     input: SwitchInput,
-) -> Result<Letters<B>, AllocError>
+) -> Result<Letters<SwitchSays>, AllocError>
     requires { number < length switches.old }
-    ensures { IfOk result (λ sealed. (letters : List (Letter SwitchSays)) × SwitchTakes input switches.old number switches.new letters
-        × IsOwed switch_message B.sealing letters sealed) }
+    ensures takes { IfOk result (λ letters. SwitchTakes input switches.old number switches.new letters × AreTyped switch_message letters) }
+    ensures wants { OnErr result (switches.new ≡ switches.old) }
 {
-    sealed_turn::<Switch, (), B>(alloc, &mut switches[number as usize], &mut (), input)
+    typed_turn::<Switch, ()>(&mut switches[number as usize], &mut (), input)
 }
 
-/// The controller of a number takes an input, beside its stable pair. What it says is sealed.
-pub fn controller_takes<B: Body, A: App, W: Stable>(
-    alloc: Global,
+/// The controller of a number takes an input, beside its stable pair. Each number of what it says fits its field. Where it finds
+/// no memory it is down, and no save was made.
+pub fn controller_takes<A: App, W: Stable>(
     controllers: &mut [Controller<A>],
     stables: &mut [W],
     number: u8,
     input: ControllerInput,
-) -> Result<Letters<B>, AllocError>
+) -> Result<Letters<ControllerSays>, AllocError>
     requires there { number < length controllers.old }
     requires stable { number < length stables.old }
     requires ready { IsServed A.law W.saving controllers.old stables.old number }
-    ensures { IfOk result (λ sealed. (letters : List (Letter ControllerSays)) ×
-        ControllerTakes A.law W.saving input controllers.old stables.old number controllers.new stables.new letters
-        × IsOwed controller_message B.sealing letters sealed) }
+    ensures takes { IfOk result (λ letters. AreTyped controller_message letters ×
+        ControllerTakes A.law W.saving input controllers.old stables.old number controllers.new stables.new letters) }
+    ensures wants { OnErr result (ControllerWants A.law W.saving controllers.old stables.old number controllers.new stables.new) }
 {
-    sealed_turn::<Controller<A>, W, B>(
-        alloc,
+    typed_turn::<Controller<A>, W>(
         &mut controllers[number as usize],
         &mut stables[number as usize],
         input,

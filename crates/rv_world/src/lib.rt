@@ -2,9 +2,8 @@
 #![tactic(auto)]
 
 mod actors;
-mod debt;
+mod outbox;
 mod world;
 
 pub use actors::{controllers_of, fits_types, switches_of, takes_part};
-pub use debt::Debt;
 pub use world::World;

@@ -1,21 +1,26 @@
 //! A world: its journal, its actors, and turns.
-ghost use Rattle.std.specs.Prelude.{◌≡◌, ◌<◌, ℕ, List, Some, None, length, map, slice_get, OnOk, IfOk, IfErr};
+ghost use Rattle.std.specs.Prelude.{◌≡◌, ◌<◌, ◌++◌, ◌∷◌, [], ℕ, List, Some, None, length, map, slice_get, OnOk, OnErr, IfOk, IfErr, IfSome, IsSome};
 ghost use Rattle.of_types.specs.Setups.{IsSetup};
 ghost use Rattle.rv_base.specs.Actors.{IsActor};
 ghost use Rattle.rv_base.specs.Orderly.{IsOrderly};
-ghost use Rattle.rv_base.specs.Places.{IsFound};
-ghost use Rattle.rv_base.specs.Pool.{past, pool};
+ghost use Rattle.rv_base.specs.Places.{IsFound, packet_at};
+ghost use Rattle.rv_base.specs.Pool.{past, pick, pool};
+ghost use Rattle.rv_base.specs.Refusals.{MayBeRefused};
 ghost use Rattle.rv_base.specs.Turns.{turn_actor, IsWithinLimits};
+ghost use Rattle.rv_base.specs.declared.journal.Actor.TheVariants as actor;
+ghost use Rattle.rv_base.specs.declared.journal.JournalEntry.TheVariants as entry;
 ghost use Rattle.rv_base.specs.declared.journal.Turn.TheVariants as turn;
 ghost use Rattle.group_controller.specs.Turns.{ForEachKinds, state_of};
 ghost use Rattle.rv_runs.specs.Committed.{members_up};
-ghost use Rattle.rv_world.specs.World.{Applies, AreStocked, Holds, IfMemory, IsPlayed, Keeps, PairsStand, PostStops, resting, StartsAs, Steps, TurnStops, with_posts};
-ghost use Rattle.rv_world.specs.Actors.{ControllerOwes, IsServed, SwitchOwes};
+ghost use Rattle.rv_runs.specs.Messages.{way_of};
+ghost use Rattle.rv_world.specs.World.{Applies, AreStocked, Holds, IsPlayed, Keeps, PairsStand, PostStops, resting, StartsAs, Steps, taken, with_posts};
+ghost use Rattle.rv_world.specs.Refusals.{StepStops, TurnStops};
+ghost use Rattle.rv_world.specs.Actors.{ControllerOwes, ControllerRefused, IsServed, SwitchOwes, SwitchRefused};
 
 use crate::actors::{
     controller_takes, controllers_of, fits_types, switch_takes, switches_of, takes_part,
 };
-use crate::debt::Debt;
+use crate::outbox::{Outbox, sealed_outbox};
 use app_core::App;
 use group_controller::{Controller, ControllerInput};
 use of_switch::{Switch, SwitchInput};
@@ -26,8 +31,8 @@ use rv_players::{Player, heard};
 use std::alloc::{AllocError, Global};
 use std::marker::Model;
 
-/// A run so far: what its actors are, what is in flight, and what the one of the newest input has still to post. One that
-/// has found no memory in the midst of a turn is to be dropped.
+/// A run so far: what its actors are, what is in flight, and what the one of the newest input has still to post. A turn that finds
+/// no memory is a crash of its controller and nothing at a switch, and the run goes on.
 #[derive(Drop)]
 pub struct World<B: Body, A> {
     alloc: Global,
@@ -35,15 +40,16 @@ pub struct World<B: Body, A> {
     wire: Wire<B>,
     controllers: Vec<Controller<A>>,
     switches: Vec<Switch>,
-    debt: Option<Debt<B>>,
+    outbox: Option<Outbox>,
 }
 
 impl<B: Body, A> Model for World<B, A> {
+    ghost use Rattle.rv_world.specs.Debts.{owing};
     ghost use Rattle.rv_world.specs.World.{Worlding};
 
     ghost Value = { Worlding B A };
 
-    ghost view = { λ w. record { setup = w.setup; journal = w.wire; controllers = w.controllers.items; switches = w.switches.items; owed = w.debt } };
+    ghost view = { λ w. record { setup = w.setup; journal = w.wire; controllers = w.controllers.items; switches = w.switches.items; owed = owing B.sealing w.outbox } };
 }
 
 impl<B: Body, A: App> World<B, A> {
@@ -66,7 +72,7 @@ impl<B: Body, A: App> World<B, A> {
             wire: Wire::new(alloc),
             controllers: controllers_of(alloc, setup, shelves)?,
             switches: switches_of(alloc, setup)?,
-            debt: None,
+            outbox: None,
         })
     }
 
@@ -88,7 +94,7 @@ impl<B: Body, A: App> World<B, A> {
             wire,
             controllers,
             switches,
-            debt: None,
+            outbox: None,
         }
     }
 
@@ -125,7 +131,7 @@ impl<B: Body, A: App> World<B, A> {
             wire,
             controllers,
             switches,
-            debt: _debt,
+            outbox: _outbox,
         } = self;
         (setup, wire, controllers, switches)
     }
@@ -188,25 +194,59 @@ impl<B: Body, A: App> World<B, A> {
         ensures stops { IfErr result
             (λ stop. (self.new ≡ self.old) × PostStops B.sealing.size self.old stop) }
     {
-        match self.debt.take() {
-            None => Ok(()),
-            Some(Debt { actor, letters }) => match self.wire.post(actor, letters) {
-                Ok(()) => {
-                    self.wire.lawful();
-                    Ok(())
-                }
-                Err(refused) => {
-                    self.debt = Some(Debt {
-                        actor,
-                        letters: refused.post,
-                    });
-                    Err(refused.cause)
-                }
-            },
+        let Some(outbox) = &self.outbox else {
+            return Ok(());
+        };
+        let (actor, letters) = sealed_outbox::<A, B>(self.alloc, outbox)?;
+        match self.wire.post(actor, letters) {
+            Ok(()) => {
+                self.wire.lawful();
+                self.outbox = None;
+                Ok(())
+            }
+            Err(refused) => Err(refused.cause),
         }
     }
 
-    /// A controller takes an input. What it says is owed from then on.
+    /// The packet of a choice, if one waits for the actor. It goes on waiting.
+    fn look(&self, actor: Actor, choice: u64) -> Option<PacketPlace>
+        ensures { IsFound self.now.journal result (pick actor choice (past self.now.journal)) }
+    {
+        self.wire.look(actor, choice)
+    }
+
+    /// What the packet at a place is for the actor that it goes to.
+    fn hear<P: Player>(&self, place: PacketPlace) -> Result<P::Input, AllocError>
+        requires { IsSome (packet_at place self.now.journal) }
+        ensures { IfSome (packet_at place self.now.journal) (λ packet. IfOk result
+            (λ input. input ≡ P.hears place.from (B.sealing.spelled (way_of place.from place.to) packet.body))) }
+    {
+        heard::<P, B>(self.alloc, place.from, place.to, self.wire.body(place))
+    }
+
+    /// The entry of a step is written, with room for that of a refusal. (An empty outbox fits every journal: it fails for want of
+    /// memory alone.)
+    fn enter(&mut self, turn: Turn) -> Result<(), AllocError>
+        ensures enters { OnOk result (self.new ≡ record self.old { journal = taken turn self.old.journal }) }
+        ensures orderly { IsOrderly B.sealing.size (past self.new.journal) }
+        ensures wants { OnErr result (self.new ≡ self.old) }
+    {
+        let none = Items::new(self.alloc);
+        let entered = match turn {
+            Turn::Draw {
+                actor,
+                choice,
+                keep,
+            } => self.wire.draw(actor, none, choice, keep).is_ok(),
+            Turn::Lose { actor, choice } => self.wire.lose(actor, none, choice).is_ok(),
+            Turn::Local { actor, input } => self.wire.local(actor, none, input).is_ok(),
+        };
+        self.wire.lawful();
+        if entered { Ok(()) } else { Err(AllocError) }
+    }
+
+    /// A controller takes the input of the newest entry. What it says is owed from then on. Where it finds no memory it is down,
+    /// and the entry is refused.
     fn at_controller<W: Stable>(
         &mut self,
         stables: &mut [W],
@@ -216,39 +256,50 @@ impl<B: Body, A: App> World<B, A> {
         requires there { number < length self.old.controllers }
         requires stable { number < length stables.old }
         requires ready { IsServed A.law W.saving self.old.controllers stables.old number }
-        ensures { OnOk result
+        requires input { MayBeRefused (past self.old.journal) }
+        ensures owes { OnOk result
             (ControllerOwes A.law W.saving B.sealing input self.old stables.old number self.new stables.new) }
+        ensures refused { OnErr result
+            (ControllerRefused A.law W.saving self.old stables.old number self.new stables.new) }
+        ensures orderly { OnErr result (IsOrderly B.sealing.size (past self.new.journal)) }
     {
-        let alloc = self.alloc;
-        let letters = controller_takes::<B, A, W>(
-            alloc,
-            &mut self.controllers,
-            stables,
-            number,
-            input,
-        )?;
-        self.debt = Some(Debt {
-            actor: Actor::Controller(number),
-            letters,
-        });
-        Ok(())
+        match controller_takes(&mut self.controllers, stables, number, input) {
+            Ok(letters) => {
+                self.outbox = Some(Outbox::Controller { number, letters });
+                Ok(())
+            }
+            Err(error) => {
+                self.wire.refuse(Actor::Controller(number));
+                self.wire.lawful();
+                Err(error)
+            }
+        }
     }
 
-    /// A switch takes an input. What it says is owed from then on.
+    /// A switch takes the input of the newest entry. What it says is owed from then on. Where it finds no memory it is as it was,
+    /// and the entry is refused.
     fn at_switch(&mut self, number: u8, input: SwitchInput) -> Result<(), AllocError>
-        requires { number < length self.old.switches }
-        ensures { OnOk result (SwitchOwes B.sealing input self.old number self.new) }
+        requires there { number < length self.old.switches }
+        requires input { MayBeRefused (past self.old.journal) }
+        ensures owes { OnOk result (SwitchOwes B.sealing input self.old number self.new) }
+        ensures refused { OnErr result (SwitchRefused self.old number self.new) }
+        ensures orderly { OnErr result (IsOrderly B.sealing.size (past self.new.journal)) }
     {
-        let letters = switch_takes::<B>(self.alloc, &mut self.switches, number, input)?;
-        self.debt = Some(Debt {
-            actor: Actor::Switch(number),
-            letters,
-        });
-        Ok(())
+        match switch_takes(&mut self.switches, number, input) {
+            Ok(letters) => {
+                self.outbox = Some(Outbox::Switch { number, letters });
+                Ok(())
+            }
+            Err(error) => {
+                self.wire.refuse(Actor::Switch(number));
+                self.wire.lawful();
+                Err(error)
+            }
+        }
     }
 
-    /// An actor draws the packet of a choice, if one waits for it. (An empty outbox fits every journal: a refusal is for
-    /// want of memory.)
+    /// An actor draws the packet of a choice, if one waits for it. What it says is read before it is drawn: where that finds no
+    /// memory, nothing has changed.
     fn draw<W: Stable>(
         &mut self,
         stables: &mut [W],
@@ -260,50 +311,30 @@ impl<B: Body, A: App> World<B, A> {
         requires holds { (kinds : List ℕ) × Holds A.law B.sealing self.old kinds }
         requires pairs { PairsStand W.saving stables.old self.old.controllers }
         requires named { IsActor self.old.setup actor }
-        ensures { OnOk result (Steps A.law W.saving B.sealing (turn.Draw actor choice keep)
+        ensures steps { OnOk result (Steps A.law W.saving B.sealing (turn.Draw actor choice keep)
+            self.old stables.old self.new stables.new) }
+        ensures stops { OnErr result (StepStops A.law W.saving B.sealing (turn.Draw actor choice keep)
             self.old stables.old self.new stables.new) }
     {
-        let found = match self.wire.draw(actor, Items::new(self.alloc), choice, keep) {
-            Ok(found) => found,
-            Err(_) => return Err(AllocError),
+        let turn = Turn::Draw {
+            actor,
+            choice,
+            keep,
         };
-        self.wire.lawful();
-        let Some(place) = found else {
-            return Ok(());
+        let Some(place) = self.look(actor, choice) else {
+            return self.enter(turn);
         };
-        let body = self.wire.body(place);
         match actor {
             Actor::Controller(number) => {
-                let input = heard::<Controller<A>, B>(self.alloc, place.from, place.to, body)?;
+                let input = self.hear::<Controller<A>>(place)?;
+                self.enter(turn)?;
                 self.at_controller(stables, number, input)
             }
             Actor::Switch(number) => {
-                let input = heard::<Switch, B>(self.alloc, place.from, place.to, body)?;
+                let input = self.hear::<Switch>(place)?;
+                self.enter(turn)?;
                 self.at_switch(number, input)
             }
-        }
-    }
-
-    /// An actor loses the packet of a choice, if one waits for it.
-    fn lose<W: Stable>(
-        &mut self,
-        stables: &mut [W],
-        actor: Actor,
-        choice: u64,
-    ) -> Result<(), AllocError>
-        requires rests { self.old.owed ≡ None }
-        requires holds { (kinds : List ℕ) × Holds A.law B.sealing self.old kinds }
-        requires pairs { PairsStand W.saving stables.old self.old.controllers }
-        requires named { IsActor self.old.setup actor }
-        ensures { OnOk result (Steps A.law W.saving B.sealing (turn.Lose actor choice)
-            self.old stables.old self.new stables.new) }
-    {
-        match self.wire.lose(actor, Items::new(self.alloc), choice) {
-            Ok(_) => {
-                self.wire.lawful();
-                Ok(())
-            }
-            Err(_) => Err(AllocError),
         }
     }
 
@@ -318,24 +349,20 @@ impl<B: Body, A: App> World<B, A> {
         requires holds { (kinds : List ℕ) × Holds A.law B.sealing self.old kinds }
         requires pairs { PairsStand W.saving stables.old self.old.controllers }
         requires named { IsActor self.old.setup actor }
-        ensures { OnOk result (Steps A.law W.saving B.sealing (turn.Local actor input.now)
+        ensures steps { OnOk result (Steps A.law W.saving B.sealing (turn.Local actor input.now)
+            self.old stables.old self.new stables.new) }
+        ensures stops { OnErr result (StepStops A.law W.saving B.sealing (turn.Local actor input.now)
             self.old stables.old self.new stables.new) }
     {
         fits_types(input);
-        match self
-            .wire
-            .local(actor, Items::new(self.alloc), input.copy()?)
-        {
-            Ok(()) => {}
-            Err(_) => return Err(AllocError),
-        }
-        self.wire.lawful();
+        let taken = input.copy()?;
         let input = input.copy()?;
+        self.enter(Turn::Local { actor, input })?;
         match actor {
             Actor::Controller(number) => {
-                self.at_controller(stables, number, Controller::<A>::take_local(input))
+                self.at_controller(stables, number, Controller::<A>::take_local(taken))
             }
-            Actor::Switch(number) => self.at_switch(number, Switch::take_local(input)),
+            Actor::Switch(number) => self.at_switch(number, Switch::take_local(taken)),
         }
     }
 
@@ -345,8 +372,10 @@ impl<B: Body, A: App> World<B, A> {
         requires holds { (kinds : List ℕ) × Holds A.law B.sealing self.old kinds }
         requires pairs { PairsStand W.saving stables.old self.old.controllers }
         requires named { IsActor self.old.setup (turn_actor turn.now) }
-        ensures { OnOk result
+        ensures steps { OnOk result
             (Steps A.law W.saving B.sealing turn.now self.old stables.old self.new stables.new) }
+        ensures stops { OnErr result
+            (StepStops A.law W.saving B.sealing turn.now self.old stables.old self.new stables.new) }
     {
         match turn {
             Turn::Draw {
@@ -354,19 +383,23 @@ impl<B: Body, A: App> World<B, A> {
                 choice,
                 keep,
             } => self.draw(stables, *actor, *choice, *keep),
-            Turn::Lose { actor, choice } => self.lose(stables, *actor, *choice),
+            Turn::Lose { actor, choice } => self.enter(Turn::Lose {
+                actor: *actor,
+                choice: *choice,
+            }),
             Turn::Local { actor, input } => self.local(stables, *actor, input),
         }
     }
 
     /// Does one turn: posts what is owed, takes the step, and posts its outbox. At a full journal the outbox stays
-    /// unposted, and every later call answers the same. At want of memory the world is to be dropped.
+    /// unposted, and every later call answers the same. At want of memory the run may go on: the turn changed nothing, or its
+    /// input is refused, or its outbox is owed, and the next call posts that first.
     pub fn apply<W: Stable>(&mut self, stables: &mut [W], turn: &Turn) -> Result<(), Stop>
         requires holds { (kinds : List ℕ) × Holds A.law B.sealing self.old kinds }
         requires pairs { PairsStand W.saving stables.old self.old.controllers }
         requires named { IsActor self.old.setup (turn_actor turn.now) }
         ensures applies { OnOk result (Applies B.sealing.size turn.now self.old self.new) }
-        ensures keeps { IfMemory result (Keeps A.law W.saving B.sealing self.old stables.old self.new stables.new) }
+        ensures keeps { Keeps A.law W.saving B.sealing self.old stables.old self.new stables.new }
         ensures stops { IfErr result (TurnStops B.sealing.size turn.now self.old self.new) }
     {
         self.post_owed()?;

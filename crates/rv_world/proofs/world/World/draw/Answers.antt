@@ -1,71 +1,97 @@
-use Rattle.std.proofs.Common.{◌≡◌, ◌++◌, sym, ap, subst, Some, None}
+use Rattle.std.proofs.Common.{◌≡◌, refl, sym, ◌∙◌, ap, subst, Some, None}
 use Rattle.rv_base.specs.declared.journal.Turn.TheVariants as turn
 use Rattle.rv_base.specs.Actors.{IsActor}
-use Rattle.rv_base.specs.Orderly.{IsOrderly}
 use Rattle.rv_base.specs.Places.{IsFound}
 use Rattle.rv_base.specs.Pool.{past, pick}
-use Rattle.rv_base.specs.Turns.{posted, turn_entries}
-use Rattle.rv_world.proofs.Drawing.{controller_draws, nothing_steps, switch_draws}
-use Rattle.rv_world.proofs.Serving.{served, stable_there}
+use Rattle.rv_base.specs.Refusals.{MayBeRefused}
+use Rattle.rv_world.proofs.Drawing.{controller_draw_ends, controller_draws, may_be_refused, none_taken, nothing_steps, on_err, on_errs, stands_there, switch_draw_ends, switch_draws}
+use Rattle.rv_world.proofs.Serving.{controller_there, served, stable_there}
 use Rattle.rv_world.proofs.Turning.{on_ok}
-use Rattle.rv_world.proofs.Viewing.{seen}
 use Rattle.rv_world.proofs.world.World.draw.Goals as goal
 
-pub returns-in_default : goal.returns-in_default
-returns-in_default g c =
+pub returns-in_default-clause-steps : goal.returns-in_default-clause-steps
+returns-in_default-clause-steps g c =
     let law = g.A.App.law in
     let sealing = g.B.Body.sealing in
-    let s = seen law g.W.Stable.saving sealing _ c.args.self.now c.args.stables.now c.self.view_is c.requires.rests c.requires.holds c.requires.pairs in
-    let weighed = g.met.B.Body.weighed in
-    let found = subst (λ z. IsFound c.draw.new.self None (pick c.args.actor c.args.choice (posted z c.args.actor c.new.result (past c.self.inside.wire)))) weighed
-    (subst (λ o. IsFound c.draw.new.self o (pick c.args.actor c.args.choice (posted g.B.Weight.size c.args.actor c.new.result (past c.self.inside.wire)))) c.in_default.is c.in-Ok.ensures.found) in
-    let ok = subst (λ z. c.draw.new.self ≡ c.self.inside.wire ++ turn_entries z c.new.result (turn.Draw c.args.actor c.args.choice c.args.keep) (past c.self.inside.wire)) weighed c.in-Ok.ensures.ok in
-    let orderly = subst (λ z. IsOrderly z (past c.draw.new.self)) weighed c.lawful.ensures.orderly in
-    let named = subst (λ z. IsActor z.setup c.args.actor) (sym c.self.view_is) c.requires.named in
-    rw (← c.self.view_is)
-    (nothing_steps law g.W.Stable.saving sealing g.met.B.Body.faithful _ c.args.stables.now s.rests s.some s.stand c.draw.new.self c.new.result c.new.ensures c.args.actor c.args.choice c.args.keep
-    ok orderly named found)
+    let found = subst (λ o. IsFound c.args.self.now.journal o (pick c.args.actor c.args.choice (past c.args.self.now.journal))) c.in_default.is c.look.ensures in
+    on_ok c.enter.result _ _ (λ is. nothing_steps law g.W.Stable.saving sealing g.met.B.Body.faithful c.args.self.now c.args.stables.now c.requires.rests c.requires.holds c.requires.pairs c.args.actor c.args.choice c.args.keep found c.requires.named c.enter.new.self is c.enter.ensures.orderly) c.enter.ensures.enters
+
+pub returns-in_default-clause-stops : goal.returns-in_default-clause-stops
+returns-in_default-clause-stops g c =
+    let law = g.A.App.law in
+    let sealing = g.B.Body.sealing in
+    on_err c.enter.result _ _ (λ is. none_taken law g.W.Stable.saving sealing g.met.B.Body.faithful c.args.self.now c.args.stables.now c.requires.rests c.requires.holds c.requires.pairs (turn.Draw c.args.actor c.args.choice c.args.keep) c.enter.new.self is) c.enter.ensures.wants
+
+pub hear-requires : goal.hear-requires
+hear-requires g c =
+    let law = g.A.App.law in
+    let sealing = g.B.Body.sealing in
+    let found = subst (λ o. IsFound c.args.self.now.journal o (pick c.args.actor c.args.choice (past c.args.self.now.journal))) c.in-Some.is c.look.ensures in
+    stands_there law g.W.Stable.saving sealing g.met.B.Body.faithful c.args.self.now c.args.stables.now c.requires.rests c.requires.holds c.requires.pairs c.args.actor c.args.choice c.args.keep c.in-Some.place found
+
+pub at_controller-requires-clause-input : goal.at_controller-requires-clause-input
+at_controller-requires-clause-input g c =
+    let law = g.A.App.law in
+    let sealing = g.B.Body.sealing in
+    let found = subst (λ o. IsFound c.args.self.now.journal o (pick c.args.actor c.args.choice (past c.args.self.now.journal))) c.in-Some.is c.look.ensures in
+    subst (λ z. MayBeRefused (past z.journal)) (sym c.in_ok-enter-in-Controller.ensures.enters) (may_be_refused law g.W.Stable.saving sealing g.met.B.Body.faithful c.args.self.now c.args.stables.now c.requires.rests c.requires.holds c.requires.pairs c.args.actor c.args.choice c.args.keep c.in-Some.place found)
+
+pub at_controller-requires-clause-there : goal.at_controller-requires-clause-there
+at_controller-requires-clause-there g c =
+    let law = g.A.App.law in
+    let sealing = g.B.Body.sealing in
+    rw (ap (λ z. z.controllers) c.in_ok-enter-in-Controller.ensures.enters) (controller_there law g.W.Stable.saving sealing c.args.self.now c.args.stables.now c.requires.holds c.requires.pairs c.in-Controller.number (subst (λ a. IsActor c.args.self.now.setup a) c.in-Controller.is c.requires.named))
 
 pub at_controller-requires-clause-stable : goal.at_controller-requires-clause-stable
 at_controller-requires-clause-stable g c =
-    stable_there g.A.App.law g.W.Stable.saving g.B.Body.sealing c.args.self.now c.args.stables.now c.requires.holds c.requires.pairs
-    c.in-Controller.number (subst (λ a. IsActor c.args.self.now.setup a) c.in-Controller.is c.requires.named)
+    let law = g.A.App.law in
+    let sealing = g.B.Body.sealing in
+    stable_there law g.W.Stable.saving sealing c.args.self.now c.args.stables.now c.requires.holds c.requires.pairs c.in-Controller.number (subst (λ a. IsActor c.args.self.now.setup a) c.in-Controller.is c.requires.named)
 
 pub at_controller-requires-clause-ready : goal.at_controller-requires-clause-ready
 at_controller-requires-clause-ready g c =
     let law = g.A.App.law in
-    rw (ap (λ z. z.controllers) c.self.view_is)
-    (served law g.W.Stable.saving g.B.Body.sealing c.args.self.now c.args.stables.now c.requires.holds c.requires.pairs
-    c.in-Controller.number (subst (λ a. IsActor c.args.self.now.setup a) c.in-Controller.is c.requires.named))
+    let sealing = g.B.Body.sealing in
+    rw (ap (λ z. z.controllers) c.in_ok-enter-in-Controller.ensures.enters) (served law g.W.Stable.saving sealing c.args.self.now c.args.stables.now c.requires.holds c.requires.pairs c.in-Controller.number (subst (λ a. IsActor c.args.self.now.setup a) c.in-Controller.is c.requires.named))
 
-pub returns-in_ok-input-in-Controller : goal.returns-in_ok-input-in-Controller
-returns-in_ok-input-in-Controller g c =
+pub returns-in_ok-enter-in-Controller-clause-steps : goal.returns-in_ok-enter-in-Controller-clause-steps
+returns-in_ok-enter-in-Controller-clause-steps g c =
     let law = g.A.App.law in
     let sealing = g.B.Body.sealing in
-    let s = seen law g.W.Stable.saving sealing _ c.args.self.now c.args.stables.now c.self.view_is c.requires.rests c.requires.holds c.requires.pairs in
-    let weighed = g.met.B.Body.weighed in
-    let found = subst (λ z. IsFound c.draw.new.self (Some c.in-Some.place) (pick c.args.actor c.args.choice (posted z c.args.actor c.new.result (past c.self.inside.wire)))) weighed
-    (subst (λ o. IsFound c.draw.new.self o (pick c.args.actor c.args.choice (posted g.B.Weight.size c.args.actor c.new.result (past c.self.inside.wire)))) c.in-Some.is c.in-Ok.ensures.found) in
-    let ok = subst (λ z. c.draw.new.self ≡ c.self.inside.wire ++ turn_entries z c.new.result (turn.Draw c.args.actor c.args.choice c.args.keep) (past c.self.inside.wire)) weighed c.in-Ok.ensures.ok in
-    let orderly = subst (λ z. IsOrderly z (past c.draw.new.self)) weighed c.lawful.ensures.orderly in
-    let named = subst (λ z. IsActor z.setup c.args.actor) (sym c.self.view_is) c.requires.named in
-    on_ok c.at_controller.result _ _ (λ t. rw (← c.self.view_is)
-    (controller_draws law g.W.Stable.saving sealing g.met.B.Body.faithful _ c.args.stables.now s.rests s.some s.stand c.draw.new.self c.new.result c.new.ensures c.args.actor c.args.choice c.args.keep
-    ok orderly c.in-Some.place found c.body-body.result.now c.body-body.ensures c.in-Controller.number c.in-Controller.is
-    (subst (λ a. IsActor c.self.inside.setup a) c.in-Controller.is named) c.in_ok-input-in-Controller.input c.in_ok-input-in-Controller.ensures c.at_controller.new.self c.at_controller.new.stables t)) c.at_controller.ensures
+    let found = subst (λ o. IsFound c.args.self.now.journal o (pick c.args.actor c.args.choice (past c.args.self.now.journal))) c.in-Some.is c.look.ensures in
+    on_ok c.at_controller.result _ _ (λ t. controller_draws law g.W.Stable.saving sealing g.met.B.Body.faithful c.args.self.now c.args.stables.now c.requires.rests c.requires.holds c.requires.pairs c.args.actor c.args.choice c.args.keep c.in-Some.place found c.enter-in-Controller.new.self c.in_ok-enter-in-Controller.ensures.enters c.in_ok-enter-in-Controller.ensures.orderly c.in-Controller.number c.in-Controller.is (subst (λ a. IsActor c.args.self.now.setup a) c.in-Controller.is c.requires.named) c.in_ok-input-in-Controller.input c.in_ok-input-in-Controller.ensures c.at_controller.new.self c.at_controller.new.stables t) c.at_controller.ensures.owes
 
-pub returns-in_ok-input-in-Switch : goal.returns-in_ok-input-in-Switch
-returns-in_ok-input-in-Switch g c =
+pub returns-in_ok-enter-in-Controller-clause-stops : goal.returns-in_ok-enter-in-Controller-clause-stops
+returns-in_ok-enter-in-Controller-clause-stops g c =
     let law = g.A.App.law in
     let sealing = g.B.Body.sealing in
-    let s = seen law g.W.Stable.saving sealing _ c.args.self.now c.args.stables.now c.self.view_is c.requires.rests c.requires.holds c.requires.pairs in
-    let weighed = g.met.B.Body.weighed in
-    let found = subst (λ z. IsFound c.draw.new.self (Some c.in-Some.place) (pick c.args.actor c.args.choice (posted z c.args.actor c.new.result (past c.self.inside.wire)))) weighed
-    (subst (λ o. IsFound c.draw.new.self o (pick c.args.actor c.args.choice (posted g.B.Weight.size c.args.actor c.new.result (past c.self.inside.wire)))) c.in-Some.is c.in-Ok.ensures.found) in
-    let ok = subst (λ z. c.draw.new.self ≡ c.self.inside.wire ++ turn_entries z c.new.result (turn.Draw c.args.actor c.args.choice c.args.keep) (past c.self.inside.wire)) weighed c.in-Ok.ensures.ok in
-    let orderly = subst (λ z. IsOrderly z (past c.draw.new.self)) weighed c.lawful.ensures.orderly in
-    let named = subst (λ z. IsActor z.setup c.args.actor) (sym c.self.view_is) c.requires.named in
-    on_ok c.at_switch.result _ _ (λ t. rw (← c.self.view_is)
-    (switch_draws law g.W.Stable.saving sealing g.met.B.Body.faithful _ c.args.stables.now s.rests s.some s.stand c.draw.new.self c.new.result c.new.ensures c.args.actor c.args.choice c.args.keep
-    ok orderly c.in-Some.place found c.body-body.result.now c.body-body.ensures c.in-Switch.number c.in-Switch.is
-    (subst (λ a. IsActor c.self.inside.setup a) c.in-Switch.is named) c.in_ok-input-in-Switch.input c.in_ok-input-in-Switch.ensures c.at_switch.new.self t)) c.at_switch.ensures
+    let found = subst (λ o. IsFound c.args.self.now.journal o (pick c.args.actor c.args.choice (past c.args.self.now.journal))) c.in-Some.is c.look.ensures in
+    on_errs c.at_controller.result _ _ _ (λ r behind. controller_draw_ends law g.W.Stable.saving sealing g.met.B.Body.faithful c.args.self.now c.args.stables.now c.requires.rests c.requires.holds c.requires.pairs c.args.actor c.args.choice c.args.keep c.in-Some.place found c.enter-in-Controller.new.self c.in_ok-enter-in-Controller.ensures.enters c.in_ok-enter-in-Controller.ensures.orderly c.in-Controller.number c.in-Controller.is (subst (λ a. IsActor c.args.self.now.setup a) c.in-Controller.is c.requires.named) c.in_ok-input-in-Controller.input c.in_ok-input-in-Controller.ensures c.at_controller.new.self c.at_controller.new.stables behind r) c.at_controller.ensures.refused c.at_controller.ensures.orderly
+
+pub hear-requires-in-Switch : goal.hear-requires-in-Switch
+hear-requires-in-Switch g c =
+    let law = g.A.App.law in
+    let sealing = g.B.Body.sealing in
+    let found = subst (λ o. IsFound c.args.self.now.journal o (pick c.args.actor c.args.choice (past c.args.self.now.journal))) c.in-Some.is c.look.ensures in
+    stands_there law g.W.Stable.saving sealing g.met.B.Body.faithful c.args.self.now c.args.stables.now c.requires.rests c.requires.holds c.requires.pairs c.args.actor c.args.choice c.args.keep c.in-Some.place found
+
+pub at_switch-requires-clause-input : goal.at_switch-requires-clause-input
+at_switch-requires-clause-input g c =
+    let law = g.A.App.law in
+    let sealing = g.B.Body.sealing in
+    let found = subst (λ o. IsFound c.args.self.now.journal o (pick c.args.actor c.args.choice (past c.args.self.now.journal))) c.in-Some.is c.look.ensures in
+    subst (λ z. MayBeRefused (past z.journal)) (sym c.in_ok-enter-in-Switch.ensures.enters) (may_be_refused law g.W.Stable.saving sealing g.met.B.Body.faithful c.args.self.now c.args.stables.now c.requires.rests c.requires.holds c.requires.pairs c.args.actor c.args.choice c.args.keep c.in-Some.place found)
+
+pub returns-in_ok-enter-in-Switch-clause-steps : goal.returns-in_ok-enter-in-Switch-clause-steps
+returns-in_ok-enter-in-Switch-clause-steps g c =
+    let law = g.A.App.law in
+    let sealing = g.B.Body.sealing in
+    let found = subst (λ o. IsFound c.args.self.now.journal o (pick c.args.actor c.args.choice (past c.args.self.now.journal))) c.in-Some.is c.look.ensures in
+    on_ok c.at_switch.result _ _ (λ t. switch_draws law g.W.Stable.saving sealing g.met.B.Body.faithful c.args.self.now c.args.stables.now c.requires.rests c.requires.holds c.requires.pairs c.args.actor c.args.choice c.args.keep c.in-Some.place found c.enter-in-Switch.new.self c.in_ok-enter-in-Switch.ensures.enters c.in_ok-enter-in-Switch.ensures.orderly c.in-Switch.number c.in-Switch.is (subst (λ a. IsActor c.args.self.now.setup a) c.in-Switch.is c.requires.named) c.in_ok-input-in-Switch.input c.in_ok-input-in-Switch.ensures c.at_switch.new.self t) c.at_switch.ensures.owes
+
+pub returns-in_ok-enter-in-Switch-clause-stops : goal.returns-in_ok-enter-in-Switch-clause-stops
+returns-in_ok-enter-in-Switch-clause-stops g c =
+    let law = g.A.App.law in
+    let sealing = g.B.Body.sealing in
+    let found = subst (λ o. IsFound c.args.self.now.journal o (pick c.args.actor c.args.choice (past c.args.self.now.journal))) c.in-Some.is c.look.ensures in
+    on_errs c.at_switch.result _ _ _ (λ r behind. switch_draw_ends law g.W.Stable.saving sealing g.met.B.Body.faithful c.args.self.now c.args.stables.now c.requires.rests c.requires.holds c.requires.pairs c.args.actor c.args.choice c.args.keep c.in-Some.place found c.enter-in-Switch.new.self c.in_ok-enter-in-Switch.ensures.enters c.in_ok-enter-in-Switch.ensures.orderly c.in-Switch.number c.in-Switch.is (subst (λ a. IsActor c.args.self.now.setup a) c.in-Switch.is c.requires.named) c.in_ok-input-in-Switch.input c.in_ok-input-in-Switch.ensures c.at_switch.new.self behind r) c.at_switch.ensures.refused c.at_switch.ensures.orderly

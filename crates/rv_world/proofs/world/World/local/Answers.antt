@@ -1,55 +1,71 @@
-use Rattle.std.proofs.Common.{◌≡◌, ◌++◌, sym, ◌∙◌, ap, subst}
+use Rattle.std.proofs.Common.{◌≡◌, refl, sym, ◌∙◌, ap, subst}
 use Rattle.rv_base.specs.declared.journal.Turn.TheVariants as turn
 use Rattle.rv_base.specs.Actors.{IsActor}
-use Rattle.rv_base.specs.Orderly.{IsOrderly}
 use Rattle.rv_base.specs.Pool.{past}
-use Rattle.rv_base.specs.Turns.{turn_entries}
+use Rattle.rv_base.specs.Refusals.{MayBeRefused}
 use Rattle.group_controller.specs.declared.messages.ControllerInput.TheVariants as controller_input
 use Rattle.of_switch.specs.declared.says.SwitchInput.TheVariants as switch_input
-use Rattle.rv_world.proofs.Drawing.{controller_takes_local, switch_takes_local}
-use Rattle.rv_world.proofs.Serving.{served, stable_there}
+use Rattle.rv_world.proofs.Drawing.{controller_local_ends, controller_takes_local, entered, may_refuse_local, on_errs, switch_local_ends, switch_takes_local}
+use Rattle.rv_world.proofs.Serving.{controller_there, served, stable_there}
 use Rattle.rv_world.proofs.Turning.{on_ok}
-use Rattle.rv_world.proofs.Viewing.{seen}
 use Rattle.rv_world.proofs.world.World.local.Goals as goal
+
+pub at_controller-requires-clause-input : goal.at_controller-requires-clause-input
+at_controller-requires-clause-input g c =
+    let law = g.A.App.law in
+    let sealing = g.B.Body.sealing in
+    let same = ap (λ i. entered law g.W.Stable.saving sealing g.met.B.Body.faithful c.args.self.now c.args.stables.now c.requires.rests c.requires.holds c.requires.pairs (turn.Local c.args.actor i)) c.in_ok-input.ensures in
+    subst (λ z. MayBeRefused (past z.journal)) (sym (c.in_ok-enter.ensures.enters ∙ same)) (may_refuse_local law g.W.Stable.saving sealing g.met.B.Body.faithful c.args.self.now c.args.stables.now c.requires.rests c.requires.holds c.requires.pairs c.args.actor c.args.input.now c.fits_types.ensures)
+
+pub at_controller-requires-clause-there : goal.at_controller-requires-clause-there
+at_controller-requires-clause-there g c =
+    let law = g.A.App.law in
+    let sealing = g.B.Body.sealing in
+    rw (ap (λ z. z.controllers) c.in_ok-enter.ensures.enters) (controller_there law g.W.Stable.saving sealing c.args.self.now c.args.stables.now c.requires.holds c.requires.pairs c.in-Controller.number (subst (λ a. IsActor c.args.self.now.setup a) c.in-Controller.is c.requires.named))
 
 pub at_controller-requires-clause-stable : goal.at_controller-requires-clause-stable
 at_controller-requires-clause-stable g c =
-    stable_there g.A.App.law g.W.Stable.saving g.B.Body.sealing c.args.self.now c.args.stables.now c.requires.holds c.requires.pairs
-    c.in-Controller.number (subst (λ a. IsActor c.args.self.now.setup a) c.in-Controller.is c.requires.named)
+    let law = g.A.App.law in
+    let sealing = g.B.Body.sealing in
+    stable_there law g.W.Stable.saving sealing c.args.self.now c.args.stables.now c.requires.holds c.requires.pairs c.in-Controller.number (subst (λ a. IsActor c.args.self.now.setup a) c.in-Controller.is c.requires.named)
 
 pub at_controller-requires-clause-ready : goal.at_controller-requires-clause-ready
 at_controller-requires-clause-ready g c =
     let law = g.A.App.law in
-    rw (ap (λ z. z.controllers) c.self.view_is)
-    (served law g.W.Stable.saving g.B.Body.sealing c.args.self.now c.args.stables.now c.requires.holds c.requires.pairs
-    c.in-Controller.number (subst (λ a. IsActor c.args.self.now.setup a) c.in-Controller.is c.requires.named))
+    let sealing = g.B.Body.sealing in
+    rw (ap (λ z. z.controllers) c.in_ok-enter.ensures.enters) (served law g.W.Stable.saving sealing c.args.self.now c.args.stables.now c.requires.holds c.requires.pairs c.in-Controller.number (subst (λ a. IsActor c.args.self.now.setup a) c.in-Controller.is c.requires.named))
 
-pub returns-in-Controller : goal.returns-in-Controller
-returns-in-Controller g c =
+pub returns-in-Controller-clause-steps : goal.returns-in-Controller-clause-steps
+returns-in-Controller-clause-steps g c =
     let law = g.A.App.law in
     let sealing = g.B.Body.sealing in
-    let s = seen law g.W.Stable.saving sealing _ c.args.self.now c.args.stables.now c.self.view_is c.requires.rests c.requires.holds c.requires.pairs in
-    let named = subst (λ z. IsActor z.setup c.args.actor) (sym c.self.view_is) c.requires.named in
-    let weighed = g.met.B.Body.weighed in
-    let same = ap (λ i. c.self.inside.wire ++ turn_entries g.B.Weight.size c.new.result (turn.Local c.args.actor i) (past c.self.inside.wire)) c.in_ok-copy.ensures in
-    let ok = subst (λ z. c.local.new.self ≡ c.self.inside.wire ++ turn_entries z c.new.result (turn.Local c.args.actor c.args.input.now) (past c.self.inside.wire)) weighed (c.in-Ok.ensures.ok ∙ same) in
-    let orderly = subst (λ z. IsOrderly z (past c.local.new.self)) weighed c.lawful.ensures.orderly in
-    on_ok c.at_controller.result _ _ (λ t. rw (← c.self.view_is)
-    (controller_takes_local law g.W.Stable.saving sealing g.met.B.Body.faithful _ c.args.stables.now s.rests s.some s.stand c.local.new.self c.new.result c.new.ensures c.args.actor c.args.input.now
-    ok orderly c.fits_types.ensures c.in-Controller.number c.in-Controller.is
-    (subst (λ a. IsActor c.self.inside.setup a) c.in-Controller.is named) c.take_local.result (c.take_local.ensures ∙ ap (λ i. controller_input.Local i) c.in_ok-input.ensures) c.at_controller.new.self c.at_controller.new.stables t)) c.at_controller.ensures
+    let same = ap (λ i. entered law g.W.Stable.saving sealing g.met.B.Body.faithful c.args.self.now c.args.stables.now c.requires.rests c.requires.holds c.requires.pairs (turn.Local c.args.actor i)) c.in_ok-input.ensures in
+    on_ok c.at_controller.result _ _ (λ t. controller_takes_local law g.W.Stable.saving sealing g.met.B.Body.faithful c.args.self.now c.args.stables.now c.requires.rests c.requires.holds c.requires.pairs c.args.actor c.args.input.now c.fits_types.ensures c.enter.new.self (c.in_ok-enter.ensures.enters ∙ same) c.in_ok-enter.ensures.orderly c.in-Controller.number c.in-Controller.is (subst (λ a. IsActor c.args.self.now.setup a) c.in-Controller.is c.requires.named) c.take_local.result (c.take_local.ensures ∙ ap (λ i. controller_input.Local i) c.in_ok-taken.ensures) c.at_controller.new.self c.at_controller.new.stables t) c.at_controller.ensures.owes
 
-pub returns-in-Switch : goal.returns-in-Switch
-returns-in-Switch g c =
+pub returns-in-Controller-clause-stops : goal.returns-in-Controller-clause-stops
+returns-in-Controller-clause-stops g c =
     let law = g.A.App.law in
     let sealing = g.B.Body.sealing in
-    let s = seen law g.W.Stable.saving sealing _ c.args.self.now c.args.stables.now c.self.view_is c.requires.rests c.requires.holds c.requires.pairs in
-    let named = subst (λ z. IsActor z.setup c.args.actor) (sym c.self.view_is) c.requires.named in
-    let weighed = g.met.B.Body.weighed in
-    let same = ap (λ i. c.self.inside.wire ++ turn_entries g.B.Weight.size c.new.result (turn.Local c.args.actor i) (past c.self.inside.wire)) c.in_ok-copy.ensures in
-    let ok = subst (λ z. c.local.new.self ≡ c.self.inside.wire ++ turn_entries z c.new.result (turn.Local c.args.actor c.args.input.now) (past c.self.inside.wire)) weighed (c.in-Ok.ensures.ok ∙ same) in
-    let orderly = subst (λ z. IsOrderly z (past c.local.new.self)) weighed c.lawful.ensures.orderly in
-    on_ok c.at_switch.result _ _ (λ t. rw (← c.self.view_is)
-    (switch_takes_local law g.W.Stable.saving sealing g.met.B.Body.faithful _ c.args.stables.now s.rests s.some s.stand c.local.new.self c.new.result c.new.ensures c.args.actor c.args.input.now
-    ok orderly c.fits_types.ensures c.in-Switch.number c.in-Switch.is
-    (subst (λ a. IsActor c.self.inside.setup a) c.in-Switch.is named) c.take_local-in-Switch.result (c.take_local-in-Switch.ensures ∙ ap (λ i. switch_input.Local i) c.in_ok-input.ensures) c.at_switch.new.self t)) c.at_switch.ensures
+    let same = ap (λ i. entered law g.W.Stable.saving sealing g.met.B.Body.faithful c.args.self.now c.args.stables.now c.requires.rests c.requires.holds c.requires.pairs (turn.Local c.args.actor i)) c.in_ok-input.ensures in
+    on_errs c.at_controller.result _ _ _ (λ r behind. controller_local_ends law g.W.Stable.saving sealing g.met.B.Body.faithful c.args.self.now c.args.stables.now c.requires.rests c.requires.holds c.requires.pairs c.args.actor c.args.input.now c.fits_types.ensures c.enter.new.self (c.in_ok-enter.ensures.enters ∙ same) c.in_ok-enter.ensures.orderly c.in-Controller.number c.in-Controller.is (subst (λ a. IsActor c.args.self.now.setup a) c.in-Controller.is c.requires.named) c.take_local.result (c.take_local.ensures ∙ ap (λ i. controller_input.Local i) c.in_ok-taken.ensures) c.at_controller.new.self c.at_controller.new.stables behind r) c.at_controller.ensures.refused c.at_controller.ensures.orderly
+
+pub at_switch-requires-clause-input : goal.at_switch-requires-clause-input
+at_switch-requires-clause-input g c =
+    let law = g.A.App.law in
+    let sealing = g.B.Body.sealing in
+    let same = ap (λ i. entered law g.W.Stable.saving sealing g.met.B.Body.faithful c.args.self.now c.args.stables.now c.requires.rests c.requires.holds c.requires.pairs (turn.Local c.args.actor i)) c.in_ok-input.ensures in
+    subst (λ z. MayBeRefused (past z.journal)) (sym (c.in_ok-enter.ensures.enters ∙ same)) (may_refuse_local law g.W.Stable.saving sealing g.met.B.Body.faithful c.args.self.now c.args.stables.now c.requires.rests c.requires.holds c.requires.pairs c.args.actor c.args.input.now c.fits_types.ensures)
+
+pub returns-in-Switch-clause-steps : goal.returns-in-Switch-clause-steps
+returns-in-Switch-clause-steps g c =
+    let law = g.A.App.law in
+    let sealing = g.B.Body.sealing in
+    let same = ap (λ i. entered law g.W.Stable.saving sealing g.met.B.Body.faithful c.args.self.now c.args.stables.now c.requires.rests c.requires.holds c.requires.pairs (turn.Local c.args.actor i)) c.in_ok-input.ensures in
+    on_ok c.at_switch.result _ _ (λ t. switch_takes_local law g.W.Stable.saving sealing g.met.B.Body.faithful c.args.self.now c.args.stables.now c.requires.rests c.requires.holds c.requires.pairs c.args.actor c.args.input.now c.fits_types.ensures c.enter.new.self (c.in_ok-enter.ensures.enters ∙ same) c.in_ok-enter.ensures.orderly c.in-Switch.number c.in-Switch.is (subst (λ a. IsActor c.args.self.now.setup a) c.in-Switch.is c.requires.named) c.take_local-in-Switch.result (c.take_local-in-Switch.ensures ∙ ap (λ i. switch_input.Local i) c.in_ok-taken.ensures) c.at_switch.new.self t) c.at_switch.ensures.owes
+
+pub returns-in-Switch-clause-stops : goal.returns-in-Switch-clause-stops
+returns-in-Switch-clause-stops g c =
+    let law = g.A.App.law in
+    let sealing = g.B.Body.sealing in
+    let same = ap (λ i. entered law g.W.Stable.saving sealing g.met.B.Body.faithful c.args.self.now c.args.stables.now c.requires.rests c.requires.holds c.requires.pairs (turn.Local c.args.actor i)) c.in_ok-input.ensures in
+    on_errs c.at_switch.result _ _ _ (λ r behind. switch_local_ends law g.W.Stable.saving sealing g.met.B.Body.faithful c.args.self.now c.args.stables.now c.requires.rests c.requires.holds c.requires.pairs c.args.actor c.args.input.now c.fits_types.ensures c.enter.new.self (c.in_ok-enter.ensures.enters ∙ same) c.in_ok-enter.ensures.orderly c.in-Switch.number c.in-Switch.is (subst (λ a. IsActor c.args.self.now.setup a) c.in-Switch.is c.requires.named) c.take_local-in-Switch.result (c.take_local-in-Switch.ensures ∙ ap (λ i. switch_input.Local i) c.in_ok-taken.ensures) c.at_switch.new.self behind r) c.at_switch.ensures.refused c.at_switch.ensures.orderly

@@ -1,12 +1,14 @@
 -- What a turn of a world leads a closing to, however it ended, and parts of a closing one after another.
-use Rattle.std.proofs.Common.{◌≡◌, ◌≤◌, ◌<◌, inl, inr, ℕ, ◌+◌, ◌-◌, Bool, true, false, not, List, [], ◌∷◌, ◌++◌, length, take, zero, suc, refl, sym, ◌∙◌, ap, subst, arith, length-append}
+use Rattle.std.proofs.Common.{◌≡◌, ◌≤◌, ◌<◌, inl, inr, ℕ, ◌+◌, ◌-◌, Bool, true, false, not, List, [], ◌∷◌, ◌++◌, length, take, zero, suc, refl, sym, ◌∙◌, ap, subst, arith, length-append, append_assoc, append-nil}
 use Rattle.std.specs.Prelude.{nat_eq, filter, reverse, Option, Some, None, OnOk, IfErr, Result, Ok, Err, if◌then◌else◌}
 use Rattle.std.proofs.lemmas.Bool.{eq-eqb}
 use Rattle.of_types.specs.declared.setup.Setup.{Setup}
 use Rattle.rv_base.specs.declared.journal.Actor.{Actor}
 use Rattle.rv_base.specs.declared.journal.JournalEntry.{JournalEntry}
+use Rattle.rv_base.specs.declared.journal.JournalEntry.TheVariants.{Refused}
 use Rattle.rv_base.specs.declared.journal.Letter.{Letter}
 use Rattle.rv_base.specs.declared.journal.Packet.{Packet}
+use Rattle.rv_base.specs.declared.journal.SaveResult.{SaveResult}
 use Rattle.rv_base.specs.declared.journal.Turn.{Turn}
 use Rattle.rv_base.specs.declared.place.PacketPlace.{PacketPlace}
 use Rattle.rv_base.specs.declared.wire.Stop.{Stop}
@@ -14,17 +16,21 @@ use Rattle.rv_base.specs.declared.wire.Stop.TheVariants.{OutOfMemory, JournalFul
 use Rattle.rv_base.specs.Actors.{actor_of, is_input, IsActor}
 use Rattle.rv_base.specs.Limits.{letters_limit}
 use Rattle.rv_base.specs.Pool.{past, pool, without, numbered, fitting, letters_posted}
+use Rattle.rv_base.specs.Refusals.{MayBeRefused}
 use Rattle.rv_base.specs.Turns.{entry_of, turn_actor}
+use Rattle.rv_base.proofs.Lists.{past-push}
 use Rattle.rv_base.specs.Stables.{Saving}
 use Rattle.app_core.specs.Law.{AppLaw}
-use Rattle.rv_runs.specs.States.{Sealing}
-use Rattle.rv_runs.specs.Schedule.{Phase}
-use Rattle.rv_world.specs.declared.debt.Debt.{Debt}
-use Rattle.rv_world.specs.World.{Applies, Holds, IfMemory, IsStuck, Keeps, PairsStand, TurnStops, Worlding, scene_in}
+use Rattle.rv_runs.specs.States.{Scene, Sealing}
+use Rattle.rv_runs.specs.Schedule.{Losing, Phase, ClosesTo, IsMove, after_move, next_move}
+use Rattle.rv_world.specs.Debts.{Debt}
+use Rattle.rv_world.specs.Refusals.{IsHalted, IsRefusal, IsRefused, None_stands, One_stands, Posted, Turned_down, TurnStops, Unchanged, Unposted}
+use Rattle.rv_world.specs.World.{AreMore, Applies, Holds, IsStuck, Keeps, PairsStand, Worlding, results_in, scene_in, taken, with_posts}
+use Rattle.rv_world.proofs.Growing.{more_then}
 use Rattle.rv_laws.specs.Laws.{EntrySuspectsUpTo, IsSuspectedUpTo}
-use Rattle.closing.specs.Closing.{ClosesIn, LeadsTo, Rests, Stage, StandsAt, work_left}
-use Rattle.closing.proofs.Worlds.{Runs}
-use Rattle.closing.proofs.Turned.{PostsOf, No_post, One_post, Added, added, added_alone, Turned, more_told, past_added}
+use Rattle.closing.specs.Closing.{ClosesIn, IsHaltedAt, LeadsTo, Rests, Stage, StandsAt, work_left}
+use Rattle.closing.proofs.Worlds.{Runs, posted_is}
+use Rattle.closing.proofs.Turned.{PostsOf, No_post, One_post, Added, added, added_alone, cut_turn, joins, more_before, Turned, more_told, one_move, owed_nothing, past_added, past_joined, same_self}
 use Rattle.closing.proofs.Moves.{First}
 
 -- something is owed
@@ -36,6 +42,27 @@ IsOwing (Some x) = Unit {0}
 pub runs_again : {B A : Type 0} (law : AppLaw A) (sealing : Sealing B) (old new : Worlding B A) (kinds : List ℕ) → new.setup ≡ old.setup → Holds law sealing new kinds →
     Runs law (scene_in sealing old kinds) new
 runs_again law sealing old new kinds same holds = subst (λ (s : Setup). Runs law (record { setup = s; kinds = kinds; sealing = sealing }) new) same holds.run
+
+-- the next move of a closing that stands at a phase, whatever becomes of later saves
+pub record MovesTo {B A : Type 0} (scene : Scene B) (e : JournalEntry B) (start old : Worlding B A) : Type 0 where
+  pub phase : Phase
+  pub next : Phase
+  pub closes : ClosesIn phase scene start old
+  pub move : (later : List (List SaveResult)) → AreMore scene.setup.controllers (results_in old.controllers) later → IsMove (next_move scene later phase (past old.journal)) e next
+
+-- a closing that stands at a phase may be halted there
+pub halted_in : {B A : Type 0} (scene : Scene B) (start now : Worlding B A) (phase : Phase) → ClosesIn phase scene start now → IsHaltedAt scene start now
+halted_in scene start now phase c = record {
+  entries = c.entries;
+  refusal = [];
+  joined = c.joined ∙ sym (append-nil (start.journal ++ c.entries));
+  refused = None_stands;
+  begins = λ later more. (phase, c.steps later more);
+}
+
+-- where nothing is owed, a post changes nothing
+posts_nothing : {B A : Type 0} (size : B → ℕ) (w : Worlding B A) → w.owed ≡ None → with_posts size w ≡ w
+posts_nothing size w rests = ap (λ l. record w { journal = l; owed = None }) (owed_nothing size w rests) ∙ ap (λ o. record w { owed = o }) (sym rests)
 
 module _ {B A W : Type 0} (law : AppLaw A) (saving : Saving W) (sealing : Sealing B)
     (old : Worlding B A) (stables : List W) (new : Worlding B A) (stables_after : List W) (step : Turn) (e : JournalEntry B)
@@ -59,10 +86,16 @@ module _ {B A W : Type 0} (law : AppLaw A) (saving : Saving W) (sealing : Sealin
       Turned law (scene_in sealing old kinds) e old new
   turned kinds holds k t = turned_by kinds holds k (added sealing.size step old new rested t)
 
-  -- and one that was cut short
-  abbrev pub Cuts : Stage B A → Type 0
-  Cuts first = (kinds : List ℕ) → Turned law (scene_in sealing old kinds) e old new → (start : Worlding B A) → first (scene_in sealing old kinds) start old →
-      (phase : Phase) × ClosesIn phase (scene_in sealing old kinds) start new
+  -- a closing at a stage makes this turn its next move
+  abbrev pub Moves : Stage B A → Type 0
+  Moves first = (kinds : List ℕ) → Holds law sealing old kinds → (start : Worlding B A) → first (scene_in sealing old kinds) start old → MovesTo (scene_in sealing old kinds) e start old
+
+  -- a turn that was cut short
+  cut : (kinds : List ℕ) → Turned law (scene_in sealing old kinds) e old new → (start : Worlding B A) (m : MovesTo (scene_in sealing old kinds) e start old) →
+      ClosesIn (after_move (scene_in sealing old kinds) (results_in new.controllers) e (past old.journal) m.next) (scene_in sealing old kinds) start new
+  cut kinds turn start m =
+      let scene = scene_in sealing old kinds in
+      cut_turn law scene e old new turn m.phase m.next start m.closes (λ later more. m.move later (more_before law scene e old new turn later more))
 
   never_stuck : (bytes letters : ℕ) → IsStuck sealing.size new bytes letters → new ≡ old → ⊥
   never_stuck bytes letters stuck same = subst (λ o. IsOwing o) (ap (λ w. w.owed) same ∙ rested) (by_owed new.owed refl)
@@ -71,22 +104,76 @@ module _ {B A W : Type 0} (law : AppLaw A) (saving : Saving W) (sealing : Sealin
       by_owed None is = absurd (rw is at stuck)
       by_owed (Some d) is = tt
 
-  pub stop_leads : {T : Type 0} (first : Stage B A) (next : T → Stage B A) → Cuts first → (stop : Stop) → IfMemory {T = T} (Err stop) (Keeps law saving sealing old stables new stables_after) →
+  -- the entry of the turn
+  pub taken_is : taken step (with_posts sealing.size old).journal ≡ old.journal ++ e ∷ []
+  taken_is = ap (λ l. taken step l) (owed_nothing sealing.size old rested) ∙ ap (λ x. old.journal ++ x ∷ []) is
+
+  -- a turn whose input was refused
+  module _ (kinds : List ℕ) (holds : Holds law sealing old kinds) (k : Keeps law saving sealing old stables new stables_after) (start : Worlding B A) (m : MovesTo (scene_in sealing old kinds) e start old)
+      (r : IsRefused step (with_posts sealing.size old) new) where
+    abbrev scene : Scene B
+    scene = scene_in sealing old kinds
+
+    abbrev moved : List (JournalEntry B)
+    moved = m.closes.entries ++ e ∷ []
+
+    behind : old.journal ++ e ∷ [] ≡ start.journal ++ moved
+    behind = ap (λ l. l ++ e ∷ []) m.closes.joined ∙ append_assoc start.journal m.closes.entries (e ∷ [])
+
+    refusal_is : IsRefusal (e ∷ past old.journal) (Refused (actor_of e) ∷ [])
+    refusal_is = One_stands (actor_of e) (subst (λ (l : List (JournalEntry B)). MayBeRefused l) (ap past taken_is ∙ past-push old.journal e) r.input) (input, same_self scene [] (actor_of e))
+
+    before : (later : List (List SaveResult)) → AreMore scene.setup.controllers (results_in new.controllers) later → AreMore scene.setup.controllers (results_in old.controllers) later
+    before later more =
+        more_then scene.setup.controllers (results_in old.controllers) (results_in new.controllers) later
+        (more_told law scene saving old new stables stables_after holds.run pairs k.told) more
+
+    halted_down : IsHaltedAt scene start new
+    halted_down = record {
+      entries = moved;
+      refusal = Refused (actor_of e) ∷ [];
+      joined = r.journal ∙ ap (λ l. l ++ Refused (turn_actor step) ∷ []) (taken_is ∙ behind) ∙ ap (λ a. (start.journal ++ moved) ++ Refused a ∷ []) mine;
+      refused = subst (λ (l : List (JournalEntry B)). IsRefusal l (Refused (actor_of e) ∷ [])) (sym (past-push old.journal e) ∙ ap past behind) refusal_is;
+      begins = λ later more.
+          let was = before later more in (
+            after_move scene later e (past old.journal) m.next,
+            joins scene later Losing m.phase (after_move scene later e (past old.journal) m.next) (past start.journal) m.closes.entries (e ∷ []) (m.closes.steps later was)
+                (subst (λ l. ClosesTo scene later m.phase l (e ∷ []) (after_move scene later e (past old.journal) m.next)) (ap past m.closes.joined ∙ past_joined start.journal m.closes.entries)
+                (one_move scene later m.phase m.next (past old.journal) e [] input (posted_is law scene old holds.run later was rested) (m.move later was) No_post)),
+          );
+    }
+
+  -- or that found no memory, however that ended
+  halts : (kinds : List ℕ) → Holds law sealing old kinds → Keeps law saving sealing old stables new stables_after → (start : Worlding B A) → MovesTo (scene_in sealing old kinds) e start old →
+      IsHalted sealing.size step old new → IsHaltedAt (scene_in sealing old kinds) start new
+  halts kinds holds k start m (Unchanged same) = subst (λ w. IsHaltedAt (scene_in sealing old kinds) start w) (sym same) (halted_in (scene_in sealing old kinds) start old m.phase m.closes)
+  halts kinds holds k start m (Posted same) =
+      subst (λ w. IsHaltedAt (scene_in sealing old kinds) start w) (sym (same ∙ posts_nothing sealing.size old rested)) (halted_in (scene_in sealing old kinds) start old m.phase m.closes)
+  halts kinds holds k start m (Turned_down r) = halted_down kinds holds k start m r
+  halts kinds holds k start m (Unposted u) =
+      let scene = scene_in sealing old kinds in
+      halted_in scene start new (after_move scene (results_in new.controllers) e (past old.journal) m.next)
+      (cut kinds (turned_by kinds holds k (added_alone sealing.size step old new rested u.journal)) start m)
+
+  pub stop_leads : {T : Type 0} (first : Stage B A) (next : T → Stage B A) → Moves first → (stop : Stop) → Keeps law saving sealing old stables new stables_after →
       TurnStops sealing.size step old new stop → LeadsTo law sealing first (StandsAt next (Err stop)) old new
-  stop_leads first next cuts OutOfMemory k stops kinds holds start c = tt
-  stop_leads first next cuts (JournalFull bytes letters) k (stuck, inl same) kinds holds start c = absurd (never_stuck bytes letters stuck same)
-  stop_leads first next cuts (JournalFull bytes letters) k (stuck, inr grown) kinds holds start c =
-      let cut = cuts kinds (turned_by kinds holds k (added_alone sealing.size step old new rested grown)) start c in
-      record { phase = cut.0; closes = cut.1; stuck = stuck }
+  stop_leads first next moves OutOfMemory k stops kinds holds start c = halts kinds holds k start (moves kinds holds start c) stops
+  stop_leads first next moves (JournalFull bytes letters) k (stuck, inl same) kinds holds start c = absurd (never_stuck bytes letters stuck same)
+  stop_leads first next moves (JournalFull bytes letters) k (stuck, inr grown) kinds holds start c =
+      let m = moves kinds holds start c in
+      record {
+        phase = after_move (scene_in sealing old kinds) (results_in new.controllers) e (past old.journal) m.next;
+        closes = cut kinds (turned_by kinds holds k (added_alone sealing.size step old new rested grown)) start m;
+        stuck = stuck;
+      }
 
   -- both
-  pub turn_leads : {T : Type 0} (first : Stage B A) (next : T → Stage B A) → Cuts first →
+  pub turn_leads : {T : Type 0} (first : Stage B A) (next : T → Stage B A) → Moves first →
       ((x : T) (kinds : List ℕ) → Turned law (scene_in sealing old kinds) e old new → (start : Worlding B A) → first (scene_in sealing old kinds) start old → next x (scene_in sealing old kinds) start new) →
-      (result : Result T Stop) → OnOk result (Applies sealing.size step old new) → IfMemory result (Keeps law saving sealing old stables new stables_after) →
+      (result : Result T Stop) → OnOk result (Applies sealing.size step old new) → Keeps law saving sealing old stables new stables_after →
       IfErr result (λ stop. TurnStops sealing.size step old new stop) → LeadsTo law sealing first (StandsAt next result) old new
-  turn_leads first next cuts goes (Ok x) t k stops kinds holds start c = goes x kinds (turned kinds holds k t) start c
-  turn_leads first next cuts goes (Err OutOfMemory) t k stops kinds holds start c = tt
-  turn_leads first next cuts goes (Err (JournalFull bytes letters)) t k stops kinds holds start c = stop_leads first next cuts (JournalFull bytes letters) k stops kinds holds start c
+  turn_leads first next moves goes (Ok x) t k stops kinds holds start c = goes x kinds (turned kinds holds k t) start c
+  turn_leads first next moves goes (Err stop) t k stops kinds holds start c = stop_leads first next moves stop k stops kinds holds start c
 
   -- no view above those of before, and above that of the turn, was suspected
   pub rests_after : (limit : ℕ) → ((most : ℕ) → limit ≤ most → EntrySuspectsUpTo most e) → Applies sealing.size step old new → Rests limit old new

@@ -6,3 +6,4 @@ pub mod Leading
 pub mod Stepping
 pub mod Parts
 pub mod Ended
+pub mod Looking

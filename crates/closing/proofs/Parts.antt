@@ -28,16 +28,17 @@ use Rattle.rv_runs.specs.States.{Scene, Sealing}
 use Rattle.rv_runs.specs.Committed.{members_up, states_of}
 use Rattle.rv_runs.specs.Schedule.{Phase, Losing, Met, Move, Answer, Ends, IsPosted, IsEnd, closing_view, majority, quorum_of, next_drained, next_lost, next_move, next_suspicion, next_view, ClosesTo}
 use Rattle.rv_runs.specs.Schedule as schedule
-use Rattle.rv_world.specs.declared.debt.Debt.{Debt}
-use Rattle.rv_world.specs.World.{AreMore, AreTold, Holds, IfMemory, IsDebtor, Keeps, PairsStand, Worlding, posts_of, results_in, scene_in}
+use Rattle.rv_world.specs.Debts.{Debt}
+use Rattle.rv_world.specs.World.{AreMore, AreTold, Holds, IsDebtor, Keeps, PairsStand, PostStops, Worlding, posts_of, results_in, scene_in}
 use Rattle.rv_world.proofs.Stables.{each_told_then, unsaved_told}
 use Rattle.closing.specs.declared.closed.Came.{Came}
 use Rattle.closing.specs.declared.closed.Came.TheVariants as came
 use Rattle.rv_laws.specs.Laws.{IsSuspectedUpTo, SuspectsUpTo}
 use Rattle.closing_laws.proofs.Walking.{seven_at_most}
-use Rattle.closing.specs.Closing.{CameTo, ClosesIn, ClosingStops, Drained, EndsBy, HasClosed, is_over, LeadsTo, Rests, Stage, StandsAt, states_in, Suspects, up_in}
+use Rattle.closing.specs.Closing.{CameTo, ClosesIn, ClosingStops, Drained, EndsBy, HasClosed, IsCutAt, IsHaltedAt, is_over, LeadsTo, Rests, Stage, StandsAt, states_in, Suspects, up_in}
 use Rattle.closing.specs.Views.{views_of_an_attempt}
 use Rattle.closing.proofs.Worlds.{Runs, posted_is, states_are}
+use Rattle.closing.proofs.Leading.{halted_in}
 use Rattle.closing.proofs.Turned.{joins, past_joined}
 
 -- nothing waits where no first packet was found
@@ -64,7 +65,7 @@ over_came stage other came.ToAFailedSave scene start now h c = c
 over_came stage other (came.ToTheLimit limit) scene start now h c = c
 
 pub same_stop : (T U : Type 0) {B A : Type 0} (stage : T → Stage B A) (other : U → Stage B A) (stop : Stop) (scene : Scene B) (start now : Worlding B A) → StandsAt stage (Err stop) scene start now → StandsAt other (Err stop) scene start now
-same_stop T U stage other OutOfMemory scene start now c = tt
+same_stop T U stage other OutOfMemory scene start now c = c
 same_stop T U stage other (JournalFull bytes letters) scene start now c = c
 
 -- no view above a greater limit
@@ -117,17 +118,6 @@ module _ {B A W : Type 0} (law : AppLaw A) (saving : Saving W) (sealing : Sealin
     beyond = λ i past. next.beyond i (subst (λ (s : Setup). s.controllers ≤ i) (sym first.setup) past) ∙ first.beyond i past;
   }
 
-  pub keeps_result : {T : Type 0} (a b c : Worlding B A) (s0 s1 s2 : List W) (result : Result T Stop) → Keeps law saving sealing a s0 b s1 → IfMemory result (Keeps law saving sealing b s1 c s2) →
-      IfMemory result (Keeps law saving sealing a s0 c s2)
-  keeps_result a b c s0 s1 s2 (Ok x) first next = keeps_then a b c s0 s1 s2 first next
-  keeps_result a b c s0 s1 s2 (Err OutOfMemory) first next = tt
-  keeps_result a b c s0 s1 s2 (Err (JournalFull bytes letters)) first next = keeps_then a b c s0 s1 s2 first next
-
-  pub keeps_err : (T U : Type 0) (a b c : Worlding B A) (s0 s1 s2 : List W) (stop : Stop) → Keeps law saving sealing a s0 b s1 → IfMemory {T = T} (Err stop) (Keeps law saving sealing b s1 c s2) →
-      IfMemory {T = U} (Err stop) (Keeps law saving sealing a s0 c s2)
-  keeps_err T U a b c s0 s1 s2 OutOfMemory first next = tt
-  keeps_err T U a b c s0 s1 s2 (JournalFull bytes letters) first next = keeps_then a b c s0 s1 s2 first next
-
   -- what was owed is posted
   module _ (old new : Worlding B A) (stables : List W) (pairs : PairsStand saving stables old.controllers) (is : new ≡ record old { journal = old.journal ++ posts_of sealing.size old.owed old.journal; owed = None }) where
     pub post_keeps : ((kinds : List ℕ) → Holds law sealing old kinds → Holds law sealing new kinds) → Keeps law saving sealing old stables new stables
@@ -179,9 +169,15 @@ module _ {B A W : Type 0} (law : AppLaw A) (saving : Saving W) (sealing : Sealin
               (subst (λ l. ClosesTo scene later Losing l posts Losing) (ap past c.joined ∙ past_joined start.journal c.entries) (posts_close scene later old.owed holds.run.debtor));
         }
 
-  pub post_stops : (T : Type 0) (old new : Worlding B A) (stables : List W) → PairsStand saving stables old.controllers → (stop : Stop) → new ≡ old → IfMemory {T = T} (Err stop) (Keeps law saving sealing old stables new stables)
-  post_stops T old new stables pairs OutOfMemory same = tt
-  post_stops T old new stables pairs (JournalFull bytes letters) same = subst (λ w. Keeps law saving sealing old stables w stables) (sym same) (keeps_none old stables pairs)
+  -- or nothing has changed
+  module _ (old new : Worlding B A) (stables : List W) (pairs : PairsStand saving stables old.controllers) (same : new ≡ old) where
+    pub same_keeps : Keeps law saving sealing old stables new stables
+    same_keeps = subst (λ w. Keeps law saving sealing old stables w stables) (sym same) (keeps_none old stables pairs)
+
+    pub post_stops : {T : Type 0} (next : T → Stage B A) (stop : Stop) → PostStops sealing.size old stop → LeadsTo law sealing (ClosesIn Losing) (StandsAt next (Err stop)) old new
+    post_stops next OutOfMemory stops kinds holds start c = subst (λ w. IsHaltedAt (scene_in sealing old kinds) start w) (sym same) (halted_in (scene_in sealing old kinds) start old Losing c)
+    post_stops next (JournalFull bytes letters) stops kinds holds start c =
+        subst (λ w. IsCutAt bytes letters (scene_in sealing old kinds) start w) (sym same) (record { phase = Losing; closes = c; stuck = stops })
 
 -- a closing begins where nothing waits
 few : {X : Type 0} (a b : ℕ) (x y : X) → b ≤ a → (if nat_lt a b then x else y) ≡ y
@@ -290,5 +286,5 @@ pub closes_first : {B A : Type 0} (scene : Scene B) (start : Worlding B A) → C
 closes_first scene start = record { entries = []; joined = sym (append-nil start.journal); steps = λ later more. refl }
 
 pub stops_by : {B A : Type 0} (scene : Scene B) (stop : Stop) (start now : Worlding B A) → StandsAt EndsBy (Err stop) scene start now → ClosingStops scene start now stop
-stops_by scene OutOfMemory start now c = tt
+stops_by scene OutOfMemory start now c = c
 stops_by scene (JournalFull bytes letters) start now c = c

@@ -19,13 +19,14 @@ use Rattle.app_core.specs.Law.{AppLaw}
 use Rattle.group_controller.specs.Turns.{Controlling, state_of, Controls}
 use Rattle.rv_runs.specs.States.{Sealing}
 use Rattle.rv_runs.specs.Committed.{states_of}
-use Rattle.rv_runs.specs.Schedule.{Losing, Suspecting, Draining, IsMove, is_drawn, after_move}
-use Rattle.rv_world.specs.World.{Applies, Holds, IfMemory, Keeps, PairsStand, TurnStops, Worlding, results_in, scene_in}
+use Rattle.rv_runs.specs.Schedule.{Losing, Suspecting, Draining, IsMove, is_drawn}
+use Rattle.rv_world.specs.Refusals.{TurnStops}
+use Rattle.rv_world.specs.World.{Applies, Holds, Keeps, PairsStand, Worlding, scene_in}
 use Rattle.closing.specs.declared.closed.Came.{Came}
 use Rattle.closing_laws.specs.Quorum.{has}
 use Rattle.closing.specs.Closing.{CameAt, CameTo, came_of, ClosesIn, Drains, IsFirst, LeadsTo, Stage, StandsAt, Suspects, UpBy, up_in, work_left}
 use Rattle.closing.proofs.Worlds.{KnowsItself}
-use Rattle.closing.proofs.Turned.{Turned, added, cut_turn, more_before}
+use Rattle.closing.proofs.Turned.{Turned, added}
 use Rattle.closing.proofs.Moves.{First, first_packet, first_named, took_lose, took_draw, lost_move, drained_lost, drained_drawn, loses, loses_drained, lost_ups, suspects_turn, draws_turn, turn_ups, draws_switch, switch_ups}
 use Rattle.closing.proofs.Leading.{turned, turn_leads, stop_leads, takes_less}
 
@@ -55,32 +56,31 @@ module _ {B A W : Type 0} (law : AppLaw A) (knows : (x : Controlling A) (kinds :
     pub named : IsActor old.setup place.to
     named = first_named (λ a. IsActor old.setup a) place (past old.journal) found addressed
 
-    pub lose_closes : {T : Type 0} (result : Result T Stop) → OnOk result (Applies sealing.size (turn.Lose place.to 0) old new) → IfMemory result Kept → IfErr result (λ stop. TurnStops sealing.size (turn.Lose place.to 0) old new stop) →
+    pub lose_closes : {T : Type 0} (result : Result T Stop) → OnOk result (Applies sealing.size (turn.Lose place.to 0) old new) → Kept → IfErr result (λ stop. TurnStops sealing.size (turn.Lose place.to 0) old new stop) →
         LeadsTo law sealing (ClosesIn Losing) (StandsAt (λ _. ClosesIn Losing) result) old new
     lose_closes result t k stops =
         turn_leads law saving sealing old stables new stables_after (turn.Lose place.to 0) Lost rested pairs (took_lose place (past old.journal) found) refl named refl (ClosesIn Losing) (λ _. ClosesIn Losing)
-        (λ kinds turn start c.
+        (λ kinds holds start c.
         let scene = scene_in sealing old kinds in
-        (Losing, cut_turn law scene Lost old new turn Losing Losing start c (λ later more. lost_move place (past old.journal) found scene.setup.controllers (states_of scene later (past old.journal)))))
+        record { phase = Losing; next = Losing; closes = c; move = λ later more. lost_move place (past old.journal) found scene.setup.controllers (states_of scene later (past old.journal)) })
         (λ x kinds turn start c. loses law (scene_in sealing old kinds) old new place found turn start c)
         result t k stops
 
     pub lose_drains : (view : ℕ) (quorum : List ℕ) → is_drawn quorum place.from place.to ≡ false →
-        {T : Type 0} (result : Result T Stop) → OnOk result (Applies sealing.size (turn.Lose place.to 0) old new) → IfMemory result Kept → IfErr result (λ stop. TurnStops sealing.size (turn.Lose place.to 0) old new stop) →
+        {T : Type 0} (result : Result T Stop) → OnOk result (Applies sealing.size (turn.Lose place.to 0) old new) → Kept → IfErr result (λ stop. TurnStops sealing.size (turn.Lose place.to 0) old new stop) →
         LeadsTo law sealing (Drains view quorum) (StandsAt (λ _. Drains view quorum) result) old new
     lose_drains view quorum drawn result t k stops =
         turn_leads law saving sealing old stables new stables_after (turn.Lose place.to 0) Lost rested pairs (took_lose place (past old.journal) found) refl named refl (Drains view quorum) (λ _. Drains view quorum)
-        (λ kinds turn start c.
-        let scene = scene_in sealing old kinds in (
-          Draining view quorum,
-          cut_turn law scene Lost old new turn c.phase (Draining view quorum) start c.closes
-              (λ later more. subst (λ m. IsMove m Lost (Draining view quorum)) (sym (c.next later (more_before law scene Lost old new turn later more)))
-              (drained_lost place (past old.journal) found scene.setup.controllers view quorum drawn)),
-        ))
+        (λ kinds holds start c. record {
+          phase = c.phase;
+          next = Draining view quorum;
+          closes = c.closes;
+          move = λ later more. subst (λ m. IsMove m Lost (Draining view quorum)) (sym (c.next later more)) (drained_lost place (past old.journal) found old.setup.controllers view quorum drawn);
+        })
         (λ x kinds turn start c. loses_drained law (scene_in sealing old kinds) old new place found turn view quorum drawn start c)
         result t k stops
 
-    pub lose_up : (kinds : List ℕ) → Holds law sealing old kinds → {T : Type 0} (result : Result T Stop) → OnOk result (Applies sealing.size (turn.Lose place.to 0) old new) → IfMemory result Kept →
+    pub lose_up : (kinds : List ℕ) → Holds law sealing old kinds → {T : Type 0} (result : Result T Stop) → OnOk result (Applies sealing.size (turn.Lose place.to 0) old new) → Kept →
         OnOk result (up_in new ≡ up_in old)
     lose_up kinds holds (Ok x) t k =
         lost_ups law (scene_in sealing old kinds) old new place found
@@ -104,17 +104,16 @@ module _ {B A W : Type 0} (law : AppLaw A) (knows : (x : Controlling A) (kinds :
         takes_less place Drawn old.journal new.journal a.posts place.to found a.of (a.grown ∙ ap (λ e. old.journal ++ e ∷ a.posts) (took_draw place (past old.journal) found)) refl refl within.letters
 
     module _ (view : ℕ) (quorum : List ℕ) (drawn : is_drawn quorum place.from place.to ≡ true) where
-      pub draw_cut : {T : Type 0} (next : T → Stage B A) (stop : Stop) → IfMemory {T = T} (Err stop) Kept → TurnStops sealing.size (turn.Draw place.to 0 false) old new stop →
+      pub draw_cut : {T : Type 0} (next : T → Stage B A) (stop : Stop) → Kept → TurnStops sealing.size (turn.Draw place.to 0 false) old new stop →
           LeadsTo law sealing (Drains view quorum) (StandsAt next (Err stop)) old new
       draw_cut next stop k stops =
           stop_leads law saving sealing old stables new stables_after (turn.Draw place.to 0 false) Drawn rested pairs (took_draw place (past old.journal) found) refl named refl (Drains view quorum) next
-          (λ kinds turn start c.
-          let scene = scene_in sealing old kinds in (
-            after_move scene (results_in new.controllers) Drawn (past old.journal) (Draining view quorum),
-            cut_turn law scene Drawn old new turn c.phase (Draining view quorum) start c.closes
-                (λ later more. subst (λ m. IsMove m Drawn (Draining view quorum)) (sym (c.next later (more_before law scene Drawn old new turn later more)))
-                (drained_drawn place (past old.journal) found scene.setup.controllers view quorum drawn)),
-          ))
+          (λ kinds holds start c. record {
+            phase = c.phase;
+            next = Draining view quorum;
+            closes = c.closes;
+            move = λ later more. subst (λ m. IsMove m Drawn (Draining view quorum)) (sym (c.next later more)) (drained_drawn place (past old.journal) found old.setup.controllers view quorum drawn);
+          })
           stop k stops
 
       module _ (t : Applies sealing.size (turn.Draw place.to 0 false) old new) (k : Kept) where
@@ -153,17 +152,16 @@ module _ {B A W : Type 0} (law : AppLaw A) (knows : (x : Controlling A) (kinds :
     abbrev pub Suspicion : JournalEntry B
     Suspicion = Local (actor.Controller c) (local.Suspect view)
 
-    pub suspect_cut : (quorum members : List ℕ) {T : Type 0} (next : T → Stage B A) (stop : Stop) → IfMemory {T = T} (Err stop) Kept → TurnStops sealing.size (turn.Local (actor.Controller c) (local.Suspect view)) old new stop →
+    pub suspect_cut : (quorum members : List ℕ) {T : Type 0} (next : T → Stage B A) (stop : Stop) → Kept → TurnStops sealing.size (turn.Local (actor.Controller c) (local.Suspect view)) old new stop →
         LeadsTo law sealing (Suspects view quorum (c ∷ members)) (StandsAt next (Err stop)) old new
     suspect_cut quorum members next stop k stops =
         stop_leads law saving sealing old stables new stables_after (turn.Local (actor.Controller c) (local.Suspect view)) Suspicion rested pairs refl refl there refl (Suspects view quorum (c ∷ members)) next
-        (λ kinds turn start s.
-        let scene = scene_in sealing old kinds in
-        let to = Suspecting view quorum members in (
-          after_move scene (results_in new.controllers) Suspicion (past old.journal) to,
-          cut_turn law scene Suspicion old new turn s.phase to start s.closes
-              (λ later more. subst (λ m. IsMove m Suspicion to) (sym (s.next later (more_before law scene Suspicion old new turn later more))) (refl, refl)),
-        ))
+        (λ kinds holds start s. record {
+          phase = s.phase;
+          next = Suspecting view quorum members;
+          closes = s.closes;
+          move = λ later more. subst (λ m. IsMove m Suspicion (Suspecting view quorum members)) (sym (s.next later more)) (refl, refl);
+        })
         stop k stops
 
     module _ (t : Applies sealing.size (turn.Local (actor.Controller c) (local.Suspect view)) old new) (k : Kept) (cause : Came) (at : CameAt view new (actor.Controller c) cause) where

@@ -24,7 +24,7 @@ use Rattle.rv_runs.specs.States.{Scene, controller_at}
 use Rattle.rv_runs.specs.Legal.{results_of}
 use Rattle.rv_runs.specs.Committed.{controller_state, members_up}
 use Rattle.rv_runs.specs.Schedule.{Phase, Losing, IsMove, IsPosted, after_move, after_turn, next_move, ClosesTo}
-use Rattle.rv_world.specs.declared.debt.Debt.{Debt}
+use Rattle.rv_world.specs.Debts.{Debt}
 use Rattle.rv_world.specs.World.{AreMore, AreTold, Applies, PairsStand, Worlding, posts_of, results_in, taken}
 use Rattle.rv_world.proofs.Growing.{more_then, no_more}
 use Rattle.rv_world.proofs.Places.{results_at}
@@ -57,7 +57,7 @@ added_by size turn old new (Some d) owes grown = record {
   of = subst (λ a. PostsOf a (posting size d.actor d.letters (past (taken turn old.journal)))) owes (posting_posts size d.actor d.letters (past (taken turn old.journal)));
 }
 
-owed_nothing : {B A : Type 0} (size : B → ℕ) (w : Worlding B A) → w.owed ≡ None → w.journal ++ posts_of size w.owed w.journal ≡ w.journal
+pub owed_nothing : {B A : Type 0} (size : B → ℕ) (w : Worlding B A) → w.owed ≡ None → w.journal ++ posts_of size w.owed w.journal ≡ w.journal
 owed_nothing size w rests = ap (λ o. w.journal ++ posts_of size o w.journal) rests ∙ append-nil w.journal
 
 pub added : {B A : Type 0} (size : B → ℕ) (turn : Turn) (old new : Worlding B A) → old.owed ≡ None → Applies size turn old new → Added turn old new
@@ -118,7 +118,7 @@ module _ {B : Type 0} (scene : Scene B) (results : List (List SaveResult)) where
   joins phase mid last before (Refused a ∷ xs) ys (posted, (to, move, first)) next =
       (posted, (to, move, joins (after_move scene results (Refused a) before to) mid last (Refused a ∷ before) xs ys first (subst (λ l. ClosesTo scene results mid l ys last) (reverse_next _ xs before) next)))
 
-  same_self : (a : Actor) → same_actor a a ≡ true
+  pub same_self : (a : Actor) → same_actor a a ≡ true
   same_self (actor.Controller c) = eq-eqb c c refl
   same_self (actor.Switch s) = eq-eqb s s refl
 
@@ -128,7 +128,7 @@ module _ {B : Type 0} (scene : Scene B) (results : List (List SaveResult)) where
   posts_on phase before e _ input (One_post first letters lost) = ((input, same_self (actor_of e)), refl)
 
   -- an entry of a closing and its post
-  one_move : (phase next : Phase) (here : List (JournalEntry B)) (e : JournalEntry B) (posts : List (JournalEntry B)) → is_input e ≡ true → IsPosted scene results here →
+  pub one_move : (phase next : Phase) (here : List (JournalEntry B)) (e : JournalEntry B) (posts : List (JournalEntry B)) → is_input e ≡ true → IsPosted scene results here →
       IsMove (next_move scene results phase here) e next → PostsOf (actor_of e) posts → ClosesTo scene results phase here (e ∷ posts) (after_move scene results e here next)
   one_move phase next here (Post a n letters lost) posts input posted move of = cc
   one_move phase next here (Refused a) posts input posted move of = cc

@@ -26,6 +26,7 @@ use Rattle.rv_laws.specs.Laws.{IsSuspectedUpTo}
 use Rattle.closing_laws.specs.Ends.{HasRested}
 use Rattle.closing_laws.specs.Starts.{SavesSucceed}
 use Rattle.closing_laws.specs.Stops.{IsAtLimit}
+use Rattle.rv_world.specs.Refusals.{IsRefusal}
 use Rattle.rv_world.specs.World.{AreMore, Holds, IsStuck, Worlding, results_in, scene_in}
 use Rattle.closing.specs.declared.closed.Came.{Came}
 use Rattle.closing.specs.declared.closed.Came.TheVariants as came
@@ -145,10 +146,20 @@ pub record IsCutAt {B A : Type 0} (bytes letters : ℕ) (scene : Scene B) (start
   pub closes : ClosesIn phase scene start now
   pub stuck : IsStuck scene.sealing.size now bytes letters
 
+-- It found no memory: its entries are the first of those of the schedule, and behind them stands a refusal, or none. At which phase
+-- they end hangs on what becomes of later saves, since a refused input may have wanted one
+pub record IsHaltedAt {B A : Type 0} (scene : Scene B) (start now : Worlding B A) : Type 0 where
+  pub entries : List (JournalEntry B)
+  pub refusal : List (JournalEntry B)
+  pub joined : now.journal ≡ start.journal ++ entries ++ refusal
+  pub refused : IsRefusal (past (start.journal ++ entries)) refusal
+  pub begins : (later : List (List SaveResult)) → AreMore scene.setup.controllers (results_in now.controllers) later →
+      (last : Phase) × ClosesTo scene later Losing (past start.journal) entries last
+
 -- where a closing stands after a call that may stop
 abbrev pub StandsAt : {T B A : Type 0} → (T → Stage B A) → Result T Stop → Stage B A
 StandsAt stage (Ok x) scene start now = stage x scene start now
-StandsAt stage (Err OutOfMemory) scene start now = Unit {0}
+StandsAt stage (Err OutOfMemory) scene start now = IsHaltedAt scene start now
 StandsAt stage (Err (JournalFull bytes letters)) scene start now = IsCutAt bytes letters scene start now
 
 -- wherever it began, a closing at one stage in a world is at another stage in a later world
@@ -233,7 +244,7 @@ abbrev pub UpTo : {B A : Type 0} → Option Closed → Worlding B A → Worlding
 UpTo None old new = length (up_in new) < length (up_in old)
 UpTo (Some ended) old new = HasMajority ended old new
 
--- why a closing stopped
+-- why a closing stopped, and what stands then
 abbrev pub ClosingStops : {B A : Type 0} → Scene B → Worlding B A → Worlding B A → Stop → Type 0
-ClosingStops scene start now OutOfMemory = Unit {0}
+ClosingStops scene start now OutOfMemory = IsHaltedAt scene start now
 ClosingStops scene start now (JournalFull bytes letters) = IsCutAt bytes letters scene start now

@@ -5,6 +5,8 @@ mod closed;
 mod quorum;
 mod rest;
 mod steps;
+mod views;
 
 pub use closed::Closed;
 pub use rest::run;
+pub use views::may_close;

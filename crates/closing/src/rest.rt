@@ -2,7 +2,7 @@
 ghost use Rattle.std.specs.Prelude.{◌≡◌, ◌≤◌, ◌+◌, ◌%◌, ◌/◌, [], true, false, ℕ, List, None, length, OnOk, IfOk, IfErr};
 ghost use Rattle.rv_base.specs.Pool.{past, pool};
 ghost use Rattle.rv_runs.specs.Schedule.{Losing, closing_view, majority, quorum_of};
-ghost use Rattle.rv_world.specs.World.{ForEachScene, Holds, IfMemory, Keeps, PairsStand};
+ghost use Rattle.rv_world.specs.World.{ForEachScene, Holds, Keeps, PairsStand};
 ghost use Rattle.rv_laws.specs.Laws.{IsSuspectedUpTo};
 ghost use Rattle.closing_laws.specs.Quorum.{has};
 ghost use Rattle.closing.specs.Closing.{AllSuspect, Attempts, ClosesBy, ClosesIn, ClosingStops, DrainsAll, HasEnded, HasMajority, RaisesViewsBy, Rests, StaysAt, UpBy, UpTo, up_in};
@@ -26,8 +26,7 @@ fn lose_all<B: Body, A: App, W: Stable>(
     requires rests { world.old.owed ≡ None }
     requires holds { (kinds : List ℕ) × Holds A.law B.sealing world.old kinds }
     requires pairs { PairsStand W.saving stables.old world.old.controllers }
-    ensures keeps { IfMemory result
-        (Keeps A.law W.saving B.sealing world.old stables.old world.new stables.new) }
+    ensures keeps { Keeps A.law W.saving B.sealing world.old stables.old world.new stables.new }
     ensures rests { OnOk result (Rests 0 world.old world.new) }
     ensures closes { StaysAt A.law B.sealing (ClosesIn Losing) result world.old world.new }
     ensures up { OnOk result (up_in world.new ≡ up_in world.old) }
@@ -43,8 +42,7 @@ fn lose_all<B: Body, A: App, W: Stable>(
 fn clear<B: Body, A: App, W: Stable>(world: &mut World<B, A>, stables: &mut [W]) -> Result<(), Stop>
     requires holds { (kinds : List ℕ) × Holds A.law B.sealing world.old kinds }
     requires pairs { PairsStand W.saving stables.old world.old.controllers }
-    ensures keeps { IfMemory result
-        (Keeps A.law W.saving B.sealing world.old stables.old world.new stables.new) }
+    ensures keeps { Keeps A.law W.saving B.sealing world.old stables.old world.new stables.new }
     ensures rests { OnOk result (Rests 0 world.old world.new) }
     ensures closes { StaysAt A.law B.sealing (ClosesIn Losing) result world.old world.new }
     ensures up { OnOk result (up_in world.new ≡ up_in world.old) }
@@ -65,8 +63,7 @@ fn suspect<B: Body, A: App, W: Stable>(
     requires holds { (kinds : List ℕ) × Holds A.law B.sealing world.old kinds }
     requires pairs { PairsStand W.saving stables.old world.old.controllers }
     requires up { (n : ℕ) → has quorum.now n ≡ true → has (up_in world.old) n ≡ true }
-    ensures keeps { IfMemory result
-        (Keeps A.law W.saving B.sealing world.old stables.old world.new stables.new) }
+    ensures keeps { Keeps A.law W.saving B.sealing world.old stables.old world.new stables.new }
     ensures rests { OnOk result (Rests view world.old world.new) }
     ensures suspects { AllSuspect A.law B.sealing view quorum.now result world.old world.new }
     ensures up { IfOk result (λ came. UpBy came (up_in world.old) (up_in world.new)) }
@@ -91,8 +88,7 @@ fn drain<B: Body, A: App, W: Stable>(
     requires holds { (kinds : List ℕ) × Holds A.law B.sealing world.old kinds }
     requires pairs { PairsStand W.saving stables.old world.old.controllers }
     requires up { (n : ℕ) → has quorum.now n ≡ true → has (up_in world.old) n ≡ true }
-    ensures keeps { IfMemory result
-        (Keeps A.law W.saving B.sealing world.old stables.old world.new stables.new) }
+    ensures keeps { Keeps A.law W.saving B.sealing world.old stables.old world.new stables.new }
     ensures rests { OnOk result (Rests 0 world.old world.new) }
     ensures drains { DrainsAll A.law B.sealing view quorum.now result world.old world.new }
     ensures up { IfOk result (λ came. UpBy came (up_in world.old) (up_in world.new)) }
@@ -117,8 +113,7 @@ fn close_by<B: Body, A: App, W: Stable>(
     requires holds { (kinds : List ℕ) × Holds A.law B.sealing world.old kinds }
     requires pairs { PairsStand W.saving stables.old world.old.controllers }
     requires up { (n : ℕ) → has quorum.now n ≡ true → has (up_in world.old) n ≡ true }
-    ensures keeps { IfMemory result
-        (Keeps A.law W.saving B.sealing world.old stables.old world.new stables.new) }
+    ensures keeps { Keeps A.law W.saving B.sealing world.old stables.old world.new stables.new }
     ensures rests { OnOk result (Rests view world.old world.new) }
     ensures closes { ClosesBy A.law B.sealing view quorum.now result world.old world.new }
     ensures up { IfOk result (λ came. UpBy came (up_in world.old) (up_in world.new)) }
@@ -144,8 +139,7 @@ fn close_cleared<B: Body, A: App, W: Stable>(
     requires up { up.now ≡ up_in world.old }
     requires most { majority world.old.setup.controllers ≤ length up.now }
     requires views { IsSuspectedUpTo most_view_of_a_closing (past world.old.journal) }
-    ensures keeps { IfMemory result
-        (Keeps A.law W.saving B.sealing world.old stables.old world.new stables.new) }
+    ensures keeps { Keeps A.law W.saving B.sealing world.old stables.old world.new stables.new }
     ensures owed { OnOk result (world.new.owed ≡ None) }
     ensures views { OnOk result (RaisesViewsBy views_of_an_attempt world.old world.new) }
     ensures closes { Attempts A.law B.sealing result world.old world.new }
@@ -172,8 +166,7 @@ fn close_once<B: Body, A: App, W: Stable>(
     requires holds { (kinds : List ℕ) × Holds A.law B.sealing world.old kinds }
     requires pairs { PairsStand W.saving stables.old world.old.controllers }
     requires views { IsSuspectedUpTo most_view_of_a_closing (past world.old.journal) }
-    ensures keeps { IfMemory result
-        (Keeps A.law W.saving B.sealing world.old stables.old world.new stables.new) }
+    ensures keeps { Keeps A.law W.saving B.sealing world.old stables.old world.new stables.new }
     ensures owed { OnOk result (world.new.owed ≡ None) }
     ensures views { OnOk result (RaisesViewsBy views_of_an_attempt world.old world.new) }
     ensures closes { Attempts A.law B.sealing result world.old world.new }
@@ -195,7 +188,7 @@ fn close_once<B: Body, A: App, W: Stable>(
 /// Brings a world to rest: what waits is lost, the members of a quorum start the least view above all, and what they and
 /// the switches then say is drawn until nothing waits, or until a proposal finds no room in the log. Where a member's
 /// save fails, it begins again. At its end nothing is left undone, and what its primary has committed is what is decided.
-/// Where memory is wanting, nothing is told of the world.
+/// Where a turn finds no memory it stops, and the world may be closed again.
 pub fn run<B: Body, A: App, W: Stable>(
     alloc: Global,
     world: &mut World<B, A>,
@@ -204,7 +197,7 @@ pub fn run<B: Body, A: App, W: Stable>(
     requires holds { (kinds : List ℕ) × Holds A.law B.sealing world.old kinds }
     requires pairs { PairsStand W.saving stables.old world.old.controllers }
     requires views { IsSuspectedUpTo most_view_of_a_script (past world.old.journal) }
-    ensures keeps { IfMemory result (Keeps A.law W.saving B.sealing world.old stables.old world.new stables.new) }
+    ensures keeps { Keeps A.law W.saving B.sealing world.old stables.old world.new stables.new }
     ensures rests { OnOk result (world.new.owed ≡ None) }
     ensures closes { ForEachScene A.law B.sealing world.old (λ scene. IfOk result (HasEnded scene world.old world.new)) }
     ensures up { IfOk result (λ closed. HasMajority closed world.old world.new) }

@@ -5,7 +5,7 @@ ghost use Rattle.rv_base.specs.Actors.{IsActor};
 ghost use Rattle.rv_base.specs.Pool.{past, pool};
 ghost use Rattle.group_controller.specs.Turns.{state_of};
 ghost use Rattle.rv_runs.specs.Schedule.{Losing, is_drawn};
-ghost use Rattle.rv_world.specs.World.{Holds, IfMemory, Keeps, PairsStand};
+ghost use Rattle.rv_world.specs.World.{Holds, Keeps, PairsStand};
 ghost use Rattle.rv_laws.specs.Laws.{IsSuspectedUpTo};
 ghost use Rattle.closing_laws.specs.Quorum.{has};
 ghost use Rattle.closing.specs.Closing.{HaveViewsUpTo, CameAt, came_of, ClosesIn, Drains, DrainsOne, HasLessLeft, IsFirst, is_over, NextSuspects, Rests, StaysAt, UpBy, up_in};
@@ -81,8 +81,7 @@ pub fn lose_first<B: Body, A: App, W: Stable>(
     requires holds { (kinds : List ℕ) × Holds A.law B.sealing world.old kinds }
     requires pairs { PairsStand W.saving stables.old world.old.controllers }
     requires first { IsFirst place world.old.journal }
-    ensures keeps { IfMemory result
-        (Keeps A.law W.saving B.sealing world.old stables.old world.new stables.new) }
+    ensures keeps { Keeps A.law W.saving B.sealing world.old stables.old world.new stables.new }
     ensures rests { OnOk result (Rests 0 world.old world.new) }
     ensures closes { StaysAt A.law B.sealing (ClosesIn Losing) result world.old world.new }
     ensures drains { (view : ℕ) (quorum : List ℕ) → is_drawn quorum place.from place.to ≡ false →
@@ -111,8 +110,7 @@ pub fn suspect_next<B: Body, A: App, W: Stable>(
     requires holds { (kinds : List ℕ) × Holds A.law B.sealing world.old kinds }
     requires pairs { PairsStand W.saving stables.old world.old.controllers }
     requires up { has (up_in world.old) number ≡ true }
-    ensures keeps { IfMemory result
-        (Keeps A.law W.saving B.sealing world.old stables.old world.new stables.new) }
+    ensures keeps { Keeps A.law W.saving B.sealing world.old stables.old world.new stables.new }
     ensures rests { OnOk result (Rests view world.old world.new) }
     ensures suspects { (quorum members : List ℕ) →
         NextSuspects A.law B.sealing view quorum number members result world.old world.new }
@@ -138,8 +136,7 @@ pub fn draw_first<B: Body, A: App, W: Stable>(
     requires first { IsFirst place world.old.journal }
     requires drawn { is_drawn quorum.now place.from place.to ≡ true }
     requires up { (n : ℕ) → has quorum.now n ≡ true → has (up_in world.old) n ≡ true }
-    ensures keeps { IfMemory result
-        (Keeps A.law W.saving B.sealing world.old stables.old world.new stables.new) }
+    ensures keeps { Keeps A.law W.saving B.sealing world.old stables.old world.new stables.new }
     ensures rests { OnOk result (Rests 0 world.old world.new) }
     ensures drains { DrainsOne A.law B.sealing view quorum.now result world.old world.new }
     ensures up { IfOk result (λ came. UpBy came (up_in world.old) (up_in world.new)) }
@@ -180,8 +177,7 @@ pub fn drain_first<B: Body, A: App, W: Stable>(
     requires pairs { PairsStand W.saving stables.old world.old.controllers }
     requires first { IsFirst place world.old.journal }
     requires up { (n : ℕ) → has quorum.now n ≡ true → has (up_in world.old) n ≡ true }
-    ensures keeps { IfMemory result
-        (Keeps A.law W.saving B.sealing world.old stables.old world.new stables.new) }
+    ensures keeps { Keeps A.law W.saving B.sealing world.old stables.old world.new stables.new }
     ensures rests { OnOk result (Rests 0 world.old world.new) }
     ensures drains { DrainsOne A.law B.sealing view quorum.now result world.old world.new }
     ensures up { IfOk result (λ came. UpBy came (up_in world.old) (up_in world.new)) }

@@ -3,15 +3,22 @@ use Rattle.std.proofs.lemmas.Result.{err_from_is_err_and}
 use Rattle.rv_runs.specs.Schedule.{Losing}
 use Rattle.closing.specs.Closing.{ClosesIn, StandsAt}
 use Rattle.closing.proofs.Leading.{leads_then}
-use Rattle.closing.proofs.Parts.{keeps_result, post_keeps, post_leads, post_rests, post_stops, rests_result}
+use Rattle.closing.proofs.Parts.{keeps_then, post_keeps, post_leads, post_rests, post_stops, rests_result, same_keeps}
 use Rattle.closing.proofs.rest.clear.Goals as goal
 
 pub returns-in_err-post_owed-clause-keeps : goal.returns-in_err-post_owed-clause-keeps
 returns-in_err-post_owed-clause-keeps g c =
     let law = g.A.App.law in
     let sealing = g.B.Body.sealing in
+    same_keeps law g.W.Stable.saving sealing c.args.world.now c.post_owed.new.self c.args.stables.now c.requires.pairs c.in_err-post_owed.ensures.stops.0
+
+pub returns-in_err-post_owed-clause-closes : goal.returns-in_err-post_owed-clause-closes
+returns-in_err-post_owed-clause-closes g c =
+    let law = g.A.App.law in
+    let sealing = g.B.Body.sealing in
     let p = err_from_is_err_and c.from_residual.result c.from_residual.ensures.1 in
-    rw (p.1, p.2) (post_stops law g.W.Stable.saving sealing (Unit {0}) c.args.world.now c.post_owed.new.self c.args.stables.now c.requires.pairs c.in_err-post_owed.field-0.0 c.in_err-post_owed.ensures.stops.0)
+    rw (p.1, p.2) (post_stops law g.W.Stable.saving sealing c.args.world.now c.post_owed.new.self c.args.stables.now c.requires.pairs c.in_err-post_owed.ensures.stops.0 {T = Unit {0}}
+    (λ _. ClosesIn Losing) c.in_err-post_owed.field-0.0 c.in_err-post_owed.ensures.stops.1)
 
 pub lose_all-requires-clause-holds : goal.lose_all-requires-clause-holds
 lose_all-requires-clause-holds g c =
@@ -22,7 +29,7 @@ returns-clause-keeps g c =
     let law = g.A.App.law in
     let sealing = g.B.Body.sealing in
     let post = post_keeps law g.W.Stable.saving sealing c.args.world.now c.post_owed.new.self c.args.stables.now c.requires.pairs c.in_ok-post_owed.ensures.posts c.post_owed.ensures.holds in
-    keeps_result law g.W.Stable.saving sealing c.args.world.now c.post_owed.new.self c.lose_all.new.world c.args.stables.now c.args.stables.now c.lose_all.new.stables c.lose_all.result post c.lose_all.ensures.keeps
+    keeps_then law g.W.Stable.saving sealing c.args.world.now c.post_owed.new.self c.lose_all.new.world c.args.stables.now c.args.stables.now c.lose_all.new.stables post c.lose_all.ensures.keeps
 
 pub returns-clause-rests : goal.returns-clause-rests
 returns-clause-rests g c =

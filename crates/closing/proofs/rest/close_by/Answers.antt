@@ -1,7 +1,7 @@
 use Rattle.std.proofs.Common.{sym, ◌∙◌, subst, arith}
 use Rattle.closing.specs.Closing.{CameTo, Drained, Drains, LeadsTo, StandsAt, Suspects}
 use Rattle.closing.proofs.Leading.{leads_then}
-use Rattle.closing.proofs.Parts.{keeps_result, not_over, rests_result}
+use Rattle.closing.proofs.Parts.{keeps_then, not_over, rests_result}
 use Rattle.closing.proofs.rest.close_by.Goals as goal
 
 pub drain-requires-clause-holds : goal.drain-requires-clause-holds
@@ -11,7 +11,7 @@ pub returns-clause-keeps : goal.returns-clause-keeps
 returns-clause-keeps g c =
     let law = g.A.App.law in
     let sealing = g.B.Body.sealing in
-    keeps_result law g.W.Stable.saving sealing c.args.world.now c.suspect.new.world c.drain.new.world c.args.stables.now c.suspect.new.stables c.drain.new.stables c.drain.result c.in_ok-came.ensures.keeps c.drain.ensures.keeps
+    keeps_then law g.W.Stable.saving sealing c.args.world.now c.suspect.new.world c.drain.new.world c.args.stables.now c.suspect.new.stables c.drain.new.stables c.in_ok-came.ensures.keeps c.drain.ensures.keeps
 
 pub returns-clause-rests : goal.returns-clause-rests
 returns-clause-rests g c =

@@ -4,19 +4,28 @@ use Rattle.std.proofs.lemmas.Result.{err_from_is_err_and}
 use Rattle.rv_base.specs.Pool.{past}
 use Rattle.rv_world.specs.World.{scene_in}
 use Rattle.std.specs.Prelude.{Option, ◌%◌, ◌/◌}
-use Rattle.rv_runs.specs.Schedule.{quorum_of}
+use Rattle.rv_runs.specs.Schedule.{Losing, quorum_of}
 use Rattle.closing.specs.declared.closed.Closed.{Closed}
 use Rattle.closing_laws.specs.Quorum.{has}
 use Rattle.closing.specs.Closing.{CameTo, Drained, EndsBy}
 use Rattle.closing.specs.Views.{most_view_of_a_closing, views_of_an_attempt}
 use Rattle.closing.proofs.Lists.{quorum_up}
-use Rattle.closing.proofs.Leading.{runs_again}
-use Rattle.closing.proofs.Parts.{begins, ends_done, ends_met, same_stop, suspected_more}
+use Rattle.closing.proofs.Leading.{halted_in, runs_again}
+use Rattle.closing.proofs.Parts.{begins, ends_done, ends_met, keeps_none, same_stop, suspected_more}
 use Rattle.closing.proofs.rest.close_cleared.Goals as goal
 
 pub closing_view-view-requires-clause-views : goal.closing_view-view-requires-clause-views
 closing_view-view-requires-clause-views g c =
     c.lawful.ensures.views most_view_of_a_closing c.requires.views
+
+pub returns-in_err-quorum-clause-closes : goal.returns-in_err-quorum-clause-closes
+returns-in_err-quorum-clause-closes g c =
+    let sealing = g.B.Body.sealing in
+    let p = err_from_is_err_and c.from_residual.result c.from_residual.ensures.1 in
+    rw (p.1, p.2) (λ kinds holds start s. halted_in (scene_in sealing c.args.world.now kinds) start c.args.world.now Losing s)
+
+pub returns-in_err-quorum-clause-keeps : goal.returns-in_err-quorum-clause-keeps
+returns-in_err-quorum-clause-keeps g c = keeps_none g.A.App.law g.W.Stable.saving g.B.Body.sealing c.args.world.now c.args.stables.now c.requires.pairs
 
 pub close_by-requires-clause-up : goal.close_by-requires-clause-up
 close_by-requires-clause-up g c =

@@ -1,16 +1,23 @@
 use Rattle.std.proofs.Common.{◌≡◌, ◌+◌, length, ◌∙◌, ap, arith}
+use Rattle.std.proofs.lemmas.Result.{err_from_is_err_and}
 use Rattle.rv_base.specs.Pool.{past}
 use Rattle.rv_runs.specs.Schedule.{Losing, majority}
 use Rattle.rv_world.specs.World.{scene_in}
 use Rattle.std.specs.Prelude.{◌/◌}
 use Rattle.closing.specs.Closing.{ClosesIn, EndsBy, StandsAt, up_in}
 use Rattle.closing.specs.Views.{most_view_of_a_closing, views_of_an_attempt}
-use Rattle.closing.proofs.Leading.{leads_then, runs_again}
-use Rattle.closing.proofs.Parts.{ends_few, keeps_result, suspected_more, views_result}
+use Rattle.closing.proofs.Leading.{halted_in, leads_then, runs_again}
+use Rattle.closing.proofs.Parts.{ends_few, keeps_then, suspected_more, views_result}
 use Rattle.closing.proofs.rest.close_once.Goals as goal
 
 pub members_up-requires : goal.members_up-requires
 members_up-requires g c = (c.requires.holds.0, c.in_ok-clear.ensures.keeps.holds c.requires.holds.0 c.requires.holds.1)
+
+pub returns-in_err-members-clause-closes : goal.returns-in_err-members-clause-closes
+returns-in_err-members-clause-closes g c =
+    let sealing = g.B.Body.sealing in
+    let p = err_from_is_err_and c.from_residual-in_err-members.result c.from_residual-in_err-members.ensures.1 in
+    rw (p.1, p.2) (λ kinds holds start s. halted_in (scene_in sealing c.args.world.now kinds) start c.clear.new.world Losing (c.in_ok-clear.ensures.closes kinds holds start s))
 
 pub returns-then-up-needed-clause-views : goal.returns-then-up-needed-clause-views
 returns-then-up-needed-clause-views g c =
@@ -39,7 +46,7 @@ pub returns-clause-keeps : goal.returns-clause-keeps
 returns-clause-keeps g c =
     let law = g.A.App.law in
     let sealing = g.B.Body.sealing in
-    keeps_result law g.W.Stable.saving sealing c.args.world.now c.clear.new.world c.close_cleared.new.world c.args.stables.now c.clear.new.stables c.close_cleared.new.stables c.close_cleared.result c.in_ok-clear.ensures.keeps c.close_cleared.ensures.keeps
+    keeps_then law g.W.Stable.saving sealing c.args.world.now c.clear.new.world c.close_cleared.new.world c.args.stables.now c.clear.new.stables c.close_cleared.new.stables c.in_ok-clear.ensures.keeps c.close_cleared.ensures.keeps
 
 pub returns-clause-views : goal.returns-clause-views
 returns-clause-views g c =

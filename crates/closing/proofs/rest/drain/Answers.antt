@@ -4,7 +4,7 @@ use Rattle.std.proofs.lemmas.Result.{err_from_is_err_and}
 use Rattle.rv_world.specs.World.{scene_in}
 use Rattle.closing.specs.Closing.{CameTo, Drained, Drains, LeadsTo, StandsAt, UpBy, up_in}
 use Rattle.closing.proofs.Leading.{leads_then}
-use Rattle.closing.proofs.Parts.{keeps_err, keeps_then, none_waits, not_over, over_came, rests_then, same_stop}
+use Rattle.closing.proofs.Parts.{keeps_then, none_waits, not_over, over_came, rests_then, same_stop}
 use Rattle.closing.proofs.rest.drain.Goals as goal
 
 pub drain_first-requires-clause-holds : goal.drain_first-requires-clause-holds
@@ -14,8 +14,7 @@ pub returns-in_err-came-clause-keeps : goal.returns-in_err-came-clause-keeps
 returns-in_err-came-clause-keeps g c =
     let law = g.A.App.law in
     let sealing = g.B.Body.sealing in
-    let p = err_from_is_err_and c.from_residual.result c.from_residual.ensures.1 in
-    rw (p.1, p.2) (keeps_err law g.W.Stable.saving sealing Came Came c.args.world.now c.draining.world c.drain_first.new.world c.args.stables.now c.draining.stables c.drain_first.new.stables c.in_err-came.field-0.0 c.draining.invariant.keeps c.in_err-came.ensures.keeps)
+    keeps_then law g.W.Stable.saving sealing c.args.world.now c.draining.world c.drain_first.new.world c.args.stables.now c.draining.stables c.drain_first.new.stables c.draining.invariant.keeps c.in_err-came.ensures.keeps
 
 pub returns-in_err-came-clause-drains : goal.returns-in_err-came-clause-drains
 returns-in_err-came-clause-drains g c =

@@ -3,7 +3,7 @@ use Rattle.std.proofs.lemmas.Result.{err_from_is_err_and}
 use Rattle.rv_runs.specs.Schedule.{Losing}
 use Rattle.closing.specs.Closing.{ClosesIn, StandsAt}
 use Rattle.closing.proofs.Leading.{leads_then}
-use Rattle.closing.proofs.Parts.{keeps_err, keeps_then, none_waits, rests_then}
+use Rattle.closing.proofs.Parts.{keeps_then, none_waits, rests_then}
 use Rattle.closing.proofs.rest.lose_all.Goals as goal
 
 pub lose_first-requires-clause-holds : goal.lose_first-requires-clause-holds
@@ -24,8 +24,7 @@ pub returns-in_err-lose_first-clause-keeps : goal.returns-in_err-lose_first-clau
 returns-in_err-lose_first-clause-keeps g c =
     let law = g.A.App.law in
     let sealing = g.B.Body.sealing in
-    let p = err_from_is_err_and c.from_residual.result c.from_residual.ensures.1 in
-    rw (p.1, p.2) (keeps_err law g.W.Stable.saving sealing (Unit {0}) (Unit {0}) c.args.world.now c.losing.world c.lose_first.new.world c.args.stables.now c.losing.stables c.lose_first.new.stables c.in_err-lose_first.field-0.0 c.losing.invariant.keeps c.in_err-lose_first.ensures.keeps)
+    keeps_then law g.W.Stable.saving sealing c.args.world.now c.losing.world c.lose_first.new.world c.args.stables.now c.losing.stables c.lose_first.new.stables c.losing.invariant.keeps c.in_err-lose_first.ensures.keeps
 
 pub returns-in_err-lose_first-clause-closes : goal.returns-in_err-lose_first-clause-closes
 returns-in_err-lose_first-clause-closes g c =

@@ -3,13 +3,11 @@ use Rattle.std.proofs.lemmas.Result.{err_from_is_err_and}
 use Rattle.rv_base.specs.Pool.{past}
 use Rattle.rv_runs.specs.Schedule.{Losing}
 use Rattle.rv_world.specs.World.{scene_in}
-use Rattle.std.specs.Prelude.{Option}
-use Rattle.closing.specs.declared.closed.Closed.{Closed}
 use Rattle.closing.specs.Closing.{ClosesIn, EndsBy, LeadsTo, StandsAt, UpTo, up_in}
 use Rattle.closing.specs.Views.{most_view_of_a_closing, most_view_of_a_script, views_of_an_attempt}
 use Rattle.closing.proofs.Ended.{has_ended}
 use Rattle.closing.proofs.Leading.{leads_then, runs_again}
-use Rattle.closing.proofs.Parts.{closes_first, few_up, keeps_err, keeps_none, keeps_then, stops_by, suspected_more}
+use Rattle.closing.proofs.Parts.{closes_first, few_up, keeps_none, keeps_then, stops_by, suspected_more}
 use Rattle.closing.proofs.rest.run.Goals as goal
 
 pub closing-init : goal.closing-init
@@ -33,8 +31,7 @@ pub returns-in_err-closed-clause-keeps : goal.returns-in_err-closed-clause-keeps
 returns-in_err-closed-clause-keeps g c =
     let law = g.A.App.law in
     let sealing = g.B.Body.sealing in
-    let p = err_from_is_err_and c.from_residual.result c.from_residual.ensures.1 in
-    rw (p.1, p.2) (keeps_err law g.W.Stable.saving sealing (Option Closed) Closed c.args.world.now c.closing.world c.close_once.new.world c.args.stables.now c.closing.stables c.close_once.new.stables c.in_err-closed.field-0.0 c.closing.invariant.keeps c.in_err-closed.ensures.keeps)
+    keeps_then law g.W.Stable.saving sealing c.args.world.now c.closing.world c.close_once.new.world c.args.stables.now c.closing.stables c.close_once.new.stables c.closing.invariant.keeps c.in_err-closed.ensures.keeps
 
 pub returns-in_err-closed-clause-stops : goal.returns-in_err-closed-clause-stops
 returns-in_err-closed-clause-stops g c =

@@ -6,7 +6,7 @@ use Rattle.closing.specs.Closing.{CameTo, Drains, LeadsTo, StandsAt, Suspects, U
 use Rattle.std.proofs.lemmas.List.{drop_all}
 use Rattle.closing.proofs.Lists.{drop_at}
 use Rattle.closing.proofs.Leading.{leads_then}
-use Rattle.closing.proofs.Parts.{keeps_err, keeps_then, not_over, over_came, rests_then, same_stop}
+use Rattle.closing.proofs.Parts.{keeps_then, not_over, over_came, rests_then, same_stop}
 use Rattle.closing.proofs.rest.suspect.Goals as goal
 
 pub suspect_next-requires-clause-holds : goal.suspect_next-requires-clause-holds
@@ -16,8 +16,7 @@ pub returns-in_err-came-clause-keeps : goal.returns-in_err-came-clause-keeps
 returns-in_err-came-clause-keeps g c =
     let law = g.A.App.law in
     let sealing = g.B.Body.sealing in
-    let p = err_from_is_err_and c.from_residual.result c.from_residual.ensures.1 in
-    rw (p.1, p.2) (keeps_err law g.W.Stable.saving sealing Came Came c.args.world.now c.suspecting.world c.suspect_next.new.world c.args.stables.now c.suspecting.stables c.suspect_next.new.stables c.in_err-came.field-0.0 c.suspecting.invariant.keeps c.in_err-came.ensures.keeps)
+    keeps_then law g.W.Stable.saving sealing c.args.world.now c.suspecting.world c.suspect_next.new.world c.args.stables.now c.suspecting.stables c.suspect_next.new.stables c.suspecting.invariant.keeps c.in_err-came.ensures.keeps
 
 pub returns-in_err-came-clause-suspects : goal.returns-in_err-came-clause-suspects
 returns-in_err-came-clause-suspects g c =

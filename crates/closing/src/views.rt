@@ -1,0 +1,38 @@
+//! Whether the views of a closing have room.
+ghost use Rattle.std.specs.Prelude.{◌↔◌, IsTrue};
+ghost use Rattle.rv_base.specs.Pool.{past};
+ghost use Rattle.rv_laws.specs.Laws.{EntrySuspectsUpTo, IsSuspectedUpTo};
+ghost use Rattle.closing.specs.Views.{most_view_of_a_script};
+
+use app_core::App;
+use rv_base::{JournalEntry, Local};
+use rv_bodies::Body;
+use rv_world::World;
+
+/// The greatest view that a step of a script suspects.
+const MOST_VIEW_OF_A_SCRIPT: u32 = 4_000_000_000;
+
+/// Whether an entry suspects no greater view.
+fn suspects_within<B>(entry: &JournalEntry<B>) -> bool
+    ensures { IsTrue result ↔ EntrySuspectsUpTo most_view_of_a_script entry.now }
+{
+    match entry {
+        JournalEntry::Local { input, .. } => match input {
+            Local::Suspect { view } => *view <= MOST_VIEW_OF_A_SCRIPT,
+            _ => true,
+        },
+        _ => true,
+    }
+}
+
+/// Whether `run` may close a world: no view above 4,000,000,000 was suspected in it.
+pub fn may_close<B: Body, A: App>(world: &World<B, A>) -> bool
+    ensures { IsTrue result ↔ IsSuspectedUpTo most_view_of_a_script (past world.now.journal) }
+{
+    for entry in world.journal() {
+        if !suspects_within(entry) {
+            return false;
+        }
+    }
+    true
+}

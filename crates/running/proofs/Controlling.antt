@@ -4,14 +4,15 @@ use Rattle.std.specs.Prelude.{Option, Some, None}
 use Rattle.app_core.specs.Law.{AppLaw}
 use Rattle.rv_base.specs.declared.journal.Actor.{Actor}
 use Rattle.rv_base.specs.declared.journal.JournalEntry.{JournalEntry}
+use Rattle.rv_base.specs.declared.journal.JournalEntry.TheVariants.{Refused}
 use Rattle.rv_base.specs.declared.journal.Letter.{Letter}
 use Rattle.rv_base.specs.declared.journal.Packet.{Packet}
 use Rattle.rv_base.specs.Turns.{posting}
 use Rattle.group_controller.specs.declared.messages.ControllerInput.{ControllerInput}
 use Rattle.group_controller.specs.declared.messages.ControllerInput.TheVariants as controller_input
 use Rattle.group_controller.specs.declared.messages.ControllerSays.{ControllerSays}
-use Rattle.group_controller.specs.Turns.{Controlling, Controls, Turns}
-use Rattle.rv_runs.specs.States.{Scene, controller_hears, controller_message, controller_speech}
+use Rattle.group_controller.specs.Turns.{Controlling, Controls, Turns, state_of}
+use Rattle.rv_runs.specs.States.{Scene, controller_hears, controller_message, controller_speech, crashed}
 use Rattle.rv_world.specs.Standing.{ControllerStands}
 use Rattle.rv_world.specs.World.{IsOwed}
 use Rattle.rv_world.proofs.Controlling as standing
@@ -40,3 +41,12 @@ module _ {B A : Type 0} (law : AppLaw A) (scene : Scene B) (c : ℕ) where
   controller_takes own old new e found input letters sealed pair_before pair_after before after hears h turn setup_is me_is keeps owes =
       let it = heard controller_speech scene.sealing e found input hears in
       standing.controller_takes law scene c own old new input letters sealed pair_before pair_after before after h turn e found it.0 it.1 setup_is me_is keeps owes
+
+  -- it finds no memory for it
+  pub controller_refuses : (own : List (JournalEntry B × Option (Packet B))) (old new : Controlling A) (a : Actor) (e : JournalEntry B) (found : Option (Packet B)) (input : ControllerInput) →
+      Hears scene.sealing controller_hears (λ l. controller_input.Local l) e found (Some input) → ControllerStands law scene c own old [] →
+      state_of new ≡ crashed (state_of old) → new.results ≡ old.results → new.setup ≡ old.setup → new.me ≡ old.me → Controls law new scene.kinds →
+      ControllerStands law scene c ((Refused a, None) ∷ (e, found) ∷ own) new []
+  controller_refuses own old new a e found input hears h down unsaved setup_is me_is keeps =
+      let it = heard controller_speech scene.sealing e found input hears in
+      standing.controller_refuses law scene c own old new input e found None a it.0 it.1 h down unsaved setup_is me_is keeps

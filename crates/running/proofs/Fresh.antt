@@ -118,9 +118,9 @@ module _ {B A W : Type 0} (law : AppLaw A) (saving : Saving W) (sealing : Sealin
         record {
           setup = ap (λ x. x.setup) now_is;
           holds = λ kinds holds. adopts kinds (subst (λ (x : Worlding B A). IsPlayed law sealing x kinds) (sym now_is) (played_with kinds (played kinds holds)).played);
-          pairs = subst (λ (x : Worlding B A). PairsStand saving stables_after x.controllers) (sym now_is) first.left_legal.pairs;
-          told = subst (λ (x : Worlding B A). AreTold saving stables stables_after w.controllers x.controllers) (sym now_is) first.left_legal.told;
-          beyond = first.left_legal.beyond;
+          pairs = subst (λ (x : Worlding B A). PairsStand saving stables_after x.controllers) (sym now_is) first.left_legal.paired.pairs;
+          told = subst (λ (x : Worlding B A). AreTold saving stables stables_after w.controllers x.controllers) (sym now_is) first.left_legal.paired.told;
+          beyond = first.left_legal.paired.beyond;
         }
 
     pub follows_apart : (kinds : List ℕ) → HasPlayedApart law saving sealing setup kinds steps controllers stables stables_after left →

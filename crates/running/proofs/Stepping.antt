@@ -130,7 +130,7 @@ module _ {B P : Type 0} (plays : List (JournalEntry B × Option (Packet B)) → 
   -- one that stops is as it was
   pub stops_in : (size : B → ℕ) (p q : PlaceState B) (player : P) (old new : List (Letter B)) (number : ℕ) (stop : Stop) → q.actor ≡ p.actor → p.own ≡ part p.actor (past p.seen) → q.own ≡ part q.actor (past q.seen) →
       PlaysOn plays steps number (record { place = p; player = player; owed = old }) → StopsAt size p q old new stop → StopsIn plays size steps (record { place = q; player = player; owed = new }) stop
-  stops_in size p q player old new number OutOfMemory same p_part q_part on h = tt
+  stops_in size p q player old new number OutOfMemory same p_part q_part on h = (p.own, old, on.plays_it)
   stops_in size p q player old new number (JournalFull bytes letters) same p_part q_part on h = record {
     number = number;
     on = plays_on p q player new number same (subst (λ o. plays q.own player o) (sym h.2) (subst (λ o. plays o player old) (sym h.0) on.plays_it))

@@ -30,11 +30,11 @@ use Rattle.running.specs.declared.run.Played.{Played}
 use Rattle.running.specs.declared.seated.Served.{Served}
 use Rattle.running.specs.declared.task.Task.{Task}
 use Rattle.running.specs.Apart.{BeginsApart, FollowsApart, IsCutFor}
-use Rattle.running.specs.Jobs.{EndsAs, IsAtEnd, IsSeatedIn}
+use Rattle.running.specs.Jobs.{HasPlayedSome, EndsAs, IsAtEnd, IsSeatedIn}
 use Rattle.running.specs.Playing.{ServedPlays, SwitchPlays, scene_of}
 use Rattle.running.specs.Runs.{actors_up_to, controller_of, first_stop, place_of, player_of, seated, served, stable_of, task_of}
 use Rattle.running.specs.Tasks.{WasRun, MayBegin}
-use Rattle.running.specs.Threads.{HaltsApart, HasPlayedApart, IsLeftLegal, StartsApart}
+use Rattle.running.specs.Threads.{IsLeftPaired, HaltsApart, HasPlayedApart, IsLeftLegal, StartsApart}
 use Rattle.running.specs.Together.{HavePlayed}
 use Rattle.running.proofs.Ends.{done_ends, stuck_ends}
 use Rattle.running.proofs.Joined as joined
@@ -261,6 +261,70 @@ module _ {B A W : Type 0} (law : AppLaw A) (saving : Saving W) (sealing : Sealin
     ended plays job (Some OutOfMemory) calm within ends = absurd (calm refl)
     ended plays job (Some (JournalFull bytes letters)) calm within ends = stuck_ends plays sealing.size steps job bytes letters within ends
 
+    -- however a job ended, its player is what some entries of its own make of it
+    played_some : {P : Type 0} (plays : List _ → P → List _ → Type 0) (job : Job B P) (o : Option Stop) → EndsAs plays sealing.size steps job o → HasPlayedSome plays job.player
+    played_some plays job None ends = (job.place.own, job.owed, ends.on.plays_it)
+    played_some plays job (Some OutOfMemory) ends = ends
+    played_some plays job (Some (JournalFull bytes letters)) ends = (job.place.own, job.owed, ends.on.plays_it)
+
+    plays_last : (c : ℕ) (there : c < setup.controllers) (s : IsServedAt c) → (e : HasEndedAs (ServedPlays law saving sealing) (actor.Controller c) (record { controller = s.controller; stable = s.stable }) h.members c) →
+        HasPlayedSome (ServedPlays law saving sealing setup kinds (actor.Controller c) (record { controller = s.controller; stable = s.stable })) e.task.job.player
+    plays_last c there s e =
+        let start : Served A W = record { controller = s.controller; stable = s.stable } in
+        let plays = ServedPlays law saving sealing setup kinds (actor.Controller c) start in
+        played_some plays e.task.job e.task.stop (e.ran.ends setup kinds start (job_fresh plays steps id (actor.Controller c) start s.plays))
+
+    -- a controller as it was left, with what it saved to
+    controller_left : (c : ℕ) (t : Task B (Served A W)) → slice_get h.members c ≡ Some t → slice_get played.controllers.items c ≡ Some t.job.player.controller
+    controller_left c t stands = ap (λ (l : List (Controlling A)). slice_get l c) h.controllers_are ∙ got_map controller_of (map player_of h.members) c t.job.player (got_map player_of h.members c t stands)
+
+    stable_left : (c : ℕ) (t : Task B (Served A W)) → slice_get h.members c ≡ Some t → slice_get stables_after c ≡ Some t.job.player.stable
+    stable_left c t stands =
+        ap (λ (l : List W). slice_get l c) h.stables_are ∙ slice_get-append (map stable_of (map player_of h.members)) (drop (length controllers) stables) c t.job.player.stable
+        (got_map stable_of (map player_of h.members) c t.job.player (got_map player_of h.members c t stands))
+
+    controllers_long : length played.controllers.items ≡ setup.controllers
+    controllers_long = ap length h.controllers_are ∙ map_long controller_of (map player_of h.members) ∙ map_long player_of h.members ∙ members_same
+
+    pairs : PairsStand saving stables_after played.controllers.items
+    pairs c x found =
+        let within = slice_get_within played.controllers.items c x found in
+        let long = controllers_long in
+        let there : c < setup.controllers = omega (arith, within, long) in
+        let s = served_at c there in
+        let e = controller_ends c there s in (
+          e.task.job.player.stable,
+          stable_left c e.task e.stands,
+          (plays_last c there s e).2.pair_is ∙ ap (λ (y : Controlling A). pair_in (state_of y)) (some_is x e.task.job.player.controller (sym found ∙ controller_left c e.task e.stands)),
+        )
+
+    told : AreTold saving stables stables_after controllers played.controllers.items
+    told c x stable found stable_found =
+        let within = slice_get_within controllers c x found in
+        let group = group_is in
+        let there : c < setup.controllers = omega (arith, within, group) in
+        let s = served_at c there in
+        let e = controller_ends c there s in (
+          e.task.job.player.controller,
+          e.task.job.player.stable,
+          controller_left c e.task e.stands,
+          stable_left c e.task e.stands,
+          subst (λ (z : W). SavesTold (saving.faults z) (saving.faults e.task.job.player.stable) x.results e.task.job.player.controller.results)
+              (some_is stable s.stable (sym stable_found ∙ s.stable_stands))
+              (subst (λ (y : Controlling A). SavesTold (saving.faults s.stable) (saving.faults e.task.job.player.stable) y.results e.task.job.player.controller.results)
+              (some_is x s.controller (sym found ∙ s.controller_stands)) (plays_last c there s e).2.told),
+        )
+
+    rest : drop setup.controllers stables_after ≡ drop setup.controllers stables
+    rest =
+        let long = map_long stable_of (map player_of h.members) ∙ map_long player_of h.members ∙ members_same in
+        ap (λ (l : List W). drop setup.controllers l) h.stables_are ∙
+        ap (λ (n : ℕ). drop n (map stable_of (map player_of h.members) ++ drop (length controllers) stables)) (sym long) ∙
+        drop-append_seam (map stable_of (map player_of h.members)) (drop (length controllers) stables) ∙ ap (λ (n : ℕ). drop n stables) group_is
+
+    pub left_paired : IsLeftPaired saving setup controllers stables stables_after played.controllers.items
+    left_paired = record { group = controllers_long; pairs = pairs; told = told; beyond = λ i past. same_behind setup.controllers stables_after stables rest i past }
+
     module _ (members_calm : AreCalm h.members) (others_calm : AreCalm h.others) where
       controller_seated : (c : ℕ) (there : c < setup.controllers) (s : IsServedAt c) →
           IsSeatedIn (ServedPlays law saving sealing setup kinds (actor.Controller c) (record { controller = s.controller; stable = s.stable })) steps wire (actor.Controller c) member_jobs c
@@ -329,63 +393,8 @@ module _ {B A W : Type 0} (law : AppLaw A) (saving : Saving W) (sealing : Sealin
       left_members = subst (λ (cs : List (Controlling A)). (c : ℕ) → c < setup.controllers → IsMember law (scene_of sealing setup kinds) (results_in cs) (past wire) cs c) members_are
           (joined.are_members law saving sealing setup kinds steps wire member_jobs other_jobs started h.orderly named jobs_long other_jobs_long joins_controllers switch_seated)
 
-      plays_last : (c : ℕ) (there : c < setup.controllers) (s : IsServedAt c) → (e : HasEndedAs (ServedPlays law saving sealing) (actor.Controller c) (record { controller = s.controller; stable = s.stable }) h.members c) →
-          ServedPlays law saving sealing setup kinds (actor.Controller c) (record { controller = s.controller; stable = s.stable }) e.task.job.place.own e.task.job.player e.task.job.owed
-      plays_last c there s e =
-          let start : Served A W = record { controller = s.controller; stable = s.stable } in
-          (ended (ServedPlays law saving sealing setup kinds (actor.Controller c) start) e.task.job e.task.stop (members_calm c e.task e.stands) e.ran.stands.within
-          (e.ran.ends setup kinds start (job_fresh (ServedPlays law saving sealing setup kinds (actor.Controller c) start) steps id (actor.Controller c) start s.plays))).on.plays_it
-
-      -- a controller as it was left, with what it saved to
-      controller_left : (c : ℕ) (t : Task B (Served A W)) → slice_get h.members c ≡ Some t → slice_get played.controllers.items c ≡ Some t.job.player.controller
-      controller_left c t stands = ap (λ (l : List (Controlling A)). slice_get l c) h.controllers_are ∙ got_map controller_of (map player_of h.members) c t.job.player (got_map player_of h.members c t stands)
-
-      stable_left : (c : ℕ) (t : Task B (Served A W)) → slice_get h.members c ≡ Some t → slice_get stables_after c ≡ Some t.job.player.stable
-      stable_left c t stands =
-          ap (λ (l : List W). slice_get l c) h.stables_are ∙ slice_get-append (map stable_of (map player_of h.members)) (drop (length controllers) stables) c t.job.player.stable
-          (got_map stable_of (map player_of h.members) c t.job.player (got_map player_of h.members c t stands))
-
-      controllers_long : length played.controllers.items ≡ setup.controllers
-      controllers_long = ap length h.controllers_are ∙ map_long controller_of (map player_of h.members) ∙ map_long player_of h.members ∙ members_same
-
-      pairs : PairsStand saving stables_after played.controllers.items
-      pairs c x found =
-          let within = slice_get_within played.controllers.items c x found in
-          let long = controllers_long in
-          let there : c < setup.controllers = omega (arith, within, long) in
-          let s = served_at c there in
-          let e = controller_ends c there s in (
-            e.task.job.player.stable,
-            stable_left c e.task e.stands,
-            (plays_last c there s e).pair_is ∙ ap (λ (y : Controlling A). pair_in (state_of y)) (some_is x e.task.job.player.controller (sym found ∙ controller_left c e.task e.stands)),
-          )
-
-      told : AreTold saving stables stables_after controllers played.controllers.items
-      told c x stable found stable_found =
-          let within = slice_get_within controllers c x found in
-          let group = group_is in
-          let there : c < setup.controllers = omega (arith, within, group) in
-          let s = served_at c there in
-          let e = controller_ends c there s in (
-            e.task.job.player.controller,
-            e.task.job.player.stable,
-            controller_left c e.task e.stands,
-            stable_left c e.task e.stands,
-            subst (λ (z : W). SavesTold (saving.faults z) (saving.faults e.task.job.player.stable) x.results e.task.job.player.controller.results)
-                (some_is stable s.stable (sym stable_found ∙ s.stable_stands))
-                (subst (λ (y : Controlling A). SavesTold (saving.faults s.stable) (saving.faults e.task.job.player.stable) y.results e.task.job.player.controller.results)
-                (some_is x s.controller (sym found ∙ s.controller_stands)) (plays_last c there s e).told),
-          )
-
-      rest : drop setup.controllers stables_after ≡ drop setup.controllers stables
-      rest =
-          let long = map_long stable_of (map player_of h.members) ∙ map_long player_of h.members ∙ members_same in
-          ap (λ (l : List W). drop setup.controllers l) h.stables_are ∙
-          ap (λ (n : ℕ). drop n (map stable_of (map player_of h.members) ++ drop (length controllers) stables)) (sym long) ∙
-          drop-append_seam (map stable_of (map player_of h.members)) (drop (length controllers) stables) ∙ ap (λ (n : ℕ). drop n stables) group_is
-
       pub left_legal : IsLeftLegal law saving sealing setup kinds controllers stables stables_after played
-      left_legal = record { legal = legal; within = h.within; members = left_members; pairs = pairs; told = told; beyond = λ i past. same_behind setup.controllers stables_after stables rest i past }
+      left_legal = record { legal = legal; within = h.within; members = left_members; paired = left_paired }
 
       -- where each did all of its steps
       module _ (members_done : (i : ℕ) (t : Task B (Served A W)) → slice_get h.members i ≡ Some t → t.stop ≡ None) (others_done : (i : ℕ) (t : Task B SwitchState) → slice_get h.others i ≡ Some t → t.stop ≡ None) where
@@ -475,7 +484,7 @@ module _ {B A W : Type 0} (law : AppLaw A) (saving : Saving W) (sealing : Sealin
         (none_stopped None h.members first) (none_stopped (first_stop None h.members) h.others its)
 
     pub some_stops : (why : Stop) → stop ≡ Some why → HaltsApart law saving sealing setup kinds steps controllers stables stables_after played why
-    some_stops OutOfMemory is = tt
+    some_stops OutOfMemory is = left_paired
     some_stops (JournalFull bytes letters) is = (left_legal members_calm others_calm, by_who (who_stopped (first_stop None h.members) h.others (JournalFull bytes letters) its))
       where
         its : first_stop (first_stop None h.members) h.others ≡ Some (JournalFull bytes letters)

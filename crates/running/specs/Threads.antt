@@ -33,16 +33,21 @@ pub record StartsApart {A W : Type 0} (law : AppLaw A) (saving : Saving W) (setu
   pub pairs : PairsStand saving stables controllers
   pub named : AllByRecursion (λ t. IsActor setup (turn_actor t)) steps
 
--- What threads left, whatever became of them but for want of memory: a legal journal, with the results of the saves that the controllers
--- kept, and the controllers that it gives. Their stable pairs stand, and their counts of faults rose with each save that failed
+-- What threads left, whatever became of them: the stable pairs of all controllers stand, and their counts of faults rose with each save that
+-- failed
+pub record IsLeftPaired {A W : Type 0} (saving : Saving W) (setup : Setup) (before : List (Controlling A)) (stables stables_after : List W) (controllers : List (Controlling A)) : Type 0 where
+  pub group : length controllers ≡ setup.controllers
+  pub pairs : PairsStand saving stables_after controllers
+  pub told : AreTold saving stables stables_after before controllers
+  pub beyond : (i : ℕ) → setup.controllers ≤ i → slice_get stables_after i ≡ slice_get stables i
+
+-- and but for want of memory: a legal journal, with the results of the saves that the controllers kept, and the controllers that it gives
 pub record IsLeftLegal {B A W : Type 0} (law : AppLaw A) (saving : Saving W) (sealing : Sealing B) (setup : Setup) (kinds : List ℕ)
     (before : List (Controlling A)) (stables stables_after : List W) (left : Played B A) : Type 0 where
   pub legal : IsLegalPast (scene_of sealing setup kinds) (results_in left.controllers.items) (past left.wire)
   pub within : IsWithinLimits sealing.size (past left.wire)
   pub members : (c : ℕ) → c < setup.controllers → IsMember law (scene_of sealing setup kinds) (results_in left.controllers.items) (past left.wire) left.controllers.items c
-  pub pairs : PairsStand saving stables_after left.controllers.items
-  pub told : AreTold saving stables stables_after before left.controllers.items
-  pub beyond : (i : ℕ) → setup.controllers ≤ i → slice_get stables_after i ≡ slice_get stables i
+  pub paired : IsLeftPaired saving setup before stables stables_after left.controllers.items
 
 -- the threads did all steps: a world may take over what they left, and each actor's inputs are its own steps in order
 pub record HasPlayedApart {B A W : Type 0} (law : AppLaw A) (saving : Saving W) (sealing : Sealing B) (setup : Setup) (kinds : List ℕ) (steps : List Turn)
@@ -51,10 +56,11 @@ pub record HasPlayedApart {B A W : Type 0} (law : AppLaw A) (saving : Saving W) 
   pub follows : FollowsApart (scene_of sealing setup kinds) (results_in left.controllers.items) steps (past left.wire)
   pub played : IsPlayed law sealing (resting setup left.wire left.controllers.items left.switches.items) kinds
 
--- why threads were cut short
+-- why threads were cut short, and what they left
 abbrev pub HaltsApart : {B A W : Type 0} → AppLaw A → Saving W → Sealing B → Setup → List ℕ → List Turn →
     List (Controlling A) → List W → List W → Played B A → Stop → Type 0
-HaltsApart law saving sealing setup kinds steps before stables stables_after left OutOfMemory = Unit {0}
+HaltsApart law saving sealing setup kinds steps before stables stables_after left OutOfMemory =
+    IsLeftPaired saving setup before stables stables_after left.controllers.items
 HaltsApart law saving sealing setup kinds steps before stables stables_after left (JournalFull bytes letters) =
     IsLeftLegal law saving sealing setup kinds before stables stables_after left
     × BeginsApart (scene_of sealing setup kinds) (results_in left.controllers.items) steps bytes letters (past left.wire)

@@ -1,5 +1,5 @@
 //! Actors that play their own steps: a switch, and a controller beside what it saves to.
-ghost use Rattle.std.specs.Prelude.{◌≡◌, ◌∷◌, ℕ, ◌++◌, List, Option, Some, None, [], IfOk};
+ghost use Rattle.std.specs.Prelude.{◌≡◌, ◌∷◌, ℕ, ◌++◌, List, Option, Some, None, [], IfOk, OnErr};
 ghost use Rattle.of_types.specs.declared.setup.Setup.{Setup};
 ghost use Rattle.rv_base.specs.declared.journal.Actor.{Actor};
 ghost use Rattle.rv_base.specs.declared.journal.JournalEntry.{JournalEntry};
@@ -9,6 +9,7 @@ ghost use Rattle.rv_base.specs.Turns.{posting};
 ghost use Rattle.group_controller.specs.Turns.{Controls};
 ghost use Rattle.switch_board.specs.Calls.{beside};
 ghost use Rattle.running.specs.Hearing.{Hears};
+ghost use Rattle.running.specs.Jobs.{HasPlayedSome};
 ghost use Rattle.running.specs.Playing.{ServedPlays, SwitchPlays};
 
 use app_core::App;
@@ -36,14 +37,18 @@ pub trait Seated<B: Body>: Player {
             Hears B.sealing Self.hears Self.locally e found None →
             plays setup kinds a start own self.now [] → plays setup kinds a start ((e, found) ∷ own) self.now [] };
 
-    /// Takes an input, and says what it says, sealed.
+    /// Takes an input, and says what it says, sealed. Where it finds no memory, what it says is lost, or its input is refused.
     fn take(&mut self, alloc: Global, input: Self::Input) -> Result<Letters<B>, AllocError>
         requires { (setup : Setup) × (kinds : List ℕ) × (a : Actor) × (start : Self) × (own : List (JournalEntry B × Option (Packet B))) ×
             plays setup kinds a start own self.old [] }
-        ensures { (setup : Setup) (kinds : List ℕ) (a : Actor) (start : Self) (own : List (JournalEntry B × Option (Packet B)))
+        ensures takes { (setup : Setup) (kinds : List ℕ) (a : Actor) (start : Self) (own : List (JournalEntry B × Option (Packet B)))
             (e : JournalEntry B) (found : Option (Packet B)) →
             Hears B.sealing Self.hears Self.locally e found (Some input) → plays setup kinds a start own self.old [] →
-            IfOk result (λ letters. plays setup kinds a start ((e, found) ∷ own) self.new letters) };
+            IfOk result (λ letters. plays setup kinds a start ((e, found) ∷ own) self.new letters) }
+        ensures wants { (setup : Setup) (kinds : List ℕ) (a : Actor) (start : Self) (own : List (JournalEntry B × Option (Packet B)))
+            (e : JournalEntry B) (found : Option (Packet B)) →
+            Hears B.sealing Self.hears Self.locally e found (Some input) → plays setup kinds a start own self.old [] →
+            OnErr result (HasPlayedSome (plays setup kinds a start) self.new) };
 }
 
 impl<B: Body> Seated<B> for Switch {
@@ -80,6 +85,10 @@ impl<A: App, W: Stable> Player for Served<A, W> {
 
     fn hear(alloc: Global, from: rv_base::Actor, unsealed: Unsealed) -> ControllerInput {
         Controller::<A>::hear(alloc, from, unsealed)
+    }
+
+    fn fits(says: &ControllerSays) {
+        Controller::<A>::fits(says)
     }
 
     fn seal<C: Body>(alloc: Global, says: &ControllerSays) -> Result<C, AllocError> {

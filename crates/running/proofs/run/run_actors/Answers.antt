@@ -1,10 +1,11 @@
-use Rattle.std.proofs.Common.{length, map, drop, sym, ◌∙◌, ap, subst}
+use Rattle.std.proofs.Common.{length, map, drop, refl, sym, ◌∙◌, ap, subst}
 use Rattle.std.specs.Prelude.{All}
 use Rattle.switch_board.specs.Places.{fresh}
 use Rattle.running.specs.Playing.{ServedPlays, SwitchPlays}
 use Rattle.running.specs.Runs.{actors_up_to, seated, served}
 use Rattle.running.specs.Tasks.{MayBegin}
 use Rattle.running.specs.Together.{HavePlayed}
+use Rattle.rv_world.proofs.Turning.{none_told}
 use Rattle.running.proofs.Together as together
 use Rattle.running.proofs.run.run_actors.Goals as goal
 
@@ -51,3 +52,11 @@ returns-in-Some-clause-halts g c = λ kinds starts.
     c.play_together-played.new.stables.items c.play_together-played.result.0 c.play_together-played.result.1
     (subst (λ p. HavePlayed law saving sealing c.args.steps.now p c.args.controllers.items c.args.switches.items c.args.stables.now.items c.play_together-played.new.stables.items c.play_together-played.result.0 c.play_together-played.result.1)
     places_are c.play_together-played.ensures) c.in-Some.stop c.in-Some.is
+
+pub returns-in_default-clause-halts : goal.returns-in_default-clause-halts
+returns-in_default-clause-halts g c = λ kinds starts. record {
+  group = starts.members.group;
+  pairs = starts.pairs;
+  told = none_told g.W.Stable.saving c.args.stables.now.items c.args.controllers.items;
+  beyond = λ i past. refl;
+}

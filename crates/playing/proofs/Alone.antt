@@ -109,7 +109,7 @@ written n xs ys all long = ap (λ m. take m (xs ++ drop (length xs) ys)) (all �
 -- why threads stopped is why the run was cut short
 pub thread_halts : {B A W : Type 0} (law : AppLaw A) (saving : Saving W) (sealing : Sealing B) (steps : List Turn) (kinds : List ℕ) (first : Worlding B A) (stables stables_after : List W) (left : Played B A) (stop : Stop) →
     HaltsApart law saving sealing first.setup kinds steps first.controllers stables stables_after left stop → HaltsAs law saving sealing steps kinds first stables stables_after left stop
-thread_halts law saving sealing steps kinds first stables stables_after left OutOfMemory h = tt
+thread_halts law saving sealing steps kinds first stables stables_after left OutOfMemory h = h
 thread_halts law saving sealing steps kinds first stables stables_after left (JournalFull bytes letters) h = (h.0, In_the_script h.1)
 
 -- a majority of the group that began

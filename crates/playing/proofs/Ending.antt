@@ -1,6 +1,6 @@
 -- A script was followed, and then a closing went on in its world.
 use Rattle.std.proofs.Common.{◌≡◌, ℕ, List, ◌++◌, length, sym, ◌∙◌, ap, subst}
-use Rattle.std.specs.Prelude.{reverse, Err}
+use Rattle.std.specs.Prelude.{reverse}
 use Rattle.rv_base.specs.declared.journal.SaveResult.{SaveResult}
 use Rattle.rv_base.specs.declared.journal.Turn.{Turn}
 use Rattle.rv_base.specs.declared.wire.Stop.{Stop}
@@ -10,7 +10,7 @@ use Rattle.rv_base.specs.Stables.{Saving}
 use Rattle.app_core.specs.Law.{AppLaw}
 use Rattle.rv_runs.specs.Schedule.{Closes, ClosesTo, FollowsInOrder, In_the_closing, IsJournalFull, Losing, Phase}
 use Rattle.rv_runs.specs.States.{Scene, Sealing}
-use Rattle.rv_world.specs.World.{AreMore, Holds, IfMemory, Keeps, Worlding, results_in, scene_in}
+use Rattle.rv_world.specs.World.{AreMore, Holds, Keeps, Worlding, results_in, scene_in}
 use Rattle.rv_world.proofs.Growing.{more_then, no_more}
 use Rattle.rv_world.proofs.Turning.{keeps_then}
 use Rattle.closing.specs.declared.closed.Closed.{Closed}
@@ -21,8 +21,10 @@ use Rattle.rv_base.specs.declared.journal.JournalEntry.{JournalEntry}
 use Rattle.rv_base.specs.Turns.{IsWithinLimits}
 use Rattle.running.specs.declared.run.Played.{Played}
 use Rattle.running.specs.Apart as apart
+use Rattle.running.specs.Threads.{IsLeftPaired}
 use Rattle.playing.specs.Manners.{Manner, In_order, Apart, Begins, Follows}
 use Rattle.playing.specs.Played.{HaltsAs, HasFollowed, HasPlayed, Lastingly, RunStops}
+use Rattle.playing.specs.Played as halted
 use Rattle.playing.proofs.Stopping.{stuck_full}
 
 -- a closing behind a script that was done in this manner is cut short
@@ -73,29 +75,32 @@ module _ {B A W : Type 0} (law : AppLaw A) (saving : Saving W) (sealing : Sealin
         (subst (λ (scene : Scene B). ClosesTo scene results Losing (past now.journal) c.closes.entries c.phase) (later_scene kinds) (c.closes.steps results more))
         (subst (λ l. IsJournalFull (scene_in sealing first kinds) results l bytes letters) past_is full))
 
+  -- why the closing stopped is why playing did
   pub closing_stops : (kinds : List ℕ) → Holds law sealing first kinds → Lastingly now (λ later. FollowsInOrder (scene_in sealing first kinds) later steps (past now.journal)) →
       Keeps law saving sealing now stables_now last stables_last → (stop : Stop) → ClosingStops (scene_in sealing now kinds) now last stop → RunStops (scene_in sealing first kinds) steps last stop
-  closing_stops kinds holds follows goes_on OutOfMemory c = tt
+  closing_stops kinds holds follows goes_on OutOfMemory c =
+      halted.In_the_closing now.journal c.entries c.refusal c.joined c.refused
+      (λ later more.
+      let same = subst (λ s. AreMore s.controllers (results_in last.controllers) later) goes_on.setup more in
+      let b = c.begins later same in (
+        follows later (more_now In_order kinds holds follows goes_on later same),
+        (b.0, subst (λ (scene : Scene B). ClosesTo scene later Losing (past now.journal) c.entries b.0) (later_scene kinds) b.1),
+      ))
   closing_stops kinds holds follows goes_on (JournalFull bytes letters) c = cut In_order kinds holds follows goes_on bytes letters c
 
-  -- what a closing that stopped keeps
-  pub closing_keeps : (stop : Stop) → IfMemory {T = Unit {0}} (Err stop) (Keeps law saving sealing now stables_now last stables_last) → IfMemory {T = Unit {0}} (Err stop) (Keeps law saving sealing first stables last stables_last)
-  closing_keeps OutOfMemory k = tt
-  closing_keeps (JournalFull bytes letters) k = keeps_then law saving sealing first now last stables stables_now stables_last keeps k
-
-  -- and where it stopped, if memory was there
-  pub closing_stops_at : (stop : Stop) → IfMemory {T = Unit {0}} (Err stop) (Keeps law saving sealing now stables_now last stables_last) → (kinds : List ℕ) → Holds law sealing first kinds →
-      Lastingly now (λ later. FollowsInOrder (scene_in sealing first kinds) later steps (past now.journal)) →
-      ClosingStops (scene_in sealing now kinds) now last stop → RunStops (scene_in sealing first kinds) steps last stop
-  closing_stops_at OutOfMemory k kinds holds follows c = tt
-  closing_stops_at (JournalFull bytes letters) k kinds holds follows c = closing_stops kinds holds follows k (JournalFull bytes letters) c
-
   -- what is left where actors played apart, and the closing stopped
+  paired : (kinds : List ℕ) → Holds law sealing first kinds → Keeps law saving sealing now stables_now last stables_last → (left : Played B A) → left.controllers.items ≡ last.controllers →
+      IsLeftPaired saving first.setup first.controllers stables stables_last left.controllers.items
+  paired kinds holds k left controllers_are =
+      let all = keeps_then law saving sealing first now last stables stables_now stables_last keeps k in
+      let runs = runs_again law sealing first last kinds all.setup (all.holds kinds holds) in
+      record { group = rw controllers_are runs.group; pairs = rw controllers_are all.pairs; told = rw controllers_are all.told; beyond = all.beyond }
+
   pub closing_halts : (kinds : List ℕ) → Holds law sealing first kinds → HasFollowed Apart (scene_in sealing first kinds) steps now →
-      (stop : Stop) → IfMemory {T = Unit {0}} (Err stop) (Keeps law saving sealing now stables_now last stables_last) → IsWithinLimits sealing.size (past last.journal) →
+      (stop : Stop) → Keeps law saving sealing now stables_now last stables_last → IsWithinLimits sealing.size (past last.journal) →
       ClosingStops (scene_in sealing now kinds) now last stop →
       (left : Played B A) → left.wire ≡ last.journal → left.controllers.items ≡ last.controllers → HaltsAs law saving sealing steps kinds first stables stables_last left stop
-  closing_halts kinds holds follows OutOfMemory k within c left wire_is controllers_are = tt
+  closing_halts kinds holds follows OutOfMemory k within c left wire_is controllers_are = paired kinds holds k left controllers_are
   closing_halts kinds holds follows (JournalFull bytes letters) k within c left wire_is controllers_are =
       let all = keeps_then law saving sealing first now last stables stables_now stables_last keeps k in
       let runs = runs_again law sealing first last kinds all.setup (all.holds kinds holds) in
@@ -104,9 +109,7 @@ module _ {B A W : Type 0} (law : AppLaw A) (saving : Saving W) (sealing : Sealin
           legal = rw (wire_is, results) runs.legal;
           within = rw wire_is within;
           members = rw (wire_is, controllers_are) runs.controllers;
-          pairs = rw controllers_are all.pairs;
-          told = rw controllers_are all.told;
-          beyond = all.beyond;
+          paired = paired kinds holds k left controllers_are;
         },
         rw (wire_is, results) (cut Apart kinds holds follows k bytes letters c),
       )

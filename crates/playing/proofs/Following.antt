@@ -1,10 +1,11 @@
 -- A script is followed step by step.
-use Rattle.std.proofs.Common.{◌≡◌, ◌⊎◌, inl, inr, ℕ, ◌+◌, Bool, true, false, List, [], ◌∷◌, ◌++◌, length, refl, sym, ◌∙◌, ap, subst, arith}
-use Rattle.std.specs.Prelude.{count_by, reverse, slice_get, Option, Some, None, Err, if◌then◌else◌}
+use Rattle.std.proofs.Common.{◌≡◌, ◌⊎◌, inl, inr, ℕ, ◌+◌, Bool, true, false, List, [], ◌∷◌, ◌++◌, length, refl, sym, ◌∙◌, ap, subst, arith, append-nil}
+use Rattle.std.specs.Prelude.{count_by, reverse, slice_get, Option, Some, None, if◌then◌else◌}
 use Rattle.std.proofs.lemmas.List.Sums.{sum_by-append}
+use Rattle.of_types.specs.declared.setup.Setup.{Setup}
 use Rattle.rv_base.specs.declared.journal.Actor.{Actor}
 use Rattle.rv_base.specs.declared.journal.JournalEntry.{JournalEntry}
-use Rattle.rv_base.specs.declared.journal.JournalEntry.TheVariants.{Post}
+use Rattle.rv_base.specs.declared.journal.JournalEntry.TheVariants.{Post, Refused}
 use Rattle.rv_base.specs.declared.journal.Packet.{Packet}
 use Rattle.rv_base.specs.declared.journal.SaveResult.{SaveResult}
 use Rattle.rv_base.specs.declared.journal.Turn.{Turn}
@@ -13,21 +14,25 @@ use Rattle.rv_base.specs.declared.wire.Stop.{Stop}
 use Rattle.rv_base.specs.declared.wire.Stop.TheVariants.{OutOfMemory, JournalFull}
 use Rattle.rv_base.specs.Actors.{actor_of, is_input, same_actor, IsActor}
 use Rattle.rv_base.specs.Pool.{past, pick}
+use Rattle.rv_base.specs.Refusals.{MayBeRefused}
 use Rattle.rv_base.specs.Turns.{drawn_entry, entry_of, lost_entry, turn_actor}
+use Rattle.rv_base.proofs.Lists.{past-push}
 use Rattle.rv_base.specs.Stables.{Saving}
 use Rattle.app_core.specs.Law.{AppLaw}
 use Rattle.rv_laws.specs.Laws.{EntrySuspectsUpTo, IsSuspectedUpTo}
-use Rattle.rv_runs.specs.Schedule.{FollowsInOrder, IsBegun, In_the_script, IsStepOf, TakesInOrder, inputs}
+use Rattle.rv_runs.specs.Schedule.{FollowsInOrder, IsBegun, In_the_script, IsPosted, IsStepOf, TakesInOrder, inputs}
 use Rattle.rv_runs.specs.States.{Scene, Sealing}
-use Rattle.rv_world.specs.World.{AreMore, Applies, Holds, IfMemory, IsStuck, Keeps, PairsStand, TurnStops, Worlding, posts_of, results_in, scene_in, taken}
-use Rattle.rv_world.specs.declared.debt.Debt.{Debt}
-use Rattle.rv_world.proofs.Growing.{no_more}
+use Rattle.rv_world.specs.Refusals.{IsHalted, IsRefusal, None_stands, One_stands, Posted, Turned_down, TurnStops, Unchanged, Unposted}
+use Rattle.rv_world.specs.World.{AreMore, Applies, Holds, IsStuck, Keeps, PairsStand, Worlding, results_in, scene_in, taken, with_posts}
+use Rattle.rv_world.specs.Debts.{Debt}
+use Rattle.rv_world.proofs.Growing.{more_then, no_more}
 use Rattle.rv_world.proofs.Turning.{keeps_then, rests_keeps}
 use Rattle.closing.proofs.Leading.{runs_again, turned, turned_by}
-use Rattle.closing.proofs.Turned.{Added, No_post, One_post, PostsOf, Turned, added_alone, more_before, past_new}
+use Rattle.closing.proofs.Turned.{Added, No_post, One_post, PostsOf, Turned, added_alone, more_before, more_told, owed_nothing, past_new}
 use Rattle.closing.proofs.Worlds.{posted_is}
 use Rattle.playing.proofs.Stopping.{same_self, stuck_full}
-use Rattle.playing.specs.Played.{Lastingly, RunStops, StepSuspectsUpTo}
+use Rattle.playing.specs.Played.{IsHaltedIn, Lastingly, RunStops, StepSuspectsUpTo}
+use Rattle.playing.specs.Played as halted
 
 -- the entry of the next step is that of a step
 step_of : {B : Type 0} (steps : List Turn) (step : Turn) (before : List (JournalEntry B)) → slice_get steps (inputs before) ≡ Some step → IsStepOf steps (entry_of step before) before
@@ -173,12 +178,50 @@ module _ {B A W : Type 0} (law : AppLaw A) (saving : Saving W) (sealing : Sealin
               (subst (λ scene. TakesInOrder scene later steps (past old.journal)) (sym (later_scene kinds)) (at.takes kinds h later (more_before law (scene_in sealing old kinds) e old new u later more_now))));
         }
 
-    -- the turn met the limit of the journal
-    pub stops_next : (stop : Stop) → Keeps law saving sealing old stables_old new stables_new ⊎ (stop ≡ OutOfMemory) → TurnStops sealing.size step old new stop → (kinds : List ℕ) → Holds law sealing first kinds →
+    -- what becomes of later saves becomes of them behind what was taken before
+    more_old : Keeps law saving sealing old stables_old new stables_new → (kinds : List ℕ) → Holds law sealing first kinds → (later : List (List SaveResult)) →
+        AreMore new.setup.controllers (results_in new.controllers) later → AreMore old.setup.controllers (results_in old.controllers) later
+    more_old k kinds h later more =
+        more_then old.setup.controllers (results_in old.controllers) (results_in new.controllers) later
+        (more_told law (scene_in sealing old kinds) saving old new stables_old stables_new (at.keeps.holds kinds h).run at.keeps.pairs k.told)
+        (subst (λ (s : Setup). AreMore s.controllers (results_in new.controllers) later) k.setup more)
+
+    -- the entry of the step stands behind it
+    taken_entry : Keeps law saving sealing old stables_old new stables_new → (kinds : List ℕ) → Holds law sealing first kinds →
+        Lastingly new (λ later. TakesInOrder (scene_in sealing first kinds) later steps (past (old.journal ++ e ∷ [])))
+    taken_entry k kinds h later more =
+        let was = more_old k kinds h later more in
+        subst (λ (l : List (JournalEntry B)). TakesInOrder (scene_in sealing first kinds) later steps l) (sym (past-push old.journal e)) (
+          step_of steps step (past old.journal) next_now,
+          (λ _. subst (λ scene. IsPosted scene later (past old.journal)) (later_scene kinds) (posted_is law (scene_in sealing old kinds) old (at.keeps.holds kinds h).run later was at.rests)),
+          at.takes kinds h later was,
+        )
+
+    taken_is : taken step (with_posts sealing.size old).journal ≡ old.journal ++ e ∷ []
+    taken_is = ap (λ l. taken step l) (owed_nothing sealing.size old at.rests)
+
+    -- the turn found no memory
+    halts_next : Keeps law saving sealing old stables_old new stables_new → IsHalted sealing.size step old new → (kinds : List ℕ) → Holds law sealing first kinds → IsHaltedIn (scene_in sealing first kinds) steps new
+    halts_next k (Unchanged same) kinds h =
+        halted.In_the_script old.journal [] (ap (λ w. w.journal) same ∙ sym (append-nil old.journal)) None_stands (λ later more. at.takes kinds h later (more_old k kinds h later more))
+    halts_next k (Posted same) kinds h =
+        halted.In_the_script old.journal [] (ap (λ w. w.journal) same ∙ owed_nothing sealing.size old at.rests ∙ sym (append-nil old.journal)) None_stands
+        (λ later more. at.takes kinds h later (more_old k kinds h later more))
+    halts_next k (Turned_down r) kinds h =
+        let its = of_step step (past old.journal) in
+        halted.In_the_script (old.journal ++ e ∷ []) (Refused (turn_actor step) ∷ []) (r.journal ∙ ap (λ l. l ++ Refused (turn_actor step) ∷ []) taken_is)
+        (subst (λ (l : List (JournalEntry B)). IsRefusal l (Refused (turn_actor step) ∷ [])) (sym (past-push old.journal e))
+        (One_stands (turn_actor step) (subst (λ (l : List (JournalEntry B)). MayBeRefused l) (ap past taken_is ∙ past-push old.journal e) r.input)
+        (its.1, ap (λ a. same_actor a (turn_actor step)) its.0 ∙ same_self (turn_actor step))))
+        (taken_entry k kinds h)
+    halts_next k (Unposted u) kinds h =
+        halted.In_the_script (old.journal ++ e ∷ []) [] (u.journal ∙ taken_is ∙ sym (append-nil (old.journal ++ e ∷ []))) None_stands (taken_entry k kinds h)
+
+    -- or met the limit of the journal
+    pub stops_next : (stop : Stop) → Keeps law saving sealing old stables_old new stables_new → TurnStops sealing.size step old new stop → (kinds : List ℕ) → Holds law sealing first kinds →
         RunStops (scene_in sealing first kinds) steps new stop
-    stops_next OutOfMemory k stops kinds h = tt
-    stops_next (JournalFull bytes letters) (inr never) stops kinds h = cc
-    stops_next (JournalFull bytes letters) (inl k) (stuck, how) kinds h = by_how how
+    stops_next OutOfMemory k stops kinds h = halts_next k stops kinds h
+    stops_next (JournalFull bytes letters) k (stuck, how) kinds h = by_how how
       where
         begun : Added step old new → RunStops (scene_in sealing first kinds) steps new (JournalFull bytes letters)
         begun a =
@@ -191,7 +234,7 @@ module _ {B A W : Type 0} (law : AppLaw A) (saving : Saving W) (sealing : Sealin
             subst (λ scene. IsBegun scene later steps bytes letters (past new.journal)) (later_scene kinds)
             (In_the_script takes (stuck_full law (scene_in sealing old kinds) new u.is bytes letters stuck))
 
-        by_how : (new ≡ old) ⊎ (new.journal ≡ taken step (old.journal ++ posts_of sealing.size old.owed old.journal)) → RunStops (scene_in sealing first kinds) steps new (JournalFull bytes letters)
+        by_how : (new ≡ old) ⊎ (new.journal ≡ taken step (with_posts sealing.size old).journal) → RunStops (scene_in sealing first kinds) steps new (JournalFull bytes letters)
         by_how (inl same) = absurd (never_stuck same stuck)
           where
             by_owed : (o : Option (Debt B)) → new.owed ≡ o → o ≡ None → IsStuck sealing.size new bytes letters → ⊥
@@ -202,14 +245,8 @@ module _ {B A W : Type 0} (law : AppLaw A) (saving : Saving W) (sealing : Sealin
             never_stuck eq s = by_owed new.owed refl (ap (λ w. w.owed) eq ∙ at.rests) s
         by_how (inr grown) = begun (added_alone sealing.size step old new at.rests grown)
 
-    -- what a turn that stopped keeps
-    pub keeps_stop : (stop : Stop) → IfMemory {T = Unit {0}} (Err stop) (Keeps law saving sealing old stables_old new stables_new) → IfMemory {T = Unit {0}} (Err stop) (Keeps law saving sealing first stables new stables_new)
-    keeps_stop OutOfMemory k = tt
-    keeps_stop (JournalFull bytes letters) k = keeps_then law saving sealing first old new stables stables_old stables_new at.keeps k
-
-    pub kept_or : (stop : Stop) → IfMemory {T = Unit {0}} (Err stop) (Keeps law saving sealing old stables_old new stables_new) → Keeps law saving sealing old stables_old new stables_new ⊎ (stop ≡ OutOfMemory)
-    kept_or OutOfMemory k = inr refl
-    kept_or (JournalFull bytes letters) k = inl k
+    pub keeps_next : Keeps law saving sealing old stables_old new stables_new → Keeps law saving sealing first stables new stables_new
+    keeps_next k = keeps_then law saving sealing first old new stables stables_old stables_new at.keeps k
 
   -- all steps were taken
   pub stands_last : (now : Worlding B A) (stables_now : List W) (count : ℕ) → Stands law saving sealing steps limit count first stables now stables_now → count ≡ length steps → (kinds : List ℕ) → Holds law sealing first kinds →

@@ -14,7 +14,7 @@ use Rattle.rv_base.specs.Turns.{IsFull}
 use Rattle.app_core.specs.Law.{AppLaw}
 use Rattle.rv_runs.specs.Schedule.{IsJournalFull, owed_of}
 use Rattle.rv_runs.specs.States.{Scene}
-use Rattle.rv_world.specs.declared.debt.Debt.{Debt}
+use Rattle.rv_world.specs.Debts.{Debt}
 use Rattle.rv_world.specs.World.{IsStuck, Worlding, debt_of, results_in}
 use Rattle.closing.proofs.Worlds.{Runs}
 

@@ -8,13 +8,14 @@ use Rattle.rv_base.specs.declared.wire.Stop.{Stop}
 use Rattle.rv_base.specs.declared.wire.Stop.TheVariants.{OutOfMemory, JournalFull}
 use Rattle.rv_base.specs.Pool.{past}
 use Rattle.rv_laws.specs.Laws.{SuspectsUpTo}
-use Rattle.rv_runs.specs.Schedule.{Closes}
+use Rattle.rv_runs.specs.Schedule.{Losing, Phase, Closes, ClosesTo, FollowsInOrder, TakesInOrder}
 use Rattle.rv_runs.specs.States.{Scene, Sealing}
 use Rattle.rv_base.specs.Stables.{Saving}
 use Rattle.app_core.specs.Law.{AppLaw}
+use Rattle.rv_world.specs.Refusals.{IsRefusal}
 use Rattle.rv_world.specs.World.{AreMore, Worlding, results_in, scene_in}
 use Rattle.running.specs.declared.run.Played.{Played}
-use Rattle.running.specs.Threads.{IsLeftLegal}
+use Rattle.running.specs.Threads.{IsLeftLegal, IsLeftPaired}
 use Rattle.closing.specs.declared.closed.Closed.{Closed}
 use Rattle.closing.specs.Closing.{HasReason, IsBounded, answer_of}
 use Rattle.playing.specs.Manners.{Manner, In_order, Apart, Begins, Follows}
@@ -47,15 +48,24 @@ pub record HasPlayed {B A : Type 0} (manner : Manner) (scene : Scene B) (steps :
 abbrev pub HasPlayedTo : {B A : Type 0} → Scene B → List Turn → Worlding B A → Closed × ℕ → Type 0
 HasPlayedTo scene steps w played = HasPlayed In_order scene steps played.1 played.0 w
 
--- why playing stopped: at a full journal the run is cut short where an outbox met the limit
+-- Playing that found no memory: the first steps of the script were taken in order, or all of them and the first entries of a closing.
+-- Behind these stands a refusal, or none
+pub data IsHaltedIn {B A : Type 0} (scene : Scene B) (steps : List Turn) (w : Worlding B A) : Type 0 where
+  In_the_script : (entries refusal : List (JournalEntry B)) → w.journal ≡ entries ++ refusal → IsRefusal (past entries) refusal →
+      Lastingly w (λ later. TakesInOrder scene later steps (past entries)) → IsHaltedIn scene steps w
+  In_the_closing : (script entries refusal : List (JournalEntry B)) → w.journal ≡ script ++ entries ++ refusal → IsRefusal (past (script ++ entries)) refusal →
+      Lastingly w (λ later. FollowsInOrder scene later steps (past script) × ((last : Phase) × ClosesTo scene later Losing (past script) entries last)) → IsHaltedIn scene steps w
+
+-- why playing stopped, and what stands then: at a full journal the run is cut short where an outbox met the limit
 abbrev pub RunStops : {B A : Type 0} → Scene B → List Turn → Worlding B A → Stop → Type 0
-RunStops scene steps new OutOfMemory = Unit {0}
+RunStops scene steps new OutOfMemory = IsHaltedIn scene steps new
 RunStops scene steps new (JournalFull bytes letters) = Begins In_order scene (results_in new.controllers) steps bytes letters (past new.journal)
 
--- what is left of a run whose actors play apart, where it was cut short for no want of memory: a legal journal, cut short where an
--- outbox met the limit
+-- what is left of a run whose actors play apart, where it was cut short: for want of memory controllers with their stable pairs, else a
+-- legal journal too, cut short where an outbox met the limit
 abbrev pub HaltsAs : {B A W : Type 0} → AppLaw A → Saving W → Sealing B → List Turn → List ℕ → Worlding B A → List W → List W → Played B A → Stop → Type 0
-HaltsAs law saving sealing steps kinds start stables stables_after left OutOfMemory = Unit {0}
+HaltsAs law saving sealing steps kinds start stables stables_after left OutOfMemory =
+    IsLeftPaired saving start.setup start.controllers stables stables_after left.controllers.items
 HaltsAs law saving sealing steps kinds start stables stables_after left (JournalFull bytes letters) =
     IsLeftLegal law saving sealing start.setup kinds start.controllers stables stables_after left
     × Begins Apart (scene_in sealing start kinds) (results_in left.controllers.items) steps bytes letters (past left.wire)

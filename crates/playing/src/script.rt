@@ -5,7 +5,7 @@ ghost use Rattle.rv_base.specs.Actors.{IsActor};
 ghost use Rattle.rv_base.specs.Pool.{past};
 ghost use Rattle.rv_base.specs.Turns.{turn_actor};
 ghost use Rattle.rv_laws.specs.Laws.{IsSuspectedUpTo};
-ghost use Rattle.rv_world.specs.World.{ForEachScene, Holds, IfMemory, Keeps, PairsStand};
+ghost use Rattle.rv_world.specs.World.{ForEachScene, Holds, Keeps, PairsStand};
 ghost use Rattle.closing.specs.Closing.{HasMajority};
 ghost use Rattle.closing.specs.Views.{most_view_of_a_script};
 ghost use Rattle.playing.specs.Manners.{In_order};
@@ -30,8 +30,7 @@ fn do_steps<B: Body, A: App, W: Stable>(
     requires fresh { world.old.journal ≡ [] }
     requires named { AllByRecursion (λ t. IsActor world.old.setup (turn_actor t)) steps.now }
     requires views { AllByRecursion (λ t. StepSuspectsUpTo most_view_of_a_script t) steps.now }
-    ensures keeps { IfMemory result
-        (Keeps A.law W.saving B.sealing world.old stables.old world.new stables.new) }
+    ensures keeps { Keeps A.law W.saving B.sealing world.old stables.old world.new stables.new }
     ensures rests { OnOk result (world.new.owed ≡ None) }
     ensures views { OnOk result (IsSuspectedUpTo most_view_of_a_script (past world.new.journal)) }
     ensures follows { ForEachScene A.law B.sealing world.old (λ scene.
@@ -59,7 +58,7 @@ pub fn play<B: Body, A: App, W: Stable>(
     requires fresh { world.old.journal ≡ [] }
     requires named { AllByRecursion (λ t. IsActor world.old.setup (turn_actor t)) steps.now }
     requires views { AllByRecursion (λ t. StepSuspectsUpTo most_view_of_a_script t) steps.now }
-    ensures keeps { IfMemory result (Keeps A.law W.saving B.sealing world.old stables.old world.new stables.new) }
+    ensures keeps { Keeps A.law W.saving B.sealing world.old stables.old world.new stables.new }
     ensures rests { OnOk result (world.new.owed ≡ None) }
     ensures played { ForEachScene A.law B.sealing world.old (λ scene. IfOk result (HasPlayedTo scene steps.now world.new)) }
     ensures up { IfOk result (λ played. HasMajority played.0 world.old world.new) }

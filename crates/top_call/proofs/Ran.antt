@@ -36,7 +36,7 @@ use Rattle.rv_base.specs.Stables.{Saving}
 use Rattle.running.specs.declared.run.Played.{Played}
 use Rattle.running.specs.Threads.{IsLeftLegal}
 use Rattle.top_call.specs.declared.sim.Output.TheVariants as told_as
-use Rattle.rv_world.specs.World.{AreMore, Holds, IfMemory, IsMember, Keeps, PairsStand, StartsAs, Worlding, is_failed, results_in, scene_in}
+use Rattle.rv_world.specs.World.{AreMore, Holds, IsMember, Keeps, PairsStand, StartsAs, Worlding, is_failed, results_in, scene_in}
 use Rattle.rv_world.proofs.Growing.{no_more}
 use Rattle.rv_world.proofs.Places.{results_at}
 use Rattle.closing.specs.declared.closed.Closed.{Closed}
@@ -367,16 +367,15 @@ module _ {A W : Type 0} (law : AppLaw A) (saving : Saving W) (scenario : Scenari
 
   -- it came to the end of its closing
   pub ends_closed : {X : Type 0} (result : Result (Closed × ℕ) Stop) (closed : Closed) (count : ℕ) (output : Output) (steps : ℕ) (ended : Result Ending X) → result ≡ Ok (closed, count) → steps ≡ length scenario.steps →
-      IfMemory result KeptInOrder → IfOk result (λ played. HasPlayed In_order (scene_in byte_bodies start kinds) taken played.1 played.0 w) → IfOk result (λ played. HasMajority played.0 start w) →
+      KeptInOrder → IfOk result (λ played. HasPlayed In_order (scene_in byte_bodies start kinds) taken played.1 played.0 w) → IfOk result (λ played. HasMajority played.0 start w) →
       IfOk ended (λ e. e ≡ ending_by closed (λ p. told_text output (told_by w p steps count))) → IfOk ended (λ _. IfDone closed (λ p. IfReport output (FitsRecord (told_by w p steps count)))) → IfOk ended (λ e. EndsInOrder output e)
   ends_closed result closed count output steps ended is long k played up ending_is fits =
-      ok_ending law saving scenario kinds start stables w stables_after begins holds pairs within In_order taken same closed count output steps ended long
-      (subst (λ (r : Result (Closed × ℕ) Stop). IfMemory r KeptInOrder) is k)
+      ok_ending law saving scenario kinds start stables w stables_after begins holds pairs within In_order taken same closed count output steps ended long k
       (subst (λ (r : Result (Closed × ℕ) Stop). IfOk r (λ played. HasPlayed In_order (scene_in byte_bodies start kinds) taken played.1 played.0 w)) is played)
       (subst (λ (r : Result (Closed × ℕ) Stop). IfOk r (λ played. HasMajority played.0 start w)) is up)
       ending_is fits
 
-  one_stop : {X : Type 0} (stop : Stop) (output : Output) (ended : Result Ending X) → IfMemory {T = Closed × ℕ} (Err stop) KeptInOrder → RunStops (scene_in byte_bodies start kinds) taken w stop →
+  one_stop : {X : Type 0} (stop : Stop) (output : Output) (ended : Result Ending X) → KeptInOrder → RunStops (scene_in byte_bodies start kinds) taken w stop →
       IfOk ended (λ e. StopsAs stop e) → IfOk ended (λ e. EndsInOrder output e)
   one_stop stop output (Err x) k stops is = tt
   one_stop OutOfMemory output (Ok e) k stops never = absurd never
@@ -386,10 +385,10 @@ module _ {A W : Type 0} (law : AppLaw A) (saving : Saving W) (scenario : Scenari
       (subst (λ (l : List Turn). Begins In_order (scene_in byte_bodies start kinds) (results_in w.controllers) l bytes letters (past w.journal)) same stops))
 
   -- or it stopped
-  pub ends_stopped : {X : Type 0} (result : Result (Closed × ℕ) Stop) (stop : Stop) (output : Output) (ended : Result Ending X) → result ≡ Err stop → IfMemory result KeptInOrder →
+  pub ends_stopped : {X : Type 0} (result : Result (Closed × ℕ) Stop) (stop : Stop) (output : Output) (ended : Result Ending X) → result ≡ Err stop → KeptInOrder →
       IfErr result (RunStops (scene_in byte_bodies start kinds) taken w) → IfOk ended (λ e. StopsAs stop e) → IfOk ended (λ e. EndsInOrder output e)
   ends_stopped result stop output ended is k stops ending_is =
-      one_stop stop output ended (subst (λ (r : Result (Closed × ℕ) Stop). IfMemory r KeptInOrder) is k)
+      one_stop stop output ended k
       (subst (λ (r : Result (Closed × ℕ) Stop). IfErr r (RunStops (scene_in byte_bodies start kinds) taken w)) is stops) ending_is
 
 -- ---- where actors played apart, and the run was cut short
@@ -411,9 +410,9 @@ module _ {A W : Type 0} (law : AppLaw A) (saving : Saving W) (scenario : Scenari
   left_tells c there =
       let m = first_at c there in
       let s = pairs c m.member m.stands in
-      let t = l.told c m.member s.0 m.stands s.1 in
+      let t = l.paired.told c m.member s.0 m.stands s.1 in
       let n = l.members c there in
-      let last = l.pairs c t.0 t.2 in
+      let last = l.paired.pairs c t.0 t.2 in
       let none : m.member.results ≡ [] = unsaved_at law scenario kinds start begins holds c m.member there m.stands in
       let more : t.4.more ≡ results_of LeftResults c = sym (results_at left.controllers.items c t.0 t.2 ∙ t.4.joined ∙ ap (λ r. r ++ t.4.more) none) in
       record {
@@ -431,7 +430,7 @@ module _ {A W : Type 0} (law : AppLaw A) (saving : Saving W) (scenario : Scenari
     results = LeftResults;
     journal = left.wire;
     run = record { legal = l.legal; within = l.within; begun = begun; lawful = left_lawful };
-    saved = record { each = left_tells; beyond = l.beyond };
+    saved = record { each = left_tells; beyond = l.paired.beyond };
   }
 
 module _ {A W : Type 0} (law : AppLaw A) (saving : Saving W) (scenario : Scenario) (kinds : List ℕ) (start : Worlding (List ℕ) A) (stables stables_after : List W)

@@ -1,6 +1,6 @@
-use Rattle.std.proofs.Common.{◌≡◌, ◌∙◌, List, Err, length, sym, ap, subst}
+use Rattle.std.proofs.Common.{◌≡◌, ◌∙◌, List, length, sym, ap, subst}
 use Rattle.std.proofs.lemmas.Result.{err_from_is_err_and}
-use Rattle.rv_world.specs.World.{IfMemory, Keeps, PairsStand}
+use Rattle.rv_world.specs.World.{Keeps, PairsStand}
 use Rattle.rv_world.proofs.Turning.{keeps_then}
 use Rattle.closing.specs.Views.{most_view_of_a_script}
 use Rattle.playing.specs.Manners.{Apart}
@@ -65,7 +65,7 @@ returns-in-Err-clause-halts g c = λ kinds holds.
     (closing_halts law saving sealing c.args.steps.now first c.args.stables.now.items now before c.run-ended.new.world c.run-ended.new.stables c.in_ok-world.ensures.keeps kinds holds
     (followed law saving sealing c.args.steps.now first c.args.stables.now.items now before c.in_ok-world.ensures.keeps kinds holds (c.in_ok-world.ensures.follows kinds holds))
     c.in-Err.stop
-    (subst (λ (l : List _). IfMemory {T = Unit {0}} (Err c.in-Err.stop) (Keeps law saving sealing now l c.run-ended.new.world c.run-ended.new.stables)) c.deref_mut.ensures.value c.in-Err.ensures.keeps)
+    (subst (λ (l : List _). Keeps law saving sealing now l c.run-ended.new.world c.run-ended.new.stables) c.deref_mut.ensures.value c.in-Err.ensures.keeps)
     c.lawful.ensures.within
     (c.in-Err.ensures.stops kinds (c.in_ok-world.ensures.keeps.holds kinds holds))
     c.of.result.played c.of.ensures.wire c.of.ensures.controllers))

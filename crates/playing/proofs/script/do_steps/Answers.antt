@@ -5,7 +5,7 @@ use Rattle.rv_base.specs.Turns.{turn_actor}
 use Rattle.rv_world.proofs.Acting.{stood_at}
 use Rattle.closing.specs.Views.{most_view_of_a_script}
 use Rattle.playing.specs.Played.{StepSuspectsUpTo}
-use Rattle.playing.proofs.Following.{keeps_stop, kept_or, stands_last, stands_next, stops_next}
+use Rattle.playing.proofs.Following.{keeps_next, stands_last, stands_next, stops_next}
 use Rattle.playing.proofs.Stopping.{all_found}
 use Rattle.playing.proofs.script.do_steps.Goals as goal
 
@@ -14,11 +14,10 @@ apply-requires-clause-holds g c = (c.requires.holds.0, c.loop-step.invariant.kee
 
 pub returns-in_err-apply-clause-keeps : goal.returns-in_err-apply-clause-keeps
 returns-in_err-apply-clause-keeps g c =
-    let p = err_from_is_err_and c.from_residual.result c.from_residual.ensures.1 in
     let found = stood_at c.args.steps.now c.loop-step.step-index c.step-item.result c.loop-step-test.true c.step-item.is in
     let named = all_found (λ t. IsActor c.args.world.now.setup (turn_actor t)) c.args.steps.now c.loop-step.step-index c.step-item.result c.requires.named found in
     let within = all_found (λ t. StepSuspectsUpTo most_view_of_a_script t) c.args.steps.now c.loop-step.step-index c.step-item.result c.requires.views found in
-    rw (p.1, p.2) (keeps_stop g.A.App.law g.W.Stable.saving g.B.Body.sealing c.args.steps.now most_view_of_a_script c.args.world.now c.args.stables.now c.requires.holds c.loop-step.step-index c.loop-step.world c.apply.new.self c.loop-step.stables c.apply.new.stables c.loop-step.invariant c.step-item.result found named within c.in_err-apply.field-0.0 c.in_err-apply.ensures.keeps)
+    keeps_next g.A.App.law g.W.Stable.saving g.B.Body.sealing c.args.steps.now most_view_of_a_script c.args.world.now c.args.stables.now c.requires.holds c.loop-step.step-index c.loop-step.world c.apply.new.self c.loop-step.stables c.apply.new.stables c.loop-step.invariant c.step-item.result found named within c.in_err-apply.ensures.keeps
 
 pub returns-in_err-apply-clause-stops : goal.returns-in_err-apply-clause-stops
 returns-in_err-apply-clause-stops g c =
@@ -27,7 +26,7 @@ returns-in_err-apply-clause-stops g c =
     let named = all_found (λ t. IsActor c.args.world.now.setup (turn_actor t)) c.args.steps.now c.loop-step.step-index c.step-item.result c.requires.named found in
     let within = all_found (λ t. StepSuspectsUpTo most_view_of_a_script t) c.args.steps.now c.loop-step.step-index c.step-item.result c.requires.views found in
     rw (p.1, p.2) (stops_next g.A.App.law g.W.Stable.saving g.B.Body.sealing c.args.steps.now most_view_of_a_script c.args.world.now c.args.stables.now c.requires.holds c.loop-step.step-index c.loop-step.world c.apply.new.self c.loop-step.stables c.apply.new.stables c.loop-step.invariant c.step-item.result found named within c.in_err-apply.field-0.0
-    (kept_or g.A.App.law g.W.Stable.saving g.B.Body.sealing c.args.steps.now most_view_of_a_script c.args.world.now c.args.stables.now c.requires.holds c.loop-step.step-index c.loop-step.world c.apply.new.self c.loop-step.stables c.apply.new.stables c.loop-step.invariant c.step-item.result found named within c.in_err-apply.field-0.0 c.in_err-apply.ensures.keeps) c.in_err-apply.ensures.stops)
+    c.in_err-apply.ensures.keeps c.in_err-apply.ensures.stops)
 
 pub loop-step-preserved : goal.loop-step-preserved
 loop-step-preserved g c =

@@ -2,7 +2,7 @@ use Rattle.std.proofs.Common.{length, ap}
 use Rattle.std.proofs.lemmas.Result.{err_from_is_err_and}
 use Rattle.rv_world.proofs.Turning.{keeps_then}
 use Rattle.playing.specs.Manners.{In_order}
-use Rattle.playing.proofs.Ending.{closing_keeps, closing_stops_at, played}
+use Rattle.playing.proofs.Ending.{closing_stops, played}
 use Rattle.playing.proofs.script.play.Goals as goal
 
 pub returns-in_err-do_steps-clause-stops : goal.returns-in_err-do_steps-clause-stops
@@ -13,15 +13,14 @@ run-requires-clause-holds g c = (c.requires.holds.0, c.in_ok-do_steps.ensures.ke
 
 pub returns-in_err-closed-clause-keeps : goal.returns-in_err-closed-clause-keeps
 returns-in_err-closed-clause-keeps g c =
-    let p = err_from_is_err_and c.from_residual-in_err-closed.result c.from_residual-in_err-closed.ensures.1 in
-    rw (p.1, p.2) (closing_keeps g.A.App.law g.W.Stable.saving g.B.Body.sealing c.args.steps.now c.args.world.now c.args.stables.now c.do_steps.new.world c.do_steps.new.stables c.run.new.world c.run.new.stables
-    c.in_ok-do_steps.ensures.keeps c.in_err-closed.field-0.0 c.in_err-closed.ensures.keeps)
+    keeps_then g.A.App.law g.W.Stable.saving g.B.Body.sealing c.args.world.now c.do_steps.new.world c.run.new.world c.args.stables.now c.do_steps.new.stables c.run.new.stables
+    c.in_ok-do_steps.ensures.keeps c.in_err-closed.ensures.keeps
 
 pub returns-in_err-closed-clause-stops : goal.returns-in_err-closed-clause-stops
 returns-in_err-closed-clause-stops g c =
     let p = err_from_is_err_and c.from_residual-in_err-closed.result c.from_residual-in_err-closed.ensures.1 in
-    λ kinds holds. rw (p.1, p.2) (closing_stops_at g.A.App.law g.W.Stable.saving g.B.Body.sealing c.args.steps.now c.args.world.now c.args.stables.now c.do_steps.new.world c.do_steps.new.stables c.run.new.world c.run.new.stables
-    c.in_ok-do_steps.ensures.keeps c.in_err-closed.field-0.0 c.in_err-closed.ensures.keeps kinds holds (c.in_ok-do_steps.ensures.follows kinds holds)
+    λ kinds holds. rw (p.1, p.2) (closing_stops g.A.App.law g.W.Stable.saving g.B.Body.sealing c.args.steps.now c.args.world.now c.args.stables.now c.do_steps.new.world c.do_steps.new.stables c.run.new.world c.run.new.stables
+    c.in_ok-do_steps.ensures.keeps kinds holds (c.in_ok-do_steps.ensures.follows kinds holds) c.in_err-closed.ensures.keeps c.in_err-closed.field-0.0
     (c.in_err-closed.ensures.stops kinds (c.in_ok-do_steps.ensures.keeps.holds kinds holds)))
 
 pub returns-clause-keeps : goal.returns-clause-keeps

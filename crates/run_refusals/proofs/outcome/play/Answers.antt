@@ -1,0 +1,30 @@
+use Rattle.std.proofs.Common.{◌∷◌, [], List, sym, subst}
+use Rattle.std.specs.List.{AllByRecursion}
+use Rattle.of_types.specs.declared.setup.Setup.{Setup}
+use Rattle.rv_base.specs.declared.journal.Turn.{Turn}
+use Rattle.rv_base.specs.contracts.stable.MemoryStableStable.TheImpl as stable
+use Rattle.rv_base.specs.Actors.{IsActor}
+use Rattle.rv_base.specs.Turns.{turn_actor}
+use Rattle.app_core.specs.Chain.{learning}
+use Rattle.rv_world.specs.World.{PairsStand}
+use Rattle.top_call.proofs.Ran.{fresh_pairs}
+use Rattle.run_refusals.specs.contracts.wanting.WantingApp.TheImpl.{ghosts}
+use Rattle.run_refusals.proofs.outcome.play.Goals as goal
+
+pub take_steps-requires-clause-holds : goal.take_steps-requires-clause-holds
+take_steps-requires-clause-holds c = (learning ∷ [], c.in_ok-world.ensures.holds (learning ∷ []) c.in_ok-shelves.ensures.stocked)
+
+pub take_steps-requires-clause-pairs : goal.take_steps-requires-clause-pairs
+take_steps-requires-clause-pairs c =
+    subst (λ l. PairsStand stable.ghosts.saving l c.in_ok-world.world.controllers) (sym c.as_mut_slice-stables.ensures.value)
+    (fresh_pairs ghosts.law stable.ghosts.saving c.in_ok-kept.kept.items c.args.scenario.now.setup c.in_ok-world.world (learning ∷ []) c.in_ok-kept.ensures c.in_ok-world.ensures.starts
+    (c.in_ok-world.ensures.holds (learning ∷ []) c.in_ok-shelves.ensures.stocked))
+
+pub take_steps-requires-clause-named : goal.take_steps-requires-clause-named
+take_steps-requires-clause-named c =
+    subst (λ (l : List Turn). AllByRecursion (λ t. IsActor c.in_ok-world.world.setup (turn_actor t)) l) (sym c.as_slice.ensures)
+    (subst (λ (s : Setup). AllByRecursion (λ t. IsActor s (turn_actor t)) c.args.scenario.now.steps) (sym c.in_ok-world.ensures.starts.setup_is) c.requires.actors)
+
+pub come_to_rest-requires-clause-holds : goal.come_to_rest-requires-clause-holds
+come_to_rest-requires-clause-holds c =
+    (learning ∷ [], c.take_steps.ensures.holds (learning ∷ []) (c.in_ok-world.ensures.holds (learning ∷ []) c.in_ok-shelves.ensures.stocked))

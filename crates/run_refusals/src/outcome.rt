@@ -1,0 +1,119 @@
+//! A run that goes on behind turns that found no memory.
+ghost use Rattle.std.specs.Prelude.{◌<◌, ℕ, List, length, IfSome};
+ghost use Rattle.std.specs.List.{AllByRecursion};
+ghost use Rattle.rv_base.specs.Actors.{IsActor};
+ghost use Rattle.rv_base.specs.Turns.{turn_actor};
+ghost use Rattle.rv_world.specs.World.{Holds, Keeps, PairsStand};
+ghost use Rattle.scenario.specs.Scenario.{IsScenario};
+
+use crate::wanting::{Wanting, app_of, shelves_of};
+use app_core::App;
+use audit::{Verdict, check};
+use closing::{Closed, may_close};
+use report::text;
+use rv_actors::Bytes;
+use rv_base::{JournalEntry, MemoryStable, Stable, Stop, Turn};
+use rv_bodies::Body;
+use rv_record::sums_of;
+use rv_world::World;
+use scenario::Scenario;
+use std::alloc::{AllocError, Global};
+use top_call::stables;
+
+/// How a run came out: its switches did what one controller that never fails issues, and so many inputs were refused; or it differs.
+#[derive(Drop)]
+pub enum Outcome {
+    Same { refused: u64 },
+    Differs,
+}
+
+/// How often a closing may find no memory.
+const ATTEMPTS: usize = 8;
+
+/// Takes the steps in order, and goes on behind those that find no memory.
+fn take_steps<B: Body, A: App, W: Stable>(
+    world: &mut World<B, A>,
+    stables: &mut [W],
+    steps: &[Turn],
+) -> Result<(), Stop>
+    requires holds { (kinds : List ℕ) × Holds A.law B.sealing world.old kinds }
+    requires pairs { PairsStand W.saving stables.old world.old.controllers }
+    requires named { AllByRecursion (λ t. IsActor world.old.setup (turn_actor t)) steps.now }
+    ensures { Keeps A.law W.saving B.sealing world.old stables.old world.new stables.new }
+{
+    for step in steps {
+        match world.apply(stables, step) {
+            Ok(()) | Err(Stop::OutOfMemory) => {}
+            Err(full) => return Err(full),
+        }
+    }
+    Ok(())
+}
+
+/// Brings a world to rest, and begins again where that finds no memory. Tells who is primary then, if anybody is.
+fn come_to_rest<B: Body, A: App, W: Stable>(
+    alloc: Global,
+    world: &mut World<B, A>,
+    stables: &mut [W],
+) -> Option<u8>
+    requires holds { (kinds : List ℕ) × Holds A.law B.sealing world.old kinds }
+    requires pairs { PairsStand W.saving stables.old world.old.controllers }
+    ensures { IfSome result (λ primary. primary < length world.new.controllers) }
+{
+    'attempts: for _ in 0..ATTEMPTS {
+        if !may_close(world) {
+            return None;
+        }
+        match closing::run(alloc, world, stables) {
+            Ok(Closed::Done { primary }) => return Some(primary),
+            Err(Stop::OutOfMemory) => {}
+            _ => return None,
+        }
+    }
+    None
+}
+
+/// How many inputs were refused.
+fn count_refused<B>(entries: &[JournalEntry<B>]) -> u64 {
+    let refused = entries
+        .iter()
+        .filter(|entry| matches!(entry, JournalEntry::Refused { .. }));
+    refused.count() as u64
+}
+
+/// Whether the audit finds nothing in the report of a world, by its committed log and its switches.
+fn is_sound(alloc: Global, world: &World<Bytes, Wanting>, primary: u8) -> Result<bool, AllocError>
+    requires { primary < length world.now.controllers }
+{
+    let told = sums_of(alloc, world, primary, 0, 0)?;
+    let report = text(alloc, &told)?;
+    let verdict = check(alloc, report.as_slice(), &mut app_of(alloc, None)?)?;
+    Ok(verdict == Verdict::Same)
+}
+
+/// Plays a scenario whose controller of a number finds no memory once it has taken so many events.
+pub fn play(
+    alloc: Global,
+    scenario: &Scenario,
+    controller: u8,
+    events: u64,
+) -> Result<Outcome, AllocError>
+    requires { IsScenario scenario.now }
+{
+    let shelves = shelves_of(alloc, scenario.setup.controllers, controller, events)?;
+    let mut world = World::<Bytes, Wanting>::new(alloc, &scenario.setup, shelves)?;
+    let mut kept: Vec<MemoryStable> = stables(alloc)?;
+    let stables = kept.as_mut_slice();
+    if take_steps(&mut world, stables, scenario.steps.as_slice()).is_err() {
+        return Ok(Outcome::Differs);
+    }
+    let refused = count_refused(world.journal());
+    let Some(primary) = come_to_rest(alloc, &mut world, stables) else {
+        return Ok(Outcome::Differs);
+    };
+    if is_sound(alloc, &world, primary)? {
+        Ok(Outcome::Same { refused })
+    } else {
+        Ok(Outcome::Differs)
+    }
+}

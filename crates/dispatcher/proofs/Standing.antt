@@ -1,6 +1,6 @@
 -- What is kept of a committed log answers as the log does.
 use Rattle.std.proofs.Common.{inl, inr, ◌≡◌, ◌≤◌, ℕ, zero, suc, ◌+◌, Bool, true, false, not, ◌&&◌, List, [], ◌∷◌, ◌++◌, length, drop, map, filter, get_or, refl, sym, ap, subst, ◌∙◌, arith, append-nil}
-use Rattle.std.specs.Prelude.{nat_eq, nat_lt, slice_index_or, count_by, if◌then◌else◌}
+use Rattle.std.specs.Prelude.{nat_eq, nat_le, nat_lt, slice_index_or, count_by, if◌then◌else◌}
 use Rattle.std.specs.List.{list_any, range_with_len}
 use Rattle.std.proofs.Math.Seq.{drop-nil}
 use Rattle.std.proofs.lemmas.Bool.{cases_lt, lt-ltb, le-ltb}
@@ -25,9 +25,10 @@ use Rattle.dispatcher.specs.declared.answers.Handled.{Handled}
 use Rattle.dispatcher.specs.declared.counts.Counts.{Counts}
 use Rattle.dispatcher.specs.declared.ledger.Ledger.{Ledger}
 use Rattle.dispatcher.specs.Folding.{numbered, is_told, clears}
-use Rattle.dispatcher.specs.Ledger.{Dispatching, IsLedger, StandsFor, as_numbered, cleared, counts_of, first_commands, handled_of, has_told, is_outstanding, wants, most_commands}
-use Rattle.dispatcher.specs.Marks.{Marks, is_confirmed, is_finished, is_wanted, outstanding, settled_commands, wanted}
+use Rattle.dispatcher.specs.Ledger.{Dispatching, HasRoom, IsLedger, StandsFor, as_numbered, cleared, counts_of, first_commands, handled_of, has_pending, has_told, is_outstanding, wants, most_commands}
+use Rattle.dispatcher.specs.Marks.{Marks, is_confirmed, is_finished, is_pending, is_wanted, outstanding, settled_commands, unsettled, wanted}
 use Rattle.dispatcher.proofs.Ledgers.{length-handled_of}
+use Rattle.dispatcher.proofs.Rooms.{room_received, room_processed}
 
 filter_choice : {A : Type 0} (a b : Bool) (x : A) (xs : List A) → a ≡ b → (if a then x ∷ xs else xs) ≡ (if b then x ∷ xs else xs)
 filter_choice true true x xs e = refl
@@ -70,6 +71,9 @@ module _ (kinds : List ℕ) (setup : Setup) (log : List Entry) (ledger : Ledger)
 
   pub counts_are : (s l : ℕ) → (counts_of ledger.counts s l).processed ≡ processed_of log s l
   counts_are s l = ap (λ (c : Counts). c.processed) (kept.counts s l)
+
+  pub pends : (s l n : ℕ) (pending : Bool) → pending ≡ has_pending ledger s l n → pending ≡ true → is_pending kinds setup log s l n ≡ true
+  pends s l n pending is holds = sym (ap (λ (c : Counts). nat_le c.settled n && nat_lt n c.issued) (kept.counts s l)) ∙ sym is ∙ holds
 
   pub settled_is : (s l : ℕ) → (counts_of ledger.counts s l).settled ≡ settled_commands kinds setup log s l
   settled_is s l = ap (λ (c : Counts). c.settled) (kept.counts s l)
@@ -163,11 +167,12 @@ module _ {A : Type 0} (law : AppLaw A) (kinds : List ℕ) (setup : Setup) (log :
   reacts_is d e states commands stands steps =
       steps.commands_are ∙ ap (λ (ks : List ℕ). (chain_next ks setup (law.states d.app) e).commands) stands.kind ∙ ap (λ (s : List (List ℕ)). (chain_next kinds setup s e).commands) stands.states
 
-  pub with_received : (d : Dispatching A) (app : A) (ledger : Ledger) (entry : Entry) (e : Event) (commands : List Command) → entry ≡ Received e → StandsFor law d kinds setup log →
+  pub with_received : (d : Dispatching A) (app : A) (ledger : Ledger) (marks : Marks) (room : ℕ) (entry : Entry) (e : Event) (commands : List Command) → entry ≡ Received e → StandsFor law d kinds setup log →
       law.kinds app ≡ law.kinds d.app → law.suits app setup → ChainSteps (chain_next (law.kinds d.app) setup (law.states d.app) e) (law.states app) [] commands →
-      IsLedger kinds setup (log ++ Received e ∷ []) ledger → StandsFor law (record d { app = app; ledger = ledger }) kinds setup (log ++ entry ∷ [])
-  with_received d app ledger entry e commands is stands same fit steps kept =
-      subst (λ (x : Entry). StandsFor law (record d { app = app; ledger = ledger }) kinds setup (log ++ x ∷ [])) (sym is)
+      IsLedger kinds setup (log ++ Received e ∷ []) ledger → length marks.acked + ledger.unsettled ≤ room →
+      StandsFor law (record d { app = app; ledger = ledger; marks = marks; room = room }) kinds setup (log ++ entry ∷ [])
+  with_received d app ledger marks room entry e commands is stands same fit steps kept made =
+      subst (λ (x : Entry). StandsFor law (record d { app = app; ledger = ledger; marks = marks; room = room }) kinds setup (log ++ x ∷ [])) (sym is)
       (record {
         kind = same ∙ stands.kind;
         few = subst (λ (ks : List ℕ). given_by ks ≤ most_commands) (sym same) stands.few;
@@ -179,6 +184,7 @@ module _ {A : Type 0} (law : AppLaw A) (kinds : List ℕ) (setup : Setup) (log :
             ∙ ap (λ (es : List Event). chain_after kinds setup (starting_chain kinds) es) (sym (received-append log (Received e ∷ [])));
         size = stands.size;
         ledger = kept;
+        room = room_received kinds setup (log ++ Received e ∷ []) ledger marks room kept made;
       })
 
   pub with_processed : (d : Dispatching A) (ledger : Ledger) (entry : Entry) (j : ℕ) → entry ≡ Processed j → StandsFor law d kinds setup log →
@@ -192,4 +198,9 @@ module _ {A : Type 0} (law : AppLaw A) (kinds : List ℕ) (setup : Setup) (log :
         states = stands.states ∙ ap (λ (es : List Event). chain_after kinds setup (starting_chain kinds) es) (sym (received-append log (Processed j ∷ []) ∙ append-nil (received log)));
         size = stands.size;
         ledger = kept;
+        room = room_processed kinds setup log j d.marks d.room stands.room;
       })
+
+  -- marks change nothing of what it stands for, where there is still room
+  pub with_marks : (d : Dispatching A) (marks : Marks) (room : ℕ) → StandsFor law d kinds setup log → HasRoom (unsettled kinds setup log) marks room → StandsFor law (record d { marks = marks; room = room }) kinds setup log
+  with_marks d marks room stands has = record { kind = stands.kind; few = stands.few; suited = stands.suited; states = stands.states; size = stands.size; ledger = stands.ledger; room = has }

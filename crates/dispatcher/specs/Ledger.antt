@@ -1,5 +1,5 @@
 -- What is kept of a committed log, so that no question asks for the whole of it again.
-use Rattle.std.specs.Prelude.{◌≡◌, ◌≤◌, ℕ, ◌+◌, ◌-◌, ◌*◌, ◌^◌, min, Bool, not, nat_eq, nat_lt, ◌&&◌, List, [], ◌∷◌, length, take, drop, get_or, map, slice_get, Option, Some, None, if◌then◌else◌}
+use Rattle.std.specs.Prelude.{◌≡◌, ◌≤◌, ℕ, ◌+◌, ◌-◌, ◌*◌, ◌^◌, min, Bool, not, nat_eq, nat_le, nat_lt, ◌&&◌, List, [], ◌∷◌, count_by, length, take, drop, get_or, map, slice_get, Option, Some, None, if◌then◌else◌}
 use Rattle.std.specs.List.{list_any}
 use Rattle.std.specs.Map.{lookup}
 use Rattle.of_types.specs.declared.message.Event.{Event}
@@ -17,7 +17,7 @@ use Rattle.dispatcher.specs.declared.answers.Through.{Through}
 use Rattle.dispatcher.specs.declared.counts.Counts.{Counts}
 use Rattle.dispatcher.specs.declared.ledger.Ledger.{Ledger}
 use Rattle.dispatcher.specs.declared.numbered.Numbered.{Numbered}
-use Rattle.dispatcher.specs.Marks.{Marks, has_result, is_confirmed}
+use Rattle.dispatcher.specs.Marks.{Marks, has_result, is_confirmed, unsettled}
 
 abbrev pub no_counts : Counts
 no_counts = record { processed = 0; issued = 0; settled = 0 }
@@ -62,6 +62,12 @@ one_issued c = record c { issued = min (c.issued + 1) most_count }
 abbrev pub one_settled : Counts → Counts
 one_settled c = record c { settled = min (c.settled + 1) most_count }
 
+-- a number is that of a command of a life that is issued and not settled
+abbrev pub has_pending : Ledger → ℕ → ℕ → ℕ → Bool
+has_pending ledger switch life number =
+    let c = counts_of ledger.counts switch life in
+    nat_le c.settled number && nat_lt number c.issued
+
 -- events beside what is issued for them
 abbrev pub handled_of : List Event → List (List Issued) → List Handled
 handled_of (event ∷ events) (commands ∷ lists) =
@@ -78,6 +84,7 @@ pub record IsLedgerOf (kinds : List ℕ) (setup : Setup) (events : List Event) (
   pub counts : AreCounts (take done events) (concat (issues kinds setup events)) (concat (take done (issues kinds setup events))) ledger.counts
   pub pending : ledger.pending.items ≡ drop done (handled_of events (issues kinds setup events))
   pub processed_is : ledger.processed ≡ done
+  pub unsettled_are : ledger.unsettled ≡ length (concat (drop done (issues kinds setup events)))
   pub ordered : done ≤ length events
   pub few : length (concat (issues kinds setup events)) ≤ most_commands * length events
 
@@ -90,14 +97,25 @@ first_commands [] = []
 first_commands (h ∷ pending) = h.commands
 
 -- what contracts see of a dispatcher: its application, how many switches there are, what it keeps of the committed log,
--- and the marks of its view
+-- the marks of its view, and for how many results there is room
 pub record Dispatching (A : Type 0) : Type 0 where
   pub app : A
   pub switches : ℕ
   pub ledger : Ledger
   pub marks : Marks
+  pub room : ℕ
 
--- it stands for a committed log: its application has taken the events of that log, and no others
+-- no result of a command came
+abbrev pub lacks_result : Marks → Issued → Bool
+lacks_result marks x = not (has_result marks x.switch x.life x.number)
+
+-- there is room for the results of these commands
+pub record HasRoom (commands : List Issued) (marks : Marks) (room : ℕ) : Type 0 where
+  pub in_view : length marks.acked + count_by (lacks_result marks) commands ≤ room  -- beside those that came in this view
+  pub in_next : length commands ≤ room  -- of each of them, in the next view
+
+-- it stands for a committed log: its application has taken the events of that log, and no others, and there is room for
+-- the results that may still come
 pub record StandsFor {A : Type 0} (law : AppLaw A)
     (d : Dispatching A) (kinds : List ℕ) (setup : Setup) (log : List Entry) : Type 0 where
   pub kind : law.kinds d.app ≡ kinds
@@ -106,6 +124,7 @@ pub record StandsFor {A : Type 0} (law : AppLaw A)
   pub states : law.states d.app ≡ chain_after kinds setup (starting_chain kinds) (received log)
   pub size : d.switches ≡ length setup.ports
   pub ledger : IsLedger kinds setup log d.ledger
+  pub room : HasRoom (unsettled kinds setup log) d.marks d.room
 
 -- a command of the log wants a result, by what is kept: none came, and its life goes on
 abbrev pub wants : Ledger → Marks → Issued → Bool

@@ -1,6 +1,6 @@
 -- The commands of committed events: which are settled, acknowledged and outstanding (Ravana, 4.2). Each of these
 -- speaks of a committed log, and of the marks of a view.
-use Rattle.std.specs.Prelude.{ℕ, Bool, not, nat_eq, nat_le, nat_lt, ◌&&◌, List, [], ◌∷◌, ◌++◌, length, take, filter, if◌then◌else◌}
+use Rattle.std.specs.Prelude.{ℕ, Bool, not, nat_eq, nat_le, nat_lt, ◌&&◌, List, [], ◌∷◌, ◌++◌, length, take, drop, filter, if◌then◌else◌}
 use Rattle.std.specs.List.{list_any}
 use Rattle.of_types.specs.declared.setup.Setup.{Setup}
 use Rattle.of_types.specs.Lives.{has_ended}
@@ -20,6 +20,11 @@ pub record Marks : Type 0 where
 abbrev pub no_marks : Marks
 no_marks = record { confirmed = []; acked = [] }
 
+-- marks as they are kept
+pub record KeptMarks : Type 0 where
+  pub marks : Marks
+  pub room : ℕ  -- for so many results there is room, with those that came
+
 abbrev pub is_confirmed : Marks → ℕ → Bool
 is_confirmed marks switch = list_any (λ s. nat_eq s switch) marks.confirmed
 
@@ -38,6 +43,10 @@ off_role marks switch = record marks { confirmed = without_number switch marks.c
 abbrev pub settled_commands : List ℕ → Setup → List Entry → ℕ → ℕ → ℕ
 settled_commands kinds setup log switch life =
     count_issued switch life (concat (take (processed log) (issues kinds setup (received log))))
+
+-- the commands of events that are not processed
+abbrev pub unsettled : List ℕ → Setup → List Entry → List Issued
+unsettled kinds setup log = concat (drop (processed log) (issues kinds setup (received log)))
 
 -- a number is that of a command of an event that is not processed
 abbrev pub is_pending : List ℕ → Setup → List Entry → ℕ → ℕ → ℕ → Bool

@@ -12,7 +12,7 @@ use std::alloc::{AllocError, Global};
 
 /// Whether a command still wants a result: none came, and its life goes on.
 fn wants(ledger: &Ledger, marks: &ViewMarks, command: &Issued) -> bool
-    ensures { result ≡ wants ledger.now marks.now command.now }
+    ensures { result ≡ wants ledger.now marks.now.marks command.now }
 {
     !marks.has_result(command.switch, command.life, command.number)
         && !ledger.has_ended(command.switch, command.life)
@@ -20,7 +20,7 @@ fn wants(ledger: &Ledger, marks: &ViewMarks, command: &Issued) -> bool
 
 /// How many commands of the first event that is not processed want a result.
 pub(crate) fn count_wanted(ledger: &Ledger, marks: &ViewMarks) -> usize
-    ensures { result ≡ count_by (wants ledger.now marks.now) (first_commands ledger.now.pending.items) }
+    ensures { result ≡ count_by (wants ledger.now marks.now.marks) (first_commands ledger.now.pending.items) }
 {
     ledger
         .first()
@@ -31,7 +31,7 @@ pub(crate) fn count_wanted(ledger: &Ledger, marks: &ViewMarks) -> usize
 
 /// Whether a command wants a result, and its switch took this controller as master.
 fn is_outstanding(ledger: &Ledger, marks: &ViewMarks, command: &Issued) -> bool
-    ensures { result ≡ is_outstanding ledger.now marks.now command.now }
+    ensures { result ≡ is_outstanding ledger.now marks.now.marks command.now }
 {
     wants(ledger, marks, command) && marks.is_confirmed(command.switch)
 }
@@ -57,7 +57,7 @@ pub(crate) fn outstanding(
     ledger: &Ledger,
     marks: &ViewMarks,
 ) -> Result<Vec<Numbered>, AllocError>
-    ensures { IfOk result (λ list. list.items ≡ map (as_numbered ledger.now) (filter (is_outstanding ledger.now marks.now) (first_commands ledger.now.pending.items))) }
+    ensures { IfOk result (λ list. list.items ≡ map (as_numbered ledger.now) (filter (is_outstanding ledger.now marks.now.marks) (first_commands ledger.now.pending.items))) }
 {
     let mut list = Vec::new(alloc);
     for command in ledger.first() {
@@ -75,7 +75,7 @@ pub(crate) fn outstanding_on(
     ledger: &Ledger,
     marks: &ViewMarks,
 ) -> Result<Vec<Numbered>, AllocError>
-    ensures { IfOk result (λ list. list.items ≡ map (as_numbered ledger.now) (filter (λ x. is_outstanding ledger.now marks.now x && nat_eq x.switch switch) (first_commands ledger.now.pending.items))) }
+    ensures { IfOk result (λ list. list.items ≡ map (as_numbered ledger.now) (filter (λ x. is_outstanding ledger.now marks.now.marks x && nat_eq x.switch switch) (first_commands ledger.now.pending.items))) }
 {
     let mut list = Vec::new(alloc);
     for command in ledger.first() {

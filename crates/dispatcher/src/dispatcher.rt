@@ -1,9 +1,9 @@
 //! The dispatcher of a primary.
-ghost use Rattle.std.specs.Prelude.{◌≡◌, ◌≤◌, ◌∷◌, ◌++◌, [], Option, Some, None, map, filter, nat_eq, true, IfOk, OnOk, if◌then◌else◌};
+ghost use Rattle.std.specs.Prelude.{◌≡◌, ◌≤◌, ◌∷◌, ◌++◌, [], Option, Some, None, map, filter, nat_eq, true, IfOk, if◌then◌else◌};
 ghost use Rattle.of_types.specs.declared.setup.Setup.{Setup};
 ghost use Rattle.of_types.specs.Setups.{IsSetup};
 ghost use Rattle.of_types.specs.Lives.{has_ended};
-ghost use Rattle.app_core.specs.Chain.{given_by};
+ghost use Rattle.app_core.specs.Chain.{given_by, starting_chain};
 ghost use Rattle.vr_log.specs.declared.entry.Entry.{Entry};
 ghost use Rattle.vr_log.specs.Log.{fits, follows, received, processed};
 ghost use Rattle.two_stage_log.specs.Counts as counts;
@@ -42,26 +42,26 @@ impl<A> Model for Dispatcher<A> {
 
     ghost Value = { Dispatching A };
 
-    ghost view = { λ d. record { app = d.app; switches = d.switches; ledger = d.ledger; marks = d.marks } };
+    ghost view = { λ d. record { app = d.app; switches = d.switches; ledger = d.ledger; marks = d.marks.marks; room = d.marks.room } };
 }
 
 impl<A: App> Dispatcher<A> {
-    /// Owns the application of a life, which starts here. No entry is committed.
-    pub fn new(alloc: Global, app: A, setup: &Setup) -> Result<Dispatcher<A>, AllocError>
+    /// Owns the application of a life, which has started. No entry is committed. It takes no memory.
+    pub fn new(alloc: Global, app: A, setup: &Setup) -> Dispatcher<A>
         requires setup { IsSetup setup.now }
+        requires suits { A.law.suits app setup.now }
+        requires starts { A.law.states app ≡ starting_chain (A.law.kinds app) }
         requires few { given_by (A.law.kinds app) ≤ most_commands }
-        ensures stands { IfOk result (λ d. StandsFor A.law d (A.law.kinds app) setup.now []) }
-        ensures marks { IfOk result (λ d. d.marks ≡ no_marks) }
+        ensures stands { StandsFor A.law result (A.law.kinds app) setup.now [] }
+        ensures marks { result.marks ≡ no_marks }
     {
-        let mut app = app;
-        app.start(alloc, setup)?;
-        Ok(Dispatcher {
+        Dispatcher {
             alloc,
             app,
             switches: setup.ports.len() as u8,
             ledger: Ledger::new(alloc),
             marks: ViewMarks::new(alloc),
-        })
+        }
     }
 
     /// How many switches there are.
@@ -71,8 +71,8 @@ impl<A: App> Dispatcher<A> {
         self.switches
     }
 
-    /// One entry more is committed: the application reacts to an event that is received. What is processed
-    /// comes back.
+    /// One entry more is committed: the application reacts to an event that is received, and room is made for the
+    /// results of its commands. What is processed comes back.
     pub fn fold(&mut self, entry: &Entry) -> Result<Option<Handled>, AllocError>
         ensures folds { ForEachLog (StandsFor A.law self.old) (λ kinds setup log. fits log entry.now ≡ true →
             IfOk result (λ handled. (handled ≡ handled_by kinds setup log entry.now) × StandsFor A.law self.new kinds setup (log ++ entry.now ∷ []))) }
@@ -82,6 +82,7 @@ impl<A: App> Dispatcher<A> {
             Entry::Received(event) => {
                 let commands = self.app.react(self.alloc, event)?;
                 self.ledger.receive(event, commands)?;
+                self.marks.reserve(self.ledger.unsettled())?;
                 Ok(None)
             }
             Entry::Processed(_) => self.ledger.process(),
@@ -127,37 +128,40 @@ impl<A: App> Dispatcher<A> {
     }
 
     /// A result of a command came: it counts where the command is of an event that is not processed, and tells
-    /// whether it is.
-    pub fn on_result(&mut self, switch: u8, life: u32, number: u64) -> Result<bool, AllocError>
-        ensures pending { ForEachLog (StandsFor A.law self.old) (λ kinds setup log. IfOk result (λ b. b ≡ is_pending kinds setup log switch life number)) }
-        ensures marks { ForEachLog (StandsFor A.law self.old) (λ kinds setup log. OnOk result (self.new.marks ≡ with_result kinds setup log self.old.marks switch life number)) }
-        ensures same { self.new ≡ record self.old { marks = self.new.marks } }
+    /// whether it is. It takes no memory: `fold` made the room.
+    pub fn on_result(&mut self, switch: u8, life: u32, number: u64) -> bool
+        ensures pending { ForEachLog (StandsFor A.law self.old) (λ kinds setup log. result ≡ is_pending kinds setup log switch life number) }
+        ensures marks { ForEachLog (StandsFor A.law self.old) (λ kinds setup log. self.new.marks ≡ with_result kinds setup log self.old.marks switch life number) }
+        ensures stands { ForEachLog (StandsFor A.law self.old) (StandsFor A.law self.new) }
+        ensures same { self.new ≡ record self.old { marks = self.new.marks; room = self.new.room } }
     {
-        let counts = self.ledger.counts_of(switch, life);
-        let pending = counts.settled <= number && number < counts.issued;
+        let pending = self.ledger.has_pending(switch, life, number);
         if pending {
-            self.marks.note_result(switch, life, number)?;
+            self.marks.note_result(switch, life, number);
         }
-        Ok(pending)
+        pending
     }
 
     /// A switch took this controller as master. It takes no memory.
     pub fn on_role(&mut self, switch: u8)
-        ensures { self.new ≡ record self.old { marks = confirmed_by self.old.marks switch } }
+        ensures marks { self.new ≡ record self.old { marks = confirmed_by self.old.marks switch } }
+        ensures stands { ForEachLog (StandsFor A.law self.old) (StandsFor A.law self.new) }
     {
         self.marks.confirm(switch);
     }
 
     /// A switch no longer has this controller as master. It takes no memory.
     pub fn off_role(&mut self, switch: u8)
-        ensures { self.new ≡ record self.old { marks = marks.off_role self.old.marks switch } }
+        ensures marks { self.new ≡ record self.old { marks = marks.off_role self.old.marks switch } }
+        ensures stands { ForEachLog (StandsFor A.law self.old) (StandsFor A.law self.new) }
     {
         self.marks.unconfirm(switch);
     }
 
     /// A view begins: what came in earlier ones is forgotten. It takes no memory.
     pub fn begin_view(&mut self)
-        ensures { self.new ≡ record self.old { marks = no_marks } }
+        ensures marks { self.new ≡ record self.old { marks = no_marks; room = self.new.room } }
+        ensures stands { ForEachLog (StandsFor A.law self.old) (StandsFor A.law self.new) }
     {
         self.marks.clear();
     }

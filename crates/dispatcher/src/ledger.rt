@@ -8,7 +8,7 @@ ghost use Rattle.vr_log.specs.Log.{received, fits};
 ghost use Rattle.app_core.specs.declared.issued.Issued.{Issued};
 ghost use Rattle.app_core.specs.Chain.{chain_next, chain_after, starting_chain};
 ghost use Rattle.app_core.specs.Issued.{issue_each};
-ghost use Rattle.dispatcher.specs.Ledger.{AreCounts, AreLives, IsCountedAs, IsLedger, counts_of, first_commands, handled_by, most_commands, one_issued, one_processed, one_settled};
+ghost use Rattle.dispatcher.specs.Ledger.{AreCounts, AreLives, IsCountedAs, IsLedger, counts_of, first_commands, handled_by, has_pending, most_commands, one_issued, one_processed, one_settled};
 
 use crate::answers::Handled;
 use crate::counts::{Counts, LifeCounts};
@@ -19,7 +19,7 @@ use std::alloc::{AllocError, Global};
 use std::collections::VecDeque;
 
 /// What is kept of a committed log: the present life of each switch, what is counted of each life, and the events that
-/// are received and not processed, with their commands.
+/// are received and not processed, with their commands. How many these are is kept beside them.
 #[derive(Drop)]
 pub(crate) struct Ledger {
     alloc: Global,
@@ -27,6 +27,7 @@ pub(crate) struct Ledger {
     counts: LifeCounts,
     pending: VecDeque<Handled>,
     processed: u64,
+    unsettled: usize,
 }
 
 impl Ledger {
@@ -40,6 +41,7 @@ impl Ledger {
             counts: LifeCounts::new(alloc),
             pending: VecDeque::new(alloc),
             processed: 0,
+            unsettled: 0,
         }
     }
 
@@ -48,6 +50,13 @@ impl Ledger {
         ensures { result ≡ self.now.processed }
     {
         self.processed
+    }
+
+    /// How many commands are issued and not settled.
+    pub(crate) fn unsettled(&self) -> usize
+        ensures { result ≡ self.now.unsettled }
+    {
+        self.unsettled
     }
 
     /// Whether an event is received and not processed.
@@ -86,6 +95,14 @@ impl Ledger {
         ensures { result ≡ counts_of self.now.counts switch life }
     {
         self.counts.of(switch, life)
+    }
+
+    /// Whether a number is that of a command that is issued and not settled.
+    pub(crate) fn has_pending(&self, switch: u8, life: u32, number: u64) -> bool
+        ensures { result ≡ has_pending self.now switch life number }
+    {
+        let counts = self.counts.of(switch, life);
+        counts.settled <= number && number < counts.issued
     }
 
     /// A command gets the present life of its switch, and the next number there.
@@ -128,6 +145,7 @@ impl Ledger {
     {
         self.lives.begin(event.switch, event.life);
         let commands = self.issue_each(commands)?;
+        self.unsettled = self.unsettled.saturating_add(commands.len());
         self.pending.push_back(Handled {
             switch: event.switch,
             life: event.life,
@@ -176,6 +194,7 @@ impl Ledger {
         self.processed = self.processed.saturating_add(1);
         self.count_processed(handled.switch, handled.life)?;
         self.settle_each(handled.commands.as_slice())?;
+        self.unsettled = self.unsettled.saturating_sub(handled.commands.len());
         Ok(Some(handled))
     }
 }

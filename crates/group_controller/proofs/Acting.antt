@@ -28,7 +28,7 @@ use Rattle.app_core.specs.Law.{AppLaw}
 use Rattle.dispatcher.specs.declared.answers.Handled.{Handled}
 use Rattle.dispatcher.specs.declared.numbered.Numbered.{Numbered}
 use Rattle.dispatcher.specs.Folding.{numbered}
-use Rattle.dispatcher.specs.Ledger.{Dispatching, StandsFor}
+use Rattle.dispatcher.specs.Ledger.{Dispatching, ForEachLog, StandsFor}
 use Rattle.dispatcher.specs.Marks.{Marks, confirmed_by, is_confirmed, outstanding}
 use Rattle.group_controller.specs.declared.messages.ControllerSays.{ControllerSays}
 use Rattle.group_controller.specs.Acting.{Acting, Acts, ActsUpTo, Begins, pair_with, posts, with_out, with_state, Works}
@@ -249,19 +249,14 @@ module _ {A : Type 0} (law : AppLaw A) (kinds : List ℕ) (setup : Setup) where
       is ∙ ap (λ (k : ℕ). posts start (map (role_letter start.work.state.vr.view) (filter (λ s. not (is_confirmed start.dispatcher.marks s)) (range_with_len 0 k)))) (size ∙ h.stands.size)
       ∙ ap (λ (m : Marks). posts start (map (role_letter start.work.state.vr.view) (filter (λ s. not (is_confirmed m s)) (range_with_len 0 (length setup.ports))))) (sym h.marks)
 
-  -- marks change nothing of what a dispatcher stands for
-  pub marked_stands : (d e : Dispatching A) (marks : Marks) (log : List Entry) → StandsFor law d kinds setup log → e ≡ record d { marks = marks } → StandsFor law e kinds setup log
-  marked_stands d e marks log h is =
-      subst (λ (x : Dispatching A). StandsFor law x kinds setup log) (sym is)
-      (record { kind = h.kind; few = h.few; suited = h.suited; states = h.states; size = h.size; ledger = h.ledger })
-
   -- a switch takes this controller as master
   pub master_does : (a b : Acting A) (d : Dispatching A) (switch role generation : ℕ) (commands : List Numbered) → Begins law a kinds setup →
       role ≡ MASTER → generation ≡ a.work.state.vr.view → d ≡ record a.dispatcher { marks = confirmed_by a.dispatcher.marks switch } →
+      ForEachLog (StandsFor law a.dispatcher) (StandsFor law d) →
       commands ≡ map (numbered kinds setup (committed a.work.state)) (filter (λ x. nat_eq x.switch switch) (outstanding kinds setup (committed a.work.state) d.marks)) →
       b ≡ posts (record a { work = record a.work { state = record a.work.state { marks = d.marks } }; dispatcher = d }) (map (command_letter a.work.state.vr.view) commands) →
       Does a (on_role_reply kinds setup a.work.state switch role generation) b
-  master_does a b d switch role generation commands h role_is view_is marked are is =
+  master_does a b d switch role generation commands h role_is view_is marked still are is =
       let c = a.work.state in
       let takes : (nat_eq role MASTER && nat_eq generation c.vr.view) ≡ true = rw (eq-eqb role MASTER role_is, eq-eqb generation c.vr.view view_is) refl in
       let now : ControllerState = record c { marks = confirmed_by c.marks switch } in
@@ -275,7 +270,7 @@ module _ {A : Type 0} (law : AppLaw A) (kinds : List ℕ) (setup : Setup) where
         valid = h.acts.valid;
         own = h.acts.own;
         reach = h.acts.reach;
-        stands = marked_stands a.dispatcher d (confirmed_by a.dispatcher.marks switch) (committed c) h.acts.stands marked;
+        stands = still kinds setup (committed c) h.acts.stands;
         marks = refl;
         saves = h.acts.saves;
       } in

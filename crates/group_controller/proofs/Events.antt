@@ -1,23 +1,20 @@
--- Events, results, and steps of the member.
-use Rattle.std.proofs.Common.{◌≡◌, ℕ, Bool, true, false, ◌&&◌, List, [], ◌∷◌, refl, sym, ap, subst, ◌∙◌}
-use Rattle.std.specs.Prelude.{nat_lt, None, if◌then◌else◌}
+-- Events, and steps of the member.
+use Rattle.std.proofs.Common.{◌≡◌, ℕ, Bool, true, false, ◌&&◌, List, [], ◌∷◌, refl, sym, ap, ◌∙◌}
+use Rattle.std.specs.Prelude.{nat_lt, if◌then◌else◌}
 use Rattle.of_types.specs.declared.setup.Setup.{Setup}
 use Rattle.vr_log.specs.Members.{leads}
 use Rattle.vr_log.specs.Steps.{VrStep}
 use Rattle.vr_log.specs.declared.entry.Entry.TheVariants.{Received}
-use Rattle.vr_core.proofs.Lasting.{lasts_same}
 use Rattle.dispatcher.specs.Folding.{wish}
-use Rattle.dispatcher.specs.Ledger.{Dispatching}
 use Rattle.of_types.specs.declared.message.Event.{Event}
 use Rattle.app_core.specs.Law.{AppLaw}
 use Rattle.dispatcher.specs.declared.answers.Wish.{Wish}
 use Rattle.dispatcher.specs.declared.answers.Wish.TheVariants.{Propose, Acknowledge, Nothing}
-use Rattle.dispatcher.specs.Marks.{Marks, is_pending, with_mark, with_result}
 use Rattle.group_controller.specs.Acting.{Acting, Acts, Begins, posts, Works}
-use Rattle.group_controller.specs.Rules.{after_step, has_started, on_event, on_result, on_wish, starting_view}
+use Rattle.group_controller.specs.Rules.{after_step, has_started, on_event, on_wish, starting_view}
 use Rattle.group_controller.specs.Settling.{after_finishing, settling, ack_letter, after_proposal, goes_on}
-use Rattle.group_controller.specs.State.{ControllerState, Work, committed, posting, resting, stepped}
-use Rattle.group_controller.proofs.Acting.{does_as, marked_stands, posts_does, stays, then_does}
+use Rattle.group_controller.specs.State.{Work, committed, posting, resting, stepped}
+use Rattle.group_controller.proofs.Acting.{does_as, posts_does, stays, then_does}
 
 module _ {A : Type 0} (law : AppLaw A) (kinds : List ℕ) (setup : Setup) where
   abbrev IsActing : Acting A → Type 0
@@ -56,41 +53,6 @@ module _ {A : Type 0} (law : AppLaw A) (kinds : List ℕ) (setup : Setup) where
 
   pub event_nothing : (a : Acting A) (event : Event) → Begins law a kinds setup → wish a.work.state.vr.log (committed a.work.state) event ≡ Nothing → Does a (on_event kinds setup a.work.state event) a
   event_nothing a event h is = does_as law kinds setup a a a.work (on_event kinds setup a.work.state event) (h.rests ∙ sym (event_rule a event Nothing is)) (stays law kinds setup a h.acts)
-
-  -- a result
-  pub result_acts : (a b : Acting A) (d : Dispatching A) → IsActing a → d ≡ record a.dispatcher { marks = d.marks } →
-      b ≡ record a { work = record a.work { state = record a.work.state { marks = d.marks } }; dispatcher = d } → IsActing b
-  result_acts a b d h marked is =
-      subst (λ (x : Acting A). IsActing x) (sym is)
-      (record { valid = h.valid; own = h.own; reach = h.reach; stands = marked_stands law kinds setup a.dispatcher d d.marks (committed a.work.state) h.stands marked; marks = refl; saves = h.saves })
-
-  pub result_finishes : (a b n : Acting A) (d : Dispatching A) (switch life number : ℕ) → Begins law a kinds setup → is_pending kinds setup (committed a.work.state) switch life number ≡ true →
-      d ≡ record a.dispatcher { marks = d.marks } → d.marks ≡ with_result kinds setup (committed a.work.state) a.dispatcher.marks switch life number →
-      b ≡ record a { work = record a.work { state = record a.work.state { marks = d.marks } }; dispatcher = d } → Does b (after_finishing kinds setup b.work) n → Does a (on_result kinds setup a.work.state switch life number) n
-  result_finishes a b n d switch life number h pending marked marks is rest =
-      let c = a.work.state in
-      let now : ControllerState = record c { marks = with_result kinds setup (committed c) c.marks switch life number } in
-      let acts = result_acts a b d h.acts marked is in
-      let marks' : d.marks ≡ now.marks = marks ∙ ap (λ (m : Marks). with_result kinds setup (committed c) m switch life number) (sym h.acts.marks) in
-      let work : b.work ≡ resting now =
-      ap (λ (x : Acting A). x.work) is ∙ ap (λ (w : Work). record w { state = record c { marks = d.marks } }) h.rests ∙ ap (λ (m : Marks). resting (record c { marks = m })) marks' in
-      let first : Does a b.work b = subst (λ (x : Acting A). IsActing x → Does a x.work x) (sym is) (λ k. record { acts = k; work_is = refl; saved = None; lasts = lasts_same c.vr; promise_is = refl }) acts in
-      does_as law kinds setup a n (after_finishing kinds setup b.work) (on_result kinds setup c switch life number)
-      (ap (λ (w : Work). after_finishing kinds setup w) work ∙ sym (ap (λ (b : Bool). if b then after_finishing kinds setup (resting now) else resting c) pending))
-      (then_does law kinds setup a b n b.work (after_finishing kinds setup b.work) first rest)
-
-  pub result_rests : (a b : Acting A) (d : Dispatching A) (switch life number : ℕ) → Begins law a kinds setup → is_pending kinds setup (committed a.work.state) switch life number ≡ false →
-      d ≡ record a.dispatcher { marks = d.marks } → d.marks ≡ with_result kinds setup (committed a.work.state) a.dispatcher.marks switch life number →
-      b ≡ record a { work = record a.work { state = record a.work.state { marks = d.marks } }; dispatcher = d } → Does a (on_result kinds setup a.work.state switch life number) b
-  result_rests a b d switch life number h off marked marks is =
-      let c = a.work.state in
-      let now : ControllerState = record c { marks = with_result kinds setup (committed c) c.marks switch life number } in
-      let acts = result_acts a b d h.acts marked is in
-      let same : d.marks ≡ c.marks = marks ∙ ap (λ (b : Bool). if b then with_mark a.dispatcher.marks switch life number else a.dispatcher.marks) off ∙ sym h.acts.marks in
-      let work : b.work ≡ resting c =
-      ap (λ (x : Acting A). x.work) is ∙ ap (λ (w : Work). record w { state = record c { marks = d.marks } }) h.rests ∙ ap (λ (m : Marks). resting (record c { marks = m })) same in
-      let first : Does a b.work b = subst (λ (x : Acting A). IsActing x → Does a x.work x) (sym is) (λ k. record { acts = k; work_is = refl; saved = None; lasts = lasts_same c.vr; promise_is = refl }) acts in
-      does_as law kinds setup a b b.work (on_result kinds setup c switch life number) (work ∙ sym (ap (λ (b : Bool). if b then after_finishing kinds setup (resting now) else resting c) off)) first
 
   -- a step of the member, whether it leads or not
   step_rule : (a : Acting A) (step : VrStep) (started settled : Bool) → has_started a.work.state.vr step.state ≡ started → (leads step.state && nat_lt a.work.state.vr.commit step.state.commit) ≡ settled →

@@ -13,14 +13,14 @@ use Rattle.vr_core.proofs.Lasting.{lasts_on, lasts_same, later_of_three}
 use Rattle.app_core.specs.Law.{AppLaw}
 use Rattle.dispatcher.specs.declared.answers.Handled.{Handled}
 use Rattle.dispatcher.specs.Folding.{places_processed}
-use Rattle.dispatcher.specs.Ledger.{Dispatching}
+use Rattle.dispatcher.specs.Ledger.{Dispatching, ForEachLog, StandsFor}
 use Rattle.dispatcher.specs.Marks.{Marks, no_marks}
 use Rattle.group_controller.specs.declared.messages.ControllerSays.{ControllerSays}
 use Rattle.group_controller.specs.Acting.{Acting, Acts, ActsUpTo, answers_to, AreNew, posts, with_state, Works}
 use Rattle.group_controller.specs.Rules.{starting_view, switches, unconfirmed}
 use Rattle.group_controller.specs.Settling.{after_finishing, finishing, is_settled, processing, settling, after_proposal, answers_at, goes_on, is_alone, with_answers, role_letter, with_commands, with_proposal}
 use Rattle.group_controller.specs.State.{ControllerState, Work, committed, met_limit, posting, leaving}
-use Rattle.group_controller.proofs.Acting.{Proposing, does_as, marked_stands, posts_does, stays, then_does}
+use Rattle.group_controller.proofs.Acting.{Proposing, does_as, posts_does, stays, then_does}
 use Rattle.group_controller.proofs.Answering.{answers_new}
 use Rattle.group_controller.proofs.Finishing.{filter_all, finishing_last, finishing_more, finishing_none, finishing_rests}
 
@@ -160,15 +160,14 @@ module _ {A : Type 0} (law : AppLaw A) (kinds : List ℕ) (setup : Setup) where
       (then_does law kinds setup a b n w (after_finishing kinds setup c.work) first (then_does law kinds setup b c n (with_commands kinds setup b.work) (after_finishing kinds setup c.work) second third))
 
   -- a view starts
-  pub begin_does : (a b c n : Acting A) (d : Dispatching A) → IsActing a → d ≡ record a.dispatcher { marks = no_marks } →
+  pub begin_does : (a b c n : Acting A) (d : Dispatching A) → IsActing a → d.marks ≡ no_marks → ForEachLog (StandsFor law a.dispatcher) (StandsFor law d) →
       b ≡ record a { work = record a.work { state = record a.work.state { marks = d.marks; last_told = None } }; dispatcher = d } →
       c ≡ posts b (map (role_letter b.work.state.vr.view) (unconfirmed setup b.work.state)) → Does c (settling kinds setup c.work.state.vr.commit c.work) n → Does a (starting_view kinds setup a.work) n
-  begin_does a b c n d h marked is asked settled =
+  begin_does a b c n d h marks still is asked settled =
       let s : ControllerState = record a.work.state { marks = no_marks; last_told = None } in
       let first : Acting A = record a { work = leaving a.work s; dispatcher = d } in
-      let marks : d.marks ≡ no_marks = ap (λ (x : Dispatching A). x.marks) marked in
       let begins : b ≡ first = is ∙ ap (λ (m : Marks). record a { work = leaving a.work (record a.work.state { marks = m; last_told = None }); dispatcher = d }) marks in
-      let acts : IsActing first = record { valid = h.valid; own = h.own; reach = h.reach; stands = marked_stands law kinds setup a.dispatcher d no_marks (committed a.work.state) h.stands marked; marks = sym marks; saves = h.saves } in
+      let acts : IsActing first = record { valid = h.valid; own = h.own; reach = h.reach; stands = still kinds setup (committed a.work.state) h.stands; marks = sym marks; saves = h.saves } in
       let letters = map (role_letter a.work.state.vr.view) (switches setup) in
       let all : c ≡ posts first letters =
       asked ∙ ap (λ (x : Acting A). posts x (map (role_letter x.work.state.vr.view) (unconfirmed setup x.work.state))) begins
@@ -179,8 +178,8 @@ module _ {A : Type 0} (law : AppLaw A) (kinds : List ℕ) (setup : Setup) where
       (ap (λ (w : Work). settling kinds setup w.state.vr.commit w) second.work_is)
       (then_does law kinds setup a first n (leaving a.work s) (settling kinds setup c.work.state.vr.commit c.work) left (then_does law kinds setup first c n (posting first.work letters) (settling kinds setup c.work.state.vr.commit c.work) second settled))
 
-  pub begun_acts : (a b : Acting A) (d : Dispatching A) → IsActing a → d ≡ record a.dispatcher { marks = no_marks } →
+  pub begun_acts : (a b : Acting A) (d : Dispatching A) → IsActing a → ForEachLog (StandsFor law a.dispatcher) (StandsFor law d) →
       b ≡ record a { work = record a.work { state = record a.work.state { marks = d.marks; last_told = None } }; dispatcher = d } → IsActing b
-  begun_acts a b d h marked is =
+  begun_acts a b d h still is =
       subst (λ (x : Acting A). IsActing x) (sym is)
-      (record { valid = h.valid; own = h.own; reach = h.reach; stands = marked_stands law kinds setup a.dispatcher d no_marks (committed a.work.state) h.stands marked; marks = refl; saves = h.saves })
+      (record { valid = h.valid; own = h.own; reach = h.reach; stands = still kinds setup (committed a.work.state) h.stands; marks = refl; saves = h.saves })

@@ -95,9 +95,11 @@ impl<A: App> Active<A> {
         ensures begins { IfOk result (λ a. Begins A.law a (A.law.kinds app) setup.now) }
         ensures state { IfOk result (λ a. a.work.state ≡ fresh replica) }
     {
+        let mut app = app;
+        app.start(alloc, setup)?;
         Ok(Active {
             replica,
-            dispatcher: Dispatcher::new(alloc, app, setup)?,
+            dispatcher: Dispatcher::new(alloc, app, setup),
             last_told: None,
             full: None,
             promise: None,
@@ -365,7 +367,7 @@ impl<A: App> Active<A> {
         requires leads { members.leads self.old.work.state.vr ≡ true }
         ensures { ForEachGroup (Begins A.law self.old) (λ kinds setup. OnOk result (Works A.law kinds setup self.old (rules.on_result kinds setup self.old.work.state switch life number) self.new)) }
     {
-        if self.dispatcher.on_result(switch, life, number)? {
+        if self.dispatcher.on_result(switch, life, number) {
             self.finish_all()
         } else {
             Ok(())

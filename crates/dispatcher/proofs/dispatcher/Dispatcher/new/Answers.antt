@@ -1,9 +1,7 @@
-use Rattle.std.proofs.Common.{◌≤◌, subst, sym}
-use Rattle.app_core.specs.Chain.{given_by}
-use Rattle.dispatcher.specs.Ledger.{most_commands}
+use Rattle.std.proofs.Common.{refl}
+use Rattle.dispatcher.proofs.Rooms.{room_at_first}
 use Rattle.dispatcher.proofs.dispatcher.Dispatcher.new.Goals as goal
 
 pub returns-clause-stands : goal.returns-clause-stands
 returns-clause-stands g c =
-    let s = c.in_ok-start.ensures in
-    record { kind = s.kinds; few = subst (λ ks. given_by ks ≤ most_commands) (sym s.kinds) c.requires.few; suited = s.suits; states = s.states; size = c.len.ensures; ledger = c.new.ensures _ _ }
+    record { kind = refl; few = c.requires.few; suited = c.requires.suits; states = c.requires.starts; size = c.len.ensures; ledger = c.new.ensures _ _; room = room_at_first _ _ _ _ c.new-2.ensures }

@@ -3,14 +3,14 @@ use Rattle.std.specs.Prelude.{OnOk}
 use Rattle.std.proofs.lemmas.Result.{on_ok_weaker}
 use Rattle.group_controller.specs.Acting.{Acting, Begins, Works}
 use Rattle.group_controller.specs.Rules.{on_role_reply}
-use Rattle.group_controller.proofs.Acting.{master_does, marked_stands}
+use Rattle.group_controller.proofs.Acting.{master_does}
 use Rattle.group_controller.proofs.active.Active.on_role_reply.Goals as goal
 
 pub returns : goal.returns
 returns g c = λ kinds setup begins.
     let inside = subst (λ (a : Acting _). Begins g.A.App.law a kinds setup) (sym c.self.view_is) begins in
-    let stands = marked_stands g.A.App.law kinds setup c.self.inside.dispatcher c.on_role.new.self _ _ inside.acts.stands c.on_role.ensures in
+    let stands = c.on_role.ensures.stands kinds setup _ inside.acts.stands in
     subst (λ (a : Acting _). OnOk c.send.result (Works g.A.App.law kinds setup a (on_role_reply kinds setup a.work.state c.args.switch c.args.role c.args.generation) c.send.new.self)) c.self.view_is
     (on_ok_weaker c.send.result
-    (λ sent. master_does g.A.App.law kinds setup _ c.send.new.self c.on_role.new.self c.args.switch c.args.role c.args.generation c.in_ok-commands.commands.items inside (search rules) (search rules) c.on_role.ensures (c.in_ok-commands.ensures kinds setup _ stands) sent)
+    (λ sent. master_does g.A.App.law kinds setup _ c.send.new.self c.on_role.new.self c.args.switch c.args.role c.args.generation c.in_ok-commands.commands.items inside (search rules) (search rules) c.on_role.ensures.marks c.on_role.ensures.stands (c.in_ok-commands.ensures kinds setup _ stands) sent)
     c.send.ensures)

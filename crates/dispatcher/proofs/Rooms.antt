@@ -1,4 +1,4 @@
--- There is room for the results that may still come: as they come, as a log grows, and once a view begins.
+-- There is room for the results that may still come: as they come, and as a log grows.
 use Rattle.std.proofs.Common.{inl, inr, ◌≡◌, ◌<◌, ◌≤◌, ℕ, zero, suc, ◌+◌, Bool, true, false, not, ◌&&◌, ◌||◌, List, [], ◌∷◌, ◌++◌, length, drop, refl, sym, ap, subst, ◌∙◌, arith, append-nil, length-append}
 use Rattle.std.specs.Prelude.{IfOk, IsOk, OnErr, Result, Ok, Err, cond, count_by, nat_eq, if◌then◌else◌}
 use Rattle.std.specs.List.{list_any}
@@ -31,6 +31,7 @@ insert_room (Err e) there keys keys' spare spare' added counted same succeeds le
     let long = ap (λ (l : List _). length l) same in
     elim (cases_lt 0 spare) [ inl some ↦ absurd cc (succeeds some) | inr none ↦ omega (arith, long, none) ]
 
+-- q passes what p does but what t does
 module _ (p q t : Issued → Bool) (left : (x : Issued) → t x ≡ true → (p x ≡ true) × (q x ≡ false)) (same : (x : Issued) → t x ≡ false → q x ≡ p x) where
   counts_within : (xs : List Issued) → count_by q xs ≤ count_by p xs
   counts_within [] = omega arith

@@ -2,11 +2,17 @@
 
 use crate::meeting::{meet_at_gate, meet_in_saves};
 use crate::play::play;
+use crate::refusals::go_on;
 use cases::{Difference, Kind, Tally, name_of, read_case, read_row, read_text, shown};
 use std::io;
 use std::rt::Files;
 use std::sync::Wait;
 use std::thread::Threads;
+
+/// The controllers that find no memory, one in each run, and the most events that such a one takes before.
+const WANTING_CONTROLLERS: u8 = 5;
+
+const MOST_EVENTS: u64 = 3;
 
 /// What a line of an index names, and its path.
 enum Entry<'a> {
@@ -14,6 +20,7 @@ enum Entry<'a> {
     Rows(&'a str),
     MeetAtGate(&'a str),
     MeetInSaves(&'a str),
+    Refusals(&'a str),
 }
 
 impl<'a> Entry<'a> {
@@ -25,6 +32,7 @@ impl<'a> Entry<'a> {
             ("rows", path) => Some(Entry::Rows(path)),
             ("gate", path) => Some(Entry::MeetAtGate(path)),
             ("save", path) => Some(Entry::MeetInSaves(path)),
+            ("refusals", path) => Some(Entry::Refusals(path)),
             _ => None,
         }
     }
@@ -48,6 +56,7 @@ pub fn play_index<R: Files + AllocGlobal + Print + Threads + Wait + Sync>(
             Some(Entry::Rows(path)) => play_table(rt, path, tally)?,
             Some(Entry::MeetAtGate(path)) => tally.count(rt, path, play_at_gate(rt, path))?,
             Some(Entry::MeetInSaves(path)) => tally.count(rt, path, play_in_saves(rt, path))?,
+            Some(Entry::Refusals(path)) => play_refusals(rt, path, tally)?,
             None => {
                 let line = shown(rt.alloc(), Some(line))?;
                 tally.count(rt, path, Err(Difference::Grammar { number, line }))?;
@@ -107,4 +116,28 @@ fn play_table<R: Files + AllocGlobal + Print + Threads + Wait + Sync>(
             .saturating_add(1);
     }
     Ok(())
+}
+
+/// Plays a scenario of five controllers behind each refusal.
+fn play_refusals<R: Files + AllocGlobal + Print>(
+    rt: &R,
+    path: &str,
+    tally: &mut Tally,
+) -> io::Result<()> {
+    for controller in 0..WANTING_CONTROLLERS {
+        for events in 0..=MOST_EVENTS {
+            tally.count(rt, path, play_refused(rt, path, controller, events))?;
+        }
+    }
+    Ok(())
+}
+
+fn play_refused<R: Files + AllocGlobal>(
+    rt: &R,
+    path: &str,
+    controller: u8,
+    events: u64,
+) -> Result<(), Difference> {
+    let scenario = read_text(rt, path)?;
+    go_on(rt.alloc(), scenario.as_bytes(), controller, events)
 }

@@ -5,7 +5,9 @@
 mod index;
 mod meeting;
 mod play;
+mod refusals;
 mod serving;
+mod wanting;
 
 use crate::index::play_index;
 use cases::Tally;

@@ -1,4 +1,5 @@
-//! A run that goes on behind turns that found no memory.
+//! A run that goes on behind turns that find no memory: the run of a scenario, one of whose controllers finds none for one of its
+//! events. It comes to rest, and the audit holds what its switches did against one controller that never fails.
 ghost use Rattle.std.specs.Prelude.{◌<◌, ℕ, List, length, IfSome};
 ghost use Rattle.std.specs.List.{AllByRecursion};
 ghost use Rattle.rv_base.specs.Actors.{IsActor};
@@ -9,6 +10,7 @@ ghost use Rattle.scenario.specs.Scenario.{IsScenario};
 use crate::wanting::{Wanting, app_of, shelves_of};
 use app_core::App;
 use audit::{Verdict, check};
+use cases::Difference;
 use closing::{Closed, may_close};
 use report::text;
 use rv_actors::Bytes;
@@ -16,19 +18,26 @@ use rv_base::{JournalEntry, MemoryStable, Stable, Stop, Turn};
 use rv_bodies::Body;
 use rv_record::sums_of;
 use rv_world::World;
-use scenario::Scenario;
+use scenario::{Scenario, read_scenario};
 use std::alloc::{AllocError, Global};
 use top_call::stables;
 
 /// How a run came out: its switches did what one controller that never fails issues, and so many inputs were refused; or it differs.
 #[derive(Drop)]
-pub enum Outcome {
+enum Outcome {
     Same { refused: u64 },
     Differs,
 }
 
 /// How often a closing may find no memory.
 const ATTEMPTS: usize = 8;
+
+/// What a run lacks.
+const NO_SCENARIO: Difference = Difference::Row("a scenario");
+
+const NOT_REFUSED: Difference = Difference::Row("an input that is refused for want of memory");
+
+const NOT_SOUND: Difference = Difference::Row("a rest at which its report is sound");
 
 /// Takes the steps in order, and goes on behind those that find no memory.
 fn take_steps<B: Body, A: App, W: Stable>(
@@ -92,7 +101,7 @@ fn is_sound(alloc: Global, world: &World<Bytes, Wanting>, primary: u8) -> Result
 }
 
 /// Plays a scenario whose controller of a number finds no memory once it has taken so many events.
-pub fn play(
+fn play(
     alloc: Global,
     scenario: &Scenario,
     controller: u8,
@@ -115,5 +124,18 @@ pub fn play(
         Ok(Outcome::Same { refused })
     } else {
         Ok(Outcome::Differs)
+    }
+}
+
+/// Plays the scenario of these bytes so, and tells what it lacks. One that takes no event finds no memory for the first that it
+/// hears of.
+pub fn go_on(alloc: Global, bytes: &[u8], controller: u8, events: u64) -> Result<(), Difference> {
+    let Ok(scenario) = read_scenario(alloc, bytes) else {
+        return Err(NO_SCENARIO);
+    };
+    match play(alloc, &scenario, controller, events)? {
+        Outcome::Same { refused: 0 } if events == 0 => Err(NOT_REFUSED),
+        Outcome::Same { .. } => Ok(()),
+        Outcome::Differs => Err(NOT_SOUND),
     }
 }

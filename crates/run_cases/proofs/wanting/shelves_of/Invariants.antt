@@ -1,8 +1,8 @@
 use Rattle.std.proofs.Common.{◌≡◌, ◌∷◌, [], length}
 use Rattle.app_core.specs.Chain.{learning}
 use Rattle.rv_world.specs.World.{AreStocked}
-use Rattle.run_refusals.specs.contracts.wanting.WantingApp.TheImpl.{ghosts}
-use Rattle.run_refusals.proofs.wanting.shelves_of.Given as goal
+use Rattle.run_cases.specs.contracts.wanting.WantingApp.TheImpl.{ghosts}
+use Rattle.run_cases.proofs.wanting.shelves_of.Given as goal
 
 abbrev pub invariant-controllers : goal.invariant-controllers
 invariant-controllers l = record {

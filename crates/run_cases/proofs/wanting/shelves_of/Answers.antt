@@ -2,8 +2,8 @@ use Rattle.std.proofs.Common.{◌+◌, ◌∷◌, [], List, length, length-appen
 use Rattle.rv_base.proofs.All.{all_append}
 use Rattle.app_core.specs.Chain.{learning}
 use Rattle.rv_world.specs.World.{AreStocked, IsStocked}
-use Rattle.run_refusals.specs.contracts.wanting.WantingApp.TheImpl.{ghosts}
-use Rattle.run_refusals.proofs.wanting.shelves_of.Goals as goal
+use Rattle.run_cases.specs.contracts.wanting.WantingApp.TheImpl.{ghosts}
+use Rattle.run_cases.proofs.wanting.shelves_of.Goals as goal
 
 pub controllers-preserved : goal.controllers-preserved
 controllers-preserved c = record {

@@ -5,7 +5,7 @@ use Rattle.rv_base.proofs.All.{all_get}
 use Rattle.rv_world.proofs.Acting.{stood_at}
 use Rattle.rv_world.proofs.Turning.{keeps_then}
 use Rattle.closing.proofs.Parts.{keeps_none}
-use Rattle.run_refusals.proofs.outcome.take_steps.Goals as goal
+use Rattle.run_cases.proofs.refusals.take_steps.Goals as goal
 
 pub loop-step-init : goal.loop-step-init
 loop-step-init g c = keeps_none g.A.App.law g.W.Stable.saving g.B.Body.sealing c.args.world.now c.args.stables.now c.requires.pairs

@@ -1,5 +1,5 @@
 use Rattle.rv_world.specs.World.{Keeps}
-use Rattle.run_refusals.proofs.outcome.take_steps.Given as goal
+use Rattle.run_cases.proofs.refusals.take_steps.Given as goal
 
 abbrev pub invariant-loop-step : goal.invariant-loop-step
 invariant-loop-step g l = Keeps g.A.App.law g.W.Stable.saving g.B.Body.sealing l.fn.world l.fn.stables l.world l.stables

@@ -8,8 +8,8 @@ use Rattle.rv_base.specs.Turns.{turn_actor}
 use Rattle.app_core.specs.Chain.{learning}
 use Rattle.rv_world.specs.World.{PairsStand}
 use Rattle.top_call.proofs.Ran.{fresh_pairs}
-use Rattle.run_refusals.specs.contracts.wanting.WantingApp.TheImpl.{ghosts}
-use Rattle.run_refusals.proofs.outcome.play.Goals as goal
+use Rattle.run_cases.specs.contracts.wanting.WantingApp.TheImpl.{ghosts}
+use Rattle.run_cases.proofs.refusals.play.Goals as goal
 
 pub take_steps-requires-clause-holds : goal.take_steps-requires-clause-holds
 take_steps-requires-clause-holds c = (learning ∷ [], c.in_ok-world.ensures.holds (learning ∷ []) c.in_ok-shelves.ensures.stocked)

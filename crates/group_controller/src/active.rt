@@ -15,6 +15,7 @@ ghost use Rattle.group_controller.specs.Settling as settling;
 ghost use Rattle.group_controller.specs.Settling.{after_finishing, after_proposal, command_letter, finishing, goes_on, role_letter, with_commands};
 ghost use Rattle.group_controller.specs.State.{fresh, resting, with_no_met_limit};
 ghost use Rattle.app_core.specs.Chain.{given_by};
+ghost use Rattle.group_controller.specs.declared.messages.ControllerInput.TheVariants as controller_input;
 
 use crate::letters::{ack_letter, add_clears, add_commands, add_members, role_letter, to_switch};
 use crate::messages::{ControllerInput, ControllerSays};
@@ -402,20 +403,46 @@ impl<A: App> Active<A> {
         ensures { ForEachGroup (Begins A.law self.old) (λ kinds setup. OnOk result (Works A.law kinds setup self.old (rules.on_spoken kinds setup self.old.work.state switch message) self.new)) }
     {
         match message {
-            Spoken::Plain(OfMessage::RoleReply { role, generation }) => {
-                self.on_role_reply(switch, role, generation)
+            Spoken::Plain(message) => {
+                let answer = self.on_plain(switch, &message);
+                drop(message);
+                answer
             }
-            Spoken::Plain(OfMessage::Hello) => self.on_hello(switch),
-            Spoken::Ravana(Extension::Event { life, number, what }) => self.on_event(Event {
+            Spoken::Ravana(message) => self.on_extension(switch, message),
+        }
+    }
+
+    /// A message of OpenFlow itself.
+    fn on_plain(&mut self, switch: u8, message: &OfMessage) -> Result<(), AllocError>
+        ensures { ForEachGroup (Begins A.law self.old) (λ kinds setup. OnOk result (Works A.law kinds setup self.old (rules.on_plain kinds setup self.old.work.state switch message.now) self.new)) }
+    {
+        match message {
+            OfMessage::RoleReply { role, generation } => {
+                self.on_role_reply(switch, *role, *generation)
+            }
+            OfMessage::Hello => self.on_hello(switch),
+            _ => Ok(()),
+        }
+    }
+
+    /// A message of the extension: events and results.
+    fn on_extension(&mut self, switch: u8, message: Extension) -> Result<(), AllocError>
+        requires begins { InSomeGroup (Begins A.law self.old) }
+        requires leads { members.leads self.old.work.state.vr ≡ true }
+        ensures { ForEachGroup (Begins A.law self.old) (λ kinds setup. OnOk result (Works A.law kinds setup self.old (rules.on_extension kinds setup self.old.work.state switch message) self.new)) }
+    {
+        match message {
+            Extension::Event { life, number, what } => self.on_event(Event {
                 switch,
                 life,
                 number,
                 what,
             }),
-            Spoken::Ravana(Extension::CmdAck { life, number, .. }) => {
-                self.on_result(switch, life, number)
+            Extension::CmdAck { life, number, .. } => self.on_result(switch, life, number),
+            other => {
+                drop(other);
+                Ok(())
             }
-            _ => Ok(()),
         }
     }
 
@@ -451,6 +478,7 @@ impl<A: App> Active<A> {
                 if self.replica.leads() {
                     self.on_spoken(switch, message)
                 } else {
+                    drop(message);
                     Ok(())
                 }
             }
@@ -489,6 +517,25 @@ impl<A: App> Active<A> {
         dispatcher.into_app()
     }
 
+    /// What it does with a local input. A crash takes no memory here.
+    fn on_local(&mut self, local: &Local) -> Result<(), AllocError>
+        requires begins { InSomeGroup (Begins A.law self.old) }
+        ensures works { ForEachGroup (Begins A.law self.old) (λ kinds setup. rules.is_crash (controller_input.Local local.now) ≡ false →
+            OnOk result (Works A.law kinds setup self.old (rules.on_local kinds setup self.old.work.state local.now) self.new)) }
+        ensures crash { OnErr result (rules.is_crash (controller_input.Local local.now) ≡ false) }
+    {
+        match local {
+            Local::Tick => self.tick(),
+            Local::Suspect { view } => {
+                let input = VrInput::Suspect { view: *view };
+                let answer = self.step(&input);
+                drop(input);
+                answer
+            }
+            _ => Ok(()),
+        }
+    }
+
     /// What it does with an input. A crash is told by the caller, and takes no memory here.
     pub(crate) fn on_input(&mut self, input: ControllerInput) -> Result<(), AllocError>
         requires begins { InSomeGroup (Begins A.law self.old) }
@@ -497,17 +544,23 @@ impl<A: App> Active<A> {
         ensures crash { OnErr result (rules.is_crash input ≡ false) }
     {
         match input {
-            ControllerInput::Local(Local::Tick) => self.tick(),
-            ControllerInput::Local(Local::Suspect { view }) => self.step(&VrInput::Suspect {
-                view,
-            }),
+            ControllerInput::Local(local) => {
+                let answer = self.on_local(&local);
+                drop(local);
+                answer
+            }
             ControllerInput::Of {
                 switch,
                 xid,
                 message,
             } => self.on_switch(switch, xid, message),
-            ControllerInput::Vr { from, message } => self.step(&VrInput::From { from, message }),
-            ControllerInput::Local(_) | ControllerInput::Malformed { .. } => Ok(()),
+            ControllerInput::Vr { from, message } => {
+                let input = VrInput::From { from, message };
+                let answer = self.step(&input);
+                drop(input);
+                answer
+            }
+            ControllerInput::Malformed { .. } => Ok(()),
         }
     }
 }

@@ -76,10 +76,10 @@ fn is_crash(input: &ControllerInput) -> bool
 }
 
 /// Whether this is what one that is down takes. All else is let go.
-fn is_restart(input: ControllerInput) -> bool
-    ensures { result ≡ is_restart input }
+fn is_restart(input: &ControllerInput) -> bool
+    ensures { result ≡ is_restart input.now }
 {
-    match &input {
+    match input {
         ControllerInput::Local(local) => controller_life::is_restart(local),
         _ => false,
     }
@@ -354,7 +354,9 @@ impl<A: App> Controller<A> {
         match self.active.take() {
             Some(active) => self.act(active, input, stable),
             None => {
-                if is_restart(input) {
+                let restarts = is_restart(&input);
+                drop(input);
+                if restarts {
                     self.restart(stable)
                 } else {
                     Ok(Letters::new(self.alloc))

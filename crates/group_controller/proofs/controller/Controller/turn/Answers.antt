@@ -18,26 +18,26 @@ returns-in-Some-clause-pair g c =
     let known = c.requires.pair ∙ pair_known g.A.App.law kinds c.args.self.now c.requires.controls.1 ∙ ap (λ (x : Controlling _). (x.promise, x.life)) (sym c.self.view_is) in
     c.act.ensures.pair known ∙ sym (pair_known g.A.App.law kinds c.act.new.self (c.act.ensures.controls kinds cut))
 
-pub returns-then-is_restart-clause-turn : goal.returns-then-is_restart-clause-turn
-returns-then-is_restart-clause-turn g c = λ kinds stood.
+pub returns-then-restarts-clause-turn : goal.returns-then-restarts-clause-turn
+returns-then-restarts-clause-turn g c = λ kinds stood.
     let i = c.self.inside in
     let now : Controlling _ = record { setup = i.setup; me = i.me; promise = i.promise; life = i.life; acting = option_map box_value i.active; shelf = i.shelf.items; results = i.results.items } in
     let controls = subst (λ (x : Controlling _). Controls g.A.App.law x kinds) (sym c.self.view_is) stood in
     let off = ap (option_map box_value) (sym c.take.ensures.value ∙ c.in-None.is) in
     let cut = subst (λ (o : Option (Acting _)). Controls g.A.App.law (record now { acting = o }) kinds) (sym (ap (option_map box_value) c.take.ensures.after)) (record { setup = controls.setup; member = controls.member; acting = tt; shelf = controls.shelf }) in
-    let told = sym c.is_restart.ensures ∙ c.if-is_restart.true in
+    let told = sym c.is_restart-restarts.ensures ∙ c.if-restarts.true in
     IfOk-weaker c.restart.result _ _ (λ letters h. subst (λ (x : Controlling _). Turns kinds x c.args.input letters c.restart.new.self (g.W.Stable.saving.pair c.args.stable.now) (g.W.Stable.saving.pair c.restart.new.stable) (g.W.Stable.saving.faults c.args.stable.now) (g.W.Stable.saving.faults c.restart.new.stable)) c.self.view_is
     (turn_restarts g.A.App.law kinds now c.args.input letters c.restart.new.self _ _ _ _ off told
     (subst (λ (o : Option (Acting _)). Restarts (record now { acting = o }) letters c.restart.new.self (g.W.Stable.saving.pair c.args.stable.now) (g.W.Stable.saving.pair c.restart.new.stable) (g.W.Stable.saving.faults c.args.stable.now) (g.W.Stable.saving.faults c.restart.new.stable)) (ap (option_map box_value) c.take.ensures.after) h)))
     (c.restart.ensures.turn kinds cut)
 
-pub returns-else-is_restart-clause-turn : goal.returns-else-is_restart-clause-turn
-returns-else-is_restart-clause-turn g c = λ kinds stood.
+pub returns-else-restarts-clause-turn : goal.returns-else-restarts-clause-turn
+returns-else-restarts-clause-turn g c = λ kinds stood.
     let i = c.self.inside in
     let now : Controlling _ = record { setup = i.setup; me = i.me; promise = i.promise; life = i.life; acting = option_map box_value i.active; shelf = i.shelf.items; results = i.results.items } in
     let off = ap (option_map box_value) (sym c.take.ensures.value ∙ c.in-None.is) in
     let left : Controlling _ = record now { acting = option_map box_value c.take.new.self } in
-    let told = sym c.is_restart.ensures ∙ c.if-is_restart.false in
+    let told = sym c.is_restart-restarts.ensures ∙ c.if-restarts.false in
     subst (λ (x : Controlling _). Turns kinds x c.args.input c.new.result left (g.W.Stable.saving.pair c.args.stable.now) (g.W.Stable.saving.pair c.args.stable.now) (g.W.Stable.saving.faults c.args.stable.now) (g.W.Stable.saving.faults c.args.stable.now)) c.self.view_is
     (turn_drops g.A.App.law kinds now left c.args.input c.new.result (g.W.Stable.saving.pair c.args.stable.now) (g.W.Stable.saving.faults c.args.stable.now) off told c.new.ensures (ap (λ (o : Option (Acting _)). record now { acting = o }) (ap (option_map box_value) c.take.ensures.after)))
 
@@ -55,35 +55,35 @@ returns-in-Some-clause-lost g c =
     subst (λ (x : Controlling _). OnErr c.act.result (MayTake (begins_life x c.args.input) x c.act.new.self)) c.self.view_is
     (takes_none c.act.result now c.act.new.self (begins_life now c.args.input) (awake_begins now c.args.input c.in-Some.active.value (ap (option_map box_value) (sym c.take.ensures.value ∙ c.in-Some.is))) c.act.ensures.shelf)
 
-pub returns-then-is_restart-clause-shelf : goal.returns-then-is_restart-clause-shelf
-returns-then-is_restart-clause-shelf g c =
+pub returns-then-restarts-clause-shelf : goal.returns-then-restarts-clause-shelf
+returns-then-restarts-clause-shelf g c =
     let i = c.self.inside in
     let now : Controlling _ = record { setup = i.setup; me = i.me; promise = i.promise; life = i.life; acting = option_map box_value i.active; shelf = i.shelf.items; results = i.results.items } in
     let off = ap (option_map box_value) (sym c.take.ensures.value ∙ c.in-None.is) in
-    let told = sym c.is_restart.ensures ∙ c.if-is_restart.true in
+    let told = sym c.is_restart-restarts.ensures ∙ c.if-restarts.true in
     subst (λ (x : Controlling _). IfOk c.restart.result (λ _. LeavesShelf g.A.App.law (begins_life x c.args.input) x c.restart.new.self)) c.self.view_is
     (restart_leaves g.A.App.law c.restart.result now c.restart.new.self (begins_life now c.args.input) (nat_lt i.life last_life) (restart_begins now c.args.input off told) off
     (subst (λ (o : Option (Acting _)). IfOk c.restart.result (λ _. LeavesShelf g.A.App.law (nat_lt i.life last_life) (record now { acting = o }) c.restart.new.self)) (ap (option_map box_value) c.take.ensures.after) c.restart.ensures.shelf))
 
-pub returns-then-is_restart-clause-lost : goal.returns-then-is_restart-clause-lost
-returns-then-is_restart-clause-lost g c =
+pub returns-then-restarts-clause-lost : goal.returns-then-restarts-clause-lost
+returns-then-restarts-clause-lost g c =
     let i = c.self.inside in
     let now : Controlling _ = record { setup = i.setup; me = i.me; promise = i.promise; life = i.life; acting = option_map box_value i.active; shelf = i.shelf.items; results = i.results.items } in
     let off = ap (option_map box_value) (sym c.take.ensures.value ∙ c.in-None.is) in
-    let told = sym c.is_restart.ensures ∙ c.if-is_restart.true in
+    let told = sym c.is_restart-restarts.ensures ∙ c.if-restarts.true in
     subst (λ (x : Controlling _). OnErr c.restart.result (MayTake (begins_life x c.args.input) x c.restart.new.self)) c.self.view_is
     (restart_may_take c.restart.result now c.restart.new.self (begins_life now c.args.input) (nat_lt i.life last_life) (restart_begins now c.args.input off told) off
     (subst (λ (o : Option (Acting _)). OnErr c.restart.result (MayTake (nat_lt i.life last_life) (record now { acting = o }) c.restart.new.self)) (ap (option_map box_value) c.take.ensures.after) c.restart.ensures.lost))
 
-pub returns-then-is_restart-clause-crash : goal.returns-then-is_restart-clause-crash
-returns-then-is_restart-clause-crash g c = on_any_err c.restart.result _ (not_both c.args.input (sym c.is_restart.ensures ∙ c.if-is_restart.true))
+pub returns-then-restarts-clause-crash : goal.returns-then-restarts-clause-crash
+returns-then-restarts-clause-crash g c = on_any_err c.restart.result _ (not_both c.args.input (sym c.is_restart-restarts.ensures ∙ c.if-restarts.true))
 
-pub returns-else-is_restart-clause-shelf : goal.returns-else-is_restart-clause-shelf
-returns-else-is_restart-clause-shelf g c =
+pub returns-else-restarts-clause-shelf : goal.returns-else-restarts-clause-shelf
+returns-else-restarts-clause-shelf g c =
     let i = c.self.inside in
     let now : Controlling _ = record { setup = i.setup; me = i.me; promise = i.promise; life = i.life; acting = option_map box_value i.active; shelf = i.shelf.items; results = i.results.items } in
     let off = ap (option_map box_value) (sym c.take.ensures.value ∙ c.in-None.is) in
-    let told = sym c.is_restart.ensures ∙ c.if-is_restart.false in
+    let told = sym c.is_restart-restarts.ensures ∙ c.if-restarts.false in
     let left : Controlling _ = record now { acting = option_map box_value c.take.new.self } in
     subst (λ (x : Controlling _). LeavesShelf g.A.App.law (begins_life x c.args.input) x left) c.self.view_is
     (subst (λ (b : Bool). LeavesShelf g.A.App.law b now left) (sym (dropped_begins now c.args.input off told)) refl)

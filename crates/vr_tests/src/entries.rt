@@ -2,11 +2,11 @@
 
 use of_types::{Event, Happening, Octets, PacketIn, PortStatus, switch_up};
 use std::alloc::{AllocError, Global};
-use vr_log::Entry;
+use vr_log::{Entry, Log};
 
 /// An entry: an event of a switch, its life and its number, that a port went down or that the switch is up; or that an
 /// event is processed.
-#[derive(Clone, Copy, Debug)]
+#[derive(Clone, Copy)]
 pub(crate) enum Short {
     Down(u8, u32, u64),
     Up(u8, u32, u64),
@@ -47,4 +47,17 @@ pub(crate) fn frame_entry(alloc: Global, number: u64, frame: &[u8]) -> Result<En
         payload,
     };
     Ok(received(0, 0, number, Happening::PacketIn(packet)))
+}
+
+/// Appends an entry that the log takes.
+pub(crate) fn append(log: &mut Log, entry: Entry) -> Result<(), AllocError> {
+    match log.push(entry) {
+        Ok(()) => Ok(()),
+        Err(_) => Err(AllocError),
+    }
+}
+
+/// Whether the log takes an entry, which it then has.
+pub(crate) fn takes(log: &mut Log, short: Short) -> bool {
+    log.push(entry_of(short)).is_ok()
 }

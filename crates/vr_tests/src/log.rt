@@ -1,6 +1,5 @@
-use crate::entries::{Short, entry_of};
+use crate::entries::{Short, entry_of, takes};
 use std::alloc::AllocError;
-use std::test::Fail;
 use vr_log::{Entries, Log};
 
 /// Entries, and whether a log takes each behind those that it took: those of a life of a switch in the order of their
@@ -20,17 +19,32 @@ const FOLLOWING: &[(Short, bool)] = &[
     (Short::Down(2, 2, 1), true),
 ];
 
-#[test]
-fn entries_follow_by_number_and_in_order(rt: HostRuntime) -> Result<(), Fail> {
-    let mut log = Log::new(rt.alloc());
-    for (short, taken) in FOLLOWING {
-        let answer = log.push(entry_of(*short));
-        assert!(rt; answer.is_ok() == *taken, "at {short:?}");
+/// The first of these rows that a log answers otherwise.
+fn first_wrong(log: &mut Log) -> Option<usize> {
+    for (place, (short, taken)) in FOLLOWING.iter().enumerate() {
+        if takes(log, *short) != *taken {
+            return Some(place);
+        }
     }
-    assert_eq!(rt; (log.len(), log.size()), (6, 499));
-    assert_eq!(rt; (log.received(), log.processed()), (5, 1));
-    assert_eq!(rt; (log.next_place(1), log.next_place(2)), ((0, 2), (2, 2)));
-    Ok(())
+    None
+}
+
+/// Whether a log counts what it took of them, and knows where its two switches go on.
+fn is_counted(log: &Log) -> bool {
+    log.len() == 6
+        && log.size() == 499
+        && log.received() == 5
+        && log.processed() == 1
+        && log.next_place(1) == (0, 2)
+        && log.next_place(2) == (2, 2)
+}
+
+#[test]
+fn entries_follow_by_number_and_in_order(rt: HostRuntime) {
+    let mut log = Log::new(rt.alloc());
+    assert_eq!(rt; first_wrong(&mut log), None);
+    assert!(rt; is_counted(&log));
+    drop(log);
 }
 
 /// Entries that take the place of those behind the first ones; whether they do, and how many there are then. Two of the
@@ -61,12 +75,20 @@ fn replaces(log: &mut Log, first: usize, entries: &[Short]) -> Result<bool, Allo
     log.replace_after(first, list)
 }
 
-#[test]
-fn entries_join_all_or_none(rt: HostRuntime) -> Result<(), Fail> {
-    let mut log = Log::new(rt.alloc());
-    for (first, entries, joined, length) in JOINING {
-        assert!(rt; replaces(&mut log, *first, entries)? == *joined);
-        assert_eq!(rt; log.len(), *length);
+/// The first of these rows that a log answers otherwise.
+fn first_unlike(log: &mut Log) -> Result<Option<usize>, AllocError> {
+    for (place, (first, entries, joined, length)) in JOINING.iter().enumerate() {
+        if replaces(log, *first, *entries)? != *joined || log.len() != *length {
+            return Ok(Some(place));
+        }
     }
-    Ok(())
+    Ok(None)
+}
+
+#[test]
+fn entries_join_all_or_none(rt: HostRuntime) {
+    let mut log = Log::new(rt.alloc());
+    let wrong = first_unlike(&mut log);
+    drop(log);
+    assert_eq!(rt; wrong, Ok(None));
 }

@@ -3,10 +3,9 @@ ghost use Rattle.std.specs.Prelude.{◌<◌, IfOk};
 ghost use Rattle.vr_log.specs.Log.{IsLog};
 ghost use Rattle.vr_log.specs.Valid.{IsValid};
 
-use crate::entries::{Short, entry_of};
+use crate::entries::{Short, append, entry_of};
 use std::alloc::{AllocError, Global};
-use std::test::Fail;
-use vr_log::{Log, VrMessage, VrOut, VrState};
+use vr_log::{Log, VrLetter, VrMessage, VrOut, VrState};
 use vr_normal::{ProposeFault, propose, tick};
 
 /// A log of so many entries, all of switch 0.
@@ -15,8 +14,7 @@ fn log_of(alloc: Global, entries: u64) -> Result<Log, AllocError>
 {
     let mut log = Log::new(alloc);
     for number in 0..entries {
-        log.push(entry_of(Short::Down(0, 0, number)))
-            .map_err(|_| AllocError)?;
+        append(&mut log, entry_of(Short::Down(0, 0, number)))?;
     }
     if log.as_slice().len() as u64 != entries {
         return Err(AllocError);
@@ -35,37 +33,65 @@ fn member(alloc: Global, me: u8, entries: u64) -> Result<VrState, AllocError>
     Ok(state)
 }
 
+/// Whether a letter has the entry of this number for this member, and tells that none is committed.
+fn prepares(letter: &VrLetter, member: u8, number: u64) -> bool {
+    match &letter.message {
+        VrMessage::Prepare { op, commit, .. } => letter.to == member
+            && *op == number
+            && *commit == 0,
+        _ => false,
+    }
+}
+
+/// Whether letters have the first eight entries, to one other member and then to the other.
+fn are_eight_each(letters: &[VrLetter]) -> bool {
+    letters.len() == 16
+        && prepares(&letters[0], 1, 1)
+        && prepares(&letters[7], 1, 8)
+        && prepares(&letters[8], 2, 1)
+        && prepares(&letters[15], 2, 8)
+}
+
+/// Whether a primary of ten entries that are not committed sends these letters at a tick.
+fn repeats_eight(alloc: Global, out: &mut VrOut) -> Result<bool, AllocError> {
+    let mut primary = member(alloc, 0, 10)?;
+    let ticked = tick(&mut primary, out);
+    drop(primary);
+    ticked?;
+    Ok(are_eight_each(out.letters.as_slice()))
+}
+
 /// Of ten entries that are not committed the first eight go out again, to one other member and then to the other.
 #[test]
-fn a_tick_repeats_eight_entries(rt: HostRuntime) -> Result<(), Fail> {
-    let mut primary = member(rt.alloc(), 0, 10)?;
+fn a_tick_repeats_eight_entries(rt: HostRuntime) {
     let mut out = VrOut::new(rt.alloc());
-    tick(&mut primary, &mut out)?;
-    let letters = out.letters.as_slice();
-    assert_eq!(rt; letters.len(), 16);
-    assert_eq!(rt; (letters[7].to, letters[8].to), (1, 2));
-    assert!(rt;
-        matches!(
-            letters[15].message,
-            VrMessage::Prepare {
-                op: 8,
-                commit: 0,
-                ..
-            }
-        )
-    );
-    Ok(())
+    let repeated = repeats_eight(rt.alloc(), &mut out);
+    drop(out);
+    assert!(rt; repeated == Ok(true));
+}
+
+/// Whether a member may not propose its first entry, tells nothing, and has no entry after it.
+fn may_not_propose(state: &mut VrState, out: &mut VrOut) -> bool
+    requires { IsValid state.old }
+{
+    let entry = entry_of(Short::Down(0, 0, 0));
+    if !state.log.may_follow(&entry) {
+        return false;
+    }
+    match propose(state, entry, out) {
+        Err(ProposeFault::NotPrimary) => out.letters.is_empty() && state.log.is_empty(),
+        _ => false,
+    }
 }
 
 /// A member that is not the primary may not propose. Nothing is told, and its log is as before.
 #[test]
-fn a_backup_may_not_propose(rt: HostRuntime) -> Result<(), Fail> {
+fn a_backup_may_not_propose(rt: HostRuntime) -> Result<(), AllocError> {
     let mut backup = member(rt.alloc(), 1, 0)?;
     let mut out = VrOut::new(rt.alloc());
-    let entry = entry_of(Short::Down(0, 0, 0));
-    assert!(rt; backup.log.may_follow(&entry));
-    let answer = propose(&mut backup, entry, &mut out);
-    assert!(rt; matches!(answer, Err(ProposeFault::NotPrimary)));
-    assert_eq!(rt; (out.letters.len(), backup.log.len()), (0, 0));
+    let refused = may_not_propose(&mut backup, &mut out);
+    drop(backup);
+    drop(out);
+    assert!(rt; refused);
     Ok(())
 }

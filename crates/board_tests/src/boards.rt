@@ -7,7 +7,6 @@ use rv_base::{Actor, JournalEntry, Letter, Letters, Local, PacketPlace, Weight, 
 use std::alloc::{AllocError, Global};
 use std::sync::Wait;
 use std::sync::atomic::{AtomicU64, Ordering};
-use std::test::Fail;
 use std::thread;
 use switch_board::{Board, Place};
 
@@ -42,58 +41,36 @@ fn close_two<B: Weight>(
     Ok(board.close(places))
 }
 
-fn one_letter<B: Drop>(alloc: Global, to: Actor, body: B) -> Result<Letters<B>, AllocError> {
+/// What the letters of these tests say.
+const HELLO: &[u8] = b"hello";
+
+/// A letter that says so.
+fn hello(alloc: Global, to: Actor) -> Result<Letters<Octets>, AllocError> {
+    let body = Octets::from_slice(alloc, HELLO)?;
     let mut letters = Items::new(alloc);
     letters.push(Letter { to, body })?;
     Ok(letters)
 }
 
-/// Posts an outbox and draws, and tells the packet that was found, with its body.
+/// Posts an outbox and draws, and tells the packet that was found, and whether it says hello.
 fn reads<R: Wait>(
     rt: &R,
     board: &Board<Octets>,
     place: &mut Place<Octets>,
     post: Letters<Octets>,
     keep: bool,
-) -> Result<Option<(PacketPlace, Octets)>, AllocError>
+) -> Result<Option<(PacketPlace, bool)>, AllocError>
     requires { place.old.board ≡ board.now.id }
     ensures { IsSamePlace place.old place.new }
 {
     match board.draw(rt, place, post, 7, keep) {
         Ok(Some(packet)) => {
             let body = board.copy_body(rt, place, packet)?;
-            Ok(Some((packet, body)))
+            Ok(Some((packet, body.as_slice() == HELLO)))
         }
         Ok(None) => Ok(None),
         Err(_) => Err(AllocError),
     }
-}
-
-#[test]
-fn a_letter_is_read_back(rt: HostRuntime) -> Result<(), Fail> {
-    let alloc = rt.alloc();
-    let (board, mut controller, mut switch) = board_of_two(alloc)?;
-    let body = Octets::from_slice(alloc, b"hello")?;
-    let post = one_letter(alloc, Actor::Switch(0), body)?;
-    let nothing = reads(&rt, &board, &mut switch, Items::new(alloc), false);
-    let posted = board.post(&rt, &mut controller, post);
-    let read = reads(&rt, &board, &mut switch, Items::new(alloc), true);
-    let lost = board.lose(&rt, &mut switch, Items::new(alloc), 3);
-    let ticked = board.local(&rt, &mut controller, Items::new(alloc), Local::Tick);
-    assert!(rt; matches!(&nothing, Ok(None)));
-    assert!(rt; posted.is_ok() && ticked.is_ok());
-    assert!(rt;
-        matches!(&read, Ok(Some((packet, body))) if packet.from.is(Actor::Controller(0)) && body.as_slice() == b"hello".as_slice())
-    );
-    assert!(rt; matches!(&lost, Ok(Some(packet)) if packet.id == 0));
-    assert_eq!(rt;
-        (controller.actor(), switch.actor()),
-        (Actor::Controller(0), Actor::Switch(0))
-    );
-    let wire = close_two(board, controller, switch, alloc)?;
-    assert!(rt; are_of_kinds(wire.entries(), b"IPDLT"));
-    assert!(rt; wire.first().is_none());
-    Ok(())
 }
 
 /// The kind of an entry, as one character.
@@ -108,13 +85,117 @@ fn kind_of(entry: &JournalEntry<Octets>) -> u8 {
     }
 }
 
+/// Whether the entry at a place is of this kind.
+fn is_of_kind(entries: &[JournalEntry<Octets>], place: usize, kind: u8) -> bool {
+    match entries.get(place) {
+        Some(entry) => kind_of(entry) == kind,
+        None => false,
+    }
+}
+
 /// Whether these are entries of these kinds.
 fn are_of_kinds(entries: &[JournalEntry<Octets>], kinds: &[u8]) -> bool {
+    for (place, kind) in kinds.iter().enumerate() {
+        if !is_of_kind(entries, place, *kind) {
+            return false;
+        }
+    }
     entries.len() == kinds.len()
-        && entries
-            .iter()
-            .zip(kinds)
-            .all(|(entry, kind)| kind_of(entry) == *kind)
+}
+
+/// Whether a place finds no packet.
+fn finds_nothing<R: Wait>(
+    rt: &R,
+    alloc: Global,
+    board: &Board<Octets>,
+    place: &mut Place<Octets>,
+) -> bool
+    requires { place.old.board ≡ board.now.id }
+    ensures { IsSamePlace place.old place.new }
+{
+    matches!(reads(rt, board, place, Items::new(alloc), false), Ok(None))
+}
+
+/// Whether a place finds the controller's letter, which stays.
+fn finds_hello<R: Wait>(
+    rt: &R,
+    alloc: Global,
+    board: &Board<Octets>,
+    place: &mut Place<Octets>,
+) -> bool
+    requires { place.old.board ≡ board.now.id }
+    ensures { IsSamePlace place.old place.new }
+{
+    match reads(rt, board, place, Items::new(alloc), true) {
+        Ok(Some((packet, said))) => said && packet.from.is(Actor::Controller(0)),
+        _ => false,
+    }
+}
+
+/// Whether a place loses the first packet.
+fn loses_first<R: Wait>(
+    rt: &R,
+    alloc: Global,
+    board: &Board<Octets>,
+    place: &mut Place<Octets>,
+) -> bool
+    requires { place.old.board ≡ board.now.id }
+    ensures { IsSamePlace place.old place.new }
+{
+    match board.lose(rt, place, Items::new(alloc), 3) {
+        Ok(Some(packet)) => packet.id == 0,
+        _ => false,
+    }
+}
+
+/// Whether a place ticks.
+fn ticks<R: Wait>(rt: &R, alloc: Global, board: &Board<Octets>, place: &mut Place<Octets>) -> bool
+    requires { place.old.board ≡ board.now.id }
+    ensures { IsSamePlace place.old place.new }
+{
+    board
+        .local(rt, place, Items::new(alloc), Local::Tick)
+        .is_ok()
+}
+
+/// Whether a controller's letter is there once it is posted, is read and is lost.
+fn letter_passes<R: Wait>(
+    rt: &R,
+    alloc: Global,
+    board: &Board<Octets>,
+    controller: &mut Place<Octets>,
+    switch: &mut Place<Octets>,
+) -> Result<bool, AllocError>
+    requires controller { controller.old.board ≡ board.now.id }
+    requires switch { switch.old.board ≡ board.now.id }
+    ensures controller { IsSamePlace controller.old controller.new }
+    ensures switch { IsSamePlace switch.old switch.new }
+{
+    let post = hello(alloc, Actor::Switch(0))?;
+    let nothing = finds_nothing(rt, alloc, board, switch);
+    let posted = board.post(rt, controller, post).is_ok();
+    let read = finds_hello(rt, alloc, board, switch);
+    let lost = loses_first(rt, alloc, board, switch);
+    let ticked = ticks(rt, alloc, board, controller);
+    Ok(nothing && posted && read && lost && ticked)
+}
+
+/// Whether two places are those of the controller and the switch.
+fn are_named(controller: &Place<Octets>, switch: &Place<Octets>) -> bool {
+    controller.actor().is(Actor::Controller(0)) && switch.actor().is(Actor::Switch(0))
+}
+
+#[test]
+fn a_letter_is_read_back(rt: HostRuntime) -> Result<(), AllocError> {
+    let alloc = rt.alloc();
+    let (board, mut controller, mut switch) = board_of_two(alloc)?;
+    let passed = letter_passes(&rt, alloc, &board, &mut controller, &mut switch);
+    let named = are_named(&controller, &switch);
+    let wire = close_two(board, controller, switch, alloc)?;
+    let told = are_of_kinds(wire.entries(), b"IPDLT") && wire.first().is_none();
+    drop(wire);
+    assert!(rt; passed? && named && told);
+    Ok(())
 }
 
 /// How often a thread looks for the other's flag.
@@ -133,8 +214,25 @@ fn sees(flag: &AtomicU64) -> bool {
     false
 }
 
-/// Posts a letter and draws, again and again, and tells whether each body that was found is that of
-/// these letters.
+/// Posts a letter and draws, and tells whether the body that was found, if one was, is that of these letters.
+fn takes_turn<R: Wait>(
+    rt: &R,
+    alloc: Global,
+    board: &Board<Octets>,
+    place: &mut Place<Octets>,
+    to: Actor,
+) -> Result<bool, AllocError>
+    requires { place.old.board ≡ board.now.id }
+    ensures { IsSamePlace place.old place.new }
+{
+    let post = hello(alloc, to)?;
+    match reads(rt, board, place, post, false)? {
+        Some((_, said)) => Ok(said),
+        None => Ok(true),
+    }
+}
+
+/// Takes such turns, and tells whether each found what it may.
 fn draws<R: Wait>(
     rt: &R,
     alloc: Global,
@@ -146,11 +244,7 @@ fn draws<R: Wait>(
     ensures { IsSamePlace place.old place.new }
 {
     for _ in 0..TURNS {
-        let body = Octets::from_slice(alloc, b"hello")?;
-        let post = one_letter(alloc, to, body)?;
-        if let Some((_, body)) = reads(rt, board, place, post, false)?
-            && body.as_slice() != b"hello".as_slice()
-        {
+        if !takes_turn(rt, alloc, board, place, to)? {
             return Ok(false);
         }
     }
@@ -181,7 +275,7 @@ fn meets<R: Wait>(
 }
 
 #[test]
-fn two_threads_meet(rt: HostRuntime) -> Result<(), Fail> {
+fn two_threads_meet(rt: HostRuntime) -> Result<(), AllocError> {
     let alloc = rt.alloc();
     let (board, controller, switch) = board_of_two(alloc)?;
     let (a, b) = (AtomicU64::new(0), AtomicU64::new(0));
@@ -192,6 +286,8 @@ fn two_threads_meet(rt: HostRuntime) -> Result<(), Fail> {
     );
     assert!(rt; first.0 && second.0);
     let wire = close_two(board, first.1, second.1, alloc)?;
-    assert_eq!(rt; wire.entries().len(), 8 * TURNS);
+    let entries = wire.entries().len();
+    drop(wire);
+    assert!(rt; entries == 8 * TURNS);
     Ok(())
 }

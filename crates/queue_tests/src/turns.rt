@@ -1,8 +1,6 @@
 use of_types::Items;
 use rv_base::{Actor, JournalEntry, Letter, Letters, POOL_PACKETS, Stop, Weight, Wire};
 use std::alloc::{AllocError, Global};
-use std::process::Abort;
-use std::test::Fail;
 
 const CONTROLLER: Actor = Actor::Controller(0);
 
@@ -36,44 +34,48 @@ fn letters(alloc: Global, count: usize, bytes: u64) -> Result<Letters<Stated>, A
     Ok(letters)
 }
 
-/// Posts so many letters of one byte, of which so many at the end are lost.
-fn posts(
-    rt: &impl Abort,
-    alloc: Global,
-    wire: &mut Wire<Stated>,
-    count: usize,
-    want: u64,
-) -> Result<(), AllocError> {
-    let post = letters(alloc, count, 1)?;
-    assert!(rt; wire.post(CONTROLLER, post).is_ok());
-    let last = wire.entries().last();
-    assert!(rt; matches!(last, Some(JournalEntry::Post { lost, .. }) if *lost == want));
-    Ok(())
+/// Posts so many letters of one byte, and tells how many of them are lost.
+fn posts(alloc: Global, wire: &mut Wire<Stated>, count: usize) -> Result<Option<u64>, AllocError> {
+    if wire.post(CONTROLLER, letters(alloc, count, 1)?).is_err() {
+        return Ok(None);
+    }
+    match wire.entries().last() {
+        Some(JournalEntry::Post { lost, .. }) => Ok(Some(*lost)),
+        _ => Ok(None),
+    }
 }
 
-/// Draws the packet at a place, whose number is told.
-fn draws(
-    rt: &impl Abort,
-    alloc: Global,
-    wire: &mut Wire<Stated>,
-    choice: u64,
-    keep: bool,
-    id: u64,
-) {
-    let found = wire.draw(SWITCH, Items::new(alloc), choice, keep);
-    assert!(rt; matches!(found, Ok(Some(place)) if place.id == id));
+/// Draws the packet at a place, and tells its number.
+fn draws(alloc: Global, wire: &mut Wire<Stated>, choice: u64, keep: bool) -> Option<u64> {
+    match wire.draw(SWITCH, Items::new(alloc), choice, keep) {
+        Ok(Some(place)) => Some(place.id),
+        _ => None,
+    }
+}
+
+/// Whether the last of the letters are lost, where there is room for one less than are posted at first.
+fn loses_the_last(alloc: Global, wire: &mut Wire<Stated>) -> Result<bool, AllocError> {
+    Ok(posts(alloc, wire, POOL_PACKETS - 1)? == Some(0) && posts(alloc, wire, 3)? == Some(2))
+}
+
+/// Whether one that is drawn makes room for one, whose number is behind those of the lost.
+fn goes_on(alloc: Global, wire: &mut Wire<Stated>) -> Result<bool, AllocError> {
+    Ok(
+        draws(alloc, wire, 32_767, false) == Some(32_767)
+            && posts(alloc, wire, 2)? == Some(1)
+            && draws(alloc, wire, 32_767, true) == Some(32_770),
+    )
 }
 
 /// What passes the most packets is lost, and its numbers are used all the same.
 #[test]
-fn a_full_pool(rt: HostRuntime) -> Result<(), Fail> {
+fn a_full_pool(rt: HostRuntime) -> Result<(), AllocError> {
     let alloc = rt.alloc();
     let mut wire = Wire::new(alloc);
-    posts(&rt, alloc, &mut wire, POOL_PACKETS - 1, 0)?;
-    posts(&rt, alloc, &mut wire, 3, 2)?;
-    draws(&rt, alloc, &mut wire, 32_767, false, 32_767);
-    posts(&rt, alloc, &mut wire, 2, 1)?;
-    draws(&rt, alloc, &mut wire, 32_767, true, 32_770);
+    let lost = loses_the_last(alloc, &mut wire);
+    let goes_on = goes_on(alloc, &mut wire);
+    drop(wire);
+    assert!(rt; lost? && goes_on?);
     Ok(())
 }
 
@@ -83,48 +85,84 @@ const FULL: Stop = Stop::JournalFull {
     letters: 2,
 };
 
-#[test]
-fn a_full_journal(rt: HostRuntime) -> Result<(), Fail> {
-    let alloc = rt.alloc();
-    let mut wire = Wire::new(alloc);
-    for (bytes, refusal) in [(67_108_863, None), (2, Some(FULL)), (1, None)] {
-        match wire.post(CONTROLLER, letters(alloc, 1, bytes)?) {
-            Ok(()) => assert!(rt; refusal.is_none(), "at {bytes}"),
-            Err(refused) => assert!(rt; refusal == Some(refused.cause), "at {bytes}"),
-        }
+/// Letters of so many bytes, and how each is refused behind those that were taken.
+const WEIGHTS: &[(u64, Option<Stop>)] = &[(67_108_863, None), (2, Some(FULL)), (1, None)];
+
+/// How a letter of so many bytes is refused.
+fn refusal(alloc: Global, wire: &mut Wire<Stated>, bytes: u64) -> Result<Option<Stop>, AllocError> {
+    match wire.post(CONTROLLER, letters(alloc, 1, bytes)?) {
+        Ok(()) => Ok(None),
+        Err(refused) => Ok(Some(refused.cause)),
     }
-    assert_eq!(rt; wire.entries().len(), 2);
-    Ok(())
 }
 
-/// Posts until it is taken, and sees that a refusal changes nothing.
-fn post_at_last(rt: &impl Abort, wire: &mut Wire<Stated>, post: Letters<Stated>) {
+/// The first of these rows that is answered otherwise.
+fn first_unlike(alloc: Global, wire: &mut Wire<Stated>) -> Result<Option<usize>, AllocError> {
+    for (place, (bytes, refused)) in WEIGHTS.iter().enumerate() {
+        if refusal(alloc, wire, *bytes)? != *refused {
+            return Ok(Some(place));
+        }
+    }
+    Ok(None)
+}
+
+#[test]
+fn a_full_journal(rt: HostRuntime) {
+    let mut wire = Wire::new(rt.alloc());
+    let wrong = first_unlike(rt.alloc(), &mut wire);
+    let entries = wire.entries().len();
+    drop(wire);
+    assert_eq!(rt; wrong, Ok(None));
+    assert!(rt; entries == 2);
+}
+
+/// Posts until it is taken. Whether it is at last, and each refusal is of memory and changes nothing.
+fn post_at_last(wire: &mut Wire<Stated>, post: Letters<Stated>) -> bool {
     let mut post = post;
     for _ in 0..8 {
-        let (len, first) = (wire.entries().len(), wire.first());
+        let before = (wire.entries().len(), wire.first());
         match wire.post(CONTROLLER, post) {
-            Ok(()) => return,
+            Ok(()) => return true,
             Err(refused) => {
-                assert_eq!(rt; refused.cause, Stop::OutOfMemory);
-                assert_eq!(rt; (wire.entries().len(), wire.first()), (len, first));
+                let after = (wire.entries().len(), wire.first());
+                if refused.cause != Stop::OutOfMemory || after != before {
+                    return false;
+                }
                 post = refused.post;
             }
         }
     }
-    assert!(rt; false);
+    false
+}
+
+/// Whether two letters at a time are posted at last, six times.
+fn posts_twelve(alloc: Global, wire: &mut Wire<Stated>) -> Result<bool, AllocError> {
+    for _ in 0..6 {
+        if !post_at_last(wire, letters(alloc, 2, 1)?) {
+            return Ok(false);
+        }
+    }
+    Ok(true)
+}
+
+/// Whether these are drawn in their order, and are all.
+fn draws_twelve(alloc: Global, wire: &mut Wire<Stated>) -> bool {
+    for id in 0..12 {
+        if draws(alloc, wire, 0, false) != Some(id) {
+            return false;
+        }
+    }
+    wire.first().is_none()
 }
 
 /// What this shows is seen where each allocation in turn is made to fail.
 #[test]
-fn refused_memory_changes_nothing(rt: HostRuntime) -> Result<(), Fail> {
+fn refused_memory_changes_nothing(rt: HostRuntime) -> Result<(), AllocError> {
     let alloc = rt.alloc();
     let mut wire = Wire::new(alloc);
-    for _ in 0..6 {
-        post_at_last(&rt, &mut wire, letters(alloc, 2, 1)?);
-    }
-    for id in 0..12 {
-        draws(&rt, alloc, &mut wire, 0, false, id);
-    }
-    assert_eq!(rt; wire.first(), None);
+    let posted = posts_twelve(alloc, &mut wire);
+    let drawn = draws_twelve(alloc, &mut wire);
+    drop(wire);
+    assert!(rt; posted? && drawn);
     Ok(())
 }

@@ -1,6 +1,5 @@
 use of_frame::{FrameFault, Framer};
-use std::process::Abort;
-use std::test::Fail;
+use std::alloc::AllocError;
 
 /// A whole message, and a header with a length below eight.
 const WHOLE: [u8; 8] = [4, 0, 0, 8, 0, 0, 0, 0];
@@ -15,35 +14,37 @@ fn is_refused(framer: &mut Framer) -> bool {
     framer.next_frame() == Err(FrameFault::BadLength)
 }
 
-/// Feeds bytes of a message one by one: before each, none is whole.
-fn feed_each(rt: &impl Abort, framer: &mut Framer, bytes: &[u8]) -> Result<(), Fail> {
-    for byte in bytes {
-        assert!(rt; is_waiting(framer));
-        framer.feed(&[*byte])?;
-    }
-    Ok(())
+fn is_whole(framer: &mut Framer) -> bool {
+    framer.next_frame() == Ok(Some(WHOLE.as_slice()))
 }
 
-/// A whole message is found.
-fn takes_a_message(rt: &impl Abort, framer: &mut Framer) -> Result<(), Fail> {
-    feed_each(rt, framer, &WHOLE)?;
-    assert_eq!(rt; framer.next_frame(), Ok(Some(WHOLE.as_slice())));
-    Ok(())
+/// Feeds bytes of a message one by one, and tells whether none is whole before each.
+fn waits_for_each(framer: &mut Framer, bytes: &[u8]) -> Result<bool, AllocError> {
+    for byte in bytes {
+        if !is_waiting(framer) {
+            return Ok(false);
+        }
+        framer.feed(&[*byte])?;
+    }
+    Ok(true)
 }
 
 /// A length below eight is refused, and all that comes behind it.
-fn refuses_a_length(rt: &impl Abort, framer: &mut Framer) -> Result<(), Fail> {
-    feed_each(rt, framer, &SHORT)?;
-    assert!(rt; is_refused(framer));
+fn refuses_a_length(framer: &mut Framer) -> Result<bool, AllocError> {
+    let refused = waits_for_each(framer, &SHORT)? && is_refused(framer);
     framer.feed(&WHOLE)?;
-    assert!(rt; is_refused(framer));
-    Ok(())
+    Ok(refused && is_refused(framer))
+}
+
+/// A whole message is found, and a length below eight behind it is not.
+fn takes_one(framer: &mut Framer) -> Result<bool, AllocError> {
+    Ok(waits_for_each(framer, &WHOLE)? && is_whole(framer) && refuses_a_length(framer)?)
 }
 
 #[test]
-fn byte_by_byte(rt: HostRuntime) -> Result<(), Fail> {
+fn byte_by_byte(rt: HostRuntime) {
     let mut framer = Framer::new(rt.alloc());
-    takes_a_message(&rt, &mut framer)?;
-    refuses_a_length(&rt, &mut framer)?;
-    Ok(())
+    let taken = takes_one(&mut framer);
+    drop(framer);
+    assert!(rt; taken == Ok(true));
 }

@@ -3,7 +3,6 @@
 use of_ravana::canonical_order;
 use of_types::{Actions, Command, Executed, FLOOD, NO_BUFFER, Octets, Order, PacketOut};
 use std::alloc::{AllocError, Global};
-use std::test::Fail;
 
 /// A PACKET_OUT of a frame from port 1 to FLOOD.
 const PACKET_OUT: &str =
@@ -39,29 +38,45 @@ fn executed(alloc: Global) -> Result<Executed, AllocError> {
     })
 }
 
-/// An order by its canonical bytes.
-fn told(alloc: Global, order: &Order) -> Result<String, AllocError> {
+/// Whether an order has these canonical bytes.
+fn is_told(alloc: Global, order: &Order, digits: &str) -> Result<bool, AllocError> {
     let bytes = canonical_order(alloc, order)?;
-    hex::encode(alloc, bytes.as_slice())
+    let told = hex::encode(alloc, bytes.as_slice())?;
+    Ok(told.as_str() == digits)
+}
+
+/// Whether the copy of a command is the one that `command` makes.
+fn is_copied(alloc: Global, command: &Command) -> Result<bool, AllocError> {
+    let copied = command.copy()?;
+    let told = is_told(alloc, &copied.order, PACKET_OUT);
+    let switch = copied.switch;
+    drop(copied);
+    Ok(switch == 3 && told?)
 }
 
 #[test]
-fn commands_are_copied(rt: HostRuntime) -> Result<(), Fail> {
-    let alloc = rt.alloc();
-    let command = command(alloc)?.copy()?;
-    assert_eq!(rt; command.switch, 3);
-    assert_eq!(rt; told(alloc, &command.order)?.as_str(), PACKET_OUT);
+fn commands_are_copied(rt: HostRuntime) -> Result<(), AllocError> {
+    let command = command(rt.alloc())?;
+    let copied = is_copied(rt.alloc(), &command);
+    drop(command);
+    assert!(rt; copied == Ok(true));
     Ok(())
 }
 
+/// Whether the copy of what was executed is what `executed` makes.
+fn is_copied_whole(alloc: Global, executed: &Executed) -> Result<bool, AllocError> {
+    let copied = executed.copy()?;
+    let told = is_told(alloc, &copied.order, PACKET_OUT);
+    let numbers = (copied.life, copied.number, copied.generation, copied.from);
+    drop(copied);
+    Ok(numbers == (1, 2, 3, 4) && told?)
+}
+
 #[test]
-fn what_was_executed_is_copied(rt: HostRuntime) -> Result<(), Fail> {
-    let alloc = rt.alloc();
-    let copied = executed(alloc)?.copy()?;
-    assert_eq!(rt;
-        (copied.life, copied.number, copied.generation, copied.from),
-        (1, 2, 3, 4)
-    );
-    assert_eq!(rt; told(alloc, &copied.order)?.as_str(), PACKET_OUT);
+fn what_was_executed_is_copied(rt: HostRuntime) -> Result<(), AllocError> {
+    let executed = executed(rt.alloc())?;
+    let copied = is_copied_whole(rt.alloc(), &executed);
+    drop(executed);
+    assert!(rt; copied == Ok(true));
     Ok(())
 }

@@ -5,8 +5,6 @@ use of_types::{
     Row, TO_CONTROLLER, fields,
 };
 use std::alloc::{AllocError, Global};
-use std::process::Abort;
-use std::test::Fail;
 
 /// What the changes of a test differ in.
 #[derive(Clone, Copy)]
@@ -168,22 +166,48 @@ const ANSWERS: &[(Change, Result<(), TableFault>)] = &[
     (AGAIN, Err(TableFault::TableFull)),
 ];
 
-/// A table has 2,048 rows at most.
-fn refuses(rt: &impl Abort, alloc: Global, table: &mut impl Rows) -> Result<(), Fail> {
+/// Whether a change is answered so.
+fn answers(
+    alloc: Global,
+    table: &mut impl Rows,
+    change: &Change,
+    want: Result<(), TableFault>,
+) -> Result<bool, AllocError> {
+    let change = flow_mod(alloc, change)?;
+    Ok(table.apply(&change, 2) == want)
+}
+
+/// Whether a table takes 2,047 rows.
+fn fills(alloc: Global, table: &mut impl Rows) -> Result<bool, AllocError> {
     for priority in 1..2048 {
-        let change = flow_mod(alloc, &Change { priority, ..ADD })?;
-        assert!(rt; table.apply(&change, 2).is_ok());
+        if !answers(alloc, table, &Change { priority, ..ADD }, Ok(()))? {
+            return Ok(false);
+        }
     }
-    for (change, want) in ANSWERS {
-        assert!(rt; table.apply(&flow_mod(alloc, change)?, 2) == *want);
+    Ok(true)
+}
+
+/// The first of the changes of a full table that is answered otherwise.
+fn first_unlike(alloc: Global, table: &mut impl Rows) -> Result<Option<usize>, AllocError> {
+    for (place, (change, want)) in ANSWERS.iter().enumerate() {
+        if !answers(alloc, table, change, *want)? {
+            return Ok(Some(place));
+        }
     }
-    Ok(())
+    Ok(None)
+}
+
+/// A table has 2,048 rows at most.
+fn refuses(alloc: Global, table: impl Rows + Drop) -> Result<bool, AllocError> {
+    let mut table = table;
+    Ok(fills(alloc, &mut table)? && first_unlike(alloc, &mut table)?.is_none())
 }
 
 #[test]
-fn tables_refuse_in_order(rt: HostRuntime) -> Result<(), Fail> {
-    refuses(&rt, rt.alloc(), &mut FlowTable::new(rt.alloc())?)?;
-    refuses(&rt, rt.alloc(), &mut FlowIndex::new(rt.alloc())?)
+fn tables_refuse_in_order(rt: HostRuntime) -> Result<(), AllocError> {
+    assert!(rt; refuses(rt.alloc(), FlowTable::new(rt.alloc())?)?);
+    assert!(rt; refuses(rt.alloc(), FlowIndex::new(rt.alloc())?)?);
+    Ok(())
 }
 
 /// The frame from 02:00:00:00:00:02 to 02:00:00:00:00:01, as it comes in by a port.
@@ -195,42 +219,61 @@ fn at_port(port: u32) -> Fields {
     }
 }
 
-/// The frame meets a row of this cookie and output.
-fn meets(rt: &impl Abort, table: &impl Rows, port: u32, cookie: u64, output: u32) {
+/// Whether the frame meets a row of this cookie and output.
+fn meets(table: &impl Rows, port: u32, cookie: u64, output: u32) -> bool {
     match table.look_up(&at_port(port)) {
-        Some(row) => {
-            assert_eq!(rt; row.cookie, cookie);
-            assert!(rt; row.actions.as_slice() == [output].as_slice());
-        }
-        None => assert!(rt; false),
+        Some(row) => row.cookie == cookie && row.actions.as_slice() == [output].as_slice(),
+        None => false,
     }
 }
 
-/// Rows have these cookies, in their order.
-fn have_cookies(rt: &impl Abort, rows: &[Row], cookies: &[u64]) {
-    assert_eq!(rt; rows.len(), cookies.len());
-    for (row, cookie) in rows.iter().zip(cookies) {
-        assert_eq!(rt; row.cookie, *cookie);
+/// Whether the row at a place has this cookie.
+fn has_cookie(rows: &[Row], place: usize, cookie: u64) -> bool {
+    match rows.get(place) {
+        Some(row) => row.cookie == cookie,
+        None => false,
     }
+}
+
+/// Whether rows have these cookies, in their order.
+fn have_cookies(rows: &[Row], cookies: &[u64]) -> bool {
+    for (place, cookie) in cookies.iter().enumerate() {
+        if !has_cookie(rows, place, *cookie) {
+            return false;
+        }
+    }
+    rows.len() == cookies.len()
 }
 
 /// A change that is accepted, and the cookie and output of the row that the frame then meets at port 1.
 type Met = (Change, u64, u32);
 
+/// The first of such changes that is refused, or behind which the frame meets another row.
+fn first_unmet(
+    alloc: Global,
+    table: &mut impl Rows,
+    steps: &[Met],
+) -> Result<Option<usize>, AllocError> {
+    for (place, (change, cookie, output)) in steps.iter().enumerate() {
+        if !answers(alloc, table, change, Ok(()))? || !meets(table, 1, *cookie, *output) {
+            return Ok(Some(place));
+        }
+    }
+    Ok(None)
+}
+
 /// Plays such changes. Then the rows have these cookies.
 fn plays(
-    rt: &impl Abort,
     alloc: Global,
     table: &mut impl Rows,
     steps: &[Met],
     cookies: &[u64],
-) -> Result<(), Fail> {
-    for (change, cookie, output) in steps {
-        assert!(rt; table.apply(&flow_mod(alloc, change)?, 2).is_ok());
-        meets(rt, table, 1, *cookie, *output);
+) -> Result<bool, AllocError> {
+    if first_unmet(alloc, table, steps)?.is_some() {
+        return Ok(false);
     }
-    have_cookies(rt, table.rows()?.as_slice(), cookies);
-    Ok(())
+    let rows = table.rows()?;
+    Ok(have_cookies(rows.as_slice(), cookies))
 }
 
 const BY_PORT: Change = Change {
@@ -275,11 +318,16 @@ const TIES: &[Met] = &[
     (BY_PORT, 2, 2),
 ];
 
+fn chooses(alloc: Global, table: impl Rows + Drop) -> Result<bool, AllocError> {
+    let mut table = table;
+    plays(alloc, &mut table, TIES, &[0, 2, 1])
+}
+
 #[test]
-fn tables_choose_the_first_of_equals(rt: HostRuntime) -> Result<(), Fail> {
-    let alloc = rt.alloc();
-    plays(&rt, alloc, &mut FlowTable::new(alloc)?, TIES, &[0, 2, 1])?;
-    plays(&rt, alloc, &mut FlowIndex::new(alloc)?, TIES, &[0, 2, 1])
+fn tables_choose_the_first_of_equals(rt: HostRuntime) -> Result<(), AllocError> {
+    assert!(rt; chooses(rt.alloc(), FlowTable::new(rt.alloc())?)?);
+    assert!(rt; chooses(rt.alloc(), FlowIndex::new(rt.alloc())?)?);
+    Ok(())
 }
 
 const OPEN: Change = Change {
@@ -343,15 +391,15 @@ const NAMED: &[Met] = &[
     (DELETE_EXACT, 0x11, 1),
 ];
 
-/// The row of port 2 has its new output.
-fn names(rt: &impl Abort, alloc: Global, table: &mut impl Rows) -> Result<(), Fail> {
-    plays(rt, alloc, table, NAMED, &[0, 0x11, 0x22])?;
-    meets(rt, table, 2, 0x22, 2);
-    Ok(())
+/// Behind them the row of port 2 has its new output.
+fn names(alloc: Global, table: impl Rows + Drop) -> Result<bool, AllocError> {
+    let mut table = table;
+    Ok(plays(alloc, &mut table, NAMED, &[0, 0x11, 0x22])? && meets(&table, 2, 0x22, 2))
 }
 
 #[test]
-fn tables_name_rows(rt: HostRuntime) -> Result<(), Fail> {
-    names(&rt, rt.alloc(), &mut FlowTable::new(rt.alloc())?)?;
-    names(&rt, rt.alloc(), &mut FlowIndex::new(rt.alloc())?)
+fn tables_name_rows(rt: HostRuntime) -> Result<(), AllocError> {
+    assert!(rt; names(rt.alloc(), FlowTable::new(rt.alloc())?)?);
+    assert!(rt; names(rt.alloc(), FlowIndex::new(rt.alloc())?)?);
+    Ok(())
 }

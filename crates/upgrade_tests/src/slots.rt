@@ -4,9 +4,8 @@ ghost use Rattle.of_types.specs.Setups.{IsSetup};
 
 use app_core::{OPERATOR_PORT, OPERATOR_SWITCH, Part};
 use app_upgrade::{Slot, all_versions};
-use of_types::{Event, Happening, Items, Octets, PacketIn, Setup};
+use of_types::{Commands, Event, Happening, Items, Octets, PacketIn, Setup};
 use std::alloc::{AllocError, Global};
-use std::test::Fail;
 
 /// An operator's frame up to its version.
 const ASKING: [u8; 14] = [3, 0, 0, 0, 0, 1, 2, 0, 0, 0, 0, 15, 0x88, 0xb6];
@@ -80,22 +79,82 @@ fn event_for(alloc: Global, version: u8) -> Result<Event, AllocError> {
     })
 }
 
+/// Whether a slot starts with its first version and all parts.
+fn starts(alloc: Global, setup: &Setup, slot: &mut Slot) -> Result<bool, AllocError>
+    requires { IsSetup setup.now }
+{
+    slot.start(alloc, setup)?;
+    Ok(slot.active() == 0 && slot.left() == 3)
+}
+
+/// Asks a slot for a version, and tells whether the chain stops there.
+fn asks(
+    alloc: Global,
+    slot: &mut Slot,
+    out: &mut Commands,
+    version: u8,
+) -> Result<bool, AllocError> {
+    let event = event_for(alloc, version)?;
+    let stops = slot.react(alloc, &event, out);
+    drop(event);
+    stops
+}
+
+/// The first of these versions at which a slot tells something else.
+fn first_unlike(
+    alloc: Global,
+    slot: &mut Slot,
+    out: &mut Commands,
+) -> Result<Option<usize>, AllocError> {
+    for (place, asked) in ASKED.iter().enumerate() {
+        let stops = asks(alloc, slot, out, asked.version)?;
+        if stops || slot.active() != asked.active || slot.left() != asked.left {
+            return Ok(Some(place));
+        }
+    }
+    Ok(None)
+}
+
+/// Whether a slot tells of each version what it should, gives no command, and starts again.
+fn goes_on(
+    alloc: Global,
+    setup: &Setup,
+    slot: &mut Slot,
+    out: &mut Commands,
+) -> Result<bool, AllocError>
+    requires { IsSetup setup.now }
+{
+    Ok(
+        starts(alloc, setup, slot)?
+            && first_unlike(alloc, slot, out)?.is_none()
+            && out.is_empty()
+            && starts(alloc, setup, slot)?,
+    )
+}
+
+/// A slot of all versions.
+fn full_slot(alloc: Global) -> Result<Slot, AllocError> {
+    Ok(Slot::new(all_versions(alloc)?))
+}
+
+/// Whether a slot of all versions does so.
+fn upgrades(alloc: Global, setup: &Setup) -> Result<bool, AllocError>
+    requires { IsSetup setup.now }
+{
+    let mut slot = full_slot(alloc)?;
+    let mut out = Items::new(alloc);
+    let told = goes_on(alloc, setup, &mut slot, &mut out);
+    drop(out);
+    drop(slot);
+    told
+}
+
 /// A slot goes to later versions alone, and holds the parts from the active one on. One that is started again has all of them.
 #[test]
-fn goes_to_later_versions(rt: HostRuntime) -> Result<(), Fail> {
-    let alloc = rt.alloc();
-    let setup = one_switch(alloc)?;
-    let mut slot = Slot::new(all_versions(alloc)?);
-    let mut out = Items::new(alloc);
-    slot.start(alloc, &setup)?;
-    assert!(rt; slot.active() == 0 && slot.left() == 3);
-    for asked in &ASKED {
-        let event = event_for(alloc, asked.version)?;
-        assert!(rt; !slot.react(alloc, &event, &mut out)?);
-        assert!(rt; slot.active() == asked.active && slot.left() == asked.left);
-    }
-    assert!(rt; out.is_empty());
-    slot.start(alloc, &setup)?;
-    assert!(rt; slot.active() == 0 && slot.left() == 3);
+fn goes_to_later_versions(rt: HostRuntime) -> Result<(), AllocError> {
+    let setup = one_switch(rt.alloc())?;
+    let told = upgrades(rt.alloc(), &setup);
+    drop(setup);
+    assert!(rt; told == Ok(true));
     Ok(())
 }

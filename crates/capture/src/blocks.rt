@@ -3,7 +3,7 @@ ghost use Rattle.std.specs.Prelude.{◌≡◌, ◌<◌, ◌^◌, ◌++◌, lengt
 ghost use Rattle.of_bytes.specs.Numbers.{four as spelled_four};
 ghost use Rattle.capture_laws.specs.Blocks as blocks;
 
-use of_bytes::{eight, four, long_length, two};
+use of_bytes::{Front, eight, four, long_length, two};
 use of_types::Octets;
 use std::alloc::{AllocError, Global};
 
@@ -61,6 +61,18 @@ const MOST_SHOWN: usize = 262_144;
 /// The bytes of a block around its body.
 const AROUND: usize = 12;
 
+/// The bytes of a block before its body.
+const BLOCK_FRONT: usize = 8;
+
+/// The bytes of a section before its options.
+const SECTION_FRONT: usize = 16;
+
+/// The bytes of an interface before its options.
+const INTERFACE_FRONT: usize = 8;
+
+/// The bytes that stand before those of a packet.
+const PACKET_FRONT: usize = 20;
+
 /// Writes the head of a section.
 #[tactic(auto, unfolding(capture_laws::specs::Blocks::section_block))]
 pub fn write_section(out: &mut Octets, alloc: Global) -> Result<(), AllocError>
@@ -98,11 +110,12 @@ pub fn write_packet(
 fn section_body(alloc: Global) -> Result<Octets, AllocError>
     ensures { IfOk result (λ body. body ≡ blocks.section_body) }
 {
-    let mut body = Octets::new(alloc);
-    body.append(&four(BYTE_ORDER))?;
-    body.append(&two(MAJOR))?;
-    body.append(&two(MINOR))?;
-    body.append(&eight(UNTOLD))?;
+    let mut front = Front::<SECTION_FRONT>::new();
+    front.put(four(BYTE_ORDER));
+    front.put(two(MAJOR));
+    front.put(two(MINOR));
+    front.put(eight(UNTOLD));
+    let mut body = Octets::from_slice(alloc, front.as_slice())?;
     write_option(&mut body, WRITTEN_BY, b"run_pcap")?;
     body.append(&four(NO_MORE))?;
     Ok(body)
@@ -111,10 +124,11 @@ fn section_body(alloc: Global) -> Result<Octets, AllocError>
 fn interface_body(alloc: Global, name: &[u8]) -> Result<Octets, AllocError>
     ensures { IfOk result (λ body. body ≡ blocks.interface_body name.now) }
 {
-    let mut body = Octets::new(alloc);
-    body.append(&two(ETHERNET))?;
-    body.append(&two(0))?;
-    body.append(&four(NO_LIMIT))?;
+    let mut front = Front::<INTERFACE_FRONT>::new();
+    front.put(two(ETHERNET));
+    front.put(two(0));
+    front.put(four(NO_LIMIT));
+    let mut body = Octets::from_slice(alloc, front.as_slice())?;
     write_option(&mut body, NAME, name)?;
     write_option(&mut body, CLOCK, &[THOUSANDTHS])?;
     body.append(&four(NO_MORE))?;
@@ -131,12 +145,13 @@ fn packet_body(
     ensures { IfOk result (λ body. body ≡ blocks.packet_body interface time comment.now bytes.now) }
 {
     let shown = &bytes[..bytes.len().min(MOST_SHOWN)];
-    let mut body = Octets::new(alloc);
-    body.append(&length_of(interface))?;
-    body.append(&length_of((time / 4_294_967_296) as usize))?;
-    body.append(&length_of(time as usize))?;
-    body.append(&length_of(shown.len()))?;
-    body.append(&length_of(bytes.len()))?;
+    let mut front = Front::<PACKET_FRONT>::new();
+    front.put(length_of(interface));
+    front.put(length_of((time / 4_294_967_296) as usize));
+    front.put(length_of(time as usize));
+    front.put(length_of(shown.len()));
+    front.put(length_of(bytes.len()));
+    let mut body = Octets::from_slice(alloc, front.as_slice())?;
     write_padded(&mut body, shown)?;
     write_comment(&mut body, comment)?;
     Ok(body)
@@ -159,11 +174,12 @@ fn write_block(out: &mut Octets, kind: u32, body: &[u8]) -> Result<(), AllocErro
     ensures { OnOk result (out.new ≡ out.old ++ blocks.block kind body.now) }
 {
     let len = length_of(AROUND + body.len());
-    out.append(&four(kind))?;
-    out.append(&len)?;
+    let mut front = Front::<BLOCK_FRONT>::new();
+    front.put(four(kind));
+    front.put(len);
+    out.append(front.as_slice())?;
     out.append(body)?;
-    out.append(&len)?;
-    Ok(())
+    out.append(&len)
 }
 
 /// Writes an option, cut where it is too long.

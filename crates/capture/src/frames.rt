@@ -3,7 +3,7 @@ ghost use Rattle.std.specs.Prelude.{◌≡◌, ◌<◌, ◌≤◌, ◌+◌, ◌*
 ghost use Rattle.capture_laws.specs.Frames as frames;
 
 use capture_laws::Way;
-use of_bytes::{four, long_length, six, two};
+use of_bytes::{Front, four, long_length, six, two};
 use of_types::Octets;
 use rv_base::Actor;
 use std::alloc::{AllocError, Global};
@@ -60,6 +60,21 @@ const HEADS: usize = 40;
 /// The bytes of the head of TCP.
 const TCP_HEAD: usize = 20;
 
+/// The bytes of it before its checksum.
+const TCP_FRONT: usize = 16;
+
+/// The bytes of the head of IPv4 before its checksum.
+const IP_FRONT: usize = 10;
+
+/// The bytes of the addresses behind it.
+const ENDS: usize = 8;
+
+/// The bytes that TCP sums beside a segment.
+const PSEUDO: usize = 12;
+
+/// The bytes of the head of Ethernet.
+const ETHERNET_HEAD: usize = 14;
+
 /// The length of the head of TCP, with ACK.
 const ACK: u16 = 0x5010;
 
@@ -92,8 +107,8 @@ pub fn frame_of(alloc: Global, way: Way, payload: &[u8]) -> Result<Octets, Alloc
             };
             let mut frame = Octets::new(alloc);
             write_ethernet(&mut frame, from, to)?;
-            write_ip(&mut frame, alloc, from, to, payload.len())?;
-            write_tcp(&mut frame, alloc, head, payload)?;
+            write_ip(&mut frame, from, to, payload.len())?;
+            write_tcp(&mut frame, head, payload)?;
             Ok(frame)
         }
     }
@@ -103,94 +118,93 @@ pub fn frame_of(alloc: Global, way: Way, payload: &[u8]) -> Result<Octets, Alloc
 fn write_ethernet(out: &mut Octets, from: Actor, to: Actor) -> Result<(), AllocError>
     ensures { OnOk result (out.new ≡ out.old ++ frames.ethernet from to) }
 {
-    out.append(&six(mac(to)))?;
-    out.append(&six(mac(from)))?;
-    out.append(&two(IPV4))?;
-    Ok(())
+    let mut head = Front::<ETHERNET_HEAD>::new();
+    head.put(six(mac(to)));
+    head.put(six(mac(from)));
+    head.put(two(IPV4));
+    out.append(head.as_slice())
 }
 
 #[tactic(auto, unfolding(capture_laws::specs::Frames::ip_head))]
-fn write_ip(
-    out: &mut Octets,
-    alloc: Global,
-    from: Actor,
-    to: Actor,
-    count: usize,
-) -> Result<(), AllocError>
+fn write_ip(out: &mut Octets, from: Actor, to: Actor, count: usize) -> Result<(), AllocError>
     requires { count < 2 ^ 63 }
     ensures { OnOk result (out.new ≡ out.old ++ frames.ip_head from to count) }
 {
-    let front = ip_front(alloc, count)?;
-    let ends = ends_of(alloc, from, to)?;
+    let front = ip_front(count);
+    let ends = ends_of(from, to);
     let sum = word_sum(front.as_slice()) + word_sum(ends.as_slice());
     out.append(front.as_slice())?;
     out.append(&two(checksum(sum)))?;
-    out.append(ends.as_slice())?;
-    Ok(())
+    out.append(ends.as_slice())
 }
 
 #[tactic(auto, unfolding(capture_laws::specs::Frames::tcp))]
-fn write_tcp(out: &mut Octets, alloc: Global, head: Head, payload: &[u8]) -> Result<(), AllocError>
+fn write_tcp(out: &mut Octets, head: Head, payload: &[u8]) -> Result<(), AllocError>
     ensures { OnOk result (out.new ≡ out.old ++ frames.tcp head.from head.to head.sequence head.acknowledged head.ends payload.now) }
 {
-    let front = tcp_front(alloc, head)?;
-    let pseudo = pseudo(alloc, head.from, head.to, payload.len())?;
+    let front = tcp_front(head);
+    let pseudo = pseudo(head.from, head.to, payload.len());
     let sum = word_sum(pseudo.as_slice()) + word_sum(front.as_slice()) + word_sum(payload);
     out.append(front.as_slice())?;
     out.append(&two(checksum(sum)))?;
     out.append(&two(0))?;
-    out.append(payload)?;
-    Ok(())
+    out.append(payload)
 }
 
 #[tactic(auto, unfolding(capture_laws::specs::Frames::tcp_front))]
-fn tcp_front(alloc: Global, head: Head) -> Result<Octets, AllocError>
-    ensures { IfOk result (λ front. front ≡ frames.tcp_front head.from head.to head.sequence head.acknowledged head.ends) }
+fn tcp_front(head: Head) -> Front<TCP_FRONT>
+    ensures front { result ≡ frames.tcp_front head.from head.to head.sequence head.acknowledged head.ends }
+    ensures len { length result ≤ 20 }
 {
-    let mut front = Octets::new(alloc);
-    front.append(&two(port(head.from, head.to)))?;
-    front.append(&two(port(head.to, head.from)))?;
-    front.append(&four(head.sequence))?;
-    front.append(&four(head.acknowledged))?;
-    front.append(&two(if head.ends { PSH_ACK } else { ACK }))?;
-    front.append(&two(WINDOW))?;
-    Ok(front)
+    let mut front = Front::new();
+    front.put(two(port(head.from, head.to)));
+    front.put(two(port(head.to, head.from)));
+    front.put(four(head.sequence));
+    front.put(four(head.acknowledged));
+    front.put(two(if head.ends { PSH_ACK } else { ACK }));
+    front.put(two(WINDOW));
+    front
 }
 
 #[tactic(auto, unfolding(capture_laws::specs::Frames::ip_front))]
-fn ip_front(alloc: Global, count: usize) -> Result<Octets, AllocError>
+fn ip_front(count: usize) -> Front<IP_FRONT>
     requires { count < 2 ^ 63 }
-    ensures { IfOk result (λ front. front ≡ frames.ip_front count) }
+    ensures front { result ≡ frames.ip_front count }
+    ensures len { length result ≤ 20 }
 {
-    let mut front = Octets::new(alloc);
-    front.append(&two(VERSION))?;
-    front.append(&long_length(HEADS + count))?;
-    front.append(&two(0))?;
-    front.append(&two(WHOLE))?;
-    front.append(&two(LIFE_AND_TCP))?;
-    Ok(front)
+    let mut front = Front::new();
+    front.put(two(VERSION));
+    front.put(long_length(HEADS + count));
+    front.put(two(0));
+    front.put(two(WHOLE));
+    front.put(two(LIFE_AND_TCP));
+    front
 }
 
 /// What TCP sums beside a segment.
-#[tactic(auto, unfolding(capture_laws::specs::Frames::pseudo))]
-fn pseudo(alloc: Global, from: Actor, to: Actor, count: usize) -> Result<Octets, AllocError>
+#[tactic(auto, unfolding(capture_laws::specs::Frames::pseudo, capture_laws::specs::Frames::ends_of))]
+fn pseudo(from: Actor, to: Actor, count: usize) -> Front<PSEUDO>
     requires { count < 2 ^ 63 }
-    ensures { IfOk result (λ pseudo. pseudo ≡ frames.pseudo from to count) }
+    ensures front { result ≡ frames.pseudo from to count }
+    ensures len { length result ≤ 20 }
 {
-    let mut pseudo = ends_of(alloc, from, to)?;
-    pseudo.append(&two(TCP))?;
-    pseudo.append(&long_length(TCP_HEAD + count))?;
-    Ok(pseudo)
+    let mut pseudo = Front::new();
+    pseudo.put(four(ip(from)));
+    pseudo.put(four(ip(to)));
+    pseudo.put(two(TCP));
+    pseudo.put(long_length(TCP_HEAD + count));
+    pseudo
 }
 
 #[tactic(auto, unfolding(capture_laws::specs::Frames::ends_of))]
-fn ends_of(alloc: Global, from: Actor, to: Actor) -> Result<Octets, AllocError>
-    ensures { IfOk result (λ ends. ends ≡ frames.ends_of from to) }
+fn ends_of(from: Actor, to: Actor) -> Front<ENDS>
+    ensures front { result ≡ frames.ends_of from to }
+    ensures len { length result ≤ 20 }
 {
-    let mut ends = Octets::new(alloc);
-    ends.append(&four(ip(from)))?;
-    ends.append(&four(ip(to)))?;
-    Ok(ends)
+    let mut ends = Front::new();
+    ends.put(four(ip(from)));
+    ends.put(four(ip(to)));
+    ends
 }
 
 /// The port of the first actor on its stream with the second.

@@ -245,13 +245,15 @@ impl Marks {
         seen: &mut Seen,
     ) -> Result<(), AllocError> {
         let said = carried(self.alloc, seen.actor, letter.to, letter.body.as_slice())?;
-        match (seen.actor, letter.to) {
+        let answer = match (seen.actor, letter.to) {
             (Actor::Switch(switch), Actor::Controller(controller)) => {
                 self.see_answer(place, switch, controller, &said, seen)
             }
             (Actor::Controller(_), Actor::Switch(switch)) => self.see_said(switch, &said, seen),
             _ => Ok(()),
-        }
+        };
+        drop(said);
+        answer
     }
 
     /// Takes note of what a switch says to a controller.
@@ -312,20 +314,31 @@ impl Marks {
     /// Takes note of the next entry, which stands at a place, and gives what it tells.
     pub fn see(&mut self, place: usize, entry: &JournalEntry<Octets>) -> Result<Seen, AllocError> {
         let mut seen = Seen::of(self.alloc, actor_of(entry));
+        match self.add_entry(place, entry, &mut seen) {
+            Ok(()) => Ok(seen),
+            Err(refused) => {
+                drop(seen);
+                Err(refused)
+            }
+        }
+    }
+
+    /// Adds what an entry at a place tells.
+    fn add_entry(
+        &mut self,
+        place: usize,
+        entry: &JournalEntry<Octets>,
+        seen: &mut Seen,
+    ) -> Result<(), AllocError> {
         match entry {
             JournalEntry::Post { letters, lost, .. } => {
-                self.see_post(place, letters.as_slice(), *lost, &mut seen)?;
+                self.see_post(place, letters.as_slice(), *lost, seen)
             }
-            JournalEntry::Local { input, .. } => self.see_input(place, input, &mut seen)?,
-            JournalEntry::Draw { id, .. } => {
-                named(&mut seen.text, b"draws earlier packet", *id)?;
-            }
-            JournalEntry::Lose { id, .. } => {
-                named(&mut seen.text, b"loses earlier packet", *id)?;
-            }
-            JournalEntry::Idle { .. } => seen.text.append(b"nothing waits")?,
-            JournalEntry::Refused { .. } => seen.text.append(b"no memory")?,
+            JournalEntry::Local { input, .. } => self.see_input(place, input, seen),
+            JournalEntry::Draw { id, .. } => named(&mut seen.text, b"draws earlier packet", *id),
+            JournalEntry::Lose { id, .. } => named(&mut seen.text, b"loses earlier packet", *id),
+            JournalEntry::Idle { .. } => seen.text.append(b"nothing waits"),
+            JournalEntry::Refused { .. } => seen.text.append(b"no memory"),
         }
-        Ok(seen)
     }
 }

@@ -1,5 +1,5 @@
 //! What is told in the bytes of OpenFlow. Only the one written form is read.
-ghost use Rattle.std.specs.Prelude.{◌≡◌, ◌≤◌, ◌*◌, length, IfOk};
+ghost use Rattle.std.specs.Prelude.{◌≡◌, ◌≤◌, ◌*◌, ℕ, List, length, IfOk};
 ghost use Rattle.std.specs.Result.{result_ok};
 ghost use Rattle.of_match.specs.Reading.{match_at};
 ghost use Rattle.of_messages.specs.Reading.{message_at};
@@ -29,6 +29,27 @@ pub fn are_equal(a: &[u8], b: &[u8]) -> bool
     a == b
 }
 
+/// What has one written form.
+trait Written: Drop {
+    ghost written: { Self → List ℕ };
+
+    /// The written form.
+    fn write(&self, alloc: Global) -> Result<Octets, AllocError>
+        ensures { IfOk result (λ bytes. bytes ≡ written self.now) };
+}
+
+/// A value whose written form is these bytes.
+fn if_written<W: Written>(alloc: Global, told: W, bytes: &[u8]) -> Result<W, Misfit>
+    ensures { Gives (λ x. x) result (canonical.if_written W.written bytes.now told) }
+{
+    let written = told.write(alloc)?;
+    if are_equal(written.as_slice(), bytes) {
+        Ok(told)
+    } else {
+        Err(Misfit::Text)
+    }
+}
+
 fn message(alloc: Global, bytes: &[u8]) -> Result<OfMessage, Misfit>
     ensures { Gives (λ m. m) result (result_ok (message_at bytes.now)) }
 {
@@ -45,7 +66,20 @@ fn happening_in(message: OfMessage) -> Option<Happening>
     match message {
         OfMessage::PacketIn(packet) => Some(Happening::PacketIn(packet)),
         OfMessage::PortStatus(status) => Some(Happening::PortStatus(status)),
-        _ => None,
+        other => {
+            drop(other);
+            None
+        }
+    }
+}
+
+impl Written for Happening {
+    ghost use Rattle.of_ravana.specs.Canonical.{canonical_happening};
+
+    ghost written = { canonical_happening };
+
+    fn write(&self, alloc: Global) -> Result<Octets, AllocError> {
+        canonical_happening(alloc, self)
     }
 }
 
@@ -57,12 +91,7 @@ fn happening_of(alloc: Global, bytes: &[u8]) -> Result<Happening, Misfit>
     let Some(what) = happening_in(message) else {
         return Err(Misfit::Text);
     };
-    let written = canonical_happening(alloc, &what)?;
-    if are_equal(written.as_slice(), bytes) {
-        Ok(what)
-    } else {
-        Err(Misfit::Text)
-    }
+    if_written(alloc, what, bytes)
 }
 
 /// What an event tells.
@@ -81,7 +110,20 @@ fn order_in(message: OfMessage) -> Option<Order>
     match message {
         OfMessage::FlowMod(change) => Some(Order::FlowMod(change)),
         OfMessage::PacketOut(packet) => Some(Order::PacketOut(packet)),
-        _ => None,
+        other => {
+            drop(other);
+            None
+        }
+    }
+}
+
+impl Written for Order {
+    ghost use Rattle.of_ravana.specs.Canonical.{canonical_order};
+
+    ghost written = { canonical_order };
+
+    fn write(&self, alloc: Global) -> Result<Octets, AllocError> {
+        canonical_order(alloc, self)
     }
 }
 
@@ -93,12 +135,7 @@ fn order_of(alloc: Global, bytes: &[u8]) -> Result<Order, Misfit>
     let Some(order) = order_in(message) else {
         return Err(Misfit::Text);
     };
-    let written = canonical_order(alloc, &order)?;
-    if are_equal(written.as_slice(), bytes) {
-        Ok(order)
-    } else {
-        Err(Misfit::Text)
-    }
+    if_written(alloc, order, bytes)
 }
 
 /// What a command asks for.
@@ -131,6 +168,16 @@ fn first_match(bytes: &[u8]) -> Option<(Match, usize)>
     read_match(bytes).ok()
 }
 
+impl Written for Match {
+    ghost use Rattle.of_match.specs.Writing.{canonical_bare_match};
+
+    ghost written = { canonical_bare_match };
+
+    fn write(&self, alloc: Global) -> Result<Octets, AllocError> {
+        bare_match(alloc, self)
+    }
+}
+
 #[tactic(auto, unfolding(crate::specs::Canonical::matching_of))]
 fn matching_of(alloc: Global, bare: &Octets) -> Result<Match, Misfit>
     ensures { Gives (λ x. x) result (canonical.matching_of bare.now) }
@@ -139,12 +186,7 @@ fn matching_of(alloc: Global, bare: &Octets) -> Result<Match, Misfit>
     let Some((matching, _)) = first_match(bytes.as_slice()) else {
         return Err(Misfit::Text);
     };
-    let written = bare_match(alloc, &matching)?;
-    if are_equal(written.as_slice(), bare.as_slice()) {
-        Ok(matching)
-    } else {
-        Err(Misfit::Text)
-    }
+    if_written(alloc, matching, bare.as_slice())
 }
 
 /// What a row matches, without padding.
@@ -172,6 +214,16 @@ fn ports_of(alloc: Global, count: usize, bytes: &[u8]) -> Result<Actions, AllocE
     Ok(ports)
 }
 
+impl Written for Actions {
+    ghost use Rattle.of_messages.specs.Canonical.{actions_of};
+
+    ghost written = { actions_of };
+
+    fn write(&self, alloc: Global) -> Result<Octets, AllocError> {
+        actions_of(alloc, self.as_slice())
+    }
+}
+
 #[tactic(auto, unfolding(crate::specs::Canonical::actions_in, crate::specs::Canonical::most_actions))]
 fn actions_in(alloc: Global, bytes: &[u8]) -> Result<Actions, Misfit>
     ensures { Gives (λ x. x) result (canonical.actions_in bytes.now) }
@@ -180,12 +232,7 @@ fn actions_in(alloc: Global, bytes: &[u8]) -> Result<Actions, Misfit>
         return Err(Misfit::Text);
     }
     let ports = ports_of(alloc, bytes.len() / OUTPUT_SIZE, bytes)?;
-    let written = actions_of(alloc, ports.as_slice())?;
-    if are_equal(written.as_slice(), bytes) {
-        Ok(ports)
-    } else {
-        Err(Misfit::Text)
-    }
+    if_written(alloc, ports, bytes)
 }
 
 /// The actions of a row.

@@ -7,7 +7,7 @@ ghost use Rattle.report.specs.Spelled.{Gives};
 
 use crate::counted::{CountedLine, read_each};
 use crate::fault::{Broken, Misfit, on_line};
-use crate::spelled::{actor, after, end_of_line, flag, hex, known, number32, number64};
+use crate::spelled::{actor, after, ended, flag, hex, known, number32, number64};
 use of_types::{Items, Octets};
 use rv_base::{Actor, Journal, JournalEntry, Letter, Local};
 use std::alloc::Global;
@@ -26,8 +26,7 @@ impl CountedLine for Letter<Octets> {
         let rest = after(b"letter", bytes)?;
         let (to, rest) = actor(rest)?;
         let (body, rest) = hex(alloc, rest)?;
-        let rest = end_of_line(rest)?;
-        Ok((Letter { to, body }, rest))
+        ended(Letter { to, body }, rest)
     }
 }
 
@@ -49,8 +48,7 @@ fn post_line(bytes: &[u8]) -> Result<(PostLine, &[u8]), Misfit>
     let (first, rest) = number64(rest)?;
     let (count, rest) = number64(rest)?;
     let (lost, rest) = number64(rest)?;
-    let rest = end_of_line(rest)?;
-    Ok((
+    ended(
         PostLine {
             actor,
             first,
@@ -58,7 +56,7 @@ fn post_line(bytes: &[u8]) -> Result<(PostLine, &[u8]), Misfit>
             lost,
         },
         rest,
-    ))
+    )
 }
 
 #[tactic(auto, unfolding(crate::specs::Reading::post_at))]
@@ -92,8 +90,7 @@ fn draw(bytes: &[u8]) -> Result<(JournalEntry<Octets>, &[u8]), Misfit>
     let (actor, rest) = actor(rest)?;
     let (id, rest) = number64(rest)?;
     let (keep, rest) = flag(rest)?;
-    let rest = end_of_line(rest)?;
-    Ok((JournalEntry::Draw { actor, id, keep }, rest))
+    ended(JournalEntry::Draw { actor, id, keep }, rest)
 }
 
 #[tactic(auto, unfolding(crate::specs::OneLine::lose_at))]
@@ -103,8 +100,7 @@ fn lose(bytes: &[u8]) -> Result<(JournalEntry<Octets>, &[u8]), Misfit>
     let rest = after(b"lose", bytes)?;
     let (actor, rest) = actor(rest)?;
     let (id, rest) = number64(rest)?;
-    let rest = end_of_line(rest)?;
-    Ok((JournalEntry::Lose { actor, id }, rest))
+    ended(JournalEntry::Lose { actor, id }, rest)
 }
 
 #[tactic(auto, unfolding(crate::specs::OneLine::idle_at))]
@@ -113,8 +109,7 @@ fn idle(bytes: &[u8]) -> Result<(JournalEntry<Octets>, &[u8]), Misfit>
 {
     let rest = after(b"idle", bytes)?;
     let (actor, rest) = actor(rest)?;
-    let rest = end_of_line(rest)?;
-    Ok((JournalEntry::Idle { actor }, rest))
+    ended(JournalEntry::Idle { actor }, rest)
 }
 
 #[tactic(auto, unfolding(crate::specs::OneLine::frame_at))]
@@ -181,8 +176,7 @@ fn local(alloc: Global, bytes: &[u8]) -> Result<(JournalEntry<Octets>, &[u8]), M
     let rest = after(b"local", bytes)?;
     let (actor, rest) = actor(rest)?;
     let (input, rest) = input(alloc, rest)?;
-    let rest = end_of_line(rest)?;
-    Ok((JournalEntry::Local { actor, input }, rest))
+    ended(JournalEntry::Local { actor, input }, rest)
 }
 
 /// An entry of one line.

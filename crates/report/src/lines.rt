@@ -93,8 +93,7 @@ fn write_post(
         Word::Number(lost),
     ];
     write_line(out, b"post", &words)?;
-    write_each(alloc, out, letters)?;
-    Ok(())
+    write_each(alloc, out, letters)
 }
 
 /// Writes the line of an input of one word.

@@ -11,7 +11,7 @@ use crate::canonical::{are_equal, happening};
 use crate::counted::{CountedLine, read_each};
 use crate::fault::{Broken, Misfit, on_line};
 use crate::report_text::size_of_log;
-use crate::spelled::{after, end_of_line, number8, number32, number64, word};
+use crate::spelled::{after, end_of_line, ended, number8, number32, number64, word};
 use itoa::Buffer;
 use numerals::is_numeral;
 use of_types::Event;
@@ -27,8 +27,7 @@ pub fn event_words(alloc: Global, bytes: &[u8]) -> Result<(Event, &[u8]), Misfit
     let (life, rest) = number32(rest)?;
     let (number, rest) = number64(rest)?;
     let (what, rest) = happening(alloc, rest)?;
-    let rest = end_of_line(rest)?;
-    Ok((
+    ended(
         Event {
             switch,
             life,
@@ -36,7 +35,7 @@ pub fn event_words(alloc: Global, bytes: &[u8]) -> Result<(Event, &[u8]), Misfit
             what,
         },
         rest,
-    ))
+    )
 }
 
 #[tactic(auto, unfolding(crate::specs::OneLine::received_at))]
@@ -54,8 +53,7 @@ fn processed(bytes: &[u8]) -> Result<(Entry, &[u8]), Misfit>
 {
     let rest = after(b"processed", bytes)?;
     let (place, rest) = number64(rest)?;
-    let rest = end_of_line(rest)?;
-    Ok((Entry::Processed(place), rest))
+    ended(Entry::Processed(place), rest)
 }
 
 impl CountedLine for Entry {

@@ -14,7 +14,7 @@ use crate::log_lines::log;
 use crate::record::{Record, Told};
 use crate::report_text::write_sum_words;
 use crate::setup_lines::setup;
-use crate::spelled::{after, end_of_line, labelled};
+use crate::spelled::{after, end_of_line, ended, labelled};
 use crate::switch_lines::switches;
 use of_types::{Items, Octets};
 use rv_base::Journal;
@@ -41,8 +41,7 @@ fn last_line<'a>(sums: &[u8], bytes: &'a [u8]) -> Result<((u64, u64), &'a [u8]),
     let (script, rest) = labelled(b"script", rest)?;
     let (closing, rest) = labelled(b"closing", rest)?;
     let rest = after(sums, rest)?;
-    let rest = end_of_line(rest)?;
-    Ok(((script, closing), rest))
+    ended((script, closing), rest)
 }
 
 /// The words of the sums.

@@ -49,8 +49,7 @@ fn write_setup(alloc: Global, out: &mut Octets, setup: &Setup) -> Result<(), All
     write_setup_line(out, setup)?;
     write_ports(out, setup.ports.as_slice())?;
     write_each(alloc, out, setup.links.as_slice())?;
-    write_each(alloc, out, setup.deny.as_slice())?;
-    Ok(())
+    write_each(alloc, out, setup.deny.as_slice())
 }
 
 /// The bytes of an entry of the log.
@@ -84,8 +83,7 @@ fn write_log(alloc: Global, out: &mut Octets, log: &[Entry]) -> Result<(), Alloc
 {
     let words = [Word::Number(log.len() as u64), Word::Sum(size_of_log(log))];
     write_line(out, b"log", &words)?;
-    write_each(alloc, out, log)?;
-    Ok(())
+    write_each(alloc, out, log)
 }
 
 /// How many events, executed commands and rows the switches have.
@@ -138,8 +136,7 @@ fn write_end(out: &mut Octets, told: &Record) -> Result<(), AllocError>
     ];
     write_words(out, &turns)?;
     write_sum_words(out, told.log.len(), told.switches.as_slice())?;
-    write_newline(out)?;
-    Ok(())
+    write_newline(out)
 }
 
 /// The last line of a report alone.

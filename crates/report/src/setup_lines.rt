@@ -6,7 +6,9 @@ ghost use Rattle.report.specs.Reading.{port_counts_at, links_at, rules_at, setup
 ghost use Rattle.report.specs.Spelled.{Gives};
 
 use crate::fault::{Broken, Misfit, on_line};
-use crate::spelled::{address, after, end_of_line, number8, number16_or_dash, number32, number64};
+use crate::spelled::{
+    address, after, end_of_line, ended, number8, number16_or_dash, number32, number64,
+};
 use of_types::{Items, Link, Links, PortCounts, Prefix, Rule, Rules, Setup};
 use std::alloc::Global;
 use wires::is_taken;
@@ -99,8 +101,7 @@ fn link_words(bytes: &[u8]) -> Result<(Link, &[u8]), Misfit>
     let (port, rest) = number32(rest)?;
     let (peer, rest) = number8(rest)?;
     let (peer_port, rest) = number32(rest)?;
-    let rest = end_of_line(rest)?;
-    Ok((
+    ended(
         Link {
             switch,
             port,
@@ -108,7 +109,7 @@ fn link_words(bytes: &[u8]) -> Result<(Link, &[u8]), Misfit>
             peer_port,
         },
         rest,
-    ))
+    )
 }
 
 /// A wire that may stand behind these.
@@ -178,8 +179,7 @@ fn rule_words(bytes: &[u8]) -> Result<(Rule, &[u8]), Misfit>
     let (src, rest) = prefix(rest)?;
     let (dst, rest) = prefix(rest)?;
     let (port, rest) = number16_or_dash(rest)?;
-    let rest = end_of_line(rest)?;
-    Ok((
+    ended(
         Rule {
             proto,
             src,
@@ -187,7 +187,7 @@ fn rule_words(bytes: &[u8]) -> Result<(Rule, &[u8]), Misfit>
             port,
         },
         rest,
-    ))
+    )
 }
 
 /// Whether a rule may name this protocol, and this port beside it.

@@ -1,9 +1,9 @@
 //! The words of a line as they are read. Each stands behind a space, and ends before the next space or the end of
 //! the line.
-ghost use Rattle.std.specs.Prelude.{◌≡◌, ◌≤◌, ◌<◌, ◌*◌, length, position, Some, true, IfOk, IfSome};
+ghost use Rattle.std.specs.Prelude.{◌≡◌, ◌≤◌, ◌<◌, ◌*◌, ℕ, List, length, position, Some, true, IfOk, IfSome};
 ghost use Rattle.std.specs.List.{list_all, list_any};
 ghost use Rattle.report.specs.Spelled as spelled;
-ghost use Rattle.report.specs.Spelled.{Gives, is_digit};
+ghost use Rattle.report.specs.Spelled.{◌>>=◌ as then_read, Gives, is_digit};
 
 use crate::fault::Misfit;
 use numerals::numeral_within;
@@ -29,6 +29,14 @@ pub fn end_of_line(bytes: &[u8]) -> Result<&[u8], Misfit>
     ensures { Gives (λ x. x.now) result (spelled.end_at bytes.now) }
 {
     after(b"\n", bytes)
+}
+
+/// What a line told, and what comes behind its end.
+pub fn ended<T: Drop>(told: T, bytes: &[u8]) -> Result<(T, &[u8]), Misfit>
+    ensures { Gives {Y = T × List ℕ} (λ x. (x.0, x.1.now)) result (then_read (spelled.end_at bytes.now) (λ rest. Some (told, rest))) }
+{
+    let rest = end_of_line(bytes)?;
+    Ok((told, rest))
 }
 
 /// What comes behind a word that is known.

@@ -11,7 +11,7 @@ use crate::fault::{Broken, Misfit, on_line};
 use crate::log_lines::event_words;
 use crate::record::{Shown, Told};
 use crate::spelled::{
-    after, controller, end_of_line, known, labelled, master, number8, number16, number32, number64,
+    after, controller, ended, known, labelled, master, number8, number16, number32, number64,
     number64_or_dash,
 };
 use of_types::{Event, Executed, Items};
@@ -71,8 +71,7 @@ fn switch_counts(
     let (executed, rest) = labelled(b"executed", rest)?;
     let (rows, rest) = labelled(b"rows", rest)?;
     let (sent, rest) = labelled(b"sent", rest)?;
-    let rest = end_of_line(rest)?;
-    Ok((
+    ended(
         SwitchLine {
             generation,
             master,
@@ -84,7 +83,7 @@ fn switch_counts(
             sent,
         },
         rest,
-    ))
+    )
 }
 
 #[tactic(auto, unfolding(crate::specs::OneLine::switch_line_at))]
@@ -109,6 +108,7 @@ impl CountedLine for Event {
         if usize::from(event.switch) == switch {
             Ok((event, rest))
         } else {
+            drop(event);
             Err(Misfit::Text)
         }
     }
@@ -124,8 +124,7 @@ fn executed_words(alloc: Global, bytes: &[u8]) -> Result<(Executed, &[u8]), Misf
     let (generation, rest) = number64(rest)?;
     let (from, rest) = controller(rest)?;
     let (order, rest) = order(alloc, rest)?;
-    let rest = end_of_line(rest)?;
-    Ok((
+    ended(
         Executed {
             life,
             number,
@@ -134,7 +133,7 @@ fn executed_words(alloc: Global, bytes: &[u8]) -> Result<(Executed, &[u8]), Misf
             order,
         },
         rest,
-    ))
+    )
 }
 
 impl CountedLine for Executed {
@@ -162,15 +161,14 @@ impl CountedLine for Shown {
         let (priority, rest) = number16(rest)?;
         let (matching, rest) = matching(alloc, rest)?;
         let (actions, rest) = actions(alloc, rest)?;
-        let rest = end_of_line(rest)?;
-        Ok((
+        ended(
             Shown {
                 priority,
                 matching,
                 actions,
             },
             rest,
-        ))
+        )
     }
 }
 

@@ -119,8 +119,7 @@ fn write_switch_line(out: &mut Octets, switch: usize, told: &Told) -> Result<(),
     write_number(out, switch)?;
     write_role_words(out, told)?;
     write_count_words(out, told)?;
-    write_newline(out)?;
-    Ok(())
+    write_newline(out)
 }
 
 #[tactic(auto, unfolding(crate::specs::Report::told_lines))]
@@ -130,8 +129,7 @@ fn write_told(alloc: Global, out: &mut Octets, switch: usize, told: &Told) -> Re
     write_switch_line(out, switch, told)?;
     write_each(alloc, out, told.events.as_slice())?;
     write_executed_all(alloc, out, switch, told.executed.as_slice())?;
-    write_rows(alloc, out, switch, told.rows.as_slice())?;
-    Ok(())
+    write_rows(alloc, out, switch, told.rows.as_slice())
 }
 
 #[tactic(auto, unfolding(crate::specs::Report::switch_lines))]

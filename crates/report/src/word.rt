@@ -67,6 +67,5 @@ pub fn write_line(out: &mut Octets, first: &[u8], words: &[Word<'_>]) -> Result<
     for word in words {
         write_one(out, word)?;
     }
-    write_newline(out)?;
-    Ok(())
+    write_newline(out)
 }

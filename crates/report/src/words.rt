@@ -15,14 +15,21 @@ pub fn write_digits<N: Integer>(out: &mut Octets, n: N) -> Result<(), AllocError
     out.append(Buffer::new().format(n).as_bytes())
 }
 
+/// Writes a text, and the digits of a number behind it.
+fn write_behind<N: Integer>(out: &mut Octets, text: &[u8], n: N) -> Result<(), AllocError>
+    ensures { OnOk result (out.new ≡ out.old ++ text.now ++ N.text n) }
+{
+    out.append(text)?;
+    write_digits(out, n)
+}
+
 /// Writes a space and a word.
 #[tactic(auto, unfolding(crate::specs::Report::word))]
 pub fn write_word(out: &mut Octets, text: &[u8]) -> Result<(), AllocError>
     ensures { OnOk result (out.new ≡ out.old ++ word text.now) }
 {
     out.append(b" ")?;
-    out.append(text)?;
-    Ok(())
+    out.append(text)
 }
 
 /// Writes a space and the digits of a number.
@@ -30,9 +37,7 @@ pub fn write_word(out: &mut Octets, text: &[u8]) -> Result<(), AllocError>
 pub fn write_number<N: Integer>(out: &mut Octets, n: N) -> Result<(), AllocError>
     ensures { OnOk result (out.new ≡ out.old ++ word (N.text n)) }
 {
-    out.append(b" ")?;
-    write_digits(out, n)?;
-    Ok(())
+    write_behind(out, b" ", n)
 }
 
 /// Writes the end of a line.
@@ -48,16 +53,8 @@ pub fn write_actor(out: &mut Octets, actor: Actor) -> Result<(), AllocError>
     ensures { OnOk result (out.new ≡ out.old ++ word (actor_word actor)) }
 {
     match actor {
-        Actor::Controller(c) => {
-            out.append(b" c")?;
-            write_digits(out, c)?;
-            Ok(())
-        }
-        Actor::Switch(s) => {
-            out.append(b" s")?;
-            write_digits(out, s)?;
-            Ok(())
-        }
+        Actor::Controller(c) => write_behind(out, b" c", c),
+        Actor::Switch(s) => write_behind(out, b" s", s),
     }
 }
 
@@ -98,9 +95,7 @@ pub fn write_master(out: &mut Octets, master: Option<u8>) -> Result<(), AllocErr
 fn write_dotted(out: &mut Octets, byte: u8) -> Result<(), AllocError>
     ensures { OnOk result (out.new ≡ out.old ++ 46 ∷ decimal byte) }
 {
-    out.append(b".")?;
-    write_digits(out, byte)?;
-    Ok(())
+    write_behind(out, b".", byte)
 }
 
 /// Writes an IPv4 address as its four bytes.
@@ -112,8 +107,7 @@ pub fn write_address(out: &mut Octets, address: u32) -> Result<(), AllocError>
     write_number(out, a)?;
     write_dotted(out, b)?;
     write_dotted(out, c)?;
-    write_dotted(out, d)?;
-    Ok(())
+    write_dotted(out, d)
 }
 
 fn hex_digit(n: u8) -> u8
@@ -161,6 +155,5 @@ pub fn write_hex(out: &mut Octets, bytes: &[u8]) -> Result<(), AllocError>
         return write_word(out, b"-");
     }
     out.append(b" ")?;
-    write_digit_pairs(out, bytes)?;
-    Ok(())
+    write_digit_pairs(out, bytes)
 }

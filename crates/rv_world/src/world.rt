@@ -66,12 +66,14 @@ impl<B: Body, A: App> World<B, A> {
         ensures holds { ForEachKinds (λ kinds. AreStocked A.law kinds shelves.items)
             (λ kinds. IfOk result (λ world. Holds A.law B.sealing world kinds)) }
     {
+        let controllers = controllers_of(alloc, setup, shelves)?;
+        let switches = switches_of(alloc, setup)?;
         Ok(World {
             alloc,
             setup: setup.copy()?,
             wire: Wire::new(alloc),
-            controllers: controllers_of(alloc, setup, shelves)?,
-            switches: switches_of(alloc, setup)?,
+            controllers,
+            switches,
             outbox: None,
         })
     }
@@ -115,7 +117,11 @@ impl<B: Body, A: App> World<B, A> {
     pub fn into_journal(self) -> Journal<B>
         ensures { result ≡ self.journal }
     {
-        self.wire.into_journal()
+        let (setup, wire, controllers, switches) = self.into_parts();
+        drop(setup);
+        drop(controllers);
+        drop(switches);
+        wire.into_journal()
     }
 
     /// Its setup, its journal, and its actors by number. What is owed is let go. It takes no memory.
@@ -131,8 +137,9 @@ impl<B: Body, A: App> World<B, A> {
             wire,
             controllers,
             switches,
-            outbox: _outbox,
+            outbox,
         } = self;
+        drop(outbox);
         (setup, wire, controllers, switches)
     }
 
@@ -201,7 +208,7 @@ impl<B: Body, A: App> World<B, A> {
         match self.wire.post(actor, letters) {
             Ok(()) => {
                 self.wire.lawful();
-                self.outbox = None;
+                drop(self.outbox.take());
                 Ok(())
             }
             Err(refused) => Err(refused.cause),
@@ -265,7 +272,7 @@ impl<B: Body, A: App> World<B, A> {
     {
         match controller_takes(&mut self.controllers, stables, number, input) {
             Ok(letters) => {
-                self.outbox = Some(Outbox::Controller { number, letters });
+                drop(self.outbox.replace(Outbox::Controller { number, letters }));
                 Ok(())
             }
             Err(error) => {
@@ -287,7 +294,7 @@ impl<B: Body, A: App> World<B, A> {
     {
         match switch_takes(&mut self.switches, number, input) {
             Ok(letters) => {
-                self.outbox = Some(Outbox::Switch { number, letters });
+                drop(self.outbox.replace(Outbox::Switch { number, letters }));
                 Ok(())
             }
             Err(error) => {
@@ -296,6 +303,31 @@ impl<B: Body, A: App> World<B, A> {
                 Err(error)
             }
         }
+    }
+
+    /// What the packet at a place is for the actor that draws it. It is read before the entry is written: where that finds no memory,
+    /// nothing has changed.
+    fn draw_from<P: Player>(
+        &mut self,
+        place: PacketPlace,
+        actor: Actor,
+        choice: u64,
+        keep: bool,
+    ) -> Result<P::Input, AllocError>
+        requires { IsSome (packet_at place self.old.journal) }
+        ensures heard { IfSome (packet_at place self.old.journal) (λ packet. IfOk result
+            (λ input. input ≡ P.hears place.from (B.sealing.spelled (way_of place.from place.to) packet.body))) }
+        ensures enters { OnOk result (self.new ≡ record self.old { journal = taken (turn.Draw actor choice keep) self.old.journal }) }
+        ensures orderly { OnOk result (IsOrderly B.sealing.size (past self.new.journal)) }
+        ensures wants { OnErr result (self.new ≡ self.old) }
+    {
+        let input = self.hear::<P>(place)?;
+        self.enter(Turn::Draw {
+            actor,
+            choice,
+            keep,
+        })?;
+        Ok(input)
     }
 
     /// An actor draws the packet of a choice, if one waits for it. What it says is read before it is drawn: where that finds no
@@ -316,23 +348,20 @@ impl<B: Body, A: App> World<B, A> {
         ensures stops { OnErr result (StepStops A.law W.saving B.sealing (turn.Draw actor choice keep)
             self.old stables.old self.new stables.new) }
     {
-        let turn = Turn::Draw {
-            actor,
-            choice,
-            keep,
-        };
         let Some(place) = self.look(actor, choice) else {
-            return self.enter(turn);
+            return self.enter(Turn::Draw {
+                actor,
+                choice,
+                keep,
+            });
         };
         match actor {
             Actor::Controller(number) => {
-                let input = self.hear::<Controller<A>>(place)?;
-                self.enter(turn)?;
+                let input = self.draw_from::<Controller<A>>(place, actor, choice, keep)?;
                 self.at_controller(stables, number, input)
             }
             Actor::Switch(number) => {
-                let input = self.hear::<Switch>(place)?;
-                self.enter(turn)?;
+                let input = self.draw_from::<Switch>(place, actor, choice, keep)?;
                 self.at_switch(number, input)
             }
         }

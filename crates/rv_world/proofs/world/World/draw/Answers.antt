@@ -1,4 +1,4 @@
-use Rattle.std.proofs.Common.{◌≡◌, refl, sym, ◌∙◌, ap, subst, Some, None}
+use Rattle.std.proofs.Common.{sym, ap, subst}
 use Rattle.rv_base.specs.declared.journal.Turn.TheVariants as turn
 use Rattle.rv_base.specs.Actors.{IsActor}
 use Rattle.rv_base.specs.Places.{IsFound}
@@ -22,8 +22,8 @@ returns-in_default-clause-stops g c =
     let sealing = g.B.Body.sealing in
     on_err c.enter.result _ _ (λ is. none_taken law g.W.Stable.saving sealing g.met.B.Body.faithful c.args.self.now c.args.stables.now c.requires.rests c.requires.holds c.requires.pairs (turn.Draw c.args.actor c.args.choice c.args.keep) c.enter.new.self is) c.enter.ensures.wants
 
-pub hear-requires : goal.hear-requires
-hear-requires g c =
+pub draw_from-requires : goal.draw_from-requires
+draw_from-requires g c =
     let law = g.A.App.law in
     let sealing = g.B.Body.sealing in
     let found = subst (λ o. IsFound c.args.self.now.journal o (pick c.args.actor c.args.choice (past c.args.self.now.journal))) c.in-Some.is c.look.ensures in
@@ -34,13 +34,13 @@ at_controller-requires-clause-input g c =
     let law = g.A.App.law in
     let sealing = g.B.Body.sealing in
     let found = subst (λ o. IsFound c.args.self.now.journal o (pick c.args.actor c.args.choice (past c.args.self.now.journal))) c.in-Some.is c.look.ensures in
-    subst (λ z. MayBeRefused (past z.journal)) (sym c.in_ok-enter-in-Controller.ensures.enters) (may_be_refused law g.W.Stable.saving sealing g.met.B.Body.faithful c.args.self.now c.args.stables.now c.requires.rests c.requires.holds c.requires.pairs c.args.actor c.args.choice c.args.keep c.in-Some.place found)
+    subst (λ z. MayBeRefused (past z.journal)) (sym c.in_ok-input-in-Controller.ensures.enters) (rw (← c.in-Controller.is) (may_be_refused law g.W.Stable.saving sealing g.met.B.Body.faithful c.args.self.now c.args.stables.now c.requires.rests c.requires.holds c.requires.pairs c.args.actor c.args.choice c.args.keep c.in-Some.place found))
 
 pub at_controller-requires-clause-there : goal.at_controller-requires-clause-there
 at_controller-requires-clause-there g c =
     let law = g.A.App.law in
     let sealing = g.B.Body.sealing in
-    rw (ap (λ z. z.controllers) c.in_ok-enter-in-Controller.ensures.enters) (controller_there law g.W.Stable.saving sealing c.args.self.now c.args.stables.now c.requires.holds c.requires.pairs c.in-Controller.number (subst (λ a. IsActor c.args.self.now.setup a) c.in-Controller.is c.requires.named))
+    rw (ap (λ z. z.controllers) c.in_ok-input-in-Controller.ensures.enters) (controller_there law g.W.Stable.saving sealing c.args.self.now c.args.stables.now c.requires.holds c.requires.pairs c.in-Controller.number (subst (λ a. IsActor c.args.self.now.setup a) c.in-Controller.is c.requires.named))
 
 pub at_controller-requires-clause-stable : goal.at_controller-requires-clause-stable
 at_controller-requires-clause-stable g c =
@@ -52,24 +52,24 @@ pub at_controller-requires-clause-ready : goal.at_controller-requires-clause-rea
 at_controller-requires-clause-ready g c =
     let law = g.A.App.law in
     let sealing = g.B.Body.sealing in
-    rw (ap (λ z. z.controllers) c.in_ok-enter-in-Controller.ensures.enters) (served law g.W.Stable.saving sealing c.args.self.now c.args.stables.now c.requires.holds c.requires.pairs c.in-Controller.number (subst (λ a. IsActor c.args.self.now.setup a) c.in-Controller.is c.requires.named))
+    rw (ap (λ z. z.controllers) c.in_ok-input-in-Controller.ensures.enters) (served law g.W.Stable.saving sealing c.args.self.now c.args.stables.now c.requires.holds c.requires.pairs c.in-Controller.number (subst (λ a. IsActor c.args.self.now.setup a) c.in-Controller.is c.requires.named))
 
-pub returns-in_ok-enter-in-Controller-clause-steps : goal.returns-in_ok-enter-in-Controller-clause-steps
-returns-in_ok-enter-in-Controller-clause-steps g c =
+pub returns-in_ok-input-in-Controller-clause-steps : goal.returns-in_ok-input-in-Controller-clause-steps
+returns-in_ok-input-in-Controller-clause-steps g c =
     let law = g.A.App.law in
     let sealing = g.B.Body.sealing in
     let found = subst (λ o. IsFound c.args.self.now.journal o (pick c.args.actor c.args.choice (past c.args.self.now.journal))) c.in-Some.is c.look.ensures in
-    on_ok c.at_controller.result _ _ (λ t. controller_draws law g.W.Stable.saving sealing g.met.B.Body.faithful c.args.self.now c.args.stables.now c.requires.rests c.requires.holds c.requires.pairs c.args.actor c.args.choice c.args.keep c.in-Some.place found c.enter-in-Controller.new.self c.in_ok-enter-in-Controller.ensures.enters c.in_ok-enter-in-Controller.ensures.orderly c.in-Controller.number c.in-Controller.is (subst (λ a. IsActor c.args.self.now.setup a) c.in-Controller.is c.requires.named) c.in_ok-input-in-Controller.input c.in_ok-input-in-Controller.ensures c.at_controller.new.self c.at_controller.new.stables t) c.at_controller.ensures.owes
+    on_ok c.at_controller.result _ _ (λ t. controller_draws law g.W.Stable.saving sealing g.met.B.Body.faithful c.args.self.now c.args.stables.now c.requires.rests c.requires.holds c.requires.pairs c.args.actor c.args.choice c.args.keep c.in-Some.place found c.draw_from.new.self (rw c.in-Controller.is c.in_ok-input-in-Controller.ensures.enters) c.in_ok-input-in-Controller.ensures.orderly c.in-Controller.number c.in-Controller.is (subst (λ a. IsActor c.args.self.now.setup a) c.in-Controller.is c.requires.named) c.in_ok-input-in-Controller.input c.in_ok-input-in-Controller.ensures.heard c.at_controller.new.self c.at_controller.new.stables t) c.at_controller.ensures.owes
 
-pub returns-in_ok-enter-in-Controller-clause-stops : goal.returns-in_ok-enter-in-Controller-clause-stops
-returns-in_ok-enter-in-Controller-clause-stops g c =
+pub returns-in_ok-input-in-Controller-clause-stops : goal.returns-in_ok-input-in-Controller-clause-stops
+returns-in_ok-input-in-Controller-clause-stops g c =
     let law = g.A.App.law in
     let sealing = g.B.Body.sealing in
     let found = subst (λ o. IsFound c.args.self.now.journal o (pick c.args.actor c.args.choice (past c.args.self.now.journal))) c.in-Some.is c.look.ensures in
-    on_errs c.at_controller.result _ _ _ (λ r behind. controller_draw_ends law g.W.Stable.saving sealing g.met.B.Body.faithful c.args.self.now c.args.stables.now c.requires.rests c.requires.holds c.requires.pairs c.args.actor c.args.choice c.args.keep c.in-Some.place found c.enter-in-Controller.new.self c.in_ok-enter-in-Controller.ensures.enters c.in_ok-enter-in-Controller.ensures.orderly c.in-Controller.number c.in-Controller.is (subst (λ a. IsActor c.args.self.now.setup a) c.in-Controller.is c.requires.named) c.in_ok-input-in-Controller.input c.in_ok-input-in-Controller.ensures c.at_controller.new.self c.at_controller.new.stables behind r) c.at_controller.ensures.refused c.at_controller.ensures.orderly
+    on_errs c.at_controller.result _ _ _ (λ r behind. controller_draw_ends law g.W.Stable.saving sealing g.met.B.Body.faithful c.args.self.now c.args.stables.now c.requires.rests c.requires.holds c.requires.pairs c.args.actor c.args.choice c.args.keep c.in-Some.place found c.draw_from.new.self (rw c.in-Controller.is c.in_ok-input-in-Controller.ensures.enters) c.in_ok-input-in-Controller.ensures.orderly c.in-Controller.number c.in-Controller.is (subst (λ a. IsActor c.args.self.now.setup a) c.in-Controller.is c.requires.named) c.in_ok-input-in-Controller.input c.in_ok-input-in-Controller.ensures.heard c.at_controller.new.self c.at_controller.new.stables behind r) c.at_controller.ensures.refused c.at_controller.ensures.orderly
 
-pub hear-requires-in-Switch : goal.hear-requires-in-Switch
-hear-requires-in-Switch g c =
+pub draw_from-requires-in-Switch : goal.draw_from-requires-in-Switch
+draw_from-requires-in-Switch g c =
     let law = g.A.App.law in
     let sealing = g.B.Body.sealing in
     let found = subst (λ o. IsFound c.args.self.now.journal o (pick c.args.actor c.args.choice (past c.args.self.now.journal))) c.in-Some.is c.look.ensures in
@@ -80,18 +80,18 @@ at_switch-requires-clause-input g c =
     let law = g.A.App.law in
     let sealing = g.B.Body.sealing in
     let found = subst (λ o. IsFound c.args.self.now.journal o (pick c.args.actor c.args.choice (past c.args.self.now.journal))) c.in-Some.is c.look.ensures in
-    subst (λ z. MayBeRefused (past z.journal)) (sym c.in_ok-enter-in-Switch.ensures.enters) (may_be_refused law g.W.Stable.saving sealing g.met.B.Body.faithful c.args.self.now c.args.stables.now c.requires.rests c.requires.holds c.requires.pairs c.args.actor c.args.choice c.args.keep c.in-Some.place found)
+    subst (λ z. MayBeRefused (past z.journal)) (sym c.in_ok-input-in-Switch.ensures.enters) (rw (← c.in-Switch.is) (may_be_refused law g.W.Stable.saving sealing g.met.B.Body.faithful c.args.self.now c.args.stables.now c.requires.rests c.requires.holds c.requires.pairs c.args.actor c.args.choice c.args.keep c.in-Some.place found))
 
-pub returns-in_ok-enter-in-Switch-clause-steps : goal.returns-in_ok-enter-in-Switch-clause-steps
-returns-in_ok-enter-in-Switch-clause-steps g c =
+pub returns-in_ok-input-in-Switch-clause-steps : goal.returns-in_ok-input-in-Switch-clause-steps
+returns-in_ok-input-in-Switch-clause-steps g c =
     let law = g.A.App.law in
     let sealing = g.B.Body.sealing in
     let found = subst (λ o. IsFound c.args.self.now.journal o (pick c.args.actor c.args.choice (past c.args.self.now.journal))) c.in-Some.is c.look.ensures in
-    on_ok c.at_switch.result _ _ (λ t. switch_draws law g.W.Stable.saving sealing g.met.B.Body.faithful c.args.self.now c.args.stables.now c.requires.rests c.requires.holds c.requires.pairs c.args.actor c.args.choice c.args.keep c.in-Some.place found c.enter-in-Switch.new.self c.in_ok-enter-in-Switch.ensures.enters c.in_ok-enter-in-Switch.ensures.orderly c.in-Switch.number c.in-Switch.is (subst (λ a. IsActor c.args.self.now.setup a) c.in-Switch.is c.requires.named) c.in_ok-input-in-Switch.input c.in_ok-input-in-Switch.ensures c.at_switch.new.self t) c.at_switch.ensures.owes
+    on_ok c.at_switch.result _ _ (λ t. switch_draws law g.W.Stable.saving sealing g.met.B.Body.faithful c.args.self.now c.args.stables.now c.requires.rests c.requires.holds c.requires.pairs c.args.actor c.args.choice c.args.keep c.in-Some.place found c.draw_from-in-Switch.new.self (rw c.in-Switch.is c.in_ok-input-in-Switch.ensures.enters) c.in_ok-input-in-Switch.ensures.orderly c.in-Switch.number c.in-Switch.is (subst (λ a. IsActor c.args.self.now.setup a) c.in-Switch.is c.requires.named) c.in_ok-input-in-Switch.input c.in_ok-input-in-Switch.ensures.heard c.at_switch.new.self t) c.at_switch.ensures.owes
 
-pub returns-in_ok-enter-in-Switch-clause-stops : goal.returns-in_ok-enter-in-Switch-clause-stops
-returns-in_ok-enter-in-Switch-clause-stops g c =
+pub returns-in_ok-input-in-Switch-clause-stops : goal.returns-in_ok-input-in-Switch-clause-stops
+returns-in_ok-input-in-Switch-clause-stops g c =
     let law = g.A.App.law in
     let sealing = g.B.Body.sealing in
     let found = subst (λ o. IsFound c.args.self.now.journal o (pick c.args.actor c.args.choice (past c.args.self.now.journal))) c.in-Some.is c.look.ensures in
-    on_errs c.at_switch.result _ _ _ (λ r behind. switch_draw_ends law g.W.Stable.saving sealing g.met.B.Body.faithful c.args.self.now c.args.stables.now c.requires.rests c.requires.holds c.requires.pairs c.args.actor c.args.choice c.args.keep c.in-Some.place found c.enter-in-Switch.new.self c.in_ok-enter-in-Switch.ensures.enters c.in_ok-enter-in-Switch.ensures.orderly c.in-Switch.number c.in-Switch.is (subst (λ a. IsActor c.args.self.now.setup a) c.in-Switch.is c.requires.named) c.in_ok-input-in-Switch.input c.in_ok-input-in-Switch.ensures c.at_switch.new.self behind r) c.at_switch.ensures.refused c.at_switch.ensures.orderly
+    on_errs c.at_switch.result _ _ _ (λ r behind. switch_draw_ends law g.W.Stable.saving sealing g.met.B.Body.faithful c.args.self.now c.args.stables.now c.requires.rests c.requires.holds c.requires.pairs c.args.actor c.args.choice c.args.keep c.in-Some.place found c.draw_from-in-Switch.new.self (rw c.in-Switch.is c.in_ok-input-in-Switch.ensures.enters) c.in_ok-input-in-Switch.ensures.orderly c.in-Switch.number c.in-Switch.is (subst (λ a. IsActor c.args.self.now.setup a) c.in-Switch.is c.requires.named) c.in_ok-input-in-Switch.input c.in_ok-input-in-Switch.ensures.heard c.at_switch.new.self behind r) c.at_switch.ensures.refused c.at_switch.ensures.orderly

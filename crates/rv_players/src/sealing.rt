@@ -25,13 +25,13 @@ pub fn sealed<P: Player, B: Body>(
 ) -> Result<Letters<B>, AllocError>
     ensures { IfOk result (λ sealed. sealed ≡ sealed_letters P.said B.sealing letters.now) }
 {
-    let mut sealed = Items::from_vec(Vec::with_capacity(alloc, letters.len())?);
+    let mut sealed = Vec::with_capacity(alloc, letters.len())?;
     for letter in letters {
         let body = P::seal::<B>(alloc, &letter.body)?;
-        sealed.push(Letter {
+        sealed.push_reserved(Letter {
             to: letter.to,
             body,
-        })?;
+        });
     }
-    Ok(sealed)
+    Ok(Items::from_vec(sealed))
 }

@@ -111,10 +111,11 @@ fn takes_local<P: Player, B: Body, R: Wait>(
     ensures err { IfErr result (StopsAt B.sealing.size place.old place.new owed.old owed.new) }
 {
     fits_types(input);
-    let (mine, its) = (input.copy()?, input.copy()?);
+    let mine = P::take_local(input.copy()?);
+    let its = input.copy()?;
     let post = mem::replace(owed, Items::new(alloc));
     match board.local(rt, place, post, its) {
-        Ok(()) => Ok(Some(P::take_local(mine))),
+        Ok(()) => Ok(Some(mine)),
         Err(refused) => {
             *owed = refused.post;
             Err(refused.cause)

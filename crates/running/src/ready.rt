@@ -1,5 +1,5 @@
 //! All that a run of threads needs memory for before its threads start.
-ghost use Rattle.std.specs.Prelude.{◌≡◌, ◌<◌, IfOk, map};
+ghost use Rattle.std.specs.Prelude.{◌≡◌, ◌≤◌, ◌<◌, IfOk, map, vec_len, vec_capacity};
 ghost use Rattle.switch_board.specs.Places.{fresh};
 ghost use Rattle.running.specs.Runs.{actors_up_to};
 ghost use Rattle.running.specs.Together.{HasRoom};
@@ -27,6 +27,35 @@ fn actors_of(alloc: Global, controllers: usize, switches: usize) -> Result<Vec<A
         actors.push(Actor::Switch(number as u8))?;
     }
     Ok(actors)
+}
+
+/// A board for a group of so many controllers and so many switches, with its places.
+fn board_of<B: Body>(
+    alloc: Global,
+    group: usize,
+    count: usize,
+) -> Result<(Board<B>, Vec<Place<B>>), AllocError>
+    requires { (0 < group) × (group < 256) × (count < 256) }
+    ensures board { IfOk result (λ r. r.0.actors ≡ actors_up_to group count) }
+    ensures places { IfOk result (λ r. r.1.items ≡ map (fresh r.0.id) (actors_up_to group count)) }
+{
+    let actors = actors_of(alloc, group, count)?;
+    let (board, places) = Board::new(alloc, actors.as_slice())?;
+    Ok((board, places))
+}
+
+/// Two empty lists, with room for so many in each.
+fn rooms<X: Drop, Y: Drop>(
+    alloc: Global,
+    first: usize,
+    second: usize,
+) -> Result<(Vec<X>, Vec<Y>), AllocError>
+    ensures none { IfOk result (λ r. (vec_len r.0 ≡ 0) × (vec_len r.1 ≡ 0)) }
+    ensures room { IfOk result (λ r. (first ≤ vec_capacity r.0) × (second ≤ vec_capacity r.1)) }
+{
+    let one = Vec::with_capacity(alloc, first)?;
+    let other = Vec::with_capacity(alloc, second)?;
+    Ok((one, other))
 }
 
 /// A board with its places, and room for those who take them and for what they leave.
@@ -57,16 +86,11 @@ impl<B: Body, A: App, W: Stable + Drop> Ready<B, A, W> {
         ensures places { IfOk result (λ r. r.places.items ≡ map (fresh r.board.id) (actors_up_to group count)) }
         ensures room { IfOk result (λ r. HasRoom group count stables r) }
     {
-        let actors = actors_of(alloc, group, count)?;
-        let served = Vec::with_capacity(alloc, group)?;
-        let members = Vec::with_capacity(alloc, group)?;
-        let others = Vec::with_capacity(alloc, count)?;
-        let left_places = Vec::with_capacity(alloc, group + count)?;
-        let left_served = Vec::with_capacity(alloc, group)?;
-        let left_controllers = Vec::with_capacity(alloc, group)?;
-        let left_switches = Vec::with_capacity(alloc, count)?;
-        let left_stables = Vec::with_capacity(alloc, stables)?;
-        let (board, places) = Board::new(alloc, actors.as_slice())?;
+        let (served, left_served) = rooms(alloc, group, group)?;
+        let (members, left_controllers) = rooms(alloc, group, group)?;
+        let (others, left_switches) = rooms(alloc, count, count)?;
+        let (left_places, left_stables) = rooms(alloc, group + count, stables)?;
+        let (board, places) = board_of(alloc, group, count)?;
         Ok(Ready {
             board,
             places,

@@ -244,7 +244,7 @@ pub fn run_threads<
 {
     let (setup, wire, controllers, switches) = world.into_parts();
     drop(wire);
-    let played = run_actors::<B, A, W, G, R>(
+    let answer = run_actors::<B, A, W, G, R>(
         rt,
         alloc,
         gate,
@@ -253,12 +253,18 @@ pub fn run_threads<
         stables,
         controllers,
         switches,
-    )?;
-    Ok(World::adopt(
-        alloc,
-        setup,
-        played.wire,
-        played.controllers,
-        played.switches,
-    ))
+    );
+    match answer {
+        Ok(played) => Ok(World::adopt(
+            alloc,
+            setup,
+            played.wire,
+            played.controllers,
+            played.switches,
+        )),
+        Err(halt) => {
+            drop(setup);
+            Err(halt)
+        }
+    }
 }

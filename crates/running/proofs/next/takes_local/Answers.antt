@@ -7,8 +7,8 @@ use Rattle.running.proofs.next.takes_local.Goals as goal
 
 pub returns-in-Ok-clause-ok : goal.returns-in-Ok-clause-ok
 returns-in-Ok-clause-ok g c =
-    local_on g.B.Body.sealing g.P.Player.hears g.P.Player.locally c.args.place.now c.local.new.place c.args.owed.now c.args.input.now c.take_local.result c.fits_types.ensures
-    (c.take_local.ensures ∙ ap g.P.Player.locally c.in_ok-mine.ensures)
+    local_on g.B.Body.sealing g.P.Player.hears g.P.Player.locally c.args.place.now c.local.new.place c.args.owed.now c.args.input.now c.take_local-mine.result c.fits_types.ensures
+    (c.take_local-mine.ensures ∙ ap g.P.Player.locally c.in_ok-copy.ensures)
     (subst (λ z. Adds c.args.place.now c.local.new.place (turn_entries z c.args.owed.now (turn.Local c.args.place.now.actor c.args.input.now))) g.met.B.Body.weighed
     (subst (λ i. Adds c.args.place.now c.local.new.place (turn_entries g.B.Weight.size c.args.owed.now (turn.Local c.args.place.now.actor i))) c.in_ok-its.ensures
     (subst (λ l. Adds c.args.place.now c.local.new.place (turn_entries g.B.Weight.size l (turn.Local c.args.place.now.actor c.in_ok-its.its))) (search rules) c.in-Ok.ensures.ok)))

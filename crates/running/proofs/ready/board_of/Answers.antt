@@ -4,7 +4,7 @@ use Rattle.rv_base.specs.declared.journal.Actor.{Actor}
 use Rattle.rv_base.specs.Actors.{same_actor}
 use Rattle.switch_board.specs.Places.{fresh}
 use Rattle.running.proofs.Distinct.{distinct, how_many}
-use Rattle.running.proofs.ready.Ready.new.Goals as goal
+use Rattle.running.proofs.ready.board_of.Goals as goal
 
 pub new-requires-clause-some : goal.new-requires-clause-some
 new-requires-clause-some g c =

@@ -1,5 +1,5 @@
 use Rattle.switch_board.specs.Places.{IsSamePlace}
-use Rattle.board_tests.proofs.boards.draws.Given as goal
+use Rattle.parts_tests.proofs.boards.draws.Given as goal
 
 abbrev pub invariant-loop : goal.invariant-loop
 invariant-loop g l = IsSamePlace l.initial.place l.place

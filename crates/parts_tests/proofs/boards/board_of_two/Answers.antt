@@ -1,6 +1,6 @@
 use Rattle.std.proofs.Common.{rules}
 use Rattle.std.specs.List.{IsDistinct}
-use Rattle.board_tests.proofs.boards.board_of_two.Goals as goal
+use Rattle.parts_tests.proofs.boards.board_of_two.Goals as goal
 
 pub new-requires-clause-distinct : goal.new-requires-clause-distinct
 unfolding IsDistinct

@@ -52,11 +52,17 @@ impl Output {
             Output::Report => {
                 let told = record_of(alloc, world, primary, steps, script)?;
                 record_fits(&told);
-                text(alloc, &told)
+                let bytes = text(alloc, &told);
+                drop(told);
+                bytes
             }
             Output::LastLine => {
-                let told = sums_of(alloc, &world, primary, steps, script)?;
-                last_line(alloc, &told)
+                let told = sums_of(alloc, &world, primary, steps, script);
+                drop(world);
+                let told = told?;
+                let bytes = last_line(alloc, &told);
+                drop(told);
+                bytes
             }
         }
     }
@@ -81,8 +87,14 @@ fn rested<A: App>(
             let words = output.text_of(alloc, world, primary, steps, script)?;
             Ok(Ending::Report(words))
         }
-        Closed::NoQuorum { up, needed } => Ok(Ending::NoQuorum { up, needed }),
-        Closed::Overfull(limit) => Ok(Ending::Overfull(limit)),
+        Closed::NoQuorum { up, needed } => {
+            drop(world);
+            Ok(Ending::NoQuorum { up, needed })
+        }
+        Closed::Overfull(limit) => {
+            drop(world);
+            Ok(Ending::Overfull(limit))
+        }
     }
 }
 
@@ -116,7 +128,10 @@ pub fn simulate<A: App, W: Stable>(
     world.lawful();
     match ended {
         Ok((closed, script)) => rested(alloc, world, output, closed, scenario.steps.len(), script),
-        Err(stop) => stopped(stop),
+        Err(stop) => {
+            drop(world);
+            stopped(stop)
+        }
     }
 }
 
@@ -154,6 +169,10 @@ pub fn simulate_apart<
                 rest.script,
             )
         }
-        Err(halt) => stopped(halt.stop),
+        Err(halt) => {
+            let stop = halt.stop;
+            drop(halt);
+            stopped(stop)
+        }
     }
 }

@@ -71,7 +71,11 @@ fn simulated<A: App, W: Stable>(
     ensures unplayed { IfOk result (λ ending. IsUnplayed (ending_status ending) → stables.new.items ≡ stables.old.items) }
 {
     match read_scenario(alloc, bytes) {
-        Ok(scenario) => end_of_scenario(alloc, &scenario, Output::Report, stables, chains),
+        Ok(scenario) => {
+            let ending = end_of_scenario(alloc, &scenario, Output::Report, stables, chains);
+            drop(scenario);
+            ending
+        }
         Err(ScenarioFault::Refused(fault)) => Ok(Ending::Refused(fault)),
         Err(ScenarioFault::OutOfMemory) => Err(AllocError),
     }
@@ -118,7 +122,11 @@ fn simulated_apart<
     ensures unplayed { IfOk result (λ ending. IsUnplayed (ending_status ending) → stables.new.items ≡ stables.old.items) }
 {
     match read_scenario(alloc, bytes) {
-        Ok(scenario) => end_of_threads(rt, alloc, gate, &scenario, stables, chains),
+        Ok(scenario) => {
+            let ending = end_of_threads(rt, alloc, gate, &scenario, stables, chains);
+            drop(scenario);
+            ending
+        }
         Err(ScenarioFault::Refused(fault)) => Ok(Ending::Refused(fault)),
         Err(ScenarioFault::OutOfMemory) => Err(AllocError),
     }
@@ -190,7 +198,9 @@ fn outcome<
             },
         ) => {
             let scenario = generate(alloc, number, controllers, switches, frames)?;
-            end_of_scenario(alloc, &scenario, Output::LastLine, stables, chains)
+            let ending = end_of_scenario(alloc, &scenario, Output::LastLine, stables, chains);
+            drop(scenario);
+            ending
         }
         Some(Service::Reads(reader)) => match read_input(alloc, source, reader.limit()) {
             Ok(bytes) => end_of_reading(rt, alloc, gate, reader, bytes.as_slice(), stables, chains),

@@ -5,5 +5,5 @@ use Rattle.top_call.proofs.top.simulated_apart.Goals as goal
 
 pub returns-in-Ok-clause-ends : goal.returns-in-Ok-clause-ends
 returns-in-Ok-clause-ends g c = λ kinds chains.
-    scenario_ends Apart kinds (StablesTell g.W.Stable.saving c.args.stables.now.items c.end_of_threads.new.stables.items) c.args.bytes.now c.in-Ok.scenario c.end_of_threads.result c.in-Ok.ensures.exact
-    (c.end_of_threads.ensures.ends kinds chains)
+    scenario_ends Apart kinds (StablesTell g.W.Stable.saving c.args.stables.now.items c.end_of_threads-ending.new.stables.items) c.args.bytes.now c.in-Ok.scenario c.end_of_threads-ending.result c.in-Ok.ensures.exact
+    (c.end_of_threads-ending.ensures.ends kinds chains)

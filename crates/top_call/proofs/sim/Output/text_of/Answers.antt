@@ -4,4 +4,4 @@ use Rattle.top_call.proofs.sim.Output.text_of.Goals as goal
 
 pub returns-in_ok-told-in-LastLine-clause-text : goal.returns-in_ok-told-in-LastLine-clause-text
 returns-in_ok-told-in-LastLine-clause-text g c =
-    tells_last c.last_line.result c.args.self c.in_ok-told-in-LastLine.told (told_by c.args.world c.args.primary c.args.steps c.args.script) c.in-LastLine.is c.in_ok-told-in-LastLine.ensures c.last_line.ensures
+    tells_last c.last_line-bytes.result c.args.self c.in_ok-told-in-LastLine.told (told_by c.args.world c.args.primary c.args.steps c.args.script) c.in-LastLine.is c.in_ok-told-in-LastLine.ensures c.last_line-bytes.ensures

@@ -34,14 +34,16 @@ use Rattle.command_buffer.specs.declared.buffer.Offer.TheVariants.{Execute, Repe
 use Rattle.command_buffer.specs.Results.{offer_of}
 use Rattle.event_buffer.specs.Buffer.{is_full, next_event, without_dirty, with_dirty, cleared_to}
 use Rattle.flow_table.specs.Table.{chosen_row}
+use Rattle.flow_clock.specs.Clocked.{clock_told}
 use Rattle.of_switch.specs.declared.says.SwitchInput.{SwitchInput}
 use Rattle.of_switch.specs.declared.says.SwitchInput.TheVariants as switch_input
 use Rattle.of_switch.specs.declared.says.SwitchSays.{SwitchSays}
-use Rattle.of_switch.specs.State.{SwitchState, SwitchTurn, quiet, posts, then_turn, answers, greetings, number_of, life_of}
-use Rattle.of_switch.specs.Events.{window, first_held, event_letter, event_letters, with_event, raised, packet_raised, is_down, port_status, with_port, port_raised, is_port, on_port, remembers, coming, cleared, on_event_ack, tells_ports, next_life, on_restart, tick_letters}
-use Rattle.of_switch.specs.Forwarding.{is_frame, is_up, targets, over_link, over_links, sends_to, puts_out, puts_all, packet_in, through_row, fields_at, on_frame}
+use Rattle.of_switch.specs.State.{SwitchState, SwitchTurn, quiet, posts, then_turn, answers, greetings, rows_of, number_of, life_of}
+use Rattle.of_switch.specs.Events.{window, first_held, event_letter, event_letters, with_event, raised, packet_raised, is_down, port_status, with_port, port_raised, is_port, on_port, remembers, coming, cleared, on_event_ack, tells_ports, next_life, on_restart, tick_letters, flow_removed, tells_left, aged}
+use Rattle.of_switch.specs.Forwarding.{is_frame, is_up, targets, over_link, over_links, sends_to, puts_out, puts_all, packet_in, through_row, fields_at, counting, on_frame}
 use Rattle.of_switch.specs.Commands.{result_of, does, done_as, counted, result_letter, executes, on_offer, settled, on_command}
 use Rattle.of_switch.specs.Rules.{on_local, told_master, on_role, on_role_request, on_plain, on_own_life, life_said, on_extension, on_malformed, switch_turn}
+use Rattle.of_switch.proofs.Leaving.{any_left_told}
 use Rattle.addresses.specs.Addresses.{KnowsControllers, IsToSwitch}
 use Rattle.addresses.specs.Laws.{IsAddressedTurn, SwitchesWriteToActors}
 use Rattle.addresses.proofs.Lists.{all_flat, all_flat_of, range_below}
@@ -129,6 +131,12 @@ module _ (setup : Setup) where
   ticks_go s None h k = cond_both (nat_lt 0 (life_of s)) _ _ (AreAddressed setup) (λ _. greetings_go s k) (λ _. tt)
   ticks_go s (Some c) h k = all_made (event_letter c) (λ l. IsActor setup l.to) (λ e. h) (first_held s)
 
+  -- rows leave
+  aged_known : (s : SwitchState) → Knows s → Knows (aged s)
+  aged_known s k =
+      same_known (tells_left (clock_told s.table) s) (aged s) refl refl refl
+      (any_left_told Knows (λ e now room h. same_known now (with_event now (flow_removed e)) refl refl refl h) (clock_told s.table) s k)
+
   -- frames go over wires
   link_goes : (frame : List ℕ) (switch port : ℕ) (l : Link) → (l.switch < length setup.ports) × (l.peer < length setup.ports) → AreAddressed setup (over_link frame switch port l)
   link_goes frame switch port l h =
@@ -156,12 +164,18 @@ module _ (setup : Setup) where
   row_goes s port frame (Some row) k = outputs_go (packet_raised (packet_in row port frame)) (packet_raises (packet_in row port frame)) port frame row.actions (quiet s) (rests s k)
 
   frame_goes : (s : SwitchState) (port : ℕ) (frame : List ℕ) → Knows s → Good (on_frame s port frame)
-  frame_goes s port frame k = choice (is_up s port && is_frame frame) _ _ (λ _. row_goes s port frame (chosen_row s.rows (fields_at port frame)) k) (λ _. rests s k)
+  frame_goes s port frame k =
+      choice (is_up s port && is_frame frame) _ _
+      (λ _.
+      let met = row_goes s port frame (chosen_row (rows_of s) (fields_at port frame)) k in
+      let turn = through_row s port frame (chosen_row (rows_of s) (fields_at port frame)) in
+      record { knows = same_known turn.state (counting port frame turn).state refl refl refl met.knows; sends = met.sends })
+      (λ _. rests s k)
 
   local_goes : (s : SwitchState) (what : Local) → Knows s → Good (on_local s what)
   local_goes s (local.Frame port bytes) k = frame_goes s port bytes k
   local_goes s (local.Port port up) k = ports_change s port up k
-  local_goes s local.Tick k = record { knows = k; sends = ticks_go s s.fence.master k.master k }
+  local_goes s local.Tick k = record { knows = aged_known s k; sends = ticks_go (aged s) s.fence.master k.master (aged_known s k) }
   local_goes s (local.Suspect view) k = rests s k
   local_goes s local.Crash k = rests s k
   local_goes s local.Restart k = restarts s k
@@ -234,6 +248,7 @@ module _ (setup : Setup) where
     plain_goes s xid (plain.Experimenter body) k = record { knows = k; sends = (there, tt) }
     plain_goes s xid (plain.FeaturesReply datapath) k = record { knows = k; sends = (there, tt) }
     plain_goes s xid (plain.PacketIn p) k = record { knows = k; sends = (there, tt) }
+    plain_goes s xid (plain.FlowRemoved r) k = record { knows = k; sends = (there, tt) }
     plain_goes s xid (plain.PortStatus p) k = record { knows = k; sends = (there, tt) }
     plain_goes s xid plain.BarrierReply k = record { knows = k; sends = (there, tt) }
     plain_goes s xid (plain.RoleReply role generation) k = record { knows = k; sends = (there, tt) }

@@ -14,10 +14,12 @@ hub_lawful : (setup : Setup) (life number switch : ℕ) → switch < length setu
     AreGoodCommands setup (record { switch = switch; life = life; number = number; what = what }) (hub_commands switch what)
 hub_lawful setup life number switch there (happening.PacketIn p) = (out_lawful setup life number switch there p FLOOD, tt)
 hub_lawful setup life number switch there (happening.PortStatus p) = tt
+hub_lawful setup life number switch there (happening.FlowRemoved r) = tt
 
 hub_few : (switch : ℕ) (what : Happening) → length (hub_commands switch what) ≤ 1
 hub_few switch (happening.PacketIn p) = omega arith
 hub_few switch (happening.PortStatus p) = omega arith
+hub_few switch (happening.FlowRemoved r) = omega arith
 
 pub hub_laws : HasLaws hub_rule
 hub_laws = record {

@@ -44,6 +44,7 @@ module _ (manner : Manner) where
     commands_lawful hosts (happening.PacketIn p) = forwarded_lawful p (seen_destination hosts switch (number_at 6 0 p.payload))
     commands_lawful hosts (happening.PortStatus p) =
         cond_both p.up [] (forgetting_rows switch p.port ∷ []) (Of (happening.PortStatus p)) (λ _. tt) (λ _. (record { named = there; few = tt; sendable = λ _. delete_sendable switch p.port }, tt))
+    commands_lawful hosts (happening.FlowRemoved r) = tt
 
   pub learning_few : (hosts : List Host) (event : Event) → length (learning_commands manner hosts event.switch event.what) ≤ 2
   learning_few hosts event = by_what event.what
@@ -55,6 +56,7 @@ module _ (manner : Manner) where
       by_what : (what : Happening) → length (learning_commands manner hosts event.switch what) ≤ 2
       by_what (happening.PacketIn p) = by_seen p.in_port p.payload (seen_destination hosts event.switch (number_at 6 0 p.payload))
       by_what (happening.PortStatus p) = cond_both p.up _ _ (λ (x : List Command). length x ≤ 2) (λ _. omega arith) (λ _. omega arith)
+      by_what (happening.FlowRemoved r) = omega arith
 
   pub learning_laws : HasLaws (learning_rule manner)
   learning_laws = record {

@@ -26,4 +26,4 @@ pub laws_of : (kind : ℕ) → HasLaws (rule_of kind)
 unfolding rule_of
 laws_of kind =
     cond_both (nat_eq kind slot) (slot_rule asked_version (map plain_rule_of versions)) (plain_rule_of kind) HasLaws
-    (λ _. slot_laws asked_version (map plain_rule_of versions) (plain_laws learning, (plain_laws hub, (plain_laws pinned, tt)))) (λ _. plain_laws kind)
+    (λ _. slot_laws asked_version (map plain_rule_of versions) (plain_laws learning, (plain_laws hub, (plain_laws pinned, (plain_laws aging, tt))))) (λ _. plain_laws kind)

@@ -95,7 +95,7 @@ plain_rule_of kind =
 
 -- the kinds of the versions that a slot has, by the numbers of these. An operator asks for one (Operator.antt)
 abbrev pub versions : List ℕ
-versions = learning ∷ hub ∷ pinned ∷ []
+versions = learning ∷ hub ∷ pinned ∷ aging ∷ []
 
 -- the table of kinds. That each rule in it keeps its laws is in proofs/Table.antt
 unfoldable pub rule_of : ℕ → PartRule

@@ -19,6 +19,7 @@ asked_by switch port frame =
 abbrev pub asked_at : ℕ → Happening → Option ℕ
 asked_at switch (happening.PacketIn p) = asked_by switch p.in_port p.payload
 asked_at switch (happening.PortStatus p) = None
+asked_at switch (happening.FlowRemoved r) = None
 
 -- the version that an event asks for. An event that asks for none is an ordinary one
 abbrev pub asked_version : Event → Option ℕ

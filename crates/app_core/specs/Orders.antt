@@ -47,6 +47,7 @@ IsSendable what = IsValidOrder what × (order_size what ≤ 65000) × IsGoodOrde
 abbrev pub IsShort : Happening → Type 0
 IsShort (happening.PacketIn p) = (length p.payload ≤ LONGEST_FRAME) × AreBytes p.payload
 IsShort (happening.PortStatus p) = Unit {0}
+IsShort (happening.FlowRemoved r) = Unit {0}
 
 -- a command for an event
 pub record IsGoodCommand (setup : Setup) (event : Event) (c : Command) : Type 0 where

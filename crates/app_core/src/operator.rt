@@ -38,6 +38,6 @@ pub fn asked_version(event: &Event) -> Option<u8>
             packet.in_port,
             packet.payload.as_slice(),
         ),
-        Happening::PortStatus(_) => None,
+        Happening::PortStatus(_) | Happening::FlowRemoved(_) => None,
     }
 }

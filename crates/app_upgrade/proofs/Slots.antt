@@ -2,8 +2,8 @@
 use Rattle.std.proofs.Common.{◌≡◌, ◌<◌, ◌≤◌, ◌++◌, ◌-◌, ◌+◌, ℕ, zero, suc, Bool, true, false, List, [], ◌∷◌, Some, None, Ok, Err, length, map, drop, get_or, refl, sym, ap, ◌∙◌, append-nil, arith, length-drop}
 use Rattle.std.specs.Prelude.{nat_eq, nat_lt, ◌&&◌, IfOk, OnOk, Option, Result, if◌then◌else◌}
 use Rattle.std.specs.List.{AllByRecursion}
-use Rattle.std.proofs.lemmas.Bool.{lt-ltb, ltb-true, eqb-true, and_parts}
-use Rattle.std.proofs.lemmas.List.{drop-map, get_or-drop, get_or-map, length-map}
+use Rattle.std.proofs.lemmas.Bool.{cond_both, lt-ltb, ltb-true, eqb-true, and_parts}
+use Rattle.std.proofs.lemmas.List.{drop-drop, drop-map, get_or-drop, get_or-map, length-map}
 use Rattle.std.proofs.lemmas.Grind.{get_or_after_one}
 use Rattle.of_types.specs.declared.message.Command.{Command}
 use Rattle.of_types.specs.declared.message.Event.{Event}
@@ -14,9 +14,9 @@ use Rattle.app_core.specs.declared.operator.TheConstants.{OPERATOR_SWITCH}
 use Rattle.app_core.specs.Chain.{most_given, part_next, plain_rule_of, rule_of, slot, starting, starting_chain, versions}
 use Rattle.app_core.specs.Operator.{asked_at, asked_version}
 use Rattle.app_core.specs.PartRule.{PartRule}
-use Rattle.app_core.specs.Parts.{Steps}
+use Rattle.app_core.specs.Parts.{AllFit, Steps}
 use Rattle.app_core.specs.Slot.{at_version, version_of}
-use Rattle.app_core.proofs.Rows.{hub_row, learning_row, pinned_row, slot_row}
+use Rattle.app_core.proofs.Rows.{aging_row, hub_row, learning_row, pinned_row, slot_row}
 use Rattle.app_upgrade.specs.declared.version.Version.{Version}
 use Rattle.app_upgrade.specs.declared.version.Version.TheVariants as version
 use Rattle.app_upgrade.specs.Versions.{AreLast, active_of, kind_in, left_after}
@@ -28,6 +28,7 @@ few_in (version.Learning p) = omega arith
 few_in (version.PlainLearning p) = omega arith
 few_in (version.Hub p) = omega arith
 few_in (version.Pinned p) = omega arith
+few_in (version.Aging p) = omega arith
 
 pub few_first : (parts : List Version) → most_given (get_or (map kind_in parts) 0 0) ≤ 2
 unfolding rule_of
@@ -46,6 +47,7 @@ asked_there switch (happening.PacketIn p) asked is = by_switch (nat_eq switch OP
     by_switch true here = eqb-true switch 0 here
     by_switch false other = cc (rw other at is)
 asked_there switch (happening.PortStatus p) asked is = absurd cc
+asked_there switch (happening.FlowRemoved r) asked is = absurd cc
 
 -- the rules of the versions, by their numbers
 abbrev of_version : ℕ → PartRule
@@ -59,20 +61,53 @@ rules_are (kind ∷ kinds) plain zero = plain.0
 rules_are (kind ∷ kinds) plain (suc number) = rules_are kinds plain.1 number
 
 rule_is : (number : ℕ) → rule_of (get_or versions number 0) ≡ of_version number
-rule_is number = rules_are versions (learning_row, (hub_row, (pinned_row, tt))) number
+rule_is number = rules_are versions (learning_row, (hub_row, (pinned_row, (aging_row, tt)))) number
 
-module _ (numbers_of : Version → List ℕ) (parts : List Version) (last : AreLast parts) where
+module _ (parts : List Version) (last : AreLast parts) where
   -- as many parts as versions are left
   are_left : active_of parts + length parts ≡ length versions
   are_left = let same = ap length last.kinds in omega (arith, same, length-map parts kind_in, length-drop (active_of parts) versions)
 
+  -- those that an operator leaves are again of the last versions
+  pub last_left : (asked : ℕ) → AreLast (left_after asked parts)
+  last_left asked = by_test (nat_lt (active_of parts) asked && nat_lt asked (length versions)) refl
+    where
+      by_test : (b : Bool) → (nat_lt (active_of parts) asked && nat_lt asked (length versions)) ≡ b → AreLast (if b then drop (asked - active_of parts) parts else parts)
+      by_test false h = last
+      by_test true h =
+          let gone = asked - active_of parts in
+          let p = and_parts (nat_lt (active_of parts) asked) (nat_lt asked (length versions)) h in
+          let listed = ltb-true asked (length versions) p.1 in
+          let later : active_of parts + gone ≡ active_of (drop gone parts) = omega (arith, are_left, ltb-true (active_of parts) asked p.0, listed, length-drop gone parts) in
+          record {
+            some = omega (arith, are_left, listed, length-drop gone parts);
+            kinds = sym (drop-map kind_in gone parts) ∙ ap (drop gone) last.kinds ∙ drop-drop gone (active_of parts) versions ∙ ap (λ n. drop n versions) later;
+          }
+
+-- the parts of a slot fit a setup, and those behind the first are as their versions start
+abbrev AreReady : (Version → Setup → Type 0) → (Version → List ℕ) → List Version → Setup → Type 0
+AreReady is_fit numbers_of parts setup = AllFit is_fit parts setup × (drop 1 (map numbers_of parts) ≡ starting_chain (drop 1 (map kind_in parts))) × (0 < length setup.ports)
+
+module _ (is_fit : Version → Setup → Type 0) (numbers_of : Version → List ℕ) (setup : Setup) where
+  -- so are they where some in front go
+  ready_behind : (gone : ℕ) (parts : List Version) → AreReady is_fit numbers_of parts setup → AreReady is_fit numbers_of (drop gone parts) setup
+  ready_behind zero parts ready = ready
+  ready_behind (suc gone) [] ready = ready
+  ready_behind (suc gone) (part ∷ parts) ready = ready_behind gone parts (ready.0.1, ap (drop 1) ready.1 ∙ drop-map starting 1 (map kind_in parts), ready.2)
+
+  pub ready_left : (asked : ℕ) (parts : List Version) → AreReady is_fit numbers_of parts setup → AreReady is_fit numbers_of (left_after asked parts) setup
+  ready_left asked parts ready =
+      cond_both (nat_lt (active_of parts) asked && nat_lt asked (length versions)) (drop (asked - active_of parts) parts) parts (λ left. AreReady is_fit numbers_of left setup)
+      (λ _. ready_behind (asked - active_of parts) parts ready) (λ _. ready)
+
+module _ (numbers_of : Version → List ℕ) (parts : List Version) (last : AreLast parts) where
   abbrev AreWaiting : Type 0
   AreWaiting = drop 1 (map numbers_of parts) ≡ starting_chain (drop 1 (map kind_in parts))
 
   -- a part behind the first is as its version starts
   waits : AreWaiting → (j : ℕ) → suc j < length parts → get_or (map numbers_of (drop (suc j) parts)) 0 [] ≡ (of_version (active_of parts + suc j)).starts
   waits waiting j there =
-      let listed : active_of parts + suc j < length versions = omega (arith, are_left, there) in
+      let listed : active_of parts + suc j < length versions = omega (arith, are_left parts last, there) in
       let next : suc j + 0 ≡ 1 + j = omega arith in
       let place : active_of parts + (1 + j) ≡ active_of parts + suc j = omega arith in
       ap (λ (l : List (List ℕ)). get_or l 0 []) (sym (drop-map numbers_of (suc j) parts))
@@ -92,7 +127,7 @@ module _ (numbers_of : Version → List ℕ) (parts : List Version) (last : AreL
     where
       by_distance : (k : ℕ) → active_of parts + k ≡ asked → get_or (map numbers_of (drop k parts)) 0 [] ≡ (of_version asked).starts
       by_distance zero same = absurd (omega (arith, same, above))
-      by_distance (suc j) same = waits waiting j (omega (arith, are_left, same, listed)) ∙ ap (λ n. (of_version n).starts) same
+      by_distance (suc j) same = waits waiting j (omega (arith, are_left parts last, same, listed)) ∙ ap (λ n. (of_version n).starts) same
 
   goes : AreWaiting → (asked : ℕ) (b : Bool) → (nat_lt (active_of parts) asked && nat_lt asked (length versions)) ≡ b →
       at_version (active_of (if b then drop (asked - active_of parts) parts else parts)) (get_or (map numbers_of (if b then drop (asked - active_of parts) parts else parts)) 0 [])
@@ -102,7 +137,7 @@ module _ (numbers_of : Version → List ℕ) (parts : List Version) (last : AreL
       let p = and_parts (nat_lt (active_of parts) asked) (nat_lt asked (length versions)) h in
       let above = ltb-true (active_of parts) asked p.0 in
       let listed = ltb-true asked (length versions) p.1 in
-      let now : active_of (drop (asked - active_of parts) parts) ≡ asked = omega (arith, are_left, above, listed, length-drop (asked - active_of parts) parts) in
+      let now : active_of (drop (asked - active_of parts) parts) ≡ asked = omega (arith, are_left parts last, above, listed, length-drop (asked - active_of parts) parts) in
       rw (now, waits_at waiting asked above listed) refl
 
   -- it is asked for a version

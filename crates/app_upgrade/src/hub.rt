@@ -22,7 +22,7 @@ fn flood(alloc: Global, switch: u8, what: &Happening, out: &mut Commands) -> Res
             out.push(packet_out(alloc, switch, packet.in_port, &packet.payload, FLOOD)?)?;
             Ok(())
         }
-        Happening::PortStatus(_) => Ok(()),
+        Happening::PortStatus(_) | Happening::FlowRemoved(_) => Ok(()),
     }
 }
 

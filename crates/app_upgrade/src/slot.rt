@@ -9,12 +9,12 @@ ghost use Rattle.app_upgrade.specs.Versions.{AreLast, active_of, left_after, kin
 use crate::hub::Hub;
 use crate::version::Version;
 use app_core::{Part, asked_version, start_parts};
-use learning_app::{Learning, Pinned};
+use learning_app::{Aging, Learning, Pinned};
 use of_types::{Commands, Event, Setup};
 use std::alloc::{AllocError, Global};
 
 /// How many versions a slot has.
-const VERSIONS: usize = 3;
+const VERSIONS: usize = 4;
 
 /// A part that is one version of an application, the active one, until an operator asks for a later one. It holds the active
 /// version and those after it.
@@ -33,6 +33,7 @@ pub fn versions_from(alloc: Global, first: Version) -> Result<Vec<Version>, Allo
     parts.push(first)?;
     parts.push(Version::Hub(Hub::new()))?;
     parts.push(Version::Pinned(Pinned::new(alloc)))?;
+    parts.push(Version::Aging(Aging::new(alloc)))?;
     Ok(parts)
 }
 

@@ -5,7 +5,7 @@ ghost use Rattle.app_upgrade.specs.declared.version.Version.TheVariants as versi
 
 use crate::hub::Hub;
 use app_core::Part;
-use learning_app::{Learning, Pinned, PlainLearning};
+use learning_app::{Aging, Learning, Pinned, PlainLearning};
 use of_types::{Commands, Event, Setup};
 use std::alloc::{AllocError, Global};
 
@@ -16,6 +16,7 @@ pub enum Version {
     PlainLearning(PlainLearning),
     Hub(Hub),
     Pinned(Pinned),
+    Aging(Aging),
 }
 
 impl Part for Version {
@@ -26,6 +27,7 @@ impl Part for Version {
       | version.PlainLearning p ↦ ⟦<PlainLearning as Part>⟧.numbers p
       | version.Hub p ↦ ⟦<Hub as Part>⟧.numbers p
       | version.Pinned p ↦ ⟦<Pinned as Part>⟧.numbers p
+      | version.Aging p ↦ ⟦<Aging as Part>⟧.numbers p
     ] };
 
     ghost is_fit = { elim [
@@ -33,6 +35,7 @@ impl Part for Version {
       | version.PlainLearning p ↦ ⟦<PlainLearning as Part>⟧.is_fit p
       | version.Hub p ↦ ⟦<Hub as Part>⟧.is_fit p
       | version.Pinned p ↦ ⟦<Pinned as Part>⟧.is_fit p
+      | version.Aging p ↦ ⟦<Aging as Part>⟧.is_fit p
     ] };
 
     fn kind(&self) -> u8 {
@@ -41,6 +44,7 @@ impl Part for Version {
             Version::PlainLearning(part) => part.kind(),
             Version::Hub(part) => part.kind(),
             Version::Pinned(part) => part.kind(),
+            Version::Aging(part) => part.kind(),
         }
     }
 
@@ -50,6 +54,7 @@ impl Part for Version {
             Version::PlainLearning(part) => part.most(),
             Version::Hub(part) => part.most(),
             Version::Pinned(part) => part.most(),
+            Version::Aging(part) => part.most(),
         }
     }
 
@@ -59,6 +64,7 @@ impl Part for Version {
             Version::PlainLearning(part) => part.start(alloc, setup),
             Version::Hub(part) => part.start(alloc, setup),
             Version::Pinned(part) => part.start(alloc, setup),
+            Version::Aging(part) => part.start(alloc, setup),
         }
     }
 
@@ -73,6 +79,7 @@ impl Part for Version {
             Version::PlainLearning(part) => part.react(alloc, event, out),
             Version::Hub(part) => part.react(alloc, event, out),
             Version::Pinned(part) => part.react(alloc, event, out),
+            Version::Aging(part) => part.react(alloc, event, out),
         }
     }
 }

@@ -48,6 +48,7 @@ fn plain(out: &mut Octets, message: &OfMessage) -> Result<(), AllocError> {
         OfMessage::FeaturesRequest => out.append(b"FEATURES_REQUEST"),
         OfMessage::FeaturesReply { datapath } => named(out, b"FEATURES_REPLY", *datapath),
         OfMessage::PacketIn(_) => out.append(b"PACKET_IN"),
+        OfMessage::FlowRemoved(_) => out.append(b"FLOW_REMOVED"),
         OfMessage::PortStatus(_) => out.append(b"PORT_STATUS"),
         OfMessage::PacketOut(_) => out.append(b"PACKET_OUT"),
         OfMessage::FlowMod(_) => out.append(b"FLOW_MOD"),

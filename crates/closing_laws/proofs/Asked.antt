@@ -50,7 +50,7 @@ use Rattle.rv_runs.proofs.Pools.{one_actor, drawn_found, IsPosted, Was, New, poo
 use Rattle.exactly_once.specs.Facts.{facts_of}
 use Rattle.exactly_once.specs.Invariant.{HoldsOfRun, ToSwitch, ToMember, IsHeardBySwitch}
 use Rattle.exactly_once.proofs.Packets.{heard_by_switch, told_valid}
-use Rattle.exactly_once.proofs.SwitchMoves.{Move, Raises, Says, Notes, Changes, Clears, Executes, Masters, Fences, Restarts, turn_keeps}
+use Rattle.exactly_once.proofs.SwitchMoves.{Move, Raises, Says, Notes, Changes, Ages, Clears, Executes, Masters, Fences, Restarts, turn_keeps}
 use Rattle.rv_agreement.proofs.Pasts.{named, was_owed}
 use Rattle.rv_laws.proofs.Laws.{always}
 use Rattle.closing_laws.proofs.Asking.{AsksBy, AskBy, turn_asks}
@@ -105,6 +105,7 @@ module _ (x : SwitchInput) (start : SwitchState) (master : (c xid role generatio
   accepts_move t t' (Says ls all is) h = same_fence t t' (ap (λ (y : SwitchTurn). y.state.fence) is) h
   accepts_move t t' (Notes down sent outcomes dirty is) h = same_fence t t' (ap (λ (y : SwitchTurn). y.state.fence) is) h
   accepts_move t t' (Changes c xid life generation number through change asks is) h = same_fence t t' (ap (λ (y : SwitchTurn). y.state.fence) is) h
+  accepts_move t t' (Ages table stay is) h = same_fence t t' (ap (λ (y : SwitchTurn). y.state.fence) is) h
   accepts_move t t' (Clears c xid life through asks own is) h = same_fence t t' (ap (λ (y : SwitchTurn). y.state.fence) is) h
   accepts_move t t' (Executes c xid life generation number through what result asks own may next is) h = same_fence t t' (ap (λ (y : SwitchTurn). y.state.fence) is) h
   accepts_move t t' (Masters c xid role generation asks is_master fresh first is) h = λ g e.

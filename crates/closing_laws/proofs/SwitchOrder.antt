@@ -33,11 +33,13 @@ use Rattle.command_buffer.specs.declared.buffer.Offer.{Offer}
 use Rattle.command_buffer.specs.declared.buffer.Offer.TheVariants.{Execute, Repeat, Ahead, Full}
 use Rattle.command_buffer.specs.Results.{Results, first_kept, offer_of}
 use Rattle.flow_table.specs.Table.{chosen_row}
+use Rattle.flow_clock.specs.Clocked.{clock_told}
+use Rattle.of_switch.proofs.Leaving.{any_left_told}
 use Rattle.of_switch.specs.declared.says.SwitchInput.{SwitchInput}
 use Rattle.of_switch.specs.declared.says.SwitchInput.TheVariants as switch_input
-use Rattle.of_switch.specs.State.{SwitchState, SwitchTurn, quiet, then_turn, life_of}
-use Rattle.of_switch.specs.Events.{raised, packet_raised, is_down, port_status, with_event, with_port, port_raised, is_port, on_port, remembers, tells_ports, next_life, on_event_ack}
-use Rattle.of_switch.specs.Forwarding.{is_frame, is_up, targets, sends_to, puts_out, puts_all, packet_in, through_row, fields_at, on_frame}
+use Rattle.of_switch.specs.State.{SwitchState, SwitchTurn, quiet, then_turn, rows_of, life_of}
+use Rattle.of_switch.specs.Events.{raised, packet_raised, is_down, port_status, with_event, with_port, port_raised, is_port, on_port, remembers, tells_ports, next_life, on_event_ack, flow_removed}
+use Rattle.of_switch.specs.Forwarding.{is_frame, is_up, targets, sends_to, puts_out, puts_all, packet_in, through_row, fields_at, counting, on_frame}
 use Rattle.of_switch.specs.Commands.{done_as, counted, result_of, on_offer, settled, on_command}
 use Rattle.of_switch.specs.Rules.{on_local, on_role, on_plain, on_own_life, life_said, switch_turn}
 use Rattle.closing_laws.proofs.SwitchLists.{AreHeld, held_more, held_first, held_less, ascend_few, dirty_less, none_dirty, has_none}
@@ -174,8 +176,8 @@ row_keeps port frame s (Some row) h = outputs_keep (packet_raised (packet_in row
 
 frame_keeps : (port : ℕ) (frame : List ℕ) (s : SwitchState) → KeepsOrder s → Keeps (on_frame s port frame)
 frame_keeps port frame s h =
-    let found : Option Row = chosen_row s.rows (fields_at port frame) in
-    cond_both (is_up s port && is_frame frame) (through_row s port frame found) (quiet s) (λ (t : SwitchTurn). Keeps t) (λ _. row_keeps port frame s found h) (λ _. h)
+    let found : Option Row = chosen_row (rows_of s) (fields_at port frame) in
+    cond_both (is_up s port && is_frame frame) (counting port frame (through_row s port frame found)) (quiet s) (λ (t : SwitchTurn). Keeps t) (λ _. row_keeps port frame s found h) (λ _. h)
 
 role_keeps : (s : SwitchState) (from xid asked : ℕ) (step : RoleStep) (answer : RoleAnswer) → KeepsOrder s → Keeps (on_role s from xid asked step answer)
 role_keeps s from xid asked step (Reply role generation) h = h
@@ -228,6 +230,7 @@ own_life s from xid _ h = h
 locally : (s : SwitchState) (what : Local) → KeepsOrder s → Keeps (on_local s what)
 locally s (local.Frame port frame) h = frame_keeps port frame s h
 locally s (local.Port port up) h = ports_change port up s h
+locally s local.Tick h = any_left_told KeepsOrder (λ e now room k. raised_keeps (flow_removed e) now k (has_room now.buffer room)) (clock_told s.table) s h
 locally s local.Restart h =
     cond_both (nat_lt (life_of s) last_life) _ _ (λ (t : SwitchTurn). Keeps t)
     (λ _. ports_told s.down (raised switch_up (next_life s)) (life_begins s h) refl

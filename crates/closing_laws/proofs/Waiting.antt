@@ -98,6 +98,7 @@ kind_of (message.Of xid (spoken.Plain (plain.Experimenter body))) = refl
 kind_of (message.Of xid (spoken.Plain plain.FeaturesRequest)) = refl
 kind_of (message.Of xid (spoken.Plain (plain.FeaturesReply datapath))) = refl
 kind_of (message.Of xid (spoken.Plain (plain.PacketIn p))) = refl
+kind_of (message.Of xid (spoken.Plain (plain.FlowRemoved r))) = refl
 kind_of (message.Of xid (spoken.Plain (plain.PortStatus p))) = refl
 kind_of (message.Of xid (spoken.Plain (plain.PacketOut out))) = refl
 kind_of (message.Of xid (spoken.Plain (plain.FlowMod change))) = refl

@@ -16,7 +16,7 @@ use Rattle.of_switch.specs.State.{SwitchState, SwitchTurn, is_at, starting_switc
 use Rattle.of_switch.specs.Rules.{switch_turn}
 use Rattle.rv_runs.specs.Committed.{switch_state}
 use Rattle.rv_runs.specs.States.{Scene, SwitchAt, content, switch_at, switch_hears, switch_step}
-use Rattle.exactly_once.proofs.SwitchMoves.{Move, Raises, Says, Notes, Changes, Clears, Executes, Masters, Fences, Restarts, turn_keeps}
+use Rattle.exactly_once.proofs.SwitchMoves.{Move, Raises, Says, Notes, Changes, Ages, Clears, Executes, Masters, Fences, Restarts, turn_keeps}
 
 -- a switch has its wires of the setup, those at its number, and no more ports than a switch may have
 pub record IsWired (setup : Setup) (sw : SwitchState) : Type 0 where
@@ -78,6 +78,7 @@ moves_keep x s t t' (Raises what raised is) h = as_moved s t t' (ap (λ (y : Swi
 moves_keep x s t t' (Says ls all is) h = as_moved s t t' (ap (λ (y : SwitchTurn). y.state.links) is, ap (λ (y : SwitchTurn). y.state.ports) is) h
 moves_keep x s t t' (Notes down sent outcomes dirty is) h = as_moved s t t' (ap (λ (y : SwitchTurn). y.state.links) is, ap (λ (y : SwitchTurn). y.state.ports) is) h
 moves_keep x s t t' (Changes c xid life generation number through change asks is) h = as_moved s t t' (ap (λ (y : SwitchTurn). y.state.links) is, ap (λ (y : SwitchTurn). y.state.ports) is) h
+moves_keep x s t t' (Ages table stay is) h = as_moved s t t' (ap (λ (y : SwitchTurn). y.state.links) is, ap (λ (y : SwitchTurn). y.state.ports) is) h
 moves_keep x s t t' (Clears c xid life through asks own is) h = as_moved s t t' (ap (λ (y : SwitchTurn). y.state.links) is, ap (λ (y : SwitchTurn). y.state.ports) is) h
 moves_keep x s t t' (Executes c xid life generation number through what result asks own may next is) h =
     as_moved s t t' (ap (λ (y : SwitchTurn). y.state.links) is, ap (λ (y : SwitchTurn). y.state.ports) is) h

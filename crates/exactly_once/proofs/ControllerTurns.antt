@@ -37,7 +37,7 @@ use Rattle.controller_laws.proofs.Issued.{issued_none, issued_prefix, IsBetween,
 use Rattle.controller_laws.proofs.Letters.{settled_is}
 use Rattle.exactly_once.proofs.Marks.{marks_come}
 use Rattle.exactly_once.proofs.Spelling.{commands_of_sendable, command_valid}
-use Rattle.exactly_once.proofs.Packets.{happening_short}
+use Rattle.exactly_once.proofs.Packets.{happening_short, happening_valid}
 use Rattle.exactly_once.proofs.Views.{views_kept, heard_view}
 use Rattle.exactly_once.proofs.Growing.{processed-append, received_prefix, processed_prefix, take_prefix, take_same, ahead_more, ahead_higher, processed_count, settled_count, genuine_more, entry_more}
 
@@ -191,7 +191,7 @@ module _ (kinds : List ℕ) (setup : Setup) (within : IsSetup setup) (f g : Past
   entry_true i e h = true_below (suc i) i (omega arith) e h
 
   entry_valid : (i : ℕ) (e : Entry) → IsTrueEntry kinds setup g i e → IsValidEntry e
-  entry_valid i (Received e) h = let short = happening_short e.what h.good in omega (arith, short)
+  entry_valid i (Received e) h = let short = happening_short e.what h.good in (omega (arith, short), happening_valid e.what h.good)
   entry_valid i (Processed j) h = tt
 
   -- the events of a moment's log are good

@@ -1,5 +1,5 @@
 -- No stale generation's command is carried out: the fence over every legal past.
-use Rattle.std.proofs.Common.{◌≡◌, ◌≤◌, ℕ, ◌%◌, Bool, true, false, List, [], ◌∷◌, ◌++◌, length, refl, sym, ◌∙◌, subst, arith}
+use Rattle.std.proofs.Common.{◌≡◌, ◌≤◌, ℕ, true, List, [], ◌∷◌, ◌++◌, length, refl, sym, ◌∙◌, subst, arith}
 use Rattle.std.specs.Prelude.{drop, Option, Some, None}
 use Rattle.std.specs.List.{AllByRecursion}
 use Rattle.std.proofs.lemmas.List.{drop_all}
@@ -23,14 +23,13 @@ use Rattle.rv_runs.specs.declared.messages.Unsealed.{Unsealed}
 use Rattle.rv_runs.specs.declared.messages.Unsealed.TheVariants as unsealed
 use Rattle.rv_runs.specs.States.{Scene, SwitchAt, switch_at, switch_step, switch_hears, content}
 use Rattle.rv_runs.specs.Legal.{IsPossible}
-use Rattle.rv_runs.specs.Committed.{switch_state}
 use Rattle.rv_runs.specs.Laws.{Heard, Asked, asked_step, master_asked, masters_asked, IsFenced, IsFencedEntry, IsOfMaster}
 use Rattle.exactly_once.specs.Facts.{PastFacts}
 use Rattle.rv_runs.specs.Inputs.{IsHeardAt, By_draw}
 use Rattle.rv_runs.proofs.Entries.{Mine, Another, switch_after}
 use Rattle.exactly_once.specs.Invariant.{IsHeardBySwitch}
 use Rattle.exactly_once.proofs.Generations.{Unasked, IsFenced as Fenced, life_stays, may_pass, no_fewer, passes_greatest, told_turn, frame_turn, local_turn}
-use Rattle.rv_runs.proofs.Pasts.{possible_before, legal_finds}
+use Rattle.rv_runs.proofs.Pasts.{possible_before}
 
 -- the fence of a switch and its life now, and before what may be its open input; no fewer commands are carried out now
 pub record FencesAt (controllers : ℕ) (asked : Asked) (w : SwitchAt) : Type 0 where

@@ -24,7 +24,7 @@ use Rattle.of_switch.specs.declared.says.SwitchInput.TheVariants as switch_input
 use Rattle.of_switch.specs.State.{SwitchState, SwitchTurn, quiet, posts, then_turn, greetings, life_of}
 use Rattle.of_switch.specs.Events.{raised, next_life, tells_ports, on_restart}
 use Rattle.of_switch.specs.Rules.{switch_turn}
-use Rattle.exactly_once.proofs.SwitchMoves.{Move, Raises, Says, Notes, Changes, Clears, Executes, Masters, Fences, Restarts, fenced, turn_keeps}
+use Rattle.exactly_once.proofs.SwitchMoves.{Move, Raises, Says, Notes, Changes, Ages, Clears, Executes, Masters, Fences, Restarts, fenced, turn_keeps}
 use Rattle.rv_runs.specs.declared.messages.Message.TheVariants as message
 use Rattle.rv_runs.specs.declared.messages.Unsealed.TheVariants as unsealed
 use Rattle.rv_runs.specs.Laws.{master_asked, IsGreatest, Heard, heard_local}
@@ -45,6 +45,7 @@ life_stays x start other = turn_keeps x (λ (t : SwitchTurn). life_of t.state �
     stays t t' (Says ls all is) h = ap (λ (y : SwitchTurn). life_of y.state) is ∙ h
     stays t t' (Notes down sent outcomes dirty is) h = ap (λ (y : SwitchTurn). life_of y.state) is ∙ h
     stays t t' (Changes c xid life generation number through change asks is) h = ap (λ (y : SwitchTurn). life_of y.state) is ∙ h
+    stays t t' (Ages table stay is) h = ap (λ (y : SwitchTurn). life_of y.state) is ∙ h
     stays t t' (Clears c xid life through asks own is) h = ap (λ (y : SwitchTurn). life_of y.state) is ∙ h
     stays t t' (Executes c xid life generation number through what result asks own may next is) h = ap (λ (y : SwitchTurn). life_of y.state) is ∙ h
     stays t t' (Masters c xid role generation asks master fresh first is) h = ap (λ (y : SwitchTurn). life_of y.state) is ∙ h
@@ -60,6 +61,7 @@ fence_stays x start calm = turn_keeps x (λ (t : SwitchTurn). t.state.fence ≡ 
     stays t t' (Says ls all is) h = ap (λ (y : SwitchTurn). y.state.fence) is ∙ h
     stays t t' (Notes down sent outcomes dirty is) h = ap (λ (y : SwitchTurn). y.state.fence) is ∙ h
     stays t t' (Changes c xid life generation number through change asks is) h = ap (λ (y : SwitchTurn). y.state.fence) is ∙ h
+    stays t t' (Ages table stay is) h = ap (λ (y : SwitchTurn). y.state.fence) is ∙ h
     stays t t' (Clears c xid life through asks own is) h = ap (λ (y : SwitchTurn). y.state.fence) is ∙ h
     stays t t' (Executes c xid life generation number through what result asks own may next is) h = ap (λ (y : SwitchTurn). y.state.fence) is ∙ h
     stays t t' (Masters c xid role generation asks master fresh first is) h = absurd (calm.asks c xid role generation asks)
@@ -140,6 +142,7 @@ module _ (x : SwitchInput) (start : SwitchState) where
   carries_move t t' (Says ls all is) h = same_carries t t' _ (ap (λ (y : SwitchTurn). y.state) is) refl refl refl refl h
   carries_move t t' (Notes down sent outcomes dirty is) h = same_carries t t' _ (ap (λ (y : SwitchTurn). y.state) is) refl refl refl refl h
   carries_move t t' (Changes c xid life generation number through change asks is) h = same_carries t t' _ (ap (λ (y : SwitchTurn). y.state) is) refl refl refl refl h
+  carries_move t t' (Ages table stay is) h = same_carries t t' _ (ap (λ (y : SwitchTurn). y.state) is) refl refl refl refl h
   carries_move t t' (Clears c xid life through asks own is) h = same_carries t t' _ (ap (λ (y : SwitchTurn). y.state) is) refl refl refl refl h
   carries_move t t' (Masters c xid role generation asks master fresh first is) h = role_carries t t' _ c xid role generation is asks h
   carries_move t t' (Fences c xid role generation fence asks otherwise first is) h = role_carries t t' fence c xid role generation is asks h

@@ -12,6 +12,8 @@ use Rattle.of_types.specs.declared.message.Spoken.{Spoken}
 use Rattle.of_types.specs.declared.message.Spoken.TheVariants as spoken
 use Rattle.of_types.specs.declared.setup.Setup.{Setup}
 use Rattle.of_types.specs.Sizes.{happening_size}
+use Rattle.of_types.specs.Valid.{IsValidHappening}
+use Rattle.of_types.proofs.SmallMatches.{small_match}
 use Rattle.rv_base.specs.declared.journal.Actor.{Actor}
 use Rattle.rv_base.specs.declared.journal.Actor.TheVariants as actor
 use Rattle.rv_base.specs.declared.journal.Letter.{Letter}
@@ -55,13 +57,20 @@ heard_by_controller kinds setup f c from to u is h = absurd h
 pub happening_short : (what : Happening) → IsGoodHappening what → happening_size what ≤ 60000
 happening_short (happening.PacketIn p) good = let short : length p.payload ≤ 1514 = leb-true (length p.payload) 1514 (and_parts (nat_le 14 (length p.payload)) (nat_le (length p.payload) 1514) good.0).1 in omega arith
 happening_short (happening.PortStatus p) good = omega arith
+happening_short (happening.FlowRemoved r) good = omega (arith, small_match r.matching)
+
+-- what a switch tells of can be spelled
+pub happening_valid : (what : Happening) → IsGoodHappening what → IsValidHappening what
+happening_valid (happening.PacketIn p) good = tt
+happening_valid (happening.PortStatus p) good = tt
+happening_valid (happening.FlowRemoved r) good = good
 
 -- what is told and reported can be spelled
 pub reported_valid : (s : ℕ) (events : List Event) (executed : List Executed) (xid : ℕ) (m : Spoken) → IsReported s events executed m → IsValidMessage (message.Of xid m)
 reported_valid s events executed xid (spoken.Plain plain.Hello) h = (tt, omega arith)
 reported_valid s events executed xid (spoken.Plain (plain.RoleReply role generation)) h = (tt, omega arith)
 reported_valid s events executed xid (spoken.Plain (plain.Error kind code head)) h = (tt, omega (arith, ap (λ (l : List ℕ). length l) h))
-reported_valid s events executed xid (spoken.Ravana (extension.Event life number what)) h = (tt, omega (arith, happening_short what h.1))
+reported_valid s events executed xid (spoken.Ravana (extension.Event life number what)) h = (happening_valid what h.1, omega (arith, happening_short what h.1))
 reported_valid s events executed xid (spoken.Ravana (extension.CmdAck life number result)) h = (tt, omega arith)
 reported_valid s events executed xid _ h = absurd h
 

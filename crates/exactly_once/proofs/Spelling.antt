@@ -1,5 +1,5 @@
 -- Each order that is issued for events with good frames can be spelled.
-use Rattle.std.proofs.Common.{◌≡◌, ◌⊎◌, ap, ℕ, List, [], ◌∷◌, ◌++◌, length, get_or, zero, suc, refl, sym, subst, inl, inr, arith}
+use Rattle.std.proofs.Common.{◌≡◌, ap, ℕ, List, [], ◌∷◌, ◌++◌, length, get_or, zero, suc, refl, sym, subst, inl, inr, arith}
 use Rattle.std.proofs.lemmas.Bool.{and_parts, leb-true}
 use Rattle.of_types.specs.declared.message.Command.{Command}
 use Rattle.of_types.specs.declared.message.Event.{Event}
@@ -24,6 +24,7 @@ use Rattle.exactly_once.specs.Truths.{IsGoodHappening}
 short_of : (what : Happening) → IsGoodHappening what → IsShort what
 short_of (happening.PacketIn p) good = (leb-true (length p.payload) 1514 (and_parts _ _ good.0).1, good.1)
 short_of (happening.PortStatus p) good = tt
+short_of (happening.FlowRemoved r) good = tt
 
 module _ (kinds : List ℕ) (setup : Setup) (within : IsSetup setup) where
   chain_sendable : (states : List (List ℕ)) (e : Event) → IsGoodHappening e.what → (c : Command) → IsIn c (chain_next kinds setup states e).commands → IsSendable c.order

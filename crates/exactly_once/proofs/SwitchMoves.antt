@@ -1,7 +1,7 @@
 -- A turn of a switch is a chain of moves. What each move keeps, each turn keeps.
-use Rattle.std.proofs.Common.{◌≡◌, inl, inr, ◌<◌, ℕ, Bool, true, false, ◌&&◌, List, [], ◌∷◌, ◌++◌, length, refl, sym, ◌∙◌, ap, subst, arith}
+use Rattle.std.proofs.Common.{◌≡◌, inl, inr, ◌<◌, ◌≤◌, ℕ, Bool, true, false, ◌&&◌, List, [], ◌∷◌, ◌++◌, length, refl, sym, ◌∙◌, ap, subst, arith}
 use Rattle.std.specs.Prelude.{not, nat_eq, nat_lt, ◌-◌, flat_map, Option, Some, None, if◌then◌else◌}
-use Rattle.std.specs.List.{list_any, range_with_len}
+use Rattle.std.specs.List.{AllByRecursion, list_any, range_with_len}
 use Rattle.std.proofs.lemmas.Bool.{and_parts, cond_both, ltb-true, eqb-true}
 use Rattle.of_types.specs.declared.message.Event.{Event}
 use Rattle.of_types.specs.declared.message.Extension.{Extension}
@@ -30,7 +30,7 @@ use Rattle.rv_base.specs.declared.journal.Actor.TheVariants as actor
 use Rattle.rv_base.specs.declared.journal.Letter.{Letter}
 use Rattle.rv_base.specs.declared.journal.Local.{Local}
 use Rattle.rv_base.specs.declared.journal.Local.TheVariants as local
-use Rattle.lists.proofs.Elements.{in_append, in_drop, in_map, in_right, in_take}
+use Rattle.lists.proofs.Elements.{all_in, all_of, in_append, in_drop, in_map, in_right, in_take}
 use Rattle.lists.specs.Lists.{IsIn}
 use Rattle.role_fence.specs.Fence.{Fence, RoleStep, is_stale, may_execute, as_equal, as_master, as_slave, role_of, told_generation, replies}
 use Rattle.event_buffer.specs.Buffer.{is_full, next_event, cleared_to, without_dirty, with_dirty}
@@ -39,12 +39,16 @@ use Rattle.command_buffer.specs.Results.{most_kept, without_results_below, offer
 use Rattle.of_switch.specs.declared.says.SwitchInput.{SwitchInput}
 use Rattle.of_switch.specs.declared.says.SwitchInput.TheVariants as switch_input
 use Rattle.of_switch.specs.declared.says.SwitchSays.{SwitchSays}
-use Rattle.of_switch.specs.State.{SwitchState, SwitchTurn, quiet, posts, then_turn, to_controller, error_letter, refuses, answers, greetings, life_of, number_of, ports_up}
-use Rattle.of_switch.specs.Events.{window, first_held, event_letter, event_letters, with_event, raised, packet_raised, is_down, port_status, with_port, is_port, on_port, remembers, coming, cleared, on_event_ack, tells_ports, next_life, on_restart, tick_letters, on_tick}
+use Rattle.of_switch.specs.State.{SwitchState, SwitchTurn, quiet, posts, then_turn, to_controller, error_letter, refuses, answers, greetings, rows_of, life_of, number_of, ports_up}
+use Rattle.of_switch.specs.Events.{window, first_held, event_letter, event_letters, with_event, raised, packet_raised, is_down, port_status, with_port, is_port, on_port, remembers, coming, cleared, on_event_ack, tells_ports, next_life, on_restart, tick_letters, flow_removed, tells_left, aged, on_tick}
 use Rattle.of_switch.specs.Forwarding.{is_frame, targets, frame_letter, over_link, over_links, sends_to, puts_all, packet_in, through_row, fields_at, on_frame}
 use Rattle.of_switch.specs.Commands.{is_output, result_of, does, done_as, counted, result_letter, executes, on_offer, settled, on_command}
 use Rattle.of_switch.specs.Rules.{on_local, on_role, on_role_request, on_plain, on_own_life, life_said, on_extension, on_malformed, switch_turn}
-use Rattle.flow_table.specs.Table.{chosen_row, table_step}
+use Rattle.of_switch.proofs.Leaving.{left_told}
+use Rattle.flow_table.specs.Table.{chosen_row}
+use Rattle.flow_clock.specs.declared.times.Expired.{Expired}
+use Rattle.flow_clock.specs.Clocked.{Clocked, rows_in, clock_change, clock_hit, clock_tick, clock_told}
+use Rattle.flow_clock.proofs.Remaining.{hit_rows, tick_rows, told_rows}
 use Rattle.exactly_once.specs.SwitchTurns.{BringsFrame, Wire, Peer, Output}
 
 -- a message that only asks
@@ -54,10 +58,12 @@ is_question plain.FeaturesRequest = true
 is_question plain.BarrierRequest = true
 is_question _ = false
 
--- what may be raised on an input: a change of a port, or a frame that it brings
-pub data IsRaised (x : SwitchInput) (what : Happening) : Type 0 where
-  Ports : (p : PortStatus) → what ≡ happening.PortStatus p → IsRaised x what
-  Packets : (p : PacketIn) → what ≡ happening.PacketIn p → BringsFrame x p.payload → is_frame p.payload ≡ true → IsRaised x what
+-- what a switch in this state may raise on an input: a change of a port, a frame that the input brings, or that a row of its
+-- table left
+pub data IsRaised (x : SwitchInput) (s : SwitchState) (what : Happening) : Type 0 where
+  Ports : (p : PortStatus) → what ≡ happening.PortStatus p → IsRaised x s what
+  Packets : (p : PacketIn) → what ≡ happening.PacketIn p → BringsFrame x p.payload → is_frame p.payload ≡ true → IsRaised x s what
+  Removed : (e : Expired) → what ≡ flow_removed e → e.reason ≤ 3 → IsIn e.row (rows_of s) → IsRaised x s what
 
 -- what a switch in this state may say on an input
 pub data IsSaid (x : SwitchInput) (s : SwitchState) (l : Letter SwitchSays) : Type 0 where
@@ -73,24 +79,29 @@ pub data IsSaid (x : SwitchInput) (s : SwitchState) (l : Letter SwitchSays) : Ty
   Forwards : (peer port : ℕ) (frame : List ℕ) → BringsFrame x frame → is_frame frame ≡ true → l ≡ frame_letter frame peer port → IsSaid x s l
 
 -- a switch with other ports down, count of frames, kept results and ports remembered
-abbrev pub noted : SwitchState → List ℕ → ℕ → List Outcome → List ℕ → SwitchState
-noted s down sent outcomes dirty =
+abbrev pub with_notes : SwitchState → List ℕ → ℕ → List Outcome → List ℕ → SwitchState
+with_notes s down sent outcomes dirty =
     record s { down = down; sent = sent; results = record s.results { outcomes = outcomes }; buffer = record s.buffer { dirty = dirty } }
 
--- and one whose rows a FLOW_MOD has changed
+-- and one whose table a FLOW_MOD has changed
 abbrev pub changed : SwitchState → FlowMod → SwitchState
-changed s change = record s { rows = table_step s.rows change }
+changed s change = record s { table = clock_change s.table change }
+
+-- and one with this table
+abbrev pub with_table : SwitchState → Clocked → SwitchState
+with_table s table = record s { table = table }
 
 abbrev pub fenced : SwitchState → Fence → SwitchState
 fenced s fence = record s { fence = fence }
 
 -- one move within the turn of an input
 pub data Move (x : SwitchInput) (t t' : SwitchTurn) : Type 0 where
-  Raises : (what : Happening) → IsRaised x what → t' ≡ record t { state = with_event t.state what } → Move x t t'
+  Raises : (what : Happening) → IsRaised x t.state what → t' ≡ record t { state = with_event t.state what } → Move x t t'
   Says : (ls : List (Letter SwitchSays)) → ((l : Letter SwitchSays) → IsIn l ls → IsSaid x t.state l) → t' ≡ record t { letters = t.letters ++ ls } → Move x t t'
-  Notes : (down : List ℕ) (sent : ℕ) (outcomes : List Outcome) (dirty : List ℕ) → t' ≡ record t { state = noted t.state down sent outcomes dirty } → Move x t t'
+  Notes : (down : List ℕ) (sent : ℕ) (outcomes : List Outcome) (dirty : List ℕ) → t' ≡ record t { state = with_notes t.state down sent outcomes dirty } → Move x t t'
   Changes : (c xid life generation number through : ℕ) (change : FlowMod) → x ≡ switch_input.Of c xid (spoken.Ravana (extension.Command life generation number through (order.FlowMod change))) →
       t' ≡ record t { state = changed t.state change } → Move x t t'
+  Ages : (table : Clocked) → ((r : Row) → IsIn r (rows_in table) → IsIn r (rows_of t.state)) → t' ≡ record t { state = with_table t.state table } → Move x t t'
   Clears : (c xid life through : ℕ) → x ≡ switch_input.Of c xid (spoken.Ravana (extension.EventAck life through)) → nat_eq life (life_of t.state) ≡ true →
       t' ≡ record t { state = cleared t.state through } → Move x t t'
   Executes : (c xid life generation number through : ℕ) (what : Order) (result : Outcome) → x ≡ switch_input.Of c xid (spoken.Ravana (extension.Command life generation number through what)) →
@@ -143,12 +154,12 @@ module _ (x : SwitchInput) (P : SwitchTurn → Type 0) (step : (t t' : SwitchTur
   silent : (t : SwitchTurn) → P t → P (record t { letters = t.letters ++ [] })
   silent t h = said t [] (λ l m. absurd m) h
 
-  notes : (t : SwitchTurn) (down : List ℕ) (sent : ℕ) (outcomes : List Outcome) (dirty : List ℕ) → P t → P (record t { state = noted t.state down sent outcomes dirty })
+  notes : (t : SwitchTurn) (down : List ℕ) (sent : ℕ) (outcomes : List Outcome) (dirty : List ℕ) → P t → P (record t { state = with_notes t.state down sent outcomes dirty })
   notes t down sent outcomes dirty h = step t _ (Notes down sent outcomes dirty refl) h
 
   -- an event is raised
-  raised_keeps : (what : Happening) → IsRaised x what → (t : SwitchTurn) → P t → P (then_turn t (raised what))
-  raised_keeps what is t h =
+  raised_keeps : (what : Happening) (t : SwitchTurn) → IsRaised x t.state what → P t → P (then_turn t (raised what))
+  raised_keeps what t is h =
       either (λ (ls : List (Letter SwitchSays)). P (record after { letters = t.letters ++ ls })) (nat_lt (length t.state.buffer.held) window) _ _
       (λ _. said after _ (told x after.state t.state.fence.master refl (next_event t.state.buffer what ∷ []) (λ e k. in_right e t.state.buffer.held _ k)) there)
       (λ _. said after [] (λ l m. absurd m) there)
@@ -159,8 +170,8 @@ module _ (x : SwitchInput) (P : SwitchTurn → Type 0) (step : (t t' : SwitchTur
       there : P after
       there = step t after (Raises what is refl) h
 
-  packet_keeps : (what : Happening) → IsRaised x what → (t : SwitchTurn) → P t → P (then_turn t (packet_raised what))
-  packet_keeps what is t h = either (λ (y : SwitchTurn). P (then_turn t (λ _. y))) (is_full t.state.buffer) _ _ (λ _. silent t h) (λ _. raised_keeps what is t h)
+  packet_keeps : (what : Happening) (t : SwitchTurn) → IsRaised x t.state what → P t → P (then_turn t (packet_raised what))
+  packet_keeps what t is h = either (λ (y : SwitchTurn). P (then_turn t (λ _. y))) (is_full t.state.buffer) _ _ (λ _. silent t h) (λ _. raised_keeps what t is h)
 
   -- a frame goes over wires
   sends_keeps : (frame : List ℕ) → BringsFrame x frame → is_frame frame ≡ true → (ports : List ℕ) (t : SwitchTurn) → P t → P (then_turn t (sends_to frame ports))
@@ -185,26 +196,30 @@ module _ (x : SwitchInput) (P : SwitchTurn → Type 0) (step : (t t' : SwitchTur
   row_keeps : (port : ℕ) (frame : List ℕ) → BringsFrame x frame → is_frame frame ≡ true → (s : SwitchState) (found : Option Row) → P (quiet s) → P (through_row s port frame found)
   row_keeps port frame brings fits s None h = h
   row_keeps port frame brings fits s (Some row) h =
-      outputs_keep P (packet_raised (packet_in row port frame)) port frame (packet_keeps (packet_in row port frame) (Packets _ refl brings fits)) (sends_keeps frame brings fits) row.actions (quiet s) h
+      outputs_keep P (packet_raised (packet_in row port frame)) port frame (λ t. packet_keeps (packet_in row port frame) t (Packets _ refl brings fits)) (sends_keeps frame brings fits) row.actions (quiet s) h
 
   -- ports are told
   ports_keep : (ports : List ℕ) (t : SwitchTurn) → P t → P (tells_ports ports t)
   ports_keep [] t h = h
-  ports_keep (port ∷ ports) t h = ports_keep ports _ (raised_keeps (port_status t.state port) (Ports _ refl) t h)
+  ports_keep (port ∷ ports) t h = ports_keep ports _ (raised_keeps (port_status t.state port) t (Ports _ refl) h)
 
   remembered_keep : (ports : List ℕ) (t : SwitchTurn) → P t → P (remembers ports t)
   remembered_keep [] t h = h
   remembered_keep (port ∷ ports) t h =
       either P (is_full t.state.buffer) _ _ (λ _. h)
       (λ _. remembered_keep ports _
-      (raised_keeps (port_status t.state port) (Ports _ refl) (record t { state = record t.state { buffer = without_dirty t.state.buffer port } })
+      (raised_keeps (port_status t.state port) (record t { state = record t.state { buffer = without_dirty t.state.buffer port } }) (Ports _ refl)
       (notes t t.state.down t.state.sent t.state.results.outcomes (without_dirty t.state.buffer port).dirty h)))
 
   module _ (s : SwitchState) (h : P (quiet s)) where
     frame_keeps : (port : ℕ) (frame : List ℕ) → BringsFrame x frame → P (on_frame s port frame)
     frame_keeps port frame brings =
         either P (list_any (λ p. nat_eq p port) (ports_up s) && is_frame frame) _ _
-        (λ fits. row_keeps port frame brings (and_parts (list_any (λ p. nat_eq p port) (ports_up s)) (is_frame frame) fits).1 s (chosen_row s.rows (fields_at port frame)) h)
+        (λ fits.
+        let met = through_row s port frame (chosen_row (rows_of s) (fields_at port frame)) in
+        let same = hit_rows met.state.table (fields_at port frame) (length frame) in
+        step met _ (Ages (clock_hit met.state.table (fields_at port frame) (length frame)) (λ r k. subst (λ (rows : List Row). IsIn r rows) same k) refl)
+        (row_keeps port frame brings (and_parts (list_any (λ p. nat_eq p port) (ports_up s)) (is_frame frame) fits).1 s (chosen_row (rows_of s) (fields_at port frame)) h))
         (λ _. h)
 
     port_keeps : (port : ℕ) (up : Bool) → P (on_port s port up)
@@ -212,7 +227,7 @@ module _ (x : SwitchInput) (P : SwitchTurn → Type 0) (step : (t t' : SwitchTur
         either P (is_port s port && (if up then is_down s port else not (is_down s port))) _ _
         (λ _. either P (is_full (with_port s port up).buffer) _ _
         (λ _. notes (quiet s) (with_port s port up).down s.sent s.results.outcomes (with_dirty s.buffer port).dirty h)
-        (λ _. raised_keeps (port_status (with_port s port up) port) (Ports _ refl) (quiet (with_port s port up)) (notes (quiet s) (with_port s port up).down s.sent s.results.outcomes s.buffer.dirty h)))
+        (λ _. raised_keeps (port_status (with_port s port up) port) (quiet (with_port s port up)) (Ports _ refl) (notes (quiet s) (with_port s port up).down s.sent s.results.outcomes s.buffer.dirty h)))
         (λ _. h)
 
     greets : (t : SwitchTurn) → P t → P (record t { letters = t.letters ++ greetings t.state })
@@ -221,12 +236,42 @@ module _ (x : SwitchInput) (P : SwitchTurn → Type 0) (step : (t t' : SwitchTur
     restart_keeps : x ≡ switch_input.Local local.Restart → P (on_restart s)
     restart_keeps is =
         either P (nat_lt (life_of s) last_life) _ _
-        (λ more. greets _ (ports_keep s.down _ (raised_keeps switch_up (Ports _ refl) (quiet (next_life s)) (step (quiet s) _ (Restarts is more refl refl) h))))
+        (λ more. greets _ (ports_keep s.down _ (raised_keeps switch_up (quiet (next_life s)) (Ports _ refl) (step (quiet s) _ (Restarts is more refl refl) h))))
         (λ _. h)
 
-    ticks : (m : Option ℕ) → s.fence.master ≡ m → P (posts s (tick_letters s m))
-    ticks None is = either (λ (ls : List (Letter SwitchSays)). P (posts s ls)) (nat_lt 0 (life_of s)) _ _ (λ _. greets (quiet s) h) (λ _. h)
-    ticks (Some c) is = said (quiet s) _ (λ l m. let r = in_map (event_letter c) (first_held s) l m in Tells c r.0 (first_among s r.0 r.1) is r.2) h
+    there : AllByRecursion (λ r. IsIn r (rows_of s)) (rows_of s)
+    there = all_in (λ r. IsIn r (rows_of s)) (rows_of s) (λ r k. k)
+
+    -- a switch that has told of some of the rows that left
+    record HasTold (now : SwitchState) : Type 0 where
+      pub kept : P (quiet now)
+      pub table : now.table ≡ s.table
+      pub fence : now.fence ≡ s.fence
+
+    left : HasTold (tells_left (clock_told s.table) s)
+    left =
+        left_told (λ (e : Expired). (e.reason ≤ 3) × IsIn e.row (rows_of s)) HasTold
+        (λ e now told room k. record {
+          kept = step (quiet now) _ (Raises (flow_removed e) (Removed e refl told.0 (subst (λ (a : Clocked). IsIn e.row (rows_in a)) (sym k.table) told.1)) refl) k.kept;
+          table = k.table;
+          fence = k.fence;
+        })
+        (clock_told s.table) (told_rows (λ r. IsIn r (rows_of s)) s.table there) s
+        (record { kept = h; table = refl; fence = refl })
+
+    aged_keeps : P (quiet (aged s))
+    aged_keeps =
+        step (quiet (tells_left (clock_told s.table) s)) _
+        (Ages (clock_tick s.table)
+        (λ r k. subst (λ (a : Clocked). IsIn r (rows_in a)) (sym left.table)
+        (all_of (λ r. IsIn r (rows_of s)) (rows_in (clock_tick s.table)) r (tick_rows (λ r. IsIn r (rows_of s)) s.table there) k)) refl)
+        left.kept
+
+    ticks : (m : Option ℕ) → s.fence.master ≡ m → P (posts (aged s) (tick_letters (aged s) m))
+    ticks None is = either (λ (ls : List (Letter SwitchSays)). P (posts (aged s) ls)) (nat_lt 0 (life_of (aged s))) _ _ (λ _. greets (quiet (aged s)) aged_keeps) (λ _. aged_keeps)
+    ticks (Some c) is =
+        said (quiet (aged s)) _
+        (λ l m. let r = in_map (event_letter c) (first_held (aged s)) l m in Tells c r.0 (first_among (aged s) r.0 r.1) (ap (λ (f : Fence). f.master) left.fence ∙ is) r.2) aged_keeps
 
     tick_keeps : P (on_tick s)
     tick_keeps = ticks s.fence.master refl
@@ -288,6 +333,7 @@ module _ (x : SwitchInput) (P : SwitchTurn → Type 0) (step : (t t' : SwitchTur
     plain_keeps c xid (plain.Experimenter body) is = refuses_keeps c xid BAD_TYPE _ is
     plain_keeps c xid (plain.FeaturesReply datapath) is = refuses_keeps c xid BAD_TYPE _ is
     plain_keeps c xid (plain.PacketIn p) is = refuses_keeps c xid BAD_TYPE _ is
+    plain_keeps c xid (plain.FlowRemoved r) is = refuses_keeps c xid BAD_TYPE _ is
     plain_keeps c xid (plain.PortStatus p) is = refuses_keeps c xid BAD_TYPE _ is
     plain_keeps c xid plain.BarrierReply is = refuses_keeps c xid BAD_TYPE _ is
     plain_keeps c xid (plain.RoleReply role generation) is = refuses_keeps c xid BAD_TYPE _ is

@@ -23,7 +23,7 @@ use Rattle.of_switch.specs.declared.says.SwitchSays.{SwitchSays}
 use Rattle.of_switch.specs.State.{SwitchState, SwitchTurn, quiet, posts, then_turn, greetings, to_controller, life_of}
 use Rattle.of_switch.specs.Events.{raised, port_status, remembers, cleared, on_event_ack, tells_ports, next_life, on_restart}
 use Rattle.of_switch.specs.Rules.{on_role, on_role_request, on_extension, switch_turn}
-use Rattle.exactly_once.proofs.SwitchMoves.{IsSaid, Tells, Reports, Roles, Refuses, Answers, Explains, Greets, Forwards, Move, Raises, Says, Notes, Changes, Clears as Clearing, Executes, Masters, Fences as Fencing, Restarts, turn_keeps}
+use Rattle.exactly_once.proofs.SwitchMoves.{IsSaid, Tells, Reports, Roles, Refuses, Answers, Explains, Greets, Forwards, Move, Raises, Says, Notes, Changes, Ages, Clears as Clearing, Executes, Masters, Fences as Fencing, Restarts, turn_keeps}
 use Rattle.exactly_once.specs.Facts.{events_of, executed_of}
 use Rattle.exactly_once.specs.Invariant.{IsWell}
 use Rattle.exactly_once.specs.SwitchTurns.{CarriesOut, Clears, Nothing, Through, Life, Fences, Stays, Asked, Anew, Posts, Event_to_master, Result_to_sender, Answer_to_sender, Fault_to_sender, Greeting, Frame_to_peer, AreSwitchTurns}
@@ -58,6 +58,7 @@ holds_account x s holding = let r = turn_keeps x (SameCount s) stays s (record {
     stays t t' (Says ls all is) h = record { cleared = ap (λ (y : SwitchTurn). y.state.buffer.cleared) is ∙ h.cleared; ended = ap (λ (y : SwitchTurn). y.state.ended) is ∙ h.ended }
     stays t t' (Notes down sent outcomes dirty is) h = same t t' _ is refl refl h
     stays t t' (Changes c xid life generation number through change asks is) h = same t t' _ is refl refl h
+    stays t t' (Ages table stay is) h = same t t' _ is refl refl h
     stays t t' (Clearing c xid life through asks own is) h = absurd (holding.acks c xid life through asks)
     stays t t' (Executes c xid life generation number through what result asks own may next is) h = same t t' _ is refl refl h
     stays t t' (Masters c xid role generation asks master fresh first is) h = same t t' _ is refl refl h
@@ -193,6 +194,8 @@ module _ (number : ℕ) (s : SwitchState) (x : SwitchInput) where
       to_state t t' _ is (well_move number x t t' (Notes down sent outcomes dirty is) h.well) (prefix_refl t.state.events) (prefix_refl t.state.executed) refl refl h
   goes_move t t' (Changes c xid life generation i through change asks is) h =
       to_state t t' _ is (well_move number x t t' (Changes c xid life generation i through change asks is) h.well) (prefix_refl t.state.events) (prefix_refl t.state.executed) refl refl h
+  goes_move t t' (Ages table stay is) h =
+      to_state t t' _ is (well_move number x t t' (Ages table stay is) h.well) (prefix_refl t.state.events) (prefix_refl t.state.executed) refl refl h
   goes_move t t' (Clearing c xid life through asks own is) h =
       to_state t t' _ is (well_move number x t t' (Clearing c xid life through asks own is) h.well) (prefix_refl t.state.events) (prefix_refl t.state.executed) refl refl h
   goes_move t t' (Executes c xid life generation n through what result asks own may next is) h =

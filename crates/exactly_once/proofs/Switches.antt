@@ -1,6 +1,7 @@
 -- A turn of a switch that hears the truth keeps it sound, and it says the truth.
 use Rattle.std.proofs.Common.{◌≡◌, ◌≤◌, ◌⊎◌, ℕ, ◌+◌, true, List, [], ◌∷◌, ◌++◌, length, refl, sym, ◌∙◌, ap, subst, inl, inr, arith, length-append, get_or}
 use Rattle.std.specs.Prelude.{nat_eq, slice_get, ◌-◌, Some}
+use Rattle.std.specs.List.{AllByRecursion}
 use Rattle.std.proofs.lemmas.Bool.{cases_Bool, eqb-true, eq-eqb}
 use Rattle.std.proofs.lemmas.List.{length-drop}
 use Rattle.of_types.specs.declared.message.Event.{Event}
@@ -12,27 +13,30 @@ use Rattle.of_types.specs.declared.message.OfMessage.TheVariants as plain
 use Rattle.of_types.specs.declared.message.Order.{Order}
 use Rattle.of_types.specs.declared.message.Order.TheVariants as order
 use Rattle.of_types.specs.declared.message.Outcome.{Outcome}
+use Rattle.of_types.specs.declared.message.Row.{Row}
 use Rattle.of_types.specs.declared.message.Spoken.TheVariants as spoken
 use Rattle.of_types.specs.declared.setup.Setup.{Setup}
 use Rattle.of_types.specs.Valid.{IsValidMatch}
 use Rattle.rv_base.specs.declared.journal.Letter.{Letter}
 use Rattle.rv_base.specs.declared.journal.Local.TheVariants as local
-use Rattle.lists.proofs.Elements.{filter_has, in_append, in_drop, in_left, in_right}
+use Rattle.lists.proofs.Elements.{all_in, all_of, filter_has, in_append, in_drop, in_left, in_right}
 use Rattle.lists.proofs.Places.{get_last, get_push, get_zero, in_get, none_of}
 use Rattle.lists.proofs.Prefixes.{filter_more, filter_same, prefix_push, prefix_refl, prefix_trans}
 use Rattle.lists.specs.Lists.{IsIn, IsPrefix}
 use Rattle.two_stage_log.specs.Counts.{processed_of}
+use Rattle.flow_clock.specs.Clocked.{rows_in}
+use Rattle.flow_clock.proofs.Remaining.{changed_rows}
 use Rattle.event_buffer.specs.Buffer.{next_event, cleared_to}
 use Rattle.of_switch.specs.declared.says.SwitchInput.{SwitchInput}
 use Rattle.of_switch.specs.declared.says.SwitchInput.TheVariants as switch_input
 use Rattle.of_switch.specs.declared.says.SwitchSays.{SwitchSays}
-use Rattle.of_switch.specs.State.{SwitchState, SwitchTurn, life_of}
+use Rattle.of_switch.specs.State.{SwitchState, SwitchTurn, rows_of, life_of}
 use Rattle.of_switch.specs.Events.{with_event, cleared, next_life}
 use Rattle.of_switch.specs.Commands.{counted}
 use Rattle.of_switch.specs.Rules.{switch_turn}
 use Rattle.exactly_once.specs.SwitchTurns.{BringsFrame, Wire, Peer, Output}
 use Rattle.exactly_once.proofs.TableRows.{all_changed, opening_valid}
-use Rattle.exactly_once.proofs.SwitchMoves.{is_question, IsRaised, Ports, Packets, IsSaid, Tells, Reports, Roles, Refuses, Answers, Explains, Greets, Forwards, Move, Raises, Says, Notes, Changes, Clears, Executes, Masters, Fences, Restarts, turn_keeps}
+use Rattle.exactly_once.proofs.SwitchMoves.{is_question, IsRaised, Ports, Packets, Removed, IsSaid, Tells, Reports, Roles, Refuses, Answers, Explains, Greets, Forwards, Move, Raises, Says, Notes, Changes, Ages, Clears, Executes, Masters, Fences, Restarts, turn_keeps}
 use Rattle.exactly_once.specs.Facts.{PastFacts, events_of, executed_of}
 use Rattle.app_core.specs.Orders.{AreBytes}
 use Rattle.exactly_once.specs.Truths.{IsGoodHappening, IsMade, IsNumbered, MayTell}
@@ -179,6 +183,8 @@ module _ (s : ℕ) where
       subst (λ (y : SwitchTurn). IsWell s y.state) (sym is) (record { number_is = h.number_is; lives = h.lives; made = h.made; held = h.held; next = h.next; done = h.done; count = h.count })
   well_move x t t' (Changes c xid life generation number through change asks is) h =
       subst (λ (y : SwitchTurn). IsWell s y.state) (sym is) (record { number_is = h.number_is; lives = h.lives; made = h.made; held = h.held; next = h.next; done = h.done; count = h.count })
+  well_move x t t' (Ages table stay is) h =
+      subst (λ (y : SwitchTurn). IsWell s y.state) (sym is) (record { number_is = h.number_is; lives = h.lives; made = h.made; held = h.held; next = h.next; done = h.done; count = h.count })
   well_move x t t' (Clears c xid life through asks own is) h = subst (λ (y : SwitchTurn). IsWell s y.state) (sym is) (well_clears t.state through h)
   well_move x t t' (Executes c xid life generation number through what result asks own may next is) h =
       subst (λ (y : SwitchTurn). IsWell s y.state) (sym is) (well_executes t.state c generation number what result (eqb-true number t.state.results.executed next) h)
@@ -201,9 +207,11 @@ module _ (kinds : List ℕ) (setup : Setup) (f : PastFacts) (s : ℕ) (x : Switc
       hears (switch_input.Of c xid (spoken.Ravana (extension.Command life generation number through (order.PacketOut out)))) is in
       subst (λ (l : List ℕ). AreBytes l) (sym same) told.1
 
-  raised_good : (what : Happening) → IsRaised x what → IsGoodHappening what
-  raised_good what (Ports p is) = subst (λ (w : Happening). IsGoodHappening w) (sym is) tt
-  raised_good what (Packets p is brings fits) = subst (λ (w : Happening). IsGoodHappening w) (sym is) (fits, brought p.payload brings)
+  raised_good : (state : SwitchState) (what : Happening) → IsSound kinds setup f s state → IsRaised x state what → IsGoodHappening what
+  raised_good state what sound (Ports p is) = subst (λ (w : Happening). IsGoodHappening w) (sym is) tt
+  raised_good state what sound (Packets p is brings fits) = subst (λ (w : Happening). IsGoodHappening w) (sym is) (fits, brought p.payload brings)
+  raised_good state what sound (Removed e is known among) =
+      subst (λ (w : Happening). IsGoodHappening w) (sym is) (known, all_of (λ r. IsValidMatch r.matching) (rows_of state) e.row sound.rows among)
 
   -- what it says is true
   report : (state : SwitchState) (l : Letter SwitchSays) → IsSound kinds setup f s state → IsSaid x state l → IsReport s state.events state.executed l
@@ -303,7 +311,7 @@ module _ (kinds : List ℕ) (setup : Setup) (f : PastFacts) (s : ℕ) (x : Switc
 
     kept_by : (t t' : SwitchTurn) → Move x t t' → SwitchKeeps kinds setup f s start t → SwitchKeeps kinds setup f s start t'
     kept_by t t' (Raises what raised is) h =
-        to_state t t' _ is (sound_raises t.state what (raised_good what raised) h.sound) (prefix_push t.state.events (next_event t.state.buffer what)) (prefix_refl t.state.executed) h
+        to_state t t' _ is (sound_raises t.state what (raised_good t.state what h.sound raised) h.sound) (prefix_push t.state.events (next_event t.state.buffer what)) (prefix_refl t.state.executed) h
     kept_by t t' (Says ls all is) h =
         subst (λ (y : SwitchTurn). SwitchKeeps kinds setup f s start y) (sym is)
         (record {
@@ -325,7 +333,19 @@ module _ (kinds : List ℕ) (setup : Setup) (f : PastFacts) (s : ℕ) (x : Switc
           good = h.sound.good;
           issued = h.sound.issued;
           dropped = h.sound.dropped;
-          rows = all_changed (λ r. IsValidMatch r.matching) t.state.rows change h.sound.rows told.2.0 (λ r valid. valid);
+          rows =
+              subst (λ (rows : List Row). AllByRecursion (λ r. IsValidMatch r.matching) rows) (sym (changed_rows t.state.table change))
+              (all_changed (λ r. IsValidMatch r.matching) (rows_of t.state) change h.sound.rows told.2.0 (λ r valid. valid));
+        })
+        (prefix_refl t.state.events) (prefix_refl t.state.executed) h
+    kept_by t t' (Ages table stay is) h =
+        to_state t t' _ is
+        (record {
+          well = well_move s x t _ (Ages table stay refl) h.sound.well;
+          good = h.sound.good;
+          issued = h.sound.issued;
+          dropped = h.sound.dropped;
+          rows = all_in (λ r. IsValidMatch r.matching) (rows_in table) (λ r k. all_of (λ r. IsValidMatch r.matching) (rows_of t.state) r h.sound.rows (stay r k));
         })
         (prefix_refl t.state.events) (prefix_refl t.state.executed) h
     kept_by t t' (Clears c xid life through asks own is) h =

@@ -32,7 +32,7 @@ use Rattle.of_switch.specs.declared.says.SwitchInput.{SwitchInput}
 use Rattle.of_switch.specs.declared.says.SwitchInput.TheVariants as switch_input
 use Rattle.of_switch.specs.declared.says.SwitchSays.{SwitchSays}
 use Rattle.of_switch.specs.declared.says.SwitchSays.TheVariants as switch_says
-use Rattle.of_switch.specs.State.{SwitchState, number_of, life_of, cleared_in}
+use Rattle.of_switch.specs.State.{SwitchState, number_of, rows_of, life_of, cleared_in}
 use Rattle.group_controller.specs.declared.messages.ControllerInput.{ControllerInput}
 use Rattle.group_controller.specs.declared.messages.ControllerInput.TheVariants as controller_input
 use Rattle.group_controller.specs.declared.messages.ControllerSays.{ControllerSays}
@@ -103,7 +103,7 @@ pub record IsSound (kinds : List ℕ) (setup : Setup) (f : PastFacts) (s : ℕ) 
   pub good : (e : Event) → IsIn e state.events → IsGoodHappening e.what
   pub issued : (life i : ℕ) (x : Executed) → slice_get (executed_of life state.executed) i ≡ Some x → IsNumbered kinds setup f s life i x.order
   pub dropped : (life : ℕ) → cleared_in state life ≤ processed_of f.decided s life
-  pub rows : AllByRecursion (λ r. IsValidMatch r.matching) state.rows
+  pub rows : AllByRecursion (λ r. IsValidMatch r.matching) (rows_of state)
 
 -- a letter of a switch with these lists goes to a controller and tells the truth, or is a good frame for another switch
 pub data IsReport (s : ℕ) (events : List Event) (executed : List Executed) (l : Letter SwitchSays) : Type 0 where

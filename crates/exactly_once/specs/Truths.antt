@@ -12,7 +12,7 @@ use Rattle.of_types.specs.declared.message.Spoken.{Spoken}
 use Rattle.of_types.specs.declared.message.Spoken.TheVariants as spoken
 use Rattle.of_types.specs.declared.numbers.TheConstants.{MASTER}
 use Rattle.of_types.specs.declared.setup.Setup.{Setup}
-use Rattle.of_types.specs.Valid.{IsValid}
+use Rattle.of_types.specs.Valid.{IsValid, IsValidRemoved}
 use Rattle.lists.specs.Lists.{IsIn}
 use Rattle.vr_log.specs.declared.entry.Entry.{Entry}
 use Rattle.vr_log.specs.declared.entry.Entry.TheVariants.{Received, Processed}
@@ -27,9 +27,11 @@ use Rattle.exactly_once.specs.Facts.{PastFacts, events_of, executed_of}
 abbrev pub IsGoodFrame : List ℕ → Type 0
 IsGoodFrame frame = (is_frame frame ≡ true) × AreBytes frame
 
+-- what happened comes with a good frame, or tells of a row that can be spelled
 abbrev pub IsGoodHappening : Happening → Type 0
 IsGoodHappening (happening.PacketIn p) = IsGoodFrame p.payload
 IsGoodHappening (happening.PortStatus p) = Unit {0}
+IsGoodHappening (happening.FlowRemoved r) = IsValidRemoved r
 
 -- an event of a life of a switch at this place of its events
 pub record IsMade (s life i : ℕ) (e : Event) : Type 0 where

@@ -80,7 +80,7 @@ pub fn first_hit(rules: &[Rule], what: &Happening) -> Option<usize>
 {
     match what {
         Happening::PacketIn(packet) => first_denying(&fields(packet.payload.as_slice()), rules),
-        Happening::PortStatus(_) => None,
+        Happening::PortStatus(_) | Happening::FlowRemoved(_) => None,
     }
 }
 

@@ -19,7 +19,7 @@ use Rattle.flow_index.specs.declared.place.Place.{Place}
 use Rattle.flow_index.specs.Places.{place_of, exact_destination, whole_address}
 use Rattle.flow_index.specs.Entries.{by_place, place_at, entries_of, exact_match, is_before, preferred}
 use Rattle.flow_index.specs.Index.{numbered, rows_below, AreIndexed}
-use Rattle.flow_index.proofs.Keys.{same_some, unlike}
+use Rattle.flow_table.proofs.Keys.{same_some, unlike}
 use Rattle.flow_index.proofs.Order.{in_range, range_destination, place_before}
 use Rattle.flow_index.proofs.Indexed.{Entry, IsIn, placed, numbered_in, in_numbered, find_in, find_none, find_least}
 

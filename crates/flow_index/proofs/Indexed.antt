@@ -18,7 +18,7 @@ use Rattle.flow_index.specs.declared.place.Place.{Place}
 use Rattle.flow_index.specs.Places.{place_of}
 use Rattle.flow_index.specs.Entries.{by_place}
 use Rattle.flow_index.specs.Index.{each_row, rows_that, numbered, IsPlaced, AreSeparate, AreIndexed}
-use Rattle.flow_index.proofs.Keys.{HaveOneKey, key_back, same_some, unlike}
+use Rattle.flow_table.proofs.Keys.{HaveOneKey, key_back, same_some, unlike}
 use Rattle.flow_index.proofs.Order.{equal_numbers, at_itself}
 
 abbrev pub Entry : Type 0

@@ -1,6 +1,5 @@
 pub mod Chosen
 pub mod Indexed
-pub mod Keys
 pub mod Listed
 pub mod Order
 pub mod Ordered

@@ -14,7 +14,7 @@ use Rattle.flow_index.specs.declared.place.Place.{Place}
 use Rattle.flow_index.specs.Places.{exact_destination}
 use Rattle.flow_index.specs.Entries.{by_place, place_at, entries_ranked}
 use Rattle.flow_index.specs.Index.{AreIndexed, each_row, rows_that}
-use Rattle.flow_index.proofs.Keys.{HaveOneKey, key_is, key_both}
+use Rattle.flow_table.proofs.Keys.{HaveOneKey, key_is, key_both}
 use Rattle.flow_index.proofs.Order.{in_range}
 use Rattle.flow_index.proofs.Indexed.{Entry, IsIn, KeepsKeys, placed, one_of_key, find_in, find_none, all_fixed, all_kept, at_place, set_is_each, remove_is_filter}
 

@@ -15,7 +15,7 @@ use Rattle.flow_index.specs.declared.place.Place.{Place}
 use Rattle.flow_index.specs.Places.{place_of}
 use Rattle.flow_index.specs.Entries.{by_place}
 use Rattle.flow_index.specs.Index.{each_row, rows_that, numbered, rows_below, AreSeparate, AreIndexed}
-use Rattle.flow_index.proofs.Keys.{HaveOneKey, key_is, key_both, key_back, unlike}
+use Rattle.flow_table.proofs.Keys.{HaveOneKey, key_is, key_both, key_back, unlike}
 use Rattle.flow_index.proofs.Listed.{listed_same, listed_map, listed_filter, listed_all, listed_any, listed_more, listed_replaced, none_any, replaced, with_new}
 use Rattle.flow_index.proofs.Indexed.{Entry, KeepsKeys, all_in, all_from, placed, one_of_key, numbered_absent, numbered_in, in_numbered, numbered_each, numbered_that, numbered_insert, indexed_insert, set_is_each}
 use Rattle.flow_index.proofs.Strict.{row_with_key, key_found, key_absent, others_differ, lookup_found}

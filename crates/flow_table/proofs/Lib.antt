@@ -1,3 +1,4 @@
+pub mod Keys
 pub mod Modified
 mod Tables
 mod Chosen

@@ -7,7 +7,8 @@ use crate::changes::has_key;
 use crate::rows::TableFault;
 use crate::table::MOST_ROWS;
 use of_types::{
-    ALL_PORTS, ALL_TABLES, FLOOD, FlowCommand, FlowMod, IN_PORT, NO_BUFFER, Row, TO_CONTROLLER,
+    ALL_PORTS, ALL_TABLES, FLOOD, FlowCommand, FlowMod, IN_PORT, NO_BUFFER, Row, SEND_REMOVED,
+    TO_CONTROLLER,
 };
 
 /// The first fault of a change that lacks room or not, at a switch with so many ports.
@@ -16,10 +17,8 @@ pub fn first_fault(lacks_room: bool, ports: u32, change: &FlowMod) -> Option<Tab
 {
     if !is_known_table(change) {
         Some(TableFault::BadTable)
-    } else if change.flags != 0 {
+    } else if change.flags > SEND_REMOVED {
         Some(TableFault::BadFlags)
-    } else if !(change.idle == 0 && change.hard == 0) {
-        Some(TableFault::BadTimeout)
     } else if is_delete(change.command) {
         None
     } else if change.buffer != NO_BUFFER {

@@ -15,10 +15,8 @@ pub enum TableFault {
     TableFull,
     /// There is no such table.
     BadTable,
-    /// A flag is set.
+    /// A flag is set that is none of those that are known.
     BadFlags,
-    /// A timeout is set.
-    BadTimeout,
     /// A buffered packet is named.
     BadBuffer,
     /// An output is none that a row may have.

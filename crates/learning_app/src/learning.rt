@@ -144,6 +144,7 @@ fn on_happening<H: Hosts>(
             Ok(())
         }
         Happening::PortStatus(status) => on_port_status(alloc, hosts, switch, status, out),
+        Happening::FlowRemoved(_) => Ok(()),
     }
 }
 

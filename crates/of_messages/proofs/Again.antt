@@ -10,6 +10,7 @@ use Rattle.of_match.proofs.Laws.{spelled_read}
 use Rattle.of_types.specs.declared.message.FlowCommand.{FlowCommand}
 use Rattle.of_types.specs.declared.message.FlowCommand.TheVariants.{Add, Modify, ModifyStrict, Delete, DeleteStrict}
 use Rattle.of_types.specs.declared.message.FlowMod.{FlowMod}
+use Rattle.of_types.specs.declared.message.FlowRemoved.{FlowRemoved}
 use Rattle.of_types.specs.declared.message.Match.{Match}
 use Rattle.of_types.specs.declared.message.OfMessage.{OfMessage}
 use Rattle.of_types.specs.declared.message.OfMessage.TheVariants as plain
@@ -17,8 +18,8 @@ use Rattle.of_types.specs.declared.message.PacketIn.{PacketIn}
 use Rattle.of_types.specs.declared.message.PacketOut.{PacketOut}
 use Rattle.of_types.specs.declared.message.PortStatus.{PortStatus}
 use Rattle.of_messages.specs.Canonical.{plain_type, command_number}
-use Rattle.of_messages.specs.Grammar.{IsOutput, SpellsActions, IsApply, SpellsInstructions, IsError, IsExperimenter, IsFeaturesReply, IsPacketIn, IsPortStatus, IsPacketOut, IsFlowModFront, IsFlowMod, IsRole, SpellsBody, Spells}
-use Rattle.of_messages.specs.Reading.{output_at, outputs_at, actions_at, instruction_length_at, instruction_at, second_at, instructions_at, error_at, experimenter_at, empty_at, features_at, port_and_frame_at, packet_in_at, port_status_at, packet_out_at, command_of, command_at, match_and_actions_at, flow_mod_of, flow_mod_behind, flow_mod_at, role_at, body_at, message_at, xid_of}
+use Rattle.of_messages.specs.Grammar.{IsOutput, SpellsActions, IsApply, SpellsInstructions, IsError, IsExperimenter, IsFeaturesReply, IsPacketIn, IsFlowRemovedFront, IsFlowRemoved, IsPortStatus, IsPacketOut, IsFlowModFront, IsFlowMod, IsRole, SpellsBody, Spells}
+use Rattle.of_messages.specs.Reading.{output_at, outputs_at, actions_at, instruction_length_at, instruction_at, second_at, instructions_at, error_at, experimenter_at, empty_at, features_at, port_and_frame_at, packet_in_at, only_match_at, flow_removed_of, flow_removed_at, port_status_at, packet_out_at, command_of, command_at, match_and_actions_at, flow_mod_of, flow_mod_behind, flow_mod_at, role_at, body_at, message_at, xid_of}
 use Rattle.of_messages.proofs.Ports.{turn, no_more}
 
 -- ---- actions and instructions
@@ -90,6 +91,23 @@ packet_in_again body p s =
     let behind = port_again (drop 16 body) s.text s.padding p.payload s.matching p.in_port s.rest_is s.spelled s.port_is s.padding_is in
     rw (le-ltb (length body) 16 s.there, behind, s.reason_is, s.cookie_is) refl
 
+only_match_again : (bytes : List ℕ) (m : Match) → IsSpelled bytes m → only_match_at bytes ≡ Ok m
+unfolding only_match_at
+only_match_again bytes m spelled =
+    let read : matches.match_at bytes ≡ Ok (m, length bytes) = spelled_read bytes bytes [] m (sym (append-nil bytes)) spelled in
+    rw (read, drop_all (length bytes) bytes (omega arith)) refl
+
+removed_front_again : (body : List ℕ) (r : FlowRemoved) → IsFlowRemovedFront body r → flow_removed_of body r.matching ≡ r
+unfolding flow_removed_of
+removed_front_again body r f =
+    rw (f.cookie_is, f.priority_is, f.reason_is, f.duration_is, f.idle_is, f.hard_is, f.packets_is, f.octets_is) refl
+
+flow_removed_again : (body : List ℕ) (r : FlowRemoved) → IsFlowRemoved body r → flow_removed_at body ≡ Ok r
+unfolding flow_removed_at
+flow_removed_again body r s =
+    let known : ltb 3 (number 1 10 body) ≡ false = le-ltb 3 (number 1 10 body) (omega (arith, s.front.reason_is, s.front.reason_known)) in
+    rw (le-ltb (length body) 40 s.front.there, known, only_match_again (drop 40 body) r.matching s.spelled) (ap (λ (x : FlowRemoved). Ok x) (removed_front_again body r s.front))
+
 port_status_again : (body : List ℕ) (p : PortStatus) → IsPortStatus body p → port_status_at body ≡ Ok p
 unfolding port_status_at
 port_status_again body p s = rw (s.whole, s.reason_is, s.port_is, s.up_is) refl
@@ -142,6 +160,7 @@ body_again (plain.Experimenter said) body s = experimenter_again body said s
 body_again plain.FeaturesRequest body s = empty_again plain.FeaturesRequest body s
 body_again (plain.FeaturesReply datapath) body s = features_again body datapath s
 body_again (plain.PacketIn p) body s = rw (packet_in_again body p s) refl
+body_again (plain.FlowRemoved r) body s = rw (flow_removed_again body r s) refl
 body_again (plain.PortStatus p) body s = rw (port_status_again body p s) refl
 body_again (plain.PacketOut p) body s = rw (packet_out_again body p s) refl
 body_again (plain.FlowMod c) body s = rw (flow_mod_again body c s) refl

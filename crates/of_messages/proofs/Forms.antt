@@ -6,11 +6,12 @@ use Rattle.of_match.proofs.Forms.{spelled_valid, spelled_long}
 use Rattle.of_types.specs.Sizes.{field_size, instruction_size, match_size, plain_size}
 use Rattle.of_types.specs.Valid.{IsValidPlain}
 use Rattle.of_types.specs.declared.message.FlowMod.{FlowMod}
+use Rattle.of_types.specs.declared.message.FlowRemoved.{FlowRemoved}
 use Rattle.of_types.specs.declared.message.OfMessage.{OfMessage}
 use Rattle.of_types.specs.declared.message.OfMessage.TheVariants as plain
 use Rattle.of_types.specs.declared.message.PacketIn.{PacketIn}
 use Rattle.of_types.specs.declared.message.PacketOut.{PacketOut}
-use Rattle.of_messages.specs.Grammar.{SpellsActions, SpellsInstructions, IsError, IsPacketIn, IsPacketOut, IsFlowMod, SpellsBody, Spells}
+use Rattle.of_messages.specs.Grammar.{SpellsActions, SpellsInstructions, IsError, IsPacketIn, IsFlowRemoved, IsPacketOut, IsFlowMod, SpellsBody, Spells}
 
 -- ---- valid
 
@@ -23,6 +24,7 @@ body_valid (plain.Experimenter said) body s = subst (λ (xs : List ℕ). 8 ≤ l
 body_valid plain.FeaturesRequest body s = tt
 body_valid (plain.FeaturesReply datapath) body s = tt
 body_valid (plain.PacketIn p) body s = tt
+body_valid (plain.FlowRemoved r) body s = (s.front.reason_known, spelled_valid (drop 40 body) r.matching s.spelled)
 body_valid (plain.PortStatus p) body s = tt
 body_valid (plain.PacketOut p) body s = tt
 body_valid (plain.FlowMod c) body s = spelled_valid s.text c.matching s.spelled
@@ -67,6 +69,11 @@ packet_in_long body p s =
     let port = ap (field_size 4) s.port_is in
     omega (arith, port, spelled_long s.text s.matching s.spelled, length-drop 16 body, ap length s.rest_is, length-append s.text (s.padding ++ p.payload), length-append s.padding p.payload)
 
+flow_removed_long : (body : List ℕ) (r : FlowRemoved) → IsFlowRemoved body r → 40 + match_size r.matching ≤ length body
+flow_removed_long body r s =
+    let there = s.front.there in
+    omega (arith, spelled_long (drop 40 body) r.matching s.spelled, length-drop 40 body)
+
 packet_out_long : (body : List ℕ) (p : PacketOut) → IsPacketOut body p → 16 + 16 * length p.actions + length p.payload ≤ length body
 packet_out_long body p s =
     let there = s.there in
@@ -86,6 +93,7 @@ body_long (plain.Experimenter said) body s = omega (arith, ap length s.said_is)
 body_long plain.FeaturesRequest body s = omega arith
 body_long (plain.FeaturesReply datapath) body s = omega (arith, s.whole)
 body_long (plain.PacketIn p) body s = omega (arith, packet_in_long body p s)
+body_long (plain.FlowRemoved r) body s = omega (arith, flow_removed_long body r s)
 body_long (plain.PortStatus p) body s = omega (arith, s.whole)
 body_long (plain.PacketOut p) body s = omega (arith, packet_out_long body p s)
 body_long (plain.FlowMod c) body s = omega (arith, flow_mod_long body c s)

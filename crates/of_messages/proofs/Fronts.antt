@@ -4,12 +4,13 @@ use Rattle.of_bytes.specs.Numbers.{one, two, four, zeros}
 use Rattle.of_match.specs.Writing.{exact, address48, address32, link_fields, network_fields, transport_fields, written_of, spelled, canonical_bare_match, canonical_match}
 use Rattle.of_match.proofs.Sizes.{has_size}
 use Rattle.of_types.specs.declared.message.FlowMod.{FlowMod}
+use Rattle.of_types.specs.declared.message.FlowRemoved.{FlowRemoved}
 use Rattle.of_types.specs.declared.message.OfMessage.TheVariants as plain
 use Rattle.of_types.specs.declared.message.PacketIn.{PacketIn}
 use Rattle.of_types.specs.declared.message.PacketOut.{PacketOut}
 use Rattle.of_types.specs.Sizes.{instruction_size}
-use Rattle.of_messages.specs.Canonical.{actions_of, applied, apply_front, instruction_of, packet_in_front, port_match, in_port_front, packet_in_body, packet_out_front, packet_out_body, flow_mod_cookies, flow_mod_times, flow_mod_filter, flow_mod_body, error_body, header, framed, canonical}
-use Rattle.of_messages.proofs.Written.{actions_size, packet_in_size, packet_out_size, flow_mod_size, error_size}
+use Rattle.of_messages.specs.Canonical.{actions_of, applied, apply_front, instruction_of, packet_in_front, port_match, in_port_front, packet_in_body, flow_removed_front, flow_removed_times, flow_removed_counts, flow_removed_body, packet_out_front, packet_out_body, flow_mod_cookies, flow_mod_times, flow_mod_filter, flow_mod_body, error_body, header, framed, canonical}
+use Rattle.of_messages.proofs.Written.{actions_size, packet_in_size, flow_removed_size, packet_out_size, flow_mod_size, error_size}
 
 -- ---- a header and a body
 
@@ -52,6 +53,17 @@ pub packet_in_put : (out : List ℕ) (xid : ℕ) (p : PacketIn)
 unfolding canonical
 packet_in_put out xid p =
     framed_of out 10 (42 + length p.payload) xid (packet_in_body p) (omega (arith, packet_in_size p)) ∙ rw packet_in_parts (simp append_assoc)
+
+flow_removed_parts : (r : FlowRemoved) → flow_removed_body r ≡ (flow_removed_front r ++ (flow_removed_times r ++ flow_removed_counts r)) ++ canonical_match r.matching
+unfolding flow_removed_body
+flow_removed_parts r = simp append_assoc
+
+pub flow_removed_put : (out : List ℕ) (xid : ℕ) (r : FlowRemoved)
+    → out ++ canonical xid (plain.FlowRemoved r)
+    ≡ (out ++ (header 11 (48 + length (canonical_match r.matching)) xid ++ (flow_removed_front r ++ (flow_removed_times r ++ flow_removed_counts r)))) ++ canonical_match r.matching
+unfolding canonical
+flow_removed_put out xid r =
+    framed_of out 11 (48 + length (canonical_match r.matching)) xid (flow_removed_body r) (omega (arith, flow_removed_size r, has_size r.matching)) ∙ rw flow_removed_parts (simp append_assoc)
 
 packet_out_parts : (p : PacketOut) → packet_out_body p ≡ (packet_out_front p (length (actions_of p.actions)) ++ actions_of p.actions) ++ p.payload
 unfolding packet_out_body packet_out_front

@@ -14,6 +14,7 @@ use Rattle.of_match.proofs.Whole.{match_takes}
 use Rattle.of_types.specs.declared.message.FlowCommand.{FlowCommand}
 use Rattle.of_types.specs.declared.message.FlowCommand.TheVariants.{Add, Modify, ModifyStrict, Delete, DeleteStrict}
 use Rattle.of_types.specs.declared.message.FlowMod.{FlowMod}
+use Rattle.of_types.specs.declared.message.FlowRemoved.{FlowRemoved}
 use Rattle.of_types.specs.declared.message.Match.{Match}
 use Rattle.of_types.specs.declared.message.OfMessage.{OfMessage}
 use Rattle.of_types.specs.declared.message.OfMessage.TheVariants as plain
@@ -23,8 +24,8 @@ use Rattle.of_types.specs.declared.message.PortStatus.{PortStatus}
 use Rattle.of_types.specs.declared.refusal.Refusal.{Refusal}
 use Rattle.of_types.specs.declared.refusal.TheConstants.{BAD_ACTION, BAD_ACTION_LENGTH, BAD_COMMAND, BAD_INSTRUCTION, BAD_LENGTH, BAD_VERSION}
 use Rattle.of_messages.specs.Canonical.{plain_type, command_number}
-use Rattle.of_messages.specs.Grammar.{IsOutput, SpellsActions, IsApply, SpellsInstructions, IsPacketIn, IsPortStatus, IsPacketOut, IsFlowModFront, IsFlowMod, IsRole, SpellsBody, Spells}
-use Rattle.of_messages.specs.Reading.{is_bad_action_length, output_at, outputs_at, actions_at, instruction_length_at, instruction_at, second_at, instructions_at, error_at, experimenter_at, empty_at, features_at, as_refusal, port_in, port_and_frame_at, packet_in_at, port_status_at, packet_out_at, command_of, command_at, match_and_actions_at, flow_mod_of, flow_mod_behind, flow_mod_at, role_at, beside, bodies_at, body_at, message_at, xid_of}
+use Rattle.of_messages.specs.Grammar.{IsOutput, SpellsActions, IsApply, SpellsInstructions, IsPacketIn, IsFlowRemovedFront, IsFlowRemoved, IsPortStatus, IsPacketOut, IsFlowModFront, IsFlowMod, IsRole, SpellsBody, Spells}
+use Rattle.of_messages.specs.Reading.{is_bad_action_length, output_at, outputs_at, actions_at, instruction_length_at, instruction_at, second_at, instructions_at, error_at, experimenter_at, empty_at, features_at, as_refusal, port_in, port_and_frame_at, packet_in_at, only_match_at, flow_removed_of, flow_removed_at, port_status_at, packet_out_at, command_of, command_at, match_and_actions_at, flow_mod_of, flow_mod_behind, flow_mod_at, role_at, beside, bodies_at, body_at, message_at, xid_of}
 
 -- ---- tests that did not refuse
 
@@ -263,6 +264,40 @@ packet_in_takes body p fits e =
     } in
     subst (λ (x : PacketIn). IsPacketIn body x) (ok_is Refusal (make b.0) p b.2) made
 
+only_match_takes : (bytes : List ℕ) (m : Match) → IsBytes bytes → only_match_at bytes ≡ Ok m → IsSpelled bytes m
+unfolding only_match_at
+only_match_takes bytes m fits e =
+    let a = bind_ok (as_refusal (matches.match_at bytes)) (λ found. cond (not (eqb (length (drop found.1 bytes)) 0)) (Err BAD_LENGTH) (Ok found.0)) m e in
+    let b = after_one (not (eqb (length (drop a.0.1 bytes)) 0)) BAD_LENGTH a.0.0 m a.2 in
+    let t = match_at_front bytes a.0.0 a.0.1 fits a.1 in
+    let none = nothing (drop a.0.1 bytes) (same (length (drop a.0.1 bytes)) 0 b.0) in
+    let whole : bytes ≡ t.text = t.parts ∙ ap (λ (x : List ℕ). t.text ++ x) none ∙ append-nil t.text in
+    subst (λ (x : Match). IsSpelled bytes x) b.1 (subst (λ (xs : List ℕ). IsSpelled xs a.0.0) (sym whole) t.spelled)
+
+flow_removed_takes : (body : List ℕ) (r : FlowRemoved) → IsBytes body → flow_removed_at body ≡ Ok r → IsFlowRemoved body r
+unfolding flow_removed_at flow_removed_of
+flow_removed_takes body r fits e =
+    let a = passed (ltb (length body) 40 || ltb 3 (number 1 10 body)) BAD_LENGTH (only_match_at (drop 40 body) >>= λ matching. Ok (flow_removed_of body matching)) r e in
+    let b = bind_ok (only_match_at (drop 40 body)) (λ matching. Ok (flow_removed_of body matching)) r a.1 in
+    let long = or_false (ltb (length body) 40) (ltb 3 (number 1 10 body)) a.0 in
+    let front : IsFlowRemovedFront body (flow_removed_of body b.0) = record {
+      there = ltb-false (length body) 40 long.0;
+      cookie_is = refl;
+      priority_is = refl;
+      reason_is = refl;
+      reason_known = ltb-false 3 (number 1 10 body) long.1;
+      duration_is = refl;
+      idle_is = refl;
+      hard_is = refl;
+      packets_is = refl;
+      octets_is = refl;
+    } in
+    let made : IsFlowRemoved body (flow_removed_of body b.0) = record {
+      front = front;
+      spelled = only_match_takes (drop 40 body) b.0 (IsBytes-drop 40 body fits) b.1;
+    } in
+    subst (λ (x : FlowRemoved). IsFlowRemoved body x) (ok_is Refusal (flow_removed_of body b.0) r b.2) made
+
 port_status_takes : (body : List ℕ) (p : PortStatus) → port_status_at body ≡ Ok p → IsPortStatus body p
 unfolding port_status_at
 port_status_takes body p e =
@@ -427,25 +462,29 @@ rows_take body m fits = (
                 λ e. let a = bind_ok (packet_in_at body) (λ p. Ok (plain.PacketIn p)) m e in
                     subst (λ (x : OfMessage). IsBody 10 body x) (ok_is Refusal (plain.PacketIn a.0) m a.2) (refl, packet_in_takes body a.0 fits a.1),
                 (
-                  λ e. let a = bind_ok (port_status_at body) (λ p. Ok (plain.PortStatus p)) m e in
-                      subst (λ (x : OfMessage). IsBody 12 body x) (ok_is Refusal (plain.PortStatus a.0) m a.2) (refl, port_status_takes body a.0 a.1),
+                  λ e. let a = bind_ok (flow_removed_at body) (λ r. Ok (plain.FlowRemoved r)) m e in
+                      subst (λ (x : OfMessage). IsBody 11 body x) (ok_is Refusal (plain.FlowRemoved a.0) m a.2) (refl, flow_removed_takes body a.0 fits a.1),
                   (
-                    λ e. let a = bind_ok (packet_out_at body) (λ p. Ok (plain.PacketOut p)) m e in
-                        subst (λ (x : OfMessage). IsBody 13 body x) (ok_is Refusal (plain.PacketOut a.0) m a.2) (refl, packet_out_takes body a.0 a.1),
+                    λ e. let a = bind_ok (port_status_at body) (λ p. Ok (plain.PortStatus p)) m e in
+                        subst (λ (x : OfMessage). IsBody 12 body x) (ok_is Refusal (plain.PortStatus a.0) m a.2) (refl, port_status_takes body a.0 a.1),
                     (
-                      λ e. let a = bind_ok (flow_mod_at body) (λ c. Ok (plain.FlowMod c)) m e in
-                          subst (λ (x : OfMessage). IsBody 14 body x) (ok_is Refusal (plain.FlowMod a.0) m a.2) (refl, flow_mod_takes body a.0 fits a.1),
+                      λ e. let a = bind_ok (packet_out_at body) (λ p. Ok (plain.PacketOut p)) m e in
+                          subst (λ (x : OfMessage). IsBody 13 body x) (ok_is Refusal (plain.PacketOut a.0) m a.2) (refl, packet_out_takes body a.0 a.1),
                       (
-                        λ e. let p = empty_takes body plain.BarrierRequest m e in subst (λ (x : OfMessage). IsBody 20 body x) p.1 (refl, p.0),
+                        λ e. let a = bind_ok (flow_mod_at body) (λ c. Ok (plain.FlowMod c)) m e in
+                            subst (λ (x : OfMessage). IsBody 14 body x) (ok_is Refusal (plain.FlowMod a.0) m a.2) (refl, flow_mod_takes body a.0 fits a.1),
                         (
-                          λ e. let p = empty_takes body plain.BarrierReply m e in subst (λ (x : OfMessage). IsBody 21 body x) p.1 (refl, p.0),
+                          λ e. let p = empty_takes body plain.BarrierRequest m e in subst (λ (x : OfMessage). IsBody 20 body x) p.1 (refl, p.0),
                           (
-                            λ e. let a = bind_ok (role_at body) (λ r. Ok (plain.RoleRequest r.0 r.1)) m e in
-                                subst (λ (x : OfMessage). IsBody 24 body x) (ok_is Refusal (plain.RoleRequest a.0.0 a.0.1) m a.2) (refl, role_takes body a.0 a.1),
+                            λ e. let p = empty_takes body plain.BarrierReply m e in subst (λ (x : OfMessage). IsBody 21 body x) p.1 (refl, p.0),
                             (
-                              λ e. let a = bind_ok (role_at body) (λ r. Ok (plain.RoleReply r.0 r.1)) m e in
-                                  subst (λ (x : OfMessage). IsBody 25 body x) (ok_is Refusal (plain.RoleReply a.0.0 a.0.1) m a.2) (refl, role_takes body a.0 a.1),
-                              tt,
+                              λ e. let a = bind_ok (role_at body) (λ r. Ok (plain.RoleRequest r.0 r.1)) m e in
+                                  subst (λ (x : OfMessage). IsBody 24 body x) (ok_is Refusal (plain.RoleRequest a.0.0 a.0.1) m a.2) (refl, role_takes body a.0 a.1),
+                              (
+                                λ e. let a = bind_ok (role_at body) (λ r. Ok (plain.RoleReply r.0 r.1)) m e in
+                                    subst (λ (x : OfMessage). IsBody 25 body x) (ok_is Refusal (plain.RoleReply a.0.0 a.0.1) m a.2) (refl, role_takes body a.0 a.1),
+                                tt,
+                              ),
                             ),
                           ),
                         ),

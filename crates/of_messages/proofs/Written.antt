@@ -10,18 +10,19 @@ use Rattle.of_match.proofs.Sizes.{has_size}
 use Rattle.of_types.specs.declared.message.FlowCommand.{FlowCommand}
 use Rattle.of_types.specs.declared.message.FlowCommand.TheVariants.{Add, Modify, ModifyStrict, Delete, DeleteStrict}
 use Rattle.of_types.specs.declared.message.FlowMod.{FlowMod}
+use Rattle.of_types.specs.declared.message.FlowRemoved.{FlowRemoved}
 use Rattle.of_types.specs.declared.message.OfMessage.{OfMessage}
 use Rattle.of_types.specs.declared.message.OfMessage.TheVariants as plain
 use Rattle.of_types.specs.declared.message.PacketIn.{PacketIn}
 use Rattle.of_types.specs.declared.message.PacketOut.{PacketOut}
 use Rattle.of_types.specs.declared.message.PortStatus.{PortStatus}
 use Rattle.of_types.specs.Sizes.{instruction_size, match_size, plain_size}
-use Rattle.of_types.specs.Valid.{IsValidMatch, IsValidPlain}
-use Rattle.of_messages.specs.Canonical.{action, actions_of, applied, instruction_of, packet_in_front, port_match, packet_in_body, port_state, port_status_body, packet_out_body, command_number, flow_mod_cookies, flow_mod_times, flow_mod_filter, flow_mod_body, role_body, error_body, features_body, plain_body, plain_type, framed, canonical}
-use Rattle.of_messages.specs.Fits.{FitPorts, FitsPacketIn, FitsPortStatus, FitsPacketOut, FitsFlowMod, FitsPlain}
+use Rattle.of_types.specs.Valid.{IsValidMatch, IsValidRemoved, IsValidPlain}
+use Rattle.of_messages.specs.Canonical.{action, actions_of, applied, instruction_of, packet_in_front, port_match, packet_in_body, flow_removed_front, flow_removed_times, flow_removed_counts, flow_removed_body, port_state, port_status_body, packet_out_body, command_number, flow_mod_cookies, flow_mod_times, flow_mod_filter, flow_mod_body, role_body, error_body, features_body, plain_body, plain_type, framed, canonical}
+use Rattle.of_messages.specs.Fits.{FitPorts, FitsPacketIn, FitsFlowRemoved, FitsPortStatus, FitsPacketOut, FitsFlowMod, FitsPlain}
 use Rattle.of_messages.specs.Reading.{xid_of}
 use Rattle.of_messages.proofs.Again.{xid_there}
-use Rattle.of_messages.specs.Grammar.{IsOutput, SpellsActions, IsApply, SpellsInstructions, IsError, IsFeaturesReply, IsPacketIn, IsPortStatus, IsPacketOut, IsFlowModFront, IsFlowMod, IsRole, SpellsBody, Spells}
+use Rattle.of_messages.specs.Grammar.{IsOutput, SpellsActions, IsApply, SpellsInstructions, IsError, IsFeaturesReply, IsPacketIn, IsFlowRemovedFront, IsFlowRemoved, IsPortStatus, IsPacketOut, IsFlowModFront, IsFlowMod, IsRole, SpellsBody, Spells}
 
 -- ---- actions and instructions
 
@@ -122,6 +123,31 @@ packet_in_spelled p f = record {
   rest_is = refl;
 }
 
+flow_removed_front_spelled : (r : FlowRemoved) → r.reason ≤ 3 → FitsFlowRemoved r → IsFlowRemovedFront (flow_removed_body r) r
+unfolding flow_removed_body flow_removed_front flow_removed_times flow_removed_counts one two four eight zeros
+flow_removed_front_spelled r known f = record {
+  there = omega arith;
+  cookie_is = number_bytes 8 r.cookie [] f.cookie;
+  priority_is = number_bytes 2 r.priority [] f.priority;
+  reason_is = number_bytes 1 r.reason [] f.reason;
+  reason_known = known;
+  duration_is = number_bytes 4 r.duration [] f.duration;
+  idle_is = number_bytes 2 r.idle [] f.idle;
+  hard_is = number_bytes 2 r.hard [] f.hard;
+  packets_is = number_bytes 8 r.packets [] f.packets;
+  octets_is = number_bytes 8 r.octets [] f.octets;
+}
+
+flow_removed_rest : (r : FlowRemoved) → drop 40 (flow_removed_body r) ≡ canonical_match r.matching
+unfolding flow_removed_body flow_removed_front flow_removed_times flow_removed_counts one two four eight zeros
+flow_removed_rest r = refl
+
+flow_removed_spelled : (r : FlowRemoved) → IsValidRemoved r → FitsFlowRemoved r → IsFlowRemoved (flow_removed_body r) r
+flow_removed_spelled r v f = record {
+  front = flow_removed_front_spelled r v.0 f;
+  spelled = rw (flow_removed_rest r) (is_form r.matching v.1 f.matching);
+}
+
 state_up : (up : Bool) → eqb (port_state up % 2) 0 ≡ up
 unfolding port_state
 state_up true = refl
@@ -204,6 +230,10 @@ packet_in_size p =
     let m = canonical_match (port_match p.in_port) in
     omega (arith, length-append m (0 ∷ 0 ∷ p.payload), has_size (port_match p.in_port))
 
+pub flow_removed_size : (r : FlowRemoved) → length (flow_removed_body r) ≡ 40 + match_size r.matching
+unfolding flow_removed_body flow_removed_front flow_removed_times flow_removed_counts one two four eight zeros
+flow_removed_size r = omega (arith, has_size r.matching)
+
 port_status_size : (p : PortStatus) → length (port_status_body p) ≡ 72
 unfolding port_status_body one four zeros
 port_status_size p = refl
@@ -237,6 +267,7 @@ body_size (plain.Experimenter body) = refl
 body_size plain.FeaturesRequest = refl
 body_size (plain.FeaturesReply datapath) = omega (arith, features_size datapath)
 body_size (plain.PacketIn p) = omega (arith, packet_in_size p)
+body_size (plain.FlowRemoved r) = omega (arith, flow_removed_size r)
 body_size (plain.PortStatus p) = omega (arith, port_status_size p)
 body_size (plain.PacketOut p) = omega (arith, packet_out_size p)
 body_size (plain.FlowMod c) = omega (arith, flow_mod_size c)
@@ -264,6 +295,7 @@ body_spelled (plain.Experimenter body) v f short = record { there = v; said_is =
 body_spelled plain.FeaturesRequest v f short = refl
 body_spelled (plain.FeaturesReply datapath) v f short = features_spelled datapath f
 body_spelled (plain.PacketIn p) v f short = packet_in_spelled p f
+body_spelled (plain.FlowRemoved r) v f short = flow_removed_spelled r v f
 body_spelled (plain.PortStatus p) v f short = port_status_spelled p f
 body_spelled (plain.PacketOut p) v f short = packet_out_spelled p f (omega (arith, actions_size p.actions))
 body_spelled (plain.FlowMod c) v f short = flow_mod_spelled c v f (omega arith)
@@ -281,6 +313,7 @@ type_fits (plain.Experimenter body) = lit< tt
 type_fits plain.FeaturesRequest = lit< tt
 type_fits (plain.FeaturesReply datapath) = lit< tt
 type_fits (plain.PacketIn p) = lit< tt
+type_fits (plain.FlowRemoved r) = lit< tt
 type_fits (plain.PortStatus p) = lit< tt
 type_fits (plain.PacketOut p) = lit< tt
 type_fits (plain.FlowMod c) = lit< tt

@@ -1,15 +1,15 @@
 //! Reading what stands behind the header of a message.
 ghost use Rattle.std.specs.Prelude.{◌≡◌, ◌≤◌, length};
 ghost use Rattle.of_messages.specs.Answers.{GivesBody};
-ghost use Rattle.of_messages.specs.Reading.{error_at, experimenter_at, empty_at, features_at, port_in, port_and_frame_at, packet_in_at, port_status_at, packet_out_at, command_of, command_at, match_and_actions_at, flow_mod_of, flow_mod_behind, flow_mod_at};
+ghost use Rattle.of_messages.specs.Reading.{error_at, experimenter_at, empty_at, features_at, port_in, port_and_frame_at, packet_in_at, only_match_at, flow_removed_of, flow_removed_at, port_status_at, packet_out_at, command_of, command_at, match_and_actions_at, flow_mod_of, flow_mod_behind, flow_mod_at};
 
 use crate::actions::{read_actions, read_instructions};
 use crate::fault::BodyFault;
 use of_bytes::{u8_at, u16_at, u32_at, u64_at};
 use of_match::read_match;
 use of_types::{
-    Actions, BAD_COMMAND, BAD_FIELD, BAD_LENGTH, FlowCommand, FlowMod, Match, Octets, OfMessage,
-    PacketIn, PacketOut, PortStatus, Refusal, flow_command,
+    Actions, BAD_COMMAND, BAD_FIELD, BAD_LENGTH, FlowCommand, FlowMod, FlowRemoved, Match, Octets,
+    OfMessage, PacketIn, PacketOut, PortStatus, Refusal, flow_command,
 };
 use std::alloc::Global;
 
@@ -99,6 +99,52 @@ pub fn read_packet_in(alloc: Global, body: &[u8]) -> Result<PacketIn, BodyFault>
         in_port,
         payload: Octets::from_slice(alloc, frame)?,
     })
+}
+
+/// A match, and nothing behind it.
+#[tactic(auto, unfolding(crate::specs::Reading::only_match_at))]
+fn only_match(bytes: &[u8]) -> Result<Match, BodyFault>
+    ensures { GivesBody (λ m. m) result (only_match_at bytes.now) }
+{
+    let (matching, taken) = read_match(bytes)?;
+    if !bytes[taken..].is_empty() {
+        return Err(BodyFault::Wire(BAD_LENGTH));
+    }
+    Ok(matching)
+}
+
+/// The numbers of a FLOW_REMOVED, beside this match.
+#[tactic(auto, unfolding(crate::specs::Reading::flow_removed_of))]
+fn flow_removed_of(body: &[u8], matching: Match) -> FlowRemoved
+    requires { 40 ≤ length body.now }
+    ensures { result ≡ flow_removed_of body.now matching }
+{
+    FlowRemoved {
+        cookie: u64_at(body, 0),
+        priority: u16_at(body, 8),
+        reason: u8_at(body, 10),
+        duration: u32_at(body, 12),
+        idle: u16_at(body, 20),
+        hard: u16_at(body, 22),
+        packets: u64_at(body, 24),
+        octets: u64_at(body, 32),
+        matching,
+    }
+}
+
+/// The last of the reasons for which a row leaves (OpenFlow 1.3, 7.4.2).
+const GROUP_DELETE: u8 = 3;
+
+#[tactic(auto, unfolding(crate::specs::Reading::flow_removed_at))]
+pub fn read_flow_removed(body: &[u8]) -> Result<FlowRemoved, BodyFault>
+    ensures { GivesBody (λ r. r) result (flow_removed_at body.now) }
+{
+    if body.len() < 40 || u8_at(body, 10) > GROUP_DELETE {
+        return Err(BodyFault::Wire(BAD_LENGTH));
+    }
+    let (_, behind) = body.split_at(40);
+    let matching = only_match(behind)?;
+    Ok(flow_removed_of(body, matching))
 }
 
 #[tactic(auto, unfolding(crate::specs::Reading::port_status_at))]

@@ -1,10 +1,10 @@
 //! What the types of messages say of their numbers.
 ghost use Rattle.std.specs.Prelude.{◌<◌, ◌^◌, length};
 ghost use Rattle.of_match.specs.Spelling.{Fits};
-ghost use Rattle.of_messages.specs.Fits.{FitPorts, FitsPacketIn, FitsPortStatus, FitsPacketOut, FitsFlowMod, FitsPlain};
+ghost use Rattle.of_messages.specs.Fits.{FitPorts, FitsPacketIn, FitsFlowRemoved, FitsPortStatus, FitsPacketOut, FitsFlowMod, FitsPlain};
 
 use of_bytes::{u8_fits, u16_fits, u32_fits, u64_fits};
-use of_types::{FlowMod, Match, OfMessage, PacketIn, PacketOut, PortStatus};
+use of_types::{FlowMod, FlowRemoved, Match, OfMessage, PacketIn, PacketOut, PortStatus};
 
 fn match_fits(matching: Match)
     ensures { Fits matching }
@@ -23,6 +23,21 @@ pub fn packet_in_fits(packet: &PacketIn)
     u8_fits(packet.reason);
     u64_fits(packet.cookie);
     u32_fits(packet.in_port);
+}
+
+/// A FLOW_REMOVED: each number fits its field.
+pub fn flow_removed_fits(removed: &FlowRemoved)
+    ensures { FitsFlowRemoved removed.now }
+{
+    u64_fits(removed.cookie);
+    u16_fits(removed.priority);
+    u8_fits(removed.reason);
+    u32_fits(removed.duration);
+    u16_fits(removed.idle);
+    u16_fits(removed.hard);
+    u64_fits(removed.packets);
+    u64_fits(removed.octets);
+    match_fits(removed.matching);
 }
 
 /// A PORT_STATUS: each number fits its field.
@@ -68,6 +83,7 @@ pub fn message_fits(message: &OfMessage)
         }
         OfMessage::FeaturesReply { datapath } => u64_fits(*datapath),
         OfMessage::PacketIn(packet) => packet_in_fits(packet),
+        OfMessage::FlowRemoved(removed) => flow_removed_fits(removed),
         OfMessage::PortStatus(status) => port_status_fits(*status),
         OfMessage::PacketOut(packet) => packet_out_fits(packet),
         OfMessage::FlowMod(change) => flow_mod_fits(change),

@@ -5,15 +5,16 @@ ghost use Rattle.of_types.specs.declared.message.OfMessage.TheVariants as plain;
 ghost use Rattle.of_types.specs.Sizes.{plain_size, instruction_size};
 ghost use Rattle.of_messages.specs.Grammar.{Spells};
 ghost use Rattle.of_bytes.specs.Numbers.{two};
-ghost use Rattle.of_messages.specs.Canonical.{max_len, action, actions_of, apply_front, instruction_of, packet_in_front, in_port_front, port_state, port_status_body, packet_out_front, command_number, flow_mod_cookies, flow_mod_times, flow_mod_filter, role_body, error_body, features_body, plain_type, header, framed, canonical};
+ghost use Rattle.of_messages.specs.Canonical.{max_len, action, actions_of, apply_front, instruction_of, packet_in_front, in_port_front, flow_removed_front, flow_removed_times, flow_removed_counts, port_state, port_status_body, packet_out_front, command_number, flow_mod_cookies, flow_mod_times, flow_mod_filter, role_body, error_body, features_body, plain_type, header, framed, canonical};
 
 use crate::fitting::message_fits;
 use of_bytes::{Front, eight, four, long_length, one, two, u32_fits, zeros};
 use of_match::match_front;
 use of_types::{
-    APPLY_ACTIONS, FlowCommand, FlowMod, LINK_DOWN, MATCH_OF_FIELDS, NO_BUFFER, OPENFLOW_BASIC,
-    OUTPUT, OUTPUT_LENGTH, Octets, OfMessage, PacketIn, PacketOut, PortStatus, TO_CONTROLLER,
-    VERSION, WHOLE_FRAME, field_number, flow_command, message_type, size_of_plain,
+    APPLY_ACTIONS, FlowCommand, FlowMod, FlowRemoved, LINK_DOWN, MATCH_OF_FIELDS, NO_BUFFER,
+    OPENFLOW_BASIC, OUTPUT, OUTPUT_LENGTH, Octets, OfMessage, PacketIn, PacketOut, PortStatus,
+    TO_CONTROLLER, VERSION, WHOLE_FRAME, field_number, flow_command, message_type, size_of_match,
+    size_of_plain,
 };
 use std::alloc::{AllocError, Global};
 
@@ -214,6 +215,67 @@ pub fn put_packet_in(out: &mut Octets, xid: u32, packet: &PacketIn) -> Result<()
 {
     out.append(packet_in_front(xid, packet).as_slice())?;
     out.append(packet.payload.as_slice())?;
+    Ok(())
+}
+
+/// The bytes of a FLOW_REMOVED that stand before its match.
+const FLOW_REMOVED: usize = 48;
+
+#[tactic(auto, unfolding(crate::specs::Canonical::flow_removed_front))]
+fn put_flow_removed_front(front: &mut Front<FLOW_REMOVED>, removed: &FlowRemoved)
+    requires { length front.old + 12 ≤ FLOW_REMOVED }
+    ensures bytes { front.new ≡ front.old ++ flow_removed_front removed.now }
+    ensures len { length front.new ≡ length front.old + 12 }
+{
+    front.put(eight(removed.cookie));
+    front.put(two(removed.priority));
+    front.put(one(removed.reason));
+    front.put(one(0));
+}
+
+#[tactic(auto, unfolding(crate::specs::Canonical::flow_removed_times))]
+fn put_flow_removed_times(front: &mut Front<FLOW_REMOVED>, removed: &FlowRemoved)
+    requires { length front.old + 12 ≤ FLOW_REMOVED }
+    ensures bytes { front.new ≡ front.old ++ flow_removed_times removed.now }
+    ensures len { length front.new ≡ length front.old + 12 }
+{
+    front.put(four(removed.duration));
+    front.put(zeros::<4>());
+    front.put(two(removed.idle));
+    front.put(two(removed.hard));
+}
+
+#[tactic(auto, unfolding(crate::specs::Canonical::flow_removed_counts))]
+fn put_flow_removed_counts(front: &mut Front<FLOW_REMOVED>, removed: &FlowRemoved)
+    requires { length front.old + 16 ≤ FLOW_REMOVED }
+    ensures { front.new ≡ front.old ++ flow_removed_counts removed.now }
+{
+    front.put(eight(removed.packets));
+    front.put(eight(removed.octets));
+}
+
+/// What stands before the match of a FLOW_REMOVED of so many bytes.
+fn flow_removed_front(xid: u32, len: usize, removed: &FlowRemoved) -> Front<FLOW_REMOVED>
+    ensures { result ≡ header 11 len xid ++ (flow_removed_front removed.now ++ (flow_removed_times removed.now ++ flow_removed_counts removed.now)) }
+{
+    let mut front = Front::new();
+    put_header(&mut front, message_type::FLOW_REMOVED, len, xid);
+    put_flow_removed_front(&mut front, removed);
+    put_flow_removed_times(&mut front, removed);
+    put_flow_removed_counts(&mut front, removed);
+    front
+}
+
+/// Adds a FLOW_REMOVED.
+#[tactic(auto, using(crate::proofs::Fronts::flow_removed_put))]
+pub fn put_flow_removed(out: &mut Octets, xid: u32, removed: &FlowRemoved) -> Result<(), AllocError>
+    ensures { OnOk result (out.new ≡ out.old ++ canonical xid (plain.FlowRemoved removed.now)) }
+{
+    let matching = match_front(&removed.matching);
+    let matching = matching.as_slice();
+    let len = FLOW_REMOVED + matching.len();
+    out.append(flow_removed_front(xid, len, removed).as_slice())?;
+    out.append(matching)?;
     Ok(())
 }
 
@@ -433,6 +495,7 @@ fn plain_type(message: &OfMessage) -> u8
         OfMessage::FeaturesRequest => message_type::FEATURES_REQUEST,
         OfMessage::FeaturesReply { .. } => message_type::FEATURES_REPLY,
         OfMessage::PacketIn(_) => message_type::PACKET_IN,
+        OfMessage::FlowRemoved(_) => message_type::FLOW_REMOVED,
         OfMessage::PortStatus(_) => message_type::PORT_STATUS,
         OfMessage::PacketOut(_) => message_type::PACKET_OUT,
         OfMessage::FlowMod(_) => message_type::FLOW_MOD,
@@ -469,6 +532,7 @@ fn put_message(out: &mut Octets, xid: u32, message: &OfMessage) -> Result<(), Al
             head,
         } => put_error(out, xid, *error, *code, head.as_slice()),
         OfMessage::PacketIn(packet) => put_packet_in(out, xid, packet),
+        OfMessage::FlowRemoved(removed) => put_flow_removed(out, xid, removed),
         OfMessage::PortStatus(status) => put_port_status(out, xid, status),
         OfMessage::PacketOut(packet) => put_packet_out(out, xid, packet),
         OfMessage::FlowMod(change) => put_flow_mod(out, xid, change),
@@ -504,6 +568,19 @@ pub fn encode_packet_in(alloc: Global, xid: u32, packet: &PacketIn) -> Result<Oc
     let len = PACKET_IN + packet.payload.as_slice().len();
     let mut out = with_room(alloc, len)?;
     put_packet_in(&mut out, xid, packet)?;
+    Ok(out)
+}
+
+/// A FLOW_REMOVED, as `encode` writes it.
+pub fn encode_flow_removed(
+    alloc: Global,
+    xid: u32,
+    removed: &FlowRemoved,
+) -> Result<Octets, AllocError>
+    ensures { IfOk result (λ bytes. bytes ≡ canonical xid (plain.FlowRemoved removed.now)) }
+{
+    let mut out = with_room(alloc, FLOW_REMOVED + size_of_match(&removed.matching))?;
+    put_flow_removed(&mut out, xid, removed)?;
     Ok(out)
 }
 

@@ -1,6 +1,6 @@
 -- What is spelled is read.
 use Rattle.std.proofs.Common.{◌≡◌, ℕ, true, eqb, List, length, drop, Ok, refl, arith, eq-eqb}
-use Rattle.std.specs.Prelude.{◌||◌}
+use Rattle.std.specs.List.{list_any}
 use Rattle.std.proofs.lemmas.Bool.{le-ltb}
 use Rattle.of_types.specs.declared.refusal.Refusal.{Refusal}
 use Rattle.of_messages.specs.Canonical.{plain_type}
@@ -18,24 +18,25 @@ use Rattle.of_types.specs.declared.message.Outcome.{Outcome}
 use Rattle.of_types.specs.declared.message.Outcome.TheVariants as outcome
 use Rattle.of_ravana.specs.Canonical.{happening_message, order_message}
 use Rattle.of_ravana.specs.Grammar.{SpellsInner, IsFront, IsEvent, IsThrough, IsCommand, SpellsOutcome, IsCmdAck, SpellsExtension}
-use Rattle.of_ravana.specs.Reading.{inner_at, happening_at, order_at, event_at, through_at, command_at, outcome_at, cmd_ack_at, body_at, extension_at}
+use Rattle.of_ravana.specs.Reading.{inner_at, told_types, held_types, happening_at, order_at, event_at, through_at, command_at, outcome_at, cmd_ack_at, body_at, extension_at}
 
-inner_again : (one other : ℕ) (wrong : Refusal) (bytes : List ℕ) (m : OfMessage) → SpellsInner bytes m → (eqb (plain_type m) one || eqb (plain_type m) other) ≡ true
-    → inner_at one other wrong bytes ≡ Ok m
+inner_again : (types : List ℕ) (wrong : Refusal) (bytes : List ℕ) (m : OfMessage) → SpellsInner bytes m → list_any (λ kind. eqb kind (plain_type m)) types ≡ true
+    → inner_at types wrong bytes ≡ Ok m
 unfolding inner_at
-inner_again one other wrong bytes m s right =
+inner_again types wrong bytes m s right =
     let there = s.1.there in
     rw (le-ltb (length bytes) 4 (omega arith), s.1.length_is, eq-eqb (length bytes) (length bytes) refl, s.1.kind_is, right) (message_again bytes s.0 m s.1)
 
 happening_again : (bytes : List ℕ) (what : Happening) → SpellsInner bytes (happening_message what) → happening_at bytes ≡ Ok what
 unfolding happening_at
-happening_again bytes (happening.PacketIn p) s = rw (inner_again 10 12 BAD_TYPE bytes (plain.PacketIn p) s refl) refl
-happening_again bytes (happening.PortStatus p) s = rw (inner_again 10 12 BAD_TYPE bytes (plain.PortStatus p) s refl) refl
+happening_again bytes (happening.PacketIn p) s = rw (inner_again told_types BAD_TYPE bytes (plain.PacketIn p) s refl) refl
+happening_again bytes (happening.FlowRemoved r) s = rw (inner_again told_types BAD_TYPE bytes (plain.FlowRemoved r) s refl) refl
+happening_again bytes (happening.PortStatus p) s = rw (inner_again told_types BAD_TYPE bytes (plain.PortStatus p) s refl) refl
 
 order_again : (bytes : List ℕ) (what : Order) → SpellsInner bytes (order_message what) → order_at bytes ≡ Ok what
 unfolding order_at
-order_again bytes (order.FlowMod c) s = rw (inner_again 13 14 NOT_PERMITTED bytes (plain.FlowMod c) s refl) refl
-order_again bytes (order.PacketOut p) s = rw (inner_again 13 14 NOT_PERMITTED bytes (plain.PacketOut p) s refl) refl
+order_again bytes (order.FlowMod c) s = rw (inner_again held_types NOT_PERMITTED bytes (plain.FlowMod c) s refl) refl
+order_again bytes (order.PacketOut p) s = rw (inner_again held_types NOT_PERMITTED bytes (plain.PacketOut p) s refl) refl
 
 event_again : (body : List ℕ) (life event : ℕ) (what : Happening) → IsEvent body life event what → event_at body ≡ Ok (extension.Event life event what)
 unfolding event_at

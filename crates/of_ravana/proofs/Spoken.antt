@@ -20,6 +20,7 @@ plain_spells bytes xid (plain.Experimenter body) s = absurd s
 plain_spells bytes xid plain.FeaturesRequest s = s
 plain_spells bytes xid (plain.FeaturesReply datapath) s = s
 plain_spells bytes xid (plain.PacketIn p) s = s
+plain_spells bytes xid (plain.FlowRemoved r) s = s
 plain_spells bytes xid (plain.PortStatus p) s = s
 plain_spells bytes xid (plain.PacketOut p) s = s
 plain_spells bytes xid (plain.FlowMod c) s = s

@@ -1,6 +1,7 @@
 -- What is read was spelled.
 use Rattle.std.proofs.Common.{◌≡◌, ℕ, ◌≤◌, Bool, true, false, cond, not, eqb, ltb, List, [], ◌∷◌, length, drop, Result, Ok, Err, refl, sym, ap, subst, arith}
 use Rattle.std.specs.Prelude.{◌||◌}
+use Rattle.std.specs.List.{list_any}
 use Rattle.std.proofs.lemmas.Bool.{ltb-false, eqb-true}
 use Rattle.of_bytes.specs.Numbers.{number}
 use Rattle.of_bytes.specs.Reading.{◌>>=◌}
@@ -23,12 +24,12 @@ use Rattle.of_types.specs.declared.message.Outcome.TheVariants as outcome
 use Rattle.of_ravana.specs.Canonical.{happening_message, order_message}
 use Rattle.of_types.specs.declared.numbers.TheConstants.{RAVANA}
 use Rattle.of_ravana.specs.Grammar.{SpellsInner, IsFront, IsEvent, IsThrough, IsCommand, SpellsOutcome, IsCmdAck, SpellsExtension}
-use Rattle.of_ravana.specs.Reading.{inner_at, as_happening, as_order, happening_at, order_at, event_at, through_at, command_at, outcome_at, cmd_ack_at, beside, bodies_at, body_at, extension_at}
+use Rattle.of_ravana.specs.Reading.{inner_at, told_types, held_types, as_happening, as_order, happening_at, order_at, event_at, through_at, command_at, outcome_at, cmd_ack_at, beside, bodies_at, body_at, extension_at}
 
-inner_takes : (one other : ℕ) (wrong : Refusal) (bytes : List ℕ) (m : OfMessage) → IsBytes bytes → inner_at one other wrong bytes ≡ Ok m → SpellsInner bytes m
+inner_takes : (types : List ℕ) (wrong : Refusal) (bytes : List ℕ) (m : OfMessage) → IsBytes bytes → inner_at types wrong bytes ≡ Ok m → SpellsInner bytes m
 unfolding inner_at
-inner_takes one other wrong bytes m fits e =
-    let unknown = not (eqb (number 1 1 bytes) one || eqb (number 1 1 bytes) other) in
+inner_takes types wrong bytes m fits e =
+    let unknown = not (list_any (λ kind. eqb kind (number 1 1 bytes)) types) in
     let p = passed (ltb (length bytes) 4 || not (eqb (number 2 2 bytes) (length bytes))) BAD_LENGTH (cond unknown (Err wrong) (message_at bytes)) m e in
     let q = passed unknown wrong (message_at bytes) m p.1 in
     (xid_of bytes, message_takes bytes m fits q.1)
@@ -42,6 +43,7 @@ is_happening (plain.Experimenter b) what e = absurd cc
 is_happening plain.FeaturesRequest what e = absurd cc
 is_happening (plain.FeaturesReply d) what e = absurd cc
 is_happening (plain.PacketIn p) what e = ap happening_message (ok_is Refusal (happening.PacketIn p) what e)
+is_happening (plain.FlowRemoved r) what e = ap happening_message (ok_is Refusal (happening.FlowRemoved r) what e)
 is_happening (plain.PortStatus p) what e = ap happening_message (ok_is Refusal (happening.PortStatus p) what e)
 is_happening (plain.PacketOut p) what e = absurd cc
 is_happening (plain.FlowMod f) what e = absurd cc
@@ -59,6 +61,7 @@ is_order (plain.Experimenter b) what e = absurd cc
 is_order plain.FeaturesRequest what e = absurd cc
 is_order (plain.FeaturesReply d) what e = absurd cc
 is_order (plain.PacketIn p) what e = absurd cc
+is_order (plain.FlowRemoved r) what e = absurd cc
 is_order (plain.PortStatus p) what e = absurd cc
 is_order (plain.PacketOut p) what e = ap order_message (ok_is Refusal (order.PacketOut p) what e)
 is_order (plain.FlowMod f) what e = ap order_message (ok_is Refusal (order.FlowMod f) what e)
@@ -70,14 +73,14 @@ is_order (plain.RoleReply r g) what e = absurd cc
 happening_takes : (bytes : List ℕ) (what : Happening) → IsBytes bytes → happening_at bytes ≡ Ok what → SpellsInner bytes (happening_message what)
 unfolding happening_at
 happening_takes bytes what fits e =
-    let a = bind_ok (inner_at 10 12 BAD_TYPE bytes) as_happening what e in
-    subst (λ (m : OfMessage). SpellsInner bytes m) (is_happening a.0 what a.2) (inner_takes 10 12 BAD_TYPE bytes a.0 fits a.1)
+    let a = bind_ok (inner_at told_types BAD_TYPE bytes) as_happening what e in
+    subst (λ (m : OfMessage). SpellsInner bytes m) (is_happening a.0 what a.2) (inner_takes told_types BAD_TYPE bytes a.0 fits a.1)
 
 order_takes : (bytes : List ℕ) (what : Order) → IsBytes bytes → order_at bytes ≡ Ok what → SpellsInner bytes (order_message what)
 unfolding order_at
 order_takes bytes what fits e =
-    let a = bind_ok (inner_at 13 14 NOT_PERMITTED bytes) as_order what e in
-    subst (λ (m : OfMessage). SpellsInner bytes m) (is_order a.0 what a.2) (inner_takes 13 14 NOT_PERMITTED bytes a.0 fits a.1)
+    let a = bind_ok (inner_at held_types NOT_PERMITTED bytes) as_order what e in
+    subst (λ (m : OfMessage). SpellsInner bytes m) (is_order a.0 what a.2) (inner_takes held_types NOT_PERMITTED bytes a.0 fits a.1)
 
 -- ---- bodies
 

@@ -18,7 +18,7 @@ use Rattle.of_types.specs.declared.message.Outcome.{Outcome}
 use Rattle.of_types.specs.declared.message.Outcome.TheVariants as outcome
 use Rattle.of_types.specs.declared.message.Spoken.TheVariants as spoken
 use Rattle.of_types.specs.Sizes.{happening_size, order_size, extension_size}
-use Rattle.of_types.specs.Valid.{IsValidOrder, IsValidExtension}
+use Rattle.of_types.specs.Valid.{IsValidOrder, IsValidHappening, IsValidExtension}
 use Rattle.of_messages.specs.Fits.{FitsPlain}
 use Rattle.of_ravana.specs.Canonical.{happening_message, order_message, canonical_happening, canonical_order, result_bytes, outcome_bytes, command_front, extension_rest, extension_numbers, extension_inner, extension_type, extension_life, extension_front, extension_body, canonical_extension}
 use Rattle.of_ravana.specs.Fits.{FitsOutcome, FitsExtension}
@@ -29,6 +29,7 @@ use Rattle.of_ravana.specs.Grammar.{SpellsInner, IsFront, IsEvent, IsThrough, Is
 pub happening_length : (what : Happening) → length (canonical_happening what) ≡ happening_size what
 unfolding canonical_happening
 happening_length (happening.PacketIn p) = message_size 0 (happening_message (happening.PacketIn p))
+happening_length (happening.FlowRemoved r) = message_size 0 (happening_message (happening.FlowRemoved r))
 happening_length (happening.PortStatus p) = message_size 0 (happening_message (happening.PortStatus p))
 
 order_length : (what : Order) → length (canonical_order what) ≡ order_size what
@@ -36,10 +37,11 @@ unfolding canonical_order
 order_length (order.FlowMod c) = message_size 0 (order_message (order.FlowMod c))
 order_length (order.PacketOut p) = message_size 0 (order_message (order.PacketOut p))
 
-pub happening_spelled : (what : Happening) → FitsPlain (happening_message what) → happening_size what ≤ 65535 → SpellsInner (canonical_happening what) (happening_message what)
+pub happening_spelled : (what : Happening) → IsValidHappening what → FitsPlain (happening_message what) → happening_size what ≤ 65535 → SpellsInner (canonical_happening what) (happening_message what)
 unfolding canonical_happening
-happening_spelled (happening.PacketIn p) f short = (0, message_spelled 0 (happening_message (happening.PacketIn p)) tt f short (lit< tt))
-happening_spelled (happening.PortStatus p) f short = (0, message_spelled 0 (happening_message (happening.PortStatus p)) tt f short (lit< tt))
+happening_spelled (happening.PacketIn p) v f short = (0, message_spelled 0 (happening_message (happening.PacketIn p)) tt f short (lit< tt))
+happening_spelled (happening.FlowRemoved r) v f short = (0, message_spelled 0 (happening_message (happening.FlowRemoved r)) v f short (lit< tt))
+happening_spelled (happening.PortStatus p) v f short = (0, message_spelled 0 (happening_message (happening.PortStatus p)) tt f short (lit< tt))
 
 order_spelled : (what : Order) → IsValidOrder what → FitsPlain (order_message what) → order_size what ≤ 65535 → SpellsInner (canonical_order what) (order_message what)
 unfolding canonical_order
@@ -145,7 +147,7 @@ extension_has_size said = omega (arith, body_size (extension_type said) (extensi
 pub extension_spelled : (said : Extension) → IsValidExtension said → FitsExtension said → extension_size said ≤ 65535 → SpellsExtension (canonical_extension said) said
 unfolding canonical_extension
 extension_spelled (extension.Event life event what) v f short =
-    event_spelled life event what f.0 f.1 (happening_spelled what f.2 (omega arith))
+    event_spelled life event what f.0 f.1 (happening_spelled what v f.2 (omega arith))
 extension_spelled (extension.EventAck life through) v f short = through_spelled 2 life through (lit< tt) f.0 f.1
 extension_spelled (extension.Command life generation command settled what) v f short =
     command_spelled life generation command settled what f.0 f.1 f.2 f.3 (order_spelled what v f.4 (omega arith))

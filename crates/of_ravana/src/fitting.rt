@@ -4,7 +4,9 @@ ghost use Rattle.of_ravana.specs.Canonical.{happening_message, order_message};
 ghost use Rattle.of_ravana.specs.Fits.{FitsOutcome, FitsExtension};
 
 use of_bytes::{u16_fits, u32_fits, u64_fits};
-use of_messages::{flow_mod_fits, packet_in_fits, packet_out_fits, port_status_fits};
+use of_messages::{
+    flow_mod_fits, flow_removed_fits, packet_in_fits, packet_out_fits, port_status_fits,
+};
 use of_types::{Extension, Happening, Order, Outcome};
 
 /// Each number of an event's message fits its field.
@@ -13,6 +15,7 @@ pub fn happening_fits(what: &Happening)
 {
     match what {
         Happening::PacketIn(packet) => packet_in_fits(packet),
+        Happening::FlowRemoved(removed) => flow_removed_fits(removed),
         Happening::PortStatus(status) => port_status_fits(*status),
     }
 }

@@ -23,21 +23,20 @@ use of_types::{
 };
 use std::alloc::Global;
 
-/// A message inside another one, which has one of two types.
+/// A message inside another one, which has one of these types.
 #[tactic(auto, unfolding(crate::specs::Reading::inner_at))]
 fn read_inner(
     alloc: Global,
-    types: (u8, u8),
+    types: &[u8],
     wrong_type: Refusal,
     bytes: &[u8],
 ) -> Result<OfMessage, BodyFault>
-    ensures { GivesBody (λ m. m) result (inner_at types.0 types.1 wrong_type bytes.now) }
+    ensures { GivesBody (λ m. m) result (inner_at types.now wrong_type bytes.now) }
 {
     if bytes.len() < 4 || usize::from(u16_at(bytes, 2)) != bytes.len() {
         return Err(BodyFault::Wire(BAD_LENGTH));
     }
-    let kind = u8_at(bytes, 1);
-    if kind != types.0 && kind != types.1 {
+    if !types.contains(&u8_at(bytes, 1)) {
         return Err(BodyFault::Wire(wrong_type));
     }
     read_message(alloc, bytes)
@@ -48,6 +47,7 @@ fn as_happening(message: OfMessage) -> Result<Happening, Refusal>
 {
     match message {
         OfMessage::PacketIn(packet) => Ok(Happening::PacketIn(packet)),
+        OfMessage::FlowRemoved(removed) => Ok(Happening::FlowRemoved(removed)),
         OfMessage::PortStatus(status) => Ok(Happening::PortStatus(status)),
         _ => Err(BAD_TYPE),
     }
@@ -69,7 +69,11 @@ fn read_happening(alloc: Global, bytes: &[u8]) -> Result<Happening, BodyFault>
 {
     let message = read_inner(
         alloc,
-        (message_type::PACKET_IN, message_type::PORT_STATUS),
+        &[
+            message_type::PACKET_IN,
+            message_type::FLOW_REMOVED,
+            message_type::PORT_STATUS,
+        ],
         BAD_TYPE,
         bytes,
     )?;
@@ -83,7 +87,7 @@ fn read_order(alloc: Global, bytes: &[u8]) -> Result<Order, BodyFault>
 {
     let message = read_inner(
         alloc,
-        (message_type::PACKET_OUT, message_type::FLOW_MOD),
+        &[message_type::PACKET_OUT, message_type::FLOW_MOD],
         NOT_PERMITTED,
         bytes,
     )?;

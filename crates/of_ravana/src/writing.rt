@@ -11,8 +11,9 @@ ghost use Rattle.of_ravana.specs.Grammar.{SpellsExtension, SpellsSpoken, IsValid
 use crate::fitting::extension_fits;
 use of_bytes::{Front, eight, four, two, u32_fits, zeros};
 use of_messages::{
-    encode, encode_flow_mod, encode_packet_in, encode_packet_out, encode_port_status, exact_len,
-    put_flow_mod, put_header, put_packet_in, put_packet_out, put_port_status, with_room,
+    encode, encode_flow_mod, encode_flow_removed, encode_packet_in, encode_packet_out,
+    encode_port_status, exact_len, put_flow_mod, put_flow_removed, put_header, put_packet_in,
+    put_packet_out, put_port_status, with_room,
 };
 use of_types::{
     Extension, Happening, Octets, Order, Outcome, RAVANA, Spoken, command_status, extension_type,
@@ -39,6 +40,7 @@ pub fn put_happening(out: &mut Octets, what: &Happening) -> Result<(), AllocErro
 {
     match what {
         Happening::PacketIn(packet) => put_packet_in(out, 0, packet),
+        Happening::FlowRemoved(removed) => put_flow_removed(out, 0, removed),
         Happening::PortStatus(status) => put_port_status(out, 0, status),
     }
 }
@@ -50,6 +52,7 @@ pub fn canonical_happening(alloc: Global, what: &Happening) -> Result<Octets, Al
 {
     match what {
         Happening::PacketIn(packet) => encode_packet_in(alloc, 0, packet),
+        Happening::FlowRemoved(removed) => encode_flow_removed(alloc, 0, removed),
         Happening::PortStatus(status) => encode_port_status(alloc, 0, status),
     }
 }

@@ -1,3 +1,5 @@
 pub mod Drafts
+pub mod Leaving
 pub mod Ports
 pub mod Turns
+mod Ticks

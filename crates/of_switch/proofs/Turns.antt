@@ -16,7 +16,8 @@ use Rattle.of_types.specs.Lives.{last_life, switch_up}
 use Rattle.rv_base.specs.declared.journal.Letter.{Letter}
 use Rattle.event_buffer.specs.Buffer.{Buffer, AreNumbered, most_held, is_full, next_event, next_number, without_dirty, without_events_below, cleared_to}
 use Rattle.command_buffer.specs.Results.{Results, no_results, with_result, without_results_below}
-use Rattle.flow_table.specs.Table.{opening_rows}
+use Rattle.flow_clock.specs.Clocked.{Clocked}
+use Rattle.flow_clock.specs.Holding.{clocked_of}
 use Rattle.role_fence.specs.Fence.{starting_fence}
 use Rattle.of_switch.specs.declared.says.SwitchSays.{SwitchSays}
 use Rattle.of_switch.specs.State.{SwitchState, IsSwitch, SwitchTurn, quiet, posts, then_turn, greetings, life_of}
@@ -35,7 +36,7 @@ pub start-is : (s : SwitchState) → IsDraft s (draft_of s)
 start-is s = record { switch_is = refl; life_is = refl; master_is = refl; cleared_is = refl; held_is = omega arith }
 
 -- how many events the buffer holds by then
-held-then : (s : SwitchState) (d : Draft) → IsDraft s d → length (s.buffer.held ++ d.raised) ≡ d.held
+pub held-then : (s : SwitchState) (d : Draft) → IsDraft s d → length (s.buffer.held ++ d.raised) ≡ d.held
 held-then s d is = length-append s.buffer.held d.raised ∙ sym is.held_is
 
 -- the next event
@@ -287,11 +288,11 @@ restart-is s =
     record { switch_is = is.switch_is; life_is = is.life_is; master_is = is.master_is; cleared_is = is.cleared_is; held_is = is.held_is }
 
 -- what gives way in the next life, and the events that are new
-pub renewed : (s s' : SwitchState) (d : Draft) (buffer : Buffer) (results : Results) (rows : List Row) (events : List Event) (ended : List ℕ) →
-    s' ≡ record s { buffer = buffer; results = results; rows = rows; fence = starting_fence; events = events; ended = ended } →
-    buffer ≡ (next_life s).buffer → results ≡ no_results → rows ≡ opening_rows → events ≡ s.events ++ d.raised → ended ≡ s.ended ++ s.buffer.cleared ∷ [] →
+pub renewed : (s s' : SwitchState) (d : Draft) (buffer : Buffer) (results : Results) (table : Clocked) (events : List Event) (ended : List ℕ) →
+    s' ≡ record s { buffer = buffer; results = results; table = table; fence = starting_fence; events = events; ended = ended } →
+    buffer ≡ (next_life s).buffer → results ≡ no_results → table ≡ clocked_of [] → events ≡ s.events ++ d.raised → ended ≡ s.ended ++ s.buffer.cleared ∷ [] →
     s' ≡ record (next_life s) { events = s.events ++ d.raised }
-renewed s s' d buffer results rows events ended is b r w n l = is ∙ rw (b, r, w, n, l) refl
+renewed s s' d buffer results table events ended is b r w n l = is ∙ rw (b, r, w, n, l) refl
 
 -- and those that join the buffer
 pub begun : (b s' : SwitchState) (d : Draft) (buffer : Buffer) (sent : ℕ) → s' ≡ record b { events = b.events ++ d.raised } →

@@ -18,9 +18,10 @@ use Rattle.command_buffer.specs.declared.buffer.Offer.TheVariants.{Execute, Repe
 use Rattle.command_buffer.specs.Results.{without_results_below, with_result, offer_of}
 use Rattle.flow_table.specs.declared.rows.TableFault.{TableFault}
 use Rattle.flow_table.specs.declared.rows.TableFault.TheVariants as table
-use Rattle.flow_table.specs.Table.{table_step, table_fault}
+use Rattle.flow_table.specs.Table.{table_fault}
+use Rattle.flow_clock.specs.Clocked.{clock_change}
 use Rattle.of_switch.specs.declared.says.SwitchSays.{SwitchSays}
-use Rattle.of_switch.specs.State.{SwitchState, SwitchTurn, quiet, posts, then_turn, to_controller, refuses, life_of}
+use Rattle.of_switch.specs.State.{SwitchState, SwitchTurn, quiet, posts, then_turn, to_controller, refuses, rows_of, life_of}
 use Rattle.of_switch.specs.Events.{is_port}
 use Rattle.of_switch.specs.Forwarding.{is_frame, puts_all}
 
@@ -36,7 +37,6 @@ failed why = outcome.Failed why.kind why.code
 abbrev pub fault_result : TableFault → Outcome
 fault_result table.BadTable = failed refusal.BAD_TABLE
 fault_result table.BadFlags = failed refusal.BAD_FLAGS
-fault_result table.BadTimeout = failed refusal.BAD_TIMEOUT
 fault_result table.BadBuffer = failed UNKNOWN_BUFFER
 fault_result table.BadPort = failed BAD_OUT_PORT
 fault_result table.TableFull = failed refusal.TABLE_FULL
@@ -53,12 +53,12 @@ result_of s (order.PacketOut out) =
     else if list_any (λ output. not (is_output s output)) out.actions then failed BAD_OUT_PORT
     else if not (is_frame out.payload) then failed BAD_PACKET
     else outcome.Done
-result_of s (order.FlowMod change) = table_result (table_fault s.rows s.ports change)
+result_of s (order.FlowMod change) = table_result (table_fault (rows_of s) s.ports change)
 
 -- what an order does that has no fault
 abbrev pub does : Order → SwitchState → SwitchTurn
 does (order.PacketOut out) s = puts_all quiet out.in_port out.payload out.actions (quiet s)
-does (order.FlowMod change) s = quiet (record s { rows = table_step s.rows change })
+does (order.FlowMod change) s = quiet (record s { table = clock_change s.table change })
 
 -- an order with a fault changes nothing (OpenFlow 1.3, 6.4)
 abbrev pub done_as : Outcome → Order → SwitchState → SwitchTurn

@@ -1,5 +1,5 @@
 -- What a turn is to add to a switch, while memory for it is still being found: nothing of the switch has changed yet.
-use Rattle.std.specs.Prelude.{◌≡◌, ◌≤◌, ◌<◌, ℕ, ◌+◌, ◌-◌, ◌^◌, min, Bool, true, false, not, nat_eq, nat_le, nat_lt, List, [], ◌∷◌, ◌++◌, length, map, filter, flat_map, Option, Some, None, if◌then◌else◌}
+use Rattle.std.specs.Prelude.{◌≡◌, ◌≤◌, ◌<◌, ℕ, ◌+◌, ◌-◌, ◌^◌, min, Bool, true, false, not, nat_eq, nat_le, nat_lt, ◌&&◌, is_none, take, List, [], ◌∷◌, ◌++◌, length, map, filter, flat_map, Option, Some, None, if◌then◌else◌}
 use Rattle.of_types.specs.declared.message.Event.{Event}
 use Rattle.of_types.specs.declared.message.FlowMod.{FlowMod}
 use Rattle.of_types.specs.declared.message.Happening.{Happening}
@@ -10,7 +10,7 @@ use Rattle.of_types.specs.declared.message.OfMessage.TheVariants as plain
 use Rattle.of_types.specs.declared.message.PacketOut.{PacketOut}
 use Rattle.of_types.specs.declared.message.Row.{Row}
 use Rattle.of_types.specs.declared.message.Spoken.TheVariants as spoken
-use Rattle.of_types.specs.declared.numbers.TheConstants.{MASTER, TO_CONTROLLER, REASON_MODIFY}
+use Rattle.of_types.specs.declared.numbers.TheConstants.{MASTER, TO_CONTROLLER, REASON_MODIFY, SEND_REMOVED}
 use Rattle.of_types.specs.declared.refusal.TheConstants.{BAD_ROLE, STALE_ROLE}
 use Rattle.of_types.specs.Lives.{switch_up}
 use Rattle.rv_base.specs.declared.journal.Letter.{Letter}
@@ -19,10 +19,11 @@ use Rattle.command_buffer.specs.declared.buffer.Offer.{Offer}
 use Rattle.command_buffer.specs.declared.buffer.Offer.TheVariants as offer
 use Rattle.role_fence.specs.declared.fence.RoleAnswer.{RoleAnswer}
 use Rattle.role_fence.specs.declared.fence.RoleAnswer.TheVariants.{Reply, Stale, BadRole}
-use Rattle.flow_table.specs.Table.{table_step}
+use Rattle.flow_clock.specs.declared.times.Expired.{Expired}
+use Rattle.flow_clock.specs.Clocked.{Clocked, clock_change}
 use Rattle.of_switch.specs.declared.says.SwitchSays.{SwitchSays}
 use Rattle.of_switch.specs.State.{SwitchState, SwitchTurn, greetings, quiet, posts, to_controller, error_letter}
-use Rattle.of_switch.specs.Events.{window, first_held, event_letter, event_letters, is_down, port_status, next_life}
+use Rattle.of_switch.specs.Events.{window, first_held, event_letter, event_letters, flow_removed, is_down, port_status, next_life}
 use Rattle.of_switch.specs.Commands.{result_letter}
 use Rattle.of_switch.specs.Forwarding.{targets, over_links, packet_in}
 
@@ -84,6 +85,23 @@ with_raised what d =
 -- a packet-in is raised, where there is room
 abbrev pub with_packet : Happening → Draft → Draft
 with_packet what d = if nat_le most_held d.held then d else with_raised what d
+
+-- it joins without being told, where there is room
+abbrev pub with_noted : Happening → Draft → Draft
+with_noted what d =
+    if nat_le most_held d.held then d else record d { held = d.held + 1; raised = d.raised ++ drafted_event d what ∷ [] }
+
+-- rows that have left are noted where they ask for that
+abbrev pub with_removed : List Expired → Draft → Draft
+with_removed [] d = d
+with_removed (e ∷ left) d = with_removed left (if nat_eq e.flags SEND_REMOVED then with_noted (flow_removed e) d else d)
+
+-- at a tick a later life without a master greets, and the first events are told, old ones and new ones
+abbrev pub with_greetings : SwitchState → Draft → Draft
+with_greetings s d = if is_none d.master && nat_lt 0 d.life then with_letters d (greetings s) else d
+
+abbrev pub with_first : List Event → Draft → Draft
+with_first held d = with_told (take window (held ++ d.raised)) d
 
 -- a frame is sent out by some ports
 abbrev pub with_sent : SwitchState → List ℕ → List ℕ → Draft → Draft
@@ -158,11 +176,11 @@ is_execute (offer.Repeat result) = false
 is_execute offer.Ahead = false
 is_execute offer.Full = false
 
--- the rows after a change with this result
-abbrev pub rows_as : Outcome → List Row → FlowMod → List Row
-rows_as outcome.Done rows change = table_step rows change
-rows_as (outcome.Failed kind code) rows change = rows
-rows_as outcome.Cleared rows change = rows
+-- the table after a change with this result
+abbrev pub table_as : Outcome → Clocked → FlowMod → Clocked
+table_as outcome.Done table change = clock_change table change
+table_as (outcome.Failed kind code) table change = table
+table_as outcome.Cleared table change = table
 
 -- a PACKET_OUT with this result
 abbrev pub sent_as : SwitchState → Outcome → PacketOut → Draft → Draft

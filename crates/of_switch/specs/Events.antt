@@ -6,14 +6,16 @@ use Rattle.of_types.specs.declared.message.Extension.TheVariants as extension
 use Rattle.of_types.specs.declared.message.Happening.{Happening}
 use Rattle.of_types.specs.declared.message.Happening.TheVariants as happening
 use Rattle.of_types.specs.declared.message.Spoken.TheVariants as spoken
-use Rattle.of_types.specs.declared.numbers.TheConstants.{REASON_MODIFY}
+use Rattle.of_types.specs.declared.numbers.TheConstants.{REASON_MODIFY, SEND_REMOVED}
 use Rattle.of_types.specs.Lives.{last_life, switch_up}
 use Rattle.of_types.specs.SmallSets.{with_number, without_number}
 use Rattle.rv_base.specs.declared.journal.Letter.{Letter}
 use Rattle.role_fence.specs.Fence.{starting_fence}
 use Rattle.event_buffer.specs.Buffer.{is_full, next_event, posted, cleared_to, without_events_below, with_dirty, without_dirty, empty_buffer}
 use Rattle.command_buffer.specs.Results.{no_results}
-use Rattle.flow_table.specs.Table.{opening_rows}
+use Rattle.flow_clock.specs.declared.times.Expired.{Expired}
+use Rattle.flow_clock.specs.Clocked.{clock_tick, clock_told}
+use Rattle.flow_clock.specs.Holding.{clocked_of}
 use Rattle.of_switch.specs.declared.says.SwitchSays.{SwitchSays}
 use Rattle.of_switch.specs.State.{SwitchState, SwitchTurn, quiet, posts, then_turn, to_controller, greetings, number_of, life_of}
 
@@ -113,7 +115,7 @@ next_life s =
     record s {
       buffer = empty_buffer (number_of s) (life_of s + 1);
       results = no_results;
-      rows = opening_rows;
+      table = clocked_of [];
       fence = starting_fence;
       ended = s.ended ++ s.buffer.cleared ∷ [];
     }
@@ -130,5 +132,34 @@ abbrev pub tick_letters : SwitchState → Option ℕ → List (Letter SwitchSays
 tick_letters s None = if nat_lt 0 (life_of s) then greetings s else []
 tick_letters s (Some c) = map (event_letter c) (first_held s)
 
+-- what happened joins the buffer without being sent. Where the buffer is full it is dropped without a number (our own rule)
+abbrev pub noted : Happening → SwitchState → SwitchState
+noted what s = if is_full s.buffer then s else with_event s what
+
+-- a row that has left, as an event (OpenFlow 1.3, 7.4.2)
+abbrev pub flow_removed : Expired → Happening
+flow_removed e =
+    happening.FlowRemoved (record {
+      cookie = e.row.cookie;
+      priority = e.row.priority;
+      reason = e.reason;
+      duration = e.duration;
+      idle = e.idle;
+      hard = e.hard;
+      packets = e.hits;
+      octets = e.octets;
+      matching = e.row.matching;
+    })
+
+-- a row that has left is told where its FLOW_MOD asked for that (OpenFlow 1.3, 5.5)
+abbrev pub tells_left : List Expired → SwitchState → SwitchState
+tells_left [] s = s
+tells_left (e ∷ left) s = tells_left left (if nat_eq e.flags SEND_REMOVED then noted (flow_removed e) s else s)
+
+-- the clock rises, and the rows whose time is over leave and are told
+abbrev pub aged : SwitchState → SwitchState
+aged s = record (tells_left (clock_told s.table) s) { table = clock_tick s.table }
+
+-- a tick is a second: the table ages, and then the first events are sent
 abbrev pub on_tick : SwitchState → SwitchTurn
-on_tick s = posts s (tick_letters s s.fence.master)
+on_tick s = posts (aged s) (tick_letters (aged s) s.fence.master)

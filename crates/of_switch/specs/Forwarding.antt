@@ -12,9 +12,10 @@ use Rattle.of_types.specs.Matching.{is_any}
 use Rattle.rv_base.specs.declared.journal.Actor.TheVariants.{Switch}
 use Rattle.rv_base.specs.declared.journal.Letter.{Letter}
 use Rattle.flow_table.specs.Table.{chosen_row}
+use Rattle.flow_clock.specs.Clocked.{clock_hit}
 use Rattle.of_switch.specs.declared.says.SwitchSays.{SwitchSays}
 use Rattle.of_switch.specs.declared.says.SwitchSays.TheVariants as switch_says
-use Rattle.of_switch.specs.State.{SwitchState, SwitchTurn, quiet, posts, then_turn, ports_up, number_of}
+use Rattle.of_switch.specs.State.{SwitchState, SwitchTurn, quiet, posts, then_turn, ports_up, rows_of, number_of}
 use Rattle.of_switch.specs.Events.{packet_raised}
 
 -- a frame that may be taken and sent
@@ -81,8 +82,13 @@ through_row s port frame (Some row) = puts_all (packet_raised (packet_in row por
 abbrev pub fields_at : ℕ → List ℕ → Fields
 fields_at port frame = record (fields_of frame) { in_port = Some port }
 
+-- the frame is counted, with its length, at the row that was chosen for it (OpenFlow 1.3, 5.2)
+abbrev pub counting : ℕ → List ℕ → SwitchTurn → SwitchTurn
+counting port frame turn =
+    record turn { state = record turn.state { table = clock_hit turn.state.table (fields_at port frame) (length frame) } }
+
 -- a frame at a port that is up meets the table (OpenFlow 1.3, 5.3). Any other is dropped
 abbrev pub on_frame : SwitchState → ℕ → List ℕ → SwitchTurn
 on_frame s port frame =
     if is_up s port && is_frame frame
-    then through_row s port frame (chosen_row s.rows (fields_at port frame)) else quiet s
+    then counting port frame (through_row s port frame (chosen_row (rows_of s) (fields_at port frame))) else quiet s

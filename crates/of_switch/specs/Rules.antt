@@ -61,6 +61,7 @@ on_plain s from xid (plain.FlowMod change) = refuses s from xid NOT_PERMITTED
 on_plain s from xid (plain.Experimenter body) = refuses s from xid BAD_TYPE
 on_plain s from xid (plain.FeaturesReply datapath) = refuses s from xid BAD_TYPE
 on_plain s from xid (plain.PacketIn p) = refuses s from xid BAD_TYPE
+on_plain s from xid (plain.FlowRemoved r) = refuses s from xid BAD_TYPE
 on_plain s from xid (plain.PortStatus p) = refuses s from xid BAD_TYPE
 on_plain s from xid plain.BarrierReply = refuses s from xid BAD_TYPE
 on_plain s from xid (plain.RoleReply role generation) = refuses s from xid BAD_TYPE

@@ -16,12 +16,13 @@ use Rattle.rv_base.specs.declared.journal.Letter.{Letter}
 use Rattle.role_fence.specs.Fence.{Fence, starting_fence}
 use Rattle.event_buffer.specs.Buffer.{Buffer, empty_buffer, highest_port, next_number}
 use Rattle.command_buffer.specs.Results.{Results, no_results}
-use Rattle.flow_table.specs.Table.{opening_rows}
+use Rattle.flow_clock.specs.Clocked.{Clocked, rows_in}
+use Rattle.flow_clock.specs.Holding.{clocked_of}
 use Rattle.of_switch.specs.declared.says.SwitchSays.{SwitchSays}
 use Rattle.of_switch.specs.declared.says.SwitchSays.TheVariants as switch_says
 
 -- A switch, as its neighbours see it. What it holds of its present life is gone with a restart: the buffer, the
--- results, the rows and the fence.
+-- results, the table and the fence.
 pub record SwitchState : Type 0 where
   pub controllers : ℕ  -- how many controllers there are
   pub ports : ℕ  -- how many ports it has
@@ -30,7 +31,7 @@ pub record SwitchState : Type 0 where
   pub sent : ℕ  -- how many frames it sent out
   pub buffer : Buffer  -- its number, its life, and the events that wait to be processed
   pub results : Results
-  pub rows : List Row  -- the table, in the order of adding
+  pub table : Clocked  -- the rows in the order of adding, and the clock
   pub fence : Fence
   pub events : List Event  -- all that it made, in all its lives
   pub executed : List Executed  -- all that it carried out, in all its lives
@@ -40,7 +41,7 @@ pub record SwitchState : Type 0 where
 abbrev pub is_at : ℕ → Link → Bool
 is_at number l = nat_eq l.switch number || nat_eq l.peer number
 
--- A switch as it starts: every port is up, the table has the table-miss row alone, and no controller has asked for a role.
+-- A switch as it starts: every port is up, the table has the table-miss row alone and its clock stands at 0, and no controller has asked for a role.
 abbrev pub starting_switch : ℕ → Setup → SwitchState
 starting_switch number setup =
     record {
@@ -51,7 +52,7 @@ starting_switch number setup =
       sent = 0;
       buffer = empty_buffer number 0;
       results = no_results;
-      rows = opening_rows;
+      table = clocked_of [];
       fence = starting_fence;
       events = [];
       executed = [];
@@ -60,6 +61,10 @@ starting_switch number setup =
 
 abbrev pub number_of : SwitchState → ℕ
 number_of s = s.buffer.switch
+
+-- the rows of its table, in the order of adding
+abbrev pub rows_of : SwitchState → List Row
+rows_of s = rows_in s.table
 
 abbrev pub life_of : SwitchState → ℕ
 life_of s = s.buffer.life

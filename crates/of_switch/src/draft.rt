@@ -1,12 +1,12 @@
 //! What a turn is to add to a switch, while memory for it is still being found.
-ghost use Rattle.std.specs.Prelude.{◌≡◌, ◌≤◌, ◌<◌, ◌+◌, ◌-◌, ◌^◌, [], ◌∷◌, ◌++◌, min, nat_le, nat_lt, length, map, if◌then◌else◌, OnOk, OnErr};
+ghost use Rattle.std.specs.Prelude.{◌≡◌, ◌≤◌, ◌<◌, ◌+◌, ◌-◌, ◌^◌, [], ◌∷◌, ◌++◌, min, nat_le, nat_lt, is_none, ◌&&◌, take, length, map, if◌then◌else◌, OnOk, OnErr};
 ghost use Rattle.std.specs.List.{range_with_len};
 ghost use Rattle.of_types.specs.declared.message.OfMessage.TheVariants as plain;
 ghost use Rattle.of_types.specs.declared.message.Spoken.TheVariants as spoken;
 ghost use Rattle.event_buffer.specs.Buffer.{most_held};
 ghost use Rattle.of_switch.specs.State.{to_controller};
 ghost use Rattle.of_switch.specs.Events.{window, event_letters};
-ghost use Rattle.of_switch.specs.Drafts.{draft_from, with_letters, with_told, with_raised, drafted_event, IsKept};
+ghost use Rattle.of_switch.specs.Drafts.{draft_from, with_letters, with_told, with_raised, with_noted, with_first, drafted_event, IsKept};
 
 use crate::letters::{push_events, push_greetings};
 use crate::says::SwitchSays;
@@ -122,6 +122,15 @@ impl Draft {
         self.join(event, what)
     }
 
+    /// Something happened: it is the next event, and isn't told.
+    pub fn note(&mut self, what: Happening) -> Result<(), AllocError>
+        requires { self.old.held < most_held }
+        ensures { OnOk result (self.new ≡ with_noted what self.old) }
+    {
+        let event = self.next_event(what.copy()?);
+        self.join(event, what)
+    }
+
     /// What happened, as the next event.
     fn next_event(&self, what: Happening) -> Event
         ensures { result ≡ drafted_event self.now what }
@@ -163,6 +172,24 @@ impl Draft {
         ensures memory { OnErr result (0 < length events.now) }
     {
         push_events(&mut self.letters, self.master, events)
+    }
+
+    /// The first events are told to the master: those that the buffer holds, and then those that are new.
+    pub fn tell_first(&mut self, held: &[Event]) -> Result<(), AllocError>
+        ensures { OnOk result (self.new ≡ with_first held.now self.old) }
+    {
+        let old = first(held, WINDOW);
+        push_events(&mut self.letters, self.master, old)?;
+        let new = first(&self.raised, WINDOW - old.len());
+        push_events(&mut self.letters, self.master, new)?;
+        Ok(())
+    }
+
+    /// Whether a later life lacks a master.
+    pub fn lacks_master(&self) -> bool
+        ensures { result ≡ (is_none self.now.master && nat_lt 0 self.now.life) }
+    {
+        self.master.is_none() && self.life > 0
     }
 
     /// Each controller is greeted.
@@ -207,5 +234,16 @@ impl Draft {
             sent,
             letters,
         }
+    }
+}
+
+/// The first events of some, at most so many.
+pub fn first(events: &[Event], most: usize) -> &[Event]
+    ensures { result.now ≡ take most events.now }
+{
+    if events.len() < most {
+        events
+    } else {
+        &events[..most]
     }
 }

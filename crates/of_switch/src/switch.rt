@@ -3,7 +3,8 @@ ghost use Rattle.std.specs.Prelude.{◌≡◌, ◌≤◌, [], true, length, filt
 ghost use Rattle.of_types.specs.SmallSets.{places_from};
 ghost use Rattle.event_buffer.specs.Buffer.{highest_port};
 ghost use Rattle.of_switch.specs.Rules.{switch_turn, on_local, takes_memory};
-ghost use Rattle.of_switch.specs.State.{Turned, IsSwitch, starting_switch, is_at as is_link_at, life_of, number_of};
+ghost use Rattle.of_switch.specs.State.{Turned, IsSwitch, starting_switch, is_at as is_link_at, rows_of, life_of, number_of};
+ghost use Rattle.flow_clock.specs.Holding.{clocked_of};
 
 mod commands;
 mod events;
@@ -14,13 +15,23 @@ mod ports;
 use crate::says::{SwitchInput, SwitchSays};
 use command_buffer::CommandBuffer;
 use event_buffer::EventBuffer;
-use flow_index::FlowIndex as Table;
-use flow_table::Rows;
+use flow_clock::TimedRows;
+use flow_index::FlowIndex;
 use of_types::{Event, Executed, Items, Link, Refusal, Row, Setup, Spoken};
 use role_fence::RoleFence;
 use rv_base::{Letters, Local};
 use std::alloc::{AllocError, Global};
 use std::marker::Model;
+
+/// The table of a switch, beside its clock.
+type Table = TimedRows<FlowIndex>;
+
+/// A table as a life begins.
+fn new_table(alloc: Global) -> Result<Table, AllocError>
+    ensures { IfOk result (λ table. table ≡ clocked_of []) }
+{
+    Ok(TimedRows::new(alloc, FlowIndex::new(alloc)?))
+}
 
 /// A switch of the run.
 #[derive(Drop)]
@@ -32,7 +43,7 @@ pub struct Switch {
     sent: u64,
     buffer: EventBuffer,
     results: CommandBuffer,
-    rows: Table,
+    table: Table,
     fence: RoleFence,
     events: Vec<Event>,
     executed: Vec<Executed>,
@@ -54,7 +65,7 @@ impl Model for Switch {
       sent = a.sent;
       buffer = a.buffer;
       results = a.results;
-      rows = a.rows;
+      table = a.table;
       fence = a.fence;
       events = a.events.items;
       executed = a.executed.items;
@@ -69,7 +80,7 @@ impl Model for Switch {
       sent = a.sent;
       buffer = a.buffer;
       results = a.results;
-      rows = a.rows;
+      table = a.table;
       fence = a.fence;
       events = a.events.items;
       executed = a.executed.items;
@@ -91,7 +102,7 @@ impl Switch {
             sent: 0,
             buffer: EventBuffer::new(alloc, number, 0)?,
             results: CommandBuffer::new(alloc)?,
-            rows: Table::new(alloc)?,
+            table: new_table(alloc)?,
             fence: RoleFence::new(),
             events: Vec::new(alloc),
             executed: Vec::new(alloc),
@@ -122,9 +133,9 @@ impl Switch {
 
     /// Copies of the rows of its table, in the order of adding.
     pub fn rows(&self) -> Result<Vec<Row>, AllocError>
-        ensures { IfOk result (λ rows. rows.items ≡ self.now.rows) }
+        ensures { IfOk result (λ rows. rows.items ≡ rows_of self.now) }
     {
-        self.rows.rows()
+        self.table.rows()
     }
 
     /// How many events are in its buffer.

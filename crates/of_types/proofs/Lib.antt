@@ -1,3 +1,5 @@
 pub mod Counts
 mod Taken
+pub mod SameMatches
+pub mod SmallMatches
 pub mod Places

@@ -24,7 +24,7 @@ pub fn is_switch_up(what: &Happening) -> bool
     ensures { result ≡ lives.is_switch_up what.now }
 {
     match what {
-        Happening::PacketIn(_) => false,
+        Happening::PacketIn(_) | Happening::FlowRemoved(_) => false,
         Happening::PortStatus(status) => {
             status.reason == REASON_ADD && status.port == ANY_PORT && status.up
         }

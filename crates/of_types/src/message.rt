@@ -5,21 +5,21 @@ use crate::items::{Actions, Octets};
 use std::alloc::AllocError;
 
 /// An Ethernet address of 48 bits, and which of its bits count. Without a mask all 48 do.
-#[derive(Clone, Copy, PartialEq, Eq, Debug)]
+#[derive(Clone, Copy, PartialEq, Eq, PartialOrd, Ord, Debug)]
 pub struct Masked48 {
     pub value: u64,
     pub mask: u64,
 }
 
 /// An IPv4 address, and which of its bits count. Without a mask all 32 do.
-#[derive(Clone, Copy, PartialEq, Eq, Debug)]
+#[derive(Clone, Copy, PartialEq, Eq, PartialOrd, Ord, Debug)]
 pub struct Masked32 {
     pub value: u32,
     pub mask: u32,
 }
 
 /// What a row asks of a frame (OpenFlow 1.3, 7.2.3). A field that is left out asks for nothing.
-#[derive(Clone, Copy, PartialEq, Eq, Debug)]
+#[derive(Clone, Copy, PartialEq, Eq, PartialOrd, Ord, Debug)]
 pub struct Match {
     pub in_port: Option<u32>,
     pub eth_dst: Option<Masked48>,
@@ -158,11 +158,27 @@ pub struct PortStatus {
     pub up: bool,
 }
 
+/// A FLOW_REMOVED (OpenFlow 1.3, 7.4.2): reason 0 is IDLE_TIMEOUT, 1 is HARD_TIMEOUT, 2 is DELETE, 3 is
+/// GROUP_DELETE. `duration` is in seconds; `packets` and `octets` are what the row was chosen for.
+#[derive(Clone, Copy, PartialEq, Eq, Debug)]
+pub struct FlowRemoved {
+    pub cookie: u64,
+    pub priority: u16,
+    pub reason: u8,
+    pub duration: u32,
+    pub idle: u16,
+    pub hard: u16,
+    pub packets: u64,
+    pub octets: u64,
+    pub matching: Match,
+}
+
 /// What an event tells of.
 #[derive(Drop)]
 pub enum Happening {
     PacketIn(PacketIn),
     PortStatus(PortStatus),
+    FlowRemoved(FlowRemoved),
 }
 
 impl Clone for Happening {
@@ -172,6 +188,7 @@ impl Clone for Happening {
         Ok(match self {
             Happening::PacketIn(packet) => Happening::PacketIn(packet.clone()?),
             Happening::PortStatus(status) => Happening::PortStatus(*status),
+            Happening::FlowRemoved(removed) => Happening::FlowRemoved(*removed),
         })
     }
 }
@@ -252,6 +269,7 @@ pub enum OfMessage {
     FeaturesRequest,
     FeaturesReply { datapath: u64 },
     PacketIn(PacketIn),
+    FlowRemoved(FlowRemoved),
     PortStatus(PortStatus),
     PacketOut(PacketOut),
     FlowMod(FlowMod),
@@ -280,6 +298,7 @@ impl Clone for OfMessage {
                 datapath: *datapath,
             },
             OfMessage::PacketIn(packet) => OfMessage::PacketIn(packet.clone()?),
+            OfMessage::FlowRemoved(removed) => OfMessage::FlowRemoved(*removed),
             OfMessage::PortStatus(status) => OfMessage::PortStatus(*status),
             OfMessage::PacketOut(out) => OfMessage::PacketOut(out.clone()?),
             OfMessage::FlowMod(change) => OfMessage::FlowMod(change.clone()?),

@@ -16,6 +16,8 @@ pub const FEATURES_REPLY: u8 = 6;
 
 pub const PACKET_IN: u8 = 10;
 
+pub const FLOW_REMOVED: u8 = 11;
+
 pub const PORT_STATUS: u8 = 12;
 
 pub const PACKET_OUT: u8 = 13;

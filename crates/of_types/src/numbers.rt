@@ -79,6 +79,15 @@ pub const REASON_DELETE: u8 = 1;
 /// A PORT_STATUS of a port that has changed (7.4.3).
 pub const REASON_MODIFY: u8 = 2;
 
+/// A FLOW_REMOVED of a row that no frame met for its idle timeout (7.4.2).
+pub const REASON_IDLE: u8 = 0;
+
+/// A FLOW_REMOVED of a row that has stood for its hard timeout (7.4.2).
+pub const REASON_HARD: u8 = 1;
+
+/// The flag of a row that asks for a FLOW_REMOVED (7.3.4.1): OFPFF_SEND_FLOW_REM.
+pub const SEND_REMOVED: u16 = 1;
+
 /// The number of Ravana among the experimenters (7.5.4).
 pub const RAVANA: u32 = 0x0002_5256;
 

@@ -98,9 +98,6 @@ pub const TABLE_FULL: Refusal = Refusal { kind: 5, code: 1 };
 /// There is no such table (7.4.4.6): OFPFMFC_BAD_TABLE_ID.
 pub const BAD_TABLE: Refusal = Refusal { kind: 5, code: 2 };
 
-/// A timeout isn't supported (7.4.4.6): OFPFMFC_BAD_TIMEOUT.
-pub const BAD_TIMEOUT: Refusal = Refusal { kind: 5, code: 5 };
-
 /// The command of a FLOW_MOD isn't known (7.4.4.6): OFPFMFC_BAD_COMMAND.
 pub const BAD_COMMAND: Refusal = Refusal { kind: 5, code: 6 };
 

@@ -87,7 +87,7 @@ fn size_of_ports(matching: &Match) -> usize
 }
 
 /// The bytes of a match: a header, its fields, and no padding but up to the next multiple of eight.
-fn size_of_match(matching: &Match) -> usize
+pub fn size_of_match(matching: &Match) -> usize
     ensures exact { result ≡ match_size matching.now }
     ensures small { result ≤ 208 }
 {
@@ -129,6 +129,7 @@ pub fn size_of_happening(what: &Happening) -> u64
     match what {
         Happening::PacketIn(packet) => (packet.payload.len() as u64).saturating_add(42),
         Happening::PortStatus(_) => 80,
+        Happening::FlowRemoved(removed) => size_of_match(&removed.matching) as u64 + 48,
     }
 }
 
@@ -153,6 +154,7 @@ pub fn size_of_plain(message: &OfMessage) -> u64
         OfMessage::FeaturesReply { .. } => 32,
         OfMessage::PacketIn(packet) => (packet.payload.len() as u64).saturating_add(42),
         OfMessage::PortStatus(_) => 80,
+        OfMessage::FlowRemoved(removed) => size_of_match(&removed.matching) as u64 + 48,
         OfMessage::PacketOut(out) => size_of_packet_out(out),
         OfMessage::FlowMod(change) => size_of_flow_mod(change),
         OfMessage::RoleRequest { .. } => 24,

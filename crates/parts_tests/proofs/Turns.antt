@@ -4,6 +4,7 @@ use Rattle.of_types.specs.declared.message.Event.{Event}
 use Rattle.of_types.specs.declared.message.Executed.{Executed}
 use Rattle.of_types.specs.declared.message.Extension.TheVariants as extension
 use Rattle.of_types.specs.declared.message.FlowCommand.TheVariants as flow
+use Rattle.of_types.specs.declared.message.FlowRemoved.{FlowRemoved}
 use Rattle.of_types.specs.declared.message.Happening.{Happening}
 use Rattle.of_types.specs.declared.message.Happening.TheVariants as happening
 use Rattle.of_types.specs.declared.message.Match.{Match}
@@ -13,11 +14,13 @@ use Rattle.of_types.specs.declared.message.Order.{Order}
 use Rattle.of_types.specs.declared.message.Order.TheVariants as order
 use Rattle.of_types.specs.declared.message.Outcome.{Outcome}
 use Rattle.of_types.specs.declared.message.Outcome.TheVariants as outcome
+use Rattle.of_types.specs.declared.message.Row.{Row}
 use Rattle.of_types.specs.declared.message.Spoken.{Spoken}
 use Rattle.of_types.specs.declared.message.Spoken.TheVariants as spoken
 use Rattle.rv_base.specs.declared.journal.Actor.TheVariants as actor
 use Rattle.rv_base.specs.declared.journal.Letter.{Letter}
 use Rattle.rv_base.specs.declared.journal.Local.TheVariants as local
+use Rattle.flow_clock.specs.Clocked.{Kept}
 use Rattle.of_switch.specs.declared.says.SwitchInput.{SwitchInput}
 use Rattle.of_switch.specs.declared.says.SwitchInput.TheVariants as switch_input
 use Rattle.of_switch.specs.declared.says.SwitchSays.{SwitchSays}
@@ -32,6 +35,10 @@ use Rattle.of_switch.specs.Rules.{switch_turn}
 abbrev any_frame : Match
 any_frame = record { in_port = None; eth_dst = None; eth_src = None; eth_type = None; ip_proto = None; ipv4_src = None; ipv4_dst = None; tcp_src = None; tcp_dst = None; udp_src = None; udp_dst = None }
 
+-- a row with no timeout, as a table keeps it
+abbrev lasting : Row → Kept
+lasting row = record { row = row; times = None }
+
 -- a switch of so many controllers and ports, as it starts
 abbrev fresh : ℕ → ℕ → ℕ → SwitchState
 fresh number controllers ports =
@@ -43,7 +50,7 @@ fresh number controllers ports =
       sent = 0;
       buffer = record { switch = number; life = 0; cleared = 0; held = []; dirty = [] };
       results = record { executed = 0; outcomes = [] };
-      rows = record { priority = 0; cookie = 0; matching = any_frame; actions = 4294967293 ∷ [] } ∷ [];
+      table = record { clock = 0; rows = lasting (record { priority = 0; cookie = 0; matching = any_frame; actions = 4294967293 ∷ [] }) ∷ [] };
       fence = record { generation = None; master = None; slaves = [] };
       events = [];
       executed = [];
@@ -118,8 +125,8 @@ leaves s letters = record { state = s; letters = letters }
 
 -- ---- turns
 
--- a tick in life 0 without a master says nothing
-pub idle_tick : switch_turn (fresh 1 3 1) (switch_input.Local local.Tick) ≡ leaves (fresh 1 3 1) []
+-- a tick in life 0 without a master says nothing: the clock rises
+pub idle_tick : switch_turn (fresh 1 3 1) (switch_input.Local local.Tick) ≡ leaves (record (fresh 1 3 1) { table = record (fresh 1 3 1).table { clock = 1 } }) []
 unfolding switch_turn
 idle_tick = refl
 
@@ -281,7 +288,7 @@ answered c message = record { to = actor.Controller c; body = switch_says.Of 7 (
 abbrev refused : ℕ → ℕ → List (Letter SwitchSays)
 refused kind code = answered 1 (plain.Error kind code [])
 
--- orders by what their faults are in: table, flags, timeout, buffer and output; buffer, output and frame
+-- orders by what may be wrong with them: table, flags, timeout, buffer and output; buffer, output and frame
 abbrev change : ℕ → ℕ → ℕ → ℕ → ℕ → Order
 change number flags idle buffer output =
     order.FlowMod (record {
@@ -299,6 +306,11 @@ change number flags idle buffer output =
       matching = any_frame;
       actions = output ∷ [];
     })
+
+-- the row of such an order has left, for this reason, after so many ticks
+abbrev left : ℕ → ℕ → FlowRemoved
+left reason ticks =
+    record { cookie = 2; priority = 9; reason = reason; duration = ticks; idle = 1; hard = 0; packets = 0; octets = 0; matching = any_frame }
 
 abbrev put : ℕ → ℕ → List ℕ → Order
 put buffer output bytes = order.PacketOut (record { buffer = buffer; in_port = 1; actions = output ∷ []; payload = bytes })
@@ -342,10 +354,11 @@ pub refuses_types : map says_alone (
     plain.Experimenter []
     ∷ plain.FeaturesReply 1
     ∷ plain.PacketIn (record { reason = 0; cookie = 0; in_port = 1; payload = [] })
+    ∷ plain.FlowRemoved (left 0 1)
     ∷ plain.PortStatus (record { reason = 2; port = 1; up = false })
     ∷ plain.BarrierReply
     ∷ plain.RoleReply 2 1
-    ∷ []) ≡ refused 1 1 ∷ refused 1 1 ∷ refused 1 1 ∷ refused 1 1 ∷ refused 1 1 ∷ refused 1 1 ∷ []
+    ∷ []) ≡ refused 1 1 ∷ refused 1 1 ∷ refused 1 1 ∷ refused 1 1 ∷ refused 1 1 ∷ refused 1 1 ∷ refused 1 1 ∷ []
 unfolding switch_turn
 refuses_types = refl
 
@@ -403,6 +416,9 @@ commands generation number what = switch_input.Of 1 7 (spoken.Ravana (extension.
 abbrev results : ℕ → Outcome → List (Letter SwitchSays)
 results number result = to 1 (spoken.Ravana (extension.CmdAck 0 number result)) ∷ []
 
+abbrev row_left : List (Letter SwitchSays)
+row_left = to 1 (spoken.Ravana (extension.Event 0 0 (happening.FlowRemoved (left 0 1)))) ∷ []
+
 -- one of another generation is refused, and one that comes too early says nothing; the next is carried out once, and a repeat is told
 -- the result again as long as it is kept
 pub executes_once : says_to (mastered 1 1 (fresh 0 3 2)) (
@@ -417,24 +433,32 @@ pub executes_once : says_to (mastered 1 1 (fresh 0 3 2)) (
 unfolding switch_turn
 executes_once = refl
 
--- each refusal of a FLOW_MOD comes before those behind it
+-- each refusal of a FLOW_MOD comes before those behind it. A timeout is no fault, nor is the flag that asks for a FLOW_REMOVED
 pub refuses_changes : says_to (mastered 1 1 (fresh 0 3 2)) (
-    commands 1 0 (change 1 1 1 7 3)
-    ∷ commands 1 1 (change 0 1 1 7 3)
-    ∷ commands 1 2 (change 0 0 1 7 3)
-    ∷ commands 1 3 (change 0 0 0 7 3)
-    ∷ commands 1 4 (change 0 0 0 4294967295 3)
-    ∷ commands 1 5 (change 0 0 0 4294967295 1)
+    commands 1 0 (change 1 2 1 7 3)
+    ∷ commands 1 1 (change 0 2 1 7 3)
+    ∷ commands 1 2 (change 0 1 1 7 3)
+    ∷ commands 1 3 (change 0 1 1 4294967295 3)
+    ∷ commands 1 4 (change 0 1 1 4294967295 1)
     ∷ []) ≡
     results 0 (outcome.Failed 5 2)
     ∷ results 1 (outcome.Failed 5 7)
-    ∷ results 2 (outcome.Failed 5 5)
-    ∷ results 3 (outcome.Failed 1 8)
-    ∷ results 4 (outcome.Failed 2 4)
-    ∷ results 5 outcome.Done
+    ∷ results 2 (outcome.Failed 1 8)
+    ∷ results 3 (outcome.Failed 2 4)
+    ∷ results 4 outcome.Done
     ∷ []
 unfolding switch_turn
 refuses_changes = refl
+
+-- a row that no frame meets leaves at the tick at which its idle timeout is over, and the event of it is sent by each tick
+pub tells_what_left : says_to (mastered 1 1 (fresh 0 3 2)) (
+    commands 1 0 (change 0 1 1 4294967295 1)
+    ∷ switch_input.Local local.Tick
+    ∷ switch_input.Local local.Tick
+    ∷ []) ≡
+    results 0 outcome.Done ∷ row_left ∷ row_left ∷ []
+unfolding switch_turn
+tells_what_left = refl
 
 -- and last of all, where the table is full
 pub refuses_at_a_full_table : fault_result table.TableFull ≡ outcome.Failed 5 1
@@ -462,13 +486,15 @@ at_link = record (mastered 1 1 (fresh 0 3 2)) { links = record { switch = 0; por
 abbrev with_row : ℕ → SwitchState
 with_row output =
     record at_link {
-      rows = record {
-        priority = 10;
-        cookie = 2;
-        matching = record any_frame { in_port = Some 2; eth_dst = Some (record { value = 2199023255553; mask = 281474976710655 }) };
-        actions = output ∷ [];
-      }
-          ∷ at_link.rows;
+      table = record at_link.table {
+        rows = lasting (record {
+          priority = 10;
+          cookie = 2;
+          matching = record any_frame { in_port = Some 2; eth_dst = Some (record { value = 2199023255553; mask = 281474976710655 }) };
+          actions = output ∷ [];
+        })
+            ∷ at_link.table.rows;
+      };
     }
 
 abbrev forwarded : SwitchState → List (Letter SwitchSays) × ℕ
@@ -484,7 +510,7 @@ unfolding switch_turn
 forwards = refl
 
 -- a frame that no row matches goes nowhere
-pub drops : forwarded (record at_link { rows = [] }) ≡ ([], 0)
+pub drops : forwarded (record at_link { table = record at_link.table { rows = [] } }) ≡ ([], 0)
 unfolding switch_turn
 drops = refl
 

@@ -9,6 +9,8 @@ mod boards;
 #[cfg(test)]
 mod buffers;
 #[cfg(test)]
+mod clocks;
+#[cfg(test)]
 mod entries;
 #[cfg(test)]
 mod fence;

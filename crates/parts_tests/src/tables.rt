@@ -120,19 +120,9 @@ const BAD_BUFFER: Change = Change {
     ..BAD_PORT
 };
 
-const BAD_HARD: Change = Change {
-    hard: 1,
-    ..BAD_BUFFER
-};
-
-const BAD_IDLE: Change = Change {
-    idle: 1,
-    ..BAD_BUFFER
-};
-
 const BAD_FLAGS: Change = Change {
-    flags: 1,
-    ..BAD_IDLE
+    flags: 2,
+    ..BAD_BUFFER
 };
 
 const BAD_TABLE: Change = Change {
@@ -142,6 +132,14 @@ const BAD_TABLE: Change = Change {
 
 /// A row that is there.
 const AGAIN: Change = Change { priority: 9, ..ADD };
+
+/// Timeouts, and the flag that asks for a FLOW_REMOVED, are no faults.
+const TIMED: Change = Change {
+    idle: 1,
+    hard: 1,
+    flags: 1,
+    ..AGAIN
+};
 
 /// A deletion of that row from any table. It is not asked for its output.
 const DELETE_IT: Change = Change {
@@ -155,11 +153,10 @@ const DELETE_IT: Change = Change {
 const ANSWERS: &[(Change, Result<(), TableFault>)] = &[
     (BAD_TABLE, Err(TableFault::BadTable)),
     (BAD_FLAGS, Err(TableFault::BadFlags)),
-    (BAD_IDLE, Err(TableFault::BadTimeout)),
-    (BAD_HARD, Err(TableFault::BadTimeout)),
     (BAD_BUFFER, Err(TableFault::BadBuffer)),
     (BAD_PORT, Err(TableFault::BadPort)),
     (FULL, Err(TableFault::TableFull)),
+    (TIMED, Ok(())),
     (AGAIN, Ok(())),
     (DELETE_IT, Ok(())),
     (FULL, Ok(())),

@@ -10,8 +10,9 @@ use Rattle.of_match.specs.declared.kind.FieldKind.TheVariants.{InPort, EthDst, E
 use Rattle.of_match.specs.Field.{Field, number_of, width_of, mask_bytes, payload, field_bytes}
 use Rattle.of_match.proofs.Fields.{length-payload}
 use Rattle.of_match.specs.Writing.{spelled, written_of, bare_match, canonical_bare_match, canonical_match}
-use Rattle.of_messages.specs.Canonical.{action, actions_of, applied, instruction_of, packet_in_front, port_match, packet_in_body, port_status_body, packet_out_body, flow_mod_cookies, flow_mod_times, flow_mod_filter, flow_mod_body, role_body, error_body, features_body, plain_body, framed, canonical}
+use Rattle.of_messages.specs.Canonical.{action, actions_of, applied, instruction_of, packet_in_front, port_match, packet_in_body, flow_removed_front, flow_removed_times, flow_removed_counts, flow_removed_body, port_status_body, packet_out_body, flow_mod_cookies, flow_mod_times, flow_mod_filter, flow_mod_body, role_body, error_body, features_body, plain_body, framed, canonical}
 use Rattle.of_types.specs.declared.message.FlowMod.{FlowMod}
+use Rattle.of_types.specs.declared.message.FlowRemoved.{FlowRemoved}
 use Rattle.of_types.specs.declared.message.Match.{Match}
 use Rattle.of_types.specs.declared.message.OfMessage.{OfMessage}
 use Rattle.of_types.specs.declared.message.OfMessage.TheVariants as plain
@@ -180,6 +181,23 @@ packet_in_are : (p : PacketIn) → AreBytes p.payload → AreBytes (packet_in_bo
 unfolding packet_in_body
 packet_in_are p are = joined_bytes _ _ (packet_in_front_are p) (joined_bytes _ _ (match_are (port_match p.in_port)) (joined_bytes _ p.payload (zeros_are 2) are))
 
+removed_front_are : (r : FlowRemoved) → AreBytes (flow_removed_front r)
+unfolding flow_removed_front
+removed_front_are r = joined_bytes _ _ (eight_are _) (joined_bytes _ _ (two_are _) (joined_bytes _ _ (one_are _) (one_are _)))
+
+removed_times_are : (r : FlowRemoved) → AreBytes (flow_removed_times r)
+unfolding flow_removed_times
+removed_times_are r = joined_bytes _ _ (four_are _) (joined_bytes _ _ (zeros_are 4) (joined_bytes _ _ (two_are _) (two_are _)))
+
+removed_counts_are : (r : FlowRemoved) → AreBytes (flow_removed_counts r)
+unfolding flow_removed_counts
+removed_counts_are r = joined_bytes _ _ (eight_are _) (eight_are _)
+
+flow_removed_are : (r : FlowRemoved) → AreBytes (flow_removed_body r)
+unfolding flow_removed_body
+flow_removed_are r =
+    joined_bytes _ _ (removed_front_are r) (joined_bytes _ _ (removed_times_are r) (joined_bytes _ _ (removed_counts_are r) (match_are r.matching)))
+
 port_status_are : (p : PortStatus) → AreBytes (port_status_body p)
 unfolding port_status_body
 port_status_are p =
@@ -232,6 +250,7 @@ body_are (plain.Experimenter body) are = are
 body_are plain.FeaturesRequest are = no_bytes
 body_are (plain.FeaturesReply datapath) are = features_are datapath
 body_are (plain.PacketIn p) are = packet_in_are p are
+body_are (plain.FlowRemoved r) are = flow_removed_are r
 body_are (plain.PortStatus p) are = port_status_are p
 body_are (plain.PacketOut p) are = packet_out_are p are
 body_are (plain.FlowMod c) are = flow_mod_are c

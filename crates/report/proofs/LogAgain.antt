@@ -84,6 +84,7 @@ small_message m is =
 
 pub small_happening : (what : Happening) → IsTellable (happening_message what) → happening_size what ≤ 65535
 small_happening (happening.PacketIn p) is = small_message (happening_message (happening.PacketIn p)) is
+small_happening (happening.FlowRemoved r) is = small_message (happening_message (happening.FlowRemoved r)) is
 small_happening (happening.PortStatus p) is = small_message (happening_message (happening.PortStatus p)) is
 
 small_entry : (e : Entry) → IsLogEntry e → entry_size e ≤ 65553

@@ -33,6 +33,7 @@ read_again m s = message_again (messages.canonical 0 m) 0 m s.spelled
 happening_again : (what : Happening) → IsTellable (happening_message what) → happening_of (canonical_happening what) ≡ Some what
 unfolding happening_of canonical_happening
 happening_again (happening.PacketIn p) s = rw (read_again (happening_message (happening.PacketIn p)) s, numbers_same (messages.canonical 0 (happening_message (happening.PacketIn p)))) refl
+happening_again (happening.FlowRemoved r) s = rw (read_again (happening_message (happening.FlowRemoved r)) s, numbers_same (messages.canonical 0 (happening_message (happening.FlowRemoved r)))) refl
 happening_again (happening.PortStatus p) s = rw (read_again (happening_message (happening.PortStatus p)) s, numbers_same (messages.canonical 0 (happening_message (happening.PortStatus p)))) refl
 
 happening_bytes : (what : Happening) → IsTellable (happening_message what) → AreBytes (canonical_happening what)

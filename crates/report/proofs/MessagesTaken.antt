@@ -1,6 +1,6 @@
 -- Messages, matches and actions in base sixteen are written as they were read.
-use Rattle.std.proofs.Common.{◌≡◌, ℕ, zero, suc, ◌+◌, ◌-◌, ◌/◌, ◌%◌, ◌^◌, ◌≤◌, ◌<◌, Bool, true, false, cond, List, ◌++◌, length, take, drop, refl, sym, ap, subst, ◌∙◌, append_assoc, length-append, arith}
-use Rattle.std.specs.Prelude.{Option, Some, None, Result, Ok, Err, nat_le, nat_eq, replicate}
+use Rattle.std.proofs.Common.{◌≡◌, ℕ, zero, suc, ◌+◌, ◌-◌, ◌/◌, ◌%◌, ◌^◌, ◌≤◌, ◌<◌, List, ◌++◌, length, take, drop, refl, sym, ap, subst, ◌∙◌, append_assoc, length-append, arith}
+use Rattle.std.specs.Prelude.{Option, Some, Result, Ok, Err, nat_le, replicate}
 use Rattle.std.specs.Result.{result_ok}
 use Rattle.std.proofs.lemmas.Bool.{leb-true}
 use Rattle.std.proofs.lemmas.List.{take-append-drop, take_all, length-take, length-replicate}
@@ -18,14 +18,13 @@ use Rattle.of_messages.proofs.Takes.{message_takes}
 use Rattle.of_ravana.specs.Canonical.{canonical_happening, canonical_order, happening_message, order_message}
 use Rattle.of_types.specs.declared.message.Happening.{Happening}
 use Rattle.of_types.specs.declared.message.Happening.TheVariants as happening
-use Rattle.of_types.specs.declared.message.Masked48.{Masked48}
-use Rattle.of_types.specs.declared.message.Masked32.{Masked32}
 use Rattle.of_types.specs.declared.message.Match.{Match}
 use Rattle.of_types.specs.declared.message.OfMessage.{OfMessage}
 use Rattle.of_types.specs.declared.message.OfMessage.TheVariants as plain
 use Rattle.of_types.specs.declared.message.Order.{Order}
 use Rattle.of_types.specs.declared.message.Order.TheVariants as order
 use Rattle.of_types.specs.Sizes as sizes
+use Rattle.of_types.proofs.SmallMatches.{small_match}
 use Rattle.vr_log.specs.Same.{same_numbers}
 use Rattle.vr_log.proofs.Equal.{numbers_equal}
 use Rattle.report.specs.Canonical.{if_written, happening_in, happening_of, happening_at, order_in, order_of, order_at, padded, matching_of, matching_at, ports_of, most_actions, actions_in, actions_at}
@@ -74,6 +73,7 @@ happening_told (plain.Experimenter body) what e = absurd cc
 happening_told plain.FeaturesRequest what e = absurd cc
 happening_told (plain.FeaturesReply datapath) what e = absurd cc
 happening_told (plain.PacketIn p) what e = ap happening_message (some_is (happening.PacketIn p) what e)
+happening_told (plain.FlowRemoved r) what e = ap happening_message (some_is (happening.FlowRemoved r) what e)
 happening_told (plain.PortStatus p) what e = ap happening_message (some_is (happening.PortStatus p) what e)
 happening_told (plain.PacketOut p) what e = absurd cc
 happening_told (plain.FlowMod c) what e = absurd cc
@@ -91,6 +91,7 @@ order_told (plain.Experimenter body) what e = absurd cc
 order_told plain.FeaturesRequest what e = absurd cc
 order_told (plain.FeaturesReply datapath) what e = absurd cc
 order_told (plain.PacketIn p) what e = absurd cc
+order_told (plain.FlowRemoved r) what e = absurd cc
 order_told (plain.PortStatus p) what e = absurd cc
 order_told (plain.PacketOut p) what e = ap order_message (some_is (order.PacketOut p) what e)
 order_told (plain.FlowMod c) what e = ap order_message (some_is (order.FlowMod c) what e)
@@ -141,43 +142,6 @@ pub order_takes : Takes order_at (λ what. word (hex (canonical_order what))) (�
 order_takes = record { takes = order_is }
 
 -- ---- matches
-
-small_field : (width : ℕ) (field : Option ℕ) → sizes.field_size width field ≤ 4 + width
-small_field width None = omega arith
-small_field width (Some x) = omega arith
-
-small48 : (field : Option Masked48) → sizes.masked48_size field ≤ 16
-small48 None = omega arith
-small48 (Some a) = branch (nat_eq a.mask 281474976710655)
-  where
-    branch : (b : Bool) → cond b 10 16 ≤ 16
-    branch true = omega arith
-    branch false = omega arith
-
-small32 : (field : Option Masked32) → sizes.masked32_size field ≤ 12
-small32 None = omega arith
-small32 (Some a) = branch (nat_eq a.mask 4294967295)
-  where
-    branch : (b : Bool) → cond b 8 12 ≤ 12
-    branch true = omega arith
-    branch false = omega arith
-
-small_match : (m : Match) → sizes.match_size m ≤ 256
-small_match m =
-    omega (
-      arith,
-      small_field 4 m.in_port,
-      small48 m.eth_dst,
-      small48 m.eth_src,
-      small_field 2 m.eth_type,
-      small_field 1 m.ip_proto,
-      small32 m.ipv4_src,
-      small32 m.ipv4_dst,
-      small_field 2 m.tcp_src,
-      small_field 2 m.tcp_dst,
-      small_field 2 m.udp_src,
-      small_field 2 m.udp_dst,
-    )
 
 -- the length in a match, and how many bytes it takes
 front_number : (fields rest : List ℕ) → 4 + length fields < 2 ^ 16 → number 2 2 (bare_match fields ++ rest) ≡ 4 + length fields

@@ -12,7 +12,7 @@ use Rattle.of_types.specs.declared.message.OfMessage.{OfMessage}
 use Rattle.of_types.specs.declared.message.Order.{Order}
 use Rattle.of_types.specs.declared.message.Order.TheVariants as order
 use Rattle.of_types.specs.Sizes.{happening_size, order_size, plain_size}
-use Rattle.of_types.specs.Valid.{IsValidOrder, IsValidPlain}
+use Rattle.of_types.specs.Valid.{IsValidHappening, IsValidOrder, IsValidPlain}
 use Rattle.rv_base.specs.declared.journal.JournalEntry.{JournalEntry}
 use Rattle.rv_base.specs.declared.journal.JournalEntry.TheVariants as entry
 use Rattle.vr_log.specs.declared.entry.Entry.{Entry}
@@ -46,9 +46,10 @@ told_entry (entry.Refused a) f line = line
 tellable : (m : OfMessage) → IsValidPlain m → plain_size m ≤ 65535 → FitsMessage m → IsTellable m
 tellable m v short f = record { spelled = message_spelled 0 m v f.numbers short (lit< tt); bytes = message_bytes 0 m f.bytes }
 
-happening_tellable : (what : Happening) → happening_size what ≤ 65535 → FitsMessage (happening_message what) → IsTellable (happening_message what)
-happening_tellable (happening.PacketIn p) short f = tellable (happening_message (happening.PacketIn p)) tt short f
-happening_tellable (happening.PortStatus p) short f = tellable (happening_message (happening.PortStatus p)) tt short f
+happening_tellable : (what : Happening) → IsValidHappening what → happening_size what ≤ 65535 → FitsMessage (happening_message what) → IsTellable (happening_message what)
+happening_tellable (happening.PacketIn p) v short f = tellable (happening_message (happening.PacketIn p)) tt short f
+happening_tellable (happening.FlowRemoved r) v short f = tellable (happening_message (happening.FlowRemoved r)) v short f
+happening_tellable (happening.PortStatus p) v short f = tellable (happening_message (happening.PortStatus p)) tt short f
 
 order_tellable : (what : Order) → IsValidOrder what → order_size what ≤ 65535 → FitsMessage (order_message what) → IsTellable (order_message what)
 order_tellable (order.FlowMod c) v short f = tellable (order_message (order.FlowMod c)) v short f
@@ -56,15 +57,15 @@ order_tellable (order.PacketOut p) v short f = tellable (order_message (order.Pa
 
 -- ---- the log and the switches
 
-told_event : (e : Event) → FitsEvent e → happening_size e.what ≤ 65535 → IsToldEvent e
-told_event e f short = record { switch = f.switch; life = f.life; number = f.number; what = happening_tellable e.what short f.what }
+told_event : (e : Event) → FitsEvent e → IsValidHappening e.what → happening_size e.what ≤ 65535 → IsToldEvent e
+told_event e f v short = record { switch = f.switch; life = f.life; number = f.number; what = happening_tellable e.what v short f.what }
 
 log_entry : (e : Entry) → FitsLogEntry e → IsValidEntry e → IsLogEntry e
-log_entry (Received e) f short = told_event e f short
-log_entry (Processed j) f short = f
+log_entry (Received e) f v = told_event e f v.1 v.0
+log_entry (Processed j) f v = f
 
 event_of : (switch : ℕ) (e : Event) → FitsEvent e → IsWritableEvent switch e → IsEventOf switch e
-event_of switch e f s = record { told = told_event e f s.small; of = s.of }
+event_of switch e f s = record { told = told_event e f s.valid s.small; of = s.of }
 
 told_executed : (x : Executed) → FitsExecuted x → IsWritableExecuted x → IsToldExecuted x
 told_executed x f s = record { life = f.life; number = f.number; generation = f.generation; from = f.from; order = order_tellable x.order s.valid s.small f.order }

@@ -23,6 +23,7 @@ if_written write bytes x = if same_numbers (write x) bytes then Some x else None
 
 abbrev pub happening_in : OfMessage → Option Happening
 happening_in (plain.PacketIn packet) = Some (happening.PacketIn packet)
+happening_in (plain.FlowRemoved removed) = Some (happening.FlowRemoved removed)
 happening_in (plain.PortStatus status) = Some (happening.PortStatus status)
 happening_in _ = None
 

@@ -6,7 +6,7 @@ use Rattle.of_types.specs.declared.message.Event.{Event}
 use Rattle.of_types.specs.declared.message.Executed.{Executed}
 use Rattle.of_types.specs.Setups.{IsSetup}
 use Rattle.of_types.specs.Sizes.{happening_size, order_size}
-use Rattle.of_types.specs.Valid.{IsValidMatch, IsValidOrder}
+use Rattle.of_types.specs.Valid.{IsValidHappening, IsValidMatch, IsValidOrder}
 use Rattle.rv_base.specs.declared.journal.JournalEntry.{JournalEntry}
 use Rattle.rv_base.specs.declared.journal.JournalEntry.TheVariants as entry
 use Rattle.vr_log.specs.Sizes.{IsValidEntry}
@@ -19,9 +19,10 @@ abbrev pub HasLine : JournalEntry (List ℕ) → Type 0
 HasLine (entry.Refused a) = ⊥
 HasLine _ = Unit {0}
 
--- an event of this switch, whose message fits its header
+-- an event of this switch, whose message is valid and fits its header
 pub record IsWritableEvent (switch : ℕ) (e : Event) : Type 0 where
   pub of : e.switch ≡ switch
+  pub valid : IsValidHappening e.what
   pub small : happening_size e.what ≤ 65535
 
 -- a command whose order is valid and fits its header

@@ -65,6 +65,7 @@ fn happening_in(message: OfMessage) -> Option<Happening>
 {
     match message {
         OfMessage::PacketIn(packet) => Some(Happening::PacketIn(packet)),
+        OfMessage::FlowRemoved(removed) => Some(Happening::FlowRemoved(removed)),
         OfMessage::PortStatus(status) => Some(Happening::PortStatus(status)),
         other => {
             drop(other);

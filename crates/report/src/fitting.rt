@@ -9,7 +9,9 @@ ghost use Rattle.report.specs.Records.{AreBytes, FitsRule, FitsActor, FitsLetter
 
 use crate::record::{Record, Shown, Told};
 use of_bytes::{u8_fits, u16_fits, u32_fits, u64_fits};
-use of_messages::{flow_mod_fits, packet_in_fits, packet_out_fits, port_status_fits};
+use of_messages::{
+    flow_mod_fits, flow_removed_fits, packet_in_fits, packet_out_fits, port_status_fits,
+};
 use of_types::{Event, Executed, Happening, Match, Octets, Order, Rule};
 use rv_base::{Actor, JournalEntry, Letter, Local};
 use vr_log::Entry;
@@ -137,6 +139,7 @@ fn happening_fits(what: &Happening)
             packet_in_fits(packet);
             bytes_fit(packet.payload.as_slice());
         }
+        Happening::FlowRemoved(removed) => flow_removed_fits(removed),
         Happening::PortStatus(status) => port_status_fits(*status),
     }
 }

@@ -8,7 +8,7 @@ use crate::record::{Record, Told};
 use crate::switches::write_switches;
 use crate::word::{Word, write_line, write_words};
 use crate::words::write_newline;
-use of_types::{Happening, Octets, Setup};
+use of_types::{Happening, Octets, Setup, size_of_match};
 use std::alloc::{AllocError, Global};
 use vr_log::Entry;
 
@@ -61,6 +61,7 @@ fn size_of_entry(entry: &Entry) -> u128
         Entry::Processed(_) => 9,
         Entry::Received(event) => match &event.what {
             Happening::PacketIn(packet) => 60 + packet.payload.len() as u128,
+            Happening::FlowRemoved(removed) => 66 + size_of_match(&removed.matching) as u128,
             Happening::PortStatus(_) => 98,
         },
     }

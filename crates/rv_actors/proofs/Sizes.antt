@@ -28,7 +28,7 @@ log_below : (most : ℕ) → log_bytes ≡ most → (log : List Entry) → IsVal
 log_below most is log valid = subst (λ (n : ℕ). log_size log ≤ n) is valid.small
 
 vr_below : (most : ℕ) → log_bytes ≡ most → (m : VrMessage) → IsValidVr m → vr_size m ≤ 70000 + most
-vr_below most is (vr.Prepare view op commit (Received event)) valid = omega (arith, valid)
+vr_below most is (vr.Prepare view op commit (Received event)) valid = omega (arith, valid.0)
 vr_below most is (vr.Prepare view op commit (Processed j)) valid = omega arith
 vr_below most is (vr.PrepareOk view op) valid = omega arith
 vr_below most is (vr.Commit view commit) valid = omega arith

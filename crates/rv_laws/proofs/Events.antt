@@ -20,12 +20,12 @@ use Rattle.exactly_once.specs.Facts.{PastFacts, facts_of}
 use Rattle.exactly_once.specs.Invariant.{HoldsOfRun, IsHeardByController}
 use Rattle.rv_runs.proofs.Pasts.{possible_before}
 use Rattle.rv_runs.proofs.Pools.{drawn_found}
-use Rattle.exactly_once.proofs.Packets.{heard_by_controller, happening_short}
+use Rattle.exactly_once.proofs.Packets.{heard_by_controller, happening_short, happening_valid}
 
 heard_valid : (kinds : List ℕ) (setup : Setup) (f : PastFacts) (x : ControllerInput) → IsHeardByController kinds setup f x → HasValidEvent x
 heard_valid kinds setup f (controller_input.Local input) h = tt
 heard_valid kinds setup f (controller_input.Of s xid (spoken.Plain m)) h = tt
-heard_valid kinds setup f (controller_input.Of s xid (spoken.Ravana (extension.Event life number what))) h = let short = happening_short what h.1.1 in omega (arith, short)
+heard_valid kinds setup f (controller_input.Of s xid (spoken.Ravana (extension.Event life number what))) h = let short = happening_short what h.1.1 in (omega (arith, short), happening_valid what h.1.1)
 heard_valid kinds setup f (controller_input.Of s xid (spoken.Ravana (extension.EventAck life through))) h = tt
 heard_valid kinds setup f (controller_input.Of s xid (spoken.Ravana (extension.Command life generation number settled order))) h = tt
 heard_valid kinds setup f (controller_input.Of s xid (spoken.Ravana (extension.CmdAck life number outcome))) h = tt

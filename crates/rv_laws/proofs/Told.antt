@@ -35,7 +35,8 @@ use Rattle.app_core.specs.Issued.{issues, orders_in}
 use Rattle.flow_table.specs.Table.{opening_rows, row_of}
 use Rattle.of_switch.specs.declared.says.SwitchInput.{SwitchInput}
 use Rattle.of_switch.specs.declared.says.SwitchInput.TheVariants as switch_input
-use Rattle.of_switch.specs.State.{SwitchState}
+use Rattle.flow_clock.proofs.Remaining.{tick_rows}
+use Rattle.of_switch.specs.State.{SwitchState, rows_of}
 use Rattle.of_switch.specs.Rules.{switch_turn}
 use Rattle.rv_runs.specs.States.{Scene, SwitchAt, switch_at, switch_step, IsFaithful}
 use Rattle.rv_runs.specs.Legal.{IsPossible}
@@ -56,12 +57,13 @@ use Rattle.rv_laws.specs.Laws.{InEveryRun}
 use Rattle.rv_laws.specs.Told.{IsSpellable, IsSpellableEvent, IsSpellableOrder, IsSpellableRow, IsSpellableEntry, IsSpellableRun}
 use Rattle.rv_laws.proofs.Laws.{sides_law}
 use Rattle.exactly_once.proofs.TableRows.{all_changed}
-use Rattle.rv_laws.proofs.Rows.{Same, Opening, Changed, rows_after}
+use Rattle.rv_laws.proofs.Rows.{Same, Aged, Opening, Changed, rows_after}
 
 -- what happened with a good frame, and an order that fits a command
 happening_spellable : (what : Happening) → IsGoodHappening what → IsSpellable (happening_message what)
 happening_spellable (happening.PacketIn p) good = (tt, le_trans (happening_short (happening.PacketIn p) good) (omega arith))
 happening_spellable (happening.PortStatus p) good = (tt, omega arith)
+happening_spellable (happening.FlowRemoved r) good = (good, le_trans (happening_short (happening.FlowRemoved r) good) (omega arith))
 
 order_spellable : (what : Order) → IsSendable what → IsSpellable (order_message what)
 order_spellable (order.PacketOut out) h = (tt, le_trans h.1 (omega arith))
@@ -138,20 +140,21 @@ opening_told = (
 )
 
 -- a turn after which each command that was carried out can be spelled
-turn_rows : (s : SwitchState) (x : SwitchInput) → AreSpellableRows s.rows → ((y : Executed) → IsIn y (switch_turn s x).state.executed → IsSpellableOrder y) → AreSpellableRows (switch_turn s x).state.rows
+turn_rows : (s : SwitchState) (x : SwitchInput) → AreSpellableRows (rows_of s) → ((y : Executed) → IsIn y (switch_turn s x).state.executed → IsSpellableOrder y) → AreSpellableRows (rows_of (switch_turn s x).state)
 turn_rows s x h orders =
     elim (rows_after s x) [
       | Same is ↦ subst (λ (l : List Row). AreSpellableRows l) (sym is) h
+      | Aged is ↦ subst (λ (l : List Row). AreSpellableRows l) (sym is) (tick_rows (λ r. IsSpellableRow r) s.table h)
       | Opening is ↦ subst (λ (l : List Row). AreSpellableRows l) (sym is) opening_told
       | Changed change y among what is ↦
           let new = row_told change (subst (λ (o : Order). IsSpellable (order_message o)) what (orders y among)) in
           subst (λ (l : List Row). AreSpellableRows l) (sym is)
-          (all_changed (λ r. IsSpellableRow r) s.rows change h new (λ r k. record { matching = k.matching; few = new.few }))
+          (all_changed (λ r. IsSpellableRow r) (rows_of s) change h new (λ r k. record { matching = k.matching; few = new.few }))
     ]
 
 -- a switch, before and after what may be its open input
 abbrev HasSpellableRows : SwitchAt → Type 0
-HasSpellableRows w = AreSpellableRows w.now.rows × AreSpellableRows w.before.rows
+HasSpellableRows w = AreSpellableRows (rows_of w.now) × AreSpellableRows (rows_of w.before)
 
 step_rows : {B : Type 0} (scene : Scene B) (w : SwitchAt) (e : JournalEntry B) (found : Option (Packet B)) → HasSpellableRows w →
     ((y : Executed) → IsIn y (switch_step scene w e found).now.executed → IsSpellableOrder y) → HasSpellableRows (switch_step scene w e found)

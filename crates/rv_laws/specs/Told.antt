@@ -14,7 +14,7 @@ use Rattle.rv_base.specs.declared.journal.JournalEntry.{JournalEntry}
 use Rattle.rv_base.specs.declared.journal.SaveResult.{SaveResult}
 use Rattle.vr_log.specs.declared.entry.Entry.{Entry}
 use Rattle.vr_log.specs.declared.entry.Entry.TheVariants.{Received, Processed}
-use Rattle.of_switch.specs.State.{SwitchState}
+use Rattle.of_switch.specs.State.{SwitchState, rows_of}
 use Rattle.rv_runs.specs.States.{Scene}
 use Rattle.rv_runs.specs.Committed.{switch_state, decided}
 
@@ -40,7 +40,7 @@ pub record IsSpellableRow (r : Row) : Type 0 where
 pub record IsSpellableSwitch (s : ℕ) (state : SwitchState) : Type 0 where
   pub events : AllByRecursion (λ e. IsSpellableEvent s e) state.events
   pub executed : AllByRecursion (λ x. IsSpellableOrder x) state.executed
-  pub rows : AllByRecursion (λ r. IsSpellableRow r) state.rows
+  pub rows : AllByRecursion (λ r. IsSpellableRow r) (rows_of state)
 
 -- an entry of a log: an event of a switch of the setup, or its place alone
 abbrev pub IsSpellableEntry : Setup → Entry → Type 0

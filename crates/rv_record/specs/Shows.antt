@@ -7,7 +7,7 @@ use Rattle.rv_base.specs.declared.journal.SaveResult.{SaveResult}
 use Rattle.rv_base.specs.Pool.{past}
 use Rattle.vr_log.specs.declared.entry.Entry.{Entry}
 use Rattle.group_controller.specs.Turns.{Controlling, state_of}
-use Rattle.of_switch.specs.State.{SwitchState, life_of}
+use Rattle.of_switch.specs.State.{SwitchState, rows_of, life_of}
 use Rattle.rv_runs.specs.States.{Scene}
 use Rattle.rv_runs.specs.Committed.{kept, kept_of, switch_state}
 use Rattle.rv_runs.specs.Schedule.{count_turns}
@@ -31,7 +31,7 @@ told_of s =
       sent = s.sent;
       events = s.events;
       executed = s.executed;
-      rows = map shown_row s.rows;
+      rows = map shown_row (rows_of s);
     }
 
 -- what the controller of a number has committed

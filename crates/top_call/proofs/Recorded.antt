@@ -14,7 +14,7 @@ use Rattle.of_types.specs.declared.message.Row.{Row}
 use Rattle.of_types.specs.declared.setup.Setup.{Setup}
 use Rattle.of_types.specs.Setups.{IsSetup}
 use Rattle.of_types.specs.Sizes.{happening_size, order_size, plain_size}
-use Rattle.of_types.specs.Valid.{IsValidOrder}
+use Rattle.of_types.specs.Valid.{IsValidHappening, IsValidOrder}
 use Rattle.of_ravana.specs.Canonical.{happening_message, order_message}
 use Rattle.rv_base.specs.declared.journal.JournalEntry.{JournalEntry}
 use Rattle.rv_base.specs.declared.journal.JournalEntry.TheVariants.{Post, Draw, Lose, Local, Idle, Refused}
@@ -26,7 +26,7 @@ use Rattle.rv_base.proofs.All.{all_append, all_map, all_weaker}
 use Rattle.vr_log.specs.declared.entry.Entry.{Entry}
 use Rattle.vr_log.specs.declared.entry.Entry.TheVariants.{Received, Processed}
 use Rattle.vr_log.specs.Sizes.{IsValidEntry}
-use Rattle.of_switch.specs.State.{SwitchState}
+use Rattle.of_switch.specs.State.{SwitchState, rows_of}
 use Rattle.group_controller.specs.State.{ControllerState}
 use Rattle.rv_runs.specs.Committed.{decided, members_up, states_of, switch_state}
 use Rattle.rv_runs.specs.Schedule.{Answer, Closes, ClosesTo, Draining, Ends, IsMove, Losing, Met, Move, Phase, Suspecting, NoQuorum, Takes, TakesInOrder, after_move, closing_view, drained, is_drawn, majority, next_drained, next_lost, next_move, next_suspicion, next_view, quorum_of}
@@ -148,10 +148,16 @@ closing_lines scene results phase before (Refused a ∷ rest) last closes = absu
 
 happening_fits : (what : Happening) → plain_size (happening_message what) ≤ 65535 → happening_size what ≤ 65535
 happening_fits (happening.PacketIn p) small = small
+happening_fits (happening.FlowRemoved r) small = small
 happening_fits (happening.PortStatus p) small = small
 
+happening_valid : (what : Happening) → IsSpellable (happening_message what) → IsValidHappening what
+happening_valid (happening.PacketIn p) h = tt
+happening_valid (happening.FlowRemoved r) h = h.0
+happening_valid (happening.PortStatus p) h = tt
+
 event_writable : (s : ℕ) (e : Event) → IsSpellableEvent s e → IsWritableEvent s e
-event_writable s e h = record { of = h.switch_is; small = happening_fits e.what h.message.1 }
+event_writable s e h = record { of = h.switch_is; valid = happening_valid e.what h.message; small = happening_fits e.what h.message.1 }
 
 order_writable : (what : Order) → plain_size (order_message what) ≤ 65535 → order_size what ≤ 65535
 order_writable (order.FlowMod change) small = small
@@ -174,7 +180,7 @@ switch_writable : (s : ℕ) (state : SwitchState) → IsSpellableSwitch s state 
 switch_writable s state h = record {
   events = all_weaker (λ e. IsSpellableEvent s e) (λ e. IsWritableEvent s e) (λ e k. event_writable s e k) state.events h.events;
   executed = all_weaker (λ x. IsSpellableOrder x) (λ x. IsWritableExecuted x) (λ x k. executed_writable x k) state.executed h.executed;
-  rows = all_map (λ r. shown_row r) (λ r. IsSpellableRow r) (λ r. IsWritableRow r) (λ r k. row_writable r k) state.rows h.rows;
+  rows = all_map (λ r. shown_row r) (λ r. IsSpellableRow r) (λ r. IsWritableRow r) (λ r k. row_writable r k) (rows_of state) h.rows;
 }
 
 -- by number, from one on
@@ -187,7 +193,7 @@ switches_writable (x ∷ states) from each =
     )
 
 entry_valid : (setup : Setup) (e : Entry) → IsSpellableEntry setup e → IsValidEntry e
-entry_valid setup (Received e) h = happening_fits e.what h.1.1
+entry_valid setup (Received e) h = (happening_fits e.what h.1.1, happening_valid e.what h.1)
 entry_valid setup (Processed j) h = tt
 
 module _ {A : Type 0} (scene : Scene (List ℕ)) (results : List (List SaveResult)) (front rest : List (JournalEntry (List ℕ))) (answer : Answer) (w : Worlding (List ℕ) A) (primary : ℕ) where

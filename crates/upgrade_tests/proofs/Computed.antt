@@ -1,5 +1,5 @@
 -- What slots, and what learns, ask of switches for a list of events, computed. It was worked out by hand from the rules.
-use Rattle.std.specs.Prelude.{◌≡◌, ℕ, ◌+◌, ◌-◌, ◌^◌, false, List, [], ◌∷◌, map, Some, refl}
+use Rattle.std.specs.Prelude.{◌≡◌, ℕ, ◌+◌, ◌-◌, ◌^◌, false, List, [], ◌∷◌, ◌++◌, map, Some, refl}
 use Rattle.of_types.specs.declared.message.Command.{Command}
 use Rattle.of_types.specs.declared.message.Event.{Event}
 use Rattle.of_types.specs.declared.message.FlowCommand.TheVariants.{Add, Delete}
@@ -55,11 +55,23 @@ abbrev forwards : ℕ → ℕ → ℕ → ℕ → Turn
 forwards port to from output =
     at 0 (comes port (frame to from)) (flow_mod 0 2 Add 10 ANY_PORT (to_host port to) (output ∷ []) ∷ packet_out 0 port (frame to from) output ∷ [])
 
+-- the same with a row that ages
+abbrev forwards_aging : ℕ → ℕ → ℕ → ℕ → Turn
+forwards_aging port to from output =
+    at 0 (comes port (frame to from))
+    (record { switch = 0; order = order.FlowMod (record (flow_change 2 Add 10 ANY_PORT (to_host port to) (output ∷ [])) { idle = 4; flags = 1 }) } ∷ packet_out 0 port (frame to from) output ∷ [])
+
+-- such a row leaves switch 0, for it was not met. Nothing is asked for it
+abbrev leaves : ℕ → ℕ → Turn
+leaves port host =
+    at 0 (happening.FlowRemoved (record { cookie = 2; priority = 10; reason = 0; duration = 4; idle = 4; hard = 0; packets = 0; octets = 0; matching = to_host port host })) []
+
 -- ---- a slot that learns, then is a hub, then pins
 
 abbrev upgrades : List Turn
 upgrades =
     floods 0 1 (frame 2 1)
+    ∷ leaves 2 1
     ∷ forwards 2 1 2 1
     -- an operator's frame at another port, at another switch, and without a version, is an ordinary frame
     ∷ floods 0 3 (asking (1 ∷ []))
@@ -73,8 +85,9 @@ upgrades =
     -- the version that is active, one below it, and one that there is not
     ∷ at 0 (comes 48 (asking (1 ∷ []))) []
     ∷ at 0 (comes 48 (asking (0 ∷ []))) []
-    ∷ at 0 (comes 48 (asking (3 ∷ []))) []
+    ∷ at 0 (comes 48 (asking (4 ∷ []))) []
     ∷ at 0 (goes_down 1) []
+    ∷ leaves 2 1
     ∷ floods 1 1 (frame 2 1)
     -- a switch that the network does not have
     ∷ at 3 (comes 1 (frame 2 1)) []
@@ -82,6 +95,7 @@ upgrades =
     ∷ at 0 (comes 48 (asking (2 ∷ 7 ∷ []))) []
     ∷ floods 0 1 (frame 2 1)
     ∷ floods 0 3 (frame 2 1)
+    ∷ leaves 2 1
     ∷ forwards 2 1 2 1
     ∷ at 0 (goes_down 1) (flow_mod 0 0 Delete 0 1 any_match [] ∷ [])
     ∷ forwards 3 2 1 2
@@ -104,19 +118,39 @@ ends_pinned = refl
 
 -- ---- what lets rows age
 
+-- version 3 is asked for
+abbrev asks_to_age : Turn
+asks_to_age = at 0 (comes 48 (asking (3 ∷ []))) []
+
 abbrev ages : List Turn
 ages =
     floods 0 1 (frame 2 1)
-    ∷ at 0 (comes 2 (frame 1 2))
-    (record { switch = 0; order = order.FlowMod (record (flow_change 2 Add 10 ANY_PORT (to_host 2 1) (1 ∷ [])) { idle = 4; flags = 1 }) } ∷ packet_out 0 2 (frame 1 2) 1 ∷ [])
+    ∷ forwards_aging 2 1 2 1
     -- an address goes with its host
     ∷ floods 0 3 (frame 9 1)
-    ∷ at 0 (comes 2 (frame 1 2))
-    (record { switch = 0; order = order.FlowMod (record (flow_change 2 Add 10 ANY_PORT (to_host 2 1) (3 ∷ [])) { idle = 4; flags = 1 }) } ∷ packet_out 0 2 (frame 1 2) 3 ∷ [])
-    -- an operator asks it for nothing
-    ∷ floods 0 48 (asking (1 ∷ []))
+    ∷ forwards_aging 2 1 2 3
+    -- and stays where it is when a row leaves
+    ∷ leaves 2 1
+    ∷ forwards_aging 2 1 2 3
+    ∷ leaves 2 1
     ∷ []
 
-ages_alone : reactions (aging ∷ []) network (map (λ turn. turn.event) ages) ≡ map (λ turn. turn.asks) ages
+-- alone an operator asks it for nothing
+ages_alone : reactions (aging ∷ []) network (map (λ turn. turn.event) (floods 0 48 (asking (1 ∷ [])) ∷ ages)) ≡ map (λ turn. turn.asks) (floods 0 48 (asking (1 ∷ [])) ∷ ages)
 unfolding reactions part_next rule_of
 ages_alone = refl
+
+-- a slot goes to it from version 0 at once, and from each other version
+ages_in_a_slot : reactions (firewall ∷ slot ∷ []) network (map (λ turn. turn.event) (asks_to_age ∷ ages)) ≡ map (λ turn. turn.asks) (asks_to_age ∷ ages)
+unfolding reactions part_next rule_of
+ages_in_a_slot = refl
+
+ages_behind_others : reactions (slot ∷ []) network (map (λ turn. turn.event) (upgrades ++ asks_to_age ∷ ages)) ≡ map (λ turn. turn.asks) (upgrades ++ asks_to_age ∷ ages)
+unfolding reactions part_next rule_of
+ages_behind_others = refl
+
+-- it ends at version 3, which knows two hosts
+ends_aging : chain_after (slot ∷ []) network (starting_chain (slot ∷ [])) (map (λ turn. turn.event) (asks_to_age ∷ ages))
+    ≡ (3 ∷ 0 ∷ 0x020000000001 ∷ 3 ∷ 0 ∷ 0x020000000002 ∷ 2 ∷ []) ∷ []
+unfolding part_next rule_of
+ends_aging = refl

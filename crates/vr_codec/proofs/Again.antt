@@ -28,6 +28,9 @@ unfolding event_at
 event_again bytes (happening.PacketIn p) s =
     let there = s.1.there in
     rw (le-ltb (length bytes) 4 (omega arith), s.1.length_is, eq-eqb (length bytes) (length bytes) refl, message_again bytes s.0 (plain.PacketIn p) s.1) refl
+event_again bytes (happening.FlowRemoved r) s =
+    let there = s.1.there in
+    rw (le-ltb (length bytes) 4 (omega arith), s.1.length_is, eq-eqb (length bytes) (length bytes) refl, message_again bytes s.0 (plain.FlowRemoved r) s.1) refl
 event_again bytes (happening.PortStatus p) s =
     let there = s.1.there in
     rw (le-ltb (length bytes) 4 (omega arith), s.1.length_is, eq-eqb (length bytes) (length bytes) refl, message_again bytes s.0 (plain.PortStatus p) s.1) refl

@@ -5,7 +5,7 @@ use Rattle.std.proofs.lemmas.List.{length-drop}
 use Rattle.std.proofs.lemmas.List.Sums.{sum_by-cons}
 use Rattle.std.proofs.Math.Seq.{take-append_seam, drop-append_seam}
 use Rattle.of_bytes.proofs.Bytes.{IsBytes, IsBytes-take, IsBytes-drop}
-use Rattle.of_ravana.proofs.Forms.{happening_long, inner_fits}
+use Rattle.of_ravana.proofs.Forms.{happening_valid, happening_long, inner_fits}
 use Rattle.of_ravana.specs.Canonical.{happening_message}
 use Rattle.vr_log.specs.declared.entry.Entry.{Entry}
 use Rattle.vr_log.specs.declared.entry.Entry.TheVariants.{Received, Processed}
@@ -24,8 +24,10 @@ entry_long text (Received event) s =
 entry_long text (Processed j) s = let whole = s.whole in omega arith
 
 entry_valid : (text : List ℕ) (entry : Entry) → IsBytes text → SpellsEntry text entry → IsValidEntry entry
-entry_valid text (Received event) fits s =
-    omega (arith, happening_long (drop 18 text) event.what s.inner, inner_fits (drop 18 text) (happening_message event.what) (IsBytes-drop 18 text fits) s.inner)
+entry_valid text (Received event) fits s = (
+  omega (arith, happening_long (drop 18 text) event.what s.inner, inner_fits (drop 18 text) (happening_message event.what) (IsBytes-drop 18 text fits) s.inner),
+  happening_valid (drop 18 text) event.what s.inner,
+)
 entry_valid text (Processed j) fits s = tt
 
 entries_long : (bytes : List ℕ) (log : List Entry) → SpellsEntries bytes log → log_size log ≤ length bytes

@@ -55,7 +55,7 @@ entry_length (Processed j) = processed_size j
 
 entry_spelled : (entry : Entry) → IsValidEntry entry → FitsEntry entry → SpellsEntry (canonical_entry entry) entry
 entry_spelled (Received event) v f =
-    received_spelled event (canonical_happening event.what) f.0 f.1 f.2 (omega (arith, happening_length event.what)) (happening_spelled event.what f.3 v)
+    received_spelled event (canonical_happening event.what) f.0 f.1 f.2 (omega (arith, happening_length event.what, v.0)) (happening_spelled event.what v.1 f.3 v.0)
 entry_spelled (Processed j) v f = processed_spelled j f
 
 entries_length : (log : List Entry) → length (flat_map canonical_entry log) ≡ log_size log

@@ -20,6 +20,7 @@ fn read_happening(alloc: Global, bytes: &[u8]) -> Result<Happening, VrFault>
     }
     match read_message(alloc, bytes) {
         Ok(OfMessage::PacketIn(packet)) => Ok(Happening::PacketIn(packet)),
+        Ok(OfMessage::FlowRemoved(removed)) => Ok(Happening::FlowRemoved(removed)),
         Ok(OfMessage::PortStatus(status)) => Ok(Happening::PortStatus(status)),
         Ok(_) => Err(VrFault::Refused(VrRefusal::BadEvent)),
         Err(BodyFault::Wire(_)) => Err(VrFault::Refused(VrRefusal::BadEvent)),

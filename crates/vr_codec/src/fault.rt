@@ -13,7 +13,7 @@ pub enum VrRefusal {
     BadKind,
     /// Bytes are left over, the length of an event's message is not its own, or a log is past its limits.
     BadLength,
-    /// The message of an event is refused, or is no PACKET_IN or PORT_STATUS.
+    /// The message of an event is refused, or is none of PACKET_IN, PORT_STATUS and FLOW_REMOVED.
     BadEvent,
 }
 

@@ -3,13 +3,17 @@ use Rattle.std.proofs.Common.{◌≡◌, ℕ, Bool, true, false, ◌&&◌, List,
 use Rattle.std.specs.Prelude.{nat_eq, ◌↔◌, IsTrue}
 use Rattle.std.proofs.lemmas.Bool.{eqb-true, eq-eqb, and_parts}
 use Rattle.of_types.specs.declared.message.Event.{Event}
+use Rattle.of_types.specs.Matching.{same_match}
+use Rattle.of_types.specs.declared.message.FlowRemoved.{FlowRemoved}
+use Rattle.of_types.specs.declared.message.Match.{Match}
+use Rattle.of_types.proofs.SameMatches.{match_is, match_itself}
 use Rattle.of_types.specs.declared.message.Happening.{Happening}
 use Rattle.of_types.specs.declared.message.Happening.TheVariants as happening
 use Rattle.of_types.specs.declared.message.PacketIn.{PacketIn}
 use Rattle.of_types.specs.declared.message.PortStatus.{PortStatus}
 use Rattle.vr_log.specs.declared.entry.Entry.{Entry}
 use Rattle.vr_log.specs.declared.entry.Entry.TheVariants.{Received, Processed}
-use Rattle.vr_log.specs.Same.{same_numbers, same_flag, same_packet, same_status, same_happening, same_event, same_entry, same_entries}
+use Rattle.vr_log.specs.Same.{same_numbers, same_flag, same_packet, same_status, same_removed, same_happening, same_event, same_entry, same_entries}
 
 pub numbers_equal : (xs ys : List ℕ) → same_numbers xs ys ≡ true → xs ≡ ys
 numbers_equal [] [] h = refl
@@ -51,14 +55,45 @@ status_equal p q h =
     ∙ (ap (λ (r : ℕ). record p { reason = q.reason; port = r }) (eqb-true p.port q.port m.1)
     ∙ ap (λ (r : Bool). record p { reason = q.reason; port = q.port; up = r }) (flag_equal p.up q.up k.1))
 
+abbrev removed : ℕ → ℕ → ℕ → ℕ → ℕ → ℕ → ℕ → ℕ → Match → FlowRemoved
+removed cookie priority reason duration idle hard packets octets matching =
+    record { cookie = cookie; priority = priority; reason = reason; duration = duration; idle = idle; hard = hard; packets = packets; octets = octets; matching = matching }
+
+removed_equal : (p q : FlowRemoved) → same_removed p q ≡ true → p ≡ q
+removed_equal p q h =
+    let k8 = and_parts _ (same_match p.matching q.matching) h in
+    let k7 = and_parts _ (nat_eq p.octets q.octets) k8.0 in
+    let k6 = and_parts _ (nat_eq p.packets q.packets) k7.0 in
+    let k5 = and_parts _ (nat_eq p.hard q.hard) k6.0 in
+    let k4 = and_parts _ (nat_eq p.idle q.idle) k5.0 in
+    let k3 = and_parts _ (nat_eq p.duration q.duration) k4.0 in
+    let k2 = and_parts _ (nat_eq p.reason q.reason) k3.0 in
+    let k1 = and_parts (nat_eq p.cookie q.cookie) (nat_eq p.priority q.priority) k2.0 in
+    ap (λ (x : ℕ). removed x p.priority p.reason p.duration p.idle p.hard p.packets p.octets p.matching) (eqb-true p.cookie q.cookie k1.0)
+    ∙ ap (λ (x : ℕ). removed q.cookie x p.reason p.duration p.idle p.hard p.packets p.octets p.matching) (eqb-true p.priority q.priority k1.1)
+    ∙ ap (λ (x : ℕ). removed q.cookie q.priority x p.duration p.idle p.hard p.packets p.octets p.matching) (eqb-true p.reason q.reason k2.1)
+    ∙ ap (λ (x : ℕ). removed q.cookie q.priority q.reason x p.idle p.hard p.packets p.octets p.matching) (eqb-true p.duration q.duration k3.1)
+    ∙ ap (λ (x : ℕ). removed q.cookie q.priority q.reason q.duration x p.hard p.packets p.octets p.matching) (eqb-true p.idle q.idle k4.1)
+    ∙ ap (λ (x : ℕ). removed q.cookie q.priority q.reason q.duration q.idle x p.packets p.octets p.matching) (eqb-true p.hard q.hard k5.1)
+    ∙ ap (λ (x : ℕ). removed q.cookie q.priority q.reason q.duration q.idle q.hard x p.octets p.matching) (eqb-true p.packets q.packets k6.1)
+    ∙ ap (λ (x : ℕ). removed q.cookie q.priority q.reason q.duration q.idle q.hard q.packets x p.matching) (eqb-true p.octets q.octets k7.1)
+    ∙ ap (λ (x : Match). removed q.cookie q.priority q.reason q.duration q.idle q.hard q.packets q.octets x) (match_is p.matching q.matching k8.1)
+
 happening_equal : (a b : Happening) → same_happening a b ≡ true → a ≡ b
 happening_equal (happening.PacketIn p) (happening.PacketIn q) h = ap (λ (r : PacketIn). happening.PacketIn r) (packet_equal p q h)
 happening_equal (happening.PortStatus p) (happening.PortStatus q) h = ap (λ (r : PortStatus). happening.PortStatus r) (status_equal p q h)
 happening_equal (happening.PacketIn p) (happening.PortStatus q) h = absurd cc
 happening_equal (happening.PortStatus p) (happening.PacketIn q) h = absurd cc
+happening_equal (happening.FlowRemoved p) (happening.FlowRemoved q) h = ap (λ (r : FlowRemoved). happening.FlowRemoved r) (removed_equal p q h)
+happening_equal (happening.FlowRemoved p) (happening.PacketIn q) h = absurd cc
+happening_equal (happening.FlowRemoved p) (happening.PortStatus q) h = absurd cc
+happening_equal (happening.PacketIn p) (happening.FlowRemoved q) h = absurd cc
+happening_equal (happening.PortStatus p) (happening.FlowRemoved q) h = absurd cc
 
 happening_same : (h : Happening) → same_happening h h ≡ true
 happening_same (happening.PacketIn p) = rw (eq-eqb p.reason p.reason refl, eq-eqb p.cookie p.cookie refl, eq-eqb p.in_port p.in_port refl, numbers_same p.payload) refl
+happening_same (happening.FlowRemoved p) =
+    rw (eq-eqb p.cookie p.cookie refl, eq-eqb p.priority p.priority refl, eq-eqb p.reason p.reason refl, eq-eqb p.duration p.duration refl, eq-eqb p.idle p.idle refl, eq-eqb p.hard p.hard refl, eq-eqb p.packets p.packets refl, eq-eqb p.octets p.octets refl) (match_itself p.matching)
 happening_same (happening.PortStatus p) = rw (eq-eqb p.reason p.reason refl, eq-eqb p.port p.port refl, flag_same p.up) refl
 
 event_equal : (a b : Event) → same_event a b ≡ true → a ≡ b

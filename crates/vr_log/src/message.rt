@@ -13,7 +13,7 @@ pub struct Filled {
 }
 
 /// A message of one member to another. An op is the place of an entry in the log, counted from 1.
-#[derive(Clone, Drop)]
+#[derive(Drop)]
 pub enum VrMessage {
     /// The primary has this entry at this place (4.1).
     Prepare {
@@ -86,6 +86,95 @@ pub enum VrMessage {
         first: u64,
         log: Entries,
     },
+}
+
+// By hand, since a derived one copies each number by a call that may fail, and so is the dearest proof of this crate.
+impl Clone for VrMessage {
+    ghost is_clone = { λ x y. y ≡ x };
+
+    fn clone(&self) -> Result<VrMessage, AllocError> {
+        match self {
+            VrMessage::Prepare {
+                view,
+                op,
+                commit,
+                entry,
+            } => Ok(VrMessage::Prepare {
+                view: *view,
+                op: *op,
+                commit: *commit,
+                entry: entry.clone()?,
+            }),
+            VrMessage::PrepareOk { view, op } => Ok(VrMessage::PrepareOk {
+                view: *view,
+                op: *op,
+            }),
+            VrMessage::Commit { view, commit } => Ok(VrMessage::Commit {
+                view: *view,
+                commit: *commit,
+            }),
+            VrMessage::StartViewChange { view } => Ok(VrMessage::StartViewChange { view: *view }),
+            VrMessage::DoViewChange {
+                view,
+                normal,
+                commit,
+                log,
+            } => Ok(VrMessage::DoViewChange {
+                view: *view,
+                normal: *normal,
+                commit: *commit,
+                log: log.clone()?,
+            }),
+            VrMessage::StartView {
+                view,
+                first,
+                commit,
+                log,
+            } => Ok(VrMessage::StartView {
+                view: *view,
+                first: *first,
+                commit: *commit,
+                log: log.clone()?,
+            }),
+            VrMessage::Recovery { nonce, promise } => Ok(VrMessage::Recovery {
+                nonce: *nonce,
+                promise: *promise,
+            }),
+            VrMessage::RecoveryResponse {
+                view,
+                nonce,
+                filled,
+            } => Ok(VrMessage::RecoveryResponse {
+                view: *view,
+                nonce: *nonce,
+                filled: filled.clone()?,
+            }),
+            VrMessage::GetState { view, op } => Ok(VrMessage::GetState {
+                view: *view,
+                op: *op,
+            }),
+            VrMessage::NewState {
+                view,
+                first,
+                commit,
+                log,
+            } => Ok(VrMessage::NewState {
+                view: *view,
+                first: *first,
+                commit: *commit,
+                log: log.clone()?,
+            }),
+            VrMessage::Fetch { view, op } => Ok(VrMessage::Fetch {
+                view: *view,
+                op: *op,
+            }),
+            VrMessage::Supply { view, first, log } => Ok(VrMessage::Supply {
+                view: *view,
+                first: *first,
+                log: log.clone()?,
+            }),
+        }
+    }
 }
 
 /// A message for a member.

@@ -3,7 +3,7 @@ ghost use Rattle.std.specs.Prelude.{◌≡◌, ◌↔◌, IsTrue};
 ghost use Rattle.vr_log.specs.Same as same;
 
 use crate::entry::Entry;
-use of_types::{Event, Happening, PacketIn, PortStatus};
+use of_types::{Event, FlowRemoved, Happening, PacketIn, PortStatus, same_match};
 
 fn same_bytes(a: &[u8], b: &[u8]) -> bool
     ensures { result ≡ same.same_numbers a.now b.now }
@@ -26,12 +26,27 @@ fn same_status(a: PortStatus, b: PortStatus) -> bool
     a.reason == b.reason && a.port == b.port && a.up == b.up
 }
 
+fn same_removed(a: &FlowRemoved, b: &FlowRemoved) -> bool
+    ensures { result ≡ same.same_removed a.now b.now }
+{
+    a.cookie == b.cookie
+        && a.priority == b.priority
+        && a.reason == b.reason
+        && a.duration == b.duration
+        && a.idle == b.idle
+        && a.hard == b.hard
+        && a.packets == b.packets
+        && a.octets == b.octets
+        && same_match(&a.matching, &b.matching)
+}
+
 fn same_happening(a: &Happening, b: &Happening) -> bool
     ensures { result ≡ same.same_happening a.now b.now }
 {
     match (a, b) {
         (Happening::PacketIn(p), Happening::PacketIn(q)) => same_packet(p, q),
         (Happening::PortStatus(p), Happening::PortStatus(q)) => same_status(*p, *q),
+        (Happening::FlowRemoved(p), Happening::FlowRemoved(q)) => same_removed(p, q),
         _ => false,
     }
 }

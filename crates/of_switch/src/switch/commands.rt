@@ -4,10 +4,11 @@ ghost use Rattle.std.specs.List.{list_any};
 ghost use Rattle.of_types.specs.declared.message.Order.TheVariants as orders;
 ghost use Rattle.of_types.specs.declared.message.Outcome.TheVariants as outcomes;
 ghost use Rattle.command_buffer.specs.Results.{most_kept, without_results_below, with_result, offer_of};
+ghost use Rattle.flow_clock.specs.Clocked.{rows_in};
 ghost use Rattle.flow_table.specs.Table.{table_fault};
 ghost use Rattle.of_switch.specs.State.{Turned};
 ghost use Rattle.of_switch.specs.Commands.{is_output, failed as failed_by, fault_result, table_result, result_of, letter_of_result, executes, settled as settled_below, on_command};
-ghost use Rattle.of_switch.specs.Drafts.{draft_of, is_execute, rows_as, sent_as, reported};
+ghost use Rattle.of_switch.specs.Drafts.{draft_of, is_execute, table_as, sent_as, reported};
 
 use super::forwarding::is_frame_of;
 use super::{Switch, Table};
@@ -15,11 +16,11 @@ use crate::draft::Draft;
 use crate::letters::to_controller;
 use crate::says::SwitchSays;
 use command_buffer::{CommandBuffer, MOST_KEPT, Offer};
-use flow_table::{Rows, TableFault};
+use flow_table::TableFault;
 use of_types::{
-    ALL_PORTS, BAD_FLAGS, BAD_OUT_PORT, BAD_PACKET, BAD_TABLE, BAD_TIMEOUT, Executed, Extension,
-    FLOOD, FlowMod, IN_PORT, Items, NO_BUFFER, NOT_MASTER, Order, Outcome, PacketOut, Refusal,
-    Spoken, TABLE_FULL, UNKNOWN_BUFFER,
+    ALL_PORTS, BAD_FLAGS, BAD_OUT_PORT, BAD_PACKET, BAD_TABLE, Executed, Extension, FLOOD, FlowMod,
+    IN_PORT, Items, NO_BUFFER, NOT_MASTER, Order, Outcome, PacketOut, Refusal, Spoken, TABLE_FULL,
+    UNKNOWN_BUFFER,
 };
 use rv_base::{Letter, Letters};
 use std::alloc::AllocError;
@@ -103,7 +104,7 @@ impl Switch {
         let ports = self.ports();
         let mut letters = Vec::with_capacity(self.alloc, 1)?;
         self.executed.reserve(1)?;
-        let outcome = change_rows(&mut self.rows, &change, ports)?;
+        let outcome = change_table(&mut self.table, &change, ports)?;
         letters.push_reserved(cmd_ack(command, life, outcome));
         count(&mut self.results, command.settled, outcome);
         self.executed
@@ -209,7 +210,6 @@ fn outcome_of(fault: TableFault) -> Outcome
     match fault {
         TableFault::BadTable => failed(BAD_TABLE),
         TableFault::BadFlags => failed(BAD_FLAGS),
-        TableFault::BadTimeout => failed(BAD_TIMEOUT),
         TableFault::BadBuffer => failed(UNKNOWN_BUFFER),
         TableFault::BadPort => failed(BAD_OUT_PORT),
         TableFault::TableFull => failed(TABLE_FULL),
@@ -217,14 +217,14 @@ fn outcome_of(fault: TableFault) -> Outcome
     }
 }
 
-/// Changes rows as a FLOW_MOD says, and tells its result.
-fn change_rows(rows: &mut Table, change: &FlowMod, ports: u32) -> Result<Outcome, AllocError>
-    ensures result { IfOk result (λ outcome. outcome ≡ table_result (table_fault rows.old ports change.now)) }
-    ensures rows { IfOk result (λ outcome. rows.new ≡ rows_as outcome rows.old change.now) }
+/// Changes a table as a FLOW_MOD says, and tells its result.
+fn change_table(table: &mut Table, change: &FlowMod, ports: u32) -> Result<Outcome, AllocError>
+    ensures result { IfOk result (λ outcome. outcome ≡ table_result (table_fault (rows_in table.old) ports change.now)) }
+    ensures table { IfOk result (λ outcome. table.new ≡ table_as outcome table.old change.now) }
     ensures kept { IfOk result (λ outcome. outcome ≢ outcomes.Cleared) }
-    ensures err { OnErr result (rows.new ≡ rows.old) }
+    ensures err { OnErr result (table.new ≡ table.old) }
 {
-    match rows.apply(change, ports) {
+    match table.apply(change, ports) {
         Ok(()) => Ok(Outcome::Done),
         Err(TableFault::OutOfMemory) => Err(AllocError),
         Err(fault) => Ok(outcome_of(fault)),

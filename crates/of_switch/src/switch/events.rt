@@ -1,19 +1,22 @@
 //! What a switch makes of what happens (Ravana, 4.1).
-ghost use Rattle.std.specs.Prelude.{◌≡◌, ◌≤◌, ◌<◌, ◌+◌, ◌-◌, ◌^◌, [], true, false, length, take, drop, All, if◌then◌else◌, IfOk, OnOk, OnErr};
+ghost use Rattle.std.specs.Prelude.{◌≡◌, ◌≤◌, ◌<◌, ◌+◌, ◌-◌, ◌^◌, [], true, false, length, take, drop, All, if◌then◌else◌, IfOk, OnOk, OnErr, ◌∷◌};
 ghost use Rattle.event_buffer.specs.Buffer.{most_held, highest_port, is_full, next_number, cleared_to, with_dirty};
 ghost use Rattle.of_switch.specs.State.{Turned, life_of};
-ghost use Rattle.of_switch.specs.Events.{window, coming as coming_events, first_held, cleared, raised, port_status, port_raised, with_port, next_life, on_port, on_event_ack, brings, on_restart, on_tick};
+ghost use Rattle.of_switch.specs.Events.{window, coming as coming_events, first_held, cleared, raised, port_status, port_raised, with_port, next_life, on_port, on_event_ack, brings, flow_removed as removal_told, on_restart, on_tick};
 ghost use Rattle.of_types.specs.Lives.{last_life};
 ghost use Rattle.role_fence.specs.Fence.{starting_fence};
-ghost use Rattle.of_switch.specs.Drafts.{IsDraft, draft_of, drafted, with_raised, with_ports, forgets, forgetting, all_posted, changed_to, life_begun};
+ghost use Rattle.of_switch.specs.Drafts.{IsDraft, draft_of, drafted, with_raised, with_removed, with_greetings, with_first, with_ports, forgets, forgetting, all_posted, changed_to, life_begun};
 
-use super::{Switch, Table};
-use crate::draft::{Draft, Parts, WINDOW};
-use crate::letters::{push_events, push_greetings};
+use super::{Switch, Table, new_table};
+use crate::draft::{Draft, Parts, WINDOW, first};
 use crate::says::SwitchSays;
 use command_buffer::CommandBuffer;
 use event_buffer::EventBuffer;
-use of_types::{Event, Happening, Items, LAST_LIFE, PortStatus, REASON_MODIFY, switch_up};
+use flow_clock::Expired;
+use of_types::{
+    Event, FlowRemoved, Happening, Items, LAST_LIFE, PortStatus, REASON_MODIFY, SEND_REMOVED,
+    switch_up,
+};
 use role_fence::RoleFence;
 use rv_base::Letters;
 use std::alloc::AllocError;
@@ -245,7 +248,7 @@ impl Switch {
         ensures err { OnErr result (self.new ≡ self.old) }
     {
         let results = CommandBuffer::new(self.alloc)?;
-        let rows = Table::new(self.alloc)?;
+        let table = new_table(self.alloc)?;
         self.ended.reserve(1)?;
         let Parts {
             mut events,
@@ -255,43 +258,100 @@ impl Switch {
         } = draft.into_parts();
         self.events.append(&mut events)?;
         self.ended.push_reserved(self.buffer.cleared());
-        self.renew(buffer, results, rows);
+        self.renew(buffer, results, table);
         post_all(&mut self.buffer, joining);
         self.sent = sent;
         Ok(Items::from_vec(letters))
     }
 
     /// What the switch held of its last life gives way.
-    fn renew(&mut self, buffer: EventBuffer, results: CommandBuffer, rows: Table)
+    fn renew(&mut self, buffer: EventBuffer, results: CommandBuffer, table: Table)
         requires events { next_number buffer ≤ length self.old.events }
         requires executed { results.executed ≤ length self.old.executed }
-        ensures { self.new ≡ record self.old { buffer = buffer; results = results; rows = rows; fence = starting_fence } }
+        ensures { self.new ≡ record self.old { buffer = buffer; results = results; table = table; fence = starting_fence } }
     {
         self.buffer = buffer;
         self.results = results;
-        self.rows = rows;
+        self.table = table;
         self.fence = RoleFence::new();
     }
 
-    /// A tick: the first events are sent again. A later life without a master greets again.
-    pub(super) fn on_tick(&self) -> Result<Letters<SwitchSays>, AllocError>
-        ensures { IfOk result (λ letters. Turned (on_tick self.now) self.now letters) }
+    /// A tick: the table ages, and then the first events are sent. A later life without a master greets again.
+    pub(super) fn on_tick(&mut self) -> Result<Letters<SwitchSays>, AllocError>
+        ensures ok { IfOk result (λ letters. Turned (on_tick self.old) self.new letters) }
+        ensures err { OnErr result (self.new ≡ self.old) }
     {
-        let mut letters = Vec::new(self.alloc);
-        let master = self.fence.master();
-        if master.is_none() && self.life() > 0 {
-            push_greetings(&mut letters, self.controllers)?;
+        let left = self.table.leaving()?;
+        let draft = self.ticked(&left)?;
+        let letters = self.finish(draft)?;
+        self.table.rise(&left);
+        Ok(letters)
+    }
+
+    /// What a tick at which these rows leave is to add.
+    fn ticked(&self, left: &[Expired]) -> Result<Draft, AllocError>
+        ensures { IfOk result (λ d. d ≡ with_first self.now.buffer.held (with_greetings self.now (with_removed left.now (draft_of self.now)))) }
+    {
+        let mut draft = self.draft();
+        note_all(&mut draft, left)?;
+        self.greet_again(&mut draft)?;
+        draft.tell_first(self.buffer.held())?;
+        Ok(draft)
+    }
+
+    /// Each controller is greeted in a later life without a master.
+    fn greet_again(&self, draft: &mut Draft) -> Result<(), AllocError>
+        ensures { OnOk result (draft.new ≡ with_greetings self.now draft.old) }
+    {
+        if draft.lacks_master() {
+            draft.greet(self.controllers)?;
         }
-        push_events(&mut letters, master, self.first_held())?;
-        Ok(Items::from_vec(letters))
+        Ok(())
     }
 
     /// The events of the buffer that may be under way.
     pub(super) fn first_held(&self) -> &[Event]
         ensures { result.now ≡ first_held self.now }
     {
-        first(self.buffer.held())
+        first(self.buffer.held(), WINDOW)
     }
+}
+
+/// Rows that have left are noted where they ask for that.
+fn note_all(draft: &mut Draft, left: &[Expired]) -> Result<(), AllocError>
+    ensures { OnOk result (draft.new ≡ with_removed left.now draft.old) }
+{
+    for expired in left {
+        note_removed(draft, expired)?;
+    }
+    Ok(())
+}
+
+/// A row that has left is noted where it asks for that.
+fn note_removed(draft: &mut Draft, expired: &Expired) -> Result<(), AllocError>
+    ensures { OnOk result (draft.new ≡ with_removed (expired.now ∷ []) draft.old) }
+{
+    if expired.flags == SEND_REMOVED && !draft.is_full() {
+        draft.note(flow_removed(expired))?;
+    }
+    Ok(())
+}
+
+/// A row that has left, as an event.
+fn flow_removed(expired: &Expired) -> Happening
+    ensures { result ≡ removal_told expired.now }
+{
+    Happening::FlowRemoved(FlowRemoved {
+        cookie: expired.row.cookie,
+        priority: expired.row.priority,
+        reason: expired.reason,
+        duration: expired.duration,
+        idle: expired.idle,
+        hard: expired.hard,
+        packets: expired.hits,
+        octets: expired.octets,
+        matching: expired.row.matching,
+    })
 }
 
 /// What happened joins a buffer, in order.
@@ -306,23 +366,12 @@ fn post_all(buffer: &mut EventBuffer, joining: Vec<Happening>)
     }
 }
 
-/// As many events as may be under way.
-fn first(events: &[Event]) -> &[Event]
-    ensures { result.now ≡ take window events.now }
-{
-    if events.len() < WINDOW {
-        events
-    } else {
-        &events[..WINDOW]
-    }
-}
-
 /// The events that come among the first where so many leave.
 fn coming(held: &[Event], left: usize) -> &[Event]
     requires { left ≤ length held.now }
     ensures { result.now ≡ drop (window - left) (take window (drop left held.now)) }
 {
-    let first = first(&held[left..]);
+    let first = first(&held[left..], WINDOW);
     let known = WINDOW.saturating_sub(left);
     if known < first.len() {
         &first[known..]

@@ -1,15 +1,15 @@
 //! Where a switch sends frames (OpenFlow 1.3, 5.3 and 7.2.5).
-ghost use Rattle.std.specs.Prelude.{◌≡◌, not, nat_eq, length, filter, flat_map, IfOk, OnOk, OnErr};
+ghost use Rattle.std.specs.Prelude.{◌≡◌, ◌≤◌, not, nat_eq, length, filter, flat_map, IfOk, OnOk, OnErr};
 ghost use Rattle.flow_table.specs.Table.{chosen_row};
-ghost use Rattle.of_switch.specs.State.{Turned, ports_up};
-ghost use Rattle.of_switch.specs.Forwarding.{is_frame, targets, over_link, over_links, is_table_miss, packet_in as packet_in_of, fields_at, through_row, on_frame};
+ghost use Rattle.of_switch.specs.State.{Turned, ports_up, rows_of};
+ghost use Rattle.of_types.specs.declared.numbers.TheConstants.{LONGEST_FRAME};
+ghost use Rattle.of_switch.specs.Forwarding.{is_frame, targets, over_link, over_links, is_table_miss, packet_in as packet_in_of, fields_at, through_row, counting, on_frame};
 ghost use Rattle.of_switch.specs.Drafts.{draft_of, with_letters, with_packet, with_sent, with_output, with_outputs, with_row, untold, other_port};
 
 use super::Switch;
 use crate::draft::Draft;
 use crate::letters::frame_letter;
 use crate::says::SwitchSays;
-use flow_table::Rows;
 use of_types::{
     ALL_PORTS, FLOOD, Fields, Happening, IN_PORT, Items, LONGEST_FRAME, Link, Octets, PacketIn,
     REASON_ACTION, REASON_NO_MATCH, Row, SHORTEST_FRAME, TO_CONTROLLER, fields, is_any,
@@ -43,19 +43,23 @@ impl Switch {
 
     /// A frame meets the table. One that no row matches is dropped.
     fn meet_table(&mut self, port: u32, frame: &Octets) -> Result<Letters<SwitchSays>, AllocError>
-        ensures ok { IfOk result (λ letters. Turned (through_row self.old port frame.now (chosen_row self.old.rows (fields_at port frame.now))) self.new letters) }
+        requires { length frame.now ≤ LONGEST_FRAME }
+        ensures ok { IfOk result (λ letters. Turned (counting port frame.now (through_row self.old port frame.now (chosen_row (rows_of self.old) (fields_at port frame.now)))) self.new letters) }
         ensures err { OnErr result (self.new ≡ self.old) }
     {
         let draft = self.through_table(port, frame)?;
-        self.finish(draft)
+        let letters = self.finish(draft)?;
+        self.table
+            .hit(&fields_of(port, frame.as_slice()), frame.len() as u32);
+        Ok(letters)
     }
 
     /// What becomes of a frame that meets the table.
     fn through_table(&self, port: u32, frame: &Octets) -> Result<Draft, AllocError>
-        ensures { IfOk result (λ d. d ≡ with_row self.now port frame.now (chosen_row self.now.rows (fields_at port frame.now)) (draft_of self.now)) }
+        ensures { IfOk result (λ d. d ≡ with_row self.now port frame.now (chosen_row (rows_of self.now) (fields_at port frame.now)) (draft_of self.now)) }
     {
         let mut draft = self.draft();
-        if let Some(row) = self.rows.look_up(&fields_of(port, frame.as_slice())) {
+        if let Some(row) = self.table.look_up(&fields_of(port, frame.as_slice())) {
             self.put_all(&mut draft, row, port, frame)?;
         }
         Ok(draft)

@@ -51,6 +51,7 @@ impl Switch {
             OfMessage::Experimenter { .. }
             | OfMessage::FeaturesReply { .. }
             | OfMessage::PacketIn(_)
+            | OfMessage::FlowRemoved(_)
             | OfMessage::PortStatus(_)
             | OfMessage::BarrierReply
             | OfMessage::RoleReply { .. } => self.refuse(from, xid, BAD_TYPE),

@@ -24,7 +24,7 @@ life-is c =
     let new = c.requires.buffer ∙ ap (λ (x : SwitchState). (next_life x).buffer) (sym c.self.view_is) in
     let events = c.in_ok-append.ensures.items ∙ ap (λ (es : List Event). s.events ++ es) c.into_parts-events.ensures.events in
     let ended = c.push_reserved.ensures.items ∙ ap (λ (ns : List ℕ). ns ++ c.cleared.result ∷ []) c.reserve.ensures.items ∙ ap (λ (n : ℕ). s.ended ++ n ∷ []) c.cleared.ensures in
-    renewed s (the_view c.self-2.inside) c.args.draft _ _ _ _ _ (c.self-2.view_is ∙ c.renew.ensures) new c.in_ok-results.ensures c.in_ok-rows.ensures events ended
+    renewed s (the_view c.self-2.inside) c.args.draft _ _ _ _ _ (c.self-2.view_is ∙ c.renew.ensures) new c.in_ok-results.ensures c.in_ok-table.ensures events ended
 
 -- and once what is new has joined
 done-is : (c : After-drop-events-2) →

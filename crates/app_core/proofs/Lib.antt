@@ -9,6 +9,10 @@ pub mod FirewallLaws
 pub mod LearningLaws
 pub mod HubLaws
 pub mod SlotLaws
+pub mod Linked
+pub mod Routes
+pub mod RoutingLaws
+pub mod Paths
 pub mod Rows
 pub mod Table
 pub mod Chains

@@ -1,7 +1,7 @@
 -- The rows of the table of kinds, as equations.
 use Rattle.std.proofs.Common.{◌≡◌, refl}
 use Rattle.std.specs.Prelude.{map}
-use Rattle.app_core.specs.Chain.{aging, firewall, firewall_rule, hub, hub_rule, learning, learning_rule, pinned, plain_rule_of, rule_of, slot, versions}
+use Rattle.app_core.specs.Chain.{aging, firewall, firewall_rule, hub, hub_rule, learning, learning_rule, pinned, plain_rule_of, routing, routing_rule, rule_of, slot, versions}
 use Rattle.app_core.specs.Learning.{ageing, pinning, plainly}
 use Rattle.app_core.specs.Operator.{asked_version}
 use Rattle.app_core.specs.Slot.{slot_rule}
@@ -29,3 +29,7 @@ pinned_row = refl
 pub aging_row : rule_of aging ≡ learning_rule ageing
 unfolding rule_of
 aging_row = refl
+
+pub routing_row : rule_of routing ≡ routing_rule
+unfolding rule_of
+routing_row = refl

@@ -1,16 +1,18 @@
 -- Applications, and the plain controller that never fails and runs them on a list of events.
-use Rattle.std.specs.Prelude.{ℕ, false, nat_eq, is_some, List, [], ◌∷◌, ◌+◌, ◌++◌, map, if◌then◌else◌}
+use Rattle.std.specs.Prelude.{ℕ, ◌*◌, take, drop, false, nat_eq, is_some, List, [], ◌∷◌, ◌+◌, ◌++◌, length, map, if◌then◌else◌}
 use Rattle.of_types.specs.declared.message.Command.{Command}
 use Rattle.of_types.specs.declared.message.Event.{Event}
 use Rattle.of_types.specs.declared.setup.Setup.{Setup}
 use Rattle.app_core.specs.declared.host.Host.{Host}
 use Rattle.app_core.specs.declared.manner.Manner.{Manner}
+use Rattle.app_core.specs.declared.switch_port.SwitchPort.{SwitchPort}
 use Rattle.of_types.specs.Lives.{is_switch_up}
 use Rattle.app_core.specs.Firewall.{first_hit, installed_after, firewall_commands, rows_at}
 use Rattle.app_core.specs.Hub.{hub_commands}
 use Rattle.app_core.specs.Learning.{hosts_after, learning_commands, plainly, pinning, ageing}
 use Rattle.app_core.specs.Operator.{asked_version}
 use Rattle.app_core.specs.PartRule.{PartRule, PartStep, no_rule, passes_on, rule_step}
+use Rattle.app_core.specs.Routing.{Routing, routing_after, routing_commands}
 use Rattle.app_core.specs.Slot.{slot_rule}
 
 -- lists, one after another
@@ -26,6 +28,23 @@ flat (h ∷ hosts) = h.switch ∷ h.address ∷ h.port ∷ flat hosts
 abbrev pub hosts_of : List ℕ → List Host
 hosts_of (switch ∷ address ∷ port ∷ numbers) = record { switch = switch; address = address; port = port } ∷ hosts_of numbers
 hosts_of _ = []
+
+-- ports as numbers, two for each
+abbrev pub flat_ports : List SwitchPort → List ℕ
+flat_ports [] = []
+flat_ports (p ∷ ports) = p.switch ∷ p.port ∷ flat_ports ports
+
+abbrev pub ports_of : List ℕ → List SwitchPort
+ports_of (switch ∷ port ∷ numbers) = record { switch = switch; port = port } ∷ ports_of numbers
+ports_of _ = []
+
+-- what routing knows as numbers: how many addresses there are, then these, then the ports that are down
+abbrev pub flat_routing : Routing → List ℕ
+flat_routing r = length r.hosts ∷ flat r.hosts ++ flat_ports r.down
+
+abbrev pub routing_of : List ℕ → Routing
+routing_of (count ∷ numbers) = record { hosts = hosts_of (take (3 * count) numbers); down = ports_of (drop (3 * count) numbers) }
+routing_of [] = record { hosts = []; down = [] }
 
 -- the firewall (Firewall.antt). A packet-in that a rule denies goes no further, and a switch that is up again gets its rows
 abbrev pub firewall_step : Setup → List ℕ → Event → PartStep
@@ -52,6 +71,15 @@ learning_step manner hosts event =
 abbrev pub hub_step : List ℕ → Event → PartStep
 hub_step state event = record (passes_on state) { commands = hub_commands event.switch event.what }
 
+-- routing (Routing.antt): it learns first, and answers by what it then knows
+abbrev pub routing_step : Setup → Routing → Event → PartStep
+routing_step setup r event =
+    record {
+      state = flat_routing (routing_after setup r event.switch event.what);
+      commands = routing_commands setup (routing_after setup r event.switch event.what) event.switch event.what;
+      stops = false;
+    }
+
 -- the kinds of parts
 abbrev pub firewall : ℕ
 firewall = 1
@@ -71,6 +99,9 @@ pinned = 5
 abbrev pub aging : ℕ
 aging = 6
 
+abbrev pub routing : ℕ
+routing = 7
+
 -- a firewall has at most 16 rules, and a setup at most 64 switches, each of which gets a row
 abbrev pub firewall_rule : PartRule
 firewall_rule = record { next = λ setup state event. firewall_step setup state event; starts = []; most = 64 }
@@ -83,6 +114,10 @@ learning_rule manner = record { next = λ setup state event. learning_step manne
 abbrev pub hub_rule : PartRule
 hub_rule = record { next = λ setup state event. hub_step state event; starts = []; most = 1 }
 
+-- the rows of 63 switches and a frame, or a frame for each of at most 64 switches. It starts with no address, and no port that is down
+abbrev pub routing_rule : PartRule
+routing_rule = record { next = λ setup state event. routing_step setup (routing_of state) event; starts = 0 ∷ []; most = 64 }
+
 -- the rules of the kinds whose parts hold no other part
 abbrev pub plain_rule_of : ℕ → PartRule
 plain_rule_of kind =
@@ -91,11 +126,12 @@ plain_rule_of kind =
     else if nat_eq kind hub then hub_rule
     else if nat_eq kind pinned then learning_rule pinning
     else if nat_eq kind aging then learning_rule ageing
+    else if nat_eq kind routing then routing_rule
     else no_rule
 
 -- the kinds of the versions that a slot has, by the numbers of these. An operator asks for one (Operator.antt)
 abbrev pub versions : List ℕ
-versions = learning ∷ hub ∷ pinned ∷ aging ∷ []
+versions = learning ∷ hub ∷ pinned ∷ aging ∷ routing ∷ []
 
 -- the table of kinds. That each rule in it keeps its laws is in proofs/Table.antt
 unfoldable pub rule_of : ℕ → PartRule

@@ -10,10 +10,11 @@ mod manner;
 mod operator;
 mod part;
 mod rules;
+mod switch_port;
 
 pub use app::App;
-pub use commands::{flow_change, flow_mod, packet_out};
-pub use host::Host;
+pub use commands::{flow_change, flow_mod, forgetting_rows, frames_to, packet_out};
+pub use host::{Host, is_single};
 pub use issued::{Issued, issued_is_single};
 pub use manner::Manner;
 pub use operator::{
@@ -21,3 +22,4 @@ pub use operator::{
 };
 pub use part::{Part, joined_reactions, start_parts};
 pub use rules::rules_keep_their_laws;
+pub use switch_port::{Leg, SwitchPort};

@@ -16,26 +16,27 @@ use Rattle.app_core.specs.Operator.{asked_at, asked_version}
 use Rattle.app_core.specs.PartRule.{PartRule}
 use Rattle.app_core.specs.Parts.{AllFit, Steps}
 use Rattle.app_core.specs.Slot.{at_version, version_of}
-use Rattle.app_core.proofs.Rows.{aging_row, hub_row, learning_row, pinned_row, slot_row}
+use Rattle.app_core.proofs.Rows.{aging_row, hub_row, learning_row, pinned_row, routing_row, slot_row}
 use Rattle.app_upgrade.specs.declared.version.Version.{Version}
 use Rattle.app_upgrade.specs.declared.version.Version.TheVariants as version
 use Rattle.app_upgrade.specs.Versions.{AreLast, active_of, kind_in, left_after}
 
--- no version gives more than two commands
-few_in : (v : Version) → most_given (kind_in v) ≤ 2
+-- no version gives more than 64 commands
+few_in : (v : Version) → most_given (kind_in v) ≤ 64
 unfolding rule_of
 few_in (version.Learning p) = omega arith
 few_in (version.PlainLearning p) = omega arith
 few_in (version.Hub p) = omega arith
 few_in (version.Pinned p) = omega arith
 few_in (version.Aging p) = omega arith
+few_in (version.Route p) = omega arith
 
-pub few_first : (parts : List Version) → most_given (get_or (map kind_in parts) 0 0) ≤ 2
+pub few_first : (parts : List Version) → most_given (get_or (map kind_in parts) 0 0) ≤ 64
 unfolding rule_of
 few_first [] = omega arith
 few_first (v ∷ parts) = few_in v
 
-pub at_most : {A E : Type 0} (r : Result A E) (before after most : ℕ) → most ≤ 2 → OnOk r (after ≤ before + most) → OnOk r (after ≤ before + 2)
+pub at_most : {A E : Type 0} (r : Result A E) (before after most : ℕ) → most ≤ 64 → OnOk r (after ≤ before + most) → OnOk r (after ≤ before + 64)
 at_most (Ok x) before after most few h = omega (arith, few, h)
 at_most (Err e) before after most few h = tt
 
@@ -61,7 +62,7 @@ rules_are (kind ∷ kinds) plain zero = plain.0
 rules_are (kind ∷ kinds) plain (suc number) = rules_are kinds plain.1 number
 
 rule_is : (number : ℕ) → rule_of (get_or versions number 0) ≡ of_version number
-rule_is number = rules_are versions (learning_row, (hub_row, (pinned_row, (aging_row, tt)))) number
+rule_is number = rules_are versions (learning_row, (hub_row, (pinned_row, (aging_row, (routing_row, tt))))) number
 
 module _ (parts : List Version) (last : AreLast parts) where
   -- as many parts as versions are left

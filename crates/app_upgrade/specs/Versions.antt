@@ -1,6 +1,6 @@
 -- The versions of an application as parts.
 use Rattle.std.specs.Prelude.{◌≡◌, ◌<◌, ℕ, ◌-◌, nat_lt, ◌&&◌, if◌then◌else◌, List, length, map, drop}
-use Rattle.app_core.specs.Chain.{learning, hub, pinned, aging, versions}
+use Rattle.app_core.specs.Chain.{learning, hub, pinned, aging, routing, versions}
 use Rattle.app_upgrade.specs.declared.version.Version.{Version}
 use Rattle.app_upgrade.specs.declared.version.Version.TheVariants as version
 
@@ -11,6 +11,7 @@ kind_in (version.PlainLearning p) = learning
 kind_in (version.Hub p) = hub
 kind_in (version.Pinned p) = pinned
 kind_in (version.Aging p) = aging
+kind_in (version.Route p) = routing
 
 -- the active version, where so many parts are left: those before it are gone
 abbrev pub active_of : List Version → ℕ

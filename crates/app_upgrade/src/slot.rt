@@ -11,10 +11,11 @@ use crate::version::Version;
 use app_core::{Part, asked_version, start_parts};
 use learning_app::{Aging, Learning, Pinned};
 use of_types::{Commands, Event, Setup};
+use route_app::Route;
 use std::alloc::{AllocError, Global};
 
 /// How many versions a slot has.
-const VERSIONS: usize = 4;
+const VERSIONS: usize = 5;
 
 /// A part that is one version of an application, the active one, until an operator asks for a later one. It holds the active
 /// version and those after it.
@@ -34,6 +35,7 @@ pub fn versions_from(alloc: Global, first: Version) -> Result<Vec<Version>, Allo
     parts.push(Version::Hub(Hub::new()))?;
     parts.push(Version::Pinned(Pinned::new(alloc)))?;
     parts.push(Version::Aging(Aging::new(alloc)))?;
+    parts.push(Version::Route(Route::new(alloc)))?;
     Ok(parts)
 }
 
@@ -93,7 +95,7 @@ fn react_active(
     ensures step { (s : Setup) → AllFit ⟦<Version as Part>⟧.is_fit parts.old.items s → IfOk result (λ stops.
         Steps (part_next (slice_index_or (map kind_in parts.old.items) 0 0) s (slice_index_or (map ⟦<Version as Part>⟧.numbers parts.old.items) 0 []) event.now)
         (slice_index_or (map ⟦<Version as Part>⟧.numbers parts.new.items) 0 []) out.old out.new stops) }
-    ensures few { (s : Setup) → AllFit ⟦<Version as Part>⟧.is_fit parts.old.items s → OnOk result (length out.new ≤ length out.old + 2) }
+    ensures few { (s : Setup) → AllFit ⟦<Version as Part>⟧.is_fit parts.old.items s → OnOk result (length out.new ≤ length out.old + 64) }
 {
     react_first(alloc, parts.as_mut_slice(), event, out)
 }
@@ -138,7 +140,7 @@ impl Part for Slot {
     }
 
     fn most(&self) -> u32 {
-        2
+        64
     }
 
     // A slot that is started again, after an upgrade, has new parts of the versions that it dropped.

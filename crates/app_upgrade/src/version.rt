@@ -7,6 +7,7 @@ use crate::hub::Hub;
 use app_core::Part;
 use learning_app::{Aging, Learning, Pinned, PlainLearning};
 use of_types::{Commands, Event, Setup};
+use route_app::Route;
 use std::alloc::{AllocError, Global};
 
 /// A part that may be a version of an application.
@@ -17,6 +18,7 @@ pub enum Version {
     Hub(Hub),
     Pinned(Pinned),
     Aging(Aging),
+    Route(Route),
 }
 
 impl Part for Version {
@@ -28,6 +30,7 @@ impl Part for Version {
       | version.Hub p ↦ ⟦<Hub as Part>⟧.numbers p
       | version.Pinned p ↦ ⟦<Pinned as Part>⟧.numbers p
       | version.Aging p ↦ ⟦<Aging as Part>⟧.numbers p
+      | version.Route p ↦ ⟦<Route as Part>⟧.numbers p
     ] };
 
     ghost is_fit = { elim [
@@ -36,6 +39,7 @@ impl Part for Version {
       | version.Hub p ↦ ⟦<Hub as Part>⟧.is_fit p
       | version.Pinned p ↦ ⟦<Pinned as Part>⟧.is_fit p
       | version.Aging p ↦ ⟦<Aging as Part>⟧.is_fit p
+      | version.Route p ↦ ⟦<Route as Part>⟧.is_fit p
     ] };
 
     fn kind(&self) -> u8 {
@@ -45,6 +49,7 @@ impl Part for Version {
             Version::Hub(part) => part.kind(),
             Version::Pinned(part) => part.kind(),
             Version::Aging(part) => part.kind(),
+            Version::Route(part) => part.kind(),
         }
     }
 
@@ -55,6 +60,7 @@ impl Part for Version {
             Version::Hub(part) => part.most(),
             Version::Pinned(part) => part.most(),
             Version::Aging(part) => part.most(),
+            Version::Route(part) => part.most(),
         }
     }
 
@@ -65,6 +71,7 @@ impl Part for Version {
             Version::Hub(part) => part.start(alloc, setup),
             Version::Pinned(part) => part.start(alloc, setup),
             Version::Aging(part) => part.start(alloc, setup),
+            Version::Route(part) => part.start(alloc, setup),
         }
     }
 
@@ -80,6 +87,7 @@ impl Part for Version {
             Version::Hub(part) => part.react(alloc, event, out),
             Version::Pinned(part) => part.react(alloc, event, out),
             Version::Aging(part) => part.react(alloc, event, out),
+            Version::Route(part) => part.react(alloc, event, out),
         }
     }
 }

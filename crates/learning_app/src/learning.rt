@@ -4,10 +4,10 @@ ghost use Rattle.of_types.specs.Header.{number_at};
 ghost use Rattle.app_core.specs.Chain.{flat};
 ghost use Rattle.app_core.specs.Learning.{is_single, is_pinned, seen_destination, with_source, forgotten, forgetting_rows, forwarded, hosts_after, learning_commands};
 
-use crate::commands::{forgetting_rows, forward};
+use crate::commands::forward;
 use crate::hosts::{HostList, HostMap, Hosts};
 use crate::learner::{Ageing, Learner, Pinning, Plainly};
-use app_core::{Manner, Part};
+use app_core::{Manner, Part, forgetting_rows, is_single};
 use of_types::{Commands, Event, Happening, PacketIn, PortStatus, Setup, fields, is_switch_up};
 use std::alloc::{AllocError, Global};
 use std::marker::PhantomData;
@@ -31,13 +31,6 @@ pub type Pinned = LearningOver<HostMap, Pinning>;
 
 /// Learning whose rows age.
 pub type Aging = LearningOver<HostMap, Ageing>;
-
-/// Whether an address is that of one host: its first byte is even.
-fn is_single(address: u64) -> bool
-    ensures { result ≡ is_single address }
-{
-    (address / (1 << 40)) % 2 == 0
-}
 
 /// Whether an address keeps the port that it has.
 fn is_pinned<H: Hosts>(manner: Manner, hosts: &H, switch: u8, address: u64) -> bool

@@ -14,7 +14,7 @@ use std::thread::Threads;
 use top_call::{CONTROLLERS, LIVES, push_life, ravana, stables};
 
 /// Serves the words, with these ends. Each life of each controller runs a firewall before a slot of all versions: a learning, a
-/// hub, a learning that pins, and one whose rows age.
+/// hub, a learning that pins, one whose rows age, and shortest paths.
 fn serve<S: Source, K: Sink, R: Threads + Wait + Sync>(
     rt: &R,
     alloc: Global,

@@ -20,26 +20,26 @@ abbrev network : Setup
 network = record { controllers = 1; ports = 48 ∷ 48 ∷ 48 ∷ []; links = []; deny = [] }
 
 -- what happens at a switch, and what is asked of switches for it
-record Turn : Type 0 where
-  event : Event
-  asks : List Command
+pub record Turn : Type 0 where
+  pub event : Event
+  pub asks : List Command
 
-abbrev at : ℕ → Happening → List Command → Turn
+abbrev pub at : ℕ → Happening → List Command → Turn
 at switch what commands = record { event = record { switch = switch; life = 0; number = 0; what = what }; asks = commands }
 
 -- a frame at a port
-abbrev comes : ℕ → List ℕ → Happening
+abbrev pub comes : ℕ → List ℕ → Happening
 comes port frame = happening.PacketIn (record { reason = 0; cookie = 0; in_port = port; payload = frame })
 
-abbrev goes_down : ℕ → Happening
+abbrev pub goes_down : ℕ → Happening
 goes_down port = happening.PortStatus (record { reason = 2; port = port; up = false })
 
 -- a frame between hosts, by the last bytes of their addresses
-abbrev frame : ℕ → ℕ → List ℕ
+abbrev pub frame : ℕ → ℕ → List ℕ
 frame to from = 2 ∷ 0 ∷ 0 ∷ 0 ∷ 0 ∷ to ∷ 2 ∷ 0 ∷ 0 ∷ 0 ∷ 0 ∷ from ∷ 136 ∷ 181 ∷ []
 
 -- a frame by which an operator asks, with what stands behind its header
-abbrev asking : List ℕ → List ℕ
+abbrev pub asking : List ℕ → List ℕ
 asking rest = 3 ∷ 0 ∷ 0 ∷ 0 ∷ 0 ∷ 1 ∷ 2 ∷ 0 ∷ 0 ∷ 0 ∷ 0 ∷ 15 ∷ 136 ∷ 182 ∷ rest
 
 -- a frame at a port that is flooded
@@ -47,7 +47,7 @@ abbrev floods : ℕ → ℕ → List ℕ → Turn
 floods switch port bytes = at switch (comes port bytes) (packet_out switch port bytes FLOOD ∷ [])
 
 -- the frames to a host that come in by a port
-abbrev to_host : ℕ → ℕ → Match
+abbrev pub to_host : ℕ → ℕ → Match
 to_host port host = record any_match { in_port = Some port; eth_dst = Some (record { value = 0x020000000000 + host; mask = 2 ^ 48 - 1 }) }
 
 -- a frame at a port of switch 0 that goes out by another one, with a row for such frames
@@ -85,7 +85,7 @@ upgrades =
     -- the version that is active, one below it, and one that there is not
     ∷ at 0 (comes 48 (asking (1 ∷ []))) []
     ∷ at 0 (comes 48 (asking (0 ∷ []))) []
-    ∷ at 0 (comes 48 (asking (4 ∷ []))) []
+    ∷ at 0 (comes 48 (asking (5 ∷ []))) []
     ∷ at 0 (goes_down 1) []
     ∷ leaves 2 1
     ∷ floods 1 1 (frame 2 1)

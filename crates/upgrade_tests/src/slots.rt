@@ -17,46 +17,56 @@ struct Asked {
     left: u32,
 }
 
-/// Version 1, once more and then an earlier one; one that there is not; versions 2 and 3, and behind each again an earlier one.
-const ASKED: [Asked; 8] = [
+/// Version 1, once more and then an earlier one; one that there is not; versions 2, 3 and 4, and behind each again an earlier one.
+const ASKED: [Asked; 10] = [
     Asked {
         version: 1,
         active: 1,
-        left: 3,
+        left: 4,
     },
     Asked {
         version: 1,
         active: 1,
-        left: 3,
+        left: 4,
     },
     Asked {
         version: 0,
         active: 1,
-        left: 3,
+        left: 4,
     },
     Asked {
-        version: 4,
+        version: 5,
         active: 1,
-        left: 3,
+        left: 4,
     },
     Asked {
         version: 2,
         active: 2,
-        left: 2,
+        left: 3,
     },
     Asked {
         version: 1,
         active: 2,
-        left: 2,
+        left: 3,
     },
     Asked {
         version: 3,
         active: 3,
-        left: 1,
+        left: 2,
     },
     Asked {
         version: 2,
         active: 3,
+        left: 2,
+    },
+    Asked {
+        version: 4,
+        active: 4,
+        left: 1,
+    },
+    Asked {
+        version: 3,
+        active: 4,
         left: 1,
     },
 ];
@@ -94,7 +104,7 @@ fn starts(alloc: Global, setup: &Setup, slot: &mut Slot) -> Result<bool, AllocEr
     requires { IsSetup setup.now }
 {
     slot.start(alloc, setup)?;
-    Ok(slot.active() == 0 && slot.left() == 4)
+    Ok(slot.active() == 0 && slot.left() == 5)
 }
 
 /// Asks a slot for a version, and tells whether the chain stops there.

@@ -1,0 +1,10 @@
+pub mod Spreading
+pub mod Searching
+pub mod Walks
+pub mod Tables
+pub mod Walking
+pub mod Answering
+pub mod PlaceLemmas
+pub mod Wiring
+pub mod Knowing
+pub mod Orderly

@@ -1,0 +1,151 @@
+//! Routes over three switches in a ring, and over 64 in a line.
+ghost use Rattle.std.specs.Prelude.{◌≡◌, length, IfOk};
+ghost use Rattle.of_types.specs.Setups.{IsSetup};
+
+use app_core::{Part, SwitchPort};
+use of_types::{
+    Commands, Event, FlowCommand, Happening, Items, Link, Octets, Order, PacketIn, Setup,
+};
+use route_app::{Route, levels, route};
+use std::alloc::{AllocError, Global};
+use std::test::Fail;
+
+/// A frame from A to B.
+const A_TO_B: [u8; 14] = [2, 0, 0, 0, 0, 2, 2, 0, 0, 0, 0, 1, 0x88, 0xb5];
+
+/// A frame from B to A.
+const B_TO_A: [u8; 14] = [2, 0, 0, 0, 0, 1, 2, 0, 0, 0, 0, 2, 0x88, 0xb5];
+
+/// The links of a ring of three switches.
+const RING: [Link; 3] = [
+    Link {
+        switch: 0,
+        port: 3,
+        peer: 1,
+        peer_port: 3,
+    },
+    Link {
+        switch: 1,
+        port: 4,
+        peer: 2,
+        peer_port: 3,
+    },
+    Link {
+        switch: 0,
+        port: 4,
+        peer: 2,
+        peer_port: 4,
+    },
+];
+
+/// Switches of 48, 4 and 4 ports, linked in a ring.
+fn ring(alloc: Global) -> Result<Setup, AllocError>
+    ensures setup { IfOk result (λ setup. IsSetup setup) }
+    ensures switches { IfOk result (λ setup. length setup.ports ≡ 3) }
+{
+    Ok(Setup {
+        controllers: 1,
+        ports: Items::from_vec(Vec::from_array(alloc, [48, 4, 4])?),
+        links: Items::from_vec(Vec::from_array(alloc, RING)?),
+        deny: Items::new(alloc),
+    })
+}
+
+/// 64 switches of 4 ports in a line: port 2 of each leads to port 3 of the next.
+fn line(alloc: Global) -> Result<Setup, AllocError>
+    ensures setup { IfOk result (λ setup. IsSetup setup) }
+    ensures switches { IfOk result (λ setup. length setup.ports ≡ 64) }
+{
+    let mut links = Items::new(alloc);
+    for switch in 0..63 {
+        links.push(Link {
+            switch,
+            port: 2,
+            peer: switch + 1,
+            peer_port: 3,
+        })?;
+    }
+    Ok(Setup {
+        controllers: 1,
+        ports: Items::from_vec(vec![in alloc; 4; 64]?),
+        links,
+        deny: Items::new(alloc),
+    })
+}
+
+fn at(switch: u8, port: u32) -> SwitchPort {
+    SwitchPort { switch, port }
+}
+
+#[test]
+fn the_shorter_way_and_the_longer(rt: HostRuntime) -> Result<(), Fail> {
+    let alloc = rt.alloc();
+    let setup = ring(alloc)?;
+    let down = [at(0, 4)];
+    let found = route(alloc, &setup, &down, 2, 0)?.ok_or("a way")?;
+    assert_eq!(rt; found.as_slice(), [at(2, 3), at(1, 3)].as_slice());
+    let found = levels(alloc, &setup, &down, 0)?;
+    assert_eq!(rt; found.as_slice(), [0, 1, 2].as_slice());
+    let down = [at(0, 4), at(1, 3)];
+    assert!(rt; route(alloc, &setup, &down, 2, 0)?.is_none());
+    let found = levels(alloc, &setup, &down, 0)?;
+    assert_eq!(rt; found.as_slice(), [0, 255, 255].as_slice());
+    Ok(())
+}
+
+fn frame(alloc: Global, switch: u8, in_port: u32, bytes: &[u8]) -> Result<Event, AllocError> {
+    Ok(Event {
+        switch,
+        life: 0,
+        number: 0,
+        what: Happening::PacketIn(PacketIn {
+            reason: 0,
+            cookie: 0,
+            in_port,
+            payload: Octets::from_slice(alloc, bytes)?,
+        }),
+    })
+}
+
+/// How many of these change rows.
+fn rows(commands: &Commands) -> usize {
+    let mut count: usize = 0;
+    for command in commands.as_slice() {
+        if let Order::FlowMod(change) = &command.order
+            && change.command == FlowCommand::Add
+            && change.cookie == 3
+            && change.priority == 10
+        {
+            count = count.saturating_add(1);
+        }
+    }
+    count
+}
+
+fn first_switch(commands: &Commands) -> Option<u8> {
+    Some(commands.as_slice().first()?.switch)
+}
+
+fn last_switch(commands: &Commands) -> Option<u8> {
+    Some(commands.as_slice().last()?.switch)
+}
+
+#[test]
+fn a_line_of_64_gives_63_rows(rt: HostRuntime) -> Result<(), Fail> {
+    let alloc = rt.alloc();
+    let setup = line(alloc)?;
+    let found = route(alloc, &setup, &[], 0, 63)?.ok_or("a way")?;
+    assert_eq!(rt; found.len(), 63);
+    let mut part = Route::new(alloc);
+    part.start(alloc, &setup)?;
+    let mut out = Items::new(alloc);
+    assert!(rt; !part.react(alloc, &frame(alloc, 63, 1, &A_TO_B)?, &mut out)?);
+    assert_eq!(rt; out.len(), 64);
+    let mut out = Items::new(alloc);
+    assert!(rt; !part.react(alloc, &frame(alloc, 0, 1, &B_TO_A)?, &mut out)?);
+    assert_eq!(rt; out.len(), 64);
+    assert_eq!(rt; rows(&out), 63);
+    assert_eq!(rt; first_switch(&out), Some(62));
+    assert_eq!(rt; last_switch(&out), Some(0));
+    Ok(())
+}

@@ -1,60 +1,93 @@
--- Counts by lives, when those of one life change.
-use Rattle.std.proofs.Common.{◌≡◌, ℕ, Bool, true, false, ◌&&◌, List, [], ◌∷◌, refl, sym, ap, ◌∙◌}
-use Rattle.std.specs.Prelude.{nat_eq, Option, Some, if◌then◌else◌}
-use Rattle.std.specs.Map.{lookup}
-use Rattle.std.proofs.lemmas.Bool.{and_parts, eqb-true, eq-eqb}
-use Rattle.indexmap.specs.IndexMap.{insert_entry}
+-- The row of a switch, when the counts of one life change.
+use Rattle.std.proofs.Common.{◌≡◌, ◌<◌, ◌≤◌, ℕ, zero, suc, Bool, true, false, List, [], ◌∷◌, ◌++◌, length, set, get_or, refl, sym, ap, subst, ◌∙◌, arith, inl, inr}
+use Rattle.std.specs.Prelude.{nat_eq, if◌then◌else◌}
+use Rattle.std.proofs.lemmas.Bool.{eqb-true, eq-eqb, ne_eqb, cases_eq}
 use Rattle.dispatcher.specs.declared.counts.Counts.{Counts}
-use Rattle.dispatcher.specs.Ledger.{is_life, counts_of, or_none}
+use Rattle.dispatcher.specs.declared.counts.LifeCount.{LifeCount}
+use Rattle.dispatcher.specs.Counted.{counts_in, no_counts, place_of}
 
-abbrev pub same_life : ℕ × ℕ → ℕ × ℕ → Bool
-same_life a b = nat_eq a.0 b.0 && nat_eq a.1 b.1
+module _ (life : ℕ) (counts : Counts) (l : ℕ) where
+  abbrev counted : LifeCount
+  counted = record { life = life; counts = counts }
 
-lookup_either : (test : ℕ × ℕ → Bool) (b : Bool) (xs ys : List ((ℕ × ℕ) × Counts)) → lookup test (if b then xs else ys) ≡ (if b then lookup test xs else lookup test ys)
-lookup_either test true xs ys = refl
-lookup_either test false xs ys = refl
+  -- at the place of the life, whatever is behind it
+  here : (c : LifeCount) (rest : Counts) → c.life ≡ life → (if nat_eq life l then counts else rest) ≡ (if nat_eq l life then counts else (if nat_eq c.life l then c.counts else rest))
+  here c rest is = elim (cases_eq l life) [
+    | inl same ↦ rw (eq-eqb life l (sym same), eq-eqb l life same) refl
+    | inr other ↦ rw (ne_eqb life l (λ e. other (sym e)), ne_eqb l life other, ne_eqb c.life l (λ e. other (sym e ∙ is))) refl
+  ]
 
-step : (same here there : Bool) (new old : Counts) (rest : Option Counts) → (same ≡ true → here ≡ there) → (same ≡ false → here ≡ true → there ≡ true → ⊥) →
-    (if same then (if here then Some new else rest) else (if here then Some old else (if there then Some new else rest)))
-    ≡ (if there then Some new else (if here then Some old else rest))
-step true true true new old rest e n = refl
-step true true false new old rest e n = absurd cc (e refl)
-step true false true new old rest e n = absurd cc (e refl)
-step true false false new old rest e n = refl
-step false true true new old rest e n = absurd (n refl refl refl)
-step false true false new old rest e n = refl
-step false false true new old rest e n = refl
-step false false false new old rest e n = refl
+  -- at another life
+  there : (c : LifeCount) (new old : Counts) → nat_eq c.life life ≡ false → new ≡ (if nat_eq l life then counts else old)
+      → (if nat_eq c.life l then c.counts else new) ≡ (if nat_eq l life then counts else (if nat_eq c.life l then c.counts else old))
+  there c new old e is = elim (cases_eq c.life l) [
+    | inl same ↦
+        let apart : l ≡ life → ⊥ = λ k. let q : nat_eq c.life life ≡ true = eq-eqb c.life life (same ∙ k) in absurd cc (e, q) in
+        rw (eq-eqb c.life l same, ne_eqb l life apart) refl
+    | inr other ↦ rw (ne_eqb c.life l other) is
+  ]
 
-module _ (switch life : ℕ) (counts : Counts) (s l : ℕ) where
-  agrees : (k : ℕ × ℕ) → same_life (switch, life) k ≡ true → is_life s l k ≡ is_life s l (switch, life)
-  agrees k h =
-      let p = and_parts (nat_eq switch k.0) (nat_eq life k.1) h in
-      let a : switch ≡ k.0 = eqb-true switch k.0 p.0 in
-      let b : life ≡ k.1 = eqb-true life k.1 p.1 in
-      cc (a, b)
+  -- a life that has a place gets other counts
+  pub counted_there : (row : List LifeCount) → place_of row life < length row
+      → counts_in (set row (place_of row life) counted) l ≡ (if nat_eq l life then counts else counts_in row l)
+  counted_there [] h = absurd (omega (arith, h))
+  counted_there (c ∷ row) h = by_life (nat_eq c.life life) refl (λ k. counted_there row k) h
+    where
+      by_life : (is : Bool) → nat_eq c.life life ≡ is
+          → (place_of row life < length row → counts_in (set row (place_of row life) counted) l ≡ (if nat_eq l life then counts else counts_in row l))
+          → (if is then zero else suc (place_of row life)) < suc (length row)
+          → counts_in (set (c ∷ row) (if is then zero else suc (place_of row life)) counted) l ≡ (if nat_eq l life then counts else counts_in (c ∷ row) l)
+      by_life true e rest within = here c (counts_in row l) (eqb-true c.life life e)
+      by_life false e rest within = there c (counts_in (set row (place_of row life) counted) l) (counts_in row l) e (rest (omega (arith, within)))
 
-  apart : (k : ℕ × ℕ) → same_life (switch, life) k ≡ false → is_life s l k ≡ true → is_life s l (switch, life) ≡ true → ⊥
-  apart k h x y =
-      let p = and_parts (nat_eq s k.0) (nat_eq l k.1) x in
-      let q = and_parts (nat_eq s switch) (nat_eq l life) y in
-      let a : switch ≡ k.0 = sym (eqb-true s switch q.0) ∙ eqb-true s k.0 p.0 in
-      let b : life ≡ k.1 = sym (eqb-true l life q.1) ∙ eqb-true l k.1 p.1 in
-      let c : same_life (switch, life) k ≡ true = rw (eq-eqb switch k.0 a, eq-eqb life k.1 b) refl in
-      absurd cc (h, c)
+  -- one that has none gets one
+  pub counted_behind : (row : List LifeCount) → length row ≤ place_of row life
+      → counts_in (row ++ counted ∷ []) l ≡ (if nat_eq l life then counts else counts_in row l)
+  counted_behind [] h = elim (cases_eq l life) [
+    | inl same ↦ rw (eq-eqb life l (sym same), eq-eqb l life same) refl
+    | inr other ↦ rw (ne_eqb life l (λ e. other (sym e)), ne_eqb l life other) refl
+  ]
+  counted_behind (c ∷ row) h = by_life (nat_eq c.life life) refl (λ k. counted_behind row k) h
+    where
+      by_life : (is : Bool) → nat_eq c.life life ≡ is
+          → (length row ≤ place_of row life → counts_in (row ++ counted ∷ []) l ≡ (if nat_eq l life then counts else counts_in row l)) → suc (length row) ≤ (if is then zero else suc (place_of row life))
+          → (if nat_eq c.life l then c.counts else counts_in (row ++ counted ∷ []) l) ≡ (if nat_eq l life then counts else counts_in (c ∷ row) l)
+      by_life true e rest none = absurd (omega (arith, none))
+      by_life false e rest none = there c (counts_in (row ++ counted ∷ []) l) (counts_in row l) e (rest (omega (arith, none)))
 
-  lookup-insert : (entries : List ((ℕ × ℕ) × Counts)) →
-      lookup (is_life s l) (insert_entry same_life entries (switch, life) counts) ≡ (if is_life s l (switch, life) then Some counts else lookup (is_life s l) entries)
-  lookup-insert [] = refl
-  lookup-insert (e ∷ entries) =
-      lookup_either (is_life s l) (same_life (switch, life) e.0) ((e.0, counts) ∷ entries) (e ∷ insert_entry same_life entries (switch, life) counts)
-      ∙ ap (λ (r : Option Counts). if same_life (switch, life) e.0 then (if is_life s l e.0 then Some counts else lookup (is_life s l) entries) else (if is_life s l e.0 then Some e.1 else r)) (lookup-insert entries)
-      ∙ step (same_life (switch, life) e.0) (is_life s l e.0) (is_life s l (switch, life)) counts e.1 (lookup (is_life s l) entries) (agrees e.0) (apart e.0)
+-- what stands at the place of a life
+pub counts_there : (row : List LifeCount) (life : ℕ) (otherwise : LifeCount) → place_of row life < length row → (get_or row (place_of row life) otherwise).counts ≡ counts_in row life
+counts_there [] life otherwise h = absurd (omega (arith, h))
+counts_there (c ∷ row) life otherwise h = by_life (nat_eq c.life life) (λ k. counts_there row life otherwise k) h
+  where
+    by_life : (is : Bool) → (place_of row life < length row → (get_or row (place_of row life) otherwise).counts ≡ counts_in row life) → (if is then zero else suc (place_of row life)) < suc (length row)
+        → (get_or (c ∷ row) (if is then zero else suc (place_of row life)) otherwise).counts ≡ (if is then c.counts else counts_in row life)
+    by_life true rest within = refl
+    by_life false rest within = rest (omega (arith, within))
 
-  none_either : (b : Bool) (r : Option Counts) → or_none (if b then Some counts else r) ≡ (if b then counts else or_none r)
-  none_either true r = refl
-  none_either false r = refl
+-- and where it has none
+pub counts_nowhere : (row : List LifeCount) (life : ℕ) → length row ≤ place_of row life → no_counts ≡ counts_in row life
+counts_nowhere [] life h = refl
+counts_nowhere (c ∷ row) life h = by_life (nat_eq c.life life) (λ k. counts_nowhere row life k) h
+  where
+    by_life : (is : Bool) → (length row ≤ place_of row life → no_counts ≡ counts_in row life) → suc (length row) ≤ (if is then zero else suc (place_of row life)) → no_counts ≡ (if is then c.counts else counts_in row life)
+    by_life true rest none = absurd (omega (arith, none))
+    by_life false rest none = rest (omega (arith, none))
 
-  pub counts_of-insert : (entries : List ((ℕ × ℕ) × Counts)) →
-      counts_of (insert_entry same_life entries (switch, life) counts) s l ≡ (if nat_eq s switch && nat_eq l life then counts else counts_of entries s l)
-  counts_of-insert entries = ap or_none (lookup-insert entries) ∙ none_either (is_life s l (switch, life)) (lookup (is_life s l) entries)
+-- what is read at the place of a life
+pub counts_found : (row : List LifeCount) (life place : ℕ) (c : LifeCount) → place ≡ place_of row life → place < length row → c ≡ get_or row place c → c.counts ≡ counts_in row life
+counts_found row life place c at within is =
+    ap (λ (x : LifeCount). x.counts) is
+    ∙ ap (λ (p : ℕ). (get_or row p c).counts) at
+    ∙ counts_there row life c (subst (λ (p : ℕ). p < length row) at within)
+
+-- and written there, or behind the others
+pub counts_put : (row : List LifeCount) (life place : ℕ) (counts : Counts) → place ≡ place_of row life → place < length row
+    → (l : ℕ) → counts_in (set row place (record { life = life; counts = counts })) l ≡ (if nat_eq l life then counts else counts_in row l)
+counts_put row life place counts at within l =
+    ap (λ (p : ℕ). counts_in (set row p (record { life = life; counts = counts })) l) at
+    ∙ counted_there life counts l row (subst (λ (p : ℕ). p < length row) at within)
+
+pub counts_pushed : (row : List LifeCount) (life place : ℕ) (counts : Counts) → place ≡ place_of row life → length row ≤ place
+    → (l : ℕ) → counts_in (row ++ record { life = life; counts = counts } ∷ []) l ≡ (if nat_eq l life then counts else counts_in row l)
+counts_pushed row life place counts at none l = counted_behind life counts l row (subst (λ (p : ℕ). length row ≤ p) at none)

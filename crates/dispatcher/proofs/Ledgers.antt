@@ -23,7 +23,8 @@ use Rattle.app_core.proofs.Issuing.{concat_push, length-issues, issues_push}
 use Rattle.dispatcher.specs.declared.answers.Handled.{Handled}
 use Rattle.dispatcher.specs.declared.counts.Counts.{Counts}
 use Rattle.dispatcher.specs.declared.ledger.Ledger.{Ledger}
-use Rattle.dispatcher.specs.Ledger.{counts_of, IsCountedAs, AreCounts, AreLives, IsLedger, IsLedgerOf, most_count, most_commands, one_processed, one_issued, one_settled, handled_of, handled_by}
+use Rattle.dispatcher.specs.Counted.{Counted, counts_of}
+use Rattle.dispatcher.specs.Ledger.{IsCountedAs, AreCounts, AreLives, IsLedger, IsLedgerOf, most_count, most_commands, one_processed, one_issued, one_settled, handled_of, handled_by}
 
 eqb_comm : (a b : ℕ) → nat_eq a b ≡ nat_eq b a
 eqb_comm a b = elim (cases_eq a b) [ inl same ↦ eq-eqb a b same ∙ sym (eq-eqb b a (sym same)) | inr other ↦ ne_eqb a b other ∙ sym (ne_eqb b a (λ e. other (sym e))) ]
@@ -64,14 +65,14 @@ module _ (b : Bool) (here there : Counts) (p n m : ℕ) (same : b ≡ true → h
       pick false e = is ∙ ap (λ (k : ℕ). record { processed = k; issued = n; settled = m }) (omega arith)
 
 -- counts of the same life
-same_counts : (counts : List ((ℕ × ℕ) × Counts)) (s l switch life : ℕ) → (nat_eq s switch && nat_eq l life) ≡ true → counts_of counts switch life ≡ counts_of counts s l
+same_counts : (counts : Counted) (s l switch life : ℕ) → (nat_eq s switch && nat_eq l life) ≡ true → counts_of counts switch life ≡ counts_of counts s l
 same_counts counts s l switch life h =
     let q = and_parts (nat_eq s switch) (nat_eq l life) h in
     let a : s ≡ switch = eqb-true s switch q.0 in
     let b : l ≡ life = eqb-true l life q.1 in
     cc (a, b)
 
-module _ (done : List Event) (issued settled : List Issued) (old new : List ((ℕ × ℕ) × Counts)) (are : AreCounts done issued settled old) where
+module _ (done : List Event) (issued settled : List Issued) (old new : Counted) (are : AreCounts done issued settled old) where
   pub issued_more : (x : Issued) → length issued < most_count → IsCountedAs old x.switch x.life (one_issued (counts_of old x.switch x.life)) new → AreCounts done (issued ++ x ∷ []) settled new
   issued_more x low counted s l =
       let few = count_by-le-length (λ (y : Issued). nat_eq y.switch s && nat_eq y.life l) issued in
@@ -170,7 +171,7 @@ module _ (kinds : List ℕ) (setup : Setup) where
   none_is ledger lives counts pending done none =
       record {
         lives = λ s. ap (λ (l : List ℕ). get_or l s 0) lives ∙ first s;
-        counts = λ s l. ap (λ (z : List ((ℕ × ℕ) × Counts)). counts_of z s l) counts;
+        counts = λ s l. ap (λ (z : Counted). counts_of z s l) counts;
         pending = pending;
         processed_is = done;
         unsettled_are = none;
@@ -292,7 +293,7 @@ module _ (kinds : List ℕ) (setup : Setup) where
   concat_front (suc n) (x ∷ xs) = let h = concat_front n xs in let a = length-append x (concat (take n xs)) in let b = length-append x (concat xs) in omega (arith, h, a, b)
 
   -- the first event that is not processed is processed: it was counted, and then its commands were settled
-  pub one_done : (es : List Event) (done : ℕ) (h : Handled) (rest : List Handled) (old new : Ledger) (counted : List ((ℕ × ℕ) × Counts)) → IsLedgerOf kinds setup es done old → length es ≤ 4096 →
+  pub one_done : (es : List Event) (done : ℕ) (h : Handled) (rest : List Handled) (old new : Ledger) (counted : Counted) → IsLedgerOf kinds setup es done old → length es ≤ 4096 →
       old.pending.items ≡ h ∷ rest → IsCountedAs old.counts h.switch h.life (one_processed (counts_of old.counts h.switch h.life)) counted →
       ((events : List Event) (issued settled : List Issued) → AreCounts events issued settled counted → length settled + length h.commands < 2 ^ 64 → AreCounts events issued (settled ++ h.commands) new.counts) →
       new.pending.items ≡ rest → new.processed ≡ min (old.processed + 1) most_count → new.lives ≡ old.lives → new.unsettled ≡ old.unsettled - length h.commands →
@@ -352,7 +353,7 @@ module _ (kinds : List ℕ) (setup : Setup) where
       let few = kept.few in
       let living : AreLives (es ++ e ∷ []) middle.lives = λ s. lives s ∙ turned s (nat_eq s e.switch) (nat_eq e.switch s) (eqb_comm s e.switch) (kept.lives s) ∙ sym (life_in-append s es e) in
       let r = each (es ++ e ∷ []) (take (processed log) es) (concat (issues kinds setup es)) (concat (take (processed log) (issues kinds setup es))) living
-      (subst (λ (z : List ((ℕ × ℕ) × Counts)). AreCounts (take (processed log) es) (concat (issues kinds setup es)) (concat (take (processed log) (issues kinds setup es))) z) (sym same) kept.counts) (omega (arith, short, l, few, small)) in
+      (subst (λ (z : Counted). AreCounts (take (processed log) es) (concat (issues kinds setup es)) (concat (take (processed log) (issues kinds setup es))) z) (sym same) kept.counts) (omega (arith, short, l, few, small)) in
       let events : received (log ++ Received e ∷ []) ≡ es ++ e ∷ [] = received-append log (Received e ∷ []) in
       let done : processed (log ++ Received e ∷ []) ≡ processed log = processed_push log (Received e) ∙ none (processed log) in
       let made = one_received es (processed log) e old new commands given kept reacts small (λ s. ap (λ (z : List ℕ). get_or z s 0) lived ∙ lives s) r.0 r.1 pending count (omega (arith, short, l)) more in
@@ -386,7 +387,7 @@ module _ (kinds : List ℕ) (setup : Setup) where
   pub stays_pending : (log : List Entry) (j : ℕ) (ledger : Ledger) → IsLedger kinds setup log ledger → fits log (Processed j) ≡ true → ledger.pending.items ≡ [] → ⊥
   stays_pending log j ledger kept fit none = none_pending (received log) (processed log) ledger kept none (next_done log j fit).there
 
-  pub processed_is : (log : List Entry) (j : ℕ) (h : Handled) (rest : List Handled) (old new : Ledger) (counted : List ((ℕ × ℕ) × Counts)) → IsLedger kinds setup log old → fits log (Processed j) ≡ true →
+  pub processed_is : (log : List Entry) (j : ℕ) (h : Handled) (rest : List Handled) (old new : Ledger) (counted : Counted) → IsLedger kinds setup log old → fits log (Processed j) ≡ true →
       old.pending.items ≡ h ∷ rest → IsCountedAs old.counts h.switch h.life (one_processed (counts_of old.counts h.switch h.life)) counted →
       ((events : List Event) (issued settled : List Issued) → AreCounts events issued settled counted → length settled + length h.commands < 2 ^ 64 → AreCounts events issued (settled ++ h.commands) new.counts) →
       new.pending.items ≡ rest → new.processed ≡ min (old.processed + 1) most_count → new.lives ≡ old.lives → new.unsettled ≡ old.unsettled - length h.commands →

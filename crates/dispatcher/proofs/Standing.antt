@@ -25,7 +25,8 @@ use Rattle.dispatcher.specs.declared.answers.Handled.{Handled}
 use Rattle.dispatcher.specs.declared.counts.Counts.{Counts}
 use Rattle.dispatcher.specs.declared.ledger.Ledger.{Ledger}
 use Rattle.dispatcher.specs.Folding.{numbered, is_told, clears}
-use Rattle.dispatcher.specs.Ledger.{Dispatching, HasRoom, IsLedger, StandsFor, as_numbered, cleared, counts_of, first_commands, handled_of, has_pending, has_told, is_outstanding, wants, most_commands}
+use Rattle.dispatcher.specs.Counted.{counts_of}
+use Rattle.dispatcher.specs.Ledger.{Dispatching, HasRoom, IsLedger, StandsFor, as_numbered, cleared, first_commands, handled_of, has_pending, has_told, is_outstanding, wants, most_commands}
 use Rattle.dispatcher.specs.Marks.{Marks, is_confirmed, is_finished, is_pending, is_wanted, outstanding, settled_commands, unsettled, wanted}
 use Rattle.dispatcher.proofs.Ledgers.{length-handled_of}
 use Rattle.dispatcher.proofs.Rooms.{room_received, room_processed}

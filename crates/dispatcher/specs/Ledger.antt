@@ -1,7 +1,6 @@
 -- What is kept of a committed log, so that no question asks for the whole of it again.
 use Rattle.std.specs.Prelude.{◌≡◌, ◌≤◌, ℕ, ◌+◌, ◌-◌, ◌*◌, ◌^◌, min, Bool, not, nat_eq, nat_le, nat_lt, ◌&&◌, List, [], ◌∷◌, count_by, length, take, drop, get_or, map, slice_get, Option, Some, None, if◌then◌else◌}
 use Rattle.std.specs.List.{list_any}
-use Rattle.std.specs.Map.{lookup}
 use Rattle.of_types.specs.declared.message.Event.{Event}
 use Rattle.of_types.specs.declared.setup.Setup.{Setup}
 use Rattle.of_types.specs.Lives.{life_in, count_in}
@@ -12,6 +11,7 @@ use Rattle.app_core.specs.declared.issued.Issued.{Issued}
 use Rattle.app_core.specs.Chain.{concat, chain_after, starting_chain, given_by}
 use Rattle.app_core.specs.Issued.{count_issued, issues}
 use Rattle.app_core.specs.Law.{AppLaw}
+use Rattle.dispatcher.specs.Counted.{Counted, counts_of}
 use Rattle.dispatcher.specs.declared.answers.Handled.{Handled}
 use Rattle.dispatcher.specs.declared.answers.Through.{Through}
 use Rattle.dispatcher.specs.declared.counts.Counts.{Counts}
@@ -19,28 +19,13 @@ use Rattle.dispatcher.specs.declared.ledger.Ledger.{Ledger}
 use Rattle.dispatcher.specs.declared.numbered.Numbered.{Numbered}
 use Rattle.dispatcher.specs.Marks.{Marks, has_result, is_confirmed, unsettled}
 
-abbrev pub no_counts : Counts
-no_counts = record { processed = 0; issued = 0; settled = 0 }
-
--- a key is that of a life of a switch
-abbrev pub is_life : ℕ → ℕ → ℕ × ℕ → Bool
-is_life switch life key = nat_eq switch key.0 && nat_eq life key.1
-
-abbrev pub or_none : Option Counts → Counts
-or_none None = no_counts
-or_none (Some counts) = counts
-
--- the counts of a life of a switch, in a list with a key for each life that has any
-abbrev pub counts_of : List ((ℕ × ℕ) × Counts) → ℕ → ℕ → Counts
-counts_of entries switch life = or_none (lookup (is_life switch life) entries)
-
 -- one life has these counts from now on
-abbrev pub IsCountedAs : List ((ℕ × ℕ) × Counts) → ℕ → ℕ → Counts → List ((ℕ × ℕ) × Counts) → Type 0
+abbrev pub IsCountedAs : Counted → ℕ → ℕ → Counts → Counted → Type 0
 IsCountedAs old switch life counts new =
     (s l : ℕ) → counts_of new s l ≡ (if nat_eq s switch && nat_eq l life then counts else counts_of old s l)
 
 -- the counts are those of the events that are processed, and of the commands that are issued and settled
-abbrev pub AreCounts : List Event → List Issued → List Issued → List ((ℕ × ℕ) × Counts) → Type 0
+abbrev pub AreCounts : List Event → List Issued → List Issued → Counted → Type 0
 AreCounts done issued settled counts =
     (s l : ℕ) → counts_of counts s l ≡ record { processed = count_in s l done; issued = count_issued s l issued; settled = count_issued s l settled }
 

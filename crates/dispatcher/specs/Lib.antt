@@ -1,3 +1,4 @@
 pub mod Marks
 pub mod Folding
+pub mod Counted
 pub mod Ledger

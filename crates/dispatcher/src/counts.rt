@@ -1,8 +1,8 @@
 //! What is counted of the lives of switches.
-ghost use Rattle.std.specs.Prelude.{◌≡◌, [], OnOk};
-ghost use Rattle.dispatcher.specs.Ledger.{counts_of, IsCountedAs};
+ghost use Rattle.std.specs.Prelude.{◌≡◌, ◌<◌, ◌&&◌, ℕ, [], nat_eq, length, get_or, OnOk, if◌then◌else◌};
+ghost use Rattle.dispatcher.specs.Counted.{counts_in, counts_of, place_of};
+ghost use Rattle.dispatcher.specs.Ledger.{IsCountedAs};
 
-use indexmap::IndexMap;
 use std::alloc::{AllocError, Global};
 use std::marker::Model;
 
@@ -22,19 +22,91 @@ const NO_COUNTS: Counts = Counts {
     settled: 0,
 };
 
-/// The counts of each life of each switch, as far as there are any.
+/// A life of a switch beside what is counted of it.
+#[derive(Clone, Copy)]
+struct LifeCount {
+    life: u32,
+    counts: Counts,
+}
+
+/// The lives of one switch of which something is counted, in the order in which they came.
+#[derive(Drop)]
+struct Row {
+    lives: Vec<LifeCount>,
+}
+
+impl Model for Row {
+    ghost use Rattle.std.specs.Prelude.{List};
+    ghost use Rattle.dispatcher.specs.declared.counts.LifeCount.{LifeCount};
+
+    ghost Value = { List LifeCount };
+
+    ghost view = { λ row. row.lives.items };
+}
+
+impl Row {
+    /// The place of a life, or how many there are.
+    fn place_of(&self, life: u32) -> usize
+        ensures { result ≡ place_of self.now life }
+    {
+        for (place, counted) in self.lives.iter().enumerate() {
+            if counted.life == life {
+                return place;
+            }
+        }
+        self.lives.len()
+    }
+
+    fn of(&self, life: u32) -> Counts
+        ensures { result ≡ counts_in self.now life }
+    {
+        let place = self.place_of(life);
+        if place < self.lives.len() {
+            self.lives[place].counts
+        } else {
+            NO_COUNTS
+        }
+    }
+
+    fn put(&mut self, life: u32, counts: Counts) -> Result<(), AllocError>
+        ensures { OnOk result ((l : ℕ) → counts_in self.new l ≡ (if nat_eq l life then counts else counts_in self.old l)) }
+    {
+        let place = self.place_of(life);
+        if place < self.lives.len() {
+            self.lives[place] = LifeCount { life, counts };
+        } else {
+            self.lives.push(LifeCount { life, counts })?;
+        }
+        Ok(())
+    }
+}
+
+/// Makes the rows reach this number.
+fn reach(rows: &mut Vec<Row>, number: usize) -> Result<(), AllocError>
+    ensures same { (n : ℕ) → get_or rows.new.items n [] ≡ get_or rows.old.items n [] }
+    ensures ok { OnOk result (number < length rows.new.items) }
+{
+    let alloc = *rows.allocator();
+    while rows.len() <= number {
+        let lives = Vec::new(alloc);
+        rows.push(Row { lives })?;
+    }
+    Ok(())
+}
+
+/// The counts of each life of each switch, as far as there are any. Those of a switch stand together, in the row of its number.
 #[derive(Drop)]
 pub(crate) struct LifeCounts {
-    counts: IndexMap<(u8, u32), Counts>,
+    rows: Vec<Row>,
 }
 
 impl Model for LifeCounts {
-    ghost use Rattle.std.specs.Prelude.{List, ℕ};
-    ghost use Rattle.dispatcher.specs.declared.counts.Counts.{Counts};
+    ghost use Rattle.std.specs.Prelude.{List};
+    ghost use Rattle.dispatcher.specs.declared.counts.LifeCount.{LifeCount};
 
-    ghost Value = { List ((ℕ × ℕ) × Counts) };
+    ghost Value = { List (List LifeCount) };
 
-    ghost view = { λ c. c.counts.entries };
+    ghost view = { λ c. c.rows.items };
 }
 
 impl LifeCounts {
@@ -43,7 +115,7 @@ impl LifeCounts {
         ensures { result ≡ [] }
     {
         LifeCounts {
-            counts: IndexMap::new(alloc),
+            rows: Vec::new(alloc),
         }
     }
 
@@ -51,9 +123,11 @@ impl LifeCounts {
     pub(crate) fn of(&self, switch: u8, life: u32) -> Counts
         ensures { result ≡ counts_of self.now switch life }
     {
-        match self.counts.get(&(switch, life)) {
-            Some(counts) => *counts,
-            None => NO_COUNTS,
+        let index = usize::from(switch);
+        if index < self.rows.len() {
+            self.rows[index].of(life)
+        } else {
+            NO_COUNTS
         }
     }
 
@@ -61,7 +135,8 @@ impl LifeCounts {
     pub(crate) fn put(&mut self, switch: u8, life: u32, counts: Counts) -> Result<(), AllocError>
         ensures { OnOk result (IsCountedAs self.old switch life counts self.new) }
     {
-        self.counts.insert((switch, life), counts)?;
-        Ok(())
+        let index = usize::from(switch);
+        reach(&mut self.rows, index)?;
+        self.rows[index].put(life, counts)
     }
 }

@@ -8,7 +8,8 @@ ghost use Rattle.vr_log.specs.Log.{received, fits};
 ghost use Rattle.app_core.specs.declared.issued.Issued.{Issued};
 ghost use Rattle.app_core.specs.Chain.{chain_next, chain_after, starting_chain};
 ghost use Rattle.app_core.specs.Issued.{issue_each};
-ghost use Rattle.dispatcher.specs.Ledger.{AreCounts, AreLives, IsCountedAs, IsLedger, counts_of, first_commands, handled_by, has_pending, most_commands, one_issued, one_processed, one_settled};
+ghost use Rattle.dispatcher.specs.Counted.{counts_of};
+ghost use Rattle.dispatcher.specs.Ledger.{AreCounts, AreLives, IsCountedAs, IsLedger, first_commands, handled_by, has_pending, most_commands, one_issued, one_processed, one_settled};
 
 use crate::answers::Handled;
 use crate::counts::{Counts, LifeCounts};

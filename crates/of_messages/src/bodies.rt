@@ -8,8 +8,8 @@ use crate::fault::BodyFault;
 use of_bytes::{u8_at, u16_at, u32_at, u64_at};
 use of_match::read_match;
 use of_types::{
-    Actions, BAD_COMMAND, BAD_FIELD, BAD_LENGTH, FlowCommand, FlowMod, FlowRemoved, Match, Octets,
-    OfMessage, PacketIn, PacketOut, PortStatus, Refusal, flow_command,
+    Actions, BAD_COMMAND, BAD_FIELD, BAD_LENGTH, Boxed, FlowCommand, FlowMod, FlowRemoved, Match,
+    Octets, OfMessage, PacketIn, PacketOut, PortStatus, Refusal, flow_command,
 };
 use std::alloc::Global;
 
@@ -136,7 +136,7 @@ fn flow_removed_of(body: &[u8], matching: Match) -> FlowRemoved
 const GROUP_DELETE: u8 = 3;
 
 #[tactic(auto, unfolding(crate::specs::Reading::flow_removed_at))]
-pub fn read_flow_removed(body: &[u8]) -> Result<FlowRemoved, BodyFault>
+pub fn read_flow_removed(alloc: Global, body: &[u8]) -> Result<Boxed<FlowRemoved>, BodyFault>
     ensures { GivesBody (λ r. r) result (flow_removed_at body.now) }
 {
     if body.len() < 40 || u8_at(body, 10) > GROUP_DELETE {
@@ -144,7 +144,8 @@ pub fn read_flow_removed(body: &[u8]) -> Result<FlowRemoved, BodyFault>
     }
     let (_, behind) = body.split_at(40);
     let matching = only_match(behind)?;
-    Ok(flow_removed_of(body, matching))
+    let removed = Boxed::new(alloc, flow_removed_of(body, matching))?;
+    Ok(removed)
 }
 
 #[tactic(auto, unfolding(crate::specs::Reading::port_status_at))]

@@ -83,7 +83,7 @@ pub fn message_fits(message: &OfMessage)
         }
         OfMessage::FeaturesReply { datapath } => u64_fits(*datapath),
         OfMessage::PacketIn(packet) => packet_in_fits(packet),
-        OfMessage::FlowRemoved(removed) => flow_removed_fits(removed),
+        OfMessage::FlowRemoved(removed) => flow_removed_fits(removed.get()),
         OfMessage::PortStatus(status) => port_status_fits(*status),
         OfMessage::PacketOut(packet) => packet_out_fits(packet),
         OfMessage::FlowMod(change) => flow_mod_fits(change),

@@ -53,7 +53,7 @@ fn read_body(alloc: Global, kind: u8, body: &[u8]) -> Result<OfMessage, BodyFaul
         message_type::FEATURES_REQUEST => read_empty(OfMessage::FeaturesRequest, body),
         message_type::FEATURES_REPLY => read_features(body),
         message_type::PACKET_IN => Ok(OfMessage::PacketIn(read_packet_in(alloc, body)?)),
-        message_type::FLOW_REMOVED => Ok(OfMessage::FlowRemoved(read_flow_removed(body)?)),
+        message_type::FLOW_REMOVED => Ok(OfMessage::FlowRemoved(read_flow_removed(alloc, body)?)),
         message_type::PORT_STATUS => Ok(OfMessage::PortStatus(read_port_status(body)?)),
         message_type::PACKET_OUT => Ok(OfMessage::PacketOut(read_packet_out(alloc, body)?)),
         message_type::FLOW_MOD => Ok(OfMessage::FlowMod(read_flow_mod(alloc, body)?)),

@@ -15,7 +15,7 @@ pub fn happening_fits(what: &Happening)
 {
     match what {
         Happening::PacketIn(packet) => packet_in_fits(packet),
-        Happening::FlowRemoved(removed) => flow_removed_fits(removed),
+        Happening::FlowRemoved(removed) => flow_removed_fits(removed.get()),
         Happening::PortStatus(status) => port_status_fits(*status),
     }
 }

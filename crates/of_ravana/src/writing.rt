@@ -40,7 +40,7 @@ pub fn put_happening(out: &mut Octets, what: &Happening) -> Result<(), AllocErro
 {
     match what {
         Happening::PacketIn(packet) => put_packet_in(out, 0, packet),
-        Happening::FlowRemoved(removed) => put_flow_removed(out, 0, removed),
+        Happening::FlowRemoved(removed) => put_flow_removed(out, 0, removed.get()),
         Happening::PortStatus(status) => put_port_status(out, 0, status),
     }
 }
@@ -52,7 +52,7 @@ pub fn canonical_happening(alloc: Global, what: &Happening) -> Result<Octets, Al
 {
     match what {
         Happening::PacketIn(packet) => encode_packet_in(alloc, 0, packet),
-        Happening::FlowRemoved(removed) => encode_flow_removed(alloc, 0, removed),
+        Happening::FlowRemoved(removed) => encode_flow_removed(alloc, 0, removed.get()),
         Happening::PortStatus(status) => encode_port_status(alloc, 0, status),
     }
 }

@@ -1,6 +1,6 @@
 -- The places of a list at which it is true.
 use Rattle.std.proofs.Common.{◌≡◌, ℕ, ◌+◌, ◌<◌, ◌≤◌, ◌≢◌, Bool, true, false, not, List, [], ◌∷◌, ◌++◌, length, drop, set, get_or, inl, inr, refl, ap, sym, ◌∙◌, subst, arith, suc, zero}
-use Rattle.std.specs.Prelude.{nat_eq, nat_lt, filter, if◌then◌else◌}
+use Rattle.std.specs.Prelude.{nat_eq, nat_lt, filter, if◌then◌else◌, ◌||◌}
 use Rattle.std.specs.List.{list_any}
 use Rattle.std.proofs.lemmas.Bool.{lt-ltb, le-ltb, eq-eqb, ne_eqb, cases_order}
 use Rattle.std.proofs.lemmas.List.{append_assoc, append-nil, drop_more, drop_all}
@@ -142,15 +142,28 @@ ascend-with n low high (m ∷ ns) l h a = elim (cases_order m n) [
 
 -- ---- whether there are any
 
-some-there : (n : ℕ) (ns : List ℕ) → false ≡ not (nat_lt 0 (length (n ∷ ns)))
-some-there n ns = rw (lt-ltb 0 (length (n ∷ ns)) (omega arith)) refl
+-- a place, or one behind it
+some-from : (n : ℕ) (bs : List Bool) → n < length bs → (get_or bs n false || nat_lt 0 (length (places_from (n + 1) (drop (n + 1) bs)))) ≡ nat_lt 0 (length (places_from n (drop n bs)))
+unfolding places_from
+some-from n bs h = by_member (get_or bs n false) refl
+  where
+    by_member : (member : Bool) → get_or bs n false ≡ member → (get_or bs n false || nat_lt 0 (length (places_from (n + 1) (drop (n + 1) bs)))) ≡ nat_lt 0 (length (places_from n (drop n bs)))
+    by_member true e = rw (drop_more bs n false h, e, lt-ltb 0 (length (n ∷ places_from (n + 1) (drop (n + 1) bs))) (omega arith)) refl
+    by_member false e = rw (drop_more bs n false h, e) refl
 
--- one that is true is there
-pub place-there : (n : ℕ) (numbers : List ℕ) (bs : List Bool) → n < length bs → get_or bs n false ≡ true → places_from n (drop n bs) ≡ numbers → false ≡ not (nat_lt 0 (length numbers))
-place-there n numbers bs h e all =
-    let P : List ℕ → Type 0 = λ ns. false ≡ not (nat_lt 0 (length ns)) in subst P (place-taken n [] bs h e ∙ all) (some-there n (places_from (n + 1) (drop (n + 1) bs)))
+-- one was before a place, or is there or behind it
+pub some-passed : (found : Bool) (n : ℕ) (bs : List Bool) (some : Bool) → n < length bs
+    → (found || nat_lt 0 (length (places_from n (drop n bs)))) ≡ some
+    → ((found || get_or bs n false) || nat_lt 0 (length (places_from (n + 1) (drop (n + 1) bs)))) ≡ some
+some-passed true n bs some h e = e
+some-passed false n bs some h e = some-from n bs h ∙ e
 
--- past the last none is
-pub place-none : (n : ℕ) (numbers : List ℕ) (bs : List Bool) → length bs ≤ n → places_from n (drop n bs) ≡ numbers → true ≡ not (nat_lt 0 (length numbers))
-place-none n numbers bs h all =
-    let P : List ℕ → Type 0 = λ ns. true ≡ not (nat_lt 0 (length ns)) in subst P (places-end n [] bs h ∙ all) refl
+-- past the last, those are all that were found
+pub some-found : (found : Bool) (n : ℕ) (bs : List Bool) (some : Bool) → length bs ≤ n
+    → (found || nat_lt 0 (length (places_from n (drop n bs)))) ≡ some → not found ≡ not some
+unfolding places_from
+some-found true n bs some h e = ap not e
+some-found false n bs some h e = ap not (sym ended ∙ e)
+  where
+    ended : nat_lt 0 (length (places_from n (drop n bs))) ≡ false
+    ended = rw (drop_all n bs h) refl

@@ -2,6 +2,7 @@
 //! messages, the extension messages of Ravana, matches, rows and header fields.
 #![tactic(auto)]
 
+mod boxed;
 pub mod command_status;
 mod covering;
 pub mod extension_type;
@@ -19,6 +20,7 @@ mod setup;
 mod sizes;
 mod small_set;
 
+pub use boxed::Boxed;
 pub use covering::covers;
 pub use header::fields;
 pub use items::Actions;

@@ -1,6 +1,7 @@
 //! The messages of OpenFlow 1.3 and of Ravana's extension, and the parts of messages.
 ghost use Rattle.std.specs.Prelude.{◌≡◌, IfOk};
 
+use crate::boxed::Boxed;
 use crate::items::{Actions, Octets};
 use std::alloc::AllocError;
 
@@ -178,7 +179,7 @@ pub struct FlowRemoved {
 pub enum Happening {
     PacketIn(PacketIn),
     PortStatus(PortStatus),
-    FlowRemoved(FlowRemoved),
+    FlowRemoved(Boxed<FlowRemoved>),
 }
 
 impl Clone for Happening {
@@ -188,7 +189,7 @@ impl Clone for Happening {
         Ok(match self {
             Happening::PacketIn(packet) => Happening::PacketIn(packet.clone()?),
             Happening::PortStatus(status) => Happening::PortStatus(*status),
-            Happening::FlowRemoved(removed) => Happening::FlowRemoved(*removed),
+            Happening::FlowRemoved(removed) => Happening::FlowRemoved(removed.copied()?),
         })
     }
 }
@@ -269,7 +270,7 @@ pub enum OfMessage {
     FeaturesRequest,
     FeaturesReply { datapath: u64 },
     PacketIn(PacketIn),
-    FlowRemoved(FlowRemoved),
+    FlowRemoved(Boxed<FlowRemoved>),
     PortStatus(PortStatus),
     PacketOut(PacketOut),
     FlowMod(FlowMod),
@@ -298,7 +299,7 @@ impl Clone for OfMessage {
                 datapath: *datapath,
             },
             OfMessage::PacketIn(packet) => OfMessage::PacketIn(packet.clone()?),
-            OfMessage::FlowRemoved(removed) => OfMessage::FlowRemoved(*removed),
+            OfMessage::FlowRemoved(removed) => OfMessage::FlowRemoved(removed.copied()?),
             OfMessage::PortStatus(status) => OfMessage::PortStatus(*status),
             OfMessage::PacketOut(out) => OfMessage::PacketOut(out.clone()?),
             OfMessage::FlowMod(change) => OfMessage::FlowMod(change.clone()?),

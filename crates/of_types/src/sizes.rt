@@ -129,7 +129,7 @@ pub fn size_of_happening(what: &Happening) -> u64
     match what {
         Happening::PacketIn(packet) => (packet.payload.len() as u64).saturating_add(42),
         Happening::PortStatus(_) => 80,
-        Happening::FlowRemoved(removed) => size_of_match(&removed.matching) as u64 + 48,
+        Happening::FlowRemoved(removed) => size_of_match(&removed.get().matching) as u64 + 48,
     }
 }
 
@@ -154,7 +154,7 @@ pub fn size_of_plain(message: &OfMessage) -> u64
         OfMessage::FeaturesReply { .. } => 32,
         OfMessage::PacketIn(packet) => (packet.payload.len() as u64).saturating_add(42),
         OfMessage::PortStatus(_) => 80,
-        OfMessage::FlowRemoved(removed) => size_of_match(&removed.matching) as u64 + 48,
+        OfMessage::FlowRemoved(removed) => size_of_match(&removed.get().matching) as u64 + 48,
         OfMessage::PacketOut(out) => size_of_packet_out(out),
         OfMessage::FlowMod(change) => size_of_flow_mod(change),
         OfMessage::RoleRequest { .. } => 24,

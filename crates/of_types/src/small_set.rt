@@ -63,12 +63,12 @@ impl SmallSet {
     pub fn is_empty(&self) -> bool
         ensures { result ≡ not (nat_lt 0 (length self.now)) }
     {
-        for (number, is_member) in self.members.iter().enumerate() {
-            if *is_member {
-                return false;
-            }
+        // (A loop with no way out goes through many places at once.)
+        let mut has_member = false;
+        'members: for is_member in &self.members {
+            has_member |= *is_member;
         }
-        true
+        !has_member
     }
 
     /// Its numbers, ascending.

@@ -7,4 +7,5 @@ pub mod Records
 pub mod Report
 pub mod Writable
 pub mod Spelled
+pub mod Sums
 pub mod Words

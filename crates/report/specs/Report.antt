@@ -176,13 +176,18 @@ unfoldable pub switch_lines : ℕ → List Told → List ℕ
 switch_lines s [] = []
 switch_lines s (t ∷ switches) = told_lines s t ++ switch_lines (s + 1) switches
 
--- the last line: the turns, and the sums over all switches
+-- how many events, entries of the log, executed commands and rows there are
+abbrev pub sums_words : ℕ → ℕ → ℕ → ℕ → List ℕ
+sums_words events entries executed rows =
+    labelled (codes "events") (number events) ++ (labelled (codes "log") (number entries)
+    ++ (labelled (codes "commands") (number executed) ++ labelled (codes "rows") (number rows)))
+
+-- the same of the log and the switches
 unfoldable pub sum_words : ℕ → List Told → List ℕ
 sum_words entries switches =
-    labelled (codes "events") (number (sum_by (λ t. length t.events) switches)) ++ (labelled (codes "log") (number entries)
-    ++ (labelled (codes "commands") (number (sum_by (λ t. length t.executed) switches))
-    ++ labelled (codes "rows") (number (sum_by (λ t. length t.rows) switches))))
+    sums_words (sum_by (λ t. length t.events) switches) entries (sum_by (λ t. length t.executed) switches) (sum_by (λ t. length t.rows) switches)
 
+-- the last line: the turns, and the sums over all switches
 unfoldable pub end_line : Record → List ℕ
 end_line r =
     codes "end" ++ (labelled (codes "script") (number r.script) ++ (labelled (codes "closing") (number r.closing) ++ (sum_words (length r.log) r.switches ++ newline)))

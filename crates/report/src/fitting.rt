@@ -139,7 +139,7 @@ fn happening_fits(what: &Happening)
             packet_in_fits(packet);
             bytes_fit(packet.payload.as_slice());
         }
-        Happening::FlowRemoved(removed) => flow_removed_fits(removed),
+        Happening::FlowRemoved(removed) => flow_removed_fits(removed.get()),
         Happening::PortStatus(status) => port_status_fits(*status),
     }
 }

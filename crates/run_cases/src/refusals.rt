@@ -16,7 +16,7 @@ use report::text;
 use rv_actors::Bytes;
 use rv_base::{JournalEntry, MemoryStable, Stable, Stop, Turn};
 use rv_bodies::Body;
-use rv_record::sums_of;
+use rv_record::bare_record;
 use rv_world::World;
 use scenario::{Scenario, read_scenario};
 use std::alloc::{AllocError, Global};
@@ -94,7 +94,7 @@ fn count_refused<B>(entries: &[JournalEntry<B>]) -> u64 {
 fn is_sound(alloc: Global, world: &World<Bytes, Wanting>, primary: u8) -> Result<bool, AllocError>
     requires { primary < length world.now.controllers }
 {
-    let told = sums_of(alloc, world, primary, 0, 0)?;
+    let told = bare_record(alloc, world, primary, 0, 0)?;
     let report = text(alloc, &told)?;
     let verdict = check(alloc, report.as_slice(), &mut app_of(alloc, None)?)?;
     Ok(verdict == Verdict::Same)

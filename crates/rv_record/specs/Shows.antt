@@ -53,8 +53,8 @@ told_by w primary steps script = record {
 }
 
 -- the same without the journal
-abbrev pub sums_by : {A : Type 0} → Worlding (List ℕ) A → ℕ → ℕ → ℕ → Record
-sums_by w primary steps script = record (told_by w primary steps script) { journal = [] }
+abbrev pub bare_record : {A : Type 0} → Worlding (List ℕ) A → ℕ → ℕ → ℕ → Record
+bare_record w primary steps script = record (told_by w primary steps script) { journal = [] }
 
 -- a record tells of this journal, with so many steps of a script and this closing by a primary: its setup, each entry, what
 -- the primary has committed, each switch as the journal leaves it, and how many turns there were

@@ -1,5 +1,5 @@
 //! What a controller has committed.
-ghost use Rattle.std.specs.Prelude.{◌≡◌, IfOk};
+ghost use Rattle.std.specs.Prelude.{◌≡◌, length, IfOk};
 ghost use Rattle.group_controller.specs.Turns.{state_of};
 ghost use Rattle.rv_runs.specs.Committed.{kept_of};
 
@@ -8,6 +8,19 @@ use group_controller::Controller;
 use rv_world::takes_part;
 use std::alloc::{AllocError, Global};
 use vr_log::{Entries, append_entries};
+
+/// How many entries a controller that takes part has committed. One that doesn't has none.
+pub fn count_committed<A: App>(controller: &Controller<A>) -> u64
+    ensures { result ≡ length (kept_of (state_of controller.now)) }
+{
+    if !takes_part(controller) {
+        return 0;
+    }
+    let (Some(committed), Some(log)) = (controller.committed(), controller.log()) else {
+        return 0;
+    };
+    committed.min(log.as_slice().len() as u64)
+}
 
 /// What a controller that takes part has committed. One that doesn't has nothing.
 pub fn committed_log<A: App>(

@@ -2,17 +2,18 @@
 #![tactic(auto)]
 
 ghost use Rattle.std.specs.Prelude.{◌≡◌, ◌<◌, ◌≤◌, length, IfOk};
+ghost use Rattle.report.specs.Sums.{sums_in};
 ghost use Rattle.rv_runs.specs.Schedule.{count_turns};
-ghost use Rattle.rv_record.specs.Shows.{sums_by, told_by};
+ghost use Rattle.rv_record.specs.Shows.{bare_record, told_by};
 
 mod committed;
 mod told;
 
-use crate::committed::committed_log;
-use crate::told::told_all;
+use crate::committed::{committed_log, count_committed};
+use crate::told::{told_all, told_counts};
 use app_core::App;
 use of_types::Items;
-use report::Record;
+use report::{Record, Sums};
 use rv_actors::{Bytes, bare};
 use rv_base::JournalEntry;
 use rv_world::World;
@@ -32,9 +33,32 @@ fn count_turns(entries: &[JournalEntry<Bytes>]) -> u64
     turns
 }
 
-/// The record of a world without its journal, with the log of a primary: all that the last line of its report tells. So many
-/// steps were its script's, which made so many of its entries.
+/// What the last line of a world's report sums up, by the log of a primary. So many steps were its script's, which made so many of
+/// its entries. Nothing is copied but the rows of one switch at a time.
 pub fn sums_of<A: App>(
+    world: &World<Bytes, A>,
+    primary: u8,
+    steps: usize,
+    script: usize,
+) -> Result<Sums, AllocError>
+    requires led { primary < length world.now.controllers }
+    requires script { script ≤ length world.now.journal }
+    ensures { IfOk result (λ sums. sums ≡ sums_in (told_by world.now primary steps script)) }
+{
+    let (events, executed, rows) = told_counts(world)?;
+    Ok(Sums {
+        script: steps as u64,
+        closing: count_turns(&world.journal()[script..]),
+        events,
+        entries: count_committed(world.controller(primary)),
+        executed,
+        rows,
+    })
+}
+
+/// The record of a world without its journal, with the log of a primary. So many steps were its script's, which made so many of its
+/// entries.
+pub fn bare_record<A: App>(
     alloc: Global,
     world: &World<Bytes, A>,
     primary: u8,
@@ -43,7 +67,7 @@ pub fn sums_of<A: App>(
 ) -> Result<Record, AllocError>
     requires led { primary < length world.now.controllers }
     requires script { script ≤ length world.now.journal }
-    ensures { IfOk result (λ told. told ≡ sums_by world.now primary steps script) }
+    ensures { IfOk result (λ told. told ≡ bare_record world.now primary steps script) }
 {
     Ok(Record {
         setup: world.setup().copy()?,
@@ -67,7 +91,7 @@ pub fn record_of<A: App>(
     requires script { script ≤ length world.journal }
     ensures { IfOk result (λ told. told ≡ told_by world primary steps script) }
 {
-    let mut told = sums_of(alloc, &world, primary, steps, script)?;
+    let mut told = bare_record(alloc, &world, primary, steps, script)?;
     told.journal = bare(alloc, world.into_journal())?;
     Ok(told)
 }

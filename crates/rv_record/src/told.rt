@@ -1,5 +1,5 @@
 //! What is told of the switches.
-ghost use Rattle.std.specs.Prelude.{◌≡◌, map, IfOk};
+ghost use Rattle.std.specs.Prelude.{◌≡◌, length, map, sum_by, IfOk};
 ghost use Rattle.rv_record.specs.Shows as shows;
 
 use app_core::App;
@@ -48,6 +48,21 @@ fn told_of(alloc: Global, switch: &Switch) -> Result<Told, AllocError>
         executed,
         rows,
     })
+}
+
+/// How many events, executed commands and rows are told of the switches.
+pub fn told_counts<A: App>(world: &World<Bytes, A>) -> Result<(u128, u128, u128), AllocError>
+    ensures events { IfOk result (λ counts. counts.0 ≡ sum_by (λ t. length t.events) (map shows.told_of world.now.switches)) }
+    ensures executed { IfOk result (λ counts. counts.1 ≡ sum_by (λ t. length t.executed) (map shows.told_of world.now.switches)) }
+    ensures rows { IfOk result (λ counts. counts.2 ≡ sum_by (λ t. length t.rows) (map shows.told_of world.now.switches)) }
+{
+    let (mut events, mut executed, mut rows) = (0u128, 0u128, 0u128);
+    for switch in world.switches() {
+        events += switch.events().len() as u128;
+        executed += switch.executed().len() as u128;
+        rows += switch.rows()?.len() as u128;
+    }
+    Ok((events, executed, rows))
 }
 
 /// What is told of each switch, by number.

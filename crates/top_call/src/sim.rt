@@ -57,12 +57,10 @@ impl Output {
                 bytes
             }
             Output::LastLine => {
-                let told = sums_of(alloc, &world, primary, steps, script);
+                let sums = sums_of(&world, primary, steps, script);
                 drop(world);
-                let told = told?;
-                let bytes = last_line(alloc, &told);
-                drop(told);
-                bytes
+                let sums = sums?;
+                last_line(alloc, &sums)
             }
         }
     }

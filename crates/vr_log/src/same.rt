@@ -46,7 +46,7 @@ fn same_happening(a: &Happening, b: &Happening) -> bool
     match (a, b) {
         (Happening::PacketIn(p), Happening::PacketIn(q)) => same_packet(p, q),
         (Happening::PortStatus(p), Happening::PortStatus(q)) => same_status(*p, *q),
-        (Happening::FlowRemoved(p), Happening::FlowRemoved(q)) => same_removed(p, q),
+        (Happening::FlowRemoved(p), Happening::FlowRemoved(q)) => same_removed(p.get(), q.get()),
         _ => false,
     }
 }

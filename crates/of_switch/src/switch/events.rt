@@ -14,12 +14,12 @@ use command_buffer::CommandBuffer;
 use event_buffer::EventBuffer;
 use flow_clock::Expired;
 use of_types::{
-    Event, FlowRemoved, Happening, Items, LAST_LIFE, PortStatus, REASON_MODIFY, SEND_REMOVED,
-    switch_up,
+    Boxed, Event, FlowRemoved, Happening, Items, LAST_LIFE, PortStatus, REASON_MODIFY,
+    SEND_REMOVED, switch_up,
 };
 use role_fence::RoleFence;
 use rv_base::Letters;
-use std::alloc::AllocError;
+use std::alloc::{AllocError, Global};
 use std::collections::VecDeque;
 
 impl Switch {
@@ -293,7 +293,7 @@ impl Switch {
         ensures { IfOk result (λ d. d ≡ with_first self.now.buffer.held (with_greetings self.now (with_removed left.now (draft_of self.now)))) }
     {
         let mut draft = self.draft();
-        note_all(&mut draft, left)?;
+        note_all(self.alloc, &mut draft, left)?;
         self.greet_again(&mut draft)?;
         draft.tell_first(self.buffer.held())?;
         Ok(draft)
@@ -318,30 +318,30 @@ impl Switch {
 }
 
 /// Rows that have left are noted where they ask for that.
-fn note_all(draft: &mut Draft, left: &[Expired]) -> Result<(), AllocError>
+fn note_all(alloc: Global, draft: &mut Draft, left: &[Expired]) -> Result<(), AllocError>
     ensures { OnOk result (draft.new ≡ with_removed left.now draft.old) }
 {
     for expired in left {
-        note_removed(draft, expired)?;
+        note_removed(alloc, draft, expired)?;
     }
     Ok(())
 }
 
 /// A row that has left is noted where it asks for that.
-fn note_removed(draft: &mut Draft, expired: &Expired) -> Result<(), AllocError>
+fn note_removed(alloc: Global, draft: &mut Draft, expired: &Expired) -> Result<(), AllocError>
     ensures { OnOk result (draft.new ≡ with_removed (expired.now ∷ []) draft.old) }
 {
     if expired.flags == SEND_REMOVED && !draft.is_full() {
-        draft.note(flow_removed(expired))?;
+        draft.note(flow_removed(alloc, expired)?)?;
     }
     Ok(())
 }
 
 /// A row that has left, as an event.
-fn flow_removed(expired: &Expired) -> Happening
-    ensures { result ≡ removal_told expired.now }
+fn flow_removed(alloc: Global, expired: &Expired) -> Result<Happening, AllocError>
+    ensures { IfOk result (λ told. told ≡ removal_told expired.now) }
 {
-    Happening::FlowRemoved(FlowRemoved {
+    let removed = FlowRemoved {
         cookie: expired.row.cookie,
         priority: expired.row.priority,
         reason: expired.reason,
@@ -351,7 +351,8 @@ fn flow_removed(expired: &Expired) -> Happening
         packets: expired.hits,
         octets: expired.octets,
         matching: expired.row.matching,
-    })
+    };
+    Ok(Happening::FlowRemoved(Boxed::new(alloc, removed)?))
 }
 
 /// What happened joins a buffer, in order.

@@ -1,15 +1,13 @@
-use Rattle.std.proofs.Common.{◌∙◌, [], arith}
-use Rattle.of_types.proofs.Places.{place-there, place-passed, place-none}
+use Rattle.std.proofs.Common.{◌∙◌, ap, arith}
+use Rattle.std.specs.Prelude.{nat_lt, length}
+use Rattle.of_types.proofs.Places.{some-passed, some-found}
 use Rattle.of_types.proofs.small_set.SmallSet.is_empty.Goals as goal
 
-pub returns-then-is_member : goal.returns-then-is_member
-returns-then-is_member c =
-    place-there c.loop-number.number c.args.self.now c.self.inside.members (omega arith) c.if-is_member.true (c.loop-number.invariant ∙ c.self.view_is)
-
-pub loop-number-preserved : goal.loop-number-preserved
-loop-number-preserved c =
-    place-passed c.loop-number.number [] c.self.inside.members (omega arith) c.if-is_member.false ∙ c.loop-number.invariant
+pub members-preserved : goal.members-preserved
+members-preserved c =
+    some-passed c.members.has_member c.members.is_member-index c.self.inside.members _ (omega arith) c.members.invariant
 
 pub returns : goal.returns
 returns c =
-    place-none c.loop-number.number c.args.self.now c.self.inside.members (omega arith) (c.loop-number.invariant ∙ c.self.view_is)
+    some-found c.members.has_member c.members.is_member-index c.self.inside.members _ (omega arith)
+    (c.members.invariant ∙ ap (λ numbers. nat_lt 0 (length numbers)) c.self.view_is)

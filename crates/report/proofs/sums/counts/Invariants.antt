@@ -1,6 +1,6 @@
 use Rattle.std.proofs.Common.{◌≡◌, ◌≤◌, ◌*◌, ◌^◌, length, take}
 use Rattle.std.specs.Prelude.{sum_by}
-use Rattle.report.proofs.report_text.sums.Given as goal
+use Rattle.report.proofs.sums.counts.Given as goal
 
 abbrev pub invariant-loop-told : goal.invariant-loop-told
 invariant-loop-told l = record {

@@ -1,0 +1,120 @@
+//! What the last line of a report sums up.
+ghost use Rattle.std.specs.Prelude.{◌≡◌, ◌++◌, length, sum_by, IfOk, OnOk};
+ghost use Rattle.report.specs.Report.{end_line, sum_words, sums_words};
+ghost use Rattle.report.specs.Sums.{sums_in, sums_line};
+
+use crate::record::{Record, Told};
+use crate::word::{Word, write_words};
+use crate::words::write_newline;
+use of_types::Octets;
+use std::alloc::{AllocError, Global};
+
+/// How many turns the script and the closing of a run were, and how many events, entries of the log, executed commands and rows
+/// there are of it.
+#[derive(Clone, Copy)]
+pub struct Sums {
+    pub script: u64,
+    pub closing: u64,
+    pub events: u128,
+    pub entries: u64,
+    pub executed: u128,
+    pub rows: u128,
+}
+
+/// How many events, executed commands and rows the switches have.
+fn counts(switches: &[Told]) -> (u128, u128, u128)
+    ensures events { result.0 ≡ sum_by (λ t. length t.events) switches.now }
+    ensures executed { result.1 ≡ sum_by (λ t. length t.executed) switches.now }
+    ensures rows { result.2 ≡ sum_by (λ t. length t.rows) switches.now }
+{
+    let (mut events, mut executed, mut rows) = (0u128, 0u128, 0u128);
+    for told in switches {
+        events += told.events.len() as u128;
+        executed += told.executed.len() as u128;
+        rows += told.rows.len() as u128;
+    }
+    (events, executed, rows)
+}
+
+#[tactic(auto, unfolding(crate::specs::Report::labelled))]
+fn write_counts(
+    out: &mut Octets,
+    events: u128,
+    entries: u64,
+    executed: u128,
+    rows: u128,
+) -> Result<(), AllocError>
+    ensures { OnOk result (out.new ≡ out.old ++ sums_words events entries executed rows) }
+{
+    let words = [
+        Word::Text(b"events"),
+        Word::Sum(events),
+        Word::Text(b"log"),
+        Word::Number(entries),
+        Word::Text(b"commands"),
+        Word::Sum(executed),
+        Word::Text(b"rows"),
+        Word::Sum(rows),
+    ];
+    write_words(out, &words)
+}
+
+#[tactic(auto, unfolding(crate::specs::Report::sum_words))]
+pub fn write_sum_words(
+    out: &mut Octets,
+    entries: usize,
+    switches: &[Told],
+) -> Result<(), AllocError>
+    ensures { OnOk result (out.new ≡ out.old ++ sum_words entries switches.now) }
+{
+    let (events, executed, rows) = counts(switches);
+    write_counts(out, events, entries as u64, executed, rows)
+}
+
+/// The sums of a record.
+fn sums_in(told: &Record) -> Sums
+    ensures { result ≡ sums_in told.now }
+{
+    let (events, executed, rows) = counts(told.switches.as_slice());
+    Sums {
+        script: told.script,
+        closing: told.closing,
+        events,
+        entries: told.log.len() as u64,
+        executed,
+        rows,
+    }
+}
+
+#[tactic(auto, unfolding(crate::specs::Report::labelled, crate::specs::Sums::sums_line))]
+fn write_sums(out: &mut Octets, sums: &Sums) -> Result<(), AllocError>
+    ensures { OnOk result (out.new ≡ out.old ++ sums_line sums.now) }
+{
+    out.append(b"end")?;
+    let turns = [
+        Word::Text(b"script"),
+        Word::Number(sums.script),
+        Word::Text(b"closing"),
+        Word::Number(sums.closing),
+    ];
+    write_words(out, &turns)?;
+    write_counts(out, sums.events, sums.entries, sums.executed, sums.rows)?;
+    write_newline(out)
+}
+
+/// Writes the last line of a report.
+#[tactic(auto, unfolding(crate::specs::Report::end_line, crate::specs::Report::sum_words, crate::specs::Sums::sums_line))]
+pub fn write_end(out: &mut Octets, told: &Record) -> Result<(), AllocError>
+    ensures { OnOk result (out.new ≡ out.old ++ end_line told.now) }
+{
+    write_sums(out, &sums_in(told))
+}
+
+/// The last line of each report with these sums, alone.
+pub fn last_line(alloc: Global, sums: &Sums) -> Result<Octets, AllocError>
+    ensures { IfOk result (λ line. line ≡ sums_line sums.now) }
+{
+    let mut out = Octets::new(alloc);
+    write_sums(&mut out, sums)?;
+    Ok(out)
+}

@@ -58,14 +58,14 @@ module _ (setup : Setup) where
   -- a frame
   pub frame_reacts : (wires : Wires) → IsWires setup wires → (old new : Known) (switch : ℕ) (p : PacketIn) (seen : Option SwitchPort) (before after : List Command) →
       hosts_in new.places.entries ≡ source_over wires (hosts_in old.places.entries) (record { switch = switch; port = p.in_port }) (number_at 6 6 p.payload) →
-      new.down.items ≡ old.down.items →
+      new.links.down.items ≡ old.links.down.items →
       seen ≡ place_of_destination (hosts_in new.places.entries) (number_at 6 0 p.payload) →
-      after ≡ before ++ routed setup old.down.items (record { switch = switch; port = p.in_port }) p.payload seen →
+      after ≡ before ++ routed setup old.links.down.items (record { switch = switch; port = p.in_port }) p.payload seen →
       Reacts setup old new switch (happening.PacketIn p) before after
   frame_reacts wires w old new switch p seen before after hosts down is_seen out =
       record {
         knows = rw (down, hosts ∙ source_is wires w (hosts_in old.places.entries) (record { switch = switch; port = p.in_port }) (number_at 6 6 p.payload)) refl;
-        asks = rw down (out ∙ ap (λ o. before ++ routed setup old.down.items (record { switch = switch; port = p.in_port }) p.payload o) is_seen);
+        asks = rw down (out ∙ ap (λ o. before ++ routed setup old.links.down.items (record { switch = switch; port = p.in_port }) p.payload o) is_seen);
       }
 
   -- a port

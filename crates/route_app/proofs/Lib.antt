@@ -6,5 +6,6 @@ pub mod Walking
 pub mod Answering
 pub mod PlaceLemmas
 pub mod Wiring
+pub mod Relinking
 pub mod Knowing
 pub mod Orderly

@@ -18,11 +18,11 @@ use Rattle.route_app.specs.Tables.{place, joined, marked, kept_up, all_kept_up, 
 use Rattle.app_core.proofs.Linked.{one_port, same_tells, are_ports, port_bounds, over_ports, over_back}
 
 module _ (table : List (Option SwitchPort)) where
-  row-at : (s p : ℕ) → p < 49 → get_or (row table s) p None ≡ get_or table (49 * s + p) None
+  pub row-at : (s p : ℕ) → p < 49 → get_or (row table s) p None ≡ get_or table (49 * s + p) None
   unfolding row
   row-at s p h = get_or-take 49 (drop (49 * s) table) p None h ∙ get_or-drop (49 * s) table p None
 
-  row-past : (s p : ℕ) → 49 ≤ p → get_or (row table s) p None ≡ None
+  pub row-past : (s p : ℕ) → 49 ≤ p → get_or (row table s) p None ≡ None
   unfolding row
   row-past s p h = get_or_past (take 49 (drop (49 * s) table)) p None (let l = length-take 49 (drop (49 * s) table) in omega (arith, l))
 
@@ -34,7 +34,7 @@ unfolding row
 row_short table s = let l = length-take 49 (drop (49 * s) table) in omega (arith, l)
 
 -- ports at one place are one
-one_place : (a b : SwitchPort) → a.port < 49 → b.port < 49 → place a ≡ place b → a ≡ b
+pub one_place : (a b : SwitchPort) → a.port < 49 → b.port < 49 → place a ≡ place b → a ≡ b
 one_place a b l m e = one_port a b (omega arith) (omega arith)
 
 or_none : {X : Type 0} (o : Option X) → option_or o None ≡ o
@@ -141,7 +141,7 @@ all_ends setup ends is so = record { len = so.len; leads = leads }
       | inr p ↦ row-past ends at.switch at.port p ∙ no_link at (other_end setup.links at) refl (inr p)
     ]
 
-lt_tells : (a b : ℕ) → ((nat_lt a b ≡ true) × (a < b)) ⊎ ((nat_lt a b ≡ false) × (b ≤ a))
+pub lt_tells : (a b : ℕ) → ((nat_lt a b ≡ true) × (a < b)) ⊎ ((nat_lt a b ≡ false) × (b ≤ a))
 lt_tells a b = by_test (nat_lt a b) refl
   where
     by_test : (t : Bool) → nat_lt a b ≡ t → ((nat_lt a b ≡ true) × (a < b)) ⊎ ((nat_lt a b ≡ false) × (b ≤ a))
@@ -235,7 +235,7 @@ module _ (setup : Setup) (down : List SwitchPort) (is : IsSetup setup) (ends : L
 
   pub kept_up_is : IsUpTable setup down (all_kept_up flags 0 ends)
   unfolding over_link
-  kept_up_is = record { leads = leads }
+  kept_up_is = record { len = kept-len flags ends 0 ∙ known.len; leads = leads }
     where
       none_kept : (at : SwitchPort) → other_end setup.links at ≡ None → None ≡ over_link setup down at
       none_kept at e = rw e refl

@@ -10,7 +10,7 @@ use Rattle.of_types.specs.declared.setup.Setup.{Setup}
 use Rattle.of_types.specs.Setups.{IsSetup}
 use Rattle.app_core.specs.declared.switch_port.SwitchPort.{SwitchPort}
 use Rattle.app_core.specs.Routes.{over_link, walks, route, unreached, hops_of, levels, IsWalk, FallsAlong, ShowRoutes}
-use Rattle.route_app.specs.Search.{row, level, FindsLevels}
+use Rattle.route_app.specs.Search.{row, level, FindsLevels, FindsUpTo}
 use Rattle.route_app.specs.Tables.{IsUpTable}
 use Rattle.route_app.specs.Hops.{HasNone, IsFirst, Answers}
 use Rattle.app_core.proofs.Linked.{over_other, over_ports, port_bounds}
@@ -192,6 +192,50 @@ module _ (setup : Setup) (down : List SwitchPort) (to : ℕ) (is : IsSetup setup
   pub goes_nearer : (from here : ℕ) (walk : List SwitchPort) → Walking setup down to from found here walk → (r : List (Option SwitchPort)) (wanted port : ℕ) (end : SwitchPort) → r ≡ row table here → level found here ≡ suc wanted →
       IsFirst r found wanted port end → Walking setup down to from found end.switch (walk ++ record { switch = here; port = port } ∷ [])
   goes_nearer from here walk so r wanted port end e is_level first = hop_goes_on from here walk so wanted port end is_level (subst (λ (x : List (Option SwitchPort)). IsFirst x found wanted port end) e first)
+
+-- levels up to that of the first switch of the way
+module _ (setup : Setup) (table : List (Option SwitchPort)) (to from : ℕ) (levels : List ℕ) (f : FindsUpTo table (length setup.ports) to (Some from) levels) where
+  -- what is not beyond the first switch has its level
+  pub level_up_to : (v : ℕ) → level f.all v ≤ level f.all from → level levels v ≡ level f.all v
+  level_up_to v low = elim (f.same v) [ inl e ↦ e | inr o ↦ (let far = o.1 in absurd (omega (arith, low, far))) ]
+
+  pub level_low : length setup.ports ≤ 64 → (v : ℕ) → level levels v < level f.all from → level f.all v ≡ level levels v
+  level_low few v low = elim (f.same v) [
+    | inl e ↦ sym e
+    | inr o ↦ (let none = o.0 in
+        elim (eqb_tells (level f.all from) unreached) [
+          | inl e ↦ (let same = e.1 in absurd (omega (arith, none, low, same)))
+          | inr s ↦ (let small = f.finds.few from s.1 in absurd (omega (arith, none, low, small, few)))
+        ])
+  ]
+
+  -- a search by the one list is one by the other
+  pub none_in_all : (row : List (Option SwitchPort)) (wanted below : ℕ) → wanted < level f.all from → HasNone row levels wanted below → HasNone row f.all wanted below
+  none_in_all row wanted below low none = λ q end h e same. none q end h e (level_up_to end.switch (omega (arith, low, same)) ∙ same)
+
+  pub first_in_all : length setup.ports ≤ 64 → (row : List (Option SwitchPort)) (wanted port : ℕ) (end : SwitchPort) → wanted < level f.all from → IsFirst row levels wanted port end → IsFirst row f.all wanted port end
+  first_in_all few row wanted port end low first =
+      let at = first.low in
+      record { leads = first.leads; low = level_low few end.switch (omega (arith, at, low)) ∙ first.low; none = none_in_all row wanted port low first.none }
+
+-- with no wanted switch all levels are there
+pub finds_all : (table : List (Option SwitchPort)) (switches to : ℕ) (levels : List ℕ) → FindsUpTo table switches to None levels → FindsLevels table switches to levels
+finds_all table switches to levels f =
+    record {
+      len = f.len;
+      start = same to ∙ f.finds.start;
+      few = λ v h. let s = same v in let few = f.finds.few v (λ e. h (s ∙ e)) in omega (arith, s, few);
+      near = λ v port other l. let a = same v in let b = same other in let n = f.finds.near v port other l in omega (arith, a, b, n);
+      falls = λ v h o.
+          let s = same v in
+          let fall = f.finds.falls v (λ e. h (s ∙ e)) o in
+          let b = same fall.1 in
+          let one = fall.3 in
+          (fall.0, fall.1, fall.2, omega (arith, s, b, one));
+    }
+  where
+    same : (v : ℕ) → level levels v ≡ level f.all v
+    same v = elim (f.same v) [ inl e ↦ e | inr o ↦ absurd o.1 ]
 
 -- a level that was read
 pub level_read : (found : List ℕ) (i j : ℕ) → length found ≡ 256 → i ≡ j → j < 256 → level found j ≡ slice_index found i

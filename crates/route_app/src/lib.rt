@@ -8,6 +8,7 @@ mod places;
 mod routes;
 mod search;
 mod table;
+mod up_links;
 mod walk;
 mod wires;
 

@@ -7,14 +7,13 @@ ghost use Rattle.app_core.specs.Parts.{Steps};
 ghost use Rattle.app_core.specs.Routes.{route};
 ghost use Rattle.app_core.specs.Routing.{place_of_destination, installed, routed, forgetting_ends};
 ghost use Rattle.route_app.specs.Places.{hosts_in};
-ghost use Rattle.route_app.specs.Knowing.{source_over, routing_in, changed, restarted, Reacts};
+ghost use Rattle.route_app.specs.Knowing.{source_over, routing_in, changed, restarted, IsFit, Reacts};
+ghost use Rattle.route_app.specs.UpLinks.{AreUp};
 ghost use Rattle.route_app.specs.Wired.{IsWires, end_over};
 
 use crate::commands::{flood, forget_ends, install};
-use crate::places::{
-    Places, bring_up, bring_up_switch, forget_port, forget_switch, is_same, place_of, set_place,
-    take_down,
-};
+use crate::places::{Places, forget_port, forget_switch, is_same, place_of, set_place};
+use crate::up_links::{UpLinks, all_links, no_links, port_down, port_up, switch_up};
 use crate::walk::route_over;
 use crate::wires::{Wires, edge_over, end_over, no_wires, wires_of};
 use app_core::{Part, SwitchPort, is_single};
@@ -24,17 +23,20 @@ use of_types::{
 };
 use std::alloc::{AllocError, Global};
 
-/// Where addresses were seen, and which ports are down.
+/// Where addresses were seen, and which links are up.
 #[derive(Drop)]
 pub struct Known {
     pub places: Places,
-    pub down: Vec<SwitchPort>,
+    pub links: UpLinks,
 }
 
 /// Routing.
 #[derive(Drop)]
 pub struct Route {
+    /// What is kept of the setup.
     wires: Wires,
+
+    /// What changes with events.
     known: Known,
 }
 
@@ -69,19 +71,19 @@ fn place_of_destination(places: &Places, destination: Option<u64>) -> Option<Swi
 fn send_to(
     alloc: Global,
     wires: &Wires,
-    down: &[SwitchPort],
+    links: &UpLinks,
     at: SwitchPort,
     frame: &Octets,
     target: SwitchPort,
     out: &mut Commands,
 ) -> Result<(), AllocError>
-    ensures { (setup : Setup) → IsWires setup wires.now → at.switch < length setup.ports →
-        OnOk result (out.new ≡ out.old ++ installed setup at frame.now target (route setup down.now at.switch target.switch)) }
+    ensures { (setup : Setup) → IsWires setup wires.now → AreUp setup links.now → at.switch < length setup.ports →
+        OnOk result (out.new ≡ out.old ++ installed setup at frame.now target (route setup links.now.down.items at.switch target.switch)) }
 {
     if target.switch >= wires.switches {
         return Ok(());
     }
-    let found = route_over(alloc, wires.ends.as_slice(), down, at.switch, target.switch)?;
+    let found = route_over(alloc, links.table.as_slice(), at.switch, target.switch)?;
     if let Some(walk) = found {
         install(alloc, wires, at, frame, target, walk.as_slice(), out)?;
     }
@@ -92,18 +94,19 @@ fn send_to(
 fn answer(
     alloc: Global,
     wires: &Wires,
-    down: &[SwitchPort],
+    links: &UpLinks,
     at: SwitchPort,
     frame: &Octets,
     seen: Option<SwitchPort>,
     out: &mut Commands,
 ) -> Result<(), AllocError>
-    ensures { (setup : Setup) → IsWires setup wires.now → at.switch < length setup.ports → OnOk result (out.new ≡ out.old ++ routed setup down.now at frame.now seen) }
+    ensures { (setup : Setup) → IsWires setup wires.now → AreUp setup links.now → at.switch < length setup.ports →
+        OnOk result (out.new ≡ out.old ++ routed setup links.now.down.items at frame.now seen) }
 {
     match seen {
-        None => flood(alloc, wires, down, at, frame, out),
+        None => flood(alloc, wires, links.down.as_slice(), at, frame, out),
         Some(target) if is_same(target, at) => Ok(()),
-        Some(target) => send_to(alloc, wires, down, at, frame, target, out),
+        Some(target) => send_to(alloc, wires, links, at, frame, target, out),
     }
 }
 
@@ -116,7 +119,8 @@ fn on_packet_in(
     packet: &PacketIn,
     out: &mut Commands,
 ) -> Result<(), AllocError>
-    ensures { (setup : Setup) → IsWires setup wires.now → switch < length setup.ports →
+    ensures fit { (setup : Setup) → IsFit setup wires.now known.old → IsFit setup wires.now known.new }
+    ensures step { (setup : Setup) → IsFit setup wires.now known.old → switch < length setup.ports →
         OnOk result (Reacts setup known.old known.new switch (happening.PacketIn packet.now) out.old out.new) }
 {
     let at = SwitchPort {
@@ -126,15 +130,7 @@ fn on_packet_in(
     let found = fields(packet.payload.as_slice());
     learn_source(wires, &mut known.places, at, found.eth_src)?;
     let seen = place_of_destination(&known.places, found.eth_dst);
-    answer(
-        alloc,
-        wires,
-        known.down.as_slice(),
-        at,
-        &packet.payload,
-        seen,
-        out,
-    )
+    answer(alloc, wires, &known.links, at, &packet.payload, seen, out)
 }
 
 /// A port went down or came up.
@@ -146,6 +142,7 @@ fn on_port_status(
     status: &PortStatus,
     out: &mut Commands,
 ) -> Result<(), AllocError>
+    ensures fit { (setup : Setup) → IsFit setup wires.now known.old → IsFit setup wires.now known.new }
     ensures known { OnOk result (routing_in known.new ≡ changed (routing_in known.old) switch status.now) }
     ensures asked { OnOk result (out.new ≡ out.old ++ (if status.now.up then [] else forgetting_ends switch status.now.port (end_over wires.now (record { switch = switch; port = status.now.port })))) }
 {
@@ -154,20 +151,21 @@ fn on_port_status(
         port: status.port,
     };
     if status.up {
-        bring_up(&mut known.down, at);
+        port_up(wires, &mut known.links, at);
         return Ok(());
     }
     forget_port(&mut known.places, switch, status.port);
-    take_down(&mut known.down, at)?;
+    port_down(wires, &mut known.links, at)?;
     forget_ends(alloc, switch, status.port, end_over(wires, at), out)
 }
 
 /// A switch is up again: all its ports count as up, and its addresses are forgotten.
-fn on_switch_up(known: &mut Known, switch: u8)
-    ensures { routing_in known.new ≡ restarted (routing_in known.old) switch }
+fn on_switch_up(wires: &Wires, known: &mut Known, switch: u8)
+    ensures fit { (setup : Setup) → IsFit setup wires.now known.old → IsFit setup wires.now known.new }
+    ensures known { routing_in known.new ≡ restarted (routing_in known.old) switch }
 {
     forget_switch(&mut known.places, switch);
-    bring_up_switch(&mut known.down, switch);
+    switch_up(wires, &mut known.links, switch);
 }
 
 /// What routing does with what happened at a switch.
@@ -179,13 +177,14 @@ fn on_happening(
     what: &Happening,
     out: &mut Commands,
 ) -> Result<(), AllocError>
-    ensures { (setup : Setup) → IsWires setup wires.now → switch < length setup.ports →
+    ensures fit { (setup : Setup) → IsFit setup wires.now known.old → IsFit setup wires.now known.new }
+    ensures step { (setup : Setup) → IsFit setup wires.now known.old → switch < length setup.ports →
         OnOk result (Reacts setup known.old known.new switch what.now out.old out.new) }
 {
     match what {
         Happening::PacketIn(packet) => on_packet_in(alloc, wires, known, switch, packet, out),
         Happening::PortStatus(_) if is_switch_up(what) => {
-            on_switch_up(known, switch);
+            on_switch_up(wires, known, switch);
             Ok(())
         }
         Happening::PortStatus(status) => on_port_status(alloc, wires, known, switch, status, out),
@@ -201,7 +200,8 @@ fn on_event(
     event: &Event,
     out: &mut Commands,
 ) -> Result<(), AllocError>
-    ensures { (setup : Setup) → IsWires setup wires.now →
+    ensures fit { (setup : Setup) → IsFit setup wires.now known.old → IsFit setup wires.now known.new }
+    ensures step { (setup : Setup) → IsFit setup wires.now known.old →
         OnOk result (Steps (part_next routing setup (flat_routing (routing_in known.old)) event.now) (flat_routing (routing_in known.new)) out.old out.new false × (length out.new ≤ length out.old + most_given routing)) }
 {
     if event.switch < wires.switches {
@@ -219,7 +219,7 @@ impl Route {
             wires: no_wires(alloc),
             known: Known {
                 places: IndexMap::new(alloc),
-                down: Vec::new(alloc),
+                links: no_links(alloc),
             },
         }
     }
@@ -230,8 +230,8 @@ impl Part for Route {
 
     ghost numbers = { λ r. flat_routing (routing_in r.known) };
 
-    // The setup whose switches, ports and links it keeps.
-    ghost is_fit = { λ r setup. IsWires setup r.wires };
+    // The setup whose switches, ports and links it keeps, and of whose links it knows which are up.
+    ghost is_fit = { λ r setup. IsFit setup r.wires r.known };
 
     fn kind(&self) -> u8 {
         7
@@ -245,7 +245,7 @@ impl Part for Route {
         self.wires = wires_of(alloc, setup)?;
         self.known = Known {
             places: IndexMap::new(alloc),
-            down: Vec::new(alloc),
+            links: all_links(alloc, &self.wires)?,
         };
         Ok(())
     }

@@ -1,5 +1,5 @@
 //! Where addresses were seen, and which ports are down.
-ghost use Rattle.std.specs.Prelude.{◌≡◌, ◌≤◌, not, nat_eq, ◌&&◌, length, slice_get, OnOk};
+ghost use Rattle.std.specs.Prelude.{◌≡◌, ◌≤◌, not, nat_eq, ◌&&◌, length, slice_get, OnOk, OnErr};
 ghost use Rattle.app_core.specs.Learning.{forgotten, forgotten_at};
 ghost use Rattle.app_core.specs.Routes.{is_same};
 ghost use Rattle.app_core.specs.Routing.{place_of, placed, is_before, with_port, without_port, without_switch};
@@ -84,9 +84,10 @@ fn is_there(down: &[SwitchPort], place: usize, at: SwitchPort) -> bool
     place < down.len() && is_same(down[place], at)
 }
 
-/// A port joins those that are down, at its place.
+/// A port joins those that are down, at its place. At want of memory nothing changes.
 pub fn take_down(down: &mut Vec<SwitchPort>, at: SwitchPort) -> Result<(), AllocError>
-    ensures { OnOk result (down.new.items ≡ with_port down.old.items at) }
+    ensures joined { OnOk result (down.new.items ≡ with_port down.old.items at) }
+    ensures kept { OnErr result (down.new.items ≡ down.old.items) }
 {
     let place = rank(down.as_slice(), at);
     if !is_there(down.as_slice(), place, at) {

@@ -3,4 +3,4 @@ use Rattle.app_core.proofs.Paths.{routing_starts}
 use Rattle.route_app.proofs.part.RoutePart.start.Goals as goal
 
 pub returns-clause-state : goal.returns-clause-state
-returns-clause-state c = rw (c.new.ensures.empty, c.new-2.ensures.items) (sym routing_starts)
+returns-clause-state c = rw (c.new.ensures.empty, c.in_ok-all_links.ensures.none_down) (sym routing_starts)

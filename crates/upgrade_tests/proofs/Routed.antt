@@ -1,6 +1,6 @@
 -- Routes over three switches in a ring, and what routing asks of them for a list of events, computed. It was worked out by hand from
 -- the rules.
-use Rattle.std.specs.Prelude.{◌≡◌, ℕ, true, List, [], ◌∷◌, map, Option, Some, None, refl}
+use Rattle.std.specs.Prelude.{◌≡◌, ℕ, true, List, [], ◌∷◌, map, Some, None, refl}
 use Rattle.of_types.specs.declared.message.Command.{Command}
 use Rattle.of_types.specs.declared.message.FlowCommand.TheVariants.{Add, Delete}
 use Rattle.of_types.specs.declared.message.Happening.TheVariants as happening

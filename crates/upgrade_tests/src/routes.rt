@@ -1,6 +1,7 @@
 //! Routes over three switches in a ring, and over 64 in a line.
-ghost use Rattle.std.specs.Prelude.{◌≡◌, length, IfOk};
+ghost use Rattle.std.specs.Prelude.{◌≡◌, length, replicate, IfOk};
 ghost use Rattle.of_types.specs.Setups.{IsSetup};
+ghost use Rattle.upgrade_tests.specs.Lines.{line_links};
 
 use app_core::{Part, SwitchPort};
 use of_types::{
@@ -51,10 +52,9 @@ fn ring(alloc: Global) -> Result<Setup, AllocError>
     })
 }
 
-/// 64 switches of 4 ports in a line: port 2 of each leads to port 3 of the next.
-fn line(alloc: Global) -> Result<Setup, AllocError>
-    ensures setup { IfOk result (λ setup. IsSetup setup) }
-    ensures switches { IfOk result (λ setup. length setup.ports ≡ 64) }
+/// The links of 64 switches in a line: port 2 of each leads to port 3 of the next.
+fn line_links(alloc: Global) -> Result<Items<Link>, AllocError>
+    ensures { IfOk result (λ links. links ≡ line_links 0 63) }
 {
     let mut links = Items::new(alloc);
     for switch in 0..63 {
@@ -65,9 +65,26 @@ fn line(alloc: Global) -> Result<Setup, AllocError>
             peer_port: 3,
         })?;
     }
+    Ok(links)
+}
+
+/// Four ports for each of 64 switches.
+fn line_ports(alloc: Global) -> Result<Vec<u32>, AllocError>
+    ensures { IfOk result (λ ports. ports.items ≡ replicate 64 4) }
+{
+    vec![in alloc; 4; 64]
+}
+
+/// 64 switches of 4 ports in a line.
+fn line(alloc: Global) -> Result<Setup, AllocError>
+    ensures setup { IfOk result (λ setup. IsSetup setup) }
+    ensures switches { IfOk result (λ setup. length setup.ports ≡ 64) }
+{
+    let links = line_links(alloc)?;
+    let ports = line_ports(alloc)?;
     Ok(Setup {
         controllers: 1,
-        ports: Items::from_vec(vec![in alloc; 4; 64]?),
+        ports: Items::from_vec(ports),
         links,
         deny: Items::new(alloc),
     })
@@ -77,19 +94,70 @@ fn at(switch: u8, port: u32) -> SwitchPort {
     SwitchPort { switch, port }
 }
 
-#[test]
-fn the_shorter_way_and_the_longer(rt: HostRuntime) -> Result<(), Fail> {
-    let alloc = rt.alloc();
-    let setup = ring(alloc)?;
+/// The walk from switch 2 to switch 0 is this one, where these ports are down.
+fn has_walk(
+    alloc: Global,
+    setup: &Setup,
+    down: &[SwitchPort],
+    walk: &[SwitchPort],
+) -> Result<bool, AllocError>
+    requires setup { IsSetup setup.now }
+    requires switches { length setup.now.ports ≡ 3 }
+{
+    let found = route(alloc, setup, down, 2, 0)?;
+    Ok(found.is_some_and(|found| found.as_slice() == walk))
+}
+
+/// The hops of each switch to switch 0 are these, where these ports are down.
+fn has_levels(
+    alloc: Global,
+    setup: &Setup,
+    down: &[SwitchPort],
+    hops: &[u8],
+) -> Result<bool, AllocError>
+    requires setup { IsSetup setup.now }
+    requires switches { length setup.now.ports ≡ 3 }
+{
+    Ok(levels(alloc, setup, down, 0)?.as_slice() == hops)
+}
+
+/// There is no walk from switch 2 to switch 0, where these ports are down.
+fn has_none(alloc: Global, setup: &Setup, down: &[SwitchPort]) -> Result<bool, AllocError>
+    requires setup { IsSetup setup.now }
+    requires switches { length setup.now.ports ≡ 3 }
+{
+    Ok(route(alloc, setup, down, 2, 0)?.is_none())
+}
+
+/// Whether the longer way is taken where the shorter is down.
+fn takes_the_longer(alloc: Global, setup: &Setup) -> Result<bool, AllocError>
+    requires setup { IsSetup setup.now }
+    requires switches { length setup.now.ports ≡ 3 }
+{
     let down = [at(0, 4)];
-    let found = route(alloc, &setup, &down, 2, 0)?.ok_or("a way")?;
-    assert_eq!(rt; found.as_slice(), [at(2, 3), at(1, 3)].as_slice());
-    let found = levels(alloc, &setup, &down, 0)?;
-    assert_eq!(rt; found.as_slice(), [0, 1, 2].as_slice());
+    Ok(
+        has_walk(alloc, setup, &down, &[at(2, 3), at(1, 3)])?
+            && has_levels(alloc, setup, &down, &[0, 1, 2])?,
+    )
+}
+
+/// Whether none is taken where both are down.
+fn takes_none(alloc: Global, setup: &Setup) -> Result<bool, AllocError>
+    requires setup { IsSetup setup.now }
+    requires switches { length setup.now.ports ≡ 3 }
+{
     let down = [at(0, 4), at(1, 3)];
-    assert!(rt; route(alloc, &setup, &down, 2, 0)?.is_none());
-    let found = levels(alloc, &setup, &down, 0)?;
-    assert_eq!(rt; found.as_slice(), [0, 255, 255].as_slice());
+    Ok(has_none(alloc, setup, &down)? && has_levels(alloc, setup, &down, &[0, 255, 255])?)
+}
+
+#[test]
+fn the_shorter_way_and_the_longer(rt: HostRuntime) -> Result<(), AllocError> {
+    let setup = ring(rt.alloc())?;
+    let longer = takes_the_longer(rt.alloc(), &setup);
+    let none = takes_none(rt.alloc(), &setup);
+    drop(setup);
+    assert!(rt; longer == Ok(true));
+    assert!(rt; none == Ok(true));
     Ok(())
 }
 

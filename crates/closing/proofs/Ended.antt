@@ -16,10 +16,10 @@ use Rattle.closing_laws.specs.Ends.{HasRested}
 use Rattle.closing_laws.specs.Quick.{WhereSavesSucceed}
 use Rattle.closing_laws.specs.Starts.{SavesSucceed}
 use Rattle.closing_laws.specs.Stops.{IsAtLimit}
-use Rattle.closing_laws.proofs.Limits.{limits_law}
-use Rattle.closing_laws.proofs.QuickClosings.{quick_law, sharp_law}
-use Rattle.closing_laws.proofs.Quorate.{quorum_law}
-use Rattle.closing_laws.proofs.Rested.{rest_law}
+use Rattle.closing_laws.proofs.Ends.Limits.{limits_law}
+use Rattle.closing_laws.proofs.Ends.Quorate.{quorum_law}
+use Rattle.closing_laws.proofs.Ends.Rested.{rest_law}
+use Rattle.closing_laws.proofs.Measure.QuickClosings.{quick_law, sharp_law}
 use Rattle.rv_world.specs.World.{Holds, Worlding, results_in, scene_in}
 use Rattle.rv_world.proofs.Growing.{no_more}
 use Rattle.closing.specs.declared.closed.Closed.{Closed}

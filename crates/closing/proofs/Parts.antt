@@ -34,7 +34,7 @@ use Rattle.rv_world.proofs.Stables.{each_told_then, unsaved_told}
 use Rattle.closing.specs.declared.closed.Came.{Came}
 use Rattle.closing.specs.declared.closed.Came.TheVariants as came
 use Rattle.rv_laws.specs.Laws.{IsSuspectedUpTo, SuspectsUpTo}
-use Rattle.closing_laws.proofs.Walking.{seven_at_most}
+use Rattle.closing_laws.proofs.Start.Walking.{seven_at_most}
 use Rattle.closing.specs.Closing.{CameTo, ClosesIn, ClosingStops, Drained, EndsBy, HasClosed, IsCutAt, IsHaltedAt, is_over, LeadsTo, Rests, Stage, StandsAt, states_in, Suspects, up_in}
 use Rattle.closing.specs.Views.{views_of_an_attempt}
 use Rattle.closing.proofs.Worlds.{Runs, posted_is, states_are}

@@ -48,7 +48,7 @@ use Rattle.vr_log.specs.declared.entry.LogFull.{LogFull}
 use Rattle.app_core.specs.Law.{AppLaw}
 use Rattle.closing_laws.specs.Ends.{HasRested}
 use Rattle.closing_laws.specs.Starts.{SavesSucceed}
-use Rattle.closing_laws.proofs.Kept.{kept_law}
+use Rattle.closing_laws.proofs.Truths.Kept.{kept_law}
 use Rattle.closing.proofs.Turned.{past_joined}
 use Rattle.closing.proofs.Worlds.{Runs, states_are}
 use Rattle.scenario.specs.declared.scenario.Scenario.{Scenario}

@@ -1,5 +1,5 @@
 use Rattle.closing_laws.proofs.closings_are_quick.Goals as goal
-use Rattle.closing_laws.proofs.QuickClosings.{quick_law, sharp_law}
+use Rattle.closing_laws.proofs.Measure.QuickClosings.{quick_law, sharp_law}
 
 pub returns-clause-sharp : goal.returns-clause-sharp
 returns-clause-sharp g c = sharp_law

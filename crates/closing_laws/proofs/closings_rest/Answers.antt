@@ -1,5 +1,5 @@
 use Rattle.closing_laws.proofs.closings_rest.Goals as goal
-use Rattle.closing_laws.proofs.Rested.{rest_law}
+use Rattle.closing_laws.proofs.Ends.Rested.{rest_law}
 
 pub returns : goal.returns
 returns g c = rest_law

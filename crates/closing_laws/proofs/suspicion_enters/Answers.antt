@@ -1,4 +1,4 @@
-use Rattle.closing_laws.proofs.Steps as steps
+use Rattle.closing_laws.proofs.Start.Steps as steps
 use Rattle.closing_laws.proofs.suspicion_enters.Goals as goal
 
 pub returns : goal.returns

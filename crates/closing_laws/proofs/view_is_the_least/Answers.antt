@@ -1,4 +1,4 @@
-use Rattle.closing_laws.proofs.Pasts.{view_law}
+use Rattle.closing_laws.proofs.Start.Pasts.{view_law}
 use Rattle.closing_laws.proofs.view_is_the_least.Goals as goal
 
 pub returns : goal.returns

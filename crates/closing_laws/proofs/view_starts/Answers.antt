@@ -1,4 +1,4 @@
-use Rattle.closing_laws.proofs.Views.{starts_of}
+use Rattle.closing_laws.proofs.Start.Views.{starts_of}
 use Rattle.closing_laws.proofs.view_starts.Goals as goal
 
 pub returns : goal.returns

@@ -1,4 +1,4 @@
-use Rattle.closing_laws.proofs.InTime.{in_time_law}
+use Rattle.closing_laws.proofs.Start.InTime.{in_time_law}
 use Rattle.closing_laws.proofs.views_start_in_time.Goals as goal
 
 pub returns : goal.returns

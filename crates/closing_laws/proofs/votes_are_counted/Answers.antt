@@ -1,4 +1,4 @@
-use Rattle.closing_laws.proofs.Calls.{vote_told}
+use Rattle.closing_laws.proofs.Start.Calls.{vote_told}
 use Rattle.closing_laws.proofs.votes_are_counted.Goals as goal
 
 pub returns : goal.returns

@@ -1,0 +1,19 @@
+-- Once the view has started what waits is drained, entry by entry of the journal, until nothing waits and all is done.
+pub mod Followers
+pub mod Agreeing
+pub mod Drained
+pub mod PrimaryTurns
+pub mod TurnCases
+pub mod Leading
+pub mod OpeningTurn
+pub mod Standing
+pub mod FirstWaiting
+pub mod MemberDraws
+pub mod SwitchDraws
+pub mod PrimaryDraws
+pub mod Emptying
+pub mod Opened
+pub mod Resting
+pub mod Closed
+pub mod Emptied
+pub mod Behind

@@ -1,0 +1,22 @@
+-- What a turn of the primary does, by what it hears: its log goes on, and so do the commands that it has told.
+pub mod Telling
+pub mod Numbering
+pub mod Holding
+pub mod Growth
+pub mod WantedCommands
+pub mod Committing
+pub mod Commanding
+pub mod Settled
+pub mod Extending
+pub mod Proposing
+pub mod Finishing
+pub mod Turned
+pub mod Hearing
+pub mod ProperTurns
+pub mod Confirmed
+pub mod Coming
+pub mod Heard
+pub mod EventTurns
+pub mod Resulted
+pub mod Agreed
+pub mod Opening

@@ -1,0 +1,24 @@
+-- The view of a closing starts in time: who closes and in which view, what its members say, and from which log it starts.
+pub mod Chosen
+pub mod Least
+pub mod Pasts
+pub mod Words
+pub mod Members
+pub mod Calls
+pub mod Paths
+pub mod Rounds
+pub mod Starting
+pub mod Collecting
+pub mod Turns
+pub mod Views
+pub mod BestLogs
+pub mod Adopted
+pub mod Steps
+pub mod Histories
+pub mod Covering
+pub mod AloneLogs
+pub mod BestBegins
+pub mod Walking
+pub mod Begun
+pub mod Alone
+pub mod InTime

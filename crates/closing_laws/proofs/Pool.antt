@@ -23,6 +23,7 @@ pub mod SentCommands
 pub mod FinishedEvents
 pub mod CommandPosts
 pub mod CommandRooms
+pub mod CommandsFew
 pub mod FewFrames
 pub mod FrameRooms
 pub mod Roomy

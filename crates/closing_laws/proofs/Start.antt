@@ -10,6 +10,7 @@ pub mod Rounds
 pub mod Starting
 pub mod Collecting
 pub mod Turns
+pub mod Suspicions
 pub mod Views
 pub mod BestLogs
 pub mod Adopted
@@ -19,6 +20,7 @@ pub mod Covering
 pub mod AloneLogs
 pub mod BestBegins
 pub mod Walking
+pub mod StartingTurn
 pub mod Begun
 pub mod Alone
 pub mod InTime

@@ -1,14 +1,11 @@
 -- While a closing is drained the commands and results on their way stay few: those of present lives are no more than the commands that
 -- the primary has sent and that wait for their results, and those of past lives no more than that and what switches left behind as they
 -- began their present lives.
-use Rattle.std.proofs.Common.{◌≡◌, ◌≤◌, ◌<◌, ◌⊎◌, inl, inr, ℕ, ◌+◌, ◌*◌, ◌/◌, ◌%◌, Bool, true, false, List, [], ◌∷◌, ◌++◌, length, map, take, drop, refl, sym, ◌∙◌, ap, subst, arith, length-append, take_all, take-append-drop}
-use Rattle.std.specs.Prelude.{nat_eq, nat_lt, not, ◌&&◌, ◌||◌, Option, if◌then◌else◌}
-use Rattle.std.specs.List.{range_with_len}
+use Rattle.std.proofs.Common.{◌≡◌, ◌≤◌, ◌<◌, ◌⊎◌, inl, inr, ℕ, ◌+◌, ◌/◌, ◌%◌, Bool, true, false, List, [], ◌∷◌, ◌++◌, length, map, take, drop, refl, sym, ◌∙◌, ap, subst, arith, length-append, take_all, take-append-drop}
+use Rattle.std.specs.Prelude.{nat_eq, not, ◌&&◌, ◌||◌, Option, if◌then◌else◌}
 use Rattle.std.proofs.Math.Path.{fun_ext}
-use Rattle.std.proofs.lemmas.Bool.{cond_both, eq-eqb, eqb-true, ne_eqb, or_left, true≢false}
+use Rattle.std.proofs.lemmas.Bool.{cond_both, eq-eqb, eqb-true, ne_eqb, true≢false}
 use Rattle.std.proofs.lemmas.List.{drop-append-le, length-take-le}
-use Rattle.std.proofs.lemmas.List.FromFn.{length-range_with_len}
-use Rattle.std.proofs.lemmas.List.Sums.{count_by-le-length}
 use Rattle.lists.specs.Lists.{IsIn, IsPrefix}
 use Rattle.lists.proofs.Elements.{in_left, in_right}
 use Rattle.lists.proofs.Prefixes.{front_prefix, prefix_push, take_prefix, takes_prefix}
@@ -37,36 +34,31 @@ use Rattle.app_core.specs.declared.issued.Issued.{Issued}
 use Rattle.controller_laws.proofs.Logs.{processed-append, processed_prefix}
 use Rattle.dispatcher.specs.declared.answers.Wish.{Wish}
 use Rattle.dispatcher.specs.declared.answers.Wish.TheVariants.{Propose, Acknowledge, Nothing}
-use Rattle.dispatcher.specs.Ledger.{most_commands}
 use Rattle.dispatcher.specs.Marks.{Marks, is_pending, with_mark, with_result}
 use Rattle.of_switch.specs.State.{SwitchState, SwitchTurn, life_of}
 use Rattle.group_controller.specs.declared.messages.ControllerSays.{ControllerSays}
 use Rattle.group_controller.specs.State.{ControllerState, Work, committed, resting, stepped, to_members, with_no_met_limit}
-use Rattle.group_controller.specs.Settling.{after_finishing, is_alone, role_letter, settling, with_answers, with_commands}
+use Rattle.group_controller.specs.Settling.{after_finishing, is_alone, settling, with_answers, with_commands}
 use Rattle.group_controller.specs.Rules.{controller_work, on_wish}
-use Rattle.group_controller.specs.Rules.{switches as switches_of}
 use Rattle.rv_runs.specs.declared.messages.Message.{Message}
 use Rattle.rv_runs.specs.declared.messages.Message.TheVariants as message
 use Rattle.rv_runs.specs.States.{controller_message, switch_message}
 use Rattle.closing_laws.specs.Following.{Start}
 use Rattle.closing_laws.specs.Quorum.{has}
-use Rattle.closing_laws.specs.Serving.{AreFew, IsOlder}
-use Rattle.closing_laws.specs.Views.{IsCovered, IsReadyMember}
+use Rattle.closing_laws.specs.Serving.{AreFew}
 use Rattle.closing_laws.specs.Ways.{Sent, sent_by}
 use Rattle.closing_laws.proofs.Draining.Drained.{heard_of}
-use Rattle.closing_laws.proofs.Draining.OpeningTurn as opening_turn
 use Rattle.closing_laws.proofs.Draining.OpeningTurn.{several_commit}
 use Rattle.closing_laws.proofs.Draining.TurnCases as turn_cases
 use Rattle.closing_laws.proofs.Draining.TurnCases.{OfTurns}
 use Rattle.closing_laws.proofs.Lists.Picked.{IsPicked}
-use Rattle.closing_laws.proofs.Pool.CommandPosts.{IsOfCommands, Pays, acks_post, after_pays, master_pays, members_post, proposing_pays, roles_post, settling_pays}
-use Rattle.closing_laws.proofs.Pool.FinishedEvents.{Finishes, agreed_finishes, finishes_now, marked_finishes, opened_finishes, result_kept}
-use Rattle.closing_laws.proofs.Pool.Rooms.{AreTrue, Drains, HasBegun, HasCommitted, HasFinished, IsHeard, Keeps, Standing, is_command, is_result, turn_on, waits}
-use Rattle.closing_laws.proofs.Pool.SentCommands.{Grown, is_moved, marked_less, of_past, of_present, past_grows, pay_past, pay_present, present_grows, sent_by_now, sent_few, sent_in, slack, slack_grows}
+use Rattle.closing_laws.proofs.Pool.CommandPosts.{IsOfCommands, Pays, acks_post, after_pays, master_pays, members_post, proposing_pays, settling_pays}
+use Rattle.closing_laws.proofs.Pool.FinishedEvents.{Finishes, agreed_finishes, finishes_now, marked_finishes, result_kept}
+use Rattle.closing_laws.proofs.Pool.Rooms.{AreTrue, Drains, HasBegun, HasCommitted, HasFinished, IsHeard, Keeps, Standing, is_command, is_result, turn_on}
+use Rattle.closing_laws.proofs.Pool.SentCommands.{Grown, marked_less, of_past, of_present, past_grows, pay_past, pay_present, present_grows, sent_by_now, sent_in, slack_grows}
 use Rattle.closing_laws.proofs.Pool.SwitchPosts.{IsOfResults, IsTurn, turn_answers, turn_lives}
-use Rattle.closing_laws.proofs.Pool.TestCounts.{count_less}
 use Rattle.closing_laws.proofs.Pool.TurnPosts.{switch_turns}
-use Rattle.closing_laws.proofs.Pool.Waiting.{all_kinds, passing, posted, posted_append, waits_cons}
+use Rattle.closing_laws.proofs.Pool.Waiting.{passing, posted}
 use Rattle.closing_laws.proofs.Primary.Agreed.{agreed_no_less, agreed_within, marked}
 use Rattle.closing_laws.proofs.Primary.Growth.{life_grows, log_prefix}
 use Rattle.closing_laws.proofs.Primary.Proposing.{commands_vr, pushed, pushed_all}
@@ -91,7 +83,7 @@ abbrev pub is_past : (ℕ → ℕ) → Actor → Message → Bool
 is_past life to said = is_command said && not (lives_at life to (life_said said))
 
 module _ (life : ℕ → ℕ) where
-  present_commands : IsOfCommands (is_present life) (of_present life)
+  pub present_commands : IsOfCommands (is_present life) (of_present life)
   present_commands = record {
     command = λ x view settled. refl;
     member = λ a x. refl;
@@ -100,7 +92,7 @@ module _ (life : ℕ → ℕ) where
     asks = λ a role generation. refl;
   }
 
-  past_commands : IsOfCommands (is_past life) (of_past life)
+  pub past_commands : IsOfCommands (is_past life) (of_past life)
   past_commands = record {
     command = λ x view settled. refl;
     member = λ a x. refl;
@@ -435,108 +427,4 @@ module _ (kinds : List ℕ) (setup : Setup) (few : AreFew kinds setup) (w p : �
         let y = room.past in
         subst (λ (l : ℕ → ℕ). CommandRoom kinds setup start l c (rest ++ map (sent_by switch_message (actor.Switch s)) (turn_on (switches s) m).letters)) (sym same)
         (record { present = omega (arith, a, x); past = omega (arith, b, y) });
-  }
-
--- ---- how many there are
-
--- a command is no result
-one_kind : (m : Sent) → (if is_command m.said then 1 else 0) + (if is_result m.said then 1 else 0) ≤ 1
-one_kind m =
-    let all = all_kinds (m ∷ []) in
-    let a = waits_cons is_command m [] in
-    let b = waits_cons is_result m [] in
-    omega (arith, all, a, b)
-
-split_kind : (command result here : Bool) → (if command then 1 else 0) + (if result then 1 else 0) ≤ 1 →
-    (if command then 1 else 0) + (if result then 1 else 0) ≤ (if result || (command && here) then 1 else 0) + (if command && not here then 1 else 0)
-split_kind true true here one = absurd (omega (arith, one))
-split_kind true false true one = omega arith
-split_kind true false false one = omega arith
-split_kind false true here one = omega arith
-split_kind false false here one = omega arith
-
-split_kinds : (life : ℕ → ℕ) (waiting : List Sent) → waits is_command waiting + waits is_result waiting ≤ passing (is_present life) waiting + passing (is_past life) waiting
-split_kinds life [] = omega arith
-split_kinds life (m ∷ rest) =
-    let a = waits_cons is_command m rest in
-    let b = waits_cons is_result m rest in
-    let c = count_cons (λ (x : Sent). is_present life x.to x.said) m rest in
-    let d = count_cons (λ (x : Sent). is_past life x.to x.said) m rest in
-    let first = split_kind (is_command m.said) (is_result m.said) (lives_at life m.to (life_said m.said)) (one_kind m) in
-    let more = split_kinds life rest in
-    omega (arith, a, b, c, d, first, more)
-
-module _ (kinds : List ℕ) (setup : Setup) (few : AreFew kinds setup) (start : Start) (life : ℕ → ℕ) (c : ControllerState) (waiting : List Sent) (room : CommandRoom kinds setup start life c waiting) where
-  slack_most : (n : ℕ) → slack start n ≤ most_commands
-  slack_most n = by_test (nat_lt n (length start.log))
-    where
-      by_test : (b : Bool) → (if b then 0 else most_commands) ≤ most_commands
-      by_test true = omega arith
-      by_test false = omega arith
-
-  pub results_few : waits is_result waiting ≤ 2 * most_commands
-  results_few =
-      let less = count_less (λ (m : Sent). is_result m.said) (λ (m : Sent). is_present life m.to m.said) waiting
-      (λ m among h. or_left (is_result m.said) (is_command m.said && lives_at life m.to (life_said m.said)) h) in
-      let some = sent_few kinds setup (of_present life) few (committed c) c.marks c.last_told in
-      let slack_here = slack_most c.vr.commit in
-      let h = room.present in
-      omega (arith, less, some, slack_here, h)
-
-  pub commands_few : waits is_command waiting + waits is_result waiting ≤ (4 + length setup.ports) * most_commands
-  commands_few =
-      let split = split_kinds life waiting in
-      let some = sent_few kinds setup (of_present life) few (committed c) c.marks c.last_told in
-      let others = sent_few kinds setup (of_past life) few (committed c) c.marks c.last_told in
-      let slack_here = slack_most c.vr.commit in
-      let switches = count_by-le-length (is_moved life (received (committed c))) (range_with_len 0 (length setup.ports)) in
-      let ports = length-range_with_len 0 (length setup.ports) in
-      let x = room.present in
-      let y = room.past in
-      omega (arith, split, some, others, slack_here, switches, ports, x, y)
-
--- ---- as the view starts
-
-module _ (kinds : List ℕ) (setup : Setup) (few : AreFew kinds setup) (w : ℕ) (quorum : List ℕ) (at : ℕ → VrState) (best : ℕ) (picked : IsPicked setup.controllers w quorum)
-    (small : (b : ℕ) → has quorum b ≡ true → b < setup.controllers) (ready : (j : ℕ) → has quorum j ≡ true → IsReadyMember setup.controllers w j (at j))
-    (covered : IsCovered quorum at best) (chosen : has quorum best ≡ true)
-    (voters : ℕ → List ℕ) (promise : Option ℕ) (sw : ℕ → SwitchState) (older : (t : ℕ) → t < length setup.ports → IsOlder (sw t).fence.generation w) where
-  abbrev first : Start
-  first = opening_turn.start kinds setup few w quorum at best picked small ready covered chosen voters promise sw older
-
-  abbrev opened : VrState
-  opened = opening_turn.leader kinds setup few w quorum at best picked small ready covered chosen voters promise sw older
-
-  abbrev asking : Work
-  asking = opening_turn.asking kinds setup few w quorum at best picked small ready covered chosen voters promise sw older
-
-  abbrev end : Work
-  end = opening_turn.end kinds setup few w quorum at best picked small ready covered chosen voters promise sw older
-
-  abbrev first_life : ℕ → ℕ
-  first_life s = life_of (sw s)
-
-  abbrev sender : Actor
-  sender = actor.Controller (w % setup.controllers)
-
-  start_fits : (is : Actor → Message → Bool) (sel : Issued → Bool) (of : IsOfCommands is sel) (pay : ℕ → List Event → ℕ) (up : (i j : ℕ) (events : List Event) → i ≤ j → pay i events ≤ pay j events) →
-      posted is controller_message sender end.letters ≤ sent_by_now kinds setup sel end.state + pay end.state.vr.commit (received (committed end.state))
-  start_fits is sel of pay up =
-      let p = settling_pays is sel of sender kinds setup first first_life pay up opened.commit asking (opened_finishes kinds setup few w quorum at best picked small ready covered chosen voters promise sw older) in
-      let all = ap (λ (ls : List (Letter ControllerSays)). posted is controller_message sender ls) p.joined ∙ posted_append is controller_message sender asking.letters p.letters in
-      let parts = posted_append is controller_message sender (to_members words) (map (role_letter w) (switches_of setup)) in
-      let none = members_post is sel of sender words in
-      let asked = roles_post is sel of sender w (switches_of setup) in
-      let pays = p.pays in
-      omega (arith, all, parts, none, asked, pays)
-    where
-      words : List VrLetter
-      words = opening_turn.words kinds setup few w quorum at best picked small ready covered chosen voters promise sw older
-
-  -- there is room
-  pub starts_with_room : CommandRoom kinds setup first first_life end.state (map (sent_by controller_message sender) end.letters)
-  starts_with_room = record {
-    present = start_fits (is_present first_life) (of_present first_life) (present_commands first_life) (pay_present first) (λ i j events le. slack_grows kinds setup few first first_life i j le);
-    past = start_fits (is_past first_life) (of_past first_life) (past_commands first_life) (pay_past setup first first_life)
-        (λ i j events le. (let up = slack_grows kinds setup few first first_life i j le in omega (arith, up)));
   }

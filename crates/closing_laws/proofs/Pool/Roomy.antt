@@ -23,8 +23,10 @@ use Rattle.closing_laws.proofs.Lists.Picked.{IsPicked}
 use Rattle.closing_laws.proofs.Pool.ClearedEvents as cleared_by
 use Rattle.closing_laws.proofs.Pool.ClearRooms.{ClearRoom, clears_bounded}
 use Rattle.closing_laws.proofs.Pool.ClearRooms as clears_by
-use Rattle.closing_laws.proofs.Pool.CommandRooms.{CommandRooms, commands_few, results_few}
+use Rattle.closing_laws.proofs.Pool.CommandRooms.{CommandRooms}
 use Rattle.closing_laws.proofs.Pool.CommandRooms as commands_by
+use Rattle.closing_laws.proofs.Pool.CommandsFew.{commands_few, results_few}
+use Rattle.closing_laws.proofs.Pool.CommandsFew as opening_commands
 use Rattle.closing_laws.proofs.Pool.EventRooms.{EventRoom, events_bounded}
 use Rattle.closing_laws.proofs.Pool.EventRooms as events_by
 use Rattle.closing_laws.proofs.Pool.FinishedEvents as finished_by
@@ -196,7 +198,7 @@ module _ (kinds : List ℕ) (setup : Setup) (few : AreFew kinds setup) (w : ℕ)
     cleared = cleared_by.cleared_starts kinds setup few w quorum at best picked small ready covered chosen voters promise sw older members truths.each;
     prepares = opening_by.opens_room kinds setup few w quorum at best picked small ready covered chosen voters promise sw older members;
     finished = finished_by.starts_finished kinds setup few w quorum at best picked small ready covered chosen voters promise sw older;
-    commands = commands_by.starts_with_room kinds setup few w quorum at best picked small ready covered chosen voters promise sw older;
+    commands = opening_commands.starts_with_room kinds setup few w quorum at best picked small ready covered chosen voters promise sw older;
     clears = clearing_by.clears_start kinds setup few w quorum at best picked small ready covered chosen voters promise sw older members;
     frames = frames_by.frames_start kinds setup few w quorum at best picked small ready covered chosen voters promise sw older members wired;
   }

@@ -35,6 +35,8 @@ use Rattle.closing_laws.proofs.Start.Covering.{covered}
 use Rattle.closing_laws.proofs.Start.Pasts as pasts
 use Rattle.closing_laws.proofs.Start.Paths.{Arrives, IsLast, Path}
 use Rattle.closing_laws.proofs.Start.Rounds.{quorum_once}
+use Rattle.closing_laws.proofs.Start.StartingTurn as starting
+use Rattle.closing_laws.proofs.Start.Suspicions as suspecting
 use Rattle.closing_laws.proofs.Start.Views as views
 use Rattle.closing_laws.proofs.Start.Walking as walking
 
@@ -167,10 +169,10 @@ module _ {B : Type 0} (scene : Scene B) (results : List (List SaveResult)) (befo
     half = let seven = walking.seven_at_most n setup.group in omega (arith, seven)
 
     suspicions : Path w quorum entered_group quorum (resting start)
-    suspicions = views.suspects_path n w quorum start ready several entered_group quorum (resting start) once (λ j h. (refl, h)) (Arrives entered_group refl)
+    suspicions = suspecting.suspects_path n w quorum start ready several entered_group quorum (resting start) once (λ j h. (refl, h)) (Arrives entered_group refl)
 
     suspicions_count : entered_group.turns ≡ n / 2 + 1
-    suspicions_count = let all = views.suspicion_turns w quorum (resting start) in let count = quorum_is.count in omega (arith, all, count)
+    suspicions_count = let all = suspecting.suspicion_turns w quorum (resting start) in let count = quorum_is.count in omega (arith, all, count)
 
     -- behind the suspicions the logs have one history, so that the view starts
     module _ (first rest : List (JournalEntry B)) (x phase : Phase) (is : entries ≡ first ++ rest) (counted : 0 + count_turns first ≡ entered_group.turns)
@@ -194,7 +196,7 @@ module _ {B : Type 0} (scene : Scene B) (results : List (List SaveResult)) (befo
       possible1 = possible_under scene results rest P1 can1
 
       entered : (j : ℕ) → has quorum j ≡ true → (controller_state scene results j P1).vr ≡ in_view (start j) w [] false [] None
-      entered j member = stands.holds.members j (quorum_is.members j member) ∙ views.entered_all n w quorum start ready several quorum (resting start) once (λ i h. (refl, h)) j member
+      entered j member = stands.holds.members j (quorum_is.members j member) ∙ suspecting.entered_all n w quorum start ready several quorum (resting start) once (λ i h. (refl, h)) j member
 
       is_covered : IsCovered quorum start best
       is_covered = covered scene results setup faithful P1 possible1 w quorum start once (let count = quorum_is.count in omega (arith, count)) quorum_is.members several entered best b
@@ -257,7 +259,7 @@ module _ {B : Type 0} (scene : Scene B) (results : List (List SaveResult)) (befo
         split2 = ap (later P1) rest_is ∙ later_append P1 second more
 
         last_part : (((answer : Answer) → IsEnd (next_move scene results x (later P2 more)) answer → ⊥) × (more ≡ [])) ⊎
-            walking.Begun scene results setup faithful w quorum quorum_is.members before a.saves z start best way.2 (ready (w % n) quorum_is.primary) quorum_is.primary (ready best b.member).is_one P2 more x → StartsInTime scene results before entries x best
+            starting.Begun scene results setup faithful w quorum quorum_is.members before a.saves z start best way.2 (ready (w % n) quorum_is.primary) quorum_is.primary (ready best b.member).is_one P2 more x → StartsInTime scene results before entries x best
         last_part (inl none) =
             let parts = ap (λ (l : List (JournalEntry B)). count_turns l) rest_is ∙ counts_append second more in
             let empty : count_turns more ≡ 0 = ap (λ (l : List (JournalEntry B)). count_turns l) none.1 in
@@ -276,7 +278,7 @@ module _ {B : Type 0} (scene : Scene B) (results : List (List SaveResult)) (befo
 
         at_last : StartsInTime scene results before entries x best
         at_last =
-            last_part (walking.begins scene results setup faithful w quorum quorum_is.members before a.saves z start best way.2 (ready (w % n) quorum_is.primary) quorum_is.primary (ready best b.member).is_one P2 there more x now at_then goes_then
+            last_part (starting.begins scene results setup faithful w quorum quorum_is.members before a.saves z start best way.2 (ready (w % n) quorum_is.primary) quorum_is.primary (ready best b.member).is_one P2 there more x now at_then goes_then
             (subst (λ (l : List (JournalEntry B)). IsPossible scene results l) split2 can1) (subst (λ (l : List (JournalEntry B)). IsPosted scene results l) split2 done1)
             (subst (λ (l : List (JournalEntry B)). IsWithinLimits scene.sealing.size l) split2 room1))
 

@@ -1,7 +1,7 @@
 -- The members of a quorum suspect a view, and it starts.
 use Rattle.std.proofs.Common.{◌≡◌, ◌≤◌, ◌<◌, ◌⊎◌, inl, inr, ℕ, ◌+◌, ◌/◌, ◌%◌, Bool, true, false, List, [], ◌∷◌, ◌++◌, length, map, take, drop, refl, sym, ◌∙◌, ap, subst, arith, append-nil, append_assoc}
 use Rattle.std.specs.Prelude.{not, nat_eq, nat_le, ◌&&◌, ◌||◌, max, Some, None, if◌then◌else◌}
-use Rattle.std.proofs.lemmas.Bool.{eq-eqb, ne_eqb, eqb-true, eqb-false, le-leb, lt-leb, ltb-true, ltb-false, or_left, or_right, or_cases, or_parts, and_right, true≢false, cases_lt, both_ways, not-true}
+use Rattle.std.proofs.lemmas.Bool.{eq-eqb, ne_eqb, eqb-true, eqb-false, le-leb, lt-leb, ltb-true, ltb-false, or_left, or_right, or_cases, and_right, true≢false, cases_lt, both_ways, not-true}
 use Rattle.std.proofs.lemmas.List.{length-map, length-take-le, length-drop}
 use Rattle.std.proofs.Math.Bool.{or-false, or-true, or_assoc}
 use Rattle.vr_log.specs.declared.entry.Entry.{Entry}
@@ -10,7 +10,7 @@ use Rattle.vr_log.specs.declared.message.VrMessage.{VrMessage}
 use Rattle.vr_log.specs.declared.message.VrMessage.TheVariants as message
 use Rattle.vr_log.specs.declared.state.Collected.{Collected}
 use Rattle.vr_log.specs.declared.state.VrState.{VrState}
-use Rattle.vr_log.specs.Members.{is_up, is_changing, others_below}
+use Rattle.vr_log.specs.Members.{others_below}
 use Rattle.vr_log.specs.Steps.{VrStep, guarded, is_sound, sends, letter, to_others}
 use Rattle.vr_log.specs.Choosing.{best_of, least_commit, greatest_commit, is_better}
 use Rattle.vr_log.proofs.Equal.{entries_same}
@@ -18,14 +18,14 @@ use Rattle.view_change.specs.Entering.{check, own_log, started, view_start}
 use Rattle.vr_core.specs.declared.input.VrInput.TheVariants as vr_input
 use Rattle.vr_core.specs.Step.{vr_step}
 use Rattle.closing_laws.specs.Quorum.{IsQuorum, has}
-use Rattle.closing_laws.specs.Draining.{Flight, GroupState, flown, put, took, drains, suspected, all_suspected, resting}
+use Rattle.closing_laws.specs.Draining.{Flight, GroupState, flown, put, took, drains, all_suspected, resting}
 use Rattle.closing_laws.specs.Views.{IsReadyMember, in_view, voting, log_of, behind, last_first, tellers, lacks, HasBest, HasStarted, IsCovered}
 use Rattle.closing_laws.proofs.Lists.Numbers.{Once, has_here, has_later, filter_has, filter_in, filter_once, others_but_one}
 use Rattle.closing_laws.proofs.Lists.Picked.{IsPicked, picked_of_quorum}
 use Rattle.closing_laws.proofs.Start.Calls.{After, AreChanging, after_on, after_first, one_drawn, held}
 use Rattle.closing_laws.proofs.Start.Collecting.{votes_of, leader, its_turn, its_group, gathered, led, led_changing, led_first, log_heard, BeforeLast, collect_last, before_last}
 use Rattle.closing_laws.proofs.Start.Members.{suspects, guard_open, sound_here}
-use Rattle.closing_laws.proofs.Start.Paths.{IsLast, Path, Suspects, of_drains}
+use Rattle.closing_laws.proofs.Start.Paths.{IsLast, Path, of_drains}
 use Rattle.closing_laws.proofs.Start.Rounds.{behind_has, behind_once, behind_apart, behind_is_once, behind_length, heard_from, quorum_once, all_rounds, all_voted}
 use Rattle.closing_laws.proofs.Start.Starting.{IsBest, Holds, best_found, joined_log, supplied_front, gathering, check_starts, check_fetches, supply_comes, fetch_comes}
 use Rattle.closing_laws.proofs.Start.Turns.{turns_are}
@@ -472,53 +472,6 @@ module _ (n w : ℕ) (quorum : List ℕ) (start : ℕ → VrState) (ready : (j :
             subst (λ (x : ℕ). AreChanging quorum (drains x quorum g).at) same
             (subst (λ (x : GroupState). AreChanging quorum x.at) (sym e.reached.drained_to) (led_changing n w quorum start ready q group e.front e.reached.found e.reached.each))
       ]
-
--- the suspicions alone
-module _ (n w : ℕ) (quorum : List ℕ) (start : ℕ → VrState) (ready : (j : ℕ) → has quorum j ≡ true → IsReadyMember n w j (start j)) (group : 0 < n / 2) where
-  abbrev Fresh : List ℕ → GroupState → Type 0
-  Fresh cs g = (j : ℕ) → has cs j ≡ true → (g.at j ≡ start j) × (has quorum j ≡ true)
-
-  does_enter : (c : ℕ) → has quorum c ≡ true → vr_step (start c) (vr_input.Suspect w) ≡ record { state = in_view (start c) w [] false [] None; promise = Some w; letters = to_others (start c) (message.StartViewChange w) }
-  does_enter c member = let m = ready c member in suspects n w c (start c) m (subst (λ (k : ℕ). 0 < k / 2) (sym m.size) group)
-
-  still_fresh : (c : ℕ) (cs : List ℕ) (g : GroupState) → Once (c ∷ cs) → Fresh (c ∷ cs) g → Fresh cs (suspected g w c)
-  still_fresh c cs g once fresh j h =
-      let r = fresh j (has_later c j cs h) in
-      (ap (λ (b : Bool). if b then (vr_step (g.at c) (vr_input.Suspect w)).state else g.at j) (ne_eqb j c (λ e. both_ways (has cs j) (ap (has cs) e ∙ once.0) h)) ∙ r.0, r.1)
-
-  pub suspects_path : (z : GroupState) (cs : List ℕ) (g : GroupState) → Once cs → Fresh cs g → Path w quorum z [] (all_suspected g w cs) → Path w quorum z cs g
-  suspects_path z [] g once fresh rest = rest
-  suspects_path z (c ∷ cs) g once fresh rest =
-      let f = fresh c (has_here c cs) in
-      let m = ready c f.1 in
-      Suspects c cs g f.1 (ap is_up f.0 ∙ m.up)
-      (ap (λ (s : VrState). is_changing (vr_step s (vr_input.Suspect w)).state) f.0 ∙ ap (λ (x : VrStep). is_changing x.state) (does_enter c f.1))
-      (suspects_path z cs (suspected g w c) once.1 (still_fresh c cs g once fresh) rest)
-
-  untouched : (cs : List ℕ) (g : GroupState) (j : ℕ) → has cs j ≡ false → (all_suspected g w cs).at j ≡ g.at j
-  untouched [] g j none = refl
-  untouched (c ∷ cs) g j none =
-      let parts = or_parts (nat_eq c j) (has cs j) none in
-      untouched cs (suspected g w c) j parts.1
-      ∙ ap (λ (b : Bool). if b then (vr_step (g.at c) (vr_input.Suspect w)).state else g.at j) (ne_eqb j c (λ e. eqb-false c j parts.0 (sym e)))
-
-  pub entered_all : (cs : List ℕ) (g : GroupState) → Once cs → Fresh cs g → (j : ℕ) → has cs j ≡ true → (all_suspected g w cs).at j ≡ in_view (start j) w [] false [] None
-  entered_all [] g once fresh j h = absurd (true≢false (sym h))
-  entered_all (c ∷ cs) g once fresh j h = by_first (nat_eq c j) refl (λ k. entered_all cs (suspected g w c) once.1 (still_fresh c cs g once fresh) j k)
-    where
-      by_first : (b : Bool) → nat_eq c j ≡ b → (has cs j ≡ true → (all_suspected (suspected g w c) w cs).at j ≡ in_view (start j) w [] false [] None) → (all_suspected (suspected g w c) w cs).at j ≡ in_view (start j) w [] false [] None
-      by_first true e rest =
-          let same = eqb-true c j e in
-          let f = fresh c (has_here c cs) in
-          subst (λ (k : ℕ). (all_suspected (suspected g w c) w cs).at k ≡ in_view (start k) w [] false [] None) same
-          (untouched cs (suspected g w c) c once.0
-          ∙ ap (λ (b : Bool). if b then (vr_step (g.at c) (vr_input.Suspect w)).state else g.at c) (eq-eqb c c refl)
-          ∙ ap (λ (s : VrState). (vr_step s (vr_input.Suspect w)).state) f.0 ∙ ap (λ (x : VrStep). x.state) (does_enter c f.1))
-      by_first false e rest = rest (elim (or_cases (nat_eq c j) (has cs j) h) [ inl i ↦ absurd (both_ways (nat_eq c j) e i) | inr k ↦ k ])
-
-pub suspicion_turns : (w : ℕ) (cs : List ℕ) (g : GroupState) → (all_suspected g w cs).turns ≡ g.turns + length cs
-suspicion_turns w [] g = omega arith
-suspicion_turns w (c ∷ cs) g = let rest = suspicion_turns w cs (suspected g w c) in omega (arith, rest)
 
 -- by what each quorum is
 pub starts_of : (n w : ℕ) (quorum : List ℕ) (start : ℕ → VrState) → IsQuorum n w quorum → ((j : ℕ) → has quorum j ≡ true → IsReadyMember n w j (start j)) → 0 < n / 2 →

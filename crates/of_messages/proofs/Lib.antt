@@ -1,5 +1,6 @@
 pub mod Ports
 pub mod Again
+pub mod ActionsTaken
 pub mod Takes
 pub mod Forms
 pub mod Laws

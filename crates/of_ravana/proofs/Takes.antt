@@ -10,7 +10,8 @@ use Rattle.of_bytes.proofs.Steps.{bind_ok, passed, ok_is}
 use Rattle.of_types.specs.declared.refusal.Refusal.{Refusal}
 use Rattle.of_types.specs.declared.refusal.TheConstants.{BAD_EXPERIMENTER, BAD_LENGTH, BAD_TYPE, NOT_PERMITTED}
 use Rattle.of_messages.specs.Reading.{message_at, xid_of}
-use Rattle.of_messages.proofs.Takes.{message_takes, same, after_one}
+use Rattle.of_messages.proofs.ActionsTaken.{same, after_one}
+use Rattle.of_messages.proofs.Takes.{message_takes}
 use Rattle.of_types.specs.declared.message.Extension.{Extension}
 use Rattle.of_types.specs.declared.message.Extension.TheVariants as extension
 use Rattle.of_types.specs.declared.message.Happening.{Happening}

@@ -22,7 +22,8 @@ use Rattle.vr_core.specs.declared.input.VrInput.{VrInput}
 use Rattle.vr_core.specs.declared.input.VrInput.TheVariants as vr_input
 use Rattle.vr_core.specs.Lasting.{CollectsItsOwn, Lasts}
 use Rattle.vr_core.specs.Step.{Stepped, vr_step}
-use Rattle.vr_core.proofs.Lasting.{lasts_on, lasts_same, later_of_three, later_than_none, proposal_stays, step_stays, tick_same}
+use Rattle.vr_core.proofs.Keeping.{lasts_on, lasts_same, later_than_none}
+use Rattle.vr_core.proofs.Lasting.{later_of_three, proposal_stays, step_stays, tick_same}
 use Rattle.two_stage_log.specs.Counts.{has_unprocessed}
 use Rattle.app_core.specs.Law.{AppLaw}
 use Rattle.dispatcher.specs.declared.answers.Handled.{Handled}

@@ -27,7 +27,6 @@ use Rattle.vr_log.specs.Log.{received}
 use Rattle.vr_log.specs.Steps.{later_of}
 use Rattle.vr_log.specs.Valid.{down_state, starting_state}
 use Rattle.vr_core.specs.Lasting.{Lasts, promised}
-use Rattle.vr_core.proofs.Lasting.{later_than_none}
 use Rattle.app_core.specs.Law.{AppLaw}
 use Rattle.group_controller.specs.declared.messages.ControllerInput.{ControllerInput}
 use Rattle.group_controller.specs.declared.messages.ControllerInput.TheVariants as controller_input
@@ -35,6 +34,7 @@ use Rattle.group_controller.specs.Acting.{Acting, Acts, Begins, pair_with, with_
 use Rattle.group_controller.specs.Rules.{controller_work, is_crash, is_down, is_restart, on_crash, on_input, on_local, on_restart, when_down}
 use Rattle.group_controller.specs.State.{ControllerState, Work, down, fresh, resting, stepped, to_members, with_no_met_limit}
 use Rattle.group_controller.specs.Turns.{acting_by, begins_life, Done, SavesAndKeeps, KnowsPair, left_by, MayTake, pair_in, PutsBack, Restarts, Saves, LeavesShelf, Turns, AreAlike, Born, Controlling, Controls, Stands, state_of, state_or, TakesBy, TakesOne, TakesOneAtMost}
+use Rattle.vr_core.proofs.Keeping.{later_than_none}
 
 -- one that is awake does what the rule of its input says
 awake_is : (c : ControllerState) → (c.vr.status ≡ Down → ⊥) → is_down c ≡ false

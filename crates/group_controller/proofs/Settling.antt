@@ -9,7 +9,8 @@ use Rattle.vr_log.specs.Steps.{later_of}
 use Rattle.vr_log.specs.declared.entry.Entry.TheVariants.{Processed}
 use Rattle.vr_normal.specs.Proposing.{proposed}
 use Rattle.vr_core.specs.Lasting.{Lasts}
-use Rattle.vr_core.proofs.Lasting.{lasts_on, lasts_same, later_of_three}
+use Rattle.vr_core.proofs.Keeping.{lasts_on, lasts_same}
+use Rattle.vr_core.proofs.Lasting.{later_of_three}
 use Rattle.app_core.specs.Law.{AppLaw}
 use Rattle.dispatcher.specs.declared.answers.Handled.{Handled}
 use Rattle.dispatcher.specs.Folding.{places_processed}

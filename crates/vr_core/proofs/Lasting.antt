@@ -1,9 +1,9 @@
 -- What is committed stays: by the case of each input.
-use Rattle.std.proofs.Common.{inl, inr, ◌≡◌, ◌≤◌, ℕ, ◌+◌, Bool, true, false, not, ◌&&◌, List, [], ◌∷◌, ◌++◌, length, take, zero, suc, refl, sym, ap, subst, ◌∙◌, arith, length-append}
-use Rattle.std.specs.Prelude.{nat_eq, nat_lt, nat_le, Option, Some, None, max, min, filter, if◌then◌else◌}
+use Rattle.std.proofs.Common.{◌≡◌, ◌≤◌, ℕ, ◌+◌, Bool, true, false, not, ◌&&◌, List, [], ◌∷◌, ◌++◌, length, take, refl, sym, ap, subst, ◌∙◌, arith, length-append}
+use Rattle.std.specs.Prelude.{nat_eq, nat_lt, nat_le, Option, Some, None, max, if◌then◌else◌}
 use Rattle.std.specs.List.{AllByRecursion, list_any}
-use Rattle.std.proofs.lemmas.Bool.{cond_both, ltb-true, ltb-false, leb-true, eqb-true, and_parts, or_cases, eq-eqb}
-use Rattle.std.proofs.lemmas.List.{length-take, take-take, take-append-le}
+use Rattle.std.proofs.lemmas.Bool.{ltb-true, ltb-false, leb-true, and_parts, eq-eqb}
+use Rattle.std.proofs.lemmas.List.{length-take}
 use Rattle.vr_log.specs.declared.entry.Entry.{Entry}
 use Rattle.vr_log.specs.declared.message.Filled.{Filled}
 use Rattle.vr_log.specs.declared.message.VrLetter.{VrLetter}
@@ -17,153 +17,23 @@ use Rattle.vr_log.specs.declared.state.VrState.{VrState}
 use Rattle.vr_log.specs.Log.{fits, follows, is_log}
 use Rattle.vr_log.specs.Members.{is_normal, is_changing, is_recovering, is_primary, is_primary_of, is_other, is_here, is_later, is_newer, leads, most_failures}
 use Rattle.vr_log.specs.Same.{same_entries}
-use Rattle.vr_log.specs.Steps.{VrStep, quiet, sends, asks, then_step, is_sound, guarded, acknowledges, later_of}
-use Rattle.vr_log.specs.Valid.{IsValid, starting_state}
+use Rattle.vr_log.specs.Steps.{VrStep, quiet, sends, asks, then_step, is_sound, guarded, later_of}
+use Rattle.vr_log.specs.Valid.{IsValid}
 use Rattle.vr_log.specs.Choosing.{has_collected, may_choose, best_of, reaches, fetch_letter, greatest_commit}
 use Rattle.vr_log.proofs.Equal.{entries_equal}
-use Rattle.vr_normal.specs.Cases.{asks_later, from_primary, prepares, commits, ops, greatest, agreed, is_agreed, acked_by, counted, is_counted, prepare_ok}
+use Rattle.vr_normal.specs.Cases.{asks_later, from_primary, prepares, commits, agreed, is_agreed, acked_by, counted, is_counted, prepare_ok}
 use Rattle.vr_normal.specs.Proposing.{proposed}
 use Rattle.vr_normal.specs.Ticks.{tick_primary, tick_changing, tick_recovering}
 use Rattle.view_change.specs.Entering.{entered, enter, voted, collects, own_log, sends_log, votes, starts, chooses_from, chooses, check}
 use Rattle.view_change.specs.Adopting.{adopted, adopts, adopt}
 use Rattle.view_change.specs.Cases.{enters, suspect, vote_here, start_view_change, collect, do_view_change, start_view, is_change, fetch, is_wanted, supplied, supply}
 use Rattle.vr_recovery.specs.Cases.{is_answered, get_state, is_longer, lacking, completes, is_adopted, new_state}
-use Rattle.vr_recovery.specs.Recovering.{recovery, ending, ends_with, recovers, responded, response, greatest_view, recovering_state}
+use Rattle.vr_recovery.specs.Recovering.{recovery, ending, ends_with, recovers, responded, response, greatest_view}
 use Rattle.vr_core.specs.declared.input.VrInput.{VrInput}
 use Rattle.vr_core.specs.declared.input.VrInput.TheVariants as vr_input
 use Rattle.vr_core.specs.Lasting.{CollectsItsOwn, Lasts, promised}
 use Rattle.vr_core.specs.Step.{on_vr, vr_step}
-
--- a choice has what both sides have
-either : {A : Type 0} (P : A → Type 0) (b : Bool) (x y : A) → (b ≡ true → P x) → (b ≡ false → P y) → P (if b then x else y)
-either P b x y f g = cond_both b x y P f g
-
--- a state whose log reaches its commit number
-record Holds (s : VrState) : Type 0 where
-  pub reach : s.commit ≤ length s.log
-  pub own : CollectsItsOwn s
-
-record Kept (old : VrState) (promise : Option ℕ) (new : VrState) : Type 0 where
-  pub lasts : Lasts old promise new
-  pub holds : Holds new
-
-abbrev Does : VrState → VrStep → Type 0
-Does s step = Holds s → Kept s step.promise step.state
-
-take_less : (m n : ℕ) (xs ys : List Entry) → m ≤ n → take n xs ≡ take n ys → take m xs ≡ take m ys
-take_less m n xs ys le same = sym (take-take m n xs le) ∙ ap (λ (l : List Entry). take m l) same ∙ take-take m n ys le
-
-promised_on : (old : ℕ) (first next : Option ℕ) → promised (promised old first) next ≡ promised old (later_of first next)
-promised_on old first None = refl
-promised_on old first (Some view) = refl
-
-pub later_than_none : (p : Option ℕ) → later_of None p ≡ p
-later_than_none None = refl
-later_than_none (Some view) = refl
-
-pub lasts_on : (a b c : VrState) (p q : Option ℕ) → Lasts a p b → Lasts b q c → Lasts a (later_of p q) c
-lasts_on a b c p q x y =
-    record {
-      rises = let m = x.rises in let n = y.rises in omega (arith, m, n);
-      stays = take_less a.commit b.commit c.log b.log x.rises y.stays ∙ x.stays;
-      me = y.me ∙ x.me;
-      controllers = y.controllers ∙ x.controllers;
-      life = y.life ∙ x.life;
-      promise_is = y.promise_is ∙ ap (λ (n : ℕ). promised n q) x.promise_is ∙ promised_on a.promise p q;
-      awake = λ h. y.awake (x.awake h);
-    }
-
-pub lasts_same : (s : VrState) → Lasts s None s
-lasts_same s = record { rises = omega arith; stays = refl; me = refl; controllers = refl; life = refl; promise_is = refl; awake = λ h. h }
-
-kept_on : (a b c : VrState) (p q : Option ℕ) → Lasts a p b → Kept b q c → Kept a (later_of p q) c
-kept_on a b c p q x k = record { lasts = lasts_on a b c p q x k.lasts; holds = k.holds }
-
--- the log and the stable pair are as they were
-unchanged : (s s' : VrState) → s'.log ≡ s.log → s'.commit ≡ s.commit → s'.me ≡ s.me → s'.controllers ≡ s.controllers → s'.life ≡ s.life → s'.promise ≡ s.promise → s'.status ≡ s.status → Lasts s None s'
-unchanged s s' log commit me controllers life promise status =
-    record { rises = omega (arith, commit); stays = ap (λ (l : List Entry). take s.commit l) log; me = me; controllers = controllers; life = life; promise_is = promise; awake = λ h e. h (sym status ∙ e) }
-
--- a normal member changes no view
-normal_collects : (s : VrState) → s.status ≡ Normal → CollectsItsOwn s
-normal_collects s normal changing = let z : is_changing s ≡ false = rw normal refl in cc
-
-by_status : (st : Status) → (elim st as (λ _. Bool) [ Normal ↦ true | ViewChange ↦ false | Recovering ↦ false | Down ↦ false ]) ≡ true →
-    (elim st as (λ _. Bool) [ Normal ↦ false | ViewChange ↦ true | Recovering ↦ false | Down ↦ false ]) ≡ true → ⊥
-by_status Normal a b = cc
-by_status ViewChange a b = cc
-by_status Recovering a b = cc
-by_status Down a b = cc
-
-not_changing : (s : VrState) → is_normal s ≡ true → CollectsItsOwn s
-not_changing s normal changing = absurd (by_status s.status normal changing)
-
--- the greatest commit number of collected logs
-most_low : (most : ℕ) (cs : List Collected) → most ≤ greatest_commit most cs
-most_low most [] = omega arith
-most_low most (c ∷ cs) = let r = most_low (max most c.commit) cs in omega arith
-
-own_most : (me commit most : ℕ) (all : List Collected) → AllByRecursion (λ c. c.from ≡ me → c.commit ≡ commit) all → list_any (λ c. nat_eq c.from me) all ≡ true → commit ≤ greatest_commit most all
-own_most me commit most [] own has = absurd cc
-own_most me commit most (c ∷ all) own has = elim (or_cases (nat_eq c.from me) (list_any (λ d. nat_eq d.from me) all) has) [
-  | inl here ↦ let e = own.0 (eqb-true c.from me here) in let low = most_low (max most c.commit) all in omega (arith, e, low)
-  | inr there ↦ own_most me commit (max most c.commit) all own.1 there
-]
-
-own_greatest : (me commit : ℕ) (c : Collected) (cs : List Collected) → AllByRecursion (λ c. c.from ≡ me → c.commit ≡ commit) (c ∷ cs) → list_any (λ c. nat_eq c.from me) (c ∷ cs) ≡ true → commit ≤ greatest_commit c.commit cs
-own_greatest me commit c cs own has = elim (or_cases (nat_eq c.from me) (list_any (λ d. nat_eq d.from me) cs) has) [
-  | inl here ↦ let e = own.0 (eqb-true c.from me here) in let low = most_low c.commit cs in omega (arith, e, low)
-  | inr there ↦ own_most me commit c.commit cs own.1 there
-]
-
-all_push : (P : Collected → Type 0) (xs : List Collected) (x : Collected) → AllByRecursion P xs → P x → AllByRecursion P (xs ++ x ∷ [])
-all_push P [] x h p = (p, tt)
-all_push P (y ∷ xs) x h p = (h.0, all_push P xs x h.1 p)
-
--- the op on which a majority agrees
-ops_within : (least n bound : ℕ) (p : ℕ → Bool) → n ≤ bound → least ≤ bound → (least ≤ greatest least (filter p (ops n))) × (greatest least (filter p (ops n)) ≤ bound)
-ops_within least zero bound p h k = (omega arith, k)
-ops_within least (suc n) bound p h k =
-    let r = ops_within least n bound p (omega (arith, h)) k in
-    either (λ (l : List ℕ). (least ≤ greatest least l) × (greatest least l ≤ bound)) (p (suc n)) (suc n ∷ filter p (ops n)) (filter p (ops n))
-    (λ _. let a = r.0 in let b = r.1 in (omega (arith, a), omega (arith, b, h)))
-    (λ _. r)
-
-rests : (s : VrState) (letters : List VrLetter) → Does s (sends s letters)
-rests s letters h = record { lasts = unchanged s s refl refl refl refl refl refl refl; holds = h }
-
-after : (s s' : VrState) (step : VrStep) → Does s (quiet s') → Does s' step → Does s step
-after s s' step first next h =
-    let a = first h in subst (λ (p : Option ℕ). Kept s p step.state) (later_than_none step.promise) (kept_on s s' step.state None step.promise a.lasts (next a.holds))
-
-chained : (s : VrState) (first : VrStep) (next : VrState → VrStep) → Does s first → Does first.state (next first.state) → Does s (then_step first next)
-chained s first next f g h = let a = f h in kept_on s first.state (next first.state).state first.promise (next first.state).promise a.lasts (g a.holds)
-
-checked : (s : VrState) (step : VrStep) → (is_sound s step.state ≡ true → Does s step) → Does s (guarded s step)
-checked s step go = either (Does s) (is_sound s step.state) step (quiet s) go (λ _. rests s [])
-
--- entries behind the log, and a commit number within it
-grown : (s : VrState) (more : List Entry) (k : ℕ) → is_normal s ≡ true → s.commit ≤ k → k ≤ length (s.log ++ more) → (letters : List VrLetter) → Does s (sends (record s { log = s.log ++ more; commit = k }) letters)
-grown s more k normal low high letters h =
-    record {
-      lasts = record { rises = low; stays = take-append-le s.commit s.log more h.reach; me = refl; controllers = refl; life = refl; promise_is = refl; awake = λ h. h };
-      holds = record { reach = high; own = not_changing (record s { log = s.log ++ more; commit = k }) normal };
-    }
-
-risen : (s : VrState) (k : ℕ) → is_normal s ≡ true → s.commit ≤ k → k ≤ length s.log → (letters : List VrLetter) → Does s (sends (record s { commit = k }) letters)
-risen s k normal low high letters h =
-    record {
-      lasts = record { rises = low; stays = refl; me = refl; controllers = refl; life = refl; promise_is = refl; awake = λ h. h };
-      holds = record { reach = high; own = not_changing (record s { commit = k }) normal };
-    }
-
-acknowledged : (s : VrState) (more : List Entry) (commit : ℕ) → is_normal s ≡ true → Does s (acknowledges (record s { log = s.log ++ more }) commit)
-acknowledged s more commit normal h =
-    let reach = h.reach in let long = length-append s.log more in
-    grown s more (max s.commit (min commit (length (s.log ++ more)))) normal (omega arith) (omega (arith, reach, long)) [] h
-
-acknowledged_same : (s : VrState) (commit : ℕ) → is_normal s ≡ true → Does s (acknowledges s commit)
-acknowledged_same s commit normal h = let reach = h.reach in risen s (max s.commit (min commit (length s.log))) normal (omega arith) (omega (arith, reach)) [] h
+use Rattle.vr_core.proofs.Keeping.{either, Holds, Does, kept_on, unchanged, normal_collects, not_changing, own_greatest, all_push, ops_within, rests, after, chained, checked, grown, risen, acknowledged, acknowledged_same}
 
 -- the normal case
 here_normal : (s : VrState) (view : ℕ) → is_here s view ≡ true → is_normal s ≡ true

@@ -1,6 +1,5 @@
 -- Turns of a switch that no run of a group reaches, computed. By the rules, by hand.
 use Rattle.std.specs.Prelude.{◌≡◌, ℕ, Bool, true, false, List, [], ◌∷◌, map, Some, refl}
-use Rattle.of_types.specs.declared.message.Event.{Event}
 use Rattle.of_types.specs.declared.message.Extension.TheVariants as extension
 use Rattle.of_types.specs.declared.message.FlowCommand.TheVariants as flow
 use Rattle.of_types.specs.declared.message.FlowRemoved.{FlowRemoved}

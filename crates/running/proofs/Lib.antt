@@ -14,4 +14,5 @@ pub mod Starting
 pub mod Fresh
 pub mod Stopping
 pub mod Seats
+pub mod Named
 pub mod Together

@@ -1,6 +1,6 @@
 -- What the ends of all who played at a board tell: a run of the setup, as far as it came.
-use Rattle.std.proofs.Common.{◌≡◌, ◌≤◌, ◌<◌, ◌⊎◌, inl, inr, ℕ, ◌+◌, zero, suc, List, [], ◌∷◌, ◌++◌, length, map, drop, refl, sym, ◌∙◌, ap, subst, arith, length-append}
-use Rattle.std.specs.Prelude.{Option, Some, None, All, Contains, slice_get, slice_index_or}
+use Rattle.std.proofs.Common.{◌≡◌, ◌<◌, ◌⊎◌, inl, inr, ℕ, ◌+◌, List, [], ◌∷◌, ◌++◌, length, map, drop, refl, sym, ◌∙◌, ap, subst, arith, length-append}
+use Rattle.std.specs.Prelude.{Option, Some, None, All, slice_get, slice_index_or}
 use Rattle.std.specs.List.{AllByRecursion, range_with_len, zip}
 use Rattle.std.proofs.lemmas.Option.{get_or_from_slice_get, slice_get-get_or, slice_get_within}
 use Rattle.std.proofs.Math.Seq.{drop-append_seam}
@@ -40,37 +40,9 @@ use Rattle.running.proofs.Ends.{done_ends, stuck_ends}
 use Rattle.running.proofs.Joined as joined
 use Rattle.rv_world.proofs.Starts.{mapped_at, mapped_length}
 use Rattle.running.proofs.Lists.{at_number, by_number, drop_mapped, got_behind, got_map, got_zip, map_long, same_behind, zip_first, zip_second}
+use Rattle.running.proofs.Named.{plus_none, controller_at, all_controllers, all_switches, named_each}
 use Rattle.running.proofs.Starting.{job_fresh, served_fresh, switch_fresh}
 use Rattle.running.proofs.Stopping.{AreCalm, HasStopped, are_calm, none_first, none_stopped, was_calm, who_stopped}
-
-plus_none : (n : ℕ) → 0 + n ≡ n
-plus_none n = omega arith
-
--- the actors of a group, by number
-controller_at : (group count c : ℕ) → c < group → slice_get (actors_up_to group count) c ≡ Some (actor.Controller c)
-controller_at group count c less =
-    slice_get-append (map (λ (n : ℕ). actor.Controller n) (range_with_len 0 group)) (map (λ (n : ℕ). actor.Switch n) (range_with_len 0 count)) c (actor.Controller c)
-    (mapped_at (λ (n : ℕ). actor.Controller n) 0 group c less ∙ ap (λ (n : ℕ). Some (actor.Controller n)) (plus_none c))
-
-all_controllers : (first count bound : ℕ) (setup : Setup) → setup.controllers ≡ bound → first + count ≤ bound → AllByRecursion (IsActor setup) (map (λ (n : ℕ). actor.Controller n) (range_with_len first count))
-all_controllers first zero bound setup is less = tt
-all_controllers first (suc count) bound setup is less = (omega (arith, is, less), all_controllers (first + 1) count bound setup is (omega (arith, less)))
-
-all_switches : (first count bound : ℕ) (setup : Setup) → length setup.ports ≡ bound → first + count ≤ bound → AllByRecursion (IsActor setup) (map (λ (n : ℕ). actor.Switch n) (range_with_len first count))
-all_switches first zero bound setup is less = tt
-all_switches first (suc count) bound setup is less = (omega (arith, is, less), all_switches (first + 1) count bound setup is (omega (arith, less)))
-
-by_recursion : {X : Type 0} (P : X → Type 0) (xs : List X) (i : ℕ) (x : X) → AllByRecursion P xs → i < length xs → slice_index_or xs i x ≡ x → P x
-by_recursion P [] i x all less is = absurd (omega (arith, less))
-by_recursion P (y ∷ xs) zero x all less is = subst P is all.0
-by_recursion P (y ∷ xs) (suc i) x all less is = by_recursion P xs i x all.1 (omega (arith, less)) is
-
--- each entry names an actor of the setup
-named_each : {B : Type 0} (setup : Setup) (actors : List Actor) (entries : List (JournalEntry B)) → AllByRecursion (IsActor setup) actors →
-    AllByRecursion (λ e. Contains actors (actor_of e)) entries → AllByRecursion (λ e. IsActor setup (actor_of e)) entries
-named_each setup actors [] all named = tt
-named_each setup actors (e ∷ entries) all named =
-    let k = named.0 in (by_recursion (IsActor setup) actors k.0 (actor_of e) all k.1 k.2, named_each setup actors entries all named.1)
 
 -- players at the places of a new board
 module _ {B A W : Type 0} (law : AppLaw A) (saving : Saving W) (sealing : Sealing B) (setup : Setup) (kinds : List ℕ) (steps : List Turn) (id : TableId)

@@ -177,7 +177,7 @@ pub fn propose(state: &mut VrState, entry: Entry, out: &mut VrOut) -> Result<(),
     ensures step { Proposes state.old entry result state.new out.old out.new }
     ensures valid { OnOk result (IsValid state.new) }
 {
-    if !(state.is_normal() && state.is_primary()) {
+    if !state.leads() {
         return Err(ProposeFault::NotPrimary);
     }
     if state.log.is_past_limits(&entry) {

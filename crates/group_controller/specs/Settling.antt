@@ -1,11 +1,12 @@
 -- What a primary does once entries are committed (Ravana, 4.2): it answers what is processed, sends the commands of
 -- the first event that is not, and proposes that event as processed where all of them are done.
-use Rattle.std.specs.Prelude.{ℕ, zero, suc, Bool, false, not, nat_eq, nat_le, ◌&&◌, List, ◌++◌, length, drop, map, flat_map, Option, Some, None, if◌then◌else◌}
+use Rattle.std.specs.Prelude.{ℕ, zero, suc, Bool, not, nat_eq, nat_le, ◌&&◌, List, ◌++◌, length, drop, map, flat_map, Some, if◌then◌else◌}
 use Rattle.of_types.specs.declared.message.Extension.TheVariants as extension
 use Rattle.of_types.specs.declared.message.OfMessage.TheVariants as plain
 use Rattle.of_types.specs.declared.message.Spoken.TheVariants as spoken
 use Rattle.of_types.specs.declared.numbers.TheConstants.{MASTER}
 use Rattle.of_types.specs.declared.setup.Setup.{Setup}
+pub use Rattle.of_types.specs.SmallSets.{is_some_of}
 use Rattle.rv_base.specs.declared.journal.Letter.{Letter}
 use Rattle.vr_log.specs.declared.entry.Entry.{Entry}
 use Rattle.vr_log.specs.declared.entry.Entry.TheVariants.{Processed}
@@ -20,11 +21,6 @@ use Rattle.dispatcher.specs.Marks.{outstanding, is_finished}
 use Rattle.dispatcher.specs.Folding.{numbered, acknowledges_at, clears_at, places_processed}
 use Rattle.group_controller.specs.declared.messages.ControllerSays.{ControllerSays}
 use Rattle.group_controller.specs.State.{ControllerState, Work, committed, met_limit, resting, posting, leaving, to_switch, to_members}
-
--- a value stands, and is this number
-abbrev pub is_some_of : ℕ → Option ℕ → Bool
-is_some_of n None = false
-is_some_of n (Some m) = nat_eq m n
 
 -- a switch is asked to take this controller as master
 abbrev pub role_letter : ℕ → ℕ → Letter ControllerSays

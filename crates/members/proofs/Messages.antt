@@ -152,7 +152,7 @@ module _ {g : Group Entry} {h h' : History Entry} {c : ℕ} {s : VrState} (gr : 
       (λ ok. goes_quiet gr i b at fine))
 
   -- a proposal
-  pub goes_proposal : 1 ≤ g.most_failures → (entry : Entry) → proposing.may_propose s ≡ true → g.is_log (s.log ++ entry ∷ []) ≡ true → IsTurn g h h' c (proposing.proposed s entry)
+  pub goes_proposal : 1 ≤ g.most_failures → (entry : Entry) → member.leads s ≡ true → g.is_log (s.log ++ entry ∷ []) ≡ true → IsTurn g h h' c (proposing.proposed s entry)
   goes_proposal o entry may fits t tr =
       let x = and_parts (member.is_normal s) (member.is_primary s) may in
       let n = normal_of s.status x.0 in

@@ -10,9 +10,10 @@ use Rattle.vr_log.specs.declared.entry.Entry.{Entry}
 use Rattle.vr_log.specs.declared.message.VrMessage.{VrMessage}
 use Rattle.vr_log.specs.declared.state.VrState.{VrState}
 use Rattle.vr_log.specs.declared.state.Status.TheVariants.{Down}
+use Rattle.vr_log.specs.Members.{leads}
 use Rattle.vr_log.specs.Steps.{VrStep, quiet}
 use Rattle.vr_log.specs.Valid.{down_state}
-use Rattle.vr_normal.specs.Proposing.{may_propose, proposed}
+use Rattle.vr_normal.specs.Proposing.{proposed}
 use Rattle.vr_recovery.specs.Recovering.{restarted}
 use Rattle.vr_core.specs.declared.input.VrInput.{VrInput}
 use Rattle.vr_core.specs.declared.input.VrInput.TheVariants as vr_input
@@ -44,7 +45,7 @@ SuspicionsTurn = (g : Group Entry) (h h' : History Entry) (c : ℕ) (s : VrState
 abbrev pub ProposalsTurn : Type 0
 ProposalsTurn = (g : Group Entry) (h h' : History Entry) (c : ℕ) (s : VrState) (entry : Entry)
     → IsGroup g → 1 ≤ g.most_failures → Invariant g h → c < size g → IsMemberAt g h c s
-    → may_propose s ≡ true → g.is_log (s.log ++ entry ∷ []) ≡ true → IsTurn g h h' c (proposed s entry)
+    → leads s ≡ true → g.is_log (s.log ++ entry ∷ []) ≡ true → IsTurn g h h' c (proposed s entry)
 
 -- and a tick, in any group
 abbrev pub TicksTurn : Type 0

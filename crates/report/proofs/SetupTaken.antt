@@ -7,10 +7,10 @@ use Rattle.of_types.specs.declared.setup.Link.{Link}
 use Rattle.of_types.specs.declared.setup.Prefix.{Prefix}
 use Rattle.of_types.specs.declared.setup.Rule.{Rule}
 use Rattle.of_types.specs.declared.setup.Setup.{Setup}
-use Rattle.of_types.specs.Setups.{IsAddressPrefix, IsRule, IsSetup}
+use Rattle.of_types.specs.Setups.{is_group, IsAddressPrefix, IsRule, IsSetup}
 use Rattle.rv_base.proofs.All.{all_append, all_weaker}
 use Rattle.report.specs.Lines.{line_at}
-use Rattle.report.specs.OneLine.{begins, is_group, may_join, is_asked, counts_at, ports_at, link_at, link_words_at, prefix_at, rule_words_at, rule_at}
+use Rattle.report.specs.OneLine.{begins, may_join, is_asked, counts_at, ports_at, link_at, link_words_at, prefix_at, rule_words_at, rule_at}
 use Rattle.report.specs.Reading.{port_counts_at, links_at, rules_at, setup_at}
 use Rattle.report.specs.Records.{FitsRule}
 use Rattle.report.specs.Report.{word, line, number, address_word, number_or_dash, port_line, port_lines, link_line, deny_line, lines_of, setup_line, setup_lines}

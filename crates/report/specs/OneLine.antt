@@ -7,6 +7,7 @@ use Rattle.of_types.specs.declared.message.Executed.{Executed}
 use Rattle.of_types.specs.declared.setup.Link.{Link}
 use Rattle.of_types.specs.declared.setup.Prefix.{Prefix}
 use Rattle.of_types.specs.declared.setup.Rule.{Rule}
+use Rattle.of_types.specs.Setups.{is_group}
 use Rattle.rv_base.specs.declared.journal.JournalEntry.{JournalEntry}
 use Rattle.rv_base.specs.declared.journal.JournalEntry.TheVariants as entry
 use Rattle.rv_base.specs.declared.journal.Letter.{Letter}
@@ -26,9 +27,6 @@ abbrev pub begins : List ℕ → List ℕ → Bool
 begins text bytes = starts_with nat_eq bytes text
 
 -- ---- the setup
-
-abbrev pub is_group : ℕ → Bool
-is_group n = n == 1 || n == 3 || n == 5 || n == 7
 
 -- how many controllers and switches there are
 unfoldable pub counts_at : List ℕ → Option ((ℕ × ℕ) × List ℕ)

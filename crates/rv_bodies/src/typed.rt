@@ -10,7 +10,7 @@ use of_types::{Items, Octets, Spoken, size_of_extension, size_of_plain};
 use rv_base::Weight;
 use rv_runs::{Message, Unsealed, Way};
 use std::alloc::{AllocError, Global};
-use vr_log::{Entry, Filled, VrMessage, size_of_entry};
+use vr_log::{Entry, Filled, VrMessage, size_of_entry, sizes};
 
 /// A message as a body. Its size is that of the message's bytes.
 #[derive(Drop)]
@@ -33,7 +33,7 @@ fn size_of_filled(filled: &Option<Filled>) -> u64
     ensures { result ≡ min (2 ^ 64 - 1) (filled_size filled.now) }
 {
     match filled {
-        Some(filled) => size_of_log(filled.log.as_slice()).saturating_add(12),
+        Some(filled) => size_of_log(filled.log.as_slice()).saturating_add(sizes::FILLED),
         None => 0,
     }
 }
@@ -43,18 +43,26 @@ fn size_of_vr(message: &VrMessage) -> u64
     ensures { result ≡ min (2 ^ 64 - 1) (vr_size message.now) }
 {
     match message {
-        VrMessage::Prepare { entry, .. } => size_of_entry(entry).saturating_add(21),
-        VrMessage::DoViewChange { log, .. } => size_of_log(log.as_slice()).saturating_add(21),
-        VrMessage::StartView { log, .. } => size_of_log(log.as_slice()).saturating_add(25),
-        VrMessage::RecoveryResponse { filled, .. } => size_of_filled(filled).saturating_add(14),
-        VrMessage::NewState { log, .. } => size_of_log(log.as_slice()).saturating_add(25),
-        VrMessage::Supply { log, .. } => size_of_log(log.as_slice()).saturating_add(17),
-        VrMessage::StartViewChange { .. } => 5,
-        VrMessage::PrepareOk { .. } => 13,
-        VrMessage::Commit { .. } => 13,
-        VrMessage::Recovery { .. } => 13,
-        VrMessage::GetState { .. } => 13,
-        VrMessage::Fetch { .. } => 13,
+        VrMessage::Prepare { entry, .. } => size_of_entry(entry).saturating_add(sizes::PREPARE),
+        VrMessage::DoViewChange { log, .. } => {
+            size_of_log(log.as_slice()).saturating_add(sizes::DO_VIEW_CHANGE)
+        }
+        VrMessage::StartView { log, .. } => {
+            size_of_log(log.as_slice()).saturating_add(sizes::START_VIEW)
+        }
+        VrMessage::RecoveryResponse { filled, .. } => {
+            size_of_filled(filled).saturating_add(sizes::RECOVERY_RESPONSE)
+        }
+        VrMessage::NewState { log, .. } => {
+            size_of_log(log.as_slice()).saturating_add(sizes::NEW_STATE)
+        }
+        VrMessage::Supply { log, .. } => size_of_log(log.as_slice()).saturating_add(sizes::SUPPLY),
+        VrMessage::StartViewChange { .. } => sizes::START_VIEW_CHANGE,
+        VrMessage::PrepareOk { .. } => sizes::PREPARE_OK,
+        VrMessage::Commit { .. } => sizes::COMMIT,
+        VrMessage::Recovery { .. } => sizes::RECOVERY,
+        VrMessage::GetState { .. } => sizes::GET_STATE,
+        VrMessage::Fetch { .. } => sizes::FETCH,
     }
 }
 

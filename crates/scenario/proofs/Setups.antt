@@ -10,7 +10,7 @@ use Rattle.std.proofs.lemmas.List.Elements.{All-append}
 use Rattle.of_types.specs.declared.setup.Link.{Link}
 use Rattle.of_types.specs.declared.setup.Rule.{Rule}
 use Rattle.of_types.specs.declared.setup.Setup.{Setup}
-use Rattle.of_types.specs.Setups.{IsPort, IsAddressPrefix, IsRule, IsSetup, AreApart, ends_of}
+use Rattle.of_types.specs.Setups.{is_group, IsPort, IsAddressPrefix, IsRule, IsSetup, AreApart, ends_of}
 use Rattle.rv_base.specs.declared.journal.Actor.{Actor}
 use Rattle.rv_base.specs.declared.journal.Actor.TheVariants as actor
 use Rattle.rv_base.specs.declared.journal.Local.TheVariants as local
@@ -37,7 +37,7 @@ use Rattle.scenario.specs.declared.written.WrittenStep.{WrittenStep}
 use Rattle.scenario.specs.declared.written.WrittenStep.TheVariants.{Frame, Port, Tick, Draw, Lose, Suspect, Crash, RestartController, RestartSwitch}
 use Rattle.scenario.specs.declared.limits.Timed.{Timed}
 use Rattle.scenario.specs.Generated.{frame_turn, last_crash, generated}
-use Rattle.scenario.specs.Limits.{given, is_within, once, only_if, is_port, is_port_of, is_group, is_within_limits, prefix_within, turn_within, restarts_of, repeated, ports_within, link_within, rule_within}
+use Rattle.scenario.specs.Limits.{given, is_within, once, only_if, is_port, is_port_of, is_within_limits, prefix_within, turn_within, restarts_of, repeated, ports_within, link_within, rule_within}
 use Rattle.scenario.proofs.Turns.{only_if_keeps, turn_is}
 use Rattle.wires.specs.Wires.{is_taken}
 use Rattle.wires.proofs.Apart.{same_end, same_end_sym, apart_link, free_is, not_true}

@@ -5,6 +5,7 @@ use Rattle.of_types.specs.declared.numbers.TheConstants.{SHORTEST_FRAME, LONGEST
 use Rattle.of_types.specs.declared.setup.Link.{Link}
 use Rattle.of_types.specs.declared.setup.Prefix.{Prefix}
 use Rattle.of_types.specs.declared.setup.Rule.{Rule}
+use Rattle.of_types.specs.Setups.{is_group}
 use Rattle.rv_base.specs.declared.journal.Actor.{Actor}
 use Rattle.rv_base.specs.declared.journal.Actor.TheVariants as actor
 use Rattle.rv_base.specs.declared.journal.Local.{Local}
@@ -37,10 +38,6 @@ times_of (Tick a times) = times
 times_of (Draw a choice keep times) = times
 times_of (Lose a choice times) = times
 times_of _ = 1
-
--- how many controllers there are: 2f + 1 for f from 0 to 3
-abbrev pub is_group : ℕ → Bool
-is_group n = n == 1 || n == 3 || n == 5 || n == 7
 
 -- the limits of a scenario as a whole
 abbrev pub is_within_limits : Written → Bool

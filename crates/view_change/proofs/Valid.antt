@@ -8,17 +8,17 @@ use Rattle.std.proofs.lemmas.List.{length-replicate, length-take-le}
 use Rattle.of_types.specs.SmallSets.{with_number}
 use Rattle.vr_log.specs.declared.entry.Entry.{Entry}
 use Rattle.vr_log.specs.declared.message.VrMessage.{VrMessage}
-use Rattle.vr_log.specs.declared.message.VrMessage.TheVariants.{StartViewChange, DoViewChange, StartView, Supply}
+use Rattle.vr_log.specs.declared.message.VrMessage.TheVariants.{DoViewChange}
 use Rattle.vr_log.specs.declared.state.Collected.{Collected}
 use Rattle.vr_log.specs.declared.state.VrState.{VrState}
-use Rattle.vr_log.specs.Members.{is_changing, is_primary, is_primary_of, is_other, is_later, is_newer, leads, most_failures}
+use Rattle.vr_log.specs.Members.{is_changing, is_primary, is_primary_of, is_other, is_later, leads, most_failures}
 use Rattle.vr_log.specs.Choosing.{has_collected, may_choose, best_of, is_better, least_commit, greatest_commit, front, reaches}
 use Rattle.vr_log.specs.Steps.{VrStep, quiet, guarded}
 use Rattle.vr_log.specs.Valid.{AreMembers, IsValid}
 use Rattle.vr_log.proofs.Valid.{either, chosen_by, nobody, Sound, guarded_valid}
 use Rattle.view_change.specs.Adopting.{adopted, adopts, adopt}
 use Rattle.view_change.specs.Entering.{entered, voted, collects, own_log, sends_log, votes, starts, chooses_from, check}
-use Rattle.view_change.specs.Cases.{enters, suspect, vote_later, vote_here, start_view_change, collect_later, collect, do_view_change, start_view, is_wanted, supplied, supply}
+use Rattle.view_change.specs.Cases.{enters, vote_later, vote_here, collect_later, collect, do_view_change, is_wanted, supplied}
 
 -- names of members, one more of them
 all_both : (P : ℕ → Type 0) (xs ys : List ℕ) → AllByRecursion P xs → AllByRecursion P ys → AllByRecursion P (xs ++ ys)
@@ -221,22 +221,16 @@ check_valid s t step v w is = guarded_valid s step v (λ sound. subst (λ (x : V
 pub enters_valid : (s : VrState) (view : ℕ) → IsValid s → IsValid (guarded s (enters s view)).state
 enters_valid s view v = check_valid s (entered s view) (enters s view) v (entered_valid s view v) refl
 
-pub suspect_valid : (s : VrState) (view : ℕ) → IsValid s → IsValid (suspect s view).state
-suspect_valid s view v = either IsValid (is_later s view) _ _ (enters_valid s view v) v
-
 other_below : (s : VrState) (from : ℕ) → is_other s from ≡ true → from < s.controllers
 other_below s from h = ltb-true from s.controllers (and_parts (nat_lt from s.controllers) (not (nat_eq from s.me)) h).0
 
-pub start_view_change_valid : (s : VrState) (from : ℕ) (m : VrMessage) → IsValid s → IsValid (start_view_change s from m).state
-start_view_change_valid s from (StartViewChange view) v =
-    chosen_by IsValid (is_other s from) _ _
-    (λ other. let lt = other_below s from other in
-    either IsValid (is_later s view) (vote_later s from view) _
-    (check_valid s (voted (entered s view) from) _ v (voted_valid (entered s view) from (entered_valid s view v) lt) refl)
-    (either IsValid (nat_eq view s.view) (vote_here s from) (quiet s)
-    (either IsValid (is_changing s) _ _ (check_valid s (voted s from) (check (voted s from)) v (voted_valid s from v lt) refl) (either IsValid (leads s) _ _ v v)) v))
-    (λ no. v)
-start_view_change_valid s from _ v = v
+pub vote_later_valid : (s : VrState) (from view : ℕ) → IsValid s → is_other s from ≡ true → IsValid (vote_later s from view).state
+vote_later_valid s from view v other =
+    check_valid s (voted (entered s view) from) _ v (voted_valid (entered s view) from (entered_valid s view v) (other_below s from other)) refl
+
+pub vote_here_valid : (s : VrState) (from : ℕ) → IsValid s → is_other s from ≡ true → IsValid (vote_here s from).state
+vote_here_valid s from v other =
+    either IsValid (is_changing s) _ _ (check_valid s (voted s from) (check (voted s from)) v (voted_valid s from v (other_below s from other)) refl) (either IsValid (leads s) _ _ v v)
 
 pub do_view_change_valid : (s : VrState) (from : ℕ) (m : VrMessage) → IsValid s → IsValid (do_view_change s from m).state
 do_view_change_valid s from (DoViewChange view normal commit log) v =
@@ -273,11 +267,6 @@ pub adopt_valid : (s : VrState) (view first commit : ℕ) (log : List Entry) →
 adopt_valid s view first commit log v =
     guarded_valid s (adopt s view first commit log) v (λ sound. adopt_passes s view first commit log v (record { log = sound.log; commit = sound.commit }))
 
-pub start_view_valid : (s : VrState) (from : ℕ) (m : VrMessage) → IsValid s → IsValid (start_view s from m).state
-start_view_valid s from (StartView view first commit log) v =
-    either IsValid (is_other s from) _ _ (either IsValid (is_primary_of s from view && is_newer s view) _ _ (adopt_valid s view first commit log v) v) v
-start_view_valid s from _ v = v
-
 supplied_valid : (s : VrState) (first : ℕ) (log : List Entry) → IsValid s → first ≤ s.commit → IsValid (supplied s first log)
 supplied_valid s first log v le = record {
   log = v.log;
@@ -295,10 +284,6 @@ supplied_valid s first log v le = record {
 wanted_first : (s : VrState) (view first : ℕ) (log : List Entry) → is_wanted s view first log ≡ true → first ≤ s.commit
 wanted_first s view first log h = grind (arith, nat_tests)
 
-pub supply_valid : (s : VrState) (from : ℕ) (m : VrMessage) → IsValid s → IsValid (supply s from m).state
-supply_valid s from (Supply view first log) v =
-    either IsValid (is_other s from) _ _
-    (chosen_by IsValid (is_wanted s view first log) (guarded s (check (supplied s first log))) (quiet s)
-    (λ e. check_valid s (supplied s first log) (check (supplied s first log)) v (supplied_valid s first log v (wanted_first s view first log e)) refl)
-    (λ e. v)) v
-supply_valid s from _ v = v
+pub wanted_valid : (s : VrState) (view first : ℕ) (log : List Entry) → IsValid s → is_wanted s view first log ≡ true → IsValid (guarded s (check (supplied s first log))).state
+wanted_valid s view first log v wanted =
+    check_valid s (supplied s first log) (check (supplied s first log)) v (supplied_valid s first log v (wanted_first s view first log wanted)) refl

@@ -1,4 +1,5 @@
-//! The messages of a view change. One that is of another kind than its call changes nothing.
+//! The messages of a view change. One that is of another kind than its call changes nothing. After an `Err` the
+//! state is to be dropped.
 ghost use Rattle.std.specs.Prelude.{◌≡◌, ◌≤◌, true, length, drop, take, IfOk, OnOk};
 ghost use Rattle.vr_log.specs.Members.{is_other};
 ghost use Rattle.vr_log.specs.Steps.{Did, guarded};
@@ -17,7 +18,7 @@ use vr_log::{
     Collected, Entries, Entry, Members, Supplied, VrMessage, VrOut, VrState, copy_entries,
 };
 
-/// A view is suspected to have failed: this later one is entered. After an `Err` the state is to be dropped.
+/// A view is suspected to have failed: this later one is entered.
 pub fn suspect(state: &mut VrState, view: u32, out: &mut VrOut) -> Result<(), AllocError>
     requires { IsValid state.old }
     ensures step { OnOk result (Did (cases.suspect state.old view) state.new out.old out.new) }
@@ -76,14 +77,16 @@ fn vote_here(state: &mut VrState, from: u8, out: &mut VrOut) -> Result<(), Alloc
     }
 }
 
-fn start_view_change_step(
+/// STARTVIEWCHANGE: a member votes for a view.
+pub fn on_start_view_change(
     state: &mut VrState,
     from: u8,
     message: &VrMessage,
     out: &mut VrOut,
 ) -> Result<(), AllocError>
     requires { IsValid state.old }
-    ensures { OnOk result (Did (cases.start_view_change state.old from message.now) state.new out.old out.new) }
+    ensures step { OnOk result (Did (cases.start_view_change state.old from message.now) state.new out.old out.new) }
+    ensures valid { OnOk result (IsValid state.new) }
 {
     match message {
         VrMessage::StartViewChange { view } => {
@@ -99,21 +102,6 @@ fn start_view_change_step(
         }
         _ => Ok(()),
     }
-}
-
-/// STARTVIEWCHANGE: a member votes for a view. A message that is not of that kind changes nothing. After an
-/// `Err` the state is to be dropped.
-pub fn on_start_view_change(
-    state: &mut VrState,
-    from: u8,
-    message: &VrMessage,
-    out: &mut VrOut,
-) -> Result<(), AllocError>
-    requires { IsValid state.old }
-    ensures step { OnOk result (Did (cases.start_view_change state.old from message.now) state.new out.old out.new) }
-    ensures valid { OnOk result (IsValid state.new) }
-{
-    start_view_change_step(state, from, message, out)
 }
 
 fn collect_later(
@@ -166,14 +154,16 @@ fn collect_told(
     }
 }
 
-fn do_view_change_step(
+/// DOVIEWCHANGE: a member gives its log to the primary of a view.
+pub fn on_do_view_change(
     state: &mut VrState,
     from: u8,
     message: &VrMessage,
     out: &mut VrOut,
 ) -> Result<(), AllocError>
     requires { IsValid state.old }
-    ensures { OnOk result (Did (cases.do_view_change state.old from message.now) state.new out.old out.new) }
+    ensures step { OnOk result (Did (cases.do_view_change state.old from message.now) state.new out.old out.new) }
+    ensures valid { OnOk result (IsValid state.new) }
 {
     match message {
         VrMessage::DoViewChange {
@@ -200,29 +190,16 @@ fn do_view_change_step(
     }
 }
 
-/// DOVIEWCHANGE: a member gives its log to the primary of a view. A message that is not of that kind changes
-/// nothing. After an `Err` the state is to be dropped.
-pub fn on_do_view_change(
+/// STARTVIEW: a view has started with a log.
+pub fn on_start_view(
     state: &mut VrState,
     from: u8,
     message: &VrMessage,
     out: &mut VrOut,
 ) -> Result<(), AllocError>
     requires { IsValid state.old }
-    ensures step { OnOk result (Did (cases.do_view_change state.old from message.now) state.new out.old out.new) }
+    ensures step { OnOk result (Did (cases.start_view state.old from message.now) state.new out.old out.new) }
     ensures valid { OnOk result (IsValid state.new) }
-{
-    do_view_change_step(state, from, message, out)
-}
-
-fn start_view_step(
-    state: &mut VrState,
-    from: u8,
-    message: &VrMessage,
-    out: &mut VrOut,
-) -> Result<(), AllocError>
-    requires { IsValid state.old }
-    ensures { OnOk result (Did (cases.start_view state.old from message.now) state.new out.old out.new) }
 {
     match message {
         VrMessage::StartView {
@@ -245,21 +222,6 @@ fn start_view_step(
     }
 }
 
-/// STARTVIEW: a view has started with a log. A message that is not of that kind changes nothing. After an
-/// `Err` the state is to be dropped.
-pub fn on_start_view(
-    state: &mut VrState,
-    from: u8,
-    message: &VrMessage,
-    out: &mut VrOut,
-) -> Result<(), AllocError>
-    requires { IsValid state.old }
-    ensures step { OnOk result (Did (cases.start_view state.old from message.now) state.new out.old out.new) }
-    ensures valid { OnOk result (IsValid state.new) }
-{
-    start_view_step(state, from, message, out)
-}
-
 /// Whether this view changes, and is this one.
 fn is_change(state: &VrState, view: u32) -> bool
     ensures { result ≡ cases.is_change state.now view }
@@ -277,8 +239,7 @@ fn committed_after(state: &VrState, op: u64) -> Result<Entries, AllocError>
     copy_entries(state.log.allocator(), &committed[op as usize..])
 }
 
-/// FETCH: the primary of a view that is to start asks for committed entries. A message that is not of that
-/// kind changes nothing. After an `Err` the state is to be dropped.
+/// FETCH: the primary of a view that is to start asks for committed entries.
 pub fn on_fetch(
     state: &mut VrState,
     from: u8,
@@ -350,14 +311,16 @@ fn keep_supply(
     Ok(())
 }
 
-fn supply_step(
+/// SUPPLY: committed entries that this primary lacks.
+pub fn on_supply(
     state: &mut VrState,
     from: u8,
     message: &VrMessage,
     out: &mut VrOut,
 ) -> Result<(), AllocError>
     requires { IsValid state.old }
-    ensures { OnOk result (Did (cases.supply state.old from message.now) state.new out.old out.new) }
+    ensures step { OnOk result (Did (cases.supply state.old from message.now) state.new out.old out.new) }
+    ensures valid { OnOk result (IsValid state.new) }
 {
     match message {
         VrMessage::Supply { view, first, log } => {
@@ -371,19 +334,4 @@ fn supply_step(
         }
         _ => Ok(()),
     }
-}
-
-/// SUPPLY: committed entries that this primary lacks. A message that is not of that kind changes nothing.
-/// After an `Err` the state is to be dropped.
-pub fn on_supply(
-    state: &mut VrState,
-    from: u8,
-    message: &VrMessage,
-    out: &mut VrOut,
-) -> Result<(), AllocError>
-    requires { IsValid state.old }
-    ensures step { OnOk result (Did (cases.supply state.old from message.now) state.new out.old out.new) }
-    ensures valid { OnOk result (IsValid state.new) }
-{
-    supply_step(state, from, message, out)
 }

@@ -6,10 +6,11 @@ use Rattle.vr_log.specs.declared.message.VrMessage.TheVariants as message
 use Rattle.vr_log.specs.declared.state.VrState.{VrState}
 use Rattle.vr_log.specs.declared.state.VrOut.{VrOut}
 use Rattle.vr_log.specs.Log.{is_past_limits, full_at}
+use Rattle.vr_log.specs.Members.{leads}
 use Rattle.vr_log.specs.Steps.{VrStep}
 use Rattle.vr_normal.specs.declared.normal.ProposeFault.{ProposeFault}
 use Rattle.vr_normal.specs.declared.normal.ProposeFault.TheVariants as fault
-use Rattle.vr_normal.specs.Proposing.{may_propose, proposed}
+use Rattle.vr_normal.specs.Proposing.{proposed}
 use Rattle.vr_normal.specs.Cases.{prepare, prepare_ok, commit_told}
 use Rattle.vr_normal.specs.Ticks.{ticked}
 use Rattle.view_change.specs.Cases.{suspect, start_view_change, do_view_change, start_view, fetch, supply}
@@ -47,7 +48,7 @@ pub record Stepped (step : VrStep) (state : VrState) (out : VrOut) : Type 0 wher
 -- What a proposal answers, and what it leaves. A refusal changes nothing; after want of memory the state is to be
 -- dropped.
 abbrev pub ProposesTo : VrState → Entry → Result VrOut ProposeFault → VrState → Type 0
-ProposesTo s entry (Ok out) state = (may_propose s ≡ true) × (is_past_limits s.log entry ≡ false) × Stepped (proposed s entry) state out
-ProposesTo s entry (Err fault.NotPrimary) state = (may_propose s ≡ false) × (state ≡ s)
-ProposesTo s entry (Err (fault.LogFull full)) state = (may_propose s ≡ true) × (is_past_limits s.log entry ≡ true) × (full ≡ full_at s.log entry) × (state ≡ s)
-ProposesTo s entry (Err fault.OutOfMemory) state = (may_propose s ≡ true) × (is_past_limits s.log entry ≡ false)
+ProposesTo s entry (Ok out) state = (leads s ≡ true) × (is_past_limits s.log entry ≡ false) × Stepped (proposed s entry) state out
+ProposesTo s entry (Err fault.NotPrimary) state = (leads s ≡ false) × (state ≡ s)
+ProposesTo s entry (Err (fault.LogFull full)) state = (leads s ≡ true) × (is_past_limits s.log entry ≡ true) × (full ≡ full_at s.log entry) × (state ≡ s)
+ProposesTo s entry (Err fault.OutOfMemory) state = (leads s ≡ true) × (is_past_limits s.log entry ≡ false)

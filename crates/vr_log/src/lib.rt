@@ -11,6 +11,7 @@ mod message;
 mod out;
 mod replacing;
 mod same;
+pub mod sizes;
 mod state;
 mod tally;
 

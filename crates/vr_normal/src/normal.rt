@@ -1,4 +1,5 @@
-//! The steps of the normal case.
+//! The steps of the normal case. A message that is of another kind than its call changes nothing. After want of
+//! memory the state is to be dropped.
 ghost use Rattle.std.specs.Prelude.{◌≡◌, ◌<◌, true, IsTrue, is_ok, OnOk};
 ghost use Rattle.vr_log.specs.Log.{fits, may_follow};
 ghost use Rattle.vr_log.specs.Steps.{Did};
@@ -56,14 +57,16 @@ fn take_prepare(
     }
 }
 
-fn prepare_step(
+/// PREPARE: the primary has an entry.
+pub fn on_prepare(
     state: &mut VrState,
     from: u8,
     message: &VrMessage,
     out: &mut VrOut,
 ) -> Result<(), AllocError>
-    requires { 0 < state.old.controllers }
-    ensures { OnOk result (Did (prepare state.old from message.now) state.new out.old out.new) }
+    requires { IsValid state.old }
+    ensures step { OnOk result (Did (prepare state.old from message.now) state.new out.old out.new) }
+    ensures valid { OnOk result (IsValid state.new) }
 {
     match message {
         VrMessage::Prepare {
@@ -84,21 +87,6 @@ fn prepare_step(
     }
 }
 
-/// PREPARE: the primary has an entry. A message that is not of that kind changes nothing. After an `Err`
-/// the state is to be dropped.
-pub fn on_prepare(
-    state: &mut VrState,
-    from: u8,
-    message: &VrMessage,
-    out: &mut VrOut,
-) -> Result<(), AllocError>
-    requires { IsValid state.old }
-    ensures step { OnOk result (Did (prepare state.old from message.now) state.new out.old out.new) }
-    ensures valid { OnOk result (IsValid state.new) }
-{
-    prepare_step(state, from, message, out)
-}
-
 /// A COMMIT of the view in which this member is normal.
 fn take_commit(state: &mut VrState, commit: u64, out: &mut VrOut) -> Result<(), AllocError>
     requires { 0 < state.old.controllers }
@@ -113,14 +101,16 @@ fn take_commit(state: &mut VrState, commit: u64, out: &mut VrOut) -> Result<(), 
     }
 }
 
-fn commit_step(
+/// COMMIT: the primary tells how much is committed.
+pub fn on_commit(
     state: &mut VrState,
     from: u8,
     message: &VrMessage,
     out: &mut VrOut,
 ) -> Result<(), AllocError>
-    requires { 0 < state.old.controllers }
-    ensures { OnOk result (Did (commit_told state.old from message.now) state.new out.old out.new) }
+    requires { IsValid state.old }
+    ensures step { OnOk result (Did (commit_told state.old from message.now) state.new out.old out.new) }
+    ensures valid { OnOk result (IsValid state.new) }
 {
     match message {
         VrMessage::Commit { view, commit } => {
@@ -136,39 +126,7 @@ fn commit_step(
     }
 }
 
-/// COMMIT: the primary tells how much is committed. A message that is not of that kind changes nothing.
-/// After an `Err` the state is to be dropped.
-pub fn on_commit(
-    state: &mut VrState,
-    from: u8,
-    message: &VrMessage,
-    out: &mut VrOut,
-) -> Result<(), AllocError>
-    requires { IsValid state.old }
-    ensures step { OnOk result (Did (commit_told state.old from message.now) state.new out.old out.new) }
-    ensures valid { OnOk result (IsValid state.new) }
-{
-    commit_step(state, from, message, out)
-}
-
-fn prepare_ok_step(state: &mut VrState, from: u8, message: &VrMessage)
-    requires { IsValid state.old }
-    ensures { state.new ≡ (prepare_ok state.old from message.now).state }
-{
-    if let VrMessage::PrepareOk { view, op } = message {
-        let counts = state.is_other(from)
-            && state.is_here(*view)
-            && state.is_primary()
-            && *op <= state.log.len() as u64;
-        if counts {
-            state.acked.raise(from, *op);
-            state.commit = agreed_op(state);
-        }
-    }
-}
-
-/// PREPAREOK: another member has the log up to an op. A message that is not of that kind changes nothing.
-/// It takes no memory.
+/// PREPAREOK: another member has the log up to an op. It takes no memory.
 pub fn on_prepare_ok(
     state: &mut VrState,
     from: u8,
@@ -180,7 +138,16 @@ pub fn on_prepare_ok(
     ensures step { Did (prepare_ok state.old from message.now) state.new out.old out.new }
     ensures valid { IsValid state.new }
 {
-    prepare_ok_step(state, from, message);
+    if let VrMessage::PrepareOk { view, op } = message {
+        let counts = state.is_other(from)
+            && state.is_here(*view)
+            && state.is_primary()
+            && *op <= state.log.len() as u64;
+        if counts {
+            state.acked.raise(from, *op);
+            state.commit = agreed_op(state);
+        }
+    }
     Ok(())
 }
 
@@ -202,12 +169,15 @@ fn append_proposed(state: &mut VrState, entry: Entry, out: &mut VrOut) -> Result
     out.tell_others(state.me, state.controllers, &message)
 }
 
-fn propose_step(state: &mut VrState, entry: Entry, out: &mut VrOut) -> Result<(), ProposeFault>
+/// The primary proposes an entry. The first refusal that holds is the answer: the member is not normal or
+/// not the primary of its view; then the limits of the log.
+pub fn propose(state: &mut VrState, entry: Entry, out: &mut VrOut) -> Result<(), ProposeFault>
     requires valid { IsValid state.old }
     requires follows { may_follow state.old.log entry ≡ true }
-    ensures { Proposes state.old entry result state.new out.old out.new }
+    ensures step { Proposes state.old entry result state.new out.old out.new }
+    ensures valid { OnOk result (IsValid state.new) }
 {
-    if !(state.is_normal() && state.is_primary()) {
+    if !state.leads() {
         return Err(ProposeFault::NotPrimary);
     }
     if state.log.is_past_limits(&entry) {
@@ -217,16 +187,4 @@ fn propose_step(state: &mut VrState, entry: Entry, out: &mut VrOut) -> Result<()
         Ok(()) => Ok(()),
         Err(AllocError) => Err(ProposeFault::OutOfMemory),
     }
-}
-
-/// The primary proposes an entry. The first refusal that holds is the answer: the member is not normal or
-/// not the primary of its view; then the limits of the log. After want of memory the state is to be
-/// dropped.
-pub fn propose(state: &mut VrState, entry: Entry, out: &mut VrOut) -> Result<(), ProposeFault>
-    requires valid { IsValid state.old }
-    requires follows { may_follow state.old.log entry ≡ true }
-    ensures step { Proposes state.old entry result state.new out.old out.new }
-    ensures valid { OnOk result (IsValid state.new) }
-{
-    propose_step(state, entry, out)
 }

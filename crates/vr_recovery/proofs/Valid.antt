@@ -1,5 +1,5 @@
 -- Each step of a transfer and of a recovery keeps a state valid.
-use Rattle.std.proofs.Common.{inl, inr, ◌≡◌, ◌<◌, ℕ, Bool, true, false, ◌&&◌, not, Option, None, Some, List, [], ◌∷◌, ◌++◌, refl, ap, sym, subst, ◌∙◌}
+use Rattle.std.proofs.Common.{inl, inr, ◌≡◌, ◌<◌, ℕ, Bool, true, false, not, Option, None, Some, List, [], ◌∷◌, ◌++◌, refl, ap, sym, subst, ◌∙◌}
 use Rattle.std.specs.Prelude.{nat_eq, nat_lt, map, if◌then◌else◌}
 use Rattle.std.specs.List.{AllByRecursion, IsDistinct}
 use Rattle.std.proofs.lemmas.Bool.{eqb-true, and_parts, ltb-true, cases_Bool}
@@ -11,15 +11,14 @@ use Rattle.vr_log.specs.declared.state.Response.{Response}
 use Rattle.vr_log.specs.declared.state.VrOut.{VrOut}
 use Rattle.vr_log.specs.declared.state.VrState.{VrState}
 use Rattle.vr_log.specs.Log.{follows}
-use Rattle.vr_log.specs.Members.{is_other, is_normal, is_recovering}
+use Rattle.vr_log.specs.Members.{is_other}
 use Rattle.vr_log.specs.Steps.{VrStep, Did, quiet, guarded}
 use Rattle.vr_log.specs.Valid.{AreMembers, IsValid}
 use Rattle.vr_log.proofs.Valid.{either, chosen_by, nobody, Sound, guarded_valid, grown_valid, acknowledges_valid}
 use Rattle.view_change.specs.Adopting.{adopt}
-use Rattle.view_change.specs.Cases.{enters}
-use Rattle.view_change.proofs.Valid.{adopt_passes, adopt_valid, enters_valid}
+use Rattle.view_change.proofs.Valid.{adopt_passes, adopt_valid}
 use Rattle.vr_recovery.specs.Cases.{is_longer, is_adopted, lacking, completes, new_state}
-use Rattle.vr_recovery.specs.Recovering.{newest, with_response, greatest_view, responded, responds, ending, ends_with, recovers, recovery, response}
+use Rattle.vr_recovery.specs.Recovering.{newest, with_response, greatest_view, responded, ending, ends_with, recovers}
 
 -- the case of a log that is adopted
 pub adopts_newer : (s u : VrState) (m : VrMessage) (from view first commit : ℕ) (log copied told : List Entry) (old new : VrOut) → is_other s from ≡ true → is_longer s view first log ≡ false → is_adopted s view first ≡ true →
@@ -30,7 +29,7 @@ adopts_newer s u m from view first commit log copied told old new other short ad
     ap (λ (x : VrMessage). new_state s from x) is ∙ (here ∙ ap (λ (l : List Entry). guarded s (adopt s view first commit l)) (sym (a ∙ b))) in
     subst (λ (x : VrStep). Did x u old new) (sym step) h
 
-completes_valid : (s : VrState) (first commit : ℕ) (log : List Entry) → IsValid s → IsValid (completes s first commit log).state
+pub completes_valid : (s : VrState) (first commit : ℕ) (log : List Entry) → IsValid s → IsValid (completes s first commit log).state
 completes_valid s first commit log v =
     chosen_by IsValid (follows s.log (lacking s first log)) _ _ (λ f. acknowledges_valid (record s { log = s.log ++ lacking s first log }) commit (grown_valid s (lacking s first log) v f)) (λ f. v)
 
@@ -40,12 +39,6 @@ new_state_valid s from (message.NewState view first commit log) v =
     (either IsValid (is_longer s view first log) (completes s first commit log) _ (completes_valid s first commit log v)
     (either IsValid (is_adopted s view first) (guarded s (adopt s view first commit log)) (quiet s) (adopt_valid s view first commit log v) v)) v
 new_state_valid s from _ v = v
-
-pub recovery_valid : (s : VrState) (from : ℕ) (m : VrMessage) → IsValid s → IsValid (recovery s from m).state
-recovery_valid s from (message.Recovery nonce promise) v =
-    either IsValid (is_other s from) _ _
-    (either IsValid (is_normal s) _ _ (either IsValid (nat_lt s.view promise) (guarded s (enters s promise)) (responds s from nonce) (enters_valid s promise v) v) v) v
-recovery_valid s from _ v = v
 
 -- of each member one response is kept
 newest_from : (kept r : Response) → kept.from ≡ r.from → (newest kept r).from ≡ kept.from
@@ -95,14 +88,8 @@ ends_passes : (t : VrState) (view : ℕ) (told : Option Filled) → IsValid t �
 ends_passes t view None v sound = v
 ends_passes t view (Some told) v sound = adopt_passes (record t { responses = [] }) view 0 told.commit told.log (emptied_valid t v) sound
 
-pub response_valid : (s : VrState) (from : ℕ) (m : VrMessage) → IsValid s → IsValid (response s from m).state
-response_valid s from (message.RecoveryResponse view nonce filled) v =
-    let r : Response = record { from = from; view = view; filled = filled } in
+pub recovers_valid : (s : VrState) (r : Response) → IsValid s → is_other s r.from ≡ true → IsValid (guarded s (recovers (responded s r))).state
+recovers_valid s r v other =
     let t = responded s r in
-    chosen_by IsValid (is_other s from) _ _
-    (λ other.
-    let lt = ltb-true from s.controllers (and_parts (nat_lt from s.controllers) (not (nat_eq from s.me)) other).0 in
-    either IsValid (is_recovering s && nat_eq nonce s.life) (guarded s (recovers t)) (quiet s)
-    (guarded_valid s (recovers t) v (λ sound. ends_passes t (greatest_view t.responses) (ending t) (responded_valid s r v lt) (record { log = sound.log; commit = sound.commit }))) v)
-    (λ no. v)
-response_valid s from _ v = v
+    let lt = ltb-true r.from s.controllers (and_parts (nat_lt r.from s.controllers) (not (nat_eq r.from s.me)) other).0 in
+    guarded_valid s (recovers t) v (λ sound. ends_passes t (greatest_view t.responses) (ending t) (responded_valid s r v lt) (record { log = sound.log; commit = sound.commit }))

@@ -1,4 +1,5 @@
-//! How a member comes back with nothing but its stable pair, a promise and a life.
+//! How a member comes back with nothing but its stable pair, a promise and a life. A message that is of another kind
+//! than its call changes nothing. After an `Err` the state is to be dropped.
 ghost use Rattle.std.specs.Prelude.{◌≡◌, ◌<◌, ◌∷◌, [], Contains, IfOk, OnOk};
 ghost use Rattle.vr_log.specs.Steps.{Did, guarded};
 ghost use Rattle.vr_log.specs.Valid.{IsValid};
@@ -67,14 +68,16 @@ fn respond(state: &VrState, to: u8, nonce: u64, out: &mut VrOut) -> Result<(), A
     Ok(())
 }
 
-fn recovery_step(
+/// RECOVERY: a member that has lost its state asks for it.
+pub fn on_recovery(
     state: &mut VrState,
     from: u8,
     message: &VrMessage,
     out: &mut VrOut,
 ) -> Result<(), AllocError>
     requires { IsValid state.old }
-    ensures { OnOk result (Did (recovering.recovery state.old from message.now) state.new out.old out.new) }
+    ensures step { OnOk result (Did (recovering.recovery state.old from message.now) state.new out.old out.new) }
+    ensures valid { OnOk result (IsValid state.new) }
 {
     match message {
         VrMessage::Recovery { nonce, promise } => {
@@ -92,21 +95,6 @@ fn recovery_step(
         }
         _ => Ok(()),
     }
-}
-
-/// RECOVERY: a member that has lost its state asks for it. A message that is not of that kind changes
-/// nothing. After an `Err` the state is to be dropped.
-pub fn on_recovery(
-    state: &mut VrState,
-    from: u8,
-    message: &VrMessage,
-    out: &mut VrOut,
-) -> Result<(), AllocError>
-    requires { IsValid state.old }
-    ensures step { OnOk result (Did (recovering.recovery state.old from message.now) state.new out.old out.new) }
-    ensures valid { OnOk result (IsValid state.new) }
-{
-    recovery_step(state, from, message, out)
 }
 
 /// The log with which recovery ends, where enough members told a view.
@@ -156,14 +144,16 @@ fn copy_filled(filled: &Option<Filled>) -> Result<Option<Filled>, AllocError>
     filled.clone()
 }
 
-fn response_step(
+/// RECOVERYRESPONSE: an answer to the question of this life.
+pub fn on_response(
     state: &mut VrState,
     from: u8,
     message: &VrMessage,
     out: &mut VrOut,
 ) -> Result<(), AllocError>
     requires { IsValid state.old }
-    ensures { OnOk result (Did (recovering.response state.old from message.now) state.new out.old out.new) }
+    ensures step { OnOk result (Did (recovering.response state.old from message.now) state.new out.old out.new) }
+    ensures valid { OnOk result (IsValid state.new) }
 {
     match message {
         VrMessage::RecoveryResponse {
@@ -189,19 +179,4 @@ fn response_step(
         }
         _ => Ok(()),
     }
-}
-
-/// RECOVERYRESPONSE: an answer to the question of this life. A message that is not of that kind changes
-/// nothing. After an `Err` the state is to be dropped.
-pub fn on_response(
-    state: &mut VrState,
-    from: u8,
-    message: &VrMessage,
-    out: &mut VrOut,
-) -> Result<(), AllocError>
-    requires { IsValid state.old }
-    ensures step { OnOk result (Did (recovering.response state.old from message.now) state.new out.old out.new) }
-    ensures valid { OnOk result (IsValid state.new) }
-{
-    response_step(state, from, message, out)
 }

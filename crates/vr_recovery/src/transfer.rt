@@ -1,4 +1,5 @@
-//! How a member tells another what that one lacks of the log.
+//! How a member tells another what that one lacks of the log. A message that is of another kind than its call changes
+//! nothing. After an `Err` the state is to be dropped.
 ghost use Rattle.std.specs.Prelude.{◌≡◌, ◌<◌, ◌≤◌, ◌+◌, length, OnOk};
 ghost use Rattle.vr_log.specs.Steps.{Did};
 ghost use Rattle.vr_log.specs.Valid.{IsValid};
@@ -8,8 +9,7 @@ use std::alloc::AllocError;
 use view_change::adopt;
 use vr_log::{Entry, VrMessage, VrOut, VrState, copy_entries};
 
-/// GETSTATE: a member asks for what follows an op of the log. A message that is not of that kind changes
-/// nothing. After an `Err` the state is to be dropped.
+/// GETSTATE: a member asks for what follows an op of the log.
 pub fn on_get_state(
     state: &mut VrState,
     from: u8,
@@ -81,14 +81,16 @@ fn complete(
     }
 }
 
-fn new_state_step(
+/// NEWSTATE: another member tells the entries behind an op of the log.
+pub fn on_new_state(
     state: &mut VrState,
     from: u8,
     message: &VrMessage,
     out: &mut VrOut,
 ) -> Result<(), AllocError>
     requires { IsValid state.old }
-    ensures { OnOk result (Did (new_state state.old from message.now) state.new out.old out.new) }
+    ensures step { OnOk result (Did (new_state state.old from message.now) state.new out.old out.new) }
+    ensures valid { OnOk result (IsValid state.new) }
 {
     match message {
         VrMessage::NewState {
@@ -113,19 +115,4 @@ fn new_state_step(
         }
         _ => Ok(()),
     }
-}
-
-/// NEWSTATE: another member tells the entries behind an op of the log. A message that is not of that kind
-/// changes nothing. After an `Err` the state is to be dropped.
-pub fn on_new_state(
-    state: &mut VrState,
-    from: u8,
-    message: &VrMessage,
-    out: &mut VrOut,
-) -> Result<(), AllocError>
-    requires { IsValid state.old }
-    ensures step { OnOk result (Did (new_state state.old from message.now) state.new out.old out.new) }
-    ensures valid { OnOk result (IsValid state.new) }
-{
-    new_state_step(state, from, message, out)
 }

@@ -1,7 +1,8 @@
 use Rattle.vr_log.proofs.Valid.{did_valid, on_ok}
-use Rattle.vr_normal.proofs.Valid.{prepare_valid}
+use Rattle.vr_normal.proofs.Valid.{prepares_valid}
 use Rattle.vr_normal.proofs.normal.on_prepare.Goals as goal
 
-pub returns-clause-valid : goal.returns-clause-valid
-returns-clause-valid c =
-    on_ok c.prepare_step.result (did_valid _ c.prepare_step.new.state c.args.out.now c.prepare_step.new.out (prepare_valid c.args.state.now c.args.from c.args.message.now c.requires)) c.prepare_step.ensures
+pub returns-then-is_here-clause-valid : goal.returns-then-is_here-clause-valid
+returns-then-is_here-clause-valid c =
+    let m = c.in-Prepare in
+    on_ok c.take_prepare.result (did_valid _ c.take_prepare.new.state c.args.out.now c.take_prepare.new.out (prepares_valid c.args.state.now m.op m.commit m.entry c.requires)) c.take_prepare.ensures

@@ -1,9 +1,11 @@
-use Rattle.std.proofs.Common.{subst, sym}
-use Rattle.vr_log.specs.declared.state.VrState.{VrState}
+use Rattle.std.proofs.Common.{List, ℕ, subst, sym}
 use Rattle.vr_log.specs.Valid.{IsValid}
-use Rattle.vr_normal.proofs.Valid.{prepare_ok_valid}
+use Rattle.vr_normal.specs.Cases.{acked_by, counted}
+use Rattle.vr_normal.proofs.Valid.{acked_valid, counted_valid}
 use Rattle.vr_normal.proofs.normal.on_prepare_ok.Goals as goal
 
-pub returns-clause-valid : goal.returns-clause-valid
-returns-clause-valid c =
-    subst (λ (s : VrState). IsValid s) (sym c.prepare_ok_step.ensures) (prepare_ok_valid c.args.state.now c.args.from c.args.message.now c.requires)
+pub returns-then-counts-clause-valid : goal.returns-then-counts-clause-valid
+returns-then-counts-clause-valid c =
+    let s = c.args.state.now in
+    let from = c.args.from in
+    rw c.agreed_op-state.ensures (subst (λ (acked : List ℕ). IsValid (counted (record s { acked = acked }))) (sym c.raise.ensures) (counted_valid (acked_by s from c.in-PrepareOk.op) (acked_valid s from c.in-PrepareOk.op c.requires)))

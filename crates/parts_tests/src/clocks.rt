@@ -6,8 +6,8 @@ use of_types::{
 };
 use std::alloc::{AllocError, Global};
 
-/// Adds a row of priority 5 for what comes in by a port, with an idle and a hard timeout.
-fn add(alloc: Global, port: u32, idle: u16, hard: u16) -> Result<FlowMod, AllocError> {
+/// A change that adds a row of priority 5 for what comes in by a port, with an idle and a hard timeout.
+fn change(alloc: Global, port: u32, idle: u16, hard: u16) -> Result<FlowMod, AllocError> {
     let mut actions = Items::new(alloc);
     actions.push(1)?;
     Ok(FlowMod {
@@ -51,11 +51,59 @@ fn is_told(expired: &Expired, told: &Told) -> bool {
         && expired.octets == octets
 }
 
+fn are_told(expired: &[Expired], told: &[Told]) -> bool {
+    expired.len() == told.len() && expired.iter().zip(told).all(|(e, t)| is_told(e, t))
+}
+
 /// Whether a tick takes out these rows.
 fn takes_out<R: Rows + Drop>(rows: &mut TimedRows<R>, told: &[Told]) -> Result<bool, AllocError> {
     let left = rows.tick()?;
-    let are_told = left.iter().zip(told.iter()).all(|(e, t)| is_told(e, t));
-    Ok(left.len() == told.len() && are_told)
+    let are_so = are_told(&left, told);
+    drop(left);
+    Ok(are_so)
+}
+
+/// The rows that are added: the port, and an idle and a hard timeout.
+const ADDED: &[(u32, u16, u16)] = &[(1, 2, 0), (2, 0, 3), (3, 3, 3)];
+
+/// The frames that meet them behind the first tick: the port, and how many bytes.
+const MET: &[(u32, u32)] = &[(1, 60), (1, 40), (3, 14)];
+
+/// What is told of them at the third tick.
+const LEFT: &[Told] = &[(1, 0, 3, 2, 100), (2, 1, 3, 0, 0), (3, 1, 3, 1, 14)];
+
+/// Whether a row is added.
+fn adds<R: Rows + Drop>(
+    alloc: Global,
+    rows: &mut TimedRows<R>,
+    added: (u32, u16, u16),
+) -> Result<bool, AllocError> {
+    let (port, idle, hard) = added;
+    let change = change(alloc, port, idle, hard)?;
+    let is_added = rows.apply(&change, 4).is_ok();
+    drop(change);
+    Ok(is_added)
+}
+
+/// Whether each row is added.
+fn adds_all<R: Rows + Drop>(alloc: Global, rows: &mut TimedRows<R>) -> Result<bool, AllocError> {
+    for added in ADDED {
+        if !adds(alloc, rows, *added)? {
+            return Ok(false);
+        }
+    }
+    Ok(true)
+}
+
+fn meet<R: Rows + Drop>(rows: &mut TimedRows<R>) {
+    for (port, bytes) in MET {
+        rows.hit(&at_port(*port), *bytes);
+    }
+}
+
+/// Whether so many rows are left.
+fn has<R: Rows + Drop>(rows: &TimedRows<R>, count: usize) -> Result<bool, AllocError> {
+    Ok(rows.rows()?.len() == count)
 }
 
 /// Whether rows with an idle timeout of 2, with a hard one of 3, and with both of 3, leave at the third tick, where frames
@@ -64,25 +112,28 @@ fn leave_by_the_clock<R: Rows + Drop>(
     alloc: Global,
     rows: &mut TimedRows<R>,
 ) -> Result<bool, AllocError> {
-    let mut is_so = rows.apply(&add(alloc, 1, 2, 0)?, 4).is_ok();
-    is_so = rows.apply(&add(alloc, 2, 0, 3)?, 4).is_ok() && is_so;
-    is_so = rows.apply(&add(alloc, 3, 3, 3)?, 4).is_ok() && is_so;
-    is_so = takes_out(rows, &[])? && is_so;
-    rows.hit(&at_port(1), 60);
-    rows.hit(&at_port(1), 40);
-    rows.hit(&at_port(3), 14);
-    is_so = takes_out(rows, &[])? && is_so;
-    let told = [(1, 0, 3, 2, 100), (2, 1, 3, 0, 0), (3, 1, 3, 1, 14)];
-    is_so = takes_out(rows, &told)? && is_so;
-    Ok(is_so && rows.rows()?.len() == 1)
+    let stand = adds_all(alloc, rows)? && takes_out(rows, &[])?;
+    meet(rows);
+    Ok(stand && leave_at_the_third(rows)?)
+}
+
+/// Whether they leave at the tick behind the next one.
+fn leave_at_the_third<R: Rows + Drop>(rows: &mut TimedRows<R>) -> Result<bool, AllocError> {
+    Ok(takes_out(rows, &[])? && takes_out(rows, LEFT)? && has(rows, 1)?)
+}
+
+/// Whether they do.
+fn leave<R: Rows + Drop>(alloc: Global, rows: TimedRows<R>) -> Result<bool, AllocError> {
+    let mut rows = rows;
+    let told = leave_by_the_clock(alloc, &mut rows);
+    drop(rows);
+    told
 }
 
 #[test]
 fn rows_leave_by_the_clock(rt: HostRuntime) -> Result<(), AllocError> {
     let alloc = rt.alloc();
-    let mut list = TimedRows::new(alloc, FlowTable::new(alloc)?);
-    assert!(rt; leave_by_the_clock(alloc, &mut list)?);
-    let mut index = TimedRows::new(alloc, FlowIndex::new(alloc)?);
-    assert!(rt; leave_by_the_clock(alloc, &mut index)?);
+    assert!(rt; leave(alloc, TimedRows::new(alloc, FlowTable::new(alloc)?))?);
+    assert!(rt; leave(alloc, TimedRows::new(alloc, FlowIndex::new(alloc)?))?);
     Ok(())
 }

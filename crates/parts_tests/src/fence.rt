@@ -34,14 +34,21 @@ const OLDER: &[Asked] = &[
     ),
 ];
 
+/// Whether controller 1 is the master of generation 3, and no other may command.
+fn has_first(fence: &RoleFence) -> bool {
+    fence.may_execute(1, 3)
+        && !fence.may_execute(1, 2)
+        && !fence.may_execute(0, 3)
+        && fence.master() == Some(1)
+        && fence.generation() == Some(3)
+}
+
 /// It is refused, and the first one may ask again, and may command.
 #[test]
 fn fences_an_older_generation(rt: HostRuntime) {
     let mut fence = RoleFence::new();
     asks(&rt, &mut fence, OLDER);
-    assert!(rt; fence.may_execute(1, 3));
-    assert!(rt; !fence.may_execute(1, 2) && !fence.may_execute(0, 3));
-    assert_eq!(rt; (fence.master(), fence.generation()), (Some(1), Some(3)));
+    assert!(rt; has_first(&fence));
 }
 
 /// Roles before and after a change of master, and the end of 64 bits, past which generations go on.

@@ -2,8 +2,8 @@
 use Rattle.std.proofs.Common.{◌≡◌, ◌≢◌, ℕ, ◌≤◌, ◌⊎◌, inl, inr, true, ◌&&◌, eqb, leb, List, [], ◌∷◌, length, sym, ap, ◌∙◌, subst, arith}
 use Rattle.std.proofs.lemmas.Bool.{cases_eq, both_ways, and_parts, leb-true, eqb-true}
 use Rattle.agreement.specs.Lists.{IsAtMost}
-use Rattle.lists.proofs.Prefixes.{prefix_length, prefix_refl}
-use Rattle.lists.specs.Lists.{IsPrefix}
+use Rattle.list_facts.proofs.Prefixes.{prefix_length, prefix_refl}
+use Rattle.list_facts.specs.Lists.{IsPrefix}
 use Rattle.agreement.specs.History.{Group, primary_of, Normal, PrepareOk, Letter, State, History, letter}
 use Rattle.agreement.specs.Quorums.{has_acknowledged, is_prepare_ok, has_accepted, IsLogOf}
 use Rattle.agreement.specs.Invariant.{IsGoodState}

@@ -2,8 +2,8 @@
 use Rattle.std.proofs.Common.{◌≡◌, ◌≢◌, ℕ, ◌<◌, ◌≤◌, ◌⊎◌, inl, inr, true, leb, Some, List, [], length, refl, sym, ap, ◌∙◌, subst, arith}
 use Rattle.std.proofs.lemmas.Bool.{cases_eq, both_ways}
 use Rattle.agreement.specs.Lists.{IsAtMost}
-use Rattle.lists.proofs.Prefixes.{prefix_refl}
-use Rattle.lists.specs.Lists.{IsIn, IsPrefix}
+use Rattle.list_facts.proofs.Prefixes.{prefix_refl}
+use Rattle.list_facts.specs.Lists.{IsIn, IsPrefix}
 use Rattle.agreement.specs.History.{Group, size, primary_of, Status, Normal, ViewChange, Recovering, Down, Supplied, RecoveryResponse, Letter, Response, State, History, letter}
 use Rattle.agreement.specs.Quorums.{is_prepare_ok, has_accepted, IsLogOf}
 use Rattle.agreement.specs.Invariant.{is_up, IsBallot, IsGoodSupply, IsGoodState, IsGoodLetter, Invariant}

@@ -1,7 +1,7 @@
 -- What any two controllers show agrees, in groups of one and of more.
 use Rattle.std.proofs.Common.{ℕ, ◌<◌, ◌≤◌, ◌⊎◌, inl, inr, List, [], ◌∷◌, ◌++◌, sym, subst, arith, append-nil}
 use Rattle.std.proofs.lemmas.Bool.{cases_lt}
-use Rattle.lists.specs.Lists.{IsPrefix}
+use Rattle.list_facts.specs.Lists.{IsPrefix}
 use Rattle.agreement.specs.History.{Group, size}
 use Rattle.agreement.specs.Invariant.{Invariant}
 use Rattle.agreement.specs.Laws.{Run}

@@ -1,8 +1,8 @@
 -- A group of one: its log only goes on, and so what it shows agrees.
 use Rattle.std.proofs.Common.{◌≡◌, ℕ, ◌<◌, ◌⊎◌, inl, inr, true, List, [], ◌∷◌, ◌++◌, sym, ap, ◌∙◌, subst, arith}
 use Rattle.std.proofs.lemmas.Bool.{cases_Bool, false≢true, cond-true, cond-false}
-use Rattle.lists.proofs.Prefixes.{comparable, front_prefix, prefix_nil, prefix_refl, prefix_trans}
-use Rattle.lists.specs.Lists.{IsPrefix}
+use Rattle.list_facts.proofs.Prefixes.{comparable, front_prefix, prefix_nil, prefix_refl, prefix_trans}
+use Rattle.list_facts.specs.Lists.{IsPrefix}
 use Rattle.actor_fold.specs.Fold as step
 use Rattle.actor_fold.specs.Fold.{Step, Standing, standing_on, standing}
 use Rattle.agreement.specs.History.{Group, size, Letter, State}

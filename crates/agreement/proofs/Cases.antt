@@ -2,8 +2,8 @@
 use Rattle.std.proofs.Common.{◌≡◌, ◌≢◌, ℕ, ◌+◌, ◌-◌, ◌<◌, ◌≤◌, min, max, ◌⊎◌, inl, inr, Bool, true, false, ◌&&◌, eqb, leb, List, [], ◌∷◌, ◌++◌, length, take, drop, map, refl, sym, ap, ◌∙◌, subst, arith, append-nil, length-append}
 use Rattle.std.proofs.lemmas.Bool.{cases_eq, cases_Bool, and_parts, and_from, eqb-true, eq-eqb, ne_eqb, cond-true, cond-false, and_right}
 use Rattle.agreement.specs.Lists.{count_below, without}
-use Rattle.lists.proofs.Prefixes.{prefix_append, prefix_length}
-use Rattle.lists.specs.Lists.{IsIn, IsPrefix}
+use Rattle.list_facts.proofs.Prefixes.{prefix_append, prefix_length}
+use Rattle.list_facts.specs.Lists.{IsIn, IsPrefix}
 use Rattle.agreement.specs.History.{Group, size, primary_of, Normal, ViewChange, Recovering, Down, Vote, Supplied, Filled, Message, PrepareOk, DoViewChange, Supply, Recovery, RecoveryResponse, Letter, Response, State, History, letter}
 use Rattle.agreement.specs.Quorums.{is_prepare_ok, backed, IsCommitted}
 use Rattle.agreement.specs.Invariant.{is_up, IsGoodLetter, IsGoodPrepare, IsGoodNews, Invariant, IsGroup}

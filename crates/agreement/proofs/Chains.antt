@@ -1,8 +1,8 @@
 -- Histories that a move makes, and how moves go one after another.
 use Rattle.std.proofs.Common.{◌≡◌, ℕ, inl, inr, cond, eqb, List, ◌++◌, refl, sym, ◌∙◌, subst}
 use Rattle.std.proofs.lemmas.Bool.{eq-eqb, ne_eqb, cond-true, cond-false}
-use Rattle.lists.proofs.Elements.{in_append, in_left, in_right}
-use Rattle.lists.specs.Lists.{IsIn}
+use Rattle.list_facts.proofs.Elements.{in_append, in_left, in_right}
+use Rattle.list_facts.specs.Lists.{IsIn}
 use Rattle.agreement.specs.History.{Group, Letter, State, History}
 use Rattle.agreement.specs.Moves.{Moved, LogsStay, LogBecomes, Resembles, MoveOf, Move, Notes}
 

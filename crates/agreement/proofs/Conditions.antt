@@ -2,8 +2,8 @@
 use Rattle.std.proofs.Common.{◌≡◌, ◌≢◌, ℕ, ◌+◌, ◌-◌, ◌<◌, ◌≤◌, min, max, true, not, eqb, leb, List, [], ◌∷◌, ◌++◌, length, take, drop, refl, sym, ap, ◌∙◌, subst, arith, length-drop, append_assoc}
 use Rattle.std.proofs.lemmas.Bool.{and_from, le-leb, eq-eqb, leb-true, and_parts, eqb-false, not-true}
 use Rattle.agreement.specs.Lists.{count_below, without}
-use Rattle.lists.proofs.Prefixes.{prefix_append, prefix_both, prefix_lacks, prefix_next, prefix_trans, take_within}
-use Rattle.lists.specs.Lists.{IsIn, IsPrefix}
+use Rattle.list_facts.proofs.Prefixes.{prefix_append, prefix_both, prefix_lacks, prefix_next, prefix_trans, take_within}
+use Rattle.list_facts.specs.Lists.{IsIn, IsPrefix}
 use Rattle.agreement.specs.History.{Group, size, primary_of, Normal, ViewChange, Filled, PrepareOk, State, History, letter}
 use Rattle.agreement.specs.Quorums.{has_accepted, HasQuorum, IsCommitted, IsVote}
 use Rattle.agreement.specs.Invariant.{is_up, IsGoodState, IsGoodResponse, IsGoodPrepare, IsGoodVote, IsGoodSupply, IsGoodNews, Invariant, IsGroup}

@@ -3,8 +3,8 @@ use Rattle.std.proofs.Common.{◌≡◌, ◌≢◌, ℕ, zero, suc, ◌<◌, ◌
 use Rattle.std.proofs.lemmas.Bool.{cases_lt, le-leb, false≢true}
 use Rattle.std.proofs.lemmas.List.{nil_from_length}
 use Rattle.agreement.specs.Lists.{IsAtMost}
-use Rattle.lists.proofs.Prefixes.{comparable, front_prefix, prefix_both, prefix_equal, prefix_length, prefix_nil, prefix_trans, take_within}
-use Rattle.lists.specs.Lists.{IsIn, IsPrefix}
+use Rattle.list_facts.proofs.Prefixes.{comparable, front_prefix, prefix_both, prefix_equal, prefix_length, prefix_nil, prefix_trans, take_within}
+use Rattle.list_facts.specs.Lists.{IsIn, IsPrefix}
 use Rattle.agreement.specs.History.{Group, size, primary_of, Normal, ViewChange, Recovering, Answer, Filled, Response, State, History, Status, Down}
 use Rattle.agreement.specs.Quorums.{has_accepted, HasQuorum, IsSafe, nothing, backed, IsLogOf, IsCertified, empty, shown}
 use Rattle.agreement.specs.Invariant.{is_up, IsGoodState, IsGoodAnswer, IsGoodResponse, Invariant}

@@ -1,8 +1,8 @@
 -- Nothing is dropped: each move leaves what was committed in its places.
 use Rattle.std.proofs.Common.{◌≡◌, ℕ, ◌<◌, true, List, [], ◌∷◌, sym, ap, ◌∙◌, subst}
 use Rattle.std.proofs.lemmas.Bool.{false≢true}
-use Rattle.lists.proofs.Prefixes.{front_prefix, prefix_append, prefix_trans}
-use Rattle.lists.specs.Lists.{IsPrefix}
+use Rattle.list_facts.proofs.Prefixes.{front_prefix, prefix_append, prefix_trans}
+use Rattle.list_facts.specs.Lists.{IsPrefix}
 use Rattle.agreement.specs.History.{Group, size, Status, Recovering, Down, State, History}
 use Rattle.agreement.specs.Invariant.{is_up, Invariant}
 use Rattle.agreement.specs.Moves.{Moved, Move, Enters, Collects, Stocks, Starts, Adopts, Appends, Commits, Acknowledges, Counts, Proposes, Keeps, Recovers, Falls, Rises, Speaks, Notes}

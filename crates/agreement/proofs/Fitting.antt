@@ -3,7 +3,7 @@ use Rattle.std.proofs.Common.{◌≡◌, Bool, ◌&&◌, List, [], ◌∷◌, �
 use Rattle.std.proofs.lemmas.Bool.{and_parts}
 use Rattle.std.proofs.Math.Bool.{and_assoc, and-true}
 use Rattle.agreement.specs.Fitting.{follows, FitsMakeGroups, FitsTestLast}
-use Rattle.lists.proofs.Prefixes.{prefix_whole}
+use Rattle.list_facts.proofs.Prefixes.{prefix_whole}
 
 -- entries behind others follow, where they follow these
 follows_append : {E : Type 0} (fits : List E → E → Bool) (before xs ys : List E) → follows fits before (xs ++ ys) ≡ (follows fits before xs && follows fits (before ++ xs) ys)

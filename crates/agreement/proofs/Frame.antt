@@ -2,8 +2,8 @@
 -- its own state, its new letters and the view whose log it changed.
 use Rattle.std.proofs.Common.{◌≡◌, ◌≢◌, ℕ, ◌<◌, ◌≤◌, ◌⊎◌, inl, inr, Bool, true, false, not, ◌&&◌, eqb, ltb, leb, List, [], ◌∷◌, length, refl, sym, ap, ◌∙◌, subst, arith}
 use Rattle.std.proofs.lemmas.Bool.{cases_eq, cases_Bool, and_parts, and_from, or_right, or_left, or_cases, lt-ltb, ltb-true, leb-true, le-leb, false≢true, eqb-true, ne_eqb, eq-eqb, cond-true, cond-false}
-use Rattle.lists.proofs.Prefixes.{prefix_length, prefix_take, prefix_trans}
-use Rattle.lists.specs.Lists.{IsIn, IsPrefix}
+use Rattle.list_facts.proofs.Prefixes.{prefix_length, prefix_take, prefix_trans}
+use Rattle.list_facts.specs.Lists.{IsIn, IsPrefix}
 use Rattle.agreement.specs.History.{Group, size, primary_of, Recovering, Vote, Answer, Filled, Bare, Message, Prepare, PrepareOk, Commit, StartViewChange, DoViewChange, StartView, GetState, NewState, Fetch, Supply, Recovery, RecoveryResponse, Letter, State, History, letter}
 use Rattle.agreement.specs.Quorums.{has_acknowledged, is_prepare_ok, has_accepted, blocks, HasQuorum, IsBlocked, IsSafe, IsCommitted, nothing, backed, IsLogOf, IsVote, IsCertified, empty, shown}
 use Rattle.agreement.specs.Invariant.{IsGoodVote, IsGoodSupply, IsGoodNews, IsBallot, IsGoodState, IsGoodAnswer, IsGoodResponse, IsGoodMessage, IsGoodLetter, IsGoodView, Invariant}

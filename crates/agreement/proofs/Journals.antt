@@ -2,8 +2,8 @@
 use Rattle.std.proofs.Common.{◌≡◌, ℕ, ◌<◌, ◌≤◌, ◌⊎◌, inl, inr, true, cond, ◌&&◌, eqb, List, [], ◌∷◌, ◌++◌, refl, sym, ap, ◌∙◌, subst, subst₂, arith, mod-lt, le_refl}
 use mathlib.Core.Path.{subst₃}
 use Rattle.std.proofs.lemmas.Bool.{cases_eq, cases_Bool, and_parts, false≢true, eqb-true, cond-true, cond-false}
-use Rattle.lists.proofs.Elements.{in_append, in_left, in_right}
-use Rattle.lists.specs.Lists.{IsIn}
+use Rattle.list_facts.proofs.Elements.{in_append, in_left, in_right}
+use Rattle.list_facts.specs.Lists.{IsIn}
 use Rattle.actor_fold.specs.Fold.{Standing, standing_on}
 use Rattle.agreement.specs.History.{Group, size, primary_of, Status, Normal, ViewChange, Recovering, Down, Letter, State, History}
 use Rattle.agreement.specs.Invariant.{is_up, Invariant}

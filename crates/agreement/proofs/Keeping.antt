@@ -2,8 +2,8 @@
 use Rattle.std.proofs.Common.{◌≡◌, ◌≢◌, ℕ, ◌+◌, ◌<◌, ◌≤◌, inl, inr, true, List, [], ◌∷◌, ◌++◌, length, refl, sym, ap, ◌∙◌, subst, arith, length-append}
 use Rattle.std.proofs.lemmas.Bool.{cases_eq}
 use Rattle.agreement.specs.Lists.{IsAtMost}
-use Rattle.lists.proofs.Prefixes.{prefix_append, prefix_nil, prefix_refl}
-use Rattle.lists.specs.Lists.{IsIn, IsPrefix}
+use Rattle.list_facts.proofs.Prefixes.{prefix_append, prefix_nil, prefix_refl}
+use Rattle.list_facts.specs.Lists.{IsIn, IsPrefix}
 use Rattle.agreement.specs.History.{Group, size, primary_of, Normal, ViewChange, Vote, Message, Prepare, PrepareOk, Recovery, Letter, State, History, letter}
 use Rattle.agreement.specs.Quorums.{is_prepare_ok, IsSafe, IsLogOf}
 use Rattle.agreement.specs.Invariant.{is_up, IsGoodVote, IsGoodState, IsGoodMessage, IsGoodLetter, IsGoodView, Invariant, IsGroup}

@@ -1,9 +1,9 @@
 -- What was decided stays so.
 use Rattle.std.proofs.Common.{◌≡◌, ℕ, zero, suc, ◌<◌, ◌≤◌, ◌⊎◌, inl, inr, cond, ltb, List, [], ◌∷◌, ◌++◌, length, refl, sym, ap, ◌∙◌, subst, arith, append_assoc}
 use Rattle.std.proofs.lemmas.Bool.{cases_eq, cond_both, ltb-true, ltb-false}
-use Rattle.lists.proofs.Elements.{in_append, in_left, in_right}
-use Rattle.lists.proofs.Prefixes.{prefix_equal, prefix_nil, prefix_refl, prefix_trans}
-use Rattle.lists.specs.Lists.{IsIn, IsPrefix}
+use Rattle.list_facts.proofs.Elements.{in_append, in_left, in_right}
+use Rattle.list_facts.proofs.Prefixes.{prefix_equal, prefix_nil, prefix_refl, prefix_trans}
+use Rattle.list_facts.specs.Lists.{IsIn, IsPrefix}
 use Rattle.agreement.specs.History.{Group, size}
 use Rattle.agreement.specs.Journals.{Rules, Entry, IsLegal, Follows, kept}
 use Rattle.agreement.specs.Decided.{longest, shown_below, decided, DecisionsLast}

@@ -2,8 +2,8 @@
 use Rattle.std.proofs.Common.{◌≡◌, ℕ, ◌+◌, ◌<◌, ◌≤◌, inl, inr, Bool, true, false, leb, ltb, List, [], ◌∷◌, ◌++◌, length, sym, ap, ◌∙◌, subst, arith}
 use Rattle.std.proofs.lemmas.Bool.{cases_lt, leb-true, ltb-true, cond-true, cond-false}
 use Rattle.agreement.specs.Lists.{IsAtMost, count_below}
-use Rattle.lists.proofs.Prefixes.{front_prefix, prefix_both, prefix_nil, prefix_trans, take_within}
-use Rattle.lists.specs.Lists.{IsPrefix}
+use Rattle.list_facts.proofs.Prefixes.{front_prefix, prefix_both, prefix_nil, prefix_trans, take_within}
+use Rattle.list_facts.specs.Lists.{IsPrefix}
 use Rattle.actor_fold.specs.Fold.{Standing}
 use Rattle.agreement.specs.History.{Group, size, primary_of, Normal, Letter, State, History}
 use Rattle.agreement.specs.Quorums.{has_accepted, HasQuorum, IsSafe, IsCertified, empty, shown}

@@ -3,9 +3,9 @@ use Rattle.std.proofs.Common.{◌≡◌, ◌≢◌, ℕ, ◌<◌, ◌≤◌, max
 use Rattle.std.proofs.lemmas.Bool.{cases_lt, cases_eq, and_parts, and_from, leb-true, le-leb, false≢true, ne_eqb, eq-eqb, cond-true, cond-false}
 use Rattle.std.proofs.lemmas.List.{map-append}
 use Rattle.agreement.specs.Lists.{IsAtMost, AreDistinct}
-use Rattle.lists.proofs.Elements.{in_append}
-use Rattle.lists.proofs.Prefixes.{prefix_length}
-use Rattle.lists.specs.Lists.{IsIn, IsPrefix}
+use Rattle.list_facts.proofs.Elements.{in_append}
+use Rattle.list_facts.proofs.Prefixes.{prefix_length}
+use Rattle.list_facts.specs.Lists.{IsIn, IsPrefix}
 use Rattle.agreement.specs.History.{Group, size, primary_of, Status, Normal, ViewChange, Recovering, Down, Vote, Supplied, Message, PrepareOk, RecoveryResponse, Response, State, History, letter}
 use Rattle.agreement.specs.Quorums.{is_prepare_ok, has_accepted, IsCommitted, IsLogOf}
 use Rattle.agreement.specs.Invariant.{is_up, IsGoodVote, IsGoodSupply, IsBallot, IsGoodState}

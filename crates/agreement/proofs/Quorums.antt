@@ -4,8 +4,8 @@ use Rattle.std.proofs.lemmas.Bool.{cases_lt, cases_Bool, both_ways, and_parts, a
 use Rattle.std.proofs.lemmas.List.{length-map}
 use Rattle.std.proofs.Common.{length-drop}
 use Rattle.agreement.specs.Lists.{IsAtMost}
-use Rattle.lists.proofs.Prefixes.{front_prefix, prefix_both, prefix_length, prefix_refl, prefix_trans, take_longer, take_within}
-use Rattle.lists.specs.Lists.{IsIn, IsPrefix}
+use Rattle.list_facts.proofs.Prefixes.{front_prefix, prefix_both, prefix_length, prefix_refl, prefix_trans, take_longer, take_within}
+use Rattle.list_facts.specs.Lists.{IsIn, IsPrefix}
 use Rattle.agreement.specs.History.{Group, size, Vote, History}
 use Rattle.agreement.specs.Quorums.{has_accepted, blocks, HasQuorum, IsBlocked, HasFirst, IsSafe, IsCommitted, nothing, backed, IsCertified, empty, shown}
 use Rattle.agreement.specs.Invariant.{IsBallot, IsGoodVote}

@@ -1,8 +1,8 @@
 -- From the start, over any moves.
 use Rattle.std.proofs.Common.{◌≡◌, ℕ, ◌<◌, ◌≤◌, inl, inr, true, List, [], ◌∷◌, length, sym, ap, ◌∙◌, subst, arith}
 use Rattle.std.proofs.lemmas.Bool.{cases_eq, false≢true, leb-true}
-use Rattle.lists.proofs.Prefixes.{prefix_nil}
-use Rattle.lists.specs.Lists.{IsIn, IsPrefix}
+use Rattle.list_facts.proofs.Prefixes.{prefix_nil}
+use Rattle.list_facts.specs.Lists.{IsIn, IsPrefix}
 use Rattle.agreement.specs.History.{Group, size, primary_of, Letter, History}
 use Rattle.agreement.specs.Quorums.{has_acknowledged, has_accepted, nothing, IsCertified}
 use Rattle.agreement.specs.Invariant.{is_up, Invariant, IsGroup}

@@ -3,7 +3,7 @@ use Rattle.std.proofs.Common.{◌≡◌, ◌≢◌, ℕ, ◌<◌, inl, inr, Bool
 use Rattle.std.proofs.lemmas.Bool.{cases_eq, eq-eqb, ne_eqb, cond-true, cond-false}
 use Rattle.std.proofs.lemmas.List.{map-append}
 use Rattle.std.proofs.lemmas.List.Elements.{filter-append}
-use Rattle.lists.proofs.Elements.{in_right}
+use Rattle.list_facts.proofs.Elements.{in_right}
 use Rattle.actor_fold.specs.Fold as step
 use Rattle.actor_fold.specs.Fold.{Step, Standing, standing, standing_on}
 use Rattle.agreement.specs.History.{Group, size, Letter}

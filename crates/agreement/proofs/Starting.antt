@@ -1,8 +1,8 @@
 -- What several cases of the rules share: proposals, the own vote, and the start of a view.
 use Rattle.std.proofs.Common.{◌≡◌, ◌≢◌, ℕ, ◌+◌, ◌<◌, ◌≤◌, inl, inr, eqb, List, [], ◌∷◌, ◌++◌, length, take, drop, map, refl, sym, ap, ◌∙◌, subst}
 use Rattle.std.proofs.lemmas.Bool.{cond-true, cond-false, eq-eqb, ne_eqb}
-use Rattle.lists.proofs.Prefixes.{prefix_append}
-use Rattle.lists.specs.Lists.{IsIn}
+use Rattle.list_facts.proofs.Prefixes.{prefix_append}
+use Rattle.list_facts.specs.Lists.{IsIn}
 use Rattle.agreement.specs.History.{Group, size, primary_of, Normal, ViewChange, Vote, Message, Prepare, StartView, Letter, State, History}
 use Rattle.agreement.specs.Quorums.{is_prepare_ok}
 use Rattle.agreement.specs.Invariant.{IsGoodMessage, IsGoodLetter, IsGroup}

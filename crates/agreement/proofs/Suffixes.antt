@@ -1,7 +1,7 @@
 -- Logs that are told without their first entries are put together to the whole ones.
 use Rattle.std.proofs.Common.{◌≡◌, ℕ, ◌<◌, ◌≤◌, inl, inr, Option, Some, None, List, ◌++◌, length, take, drop, refl, sym, ap, ◌∙◌, subst, arith, take-take, take-append-drop}
-use Rattle.lists.proofs.Prefixes.{prefix_take, take_within}
-use Rattle.lists.specs.Lists.{IsPrefix}
+use Rattle.list_facts.proofs.Prefixes.{prefix_take, take_within}
+use Rattle.list_facts.specs.Lists.{IsPrefix}
 use Rattle.agreement.specs.History.{Group, ViewChange, Supplied, State, History}
 use Rattle.agreement.specs.Quorums.{IsLogOf, IsCertified}
 use Rattle.agreement.specs.Invariant.{is_up, IsGoodVote, IsGoodState, Invariant}

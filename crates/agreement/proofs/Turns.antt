@@ -1,7 +1,7 @@
 -- What a turn shows is certified before any letter of the turn has left.
 use Rattle.std.proofs.Common.{◌≡◌, ℕ, ◌<◌, ◌≤◌, true, List, length, take, refl, sym, ap, ◌∙◌, subst, arith}
-use Rattle.lists.proofs.Prefixes.{prefix_refl, prefix_take, prefix_trans}
-use Rattle.lists.specs.Lists.{IsIn, IsPrefix}
+use Rattle.list_facts.proofs.Prefixes.{prefix_refl, prefix_take, prefix_trans}
+use Rattle.list_facts.specs.Lists.{IsIn, IsPrefix}
 use Rattle.agreement.specs.History.{Group, size, primary_of, ViewChange, Vote, Letter, State, History}
 use Rattle.agreement.specs.Quorums.{has_accepted, IsCertified, empty, shown}
 use Rattle.agreement.specs.Invariant.{is_up, IsGoodVote, IsGoodState, Invariant, IsGroup}

@@ -1,6 +1,6 @@
 -- Turns, built a move at a time. A walk has made quiet moves alone; a tail may have accepted more.
 use Rattle.std.proofs.Common.{◌≡◌, ℕ, ◌<◌, inl, inr, cond, eqb, List, [], ◌++◌, refl, sym, ap, ◌∙◌, subst}
-use Rattle.lists.specs.Lists.{IsIn}
+use Rattle.list_facts.specs.Lists.{IsIn}
 use Rattle.agreement.specs.History.{Group, size, Letter, State, History}
 use Rattle.agreement.specs.Quorums.{IsCommitted}
 use Rattle.agreement.specs.Invariant.{IsGoodState, Invariant, IsGroup}

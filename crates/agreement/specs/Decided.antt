@@ -1,6 +1,6 @@
 -- What a journal has decided: the longest log that any controller ever showed as committed.
 use Rattle.std.specs.Prelude.{◌≡◌, ℕ, zero, suc, ◌<◌, nat_lt, List, [], ◌∷◌, ◌++◌, length, if◌then◌else◌}
-use Rattle.lists.specs.Lists.{IsPrefix}
+use Rattle.list_facts.specs.Lists.{IsPrefix}
 use Rattle.agreement.specs.History.{Group, size}
 use Rattle.agreement.specs.Journals.{Rules, Entry, IsLegal, Follows, kept}
 

@@ -1,7 +1,7 @@
 -- The invariant of histories. docs/AGREEMENT.md tells each clause, and why it is there.
 use Rattle.std.specs.Prelude.{◌≡◌, ◌≢◌, ℕ, ◌+◌, ◌<◌, ◌≤◌, ◌⊎◌, Bool, true, false, Some, List, [], ◌∷◌, ◌++◌, length, drop, map, ⊤}
 use Rattle.agreement.specs.Lists.{IsAtMost, AreDistinct}
-use Rattle.lists.specs.Lists.{IsIn, IsPrefix}
+use Rattle.list_facts.specs.Lists.{IsIn, IsPrefix}
 use Rattle.agreement.specs.History.{Group, size, primary_of, Status, Normal, ViewChange, Recovering, Down, Vote, Supplied, Answer, Filled, Bare, Message, Prepare, PrepareOk, Commit, StartViewChange, DoViewChange, StartView, GetState, NewState, Fetch, Supply, Recovery, RecoveryResponse, Letter, letter, Response, State, History}
 use Rattle.agreement.specs.Quorums.{has_accepted, IsSafe, IsCommitted, IsLogOf, IsVote, IsCertified}
 

@@ -3,7 +3,7 @@
 use Rattle.std.specs.Prelude.{◌≡◌, ◌≢◌, ℕ, ◌<◌, ◌≤◌, ◌⊎◌, Bool, true, false, ◌&&◌, nat_eq, List, [], ◌∷◌, ◌++◌, map, filter, if◌then◌else◌, ⊤}
 use Rattle.actor_fold.specs.Fold as step
 use Rattle.actor_fold.specs.Fold.{Step, Standing, ActorRules, standing}
-use Rattle.lists.specs.Lists.{IsIn, IsPrefix}
+use Rattle.list_facts.specs.Lists.{IsIn, IsPrefix}
 use Rattle.agreement.specs.History.{Group, size, primary_of, Status, Normal, ViewChange, Recovering, Down, Letter, State, History}
 use Rattle.agreement.specs.Invariant.{is_up, Invariant, IsGroup}
 use Rattle.agreement.specs.Moves.{StandsAt, Moved, Resembles, fallen}

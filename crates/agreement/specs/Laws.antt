@@ -1,7 +1,7 @@
 -- What is claimed of all histories. docs/AGREEMENT.md tells how the claims follow from each other.
 use Rattle.std.specs.Prelude.{◌≡◌, ℕ, ◌<◌, ◌≤◌, ◌⊎◌, true, nat_le, List, [], ◌++◌, length, take}
 use Rattle.agreement.specs.Lists.{count_below}
-use Rattle.lists.specs.Lists.{IsIn, IsPrefix}
+use Rattle.list_facts.specs.Lists.{IsIn, IsPrefix}
 use Rattle.agreement.specs.History.{Group, size, primary_of, Normal, Vote, State, History}
 use Rattle.agreement.specs.Quorums.{IsSafe, IsCertified}
 use Rattle.agreement.specs.Invariant.{is_up, IsBallot, IsGoodVote, IsGoodNews, Invariant, IsGroup}

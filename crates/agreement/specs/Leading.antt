@@ -1,7 +1,7 @@
 -- Whose log begins with what is decided: one that is safe for a view that f + 1 promises are below.
 use Rattle.std.specs.Prelude.{◌≡◌, ℕ, ◌<◌, false, nat_lt, nat_le, List}
 use Rattle.agreement.specs.Lists.{count_below}
-use Rattle.lists.specs.Lists.{IsPrefix}
+use Rattle.list_facts.specs.Lists.{IsPrefix}
 use Rattle.agreement.specs.History.{Group, size, primary_of, Normal, History}
 use Rattle.agreement.specs.Quorums.{IsSafe, IsCertified}
 use Rattle.agreement.specs.Invariant.{Invariant, IsGroup}

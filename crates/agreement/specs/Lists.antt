@@ -1,6 +1,6 @@
 -- Words for lists and for counts.
 use Rattle.std.specs.Prelude.{◌≡◌, ◌≢◌, ℕ, zero, suc, ◌+◌, ◌<◌, ◌≤◌, ◌⊎◌, Bool, not, ◌&&◌, nat_eq, List, [], ◌∷◌, if◌then◌else◌, ⊤}
-use Rattle.lists.specs.Lists.{IsIn}
+use Rattle.list_facts.specs.Lists.{IsIn}
 
 -- the pair (a, b) is at most the pair (c, d): the first numbers decide, and where they are equal the second
 abbrev pub IsAtMost : ℕ → ℕ → ℕ → ℕ → Type 0

@@ -2,7 +2,7 @@
 -- view longer, and adds letters.
 use Rattle.std.specs.Prelude.{◌≡◌, ◌≢◌, ℕ, ◌+◌, ◌<◌, ◌≤◌, ◌⊎◌, true, false, nat_eq, max, Some, None, List, [], ◌∷◌, ◌++◌, length, map, if◌then◌else◌}
 use Rattle.agreement.specs.Lists.{IsAtMost}
-use Rattle.lists.specs.Lists.{IsIn, IsPrefix}
+use Rattle.list_facts.specs.Lists.{IsIn, IsPrefix}
 use Rattle.agreement.specs.History.{Group, size, primary_of, Normal, ViewChange, Recovering, Down, Vote, Supplied, Letter, letter, Prepare, PrepareOk, Recovery, RecoveryResponse, Response, State, History}
 use Rattle.agreement.specs.Quorums.{is_prepare_ok, has_accepted, IsCommitted, IsLogOf}
 use Rattle.agreement.specs.Invariant.{is_up, IsGoodLetter, IsGoodVote, IsGoodSupply}

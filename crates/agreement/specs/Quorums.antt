@@ -1,7 +1,7 @@
 -- What controllers have accepted, and which logs are safe for that. Each speaks of one history.
 use Rattle.std.specs.Prelude.{◌≡◌, ℕ, ◌<◌, ◌≤◌, ◌⊎◌, Bool, true, false, not, ◌&&◌, ◌||◌, nat_eq, nat_lt, nat_le, List, [], ◌∷◌, length, take, if◌then◌else◌}
 use Rattle.agreement.specs.Lists.{IsAtMost, count_below}
-use Rattle.lists.specs.Lists.{IsPrefix}
+use Rattle.list_facts.specs.Lists.{IsPrefix}
 use Rattle.agreement.specs.History.{Group, size, primary_of, Message, PrepareOk, Letter, History}
 
 -- the message is PREPAREOK of view v, for place m or a later one

@@ -1,7 +1,7 @@
 -- A turn: the moves of one controller for one input. What it shows as committed is certified before any of its letters
 -- has left, so that it may be taken back.
 use Rattle.std.specs.Prelude.{◌≡◌, ℕ, ◌<◌, ◌≤◌, ◌⊎◌, true, List, [], length}
-use Rattle.lists.specs.Lists.{IsPrefix}
+use Rattle.list_facts.specs.Lists.{IsPrefix}
 use Rattle.agreement.specs.History.{Group, size, State, History}
 use Rattle.agreement.specs.Quorums.{has_accepted, IsCertified}
 use Rattle.agreement.specs.Invariant.{is_up, IsGroup}

@@ -13,8 +13,8 @@ use crate::switch_lines::{Committed, first_of_switches};
 use app_core::App;
 use of_types::Octets;
 use report::{Record, ReportFault, read_report};
-use rv_base::JournalEntry;
-use rv_model::Single;
+use journal::JournalEntry;
+use plain_controller::Single;
 use std::alloc::{AllocError, Global};
 
 /// What an audit finds.

@@ -1,9 +1,9 @@
 //! Bodies on their ways. The answers follow from the rules of reading, by hand; the good ones are vectors.
 
 use of_types::Octets;
-use rv_actors::Bytes;
-use rv_bodies::{Body, seal};
-use rv_runs::{Message, Unsealed, Way};
+use byte_bodies::Bytes;
+use players::{Body, seal};
+use run_spec::{Message, Unsealed, Way};
 use std::alloc::{AllocError, Global};
 
 /// A body on its way, and what it says. The head of what a switch refuses has at most 64 bytes; between controllers, and on a

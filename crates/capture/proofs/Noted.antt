@@ -4,11 +4,11 @@ use Rattle.std.proofs.Math.Nat.{mod-add-mod}
 use Rattle.std.proofs.Math.Seq.{drop-cons, take-suc}
 use Rattle.std.proofs.lemmas.List.{drop_all}
 use Rattle.std.proofs.lemmas.Bool.{eqb-true}
-use Rattle.rv_base.specs.declared.journal.Actor.{Actor}
-use Rattle.rv_base.specs.declared.journal.Letter.{Letter}
-use Rattle.rv_base.specs.Pool.{past}
+use Rattle.journal.specs.declared.journal.Actor.{Actor}
+use Rattle.journal.specs.declared.journal.Letter.{Letter}
+use Rattle.journal.specs.Pool.{past}
 use Rattle.of_bytes.specs.Numbers.{number}
-use Rattle.rv_base.proofs.Lists.{past-push}
+use Rattle.journal.proofs.Lists.{past-push}
 use Rattle.capture_laws.specs.declared.shapes.Captured.{Captured}
 use Rattle.capture_laws.specs.declared.shapes.Fate.{Fate}
 use Rattle.capture_laws.specs.Fates.{Entry, comment_of, fate, fate_or_none, noted}

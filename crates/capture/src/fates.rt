@@ -2,13 +2,13 @@
 ghost use Rattle.std.specs.Prelude.{◌≡◌, ◌++◌, ℕ, nat_eq, Some, true, IfOk, OnOk, if◌then◌else◌};
 ghost use Rattle.std.specs.BTreeMap.{get};
 ghost use Rattle.std.specs.Ordering.{nat_cmp};
-ghost use Rattle.rv_base.specs.Pool.{past};
+ghost use Rattle.journal.specs.Pool.{past};
 ghost use Rattle.capture_laws.specs.Fates.{comment_of, fate, fate_or_none, kept_times as told_times, kept_words as told_kept, lost_words as told_lost, noted, roomless_words};
 
 use capture_laws::Fate;
 use of_types::Octets;
 use report::{write_number, write_word};
-use rv_base::JournalEntry;
+use journal::JournalEntry;
 use std::alloc::{AllocError, Global};
 use std::collections::BTreeMap;
 

@@ -5,7 +5,7 @@ ghost use Rattle.capture_laws.specs.Frames as frames;
 use capture_laws::Way;
 use of_bytes::{Front, four, long_length, six, two};
 use of_types::Octets;
-use rv_base::Actor;
+use journal::Actor;
 use std::alloc::{AllocError, Global};
 
 /// What the head of a segment tells.

@@ -6,7 +6,7 @@ use crate::blocks::write_interface;
 use capture_laws::{Captured, Port, Way};
 use of_types::{Items, Octets};
 use report::write_digits;
-use rv_base::Actor;
+use journal::Actor;
 use std::alloc::{AllocError, Global};
 
 /// The ports of packets, in the order of their first ones.

@@ -11,7 +11,7 @@ use crate::tapes::{Heading, Tape, add_body};
 use capture_laws::{Captured, Fate, Piece, Port, Way};
 use of_bytes::u32_at;
 use of_types::{Items, Octets};
-use rv_base::{Actor, JournalEntry, Letter, Local};
+use journal::{Actor, JournalEntry, Letter, Local};
 use std::alloc::{AllocError, Global};
 use std::collections::BTreeMap;
 

@@ -8,7 +8,7 @@ ghost use Rattle.capture.specs.Tapes.{IsTape, next_behind, next_of};
 
 use capture_laws::{Captured, Piece, Way};
 use of_types::{Items, Octets};
-use rv_base::Actor;
+use journal::Actor;
 use std::alloc::{AllocError, Global};
 use std::collections::BTreeMap;
 

@@ -1,7 +1,7 @@
 -- The words of a head, with its checksum, sum to a multiple of 65,535.
 use Rattle.std.proofs.Common.{◌≡◌, ◌<◌, ◌%◌, ℕ, ◌+◌, Bool, true, List, [], ◌∷◌, ◌++◌, length, ap, ◌∙◌, arith}
 use Rattle.of_bytes.specs.Numbers.{two, four}
-use Rattle.rv_base.specs.declared.journal.Actor.{Actor}
+use Rattle.journal.specs.declared.journal.Actor.{Actor}
 use Rattle.capture_laws.specs.Frames.{checksum, ends_of, ip_front, ip_head, pseudo, tcp, tcp_front, tcp_sum, word_sum}
 
 -- whole words

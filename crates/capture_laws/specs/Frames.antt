@@ -1,8 +1,8 @@
 -- The bytes of a packet: a segment of TCP in IPv4 on Ethernet, or a frame as it is.
 use Rattle.std.specs.Prelude.{ℕ, ◌+◌, ◌-◌, ◌*◌, ◌%◌, nat_lt, Bool, true, not, List, [], ◌∷◌, ◌++◌, length, if◌then◌else◌}
 use Rattle.of_bytes.specs.Numbers.{two, four, six}
-use Rattle.rv_base.specs.declared.journal.Actor.{Actor}
-use Rattle.rv_base.specs.declared.journal.Actor.TheVariants.{Controller, Switch}
+use Rattle.journal.specs.declared.journal.Actor.{Actor}
+use Rattle.journal.specs.declared.journal.Actor.TheVariants.{Controller, Switch}
 use Rattle.capture_laws.specs.declared.shapes.Way.{Way}
 use Rattle.capture_laws.specs.declared.shapes.Way.TheVariants.{Segment, Frame}
 

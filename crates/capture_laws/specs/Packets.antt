@@ -1,12 +1,12 @@
 -- The packets of a journal.
 use Rattle.std.specs.Prelude.{◌≡◌, ◌<◌, ◌≤◌, ℕ, ◌+◌, ◌-◌, nat_eq, nat_lt, List, [], ◌∷◌, ◌++◌, length, drop, Option, if◌then◌else◌, ⊤}
 use Rattle.of_bytes.specs.Numbers.{number}
-use Rattle.rv_base.specs.declared.journal.Actor.{Actor}
-use Rattle.rv_base.specs.declared.journal.Actor.TheVariants.{Controller, Switch}
-use Rattle.rv_base.specs.declared.journal.JournalEntry.TheVariants.{Post, Draw, Lose, Local, Idle, Refused}
-use Rattle.rv_base.specs.declared.journal.Letter.{Letter}
-use Rattle.rv_base.specs.declared.journal.Local.TheVariants as input
-use Rattle.rv_base.specs.Pool.{past}
+use Rattle.journal.specs.declared.journal.Actor.{Actor}
+use Rattle.journal.specs.declared.journal.Actor.TheVariants.{Controller, Switch}
+use Rattle.journal.specs.declared.journal.JournalEntry.TheVariants.{Post, Draw, Lose, Local, Idle, Refused}
+use Rattle.journal.specs.declared.journal.Letter.{Letter}
+use Rattle.journal.specs.declared.journal.Local.TheVariants as input
+use Rattle.journal.specs.Pool.{past}
 use Rattle.capture_laws.specs.declared.shapes.Captured.{Captured}
 use Rattle.capture_laws.specs.declared.shapes.Fate.{Fate}
 use Rattle.capture_laws.specs.declared.shapes.Way.{Way}

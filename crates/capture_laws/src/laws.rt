@@ -1,7 +1,7 @@
 //! What holds of each capture.
 ghost use Rattle.std.specs.Prelude.{◌≡◌, ◌<◌, ◌+◌, ◌%◌, ℕ, Bool, true, List, [], length};
 ghost use Rattle.std.specs.List.{AllByRecursion};
-ghost use Rattle.rv_base.specs.declared.journal.Actor.{Actor};
+ghost use Rattle.journal.specs.declared.journal.Actor.{Actor};
 ghost use Rattle.capture_laws.specs.Frames.{ip, ip_head, segment_sum, word_sum};
 ghost use Rattle.capture_laws.specs.declared.shapes.Captured.{Captured};
 ghost use Rattle.capture_laws.specs.declared.shapes.Port.{Port};

@@ -2,7 +2,7 @@
 ghost use Rattle.std.specs.Prelude.{◌≡◌};
 
 use of_types::Octets;
-use rv_base::Actor;
+use journal::Actor;
 use std::marker::Model;
 
 /// A packet of a capture. Its time is the number of a journal's entry, from 1 on.

@@ -1,7 +1,7 @@
 //! A call of the program, and its answer.
 
 use of_types::Octets;
-use rv_base::FailingSave;
+use journal::FailingSave;
 use std::alloc::{AllocError, Global};
 
 /// A save that fails, and its controller.

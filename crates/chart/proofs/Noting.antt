@@ -6,13 +6,13 @@ use Rattle.std.proofs.lemmas.List.{length-reverse, length-take}
 use Rattle.std.specs.BTreeMap.{is_at}
 use Rattle.std.specs.Cmp.{unsigned_tied}
 use Rattle.std.specs.Option.{option_map, option_or, option_to_list}
-use Rattle.rv_base.specs.declared.journal.Actor.{Actor}
-use Rattle.rv_base.specs.declared.journal.Letter.{Letter}
-use Rattle.rv_base.specs.declared.journal.Packet.{Packet}
-use Rattle.rv_base.specs.Part.{packet_of}
-use Rattle.rv_base.specs.Places.{packet_as}
-use Rattle.rv_base.specs.Pool.{numbered, past}
-use Rattle.rv_base.proofs.Lists.{past-push}
+use Rattle.journal.specs.declared.journal.Actor.{Actor}
+use Rattle.journal.specs.declared.journal.Letter.{Letter}
+use Rattle.journal.specs.declared.journal.Packet.{Packet}
+use Rattle.journal.specs.Part.{packet_of}
+use Rattle.journal.specs.Places.{packet_as}
+use Rattle.journal.specs.Pool.{numbered, past}
+use Rattle.journal.proofs.Lists.{past-push}
 use Rattle.chart.specs.declared.packets.Sent.{Sent}
 use Rattle.chart.specs.declared.shapes.Arrow.{Arrow}
 use Rattle.chart.specs.Arrows.{Entry, arrow_to, arrows, posted, sent, sent_among, sent_at}

@@ -11,8 +11,8 @@ use Rattle.of_ravana.specs.Reading.{extension_at}
 use Rattle.vr_log.specs.declared.message.VrMessage.{VrMessage}
 use Rattle.vr_codec.specs.declared.fault.VrRefusal.{VrRefusal}
 use Rattle.vr_codec.specs.Reading.{vr_at}
-use Rattle.rv_base.specs.declared.journal.Actor.{Actor}
-use Rattle.rv_base.specs.declared.journal.Actor.TheVariants.{Controller, Switch}
+use Rattle.journal.specs.declared.journal.Actor.{Actor}
+use Rattle.journal.specs.declared.journal.Actor.TheVariants.{Controller, Switch}
 use Rattle.chart.specs.declared.shapes.Carried.{Carried}
 use Rattle.chart.specs.declared.shapes.Carried.TheVariants.{Spoken, Member, Frame, Unread}
 

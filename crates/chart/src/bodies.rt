@@ -10,7 +10,7 @@ use of_bytes::u32_at;
 use of_messages::{OfFault, decode};
 use of_ravana::decode_extension;
 use of_types::{OfMessage, Spoken};
-use rv_base::Actor;
+use journal::Actor;
 use std::alloc::{AllocError, Global};
 use vr_codec::{VrFault, decode_vr};
 

@@ -4,7 +4,7 @@ use crate::shapes::Carried;
 use app_core::asked_by;
 use of_types::{EQUAL, Extension, MASTER, NO_CHANGE, Octets, OfMessage, Outcome, SLAVE, Spoken};
 use report::write_number;
-use rv_base::{Actor, Local};
+use journal::{Actor, Local};
 use std::alloc::AllocError;
 use vr_log::VrMessage;
 

@@ -1,6 +1,6 @@
 //! The shapes of a run.
 ghost use Rattle.std.specs.Prelude.{◌≡◌, ◌<◌, ◌↔◌, Contains, length, IfOk, IsTrue};
-ghost use Rattle.rv_base.specs.Pool.{past};
+ghost use Rattle.journal.specs.Pool.{past};
 ghost use Rattle.chart.specs.declared.shapes.Arrow.{Arrow};
 ghost use Rattle.chart.specs.Arrows.{IsArrow, arrows as arrows_of, before_of, shown as shown_of};
 
@@ -9,7 +9,7 @@ use crate::packets::arrows;
 use crate::shapes::{Arrow, Band, Drawing, Logged, Note, Window};
 use of_types::Octets;
 use report::Record;
-use rv_base::JournalEntry;
+use journal::JournalEntry;
 use std::alloc::{AllocError, Global};
 
 /// Whether the next arrow ends at a place.

@@ -1,7 +1,7 @@
 //! How each actor stands along its lifeline.
 
 use crate::shapes::{Life, Standing};
-use rv_base::Actor;
+use journal::Actor;
 use std::alloc::{AllocError, Global};
 
 /// The lifelines up to an entry. The last part of each is open, since its end isn't known yet.

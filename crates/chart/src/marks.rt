@@ -6,7 +6,7 @@ use crate::lifelines::Lifelines;
 use crate::shapes::{Carried, Standing};
 use of_types::{Extension, MASTER, Octets, OfMessage, Spoken};
 use report::{Record, Told, write_number};
-use rv_base::{Actor, JournalEntry, Letter, Local};
+use journal::{Actor, JournalEntry, Letter, Local};
 use std::alloc::{AllocError, Global};
 use vr_log::Entry;
 

@@ -3,13 +3,13 @@ ghost use Rattle.std.specs.Prelude.{◌≡◌, ◌<◌, ◌^◌, ℕ, List, leng
 ghost use Rattle.std.specs.BTreeMap.{get};
 ghost use Rattle.std.specs.Option.{option_map, option_or};
 ghost use Rattle.std.specs.Ordering.{nat_cmp};
-ghost use Rattle.rv_base.specs.Pool.{numbered, past};
+ghost use Rattle.journal.specs.Pool.{numbered, past};
 ghost use Rattle.chart.specs.Arrows.{Entry, arrow_of, arrow_to as arrow_in, arrows as arrows_of, posted, sent as newest, sent_among};
 
 use crate::bodies::carried;
 use crate::shapes::{Arrow, End};
 use of_types::{Items, Octets};
-use rv_base::{Actor, JournalEntry, Letter};
+use journal::{Actor, JournalEntry, Letter};
 use std::alloc::{AllocError, Global};
 use std::collections::BTreeMap;
 

@@ -2,16 +2,16 @@
 use Rattle.std.proofs.Common.{◌≡◌, inl, inr, ℕ, List, ◌++◌, sym, ◌∙◌, ap, subst}
 use Rattle.std.specs.Prelude.{reverse}
 use Rattle.std.proofs.lemmas.Bool.{cases_lt}
-use Rattle.rv_base.specs.declared.journal.JournalEntry.{JournalEntry}
-use Rattle.rv_base.specs.declared.journal.SaveResult.{SaveResult}
-use Rattle.rv_base.specs.Pool.{past}
-use Rattle.rv_base.specs.Turns.{IsWithinLimits}
+use Rattle.journal.specs.declared.journal.JournalEntry.{JournalEntry}
+use Rattle.journal.specs.declared.journal.SaveResult.{SaveResult}
+use Rattle.journal.specs.Pool.{past}
+use Rattle.journal.specs.Turns.{IsWithinLimits}
 use Rattle.app_core.specs.Law.{AppLaw}
-use Rattle.rv_runs.specs.Bound.{IsQuick, IsSharplyBounded}
-use Rattle.rv_runs.specs.Committed.{count_up}
-use Rattle.rv_runs.specs.Legal.{IsLegalPast, IsPossible}
-use Rattle.rv_runs.specs.Schedule.{Closes, majority}
-use Rattle.rv_runs.specs.States.{IsFaithful, Scene, Sealing}
+use Rattle.run_spec.specs.Bound.{IsQuick, IsSharplyBounded}
+use Rattle.run_spec.specs.Committed.{count_up}
+use Rattle.run_spec.specs.Legal.{IsLegalPast, IsPossible}
+use Rattle.run_spec.specs.Schedule.{Closes, majority}
+use Rattle.run_spec.specs.States.{IsFaithful, Scene, Sealing}
 use Rattle.closing_laws.specs.Ends.{HasRested}
 use Rattle.closing_laws.specs.Quick.{WhereSavesSucceed}
 use Rattle.closing_laws.specs.Starts.{SavesSucceed}
@@ -20,8 +20,8 @@ use Rattle.closing_laws.proofs.Ends.Limits.{limits_law}
 use Rattle.closing_laws.proofs.Ends.Quorate.{quorum_law}
 use Rattle.closing_laws.proofs.Ends.Rested.{rest_law}
 use Rattle.closing_laws.proofs.Measure.QuickClosings.{quick_law, sharp_law}
-use Rattle.rv_world.specs.World.{Holds, Worlding, results_in, scene_in}
-use Rattle.rv_world.proofs.Growing.{no_more}
+use Rattle.world.specs.World.{Holds, Worlding, results_in, scene_in}
+use Rattle.world.proofs.Growing.{no_more}
 use Rattle.closing.specs.declared.closed.Closed.{Closed}
 use Rattle.closing.specs.declared.closed.Closed.TheVariants as closed
 use Rattle.closing.specs.Closing.{HasClosed, HasEnded, HasReason, answer_of}

@@ -3,31 +3,31 @@ use Rattle.std.proofs.Common.{◌≡◌, ◌≤◌, ◌<◌, inl, inr, ℕ, ◌+
 use Rattle.std.specs.Prelude.{nat_eq, filter, reverse, Option, Some, None, OnOk, IfErr, Result, Ok, Err, if◌then◌else◌}
 use Rattle.std.proofs.lemmas.Bool.{eq-eqb}
 use Rattle.of_types.specs.declared.setup.Setup.{Setup}
-use Rattle.rv_base.specs.declared.journal.Actor.{Actor}
-use Rattle.rv_base.specs.declared.journal.JournalEntry.{JournalEntry}
-use Rattle.rv_base.specs.declared.journal.JournalEntry.TheVariants.{Refused}
-use Rattle.rv_base.specs.declared.journal.Letter.{Letter}
-use Rattle.rv_base.specs.declared.journal.Packet.{Packet}
-use Rattle.rv_base.specs.declared.journal.SaveResult.{SaveResult}
-use Rattle.rv_base.specs.declared.journal.Turn.{Turn}
-use Rattle.rv_base.specs.declared.place.PacketPlace.{PacketPlace}
-use Rattle.rv_base.specs.declared.wire.Stop.{Stop}
-use Rattle.rv_base.specs.declared.wire.Stop.TheVariants.{OutOfMemory, JournalFull}
-use Rattle.rv_base.specs.Actors.{actor_of, is_input, IsActor}
-use Rattle.rv_base.specs.Limits.{letters_limit}
-use Rattle.rv_base.specs.Pool.{past, pool, without, numbered, fitting, letters_posted}
-use Rattle.rv_base.specs.Refusals.{MayBeRefused}
-use Rattle.rv_base.specs.Turns.{entry_of, turn_actor}
-use Rattle.rv_base.proofs.Lists.{past-push}
-use Rattle.rv_base.specs.Stables.{Saving}
+use Rattle.journal.specs.declared.journal.Actor.{Actor}
+use Rattle.journal.specs.declared.journal.JournalEntry.{JournalEntry}
+use Rattle.journal.specs.declared.journal.JournalEntry.TheVariants.{Refused}
+use Rattle.journal.specs.declared.journal.Letter.{Letter}
+use Rattle.journal.specs.declared.journal.Packet.{Packet}
+use Rattle.journal.specs.declared.journal.SaveResult.{SaveResult}
+use Rattle.journal.specs.declared.journal.Turn.{Turn}
+use Rattle.journal.specs.declared.place.PacketPlace.{PacketPlace}
+use Rattle.journal.specs.declared.wire.Stop.{Stop}
+use Rattle.journal.specs.declared.wire.Stop.TheVariants.{OutOfMemory, JournalFull}
+use Rattle.journal.specs.Actors.{actor_of, is_input, IsActor}
+use Rattle.journal.specs.Limits.{letters_limit}
+use Rattle.journal.specs.Pool.{past, pool, without, numbered, fitting, letters_posted}
+use Rattle.journal.specs.Refusals.{MayBeRefused}
+use Rattle.journal.specs.Turns.{entry_of, turn_actor}
+use Rattle.journal.proofs.Lists.{past-push}
+use Rattle.journal.specs.Stables.{Saving}
 use Rattle.app_core.specs.Law.{AppLaw}
-use Rattle.rv_runs.specs.States.{Scene, Sealing}
-use Rattle.rv_runs.specs.Schedule.{Losing, Phase, ClosesTo, IsMove, after_move, next_move}
-use Rattle.rv_world.specs.Debts.{Debt}
-use Rattle.rv_world.specs.Refusals.{IsHalted, IsRefusal, IsRefused, None_stands, One_stands, Posted, Turned_down, TurnStops, Unchanged, Unposted}
-use Rattle.rv_world.specs.World.{AreMore, Applies, Holds, IsStuck, Keeps, PairsStand, Worlding, results_in, scene_in, taken, with_posts}
-use Rattle.rv_world.proofs.Growing.{more_then}
-use Rattle.rv_laws.specs.Laws.{EntrySuspectsUpTo, IsSuspectedUpTo}
+use Rattle.run_spec.specs.States.{Scene, Sealing}
+use Rattle.run_spec.specs.Schedule.{Losing, Phase, ClosesTo, IsMove, after_move, next_move}
+use Rattle.world.specs.Debts.{Debt}
+use Rattle.world.specs.Refusals.{IsHalted, IsRefusal, IsRefused, None_stands, One_stands, Posted, Turned_down, TurnStops, Unchanged, Unposted}
+use Rattle.world.specs.World.{AreMore, Applies, Holds, IsStuck, Keeps, PairsStand, Worlding, results_in, scene_in, taken, with_posts}
+use Rattle.world.proofs.Growing.{more_then}
+use Rattle.run_laws.specs.Laws.{EntrySuspectsUpTo, IsSuspectedUpTo}
 use Rattle.closing.specs.Closing.{ClosesIn, IsHaltedAt, LeadsTo, Rests, Stage, StandsAt, work_left}
 use Rattle.closing.proofs.Worlds.{Runs, posted_is}
 use Rattle.closing.proofs.Turned.{PostsOf, No_post, One_post, Added, added, added_alone, cut_turn, joins, more_before, Turned, more_told, one_move, owed_nothing, past_added, past_joined, same_self}

@@ -6,8 +6,8 @@ use Rattle.std.specs.List.{list_any, range_with_len}
 use Rattle.std.proofs.lemmas.Bool.{eqb-true, eq-eqb}
 use Rattle.vr_log.specs.Members.{is_up}
 use Rattle.group_controller.specs.State.{ControllerState}
-use Rattle.rv_runs.specs.Committed.{members_up}
-use Rattle.rv_runs.specs.Schedule.{bound_of, quorum_of}
+use Rattle.run_spec.specs.Committed.{members_up}
+use Rattle.run_spec.specs.Schedule.{bound_of, quorum_of}
 use Rattle.closing_laws.specs.Quorum.{has}
 use Rattle.closing.specs.Closing.{bound_with, member_in}
 

@@ -3,10 +3,10 @@ use Rattle.std.proofs.Common.{add-one, ◌≡◌, ◌<◌, ℕ, ◌+◌, suc, Li
 use Rattle.std.specs.List.{AllByRecursion}
 use Rattle.std.proofs.Math.Seq.{take-suc}
 use Rattle.std.proofs.lemmas.List.{take-append-drop}
-use Rattle.rv_base.specs.declared.journal.JournalEntry.{JournalEntry}
-use Rattle.rv_base.specs.Pool.{past}
-use Rattle.rv_base.proofs.Lists.{past-push}
-use Rattle.rv_laws.specs.Laws.{EntrySuspectsUpTo, IsSuspectedUpTo}
+use Rattle.journal.specs.declared.journal.JournalEntry.{JournalEntry}
+use Rattle.journal.specs.Pool.{past}
+use Rattle.journal.proofs.Lists.{past-push}
+use Rattle.run_laws.specs.Laws.{EntrySuspectsUpTo, IsSuspectedUpTo}
 use Rattle.closing.proofs.Turned.{past_joined}
 
 all_behind : {X : Type 0} (P : X → Type 0) (xs ys : List X) → AllByRecursion P (xs ++ ys) → AllByRecursion P ys

@@ -4,29 +4,29 @@ use Rattle.std.specs.Prelude.{nat_eq, ◌%◌, slice_get, Option, Some, None, if
 use Rattle.std.specs.List.{AllByRecursion}
 use Rattle.std.proofs.Math.Nat.{zero-mod}
 use Rattle.std.proofs.lemmas.Bool.{eq-eqb}
-use Rattle.rv_base.specs.declared.journal.Actor.{Actor}
-use Rattle.rv_base.specs.declared.journal.Actor.TheVariants as actor
-use Rattle.rv_base.specs.declared.journal.JournalEntry.{JournalEntry}
-use Rattle.rv_base.specs.declared.journal.JournalEntry.TheVariants.{Draw, Lose, Local}
-use Rattle.rv_base.specs.declared.journal.Local.{Local as LocalInput}
-use Rattle.rv_base.specs.declared.journal.Local.TheVariants as local
-use Rattle.rv_base.specs.declared.journal.Packet.{Packet}
-use Rattle.rv_base.specs.declared.journal.Turn.TheVariants as turn
-use Rattle.rv_base.specs.declared.place.PacketPlace.{PacketPlace}
-use Rattle.rv_base.specs.Actors.{same_actor, actor_of}
-use Rattle.rv_base.specs.Places.{IsFound}
-use Rattle.rv_base.specs.Pool.{past, pool, pick, waiting, chosen}
-use Rattle.rv_base.specs.Turns.{entry_of, drawn_entry, lost_entry}
+use Rattle.journal.specs.declared.journal.Actor.{Actor}
+use Rattle.journal.specs.declared.journal.Actor.TheVariants as actor
+use Rattle.journal.specs.declared.journal.JournalEntry.{JournalEntry}
+use Rattle.journal.specs.declared.journal.JournalEntry.TheVariants.{Draw, Lose, Local}
+use Rattle.journal.specs.declared.journal.Local.{Local as LocalInput}
+use Rattle.journal.specs.declared.journal.Local.TheVariants as local
+use Rattle.journal.specs.declared.journal.Packet.{Packet}
+use Rattle.journal.specs.declared.journal.Turn.TheVariants as turn
+use Rattle.journal.specs.declared.place.PacketPlace.{PacketPlace}
+use Rattle.journal.specs.Actors.{same_actor, actor_of}
+use Rattle.journal.specs.Places.{IsFound}
+use Rattle.journal.specs.Pool.{past, pool, pick, waiting, chosen}
+use Rattle.journal.specs.Turns.{entry_of, drawn_entry, lost_entry}
 use Rattle.vr_log.specs.declared.entry.LogFull.{LogFull}
 use Rattle.vr_log.specs.Members.{is_up}
 use Rattle.app_core.specs.Law.{AppLaw}
 use Rattle.group_controller.specs.State.{ControllerState}
 use Rattle.group_controller.specs.Turns.{Controlling, state_of, Controls}
-use Rattle.rv_runs.specs.States.{Scene}
-use Rattle.rv_runs.specs.Committed.{controller_state, states_of}
-use Rattle.rv_runs.specs.Schedule.{Phase, Losing, Suspecting, Draining, Met, IsMove, is_drawn, drained, next_lost, next_drained, after_move, after_turn, after_member, met_by}
-use Rattle.rv_world.specs.World.{AreMore, Worlding, results_in}
-use Rattle.rv_world.proofs.Growing.{no_more}
+use Rattle.run_spec.specs.States.{Scene}
+use Rattle.run_spec.specs.Committed.{controller_state, states_of}
+use Rattle.run_spec.specs.Schedule.{Phase, Losing, Suspecting, Draining, Met, IsMove, is_drawn, drained, next_lost, next_drained, after_move, after_turn, after_member, met_by}
+use Rattle.world.specs.World.{AreMore, Worlding, results_in}
+use Rattle.world.proofs.Growing.{no_more}
 use Rattle.closing.specs.declared.closed.Came.{Came}
 use Rattle.closing.specs.declared.closed.Came.TheVariants as came
 use Rattle.closing_laws.specs.Quorum.{has}

@@ -4,36 +4,36 @@ use Rattle.std.specs.Prelude.{◌%◌, ◌/◌, nat_lt, reverse, slice_get, Opti
 use Rattle.std.proofs.lemmas.Bool.{ltb-true, ltb-false}
 use Rattle.std.proofs.lemmas.List.{length-map}
 use Rattle.of_types.specs.declared.setup.Setup.{Setup}
-use Rattle.rv_base.specs.declared.journal.Actor.{Actor}
-use Rattle.rv_base.specs.declared.journal.JournalEntry.{JournalEntry}
-use Rattle.rv_base.specs.declared.journal.JournalEntry.TheVariants.{Post, Draw, Lose, Local, Idle, Refused}
-use Rattle.rv_base.specs.declared.journal.Letter.{Letter}
-use Rattle.rv_base.specs.declared.journal.Local.{Local as LocalInput}
-use Rattle.rv_base.specs.declared.journal.Local.TheVariants as local
-use Rattle.rv_base.specs.declared.journal.Packet.{Packet}
-use Rattle.rv_base.specs.declared.journal.SaveResult.{SaveResult}
-use Rattle.rv_base.specs.declared.place.PacketPlace.{PacketPlace}
-use Rattle.rv_base.specs.declared.wire.Stop.{Stop}
-use Rattle.rv_base.specs.declared.wire.Stop.TheVariants.{OutOfMemory, JournalFull}
-use Rattle.rv_base.specs.Places.{IsFound}
-use Rattle.rv_base.specs.Pool.{past, pool}
-use Rattle.rv_base.specs.Turns.{posting}
-use Rattle.rv_base.specs.Stables.{Saving}
+use Rattle.journal.specs.declared.journal.Actor.{Actor}
+use Rattle.journal.specs.declared.journal.JournalEntry.{JournalEntry}
+use Rattle.journal.specs.declared.journal.JournalEntry.TheVariants.{Post, Draw, Lose, Local, Idle, Refused}
+use Rattle.journal.specs.declared.journal.Letter.{Letter}
+use Rattle.journal.specs.declared.journal.Local.{Local as LocalInput}
+use Rattle.journal.specs.declared.journal.Local.TheVariants as local
+use Rattle.journal.specs.declared.journal.Packet.{Packet}
+use Rattle.journal.specs.declared.journal.SaveResult.{SaveResult}
+use Rattle.journal.specs.declared.place.PacketPlace.{PacketPlace}
+use Rattle.journal.specs.declared.wire.Stop.{Stop}
+use Rattle.journal.specs.declared.wire.Stop.TheVariants.{OutOfMemory, JournalFull}
+use Rattle.journal.specs.Places.{IsFound}
+use Rattle.journal.specs.Pool.{past, pool}
+use Rattle.journal.specs.Turns.{posting}
+use Rattle.journal.specs.Stables.{Saving}
 use Rattle.vr_log.specs.declared.entry.LogFull.{LogFull}
 use Rattle.vr_log.specs.Members.{is_up}
 use Rattle.app_core.specs.Law.{AppLaw}
 use Rattle.group_controller.specs.State.{ControllerState}
 use Rattle.group_controller.specs.Turns.{state_of}
-use Rattle.rv_runs.specs.States.{Scene, Sealing}
-use Rattle.rv_runs.specs.Committed.{members_up, states_of}
-use Rattle.rv_runs.specs.Schedule.{Phase, Losing, Met, Move, Answer, Ends, IsPosted, IsEnd, closing_view, majority, quorum_of, next_drained, next_lost, next_move, next_suspicion, next_view, ClosesTo}
-use Rattle.rv_runs.specs.Schedule as schedule
-use Rattle.rv_world.specs.Debts.{Debt}
-use Rattle.rv_world.specs.World.{AreMore, AreTold, Holds, IsDebtor, Keeps, PairsStand, PostStops, Worlding, posts_of, results_in, scene_in}
-use Rattle.rv_world.proofs.Stables.{each_told_then, unsaved_told}
+use Rattle.run_spec.specs.States.{Scene, Sealing}
+use Rattle.run_spec.specs.Committed.{members_up, states_of}
+use Rattle.run_spec.specs.Schedule.{Phase, Losing, Met, Move, Answer, Ends, IsPosted, IsEnd, closing_view, majority, quorum_of, next_drained, next_lost, next_move, next_suspicion, next_view, ClosesTo}
+use Rattle.run_spec.specs.Schedule as schedule
+use Rattle.world.specs.Debts.{Debt}
+use Rattle.world.specs.World.{AreMore, AreTold, Holds, IsDebtor, Keeps, PairsStand, PostStops, Worlding, posts_of, results_in, scene_in}
+use Rattle.world.proofs.Stables.{each_told_then, unsaved_told}
 use Rattle.closing.specs.declared.closed.Came.{Came}
 use Rattle.closing.specs.declared.closed.Came.TheVariants as came
-use Rattle.rv_laws.specs.Laws.{IsSuspectedUpTo, SuspectsUpTo}
+use Rattle.run_laws.specs.Laws.{IsSuspectedUpTo, SuspectsUpTo}
 use Rattle.closing_laws.proofs.Start.Walking.{seven_at_most}
 use Rattle.closing.specs.Closing.{CameTo, ClosesIn, ClosingStops, Drained, EndsBy, HasClosed, IsCutAt, IsHaltedAt, is_over, LeadsTo, Rests, Stage, StandsAt, states_in, Suspects, up_in}
 use Rattle.closing.specs.Views.{views_of_an_attempt}

@@ -3,25 +3,25 @@ use Rattle.std.proofs.Common.{◌≡◌, ◌<◌, ℕ, Bool, true, false, List, 
 use Rattle.std.specs.Prelude.{nat_eq, None, OnOk, IfErr, Result, Ok, Err}
 use Rattle.std.specs.List.{AllByRecursion}
 use Rattle.std.proofs.lemmas.Bool.{eq-eqb, eqb-true}
-use Rattle.rv_base.specs.declared.journal.Actor.{Actor}
-use Rattle.rv_base.specs.declared.journal.Actor.TheVariants as actor
-use Rattle.rv_base.specs.declared.journal.JournalEntry.{JournalEntry}
-use Rattle.rv_base.specs.declared.journal.JournalEntry.TheVariants.{Draw, Lose, Local}
-use Rattle.rv_base.specs.declared.journal.Local.TheVariants as local
-use Rattle.rv_base.specs.declared.journal.Turn.TheVariants as turn
-use Rattle.rv_base.specs.declared.place.PacketPlace.{PacketPlace}
-use Rattle.rv_base.specs.declared.wire.Stop.{Stop}
-use Rattle.rv_base.specs.Actors.{same_actor, IsActor}
-use Rattle.rv_base.specs.Pool.{past, pool}
-use Rattle.rv_base.specs.Turns.{IsWithinLimits}
-use Rattle.rv_base.specs.Stables.{Saving}
+use Rattle.journal.specs.declared.journal.Actor.{Actor}
+use Rattle.journal.specs.declared.journal.Actor.TheVariants as actor
+use Rattle.journal.specs.declared.journal.JournalEntry.{JournalEntry}
+use Rattle.journal.specs.declared.journal.JournalEntry.TheVariants.{Draw, Lose, Local}
+use Rattle.journal.specs.declared.journal.Local.TheVariants as local
+use Rattle.journal.specs.declared.journal.Turn.TheVariants as turn
+use Rattle.journal.specs.declared.place.PacketPlace.{PacketPlace}
+use Rattle.journal.specs.declared.wire.Stop.{Stop}
+use Rattle.journal.specs.Actors.{same_actor, IsActor}
+use Rattle.journal.specs.Pool.{past, pool}
+use Rattle.journal.specs.Turns.{IsWithinLimits}
+use Rattle.journal.specs.Stables.{Saving}
 use Rattle.app_core.specs.Law.{AppLaw}
 use Rattle.group_controller.specs.Turns.{Controlling, state_of, Controls}
-use Rattle.rv_runs.specs.States.{Sealing}
-use Rattle.rv_runs.specs.Committed.{states_of}
-use Rattle.rv_runs.specs.Schedule.{Losing, Suspecting, Draining, IsMove, is_drawn}
-use Rattle.rv_world.specs.Refusals.{TurnStops}
-use Rattle.rv_world.specs.World.{Applies, Holds, Keeps, PairsStand, Worlding, scene_in}
+use Rattle.run_spec.specs.States.{Sealing}
+use Rattle.run_spec.specs.Committed.{states_of}
+use Rattle.run_spec.specs.Schedule.{Losing, Suspecting, Draining, IsMove, is_drawn}
+use Rattle.world.specs.Refusals.{TurnStops}
+use Rattle.world.specs.World.{Applies, Holds, Keeps, PairsStand, Worlding, scene_in}
 use Rattle.closing.specs.declared.closed.Came.{Came}
 use Rattle.closing_laws.specs.Quorum.{has}
 use Rattle.closing.specs.Closing.{CameAt, CameTo, came_of, ClosesIn, Drains, IsFirst, LeadsTo, Stage, StandsAt, Suspects, UpBy, up_in, work_left}

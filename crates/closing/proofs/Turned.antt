@@ -4,30 +4,30 @@ use Rattle.std.specs.Prelude.{nat_eq, reverse, slice_get, Option, Some, None, If
 use Rattle.std.specs.List.{range_with_len}
 use Rattle.std.proofs.lemmas.List.{reverse-append}
 use Rattle.std.proofs.lemmas.Bool.{eqb-true, eqb-false, eq-eqb}
-use Rattle.rv_base.specs.declared.journal.Actor.{Actor}
-use Rattle.rv_base.specs.declared.journal.Actor.TheVariants as actor
-use Rattle.rv_base.specs.declared.journal.JournalEntry.{JournalEntry}
-use Rattle.rv_base.specs.declared.journal.JournalEntry.TheVariants.{Post, Draw, Lose, Local, Idle, Refused}
-use Rattle.rv_base.specs.declared.journal.Letter.{Letter}
-use Rattle.rv_base.specs.declared.journal.SaveResult.{SaveResult}
-use Rattle.rv_base.specs.declared.journal.Turn.{Turn}
-use Rattle.rv_base.specs.Actors.{same_actor, actor_of, is_input, IsActor}
-use Rattle.rv_base.specs.Part.{part, drawn}
-use Rattle.rv_base.specs.Pool.{past}
-use Rattle.rv_base.specs.Turns.{entry_of, posting, turn_actor}
-use Rattle.rv_base.specs.Stables.{Saving}
+use Rattle.journal.specs.declared.journal.Actor.{Actor}
+use Rattle.journal.specs.declared.journal.Actor.TheVariants as actor
+use Rattle.journal.specs.declared.journal.JournalEntry.{JournalEntry}
+use Rattle.journal.specs.declared.journal.JournalEntry.TheVariants.{Post, Draw, Lose, Local, Idle, Refused}
+use Rattle.journal.specs.declared.journal.Letter.{Letter}
+use Rattle.journal.specs.declared.journal.SaveResult.{SaveResult}
+use Rattle.journal.specs.declared.journal.Turn.{Turn}
+use Rattle.journal.specs.Actors.{same_actor, actor_of, is_input, IsActor}
+use Rattle.journal.specs.Part.{part, drawn}
+use Rattle.journal.specs.Pool.{past}
+use Rattle.journal.specs.Turns.{entry_of, posting, turn_actor}
+use Rattle.journal.specs.Stables.{Saving}
 use Rattle.vr_log.specs.Members.{is_up}
 use Rattle.app_core.specs.Law.{AppLaw}
 use Rattle.group_controller.specs.State.{ControllerState}
 use Rattle.group_controller.specs.Turns.{Controlling, state_of, Controls}
-use Rattle.rv_runs.specs.States.{Scene, controller_at}
-use Rattle.rv_runs.specs.Legal.{results_of}
-use Rattle.rv_runs.specs.Committed.{controller_state, members_up}
-use Rattle.rv_runs.specs.Schedule.{Phase, Losing, IsMove, IsPosted, after_move, after_turn, next_move, ClosesTo}
-use Rattle.rv_world.specs.Debts.{Debt}
-use Rattle.rv_world.specs.World.{AreMore, AreTold, Applies, PairsStand, Worlding, posts_of, results_in, taken}
-use Rattle.rv_world.proofs.Growing.{more_then, no_more}
-use Rattle.rv_world.proofs.Places.{results_at}
+use Rattle.run_spec.specs.States.{Scene, controller_at}
+use Rattle.run_spec.specs.Legal.{results_of}
+use Rattle.run_spec.specs.Committed.{controller_state, members_up}
+use Rattle.run_spec.specs.Schedule.{Phase, Losing, IsMove, IsPosted, after_move, after_turn, next_move, ClosesTo}
+use Rattle.world.specs.Debts.{Debt}
+use Rattle.world.specs.World.{AreMore, AreTold, Applies, PairsStand, Worlding, posts_of, results_in, taken}
+use Rattle.world.proofs.Growing.{more_then, no_more}
+use Rattle.world.proofs.Places.{results_at}
 use Rattle.closing_laws.specs.Quorum.{has}
 use Rattle.closing.specs.Closing.{ClosesIn, up_in}
 use Rattle.closing.proofs.Lists.{members_same, members_less, member_there}

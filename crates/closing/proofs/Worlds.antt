@@ -3,26 +3,26 @@ use Rattle.std.proofs.Common.{◌≡◌, ◌≤◌, ◌<◌, ℕ, ◌+◌, true,
 use Rattle.std.specs.Prelude.{max, option_map, slice_get, Option, Some, None, IfSome}
 use Rattle.std.specs.List.{range_with_len}
 use Rattle.std.proofs.lemmas.Option.{slice_get_within, slice_get-map}
-use Rattle.rv_base.specs.declared.journal.Actor.{Actor}
-use Rattle.rv_base.specs.declared.journal.Actor.TheVariants as actor
-use Rattle.rv_base.specs.declared.journal.JournalEntry.{JournalEntry}
-use Rattle.rv_base.specs.declared.journal.SaveResult.{SaveResult}
-use Rattle.rv_base.specs.Actors.{actor_of, IsActor}
-use Rattle.rv_base.specs.Pool.{past}
+use Rattle.journal.specs.declared.journal.Actor.{Actor}
+use Rattle.journal.specs.declared.journal.Actor.TheVariants as actor
+use Rattle.journal.specs.declared.journal.JournalEntry.{JournalEntry}
+use Rattle.journal.specs.declared.journal.SaveResult.{SaveResult}
+use Rattle.journal.specs.Actors.{actor_of, IsActor}
+use Rattle.journal.specs.Pool.{past}
 use Rattle.group_controller.specs.State.{ControllerState, fresh}
 use Rattle.group_controller.specs.Turns.{Controlling, Controls, Stands, state_of, state_or}
 use Rattle.group_controller.specs.Acting.{Acting}
 use Rattle.vr_log.specs.Valid.{down_state}
 use Rattle.app_core.specs.Law.{AppLaw}
-use Rattle.rv_laws.specs.Laws.{IsSuspectedUpTo}
-use Rattle.rv_laws.proofs.Views.{views_up_to}
-use Rattle.rv_runs.specs.States.{IsFaithful, Scene, Sealing}
-use Rattle.rv_runs.specs.Legal.{IsLegalPast}
-use Rattle.rv_runs.specs.Committed.{controller_state, members_up, states_of}
-use Rattle.rv_runs.specs.Schedule.{IsPosted, bound_of, owed_of}
-use Rattle.rv_runs.proofs.Pasts.{from_some}
-use Rattle.rv_world.specs.World.{AreMore, Holds, HoldsAt, Worlding, debt_of, results_in, scene_in}
-use Rattle.rv_world.proofs.Growing.{same_at, no_more}
+use Rattle.run_laws.specs.Laws.{IsSuspectedUpTo}
+use Rattle.run_laws.proofs.Views.{views_up_to}
+use Rattle.run_spec.specs.States.{IsFaithful, Scene, Sealing}
+use Rattle.run_spec.specs.Legal.{IsLegalPast}
+use Rattle.run_spec.specs.Committed.{controller_state, members_up, states_of}
+use Rattle.run_spec.specs.Schedule.{IsPosted, bound_of, owed_of}
+use Rattle.run_spec.proofs.Pasts.{from_some}
+use Rattle.world.specs.World.{AreMore, Holds, HoldsAt, Worlding, debt_of, results_in, scene_in}
+use Rattle.world.proofs.Growing.{same_at, no_more}
 use Rattle.closing_laws.specs.Quorum.{has}
 use Rattle.closing.specs.Closing.{HaveViewsUpTo, states_in, up_in, member_in, bound_with}
 use Rattle.closing.proofs.Lists.{bound_limit, map_range, member_there, members_next, bound_next}

@@ -1,33 +1,33 @@
 -- How a closing goes on in a world, whatever becomes of later saves.
 use Rattle.std.specs.Prelude.{◌≡◌, ◌<◌, ◌≤◌, ℕ, ◌+◌, ◌-◌, ◌%◌, suc, max, Bool, true, false, not, nat_eq, List, [], ◌∷◌, ◌++◌, length, map, slice_get, Option, Some, None, Result, Ok, Err, if◌then◌else◌}
-use Rattle.rv_base.specs.declared.journal.Actor.{Actor}
-use Rattle.rv_base.specs.declared.journal.Actor.TheVariants as actor
-use Rattle.rv_base.specs.declared.journal.JournalEntry.{JournalEntry}
-use Rattle.rv_base.specs.declared.journal.Packet.{Packet}
-use Rattle.rv_base.specs.declared.journal.SaveResult.{SaveResult}
-use Rattle.rv_base.specs.declared.place.PacketPlace.{PacketPlace}
-use Rattle.rv_base.specs.declared.wire.Stop.{Stop}
-use Rattle.rv_base.specs.declared.wire.Stop.TheVariants.{OutOfMemory, JournalFull}
-use Rattle.rv_base.specs.Limits.{letters_limit}
-use Rattle.rv_base.specs.Places.{IsFound}
-use Rattle.rv_base.specs.Pool.{past, pool, letters_posted}
+use Rattle.journal.specs.declared.journal.Actor.{Actor}
+use Rattle.journal.specs.declared.journal.Actor.TheVariants as actor
+use Rattle.journal.specs.declared.journal.JournalEntry.{JournalEntry}
+use Rattle.journal.specs.declared.journal.Packet.{Packet}
+use Rattle.journal.specs.declared.journal.SaveResult.{SaveResult}
+use Rattle.journal.specs.declared.place.PacketPlace.{PacketPlace}
+use Rattle.journal.specs.declared.wire.Stop.{Stop}
+use Rattle.journal.specs.declared.wire.Stop.TheVariants.{OutOfMemory, JournalFull}
+use Rattle.journal.specs.Limits.{letters_limit}
+use Rattle.journal.specs.Places.{IsFound}
+use Rattle.journal.specs.Pool.{past, pool, letters_posted}
 use Rattle.vr_log.specs.declared.entry.Entry.{Entry}
 use Rattle.vr_log.specs.declared.entry.LogFull.{LogFull}
 use Rattle.vr_log.specs.Members.{is_up}
 use Rattle.app_core.specs.Law.{AppLaw}
 use Rattle.group_controller.specs.State.{ControllerState}
 use Rattle.group_controller.specs.Turns.{Controlling, state_of}
-use Rattle.rv_runs.specs.States.{Scene, Sealing}
-use Rattle.rv_runs.specs.Bound.{IsQuick, IsSharplyBounded}
-use Rattle.rv_runs.specs.Committed.{count_up, members_up}
-use Rattle.rv_runs.specs.Schedule.{Phase, Losing, Met, Move, Answer, majority, next_move, next_suspicion, next_drained, ClosesTo, Closes}
-use Rattle.rv_runs.specs.Schedule as schedule
-use Rattle.rv_laws.specs.Laws.{IsSuspectedUpTo}
+use Rattle.run_spec.specs.States.{Scene, Sealing}
+use Rattle.run_spec.specs.Bound.{IsQuick, IsSharplyBounded}
+use Rattle.run_spec.specs.Committed.{count_up, members_up}
+use Rattle.run_spec.specs.Schedule.{Phase, Losing, Met, Move, Answer, majority, next_move, next_suspicion, next_drained, ClosesTo, Closes}
+use Rattle.run_spec.specs.Schedule as schedule
+use Rattle.run_laws.specs.Laws.{IsSuspectedUpTo}
 use Rattle.closing_laws.specs.Ends.{HasRested}
 use Rattle.closing_laws.specs.Starts.{SavesSucceed}
 use Rattle.closing_laws.specs.Stops.{IsAtLimit}
-use Rattle.rv_world.specs.Refusals.{IsRefusal}
-use Rattle.rv_world.specs.World.{AreMore, Holds, IsStuck, Worlding, results_in, scene_in}
+use Rattle.world.specs.Refusals.{IsRefusal}
+use Rattle.world.specs.World.{AreMore, Holds, IsStuck, Worlding, results_in, scene_in}
 use Rattle.closing.specs.declared.closed.Came.{Came}
 use Rattle.closing.specs.declared.closed.Came.TheVariants as came
 use Rattle.closing.specs.declared.closed.Closed.{Closed}

@@ -1,9 +1,9 @@
 //! A whole closing.
 ghost use Rattle.std.specs.Prelude.{◌≡◌, ◌≤◌, ◌+◌, ◌%◌, ◌/◌, [], true, false, ℕ, List, None, length, OnOk, IfOk, IfErr};
-ghost use Rattle.rv_base.specs.Pool.{past, pool};
-ghost use Rattle.rv_runs.specs.Schedule.{Losing, closing_view, majority, quorum_of};
-ghost use Rattle.rv_world.specs.World.{ForEachScene, Holds, Keeps, PairsStand};
-ghost use Rattle.rv_laws.specs.Laws.{IsSuspectedUpTo};
+ghost use Rattle.journal.specs.Pool.{past, pool};
+ghost use Rattle.run_spec.specs.Schedule.{Losing, closing_view, majority, quorum_of};
+ghost use Rattle.world.specs.World.{ForEachScene, Holds, Keeps, PairsStand};
+ghost use Rattle.run_laws.specs.Laws.{IsSuspectedUpTo};
 ghost use Rattle.closing_laws.specs.Quorum.{has};
 ghost use Rattle.closing.specs.Closing.{AllSuspect, Attempts, ClosesBy, ClosesIn, ClosingStops, DrainsAll, HasEnded, HasMajority, RaisesViewsBy, Rests, StaysAt, UpBy, UpTo, up_in};
 ghost use Rattle.closing.specs.Views.{most_view_of_a_closing, most_view_of_a_script, views_of_an_attempt};
@@ -13,9 +13,9 @@ use crate::quorum::{closing_view, members_up};
 use crate::steps::{drain_first, is_over, lawful, lose_first, suspect_next};
 use app_core::App;
 use closing_quorum::quorum_of;
-use rv_base::{Stable, Stop};
-use rv_bodies::Body;
-use rv_world::World;
+use journal::{Stable, Stop};
+use players::Body;
+use world::World;
 use std::alloc::{AllocError, Global};
 
 /// Every packet that waits is lost, by number.

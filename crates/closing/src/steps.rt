@@ -1,12 +1,12 @@
 //! One turn of a closing.
 ghost use Rattle.std.specs.Prelude.{◌≡◌, ◌<◌, true, false, ℕ, List, None, OnOk, IfOk};
 ghost use Rattle.std.specs.List.{AllByRecursion};
-ghost use Rattle.rv_base.specs.Actors.{IsActor};
-ghost use Rattle.rv_base.specs.Pool.{past, pool};
+ghost use Rattle.journal.specs.Actors.{IsActor};
+ghost use Rattle.journal.specs.Pool.{past, pool};
 ghost use Rattle.group_controller.specs.Turns.{state_of};
-ghost use Rattle.rv_runs.specs.Schedule.{Losing, is_drawn};
-ghost use Rattle.rv_world.specs.World.{Holds, Keeps, PairsStand};
-ghost use Rattle.rv_laws.specs.Laws.{IsSuspectedUpTo};
+ghost use Rattle.run_spec.specs.Schedule.{Losing, is_drawn};
+ghost use Rattle.world.specs.World.{Holds, Keeps, PairsStand};
+ghost use Rattle.run_laws.specs.Laws.{IsSuspectedUpTo};
 ghost use Rattle.closing_laws.specs.Quorum.{has};
 ghost use Rattle.closing.specs.Closing.{HaveViewsUpTo, CameAt, came_of, ClosesIn, Drains, DrainsOne, HasLessLeft, IsFirst, is_over, NextSuspects, Rests, StaysAt, UpBy, up_in};
 
@@ -14,9 +14,9 @@ use crate::closed::Came;
 use app_core::App;
 use closing_quorum::has;
 use group_controller::Controller;
-use rv_base::{Actor, Local, PacketPlace, Stable, Stop, Turn};
-use rv_bodies::Body;
-use rv_world::{World, takes_part};
+use journal::{Actor, Local, PacketPlace, Stable, Stop, Turn};
+use players::Body;
+use world::{World, takes_part};
 
 /// What the laws of every run say of a world: no view is above the greatest that was suspected, and what waits goes to
 /// actors of the setup.

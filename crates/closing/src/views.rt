@@ -1,13 +1,13 @@
 //! Whether the views of a closing have room.
 ghost use Rattle.std.specs.Prelude.{◌↔◌, IsTrue};
-ghost use Rattle.rv_base.specs.Pool.{past};
-ghost use Rattle.rv_laws.specs.Laws.{EntrySuspectsUpTo, IsSuspectedUpTo};
+ghost use Rattle.journal.specs.Pool.{past};
+ghost use Rattle.run_laws.specs.Laws.{EntrySuspectsUpTo, IsSuspectedUpTo};
 ghost use Rattle.closing.specs.Views.{most_view_of_a_script};
 
 use app_core::App;
-use rv_base::{JournalEntry, Local};
-use rv_bodies::Body;
-use rv_world::World;
+use journal::{JournalEntry, Local};
+use players::Body;
+use world::World;
 
 /// The greatest view that a step of a script suspects.
 const MOST_VIEW_OF_A_SCRIPT: u32 = 4_000_000_000;

@@ -1,14 +1,14 @@
 -- How a closing ends.
 use Rattle.std.specs.Prelude.{◌≡◌, ◌≤◌, ℕ, List, ◌++◌, reverse}
 use Rattle.of_types.specs.Setups.{IsSetup}
-use Rattle.rv_base.specs.declared.journal.JournalEntry.{JournalEntry}
-use Rattle.rv_base.specs.declared.journal.SaveResult.{SaveResult}
-use Rattle.rv_base.specs.Turns.{IsWithinLimits}
-use Rattle.rv_runs.specs.States.{Scene, IsFaithful}
-use Rattle.rv_runs.specs.Legal.{IsLegalPast}
-use Rattle.rv_runs.specs.Committed.{decided, kept}
-use Rattle.rv_runs.specs.Laws.{IsClosed}
-use Rattle.rv_runs.specs.Schedule.{Closes, Done}
+use Rattle.journal.specs.declared.journal.JournalEntry.{JournalEntry}
+use Rattle.journal.specs.declared.journal.SaveResult.{SaveResult}
+use Rattle.journal.specs.Turns.{IsWithinLimits}
+use Rattle.run_spec.specs.States.{Scene, IsFaithful}
+use Rattle.run_spec.specs.Legal.{IsLegalPast}
+use Rattle.run_spec.specs.Committed.{decided, kept}
+use Rattle.run_spec.specs.Laws.{IsClosed}
+use Rattle.run_spec.specs.Schedule.{Closes, Done}
 use Rattle.dispatcher.specs.Ledger.{most_commands}
 use Rattle.app_core.specs.Chain.{given_by}
 

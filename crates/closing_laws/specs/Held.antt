@@ -1,10 +1,10 @@
 -- What a switch holds of its present life (Ravana, 4.1).
 use Rattle.std.specs.Prelude.{◌≡◌, ◌<◌, ℕ, List, length, drop}
 use Rattle.of_types.specs.Setups.{IsSetup}
-use Rattle.rv_base.specs.declared.journal.JournalEntry.{JournalEntry}
+use Rattle.journal.specs.declared.journal.JournalEntry.{JournalEntry}
 use Rattle.of_switch.specs.State.{events_in, life_of}
-use Rattle.rv_runs.specs.Committed.{switch_state}
-use Rattle.rv_runs.specs.States.{Scene}
+use Rattle.run_spec.specs.Committed.{switch_state}
+use Rattle.run_spec.specs.States.{Scene}
 
 -- each switch holds the events that it made in its present life, but for so many of the first as have left
 abbrev pub AreKept : {B : Type 0} → Scene B → List (JournalEntry B) → Type 0

@@ -19,9 +19,9 @@ use Rattle.of_switch.specs.State.{SwitchState, life_of}
 use Rattle.dispatcher.specs.Marks.{is_confirmed}
 use Rattle.group_controller.specs.State.{ControllerState, committed}
 use Rattle.group_controller.specs.Settling.{is_some_of, is_untold}
-use Rattle.rv_runs.specs.declared.messages.Message.{Message}
-use Rattle.rv_runs.specs.declared.messages.Message.TheVariants as message
-use Rattle.rv_runs.specs.Schedule.{is_drawn}
+use Rattle.run_spec.specs.declared.messages.Message.{Message}
+use Rattle.run_spec.specs.declared.messages.Message.TheVariants as message
+use Rattle.run_spec.specs.Schedule.{is_drawn}
 use Rattle.closing_laws.specs.Serving.{logged_of, sent_of}
 use Rattle.closing_laws.specs.Ways.{Sent}
 

@@ -1,14 +1,14 @@
 -- How quick a closing is.
 use Rattle.std.specs.Prelude.{◌≤◌, List, ◌++◌, reverse}
 use Rattle.of_types.specs.Setups.{IsSetup}
-use Rattle.rv_base.specs.declared.journal.JournalEntry.{JournalEntry}
-use Rattle.rv_base.specs.declared.journal.SaveResult.{SaveResult}
-use Rattle.rv_base.specs.Turns.{IsWithinLimits}
+use Rattle.journal.specs.declared.journal.JournalEntry.{JournalEntry}
+use Rattle.journal.specs.declared.journal.SaveResult.{SaveResult}
+use Rattle.journal.specs.Turns.{IsWithinLimits}
 use Rattle.dispatcher.specs.Ledger.{most_commands}
-use Rattle.rv_runs.specs.Bound.{IsQuick, IsSharplyBounded}
-use Rattle.rv_runs.specs.Legal.{IsPossible}
-use Rattle.rv_runs.specs.Schedule.{ClosesTo, Losing, Phase, IsPosted}
-use Rattle.rv_runs.specs.States.{Scene, IsFaithful}
+use Rattle.run_spec.specs.Bound.{IsQuick, IsSharplyBounded}
+use Rattle.run_spec.specs.Legal.{IsPossible}
+use Rattle.run_spec.specs.Schedule.{ClosesTo, Losing, Phase, IsPosted}
+use Rattle.run_spec.specs.States.{Scene, IsFaithful}
 use Rattle.app_core.specs.Chain.{given_by}
 use Rattle.closing_laws.specs.Starts.{SavesSucceed}
 

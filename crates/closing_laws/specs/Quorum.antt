@@ -2,13 +2,13 @@
 use Rattle.std.specs.Prelude.{◌≡◌, ◌≤◌, ◌<◌, ℕ, ◌/◌, ◌%◌, Bool, true, nat_eq, List, length}
 use Rattle.std.specs.List.{AllByRecursion, list_any}
 use Rattle.std.specs.List.Sorted.{IsStrictlyIncreasing}
-use Rattle.rv_base.specs.declared.journal.JournalEntry.{JournalEntry}
-use Rattle.rv_base.specs.declared.journal.SaveResult.{SaveResult}
+use Rattle.journal.specs.declared.journal.JournalEntry.{JournalEntry}
+use Rattle.journal.specs.declared.journal.SaveResult.{SaveResult}
 use Rattle.vr_log.specs.Members.{is_up}
 use Rattle.group_controller.specs.State.{ControllerState}
-use Rattle.rv_runs.specs.States.{Scene}
-use Rattle.rv_runs.specs.Committed.{states_of, members_up, count_up}
-use Rattle.rv_runs.specs.Schedule.{closing_view, quorum_of, majority}
+use Rattle.run_spec.specs.States.{Scene}
+use Rattle.run_spec.specs.Committed.{states_of, members_up, count_up}
+use Rattle.run_spec.specs.Schedule.{closing_view, quorum_of, majority}
 
 -- a number is among these
 abbrev pub has : List ℕ → ℕ → Bool

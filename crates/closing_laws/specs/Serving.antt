@@ -12,9 +12,9 @@ use Rattle.of_types.specs.declared.message.Spoken.TheVariants as spoken
 use Rattle.of_types.specs.declared.numbers.TheConstants.{MASTER}
 use Rattle.of_types.specs.declared.setup.Setup.{Setup}
 use Rattle.of_types.specs.Lives.{count_in, life_in, is_switch_up}
-use Rattle.rv_base.specs.declared.journal.Actor.TheVariants as actor
-use Rattle.rv_base.specs.declared.journal.Letter.{Letter}
-use Rattle.lists.specs.Lists.{IsIn}
+use Rattle.journal.specs.declared.journal.Actor.TheVariants as actor
+use Rattle.journal.specs.declared.journal.Letter.{Letter}
+use Rattle.list_facts.specs.Lists.{IsIn}
 use Rattle.vr_log.specs.declared.entry.Entry.{Entry}
 use Rattle.vr_log.specs.Log.{is_log, received, processed}
 use Rattle.vr_log.specs.Members.{leads, most_failures}
@@ -31,9 +31,9 @@ use Rattle.dispatcher.specs.Marks.{has_result, is_confirmed, settled_commands}
 use Rattle.group_controller.specs.declared.messages.ControllerSays.{ControllerSays}
 use Rattle.group_controller.specs.State.{ControllerState, committed}
 use Rattle.group_controller.specs.Settling.{is_settled, is_untold}
-use Rattle.rv_runs.specs.declared.messages.Message.{Message}
-use Rattle.rv_runs.specs.declared.messages.Message.TheVariants as message
-use Rattle.rv_runs.specs.States.{controller_message}
+use Rattle.run_spec.specs.declared.messages.Message.{Message}
+use Rattle.run_spec.specs.declared.messages.Message.TheVariants as message
+use Rattle.run_spec.specs.States.{controller_message}
 use Rattle.exactly_once.specs.Truths.{IsMade}
 use Rattle.closing_laws.specs.Following.{ArePrepares}
 use Rattle.closing_laws.specs.Ways.{told_to}

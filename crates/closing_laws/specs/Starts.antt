@@ -1,23 +1,23 @@
 -- How the view of a closing starts, told of its journal.
 use Rattle.std.specs.Prelude.{◌≡◌, ◌≤◌, ◌<◌, ℕ, ◌/◌, ◌%◌, true, false, nat_eq, List, [], ◌++◌, map, reverse, slice_index_or, Option, None}
 use Rattle.of_types.specs.Setups.{IsSetup}
-use Rattle.rv_base.specs.declared.journal.Actor.TheVariants as actor
-use Rattle.rv_base.specs.declared.journal.JournalEntry.{JournalEntry}
-use Rattle.rv_base.specs.declared.journal.SaveResult.{SaveResult}
-use Rattle.rv_base.specs.declared.journal.SaveResult.TheVariants.{Saved}
-use Rattle.rv_base.specs.Part.{part}
-use Rattle.rv_base.specs.Pool.{numbered, pool}
-use Rattle.rv_base.specs.Turns.{IsWithinLimits}
+use Rattle.journal.specs.declared.journal.Actor.TheVariants as actor
+use Rattle.journal.specs.declared.journal.JournalEntry.{JournalEntry}
+use Rattle.journal.specs.declared.journal.SaveResult.{SaveResult}
+use Rattle.journal.specs.declared.journal.SaveResult.TheVariants.{Saved}
+use Rattle.journal.specs.Part.{part}
+use Rattle.journal.specs.Pool.{numbered, pool}
+use Rattle.journal.specs.Turns.{IsWithinLimits}
 use Rattle.of_types.specs.declared.setup.Setup.{Setup}
 use Rattle.vr_log.specs.declared.state.VrState.{VrState}
 use Rattle.view_change.specs.Entering.{tells_start}
 use Rattle.group_controller.specs.State.{Work, fresh, stepped}
 use Rattle.group_controller.specs.Rules.{starting_view}
-use Rattle.rv_runs.specs.declared.messages.Unsealed.TheVariants as unsealed
-use Rattle.rv_runs.specs.States.{Scene, IsFaithful, content, controller_at, controller_message, sealed_letters}
-use Rattle.rv_runs.specs.Legal.{IsPossible, results_of}
-use Rattle.rv_runs.specs.Committed.{controller_state, switch_state, states_of, count_up}
-use Rattle.rv_runs.specs.Schedule.{Phase, Losing, Suspecting, Draining, Answer, ClosesTo, IsPosted, IsEnd, after_member, closing_view, count_turns, majority, next_move}
+use Rattle.run_spec.specs.declared.messages.Unsealed.TheVariants as unsealed
+use Rattle.run_spec.specs.States.{Scene, IsFaithful, content, controller_at, controller_message, sealed_letters}
+use Rattle.run_spec.specs.Legal.{IsPossible, results_of}
+use Rattle.run_spec.specs.Committed.{controller_state, switch_state, states_of, count_up}
+use Rattle.run_spec.specs.Schedule.{Phase, Losing, Suspecting, Draining, Answer, ClosesTo, IsPosted, IsEnd, after_member, closing_view, count_turns, majority, next_move}
 use Rattle.closing_laws.specs.Quorum.{has, members_that_close}
 use Rattle.closing_laws.specs.Views.{HasBest, IsCovered, in_view, lacks, log_of, started_with, tellers, turns_to_start}
 

@@ -3,17 +3,17 @@ use Rattle.std.specs.Prelude.{◌≡◌, ◌≤◌, ◌<◌, ℕ, ◌+◌, ◌*�
 use Rattle.std.specs.List.{range_with_len}
 use Rattle.of_types.specs.declared.message.Event.{Event}
 use Rattle.of_types.specs.Setups.{IsSetup}
-use Rattle.rv_base.specs.declared.journal.JournalEntry.{JournalEntry}
-use Rattle.rv_base.specs.declared.journal.SaveResult.{SaveResult}
-use Rattle.rv_runs.specs.States.{Scene, IsFaithful}
+use Rattle.journal.specs.declared.journal.JournalEntry.{JournalEntry}
+use Rattle.journal.specs.declared.journal.SaveResult.{SaveResult}
+use Rattle.run_spec.specs.States.{Scene, IsFaithful}
 use Rattle.vr_log.specs.declared.entry.Entry.{Entry}
 use Rattle.vr_log.specs.declared.entry.Entry.TheVariants.{Received, Processed}
 use Rattle.vr_log.specs.declared.entry.LogFull.{LogFull}
 use Rattle.vr_log.specs.Log.{entry_size, full_at, is_past_limits, log_bytes, log_entries}
 use Rattle.vr_log.specs.Members.{leads}
-use Rattle.rv_runs.specs.Legal.{IsPossible}
-use Rattle.rv_runs.specs.Committed.{controller_state, count_up, switch_state}
-use Rattle.rv_runs.specs.Schedule.{Closes, NoQuorum, Overfull, majority}
+use Rattle.run_spec.specs.Legal.{IsPossible}
+use Rattle.run_spec.specs.Committed.{controller_state, count_up, switch_state}
+use Rattle.run_spec.specs.Schedule.{Closes, NoQuorum, Overfull, majority}
 use Rattle.closing_laws.specs.Starts.{SavesSucceed}
 
 -- where a majority takes part as it begins, and each save in it succeeds, a closing finds a quorum

@@ -1,9 +1,9 @@
 -- What is on its way while a closing is drained, and the ways between two actors.
 use Rattle.std.specs.Prelude.{Bool, ◌&&◌, List, [], ◌∷◌, if◌then◌else◌}
-use Rattle.rv_base.specs.declared.journal.Actor.{Actor}
-use Rattle.rv_base.specs.declared.journal.Letter.{Letter}
-use Rattle.rv_base.specs.Actors.{same_actor}
-use Rattle.rv_runs.specs.declared.messages.Message.{Message}
+use Rattle.journal.specs.declared.journal.Actor.{Actor}
+use Rattle.journal.specs.declared.journal.Letter.{Letter}
+use Rattle.journal.specs.Actors.{same_actor}
+use Rattle.run_spec.specs.declared.messages.Message.{Message}
 
 -- a message on its way
 pub record Sent : Type 0 where

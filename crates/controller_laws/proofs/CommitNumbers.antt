@@ -4,8 +4,8 @@ use Rattle.std.specs.Prelude.{Option, Some, None}
 use Rattle.std.proofs.lemmas.Bool.{cond_both}
 use Rattle.std.proofs.lemmas.List.{length-take}
 use Rattle.of_types.specs.declared.setup.Setup.{Setup}
-use Rattle.rv_base.specs.declared.journal.Letter.{Letter}
-use Rattle.rv_base.specs.declared.journal.Local.TheVariants as local
+use Rattle.journal.specs.declared.journal.Letter.{Letter}
+use Rattle.journal.specs.declared.journal.Local.TheVariants as local
 use Rattle.vr_log.specs.declared.message.Filled.{Filled}
 use Rattle.vr_log.specs.declared.message.VrLetter.{VrLetter}
 use Rattle.vr_log.specs.declared.message.VrMessage.{VrMessage}
@@ -24,9 +24,9 @@ use Rattle.controller_laws.specs.MemberMoves as moves
 use Rattle.group_controller.specs.State.{ControllerState, Work, committed, to_member, to_members}
 use Rattle.controller_laws.specs.CommitNumbers.{StateCommits, FilledCommits, MessageCommits, SaysCommits, InputCommits, IsKnownCommit, Below, OfCollected, OfResponse, OfInput, WorkCommits}
 use Rattle.controller_laws.specs.Entries.{IsConsistent}
-use Rattle.lists.proofs.Elements.{in_append, in_map}
-use Rattle.lists.proofs.Prefixes.{prefix_length, prefix_trans}
-use Rattle.lists.specs.Lists.{IsIn, IsPrefix}
+use Rattle.list_facts.proofs.Elements.{in_append, in_map}
+use Rattle.list_facts.proofs.Prefixes.{prefix_length, prefix_trans}
+use Rattle.list_facts.specs.Lists.{IsIn, IsPrefix}
 use Rattle.controller_laws.specs.MemberMoves.{MemberMove, IsSaidByMember}
 use Rattle.controller_laws.specs.Moves.{Tells, member_input, IsSaid, Prepares, Asks, Commands, Acks, Clears, Echoes, Move, Steps, Says, Saves, Begins, Proposes, Results, Notes, Chain, Start, Then}
 use Rattle.controller_laws.specs.Turns.{beginning, IsReached}

@@ -15,9 +15,9 @@ use Rattle.of_types.specs.declared.message.Spoken.TheVariants as spoken
 use Rattle.of_types.specs.declared.numbers.TheConstants.{MASTER}
 use Rattle.of_types.specs.declared.setup.Setup.{Setup}
 use Rattle.of_types.specs.Lives.{last_life, life_in, has_ended}
-use Rattle.rv_base.specs.declared.journal.Letter.{Letter}
-use Rattle.rv_base.specs.declared.journal.Local.{Local}
-use Rattle.rv_base.specs.declared.journal.Local.TheVariants as local
+use Rattle.journal.specs.declared.journal.Letter.{Letter}
+use Rattle.journal.specs.declared.journal.Local.{Local}
+use Rattle.journal.specs.declared.journal.Local.TheVariants as local
 use Rattle.vr_log.specs.declared.entry.Entry.{Entry}
 use Rattle.vr_log.specs.declared.entry.Entry.TheVariants.{Received}
 use Rattle.vr_log.specs.declared.entry.LogFull.{LogFull}
@@ -40,8 +40,8 @@ use Rattle.group_controller.specs.Settling.{role_letter, command_letter, command
 use Rattle.group_controller.specs.Rules.{switches, has_started, after_step, unconfirmed, tick_letters, on_tick, on_wish, on_event, on_result, on_role_reply, on_hello, on_plain, on_extension, on_spoken, on_switch, on_restart, on_local, on_input, when_down, is_down, controller_work}
 use Rattle.vr_core.proofs.Lasting.{tick_same}
 use Rattle.std.proofs.lemmas.Bool.{cond_both, not-false}
-use Rattle.lists.proofs.Elements.{in_append, in_filter, in_flat_map, in_map}
-use Rattle.lists.specs.Lists.{IsIn}
+use Rattle.list_facts.proofs.Elements.{in_append, in_filter, in_flat_map, in_map}
+use Rattle.list_facts.specs.Lists.{IsIn}
 use Rattle.controller_laws.specs.Moves.{Tells, member_input, IsProposed, IsSaid, Asks, Commands, Acks, Clears, Echoes, Move, Steps, Says, Saves, Begins, Proposes, Results, Notes, Receives, Processes}
 use Rattle.controller_laws.proofs.MemberSteps.{step_keeps}
 

@@ -15,8 +15,8 @@ use Rattle.group_controller.specs.declared.messages.ControllerInput.{ControllerI
 use Rattle.group_controller.specs.State.{ControllerState, committed}
 use Rattle.group_controller.specs.Settling.{is_settled}
 use Rattle.group_controller.proofs.Finishing.{settled_follows}
-use Rattle.lists.proofs.Prefixes.{front_prefix}
-use Rattle.lists.specs.Lists.{IsIn}
+use Rattle.list_facts.proofs.Prefixes.{front_prefix}
+use Rattle.list_facts.specs.Lists.{IsIn}
 use Rattle.controller_laws.specs.Moves.{IsProposed, Receives, Processes}
 use Rattle.controller_laws.specs.Entries.{IsConsistent}
 use Rattle.controller_laws.specs.Events.{IsEndedBy}

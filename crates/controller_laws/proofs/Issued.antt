@@ -13,9 +13,9 @@ use Rattle.app_core.specs.Chain.{concat, chain_next, starting_chain, reactions_f
 use Rattle.app_core.specs.declared.issued.Issued.{Issued}
 use Rattle.app_core.specs.Issued.{count_issued, issue, issue_each, issue_all, issues, commands_of, orders_in, issued}
 use Rattle.app_core.proofs.Issuing.{concat-append, length-issues}
-use Rattle.lists.proofs.Places.{get_prefix}
-use Rattle.lists.proofs.Prefixes.{front_prefix, prefix_length}
-use Rattle.lists.specs.Lists.{IsIn, IsPrefix}
+use Rattle.list_facts.proofs.Places.{get_prefix}
+use Rattle.list_facts.proofs.Prefixes.{front_prefix, prefix_length}
+use Rattle.list_facts.specs.Lists.{IsIn, IsPrefix}
 
 -- a beginning of a list of lists
 pub concat_prefix : {A : Type 0} (xs ys : List (List A)) → IsPrefix xs ys → IsPrefix (concat xs) (concat ys)

@@ -3,7 +3,7 @@ use Rattle.std.proofs.Common.{◌≡◌, ℕ, ◌+◌, ◌%◌, true, List, leng
 use Rattle.std.proofs.lemmas.Bool.{eqb-true, and_parts}
 use Rattle.of_types.specs.declared.message.Order.{Order}
 use Rattle.of_types.specs.declared.setup.Setup.{Setup}
-use Rattle.rv_base.specs.declared.journal.Letter.{Letter}
+use Rattle.journal.specs.declared.journal.Letter.{Letter}
 use Rattle.vr_log.specs.declared.entry.Entry.{Entry}
 use Rattle.vr_log.specs.declared.message.VrMessage.TheVariants as message
 use Rattle.vr_log.specs.declared.state.VrState.{VrState}
@@ -20,7 +20,7 @@ use Rattle.controller_laws.specs.Moves as said_of
 use Rattle.controller_laws.specs.Letters as told
 use Rattle.controller_laws.specs.Moves.{IsSaid, Prepares, Asks, Commands, Acks, Clears, Echoes}
 use Rattle.controller_laws.specs.Letters.{Leads}
-use Rattle.lists.proofs.Elements.{in_filter}
+use Rattle.list_facts.proofs.Elements.{in_filter}
 use Rattle.controller_laws.proofs.Issued.{command_between, issued-take, count-orders}
 
 -- the test of one that leads

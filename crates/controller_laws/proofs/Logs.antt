@@ -12,8 +12,8 @@ use Rattle.vr_log.specs.Log.{received, processed, is_past_limits, may_be_receive
 use Rattle.two_stage_log.specs.Counts.{processed_of}
 use Rattle.vr_log.proofs.Logs.{received-append, follows-append, follows_front, no_earlier, none_after, number_is, IsLog_is, IsLog_push}
 use Rattle.of_types.proofs.Counts.{count_in-append}
-use Rattle.lists.proofs.Prefixes.{prefix_length, take_prefix}
-use Rattle.lists.specs.Lists.{IsIn, IsPrefix}
+use Rattle.list_facts.proofs.Prefixes.{prefix_length, take_prefix}
+use Rattle.list_facts.specs.Lists.{IsIn, IsPrefix}
 use Rattle.controller_laws.specs.Events.{is_event_of, IsEndedBy, IsNextOfLife}
 use Rattle.controller_laws.specs.Laws.{CountsLast, LogsProcessInOrder, LogsReceiveInOrder, LogsNumberByLife}
 use Rattle.controller_laws.proofs.Issued.{issued_prefix}

@@ -19,8 +19,8 @@ use Rattle.view_change.specs.Adopting.{adopted}
 use Rattle.vr_recovery.specs.Cases.{lacking}
 use Rattle.vr_recovery.specs.Recovering.{filled, newest, with_response}
 use Rattle.vr_core.specs.declared.input.VrInput.{VrInput}
-use Rattle.lists.proofs.Elements.{in_append}
-use Rattle.lists.specs.Lists.{IsIn}
+use Rattle.list_facts.proofs.Elements.{in_append}
+use Rattle.list_facts.specs.Lists.{IsIn}
 use Rattle.controller_laws.specs.Entries.{EachFrom, IsGoodBeside, StateHolds, FilledHolds, MessageHolds, MemberInputHolds, BoundRises, IsConsistent}
 use Rattle.controller_laws.specs.MemberMoves.{Brings, One, Several, Shows, Starting, Standing, MemberMove, Enters, Tallies, Collects, Stocks, Starts, Adopts, Recovers, Appends, Commits, Keeps, IsSaidByMember, AsksVote, SendsLog, TellsStart, Repeats, TellsCommit, Acknowledges, AsksLog, AsksAll, Answers, TellsLog, AsksFront, TellsFront}
 use Rattle.controller_laws.proofs.MemberLogs.{best_among, most_of_all}

@@ -20,9 +20,9 @@ use Rattle.view_change.specs.Adopting.{adopted}
 use Rattle.vr_core.specs.declared.input.VrInput.{VrInput}
 use Rattle.vr_log.proofs.Equal.{entries_equal}
 use Rattle.vr_log.proofs.Logs.{IsLog_is, IsLog_append}
-use Rattle.lists.proofs.Elements.{in_append}
-use Rattle.lists.proofs.Prefixes.{prefix_refl, take_prefixes, takes_prefix}
-use Rattle.lists.specs.Lists.{IsIn, IsPrefix}
+use Rattle.list_facts.proofs.Elements.{in_append}
+use Rattle.list_facts.proofs.Prefixes.{prefix_refl, take_prefixes, takes_prefix}
+use Rattle.list_facts.specs.Lists.{IsIn, IsPrefix}
 use Rattle.controller_laws.specs.Entries.{IsConsistent}
 use Rattle.controller_laws.specs.MemberMoves.{MemberMove, Enters, Tallies, Collects, Stocks, Starts, Adopts, Recovers, Appends, Commits, Keeps}
 

@@ -28,9 +28,9 @@ use Rattle.vr_core.specs.declared.input.VrInput.TheVariants as vr_input
 use Rattle.vr_core.specs.Step.{on_vr, vr_step}
 use Rattle.vr_normal.proofs.Agreed.{greatest_least, greatest_most}
 use Rattle.std.specs.Prelude.{filter}
-use Rattle.lists.proofs.Elements.{in_append, in_flat_map, in_map}
-use Rattle.lists.proofs.Places.{get_dropped}
-use Rattle.lists.specs.Lists.{IsIn}
+use Rattle.list_facts.proofs.Elements.{in_append, in_flat_map, in_map}
+use Rattle.list_facts.proofs.Places.{get_dropped}
+use Rattle.list_facts.specs.Lists.{IsIn}
 use Rattle.controller_laws.specs.Views.{TellsView, Suspected, Told}
 use Rattle.controller_laws.specs.MemberMoves.{One, Several, Shows, Starting, Standing, MemberMove, Enters, Tallies, Collects, Stocks, Starts, Adopts, Recovers, Appends, Commits, Keeps, IsSaidByMember, AsksVote, SendsLog, TellsStart, Repeats, TellsCommit, Acknowledges, AsksLog, AsksAll, Answers, TellsLog, AsksFront, TellsFront}
 

@@ -3,8 +3,8 @@ use Rattle.std.proofs.Common.{inl, inr, ◌⊎◌, ◌≡◌, ◌≤◌, ℕ, �
 use Rattle.std.specs.Prelude.{nat_eq, Option, if◌then◌else◌}
 use Rattle.std.proofs.lemmas.Bool.{cond_both, and_parts}
 use Rattle.of_types.specs.declared.setup.Setup.{Setup}
-use Rattle.rv_base.specs.declared.journal.Letter.{Letter}
-use Rattle.rv_base.specs.declared.journal.Local.TheVariants as local
+use Rattle.journal.specs.declared.journal.Letter.{Letter}
+use Rattle.journal.specs.declared.journal.Local.TheVariants as local
 use Rattle.vr_log.specs.declared.entry.Entry.{Entry}
 use Rattle.vr_log.specs.declared.message.VrLetter.{VrLetter}
 use Rattle.vr_log.specs.declared.message.VrMessage.TheVariants as message
@@ -20,9 +20,9 @@ use Rattle.group_controller.specs.State.{ControllerState, Work, committed, down,
 use Rattle.group_controller.specs.Settling.{with_proposal}
 use Rattle.group_controller.specs.Rules.{is_down, controller_work}
 use Rattle.vr_log.proofs.Logs.{IsLog_is, IsLog_push}
-use Rattle.lists.proofs.Elements.{in_append, in_map}
-use Rattle.lists.proofs.Prefixes.{prefix_refl, prefix_trans, take_prefixes}
-use Rattle.lists.specs.Lists.{IsIn, IsPrefix}
+use Rattle.list_facts.proofs.Elements.{in_append, in_map}
+use Rattle.list_facts.proofs.Prefixes.{prefix_refl, prefix_trans, take_prefixes}
+use Rattle.list_facts.specs.Lists.{IsIn, IsPrefix}
 use Rattle.controller_laws.specs.Moves.{member_input, IsSaid, Prepares, Move, Steps, Says, Saves, Begins, Proposes, Results, Notes, IsProposed, Chain, Start, Then}
 use Rattle.controller_laws.specs.Entries.{IsConsistent}
 use Rattle.controller_laws.specs.Turns.{beginning, IsSaidWithin, IsMarked, Stood, Came, IsReached}

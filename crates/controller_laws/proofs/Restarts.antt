@@ -3,7 +3,7 @@ use Rattle.std.proofs.Common.{inl, inr, ◌⊎◌, ◌≡◌, ℕ, ◌+◌, true
 use Rattle.std.specs.Prelude.{nat_lt}
 use Rattle.of_types.specs.declared.setup.Setup.{Setup}
 use Rattle.of_types.specs.Lives.{last_life}
-use Rattle.rv_base.specs.declared.journal.Local.TheVariants as local
+use Rattle.journal.specs.declared.journal.Local.TheVariants as local
 use Rattle.vr_log.specs.declared.message.VrLetter.{VrLetter}
 use Rattle.vr_log.specs.declared.message.VrMessage.TheVariants as message
 use Rattle.vr_log.specs.Members.{others}
@@ -14,7 +14,7 @@ use Rattle.group_controller.specs.declared.messages.ControllerInput.TheVariants 
 use Rattle.group_controller.specs.Rules.{on_restart, is_down, controller_work}
 use Rattle.group_controller.specs.State.{ControllerState, resting, to_member}
 use Rattle.controller_laws.specs.Laws.{IsRestarted}
-use Rattle.lists.proofs.Elements.{in_map}
+use Rattle.list_facts.proofs.Elements.{in_map}
 use Rattle.controller_laws.proofs.ControllerTurns.{down_keeps}
 
 module _ (kinds : List ℕ) (setup : Setup) (x : ControllerInput) (c : ControllerState) where

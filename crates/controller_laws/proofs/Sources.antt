@@ -10,7 +10,7 @@ use Rattle.group_controller.specs.declared.messages.ControllerInput.{ControllerI
 use Rattle.group_controller.specs.declared.messages.ControllerInput.TheVariants as controller_input
 use Rattle.group_controller.specs.State.{ControllerState, Work, committed}
 use Rattle.controller_laws.specs.Entries.{EachFrom, IsGoodBeside, StateHolds, FilledHolds, MessageHolds, IsConsistent, InputHolds, WorkHolds}
-use Rattle.lists.specs.Lists.{IsPrefix}
+use Rattle.list_facts.specs.Lists.{IsPrefix}
 use Rattle.controller_laws.specs.Moves.{Chain}
 use Rattle.controller_laws.specs.Sources.{IsHeld, InLog, InCollected, InResponse, InSupply, IsTold, InPrepare, InLogOf, InStart, InAnswer, InState, InSupplying, ComesFrom, FromState, FromSupply, FromInput, FromSupplying, FromProposal, StoodBeside, ByState, ByInput, ByProposal}
 use Rattle.controller_laws.specs.Turns.{beginning}

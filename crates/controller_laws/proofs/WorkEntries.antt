@@ -3,8 +3,8 @@
 use Rattle.std.proofs.Common.{inl, inr, ◌≡◌, ℕ, ◌+◌, List, [], ◌∷◌, ◌++◌, length, sym, ap, subst, ◌∙◌, arith}
 use Rattle.std.specs.Prelude.{nat_eq}
 use Rattle.of_types.specs.declared.setup.Setup.{Setup}
-use Rattle.rv_base.specs.declared.journal.Letter.{Letter}
-use Rattle.rv_base.specs.declared.journal.Local.TheVariants as local
+use Rattle.journal.specs.declared.journal.Letter.{Letter}
+use Rattle.journal.specs.declared.journal.Local.TheVariants as local
 use Rattle.vr_log.specs.declared.entry.Entry.{Entry}
 use Rattle.vr_log.specs.declared.message.VrLetter.{VrLetter}
 use Rattle.vr_log.specs.declared.message.VrMessage.TheVariants as message
@@ -16,9 +16,9 @@ use Rattle.group_controller.specs.declared.messages.ControllerSays.{ControllerSa
 use Rattle.group_controller.specs.State.{ControllerState, Work, committed, to_member, to_members}
 use Rattle.group_controller.specs.Settling.{with_proposal}
 use Rattle.controller_laws.specs.Moves as said_of
-use Rattle.lists.proofs.Elements.{in_append, in_map}
-use Rattle.lists.proofs.Prefixes.{prefix_trans}
-use Rattle.lists.specs.Lists.{IsIn, IsPrefix}
+use Rattle.list_facts.proofs.Elements.{in_append, in_map}
+use Rattle.list_facts.proofs.Prefixes.{prefix_trans}
+use Rattle.list_facts.specs.Lists.{IsIn, IsPrefix}
 use Rattle.controller_laws.specs.Moves.{member_input, IsSaid, Prepares, Asks, Commands, Acks, Clears, Echoes, Move, Steps, Says, Saves, Begins, Proposes, Results, Notes, IsProposed, Chain, Start, Then}
 use Rattle.controller_laws.specs.Entries.{EachFrom, IsGoodBeside, StateHolds, MemberInputHolds, BoundRises, IsConsistent, SaysHold, InputHolds, WorkHolds}
 use Rattle.controller_laws.specs.Turns.{beginning, IsReached, ProposalsHold}

@@ -6,7 +6,7 @@ use Rattle.of_types.specs.Lives.{count_in}
 use Rattle.vr_log.specs.declared.entry.Entry.{Entry}
 use Rattle.vr_log.specs.Log.{received}
 use Rattle.of_types.specs.Lives.{life_in}
-use Rattle.lists.specs.Lists.{IsIn}
+use Rattle.list_facts.specs.Lists.{IsIn}
 
 -- an event is of a life of a switch
 abbrev pub is_event_of : ℕ → ℕ → Event → Bool

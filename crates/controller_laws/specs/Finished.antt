@@ -5,7 +5,7 @@ use Rattle.vr_log.specs.Log.{received, processed}
 use Rattle.app_core.specs.declared.issued.Issued.{Issued}
 use Rattle.app_core.specs.Issued.{commands_of}
 use Rattle.group_controller.specs.State.{ControllerState, committed}
-use Rattle.lists.specs.Lists.{IsIn}
+use Rattle.list_facts.specs.Lists.{IsIn}
 use Rattle.controller_laws.specs.Events.{IsEndedBy}
 
 -- The first unprocessed event of what is committed is finished: it is the next one of the whole log, and of each life of

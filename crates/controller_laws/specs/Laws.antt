@@ -3,8 +3,8 @@ use Rattle.std.specs.Prelude.{◌≡◌, ◌<◌, ◌≤◌, ◌⊎◌, ℕ, ◌
 use Rattle.of_types.specs.declared.message.Event.{Event}
 use Rattle.of_types.specs.declared.setup.Setup.{Setup}
 use Rattle.of_types.specs.Lives.{count_in}
-use Rattle.rv_base.specs.declared.journal.Letter.{Letter}
-use Rattle.rv_base.specs.declared.journal.Local.TheVariants as local
+use Rattle.journal.specs.declared.journal.Letter.{Letter}
+use Rattle.journal.specs.declared.journal.Local.TheVariants as local
 use Rattle.vr_log.specs.declared.entry.Entry.{Entry}
 use Rattle.vr_log.specs.declared.entry.Entry.TheVariants.{Received, Processed}
 use Rattle.vr_log.specs.declared.message.VrMessage.TheVariants as message
@@ -21,7 +21,7 @@ use Rattle.group_controller.specs.Rules.{is_down, controller_work}
 use Rattle.group_controller.specs.Settling.{is_settled}
 use Rattle.group_controller.specs.State.{ControllerState, Work, committed, down, fresh, resting, to_member}
 use Rattle.controller_laws.specs.Letters as told
-use Rattle.lists.specs.Lists.{IsIn, IsPrefix}
+use Rattle.list_facts.specs.Lists.{IsIn, IsPrefix}
 use Rattle.controller_laws.specs.CommitNumbers.{IsKnownCommit, WorkCommits}
 use Rattle.controller_laws.specs.Entries.{IsConsistent, WorkHolds}
 use Rattle.controller_laws.specs.Events.{IsNextOfLife, is_event_of}

@@ -17,7 +17,7 @@ use Rattle.vr_recovery.specs.Cases.{lacking}
 use Rattle.vr_recovery.specs.Recovering.{filled, with_response}
 use Rattle.vr_core.specs.declared.input.VrInput.{VrInput}
 use Rattle.vr_core.specs.declared.input.VrInput.TheVariants as vr_input
-use Rattle.lists.specs.Lists.{IsIn}
+use Rattle.list_facts.specs.Lists.{IsIn}
 use Rattle.controller_laws.specs.Views.{TellsView}
 
 -- entries that an input brings behind a log, beside a commit number

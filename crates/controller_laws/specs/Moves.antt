@@ -6,8 +6,8 @@ use Rattle.of_types.specs.declared.message.OfMessage.TheVariants as plain
 use Rattle.of_types.specs.declared.message.Outcome.{Outcome}
 use Rattle.of_types.specs.declared.message.Spoken.TheVariants as spoken
 use Rattle.of_types.specs.declared.setup.Setup.{Setup}
-use Rattle.rv_base.specs.declared.journal.Letter.{Letter}
-use Rattle.rv_base.specs.declared.journal.Local.TheVariants as local
+use Rattle.journal.specs.declared.journal.Letter.{Letter}
+use Rattle.journal.specs.declared.journal.Local.TheVariants as local
 use Rattle.vr_log.specs.declared.entry.Entry.{Entry}
 use Rattle.vr_log.specs.declared.entry.Entry.TheVariants.{Received, Processed}
 use Rattle.vr_log.specs.declared.entry.LogFull.{LogFull}
@@ -27,7 +27,7 @@ use Rattle.group_controller.specs.declared.messages.ControllerInput.TheVariants 
 use Rattle.group_controller.specs.declared.messages.ControllerSays.{ControllerSays}
 use Rattle.group_controller.specs.State.{ControllerState, Work, committed, posting, leaving, to_switch, to_member}
 use Rattle.group_controller.specs.Settling.{role_letter, command_letter, ack_letter, clear_letter, with_proposal, is_settled}
-use Rattle.lists.specs.Lists.{IsIn}
+use Rattle.list_facts.specs.Lists.{IsIn}
 use Rattle.controller_laws.specs.MemberMoves.{MemberMove, IsSaidByMember}
 
 -- what the member of a controller takes

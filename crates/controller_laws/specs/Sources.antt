@@ -12,7 +12,7 @@ use Rattle.vr_log.specs.declared.state.VrState.{VrState}
 use Rattle.group_controller.specs.declared.messages.ControllerInput.{ControllerInput}
 use Rattle.group_controller.specs.declared.messages.ControllerInput.TheVariants as controller_input
 use Rattle.group_controller.specs.State.{ControllerState, Work, committed}
-use Rattle.lists.specs.Lists.{IsIn, IsPrefix}
+use Rattle.list_facts.specs.Lists.{IsIn, IsPrefix}
 use Rattle.controller_laws.specs.Moves.{IsProposed}
 use Rattle.controller_laws.specs.Turns.{IsReached}
 

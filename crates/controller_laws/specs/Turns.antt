@@ -4,13 +4,13 @@ use Rattle.of_types.specs.declared.message.Extension.TheVariants as extension
 use Rattle.of_types.specs.declared.message.Outcome.{Outcome}
 use Rattle.of_types.specs.declared.message.Spoken.TheVariants as spoken
 use Rattle.of_types.specs.declared.setup.Setup.{Setup}
-use Rattle.rv_base.specs.declared.journal.Letter.{Letter}
+use Rattle.journal.specs.declared.journal.Letter.{Letter}
 use Rattle.vr_log.specs.declared.entry.Entry.{Entry}
 use Rattle.group_controller.specs.declared.messages.ControllerInput.{ControllerInput}
 use Rattle.group_controller.specs.declared.messages.ControllerInput.TheVariants as controller_input
 use Rattle.group_controller.specs.declared.messages.ControllerSays.{ControllerSays}
 use Rattle.group_controller.specs.State.{ControllerState, Work, committed, with_no_met_limit, resting}
-use Rattle.lists.specs.Lists.{IsIn, IsPrefix}
+use Rattle.list_facts.specs.Lists.{IsIn, IsPrefix}
 use Rattle.controller_laws.specs.Entries.{IsGoodBeside, StateHolds, IsConsistent}
 use Rattle.controller_laws.specs.Moves.{IsSaid, IsProposed, Chain}
 

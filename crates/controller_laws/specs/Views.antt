@@ -10,8 +10,8 @@ use Rattle.vr_core.specs.declared.input.VrInput.TheVariants as vr_input
 use Rattle.group_controller.specs.declared.messages.ControllerInput.{ControllerInput}
 use Rattle.group_controller.specs.declared.messages.ControllerInput.TheVariants as controller_input
 use Rattle.group_controller.specs.State.{ControllerState}
-use Rattle.rv_base.specs.declared.journal.Local.TheVariants as local
-use Rattle.lists.specs.Lists.{IsIn}
+use Rattle.journal.specs.declared.journal.Local.TheVariants as local
+use Rattle.list_facts.specs.Lists.{IsIn}
 
 -- the view that a message tells
 abbrev pub view_of : VrMessage → ℕ

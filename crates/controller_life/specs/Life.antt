@@ -1,7 +1,7 @@
 -- What ends the life of a controller, and what begins its next one (VR Revisited, 4.3).
 use Rattle.std.specs.Prelude.{Bool, true, false}
-use Rattle.rv_base.specs.declared.journal.Local.{Local}
-use Rattle.rv_base.specs.declared.journal.Local.TheVariants.{Crash, Restart}
+use Rattle.journal.specs.declared.journal.Local.{Local}
+use Rattle.journal.specs.declared.journal.Local.TheVariants.{Crash, Restart}
 
 -- a crash ends it: all that is not stable is lost
 abbrev pub is_crash : Local → Bool

@@ -4,7 +4,7 @@
 ghost use Rattle.std.specs.Prelude.{◌≡◌};
 ghost use Rattle.controller_life.specs.Life as life;
 
-use rv_base::Local;
+use journal::Local;
 
 /// Whether a controller falls by a local input, and knows what is stable alone from then on.
 pub fn is_crash(input: &Local) -> bool

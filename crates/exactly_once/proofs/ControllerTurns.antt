@@ -12,10 +12,10 @@ use Rattle.of_types.specs.declared.message.Spoken.TheVariants as spoken
 use Rattle.of_types.specs.declared.setup.Setup.{Setup}
 use Rattle.of_types.specs.Setups.{IsSetup}
 use Rattle.of_types.specs.Lives.{life_after, life_in, has_ended}
-use Rattle.rv_base.specs.declared.journal.Letter.{Letter}
-use Rattle.lists.proofs.Places.{get_prefix}
-use Rattle.lists.proofs.Prefixes.{front_prefix, prefix_filter, prefix_length, prefix_trans}
-use Rattle.lists.specs.Lists.{IsIn, IsPrefix}
+use Rattle.journal.specs.declared.journal.Letter.{Letter}
+use Rattle.list_facts.proofs.Places.{get_prefix}
+use Rattle.list_facts.proofs.Prefixes.{front_prefix, prefix_filter, prefix_length, prefix_trans}
+use Rattle.list_facts.specs.Lists.{IsIn, IsPrefix}
 use Rattle.vr_log.specs.declared.entry.Entry.{Entry}
 use Rattle.vr_log.specs.declared.entry.Entry.TheVariants.{Received, Processed}
 use Rattle.vr_log.specs.Log.{received, processed}

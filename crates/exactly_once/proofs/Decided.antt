@@ -3,20 +3,20 @@ use Rattle.std.proofs.Common.{◌≡◌, ◌≤◌, ◌<◌, ◌⊎◌, ℕ, ◌
 use Rattle.std.specs.Prelude.{nat_lt}
 use Rattle.std.specs.List.{range_with_len}
 use Rattle.std.proofs.lemmas.Bool.{ltb-true, ltb-false, cond_both}
-use Rattle.rv_base.specs.declared.journal.JournalEntry.{JournalEntry}
-use Rattle.rv_base.specs.declared.journal.SaveResult.{SaveResult}
-use Rattle.lists.proofs.Elements.{in_map}
-use Rattle.lists.proofs.Prefixes.{prefix_refl, prefix_trans}
-use Rattle.lists.specs.Lists.{IsIn, IsPrefix}
+use Rattle.journal.specs.declared.journal.JournalEntry.{JournalEntry}
+use Rattle.journal.specs.declared.journal.SaveResult.{SaveResult}
+use Rattle.list_facts.proofs.Elements.{in_map}
+use Rattle.list_facts.proofs.Prefixes.{prefix_refl, prefix_trans}
+use Rattle.list_facts.specs.Lists.{IsIn, IsPrefix}
 use Rattle.vr_log.specs.declared.entry.Entry.{Entry}
-use Rattle.rv_runs.specs.States.{Scene}
-use Rattle.rv_runs.specs.Legal.{IsPossible}
-use Rattle.rv_runs.specs.Committed.{kept, longest, decided}
-use Rattle.rv_runs.specs.Laws.{IsLasting}
-use Rattle.lists.specs.Lists.{AreOne}
+use Rattle.run_spec.specs.States.{Scene}
+use Rattle.run_spec.specs.Legal.{IsPossible}
+use Rattle.run_spec.specs.Committed.{kept, longest, decided}
+use Rattle.run_spec.specs.Laws.{IsLasting}
+use Rattle.list_facts.specs.Lists.{AreOne}
 use Rattle.exactly_once.specs.Premises.{AreControllers}
 use Rattle.exactly_once.specs.Invariant.{HoldsOfRun}
-use Rattle.rv_runs.proofs.Pasts.{possible_before, possible_drop}
+use Rattle.run_spec.proofs.Pasts.{possible_before, possible_drop}
 
 -- a prefix that is no shorter is the whole
 no_more : {A : Type 0} (xs ys : List A) → IsPrefix xs ys → length ys ≤ length xs → IsPrefix ys xs

@@ -4,13 +4,13 @@ use Rattle.std.specs.Prelude.{slice_get, Some, if◌then◌else◌}
 use Rattle.std.proofs.lemmas.Bool.{cases_Bool}
 use Rattle.of_types.specs.declared.message.Event.{Event}
 use Rattle.of_types.specs.declared.message.Executed.{Executed}
-use Rattle.rv_base.specs.declared.journal.Actor.TheVariants as actor
-use Rattle.rv_base.specs.declared.journal.JournalEntry.{JournalEntry}
-use Rattle.rv_base.specs.declared.journal.SaveResult.{SaveResult}
-use Rattle.rv_base.specs.Part.{part}
-use Rattle.lists.proofs.Places.{get_prefix, no_split, none_at}
-use Rattle.lists.proofs.Prefixes.{front_prefix, prefix_by_places, prefix_filter, prefix_length, prefix_trans}
-use Rattle.lists.specs.Lists.{IsIn, IsPrefix}
+use Rattle.journal.specs.declared.journal.Actor.TheVariants as actor
+use Rattle.journal.specs.declared.journal.JournalEntry.{JournalEntry}
+use Rattle.journal.specs.declared.journal.SaveResult.{SaveResult}
+use Rattle.journal.specs.Part.{part}
+use Rattle.list_facts.proofs.Places.{get_prefix, no_split, none_at}
+use Rattle.list_facts.proofs.Prefixes.{front_prefix, prefix_by_places, prefix_filter, prefix_length, prefix_trans}
+use Rattle.list_facts.specs.Lists.{IsIn, IsPrefix}
 use Rattle.vr_log.specs.declared.entry.Entry.{Entry}
 use Rattle.vr_log.specs.declared.entry.Entry.TheVariants.{Received, Processed}
 use Rattle.vr_log.specs.Log.{received, processed}
@@ -18,20 +18,20 @@ use Rattle.vr_log.specs.Members.{is_up}
 use Rattle.app_core.specs.Issued.{issued}
 use Rattle.group_controller.specs.State.{committed}
 use Rattle.of_switch.specs.State.{executed_in, events_in}
-use Rattle.rv_runs.specs.States.{Scene, switch_at}
-use Rattle.rv_runs.specs.Legal.{IsPossible}
-use Rattle.rv_runs.specs.Committed.{controller_state, switch_state, kept, decided}
-use Rattle.rv_runs.specs.Laws.{IsExactlyOnce}
+use Rattle.run_spec.specs.States.{Scene, switch_at}
+use Rattle.run_spec.specs.Legal.{IsPossible}
+use Rattle.run_spec.specs.Committed.{controller_state, switch_state, kept, decided}
+use Rattle.run_spec.specs.Laws.{IsExactlyOnce}
 use Rattle.exactly_once.specs.Facts.{Later, firm, facts_of, events_of, executed_of}
 use Rattle.exactly_once.specs.Truths.{IsGenuine, IsDoneThrough, IsTrueEntry}
-use Rattle.rv_runs.specs.States.{IsFaithful}
+use Rattle.run_spec.specs.States.{IsFaithful}
 use Rattle.exactly_once.specs.Premises.{IsValidLog, AreControllers}
 use Rattle.exactly_once.specs.Invariant.{IsSoundAt, Logged, HoldsOfRun}
 use Rattle.exactly_once.proofs.Growing.{entry_more}
 use Rattle.exactly_once.proofs.ControllerTurns.{received_at}
 use Rattle.exactly_once.proofs.LogOrder.{ordered_events, rising, made_in, over_has_ended, get_map, numbers_are, processed_among}
 use Rattle.exactly_once.proofs.Decided.{decided_none, chosen, grows, front, trusted}
-use Rattle.rv_runs.proofs.Pasts.{possible_before}
+use Rattle.run_spec.proofs.Pasts.{possible_before}
 use Rattle.exactly_once.proofs.Journals.{firm_events, firm_executed, later, all_holds}
 
 -- what stands where two lists meet, and before

@@ -6,30 +6,30 @@ use Rattle.std.proofs.lemmas.List.{drop_all}
 use Rattle.of_types.specs.declared.message.Executed.{Executed}
 use Rattle.role_fence.specs.Fence.{may_execute}
 use Rattle.of_types.specs.declared.setup.Setup.{Setup}
-use Rattle.rv_base.specs.declared.journal.Actor.{Actor}
-use Rattle.rv_base.specs.declared.journal.Actor.TheVariants as actor
-use Rattle.rv_base.specs.declared.journal.JournalEntry.{JournalEntry}
-use Rattle.rv_base.specs.declared.journal.JournalEntry.TheVariants.{Post, Draw, Lose, Local, Idle, Refused}
-use Rattle.rv_base.specs.declared.journal.Packet.{Packet}
-use Rattle.rv_base.specs.declared.journal.SaveResult.{SaveResult}
-use Rattle.rv_base.specs.Actors.{same_actor, actor_of}
-use Rattle.rv_base.specs.Part.{part, drawn}
+use Rattle.journal.specs.declared.journal.Actor.{Actor}
+use Rattle.journal.specs.declared.journal.Actor.TheVariants as actor
+use Rattle.journal.specs.declared.journal.JournalEntry.{JournalEntry}
+use Rattle.journal.specs.declared.journal.JournalEntry.TheVariants.{Post, Draw, Lose, Local, Idle, Refused}
+use Rattle.journal.specs.declared.journal.Packet.{Packet}
+use Rattle.journal.specs.declared.journal.SaveResult.{SaveResult}
+use Rattle.journal.specs.Actors.{same_actor, actor_of}
+use Rattle.journal.specs.Part.{part, drawn}
 use Rattle.of_switch.specs.declared.says.SwitchInput.{SwitchInput}
 use Rattle.of_switch.specs.declared.says.SwitchInput.TheVariants as switch_input
 use Rattle.of_switch.specs.State.{SwitchState}
 use Rattle.of_switch.specs.Rules.{switch_turn}
-use Rattle.rv_runs.specs.declared.messages.Message.TheVariants as message
-use Rattle.rv_runs.specs.declared.messages.Unsealed.{Unsealed}
-use Rattle.rv_runs.specs.declared.messages.Unsealed.TheVariants as unsealed
-use Rattle.rv_runs.specs.States.{Scene, SwitchAt, switch_at, switch_step, switch_hears, content}
-use Rattle.rv_runs.specs.Legal.{IsPossible}
-use Rattle.rv_runs.specs.Laws.{Heard, Asked, asked_step, master_asked, masters_asked, IsFenced, IsFencedEntry, IsOfMaster}
+use Rattle.run_spec.specs.declared.messages.Message.TheVariants as message
+use Rattle.run_spec.specs.declared.messages.Unsealed.{Unsealed}
+use Rattle.run_spec.specs.declared.messages.Unsealed.TheVariants as unsealed
+use Rattle.run_spec.specs.States.{Scene, SwitchAt, switch_at, switch_step, switch_hears, content}
+use Rattle.run_spec.specs.Legal.{IsPossible}
+use Rattle.run_spec.specs.Laws.{Heard, Asked, asked_step, master_asked, masters_asked, IsFenced, IsFencedEntry, IsOfMaster}
 use Rattle.exactly_once.specs.Facts.{PastFacts}
-use Rattle.rv_runs.specs.Inputs.{IsHeardAt, By_draw}
-use Rattle.rv_runs.proofs.Entries.{Mine, Another, switch_after}
+use Rattle.run_spec.specs.Inputs.{IsHeardAt, By_draw}
+use Rattle.run_spec.proofs.Entries.{Mine, Another, switch_after}
 use Rattle.exactly_once.specs.Invariant.{IsHeardBySwitch}
 use Rattle.exactly_once.proofs.Generations.{Unasked, IsFenced as Fenced, life_stays, may_pass, no_fewer, passes_greatest, told_turn, frame_turn, local_turn}
-use Rattle.rv_runs.proofs.Pasts.{possible_before}
+use Rattle.run_spec.proofs.Pasts.{possible_before}
 
 -- the fence of a switch and its life now, and before what may be its open input; no fewer commands are carried out now
 pub record FencesAt (controllers : ℕ) (asked : Asked) (w : SwitchAt) : Type 0 where

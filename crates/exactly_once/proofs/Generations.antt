@@ -16,8 +16,8 @@ use Rattle.of_types.specs.declared.message.Spoken.TheVariants as spoken
 use Rattle.of_types.specs.declared.numbers.TheConstants.{MASTER}
 use Rattle.of_types.specs.declared.setup.Setup.{Setup}
 use Rattle.of_types.specs.Lives.{last_life, switch_up}
-use Rattle.rv_base.specs.declared.journal.Local.{Local}
-use Rattle.rv_base.specs.declared.journal.Local.TheVariants as local
+use Rattle.journal.specs.declared.journal.Local.{Local}
+use Rattle.journal.specs.declared.journal.Local.TheVariants as local
 use Rattle.role_fence.specs.Fence.{Fence, is_some_of, is_stale, may_execute, as_master}
 use Rattle.of_switch.specs.declared.says.SwitchInput.{SwitchInput}
 use Rattle.of_switch.specs.declared.says.SwitchInput.TheVariants as switch_input
@@ -25,9 +25,9 @@ use Rattle.of_switch.specs.State.{SwitchState, SwitchTurn, quiet, posts, then_tu
 use Rattle.of_switch.specs.Events.{raised, next_life, tells_ports, on_restart}
 use Rattle.of_switch.specs.Rules.{switch_turn}
 use Rattle.exactly_once.proofs.SwitchMoves.{Move, Raises, Says, Notes, Changes, Ages, Clears, Executes, Masters, Fences, Restarts, fenced, turn_keeps}
-use Rattle.rv_runs.specs.declared.messages.Message.TheVariants as message
-use Rattle.rv_runs.specs.declared.messages.Unsealed.TheVariants as unsealed
-use Rattle.rv_runs.specs.Laws.{master_asked, IsGreatest, Heard, heard_local}
+use Rattle.run_spec.specs.declared.messages.Message.TheVariants as message
+use Rattle.run_spec.specs.declared.messages.Unsealed.TheVariants as unsealed
+use Rattle.run_spec.specs.Laws.{master_asked, IsGreatest, Heard, heard_local}
 use Rattle.exactly_once.specs.Facts.{PastFacts}
 use Rattle.exactly_once.specs.Truths.{MayTell}
 

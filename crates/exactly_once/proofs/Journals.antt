@@ -2,22 +2,22 @@
 -- logs it is asked that they agree with what is decided, and that this lasts.
 use Rattle.std.proofs.Common.{◌≡◌, ◌≢◌, ◌<◌, ℕ, Bool, true, false, List, [], ◌∷◌, length, drop, zero, suc, refl, sym, ◌∙◌, ap, subst, inl, inr, arith}
 use Rattle.std.specs.Prelude.{Option, Some, if◌then◌else◌}
-use Rattle.rv_base.specs.Orderly.{IsOrderly}
+use Rattle.journal.specs.Orderly.{IsOrderly}
 use Rattle.of_types.specs.declared.message.Event.{Event}
 use Rattle.of_types.specs.declared.message.Executed.{Executed}
-use Rattle.rv_base.specs.declared.journal.Actor.{Actor}
-use Rattle.rv_base.specs.declared.journal.Actor.TheVariants as actor
-use Rattle.rv_base.specs.declared.journal.JournalEntry.{JournalEntry}
-use Rattle.rv_base.specs.declared.journal.JournalEntry.TheVariants.{Post, Draw, Refused}
-use Rattle.rv_base.specs.declared.journal.Letter.{Letter}
-use Rattle.rv_base.specs.declared.journal.Packet.{Packet}
-use Rattle.rv_base.specs.declared.journal.SaveResult.{SaveResult}
-use Rattle.rv_base.specs.Actors.{same_actor, actor_of, IsActor}
-use Rattle.rv_base.specs.Part.{part, drawn}
-use Rattle.rv_base.specs.Pool.{pool}
-use Rattle.lists.proofs.Places.{get_zero, none_at}
-use Rattle.lists.proofs.Prefixes.{prefix_is, prefix_refl}
-use Rattle.lists.specs.Lists.{IsIn, IsPrefix}
+use Rattle.journal.specs.declared.journal.Actor.{Actor}
+use Rattle.journal.specs.declared.journal.Actor.TheVariants as actor
+use Rattle.journal.specs.declared.journal.JournalEntry.{JournalEntry}
+use Rattle.journal.specs.declared.journal.JournalEntry.TheVariants.{Post, Draw, Refused}
+use Rattle.journal.specs.declared.journal.Letter.{Letter}
+use Rattle.journal.specs.declared.journal.Packet.{Packet}
+use Rattle.journal.specs.declared.journal.SaveResult.{SaveResult}
+use Rattle.journal.specs.Actors.{same_actor, actor_of, IsActor}
+use Rattle.journal.specs.Part.{part, drawn}
+use Rattle.journal.specs.Pool.{pool}
+use Rattle.list_facts.proofs.Places.{get_zero, none_at}
+use Rattle.list_facts.proofs.Prefixes.{prefix_is, prefix_refl}
+use Rattle.list_facts.specs.Lists.{IsIn, IsPrefix}
 use Rattle.of_switch.specs.declared.says.SwitchInput.{SwitchInput}
 use Rattle.of_switch.specs.State.{SwitchState, starting_switch}
 use Rattle.of_switch.specs.Rules.{switch_turn}
@@ -28,15 +28,15 @@ use Rattle.vr_log.specs.declared.entry.Entry.TheVariants.{Processed}
 use Rattle.vr_log.specs.Members.{is_up}
 use Rattle.group_controller.specs.State.{ControllerState, starting_controller, committed, down}
 use Rattle.group_controller.specs.Rules.{controller_work}
-use Rattle.rv_runs.specs.States.{Scene, SwitchAt, ControllerAt, switch_at, switch_step, controller_at, sealed_letters, switch_message, controller_message, content}
-use Rattle.rv_runs.specs.Legal.{Fits, AreTyped, IsTurn, IsSoundSwitch, IsSoundController, EntryFits, IsPossible, results_of}
-use Rattle.rv_runs.proofs.Pasts.{possible_before, from_some, self_switch, self_controller, legal_finds, turn_fresh}
-use Rattle.rv_runs.specs.Committed.{controller_state, kept_of, kept, decided}
+use Rattle.run_spec.specs.States.{Scene, SwitchAt, ControllerAt, switch_at, switch_step, controller_at, sealed_letters, switch_message, controller_message, content}
+use Rattle.run_spec.specs.Legal.{Fits, AreTyped, IsTurn, IsSoundSwitch, IsSoundController, EntryFits, IsPossible, results_of}
+use Rattle.run_spec.proofs.Pasts.{possible_before, from_some, self_switch, self_controller, legal_finds, turn_fresh}
+use Rattle.run_spec.specs.Committed.{controller_state, kept_of, kept, decided}
 use Rattle.exactly_once.specs.Facts.{PastFacts, Later, firm, facts_of}
-use Rattle.rv_runs.specs.Inputs.{IsHeardAt, By_draw, By_local}
-use Rattle.rv_runs.proofs.Entries.{ControllerGoes, Turns, Falls, Stays, Own, Other, controller_after, SwitchGoes, Takes, Rests, Posts, Refuses, switch_goes, Mine, Another, switch_after}
-use Rattle.rv_runs.specs.States.{IsFaithful}
-use Rattle.rv_runs.specs.Inputs.{IsHeard, By_draw, By_local}
+use Rattle.run_spec.specs.Inputs.{IsHeardAt, By_draw, By_local}
+use Rattle.run_spec.proofs.Entries.{ControllerGoes, Turns, Falls, Stays, Own, Other, controller_after, SwitchGoes, Takes, Rests, Posts, Refuses, switch_goes, Mine, Another, switch_after}
+use Rattle.run_spec.specs.States.{IsFaithful}
+use Rattle.run_spec.specs.Inputs.{IsHeard, By_draw, By_local}
 use Rattle.exactly_once.specs.Premises.{AreControllers, IsValidLog}
 use Rattle.exactly_once.specs.Invariant.{IsSound, IsSoundAt, IsReport, IsHonest, IsHonestAt, IsOrder, IsTrueBetween, IsHeardBySwitch, IsHeardByController, HoldsEntry, Logged, Gathered, Answered, Fetched, HoldsAhead, Own as Owns, Collects, Answers, Supplies, HoldsOfRun}
 use Rattle.exactly_once.specs.Truths.{IsTrueEntry, IsAhead}
@@ -44,7 +44,7 @@ use Rattle.exactly_once.proofs.Growing.{sound_more, order_more, sound_at_more, h
 use Rattle.exactly_once.proofs.Switches.{switch_keeps}
 use Rattle.exactly_once.proofs.ControllerTurns.{controller_keeps}
 use Rattle.exactly_once.proofs.TableRows.{opening_valid}
-use Rattle.rv_runs.proofs.Pools.{one_actor, drawn_found, IsPosted, Was, New, pool_after}
+use Rattle.run_spec.proofs.Pools.{one_actor, drawn_found, IsPosted, Was, New, pool_after}
 use Rattle.exactly_once.proofs.Packets.{heard_by_switch, heard_by_controller, switch_packet, controller_packet}
 
 -- what is firm is a beginning of what a switch has now

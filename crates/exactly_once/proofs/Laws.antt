@@ -1,12 +1,12 @@
 -- The laws of every possible past.
 use Rattle.std.proofs.Common.{List}
-use Rattle.rv_base.specs.declared.journal.JournalEntry.{JournalEntry}
-use Rattle.rv_base.specs.declared.journal.SaveResult.{SaveResult}
-use Rattle.rv_runs.specs.States.{Scene}
-use Rattle.rv_runs.specs.Legal.{IsPossible}
-use Rattle.rv_runs.specs.Laws.{IsLasting, IsFenced, IsExactlyOnce}
+use Rattle.journal.specs.declared.journal.JournalEntry.{JournalEntry}
+use Rattle.journal.specs.declared.journal.SaveResult.{SaveResult}
+use Rattle.run_spec.specs.States.{Scene}
+use Rattle.run_spec.specs.Legal.{IsPossible}
+use Rattle.run_spec.specs.Laws.{IsLasting, IsFenced, IsExactlyOnce}
 use Rattle.exactly_once.specs.Facts.{facts_of}
-use Rattle.rv_runs.specs.States.{IsFaithful}
+use Rattle.run_spec.specs.States.{IsFaithful}
 use Rattle.exactly_once.specs.Premises.{AreControllers}
 use Rattle.exactly_once.proofs.Decided.{grows, front, trusted, lasts}
 use Rattle.exactly_once.proofs.Journals.{switch_hears_truth}

@@ -10,14 +10,14 @@ use Rattle.of_types.specs.declared.message.Event.{Event}
 use Rattle.of_types.specs.declared.message.Executed.{Executed}
 use Rattle.of_types.specs.declared.setup.Setup.{Setup}
 use Rattle.of_types.specs.Lives.{life_after, life_in, count_in, has_ended, is_switch_up}
-use Rattle.lists.proofs.Elements.{filter_passes, in_append, in_filter}
-use Rattle.lists.proofs.Places.{get_in, get_prefix, in_get}
-use Rattle.lists.proofs.Prefixes.{prefix_by_places, prefix_filter, prefix_trans}
-use Rattle.lists.specs.Lists.{IsIn, IsPrefix}
+use Rattle.list_facts.proofs.Elements.{filter_passes, in_append, in_filter}
+use Rattle.list_facts.proofs.Places.{get_in, get_prefix, in_get}
+use Rattle.list_facts.proofs.Prefixes.{prefix_by_places, prefix_filter, prefix_trans}
+use Rattle.list_facts.specs.Lists.{IsIn, IsPrefix}
 use Rattle.vr_log.specs.declared.entry.Entry.{Entry}
 use Rattle.vr_log.specs.declared.entry.Entry.TheVariants.{Received, Processed}
 use Rattle.vr_log.specs.Log.{received, may_be_received}
-use Rattle.rv_runs.specs.Laws.{events_from, events_from_life}
+use Rattle.run_spec.specs.Laws.{events_from, events_from_life}
 use Rattle.exactly_once.specs.Facts.{PastFacts, events_of}
 use Rattle.exactly_once.specs.Truths.{IsGenuine}
 use Rattle.exactly_once.specs.Premises.{IsValidLog}

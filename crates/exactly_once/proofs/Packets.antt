@@ -14,26 +14,26 @@ use Rattle.of_types.specs.declared.setup.Setup.{Setup}
 use Rattle.of_types.specs.Sizes.{happening_size}
 use Rattle.of_types.specs.Valid.{IsValidHappening}
 use Rattle.of_types.proofs.SmallMatches.{small_match}
-use Rattle.rv_base.specs.declared.journal.Actor.{Actor}
-use Rattle.rv_base.specs.declared.journal.Actor.TheVariants as actor
-use Rattle.rv_base.specs.declared.journal.Letter.{Letter}
-use Rattle.rv_base.specs.declared.journal.Packet.{Packet}
-use Rattle.lists.proofs.Elements.{all_of, in_map}
-use Rattle.lists.specs.Lists.{IsIn}
+use Rattle.journal.specs.declared.journal.Actor.{Actor}
+use Rattle.journal.specs.declared.journal.Actor.TheVariants as actor
+use Rattle.journal.specs.declared.journal.Letter.{Letter}
+use Rattle.journal.specs.declared.journal.Packet.{Packet}
+use Rattle.list_facts.proofs.Elements.{all_of, in_map}
+use Rattle.list_facts.specs.Lists.{IsIn}
 use Rattle.of_switch.specs.declared.says.SwitchSays.{SwitchSays}
 use Rattle.group_controller.specs.declared.messages.ControllerSays.{ControllerSays}
-use Rattle.rv_runs.specs.declared.messages.Message.{Message}
-use Rattle.rv_runs.specs.declared.messages.Message.TheVariants as message
-use Rattle.rv_runs.specs.declared.messages.Unsealed.{Unsealed}
-use Rattle.rv_runs.specs.declared.messages.Unsealed.TheVariants as unsealed
-use Rattle.rv_runs.specs.declared.messages.Way.{Way}
-use Rattle.rv_runs.proofs.Pools.{IsPosted}
-use Rattle.rv_runs.specs.Legal.{AreTyped}
-use Rattle.rv_runs.specs.Messages.{IsValidMessage, FitsMessage, way_of, way_of_message}
-use Rattle.rv_runs.specs.States.{Sealing, content, switch_hears, controller_hears, sealed_letters, switch_message, controller_message}
+use Rattle.run_spec.specs.declared.messages.Message.{Message}
+use Rattle.run_spec.specs.declared.messages.Message.TheVariants as message
+use Rattle.run_spec.specs.declared.messages.Unsealed.{Unsealed}
+use Rattle.run_spec.specs.declared.messages.Unsealed.TheVariants as unsealed
+use Rattle.run_spec.specs.declared.messages.Way.{Way}
+use Rattle.run_spec.proofs.Pools.{IsPosted}
+use Rattle.run_spec.specs.Legal.{AreTyped}
+use Rattle.run_spec.specs.Messages.{IsValidMessage, FitsMessage, way_of, way_of_message}
+use Rattle.run_spec.specs.States.{Sealing, content, switch_hears, controller_hears, sealed_letters, switch_message, controller_message}
 use Rattle.exactly_once.specs.Facts.{PastFacts}
 use Rattle.exactly_once.specs.Truths.{IsGoodHappening, MayTell, IsReported}
-use Rattle.rv_runs.specs.States.{IsFaithful}
+use Rattle.run_spec.specs.States.{IsFaithful}
 use Rattle.exactly_once.specs.Invariant.{IsReport, Reported, Forwarded, IsOrder, ToSwitch, ToMember, IsTrueBetween, IsHeardBySwitch, IsHeardByController}
 
 -- what a switch hears from a packet to it

@@ -11,8 +11,8 @@ use Rattle.of_types.specs.declared.message.Spoken.TheVariants as spoken
 use Rattle.of_types.specs.declared.setup.Setup.{Setup}
 use Rattle.of_types.specs.Setups.{IsSetup}
 use Rattle.of_types.specs.Valid.{IsValid}
-use Rattle.lists.proofs.Elements.{all_of, in_append, in_left, in_right}
-use Rattle.lists.specs.Lists.{IsIn}
+use Rattle.list_facts.proofs.Elements.{all_of, in_append, in_left, in_right}
+use Rattle.list_facts.specs.Lists.{IsIn}
 use Rattle.app_core.specs.Chain.{concat, chain_next, starting_chain, reactions_from, reactions}
 use Rattle.app_core.specs.declared.issued.Issued.{Issued}
 use Rattle.app_core.specs.Issued.{issue, issue_each, issue_all, issues, commands_of}

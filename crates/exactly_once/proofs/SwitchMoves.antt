@@ -25,13 +25,13 @@ use Rattle.of_types.specs.declared.refusal.Refusal.{Refusal}
 use Rattle.of_types.specs.declared.refusal.TheConstants.{BAD_ROLE, BAD_TYPE, NOT_MASTER, NOT_PERMITTED, STALE_ROLE}
 use Rattle.of_types.specs.declared.setup.Link.{Link}
 use Rattle.of_types.specs.Lives.{last_life, switch_up}
-use Rattle.rv_base.specs.declared.journal.Actor.{Actor}
-use Rattle.rv_base.specs.declared.journal.Actor.TheVariants as actor
-use Rattle.rv_base.specs.declared.journal.Letter.{Letter}
-use Rattle.rv_base.specs.declared.journal.Local.{Local}
-use Rattle.rv_base.specs.declared.journal.Local.TheVariants as local
-use Rattle.lists.proofs.Elements.{all_in, all_of, in_append, in_drop, in_map, in_right, in_take}
-use Rattle.lists.specs.Lists.{IsIn}
+use Rattle.journal.specs.declared.journal.Actor.{Actor}
+use Rattle.journal.specs.declared.journal.Actor.TheVariants as actor
+use Rattle.journal.specs.declared.journal.Letter.{Letter}
+use Rattle.journal.specs.declared.journal.Local.{Local}
+use Rattle.journal.specs.declared.journal.Local.TheVariants as local
+use Rattle.list_facts.proofs.Elements.{all_in, all_of, in_append, in_drop, in_map, in_right, in_take}
+use Rattle.list_facts.specs.Lists.{IsIn}
 use Rattle.role_fence.specs.Fence.{Fence, RoleStep, is_stale, may_execute, as_equal, as_master, as_slave, role_of, told_generation, replies}
 use Rattle.event_buffer.specs.Buffer.{is_full, next_event, cleared_to, without_dirty, with_dirty}
 use Rattle.command_buffer.specs.declared.buffer.Offer.{Offer}

@@ -9,12 +9,12 @@ use Rattle.of_types.specs.declared.message.Order.{Order}
 use Rattle.of_types.specs.declared.message.Spoken.TheVariants as spoken
 use Rattle.of_types.specs.declared.numbers.TheConstants.{NO_CHANGE, EQUAL, MASTER, SLAVE}
 use Rattle.of_types.specs.Lives.{last_life, switch_up}
-use Rattle.rv_base.specs.declared.journal.Letter.{Letter}
-use Rattle.rv_base.specs.declared.journal.Local.TheVariants as local
-use Rattle.lists.proofs.Elements.{in_append}
-use Rattle.lists.proofs.Places.{get_prefix}
-use Rattle.lists.proofs.Prefixes.{prefix_filter, prefix_length, prefix_push, prefix_refl, prefix_trans}
-use Rattle.lists.specs.Lists.{IsIn, IsPrefix}
+use Rattle.journal.specs.declared.journal.Letter.{Letter}
+use Rattle.journal.specs.declared.journal.Local.TheVariants as local
+use Rattle.list_facts.proofs.Elements.{in_append}
+use Rattle.list_facts.proofs.Places.{get_prefix}
+use Rattle.list_facts.proofs.Prefixes.{prefix_filter, prefix_length, prefix_push, prefix_refl, prefix_trans}
+use Rattle.list_facts.specs.Lists.{IsIn, IsPrefix}
 use Rattle.role_fence.specs.Fence.{Fence, RoleStep, is_stale, may_execute, role_step}
 use Rattle.event_buffer.specs.Buffer.{is_full, next_event}
 use Rattle.of_switch.specs.declared.says.SwitchInput.{SwitchInput}

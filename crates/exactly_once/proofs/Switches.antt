@@ -17,12 +17,12 @@ use Rattle.of_types.specs.declared.message.Row.{Row}
 use Rattle.of_types.specs.declared.message.Spoken.TheVariants as spoken
 use Rattle.of_types.specs.declared.setup.Setup.{Setup}
 use Rattle.of_types.specs.Valid.{IsValidMatch}
-use Rattle.rv_base.specs.declared.journal.Letter.{Letter}
-use Rattle.rv_base.specs.declared.journal.Local.TheVariants as local
-use Rattle.lists.proofs.Elements.{all_in, all_of, filter_has, in_append, in_drop, in_left, in_right}
-use Rattle.lists.proofs.Places.{get_last, get_push, get_zero, in_get, none_of}
-use Rattle.lists.proofs.Prefixes.{filter_more, filter_same, prefix_push, prefix_refl, prefix_trans}
-use Rattle.lists.specs.Lists.{IsIn, IsPrefix}
+use Rattle.journal.specs.declared.journal.Letter.{Letter}
+use Rattle.journal.specs.declared.journal.Local.TheVariants as local
+use Rattle.list_facts.proofs.Elements.{all_in, all_of, filter_has, in_append, in_drop, in_left, in_right}
+use Rattle.list_facts.proofs.Places.{get_last, get_push, get_zero, in_get, none_of}
+use Rattle.list_facts.proofs.Prefixes.{filter_more, filter_same, prefix_push, prefix_refl, prefix_trans}
+use Rattle.list_facts.specs.Lists.{IsIn, IsPrefix}
 use Rattle.two_stage_log.specs.Counts.{processed_of}
 use Rattle.flow_clock.specs.Clocked.{rows_in}
 use Rattle.flow_clock.proofs.Remaining.{changed_rows}

@@ -7,7 +7,7 @@ use Rattle.of_types.specs.declared.message.FlowCommand.TheVariants.{Add, Modify,
 use Rattle.of_types.specs.declared.message.FlowMod.{FlowMod}
 use Rattle.of_types.specs.declared.message.Row.{Row}
 use Rattle.of_types.specs.Valid.{IsValidMatch}
-use Rattle.rv_base.proofs.All.{all_filter, all_map}
+use Rattle.journal.proofs.All.{all_filter, all_map}
 use Rattle.flow_table.specs.Table.{opening_rows, row_of, same_key, with_row, is_named, is_deleted, modified, table_step}
 use Rattle.app_core.proofs.Spelled.{any_valid}
 

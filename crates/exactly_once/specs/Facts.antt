@@ -2,15 +2,15 @@
 use Rattle.std.specs.Prelude.{ℕ, nat_eq, List, filter, if◌then◌else◌}
 use Rattle.of_types.specs.declared.message.Event.{Event}
 use Rattle.of_types.specs.declared.message.Executed.{Executed}
-use Rattle.rv_base.specs.declared.journal.Actor.TheVariants as actor
-use Rattle.rv_base.specs.declared.journal.JournalEntry.{JournalEntry}
-use Rattle.rv_base.specs.declared.journal.SaveResult.{SaveResult}
-use Rattle.rv_base.specs.Part.{part}
+use Rattle.journal.specs.declared.journal.Actor.TheVariants as actor
+use Rattle.journal.specs.declared.journal.JournalEntry.{JournalEntry}
+use Rattle.journal.specs.declared.journal.SaveResult.{SaveResult}
+use Rattle.journal.specs.Part.{part}
 use Rattle.vr_log.specs.declared.entry.Entry.{Entry}
 use Rattle.of_switch.specs.State.{SwitchState}
-use Rattle.rv_runs.specs.States.{Scene, SwitchAt, switch_at}
-use Rattle.rv_runs.specs.Committed.{decided}
-use Rattle.lists.specs.Lists.{IsPrefix}
+use Rattle.run_spec.specs.States.{Scene, SwitchAt, switch_at}
+use Rattle.run_spec.specs.Committed.{decided}
+use Rattle.list_facts.specs.Lists.{IsPrefix}
 
 -- the log that is decided, and of each switch the events that it made and the commands that it carried out, in all
 -- its lives

@@ -11,10 +11,10 @@ use Rattle.of_types.specs.declared.message.PacketOut.{PacketOut}
 use Rattle.of_types.specs.declared.message.Spoken.{Spoken}
 use Rattle.of_types.specs.declared.message.Spoken.TheVariants as spoken
 use Rattle.of_types.specs.Lives.{last_life}
-use Rattle.rv_base.specs.declared.journal.Actor.TheVariants as actor
-use Rattle.rv_base.specs.declared.journal.Letter.{Letter}
-use Rattle.rv_base.specs.declared.journal.Local.TheVariants as local
-use Rattle.lists.specs.Lists.{IsIn, IsPrefix}
+use Rattle.journal.specs.declared.journal.Actor.TheVariants as actor
+use Rattle.journal.specs.declared.journal.Letter.{Letter}
+use Rattle.journal.specs.declared.journal.Local.TheVariants as local
+use Rattle.list_facts.specs.Lists.{IsIn, IsPrefix}
 use Rattle.role_fence.specs.Fence.{may_execute, role_step, starting_fence}
 use Rattle.event_buffer.specs.Buffer.{cleared_to}
 use Rattle.of_switch.specs.declared.says.SwitchInput.{SwitchInput}

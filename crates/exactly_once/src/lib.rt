@@ -2,13 +2,13 @@
 #![tactic(auto)]
 
 ghost use Rattle.std.specs.Prelude.{List};
-ghost use Rattle.rv_base.specs.declared.journal.JournalEntry.{JournalEntry};
-ghost use Rattle.rv_base.specs.declared.journal.SaveResult.{SaveResult};
-ghost use Rattle.rv_runs.specs.States.{Scene};
-ghost use Rattle.rv_runs.specs.Legal.{IsPossible};
-ghost use Rattle.rv_runs.specs.Laws.{IsLasting, IsFenced, IsExactlyOnce};
+ghost use Rattle.journal.specs.declared.journal.JournalEntry.{JournalEntry};
+ghost use Rattle.journal.specs.declared.journal.SaveResult.{SaveResult};
+ghost use Rattle.run_spec.specs.States.{Scene};
+ghost use Rattle.run_spec.specs.Legal.{IsPossible};
+ghost use Rattle.run_spec.specs.Laws.{IsLasting, IsFenced, IsExactlyOnce};
 ghost use Rattle.exactly_once.specs.Invariant.{HoldsOfRun};
-ghost use Rattle.rv_runs.specs.States.{IsFaithful};
+ghost use Rattle.run_spec.specs.States.{IsFaithful};
 ghost use Rattle.exactly_once.specs.Premises.{AreControllers};
 ghost use Rattle.exactly_once.specs.SwitchTurns.{AreSwitchTurns};
 

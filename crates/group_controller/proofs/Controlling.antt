@@ -2,10 +2,10 @@
 use Rattle.std.proofs.Common.{◌≡◌, ◌≤◌, ◌<◌, ℕ, ◌+◌, Bool, true, false, List, [], ◌∷◌, ◌++◌, refl, sym, ap, subst, ◌∙◌}
 use Rattle.std.specs.Prelude.{Result, Ok, Err, IfOk, OnErr, IfSome, Option, Some, None, is_none, nat_lt, ◌&&◌, take, option_to_list, if◌then◌else◌}
 use Rattle.std.specs.List.{AllByRecursion}
-use Rattle.rv_base.specs.declared.journal.Letter.{Letter}
-use Rattle.rv_base.specs.declared.journal.SaveResult.{SaveResult}
-use Rattle.rv_base.specs.declared.journal.SaveResult.TheVariants.{Saved, KeptOld, KeptNew}
-use Rattle.rv_base.specs.Stables.{standing}
+use Rattle.journal.specs.declared.journal.Letter.{Letter}
+use Rattle.journal.specs.declared.journal.SaveResult.{SaveResult}
+use Rattle.journal.specs.declared.journal.SaveResult.TheVariants.{Saved, KeptOld, KeptNew}
+use Rattle.journal.specs.Stables.{standing}
 use Rattle.vr_log.specs.declared.message.VrLetter.{VrLetter}
 use Rattle.vr_log.specs.declared.state.VrOut.{VrOut}
 use Rattle.vr_recovery.specs.Recovering.{restarted}
@@ -18,8 +18,8 @@ use Rattle.of_types.specs.Lives.{last_life}
 use Rattle.of_types.specs.Setups.{IsSetup}
 use Rattle.std.proofs.lemmas.Bool.{lt-ltb}
 use Rattle.std.proofs.lemmas.List.{append-nil}
-use Rattle.rv_base.specs.declared.journal.Local.{Local}
-use Rattle.rv_base.specs.declared.journal.Local.TheVariants as local
+use Rattle.journal.specs.declared.journal.Local.{Local}
+use Rattle.journal.specs.declared.journal.Local.TheVariants as local
 use Rattle.vr_log.specs.declared.state.Status.{Status}
 use Rattle.vr_log.specs.declared.state.Status.TheVariants.{Normal, ViewChange, Recovering, Down}
 use Rattle.vr_log.specs.declared.state.VrState.{VrState}

@@ -4,11 +4,11 @@ use Rattle.std.specs.List.{AllByRecursion}
 use Rattle.of_types.specs.declared.setup.Setup.{Setup}
 use Rattle.of_types.specs.Lives.{last_life}
 use Rattle.of_types.specs.Setups.{IsSetup}
-use Rattle.rv_base.specs.declared.journal.Letter.{Letter}
-use Rattle.rv_base.specs.declared.journal.SaveResult.{SaveResult}
-use Rattle.rv_base.specs.declared.journal.SaveResult.TheVariants.{Saved, KeptOld, KeptNew}
-use Rattle.rv_base.specs.Causes.{Rose}
-use Rattle.rv_base.specs.Stables.{standing}
+use Rattle.journal.specs.declared.journal.Letter.{Letter}
+use Rattle.journal.specs.declared.journal.SaveResult.{SaveResult}
+use Rattle.journal.specs.declared.journal.SaveResult.TheVariants.{Saved, KeptOld, KeptNew}
+use Rattle.journal.specs.Causes.{Rose}
+use Rattle.journal.specs.Stables.{standing}
 use Rattle.vr_log.specs.declared.state.Status.TheVariants.{Down}
 use Rattle.vr_log.specs.Valid.{down_state}
 use Rattle.vr_recovery.specs.Recovering.{restarted}

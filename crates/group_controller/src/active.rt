@@ -22,7 +22,7 @@ use crate::messages::{ControllerInput, ControllerSays};
 use app_core::App;
 use dispatcher::{Dispatcher, Handled, Numbered, Through, Wish};
 use of_types::{Event, Extension, MASTER, Octets, OfMessage, Setup, Spoken};
-use rv_base::{Letter, Letters, Local};
+use journal::{Letter, Letters, Local};
 use std::alloc::{AllocError, Global};
 use std::marker::Model;
 use std::mem::replace;

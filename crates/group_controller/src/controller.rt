@@ -3,7 +3,7 @@ ghost use Rattle.std.specs.Prelude.{◌≡◌, ◌≤◌, ◌<◌, ◌∷◌, �
 ghost use Rattle.std.specs.List.{AllByRecursion};
 ghost use Rattle.of_types.specs.Lives.{last_life};
 ghost use Rattle.of_types.specs.Setups.{IsSetup};
-ghost use Rattle.rv_base.specs.Stables.{standing};
+ghost use Rattle.journal.specs.Stables.{standing};
 ghost use Rattle.dispatcher.specs.Ledger.{most_commands};
 ghost use Rattle.group_controller.specs.Rules.{is_crash, is_restart};
 ghost use Rattle.group_controller.specs.State.{resting, starting_controller};
@@ -14,7 +14,7 @@ use crate::active::Active;
 use crate::messages::{ControllerInput, ControllerSays};
 use app_core::App;
 use of_types::{LAST_LIFE, Setup};
-use rv_base::{Failed, Letters, SaveResult, Stable};
+use journal::{Failed, Letters, SaveResult, Stable};
 use std::alloc::{AllocError, Global};
 use std::marker::Model;
 use vr_core::Replica;

@@ -7,7 +7,7 @@ ghost use Rattle.group_controller.specs.State.{to_members};
 use crate::messages::ControllerSays;
 use dispatcher::{Numbered, Through};
 use of_types::{Extension, Items, MASTER, OfMessage, Spoken};
-use rv_base::{Actor, Letter, Letters};
+use journal::{Actor, Letter, Letters};
 use std::alloc::AllocError;
 use vr_log::VrLetter;
 

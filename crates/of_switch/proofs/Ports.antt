@@ -8,7 +8,7 @@ use Rattle.std.proofs.lemmas.List.Concat.{flat_map-append}
 use Rattle.std.proofs.Math.ListN.{set, replicate}
 use Rattle.of_types.specs.SmallSets.{places_from, with_number, without_number, AscendWithin}
 use Rattle.of_types.proofs.Places.{places-insert, places-remove}
-use Rattle.rv_base.specs.declared.journal.Letter.{Letter}
+use Rattle.journal.specs.declared.journal.Letter.{Letter}
 use Rattle.of_switch.specs.declared.says.SwitchSays.{SwitchSays}
 use Rattle.of_switch.specs.State.{SwitchState, ports_up}
 use Rattle.of_switch.specs.Events.{is_port, is_down, with_port}

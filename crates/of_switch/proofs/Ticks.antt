@@ -5,7 +5,7 @@ use Rattle.std.specs.Prelude.{nat_eq, nat_le, nat_lt, Option, Some, None, is_non
 use Rattle.of_types.specs.declared.message.Event.{Event}
 use Rattle.of_types.specs.declared.message.Happening.{Happening}
 use Rattle.of_types.specs.declared.numbers.TheConstants.{SEND_REMOVED}
-use Rattle.rv_base.specs.declared.journal.Letter.{Letter}
+use Rattle.journal.specs.declared.journal.Letter.{Letter}
 use Rattle.event_buffer.specs.Buffer.{most_held, is_full}
 use Rattle.flow_clock.specs.declared.times.Expired.{Expired}
 use Rattle.flow_clock.specs.Clocked.{clock_tick, clock_told}

@@ -13,7 +13,7 @@ use Rattle.of_types.specs.declared.message.PacketOut.{PacketOut}
 use Rattle.of_types.specs.declared.message.Row.{Row}
 use Rattle.of_types.specs.declared.numbers.TheConstants.{TO_CONTROLLER}
 use Rattle.of_types.specs.Lives.{last_life, switch_up}
-use Rattle.rv_base.specs.declared.journal.Letter.{Letter}
+use Rattle.journal.specs.declared.journal.Letter.{Letter}
 use Rattle.event_buffer.specs.Buffer.{Buffer, AreNumbered, most_held, is_full, next_event, next_number, without_dirty, without_events_below, cleared_to}
 use Rattle.command_buffer.specs.Results.{Results, no_results, with_result, without_results_below}
 use Rattle.flow_clock.specs.Clocked.{Clocked}

@@ -11,7 +11,7 @@ use Rattle.of_types.specs.declared.numbers.TheConstants.{IN_PORT, FLOOD, ALL_POR
 use Rattle.of_types.specs.declared.refusal.Refusal.{Refusal}
 use Rattle.of_types.specs.declared.refusal.TheConstants.{BAD_OUT_PORT, BAD_PACKET, NOT_MASTER, UNKNOWN_BUFFER}
 use Rattle.of_types.specs.declared.refusal.TheConstants as refusal
-use Rattle.rv_base.specs.declared.journal.Letter.{Letter}
+use Rattle.journal.specs.declared.journal.Letter.{Letter}
 use Rattle.role_fence.specs.Fence.{may_execute}
 use Rattle.command_buffer.specs.declared.buffer.Offer.{Offer}
 use Rattle.command_buffer.specs.declared.buffer.Offer.TheVariants.{Execute, Repeat, Ahead, Full}

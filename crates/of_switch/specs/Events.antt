@@ -9,7 +9,7 @@ use Rattle.of_types.specs.declared.message.Spoken.TheVariants as spoken
 use Rattle.of_types.specs.declared.numbers.TheConstants.{REASON_MODIFY, SEND_REMOVED}
 use Rattle.of_types.specs.Lives.{last_life, switch_up}
 use Rattle.of_types.specs.SmallSets.{with_number, without_number}
-use Rattle.rv_base.specs.declared.journal.Letter.{Letter}
+use Rattle.journal.specs.declared.journal.Letter.{Letter}
 use Rattle.role_fence.specs.Fence.{starting_fence}
 use Rattle.event_buffer.specs.Buffer.{is_full, next_event, posted, cleared_to, without_events_below, with_dirty, without_dirty, empty_buffer}
 use Rattle.command_buffer.specs.Results.{no_results}

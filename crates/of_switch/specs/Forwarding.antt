@@ -9,8 +9,8 @@ use Rattle.of_types.specs.declared.numbers.TheConstants.{IN_PORT, FLOOD, ALL_POR
 use Rattle.of_types.specs.declared.setup.Link.{Link}
 use Rattle.of_types.specs.Header.{fields_of}
 use Rattle.of_types.specs.Matching.{is_any}
-use Rattle.rv_base.specs.declared.journal.Actor.TheVariants.{Switch}
-use Rattle.rv_base.specs.declared.journal.Letter.{Letter}
+use Rattle.journal.specs.declared.journal.Actor.TheVariants.{Switch}
+use Rattle.journal.specs.declared.journal.Letter.{Letter}
 use Rattle.flow_table.specs.Table.{chosen_row}
 use Rattle.flow_clock.specs.Clocked.{clock_hit}
 use Rattle.of_switch.specs.declared.says.SwitchSays.{SwitchSays}

@@ -11,8 +11,8 @@ use Rattle.of_types.specs.declared.message.Spoken.TheVariants as spoken
 use Rattle.of_types.specs.declared.refusal.Refusal.{Refusal}
 use Rattle.of_types.specs.declared.setup.Link.{Link}
 use Rattle.of_types.specs.declared.setup.Setup.{Setup}
-use Rattle.rv_base.specs.declared.journal.Actor.TheVariants.{Controller}
-use Rattle.rv_base.specs.declared.journal.Letter.{Letter}
+use Rattle.journal.specs.declared.journal.Actor.TheVariants.{Controller}
+use Rattle.journal.specs.declared.journal.Letter.{Letter}
 use Rattle.role_fence.specs.Fence.{Fence, starting_fence}
 use Rattle.event_buffer.specs.Buffer.{Buffer, empty_buffer, highest_port, next_number}
 use Rattle.command_buffer.specs.Results.{Results, no_results}

@@ -12,7 +12,7 @@ use crate::letters::{push_events, push_greetings};
 use crate::says::SwitchSays;
 use event_buffer::{EventBuffer, MOST_HELD};
 use of_types::{Event, Happening};
-use rv_base::Letter;
+use journal::Letter;
 use std::alloc::{AllocError, Global};
 use std::marker::Model;
 use std::slice;

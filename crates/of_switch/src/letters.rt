@@ -9,7 +9,7 @@ ghost use Rattle.of_switch.specs.Forwarding.{frame_letter as letter_of_frame};
 
 use crate::says::SwitchSays;
 use of_types::{Event, Extension, Items, Octets, OfMessage, Refusal, Spoken};
-use rv_base::{Actor, Letter, Letters};
+use journal::{Actor, Letter, Letters};
 use std::alloc::{AllocError, Global};
 
 /// A letter to a controller.

@@ -1,7 +1,7 @@
 //! What a switch takes, and what it says.
 
 use of_types::{Octets, Spoken};
-use rv_base::{Actor, Local};
+use journal::{Actor, Local};
 
 /// What a switch says in a letter.
 #[derive(Drop)]

@@ -19,7 +19,7 @@ use flow_clock::TimedRows;
 use flow_index::FlowIndex;
 use of_types::{Event, Executed, Items, Link, Refusal, Row, Setup, Spoken};
 use role_fence::RoleFence;
-use rv_base::{Letters, Local};
+use journal::{Letters, Local};
 use std::alloc::{AllocError, Global};
 use std::marker::Model;
 

@@ -1,5 +1,5 @@
 use of_types::Items;
-use rv_base::{Actor, JournalEntry, Letter, Letters, POOL_PACKETS, Stop, Weight, Wire};
+use journal::{Actor, JournalEntry, Letter, Letters, POOL_PACKETS, Stop, Weight, Wire};
 use std::alloc::{AllocError, Global};
 
 const CONTROLLER: Actor = Actor::Controller(0);

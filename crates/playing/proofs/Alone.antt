@@ -3,29 +3,29 @@ use Rattle.std.proofs.Common.{◌≡◌, ◌≤◌, ◌<◌, ℕ, Bool, true, fa
 use Rattle.std.specs.Prelude.{drop, filter, slice_get, take, Option, Some, None, if◌then◌else◌}
 use Rattle.std.specs.List.{AllByRecursion}
 use Rattle.std.proofs.Math.Seq.{take-append_seam}
-use Rattle.rv_base.specs.declared.journal.Actor.{Actor}
-use Rattle.rv_base.specs.declared.journal.Actor.TheVariants as actor
-use Rattle.rv_base.specs.declared.journal.JournalEntry.{JournalEntry}
-use Rattle.rv_base.specs.declared.journal.JournalEntry.TheVariants.{Post, Draw, Lose, Local, Idle, Refused}
-use Rattle.rv_base.specs.declared.journal.Packet.{Packet}
-use Rattle.rv_base.specs.declared.journal.SaveResult.{SaveResult}
-use Rattle.rv_base.specs.declared.journal.Turn.{Turn}
-use Rattle.rv_base.specs.declared.journal.Turn.TheVariants as turn
-use Rattle.rv_base.specs.Actors.{actor_of, same_actor, IsActor}
-use Rattle.rv_base.specs.Part.{part}
-use Rattle.rv_base.specs.Pool.{past, pick}
-use Rattle.rv_base.specs.Turns.{drawn_entry, entry_of, lost_entry, turn_actor}
-use Rattle.rv_laws.specs.Laws.{EntrySuspectsUpTo, IsSuspectedUpTo}
-use Rattle.rv_runs.specs.Legal.{IsLegalPast, results_of}
-use Rattle.rv_runs.specs.Schedule.{majority, owed_of}
-use Rattle.rv_runs.specs.States.{Scene, Sealing, ControllerAt, controller_at, controller_message, sealed_letters}
-use Rattle.rv_runs.proofs.Saves.{same_results}
+use Rattle.journal.specs.declared.journal.Actor.{Actor}
+use Rattle.journal.specs.declared.journal.Actor.TheVariants as actor
+use Rattle.journal.specs.declared.journal.JournalEntry.{JournalEntry}
+use Rattle.journal.specs.declared.journal.JournalEntry.TheVariants.{Post, Draw, Lose, Local, Idle, Refused}
+use Rattle.journal.specs.declared.journal.Packet.{Packet}
+use Rattle.journal.specs.declared.journal.SaveResult.{SaveResult}
+use Rattle.journal.specs.declared.journal.Turn.{Turn}
+use Rattle.journal.specs.declared.journal.Turn.TheVariants as turn
+use Rattle.journal.specs.Actors.{actor_of, same_actor, IsActor}
+use Rattle.journal.specs.Part.{part}
+use Rattle.journal.specs.Pool.{past, pick}
+use Rattle.journal.specs.Turns.{drawn_entry, entry_of, lost_entry, turn_actor}
+use Rattle.run_laws.specs.Laws.{EntrySuspectsUpTo, IsSuspectedUpTo}
+use Rattle.run_spec.specs.Legal.{IsLegalPast, results_of}
+use Rattle.run_spec.specs.Schedule.{majority, owed_of}
+use Rattle.run_spec.specs.States.{Scene, Sealing, ControllerAt, controller_at, controller_message, sealed_letters}
+use Rattle.run_spec.proofs.Saves.{same_results}
 use Rattle.app_core.specs.Law.{AppLaw}
 use Rattle.of_types.specs.declared.setup.Setup.{Setup}
-use Rattle.rv_base.specs.declared.wire.Stop.{Stop}
-use Rattle.rv_base.specs.declared.wire.Stop.TheVariants.{OutOfMemory, JournalFull}
-use Rattle.rv_base.specs.Stables.{Saving}
-use Rattle.rv_world.specs.World.{AreMore, Holds, Keeps, Worlding, results_in, scene_in}
+use Rattle.journal.specs.declared.wire.Stop.{Stop}
+use Rattle.journal.specs.declared.wire.Stop.TheVariants.{OutOfMemory, JournalFull}
+use Rattle.journal.specs.Stables.{Saving}
+use Rattle.world.specs.World.{AreMore, Holds, Keeps, Worlding, results_in, scene_in}
 use Rattle.closing.specs.declared.closed.Closed.{Closed}
 use Rattle.closing.specs.declared.closed.Closed.TheVariants as closed
 use Rattle.closing.specs.Closing.{HasMajority, up_in}

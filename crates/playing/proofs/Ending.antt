@@ -1,24 +1,24 @@
 -- A script was followed, and then a closing went on in its world.
 use Rattle.std.proofs.Common.{◌≡◌, ℕ, List, ◌++◌, length, sym, ◌∙◌, ap, subst}
 use Rattle.std.specs.Prelude.{reverse}
-use Rattle.rv_base.specs.declared.journal.SaveResult.{SaveResult}
-use Rattle.rv_base.specs.declared.journal.Turn.{Turn}
-use Rattle.rv_base.specs.declared.wire.Stop.{Stop}
-use Rattle.rv_base.specs.declared.wire.Stop.TheVariants.{OutOfMemory, JournalFull}
-use Rattle.rv_base.specs.Pool.{past}
-use Rattle.rv_base.specs.Stables.{Saving}
+use Rattle.journal.specs.declared.journal.SaveResult.{SaveResult}
+use Rattle.journal.specs.declared.journal.Turn.{Turn}
+use Rattle.journal.specs.declared.wire.Stop.{Stop}
+use Rattle.journal.specs.declared.wire.Stop.TheVariants.{OutOfMemory, JournalFull}
+use Rattle.journal.specs.Pool.{past}
+use Rattle.journal.specs.Stables.{Saving}
 use Rattle.app_core.specs.Law.{AppLaw}
-use Rattle.rv_runs.specs.Schedule.{Closes, ClosesTo, FollowsInOrder, In_the_closing, IsJournalFull, Losing, Phase}
-use Rattle.rv_runs.specs.States.{Scene, Sealing}
-use Rattle.rv_world.specs.World.{AreMore, Holds, Keeps, Worlding, results_in, scene_in}
-use Rattle.rv_world.proofs.Growing.{more_then, no_more}
-use Rattle.rv_world.proofs.Turning.{keeps_then}
+use Rattle.run_spec.specs.Schedule.{Closes, ClosesTo, FollowsInOrder, In_the_closing, IsJournalFull, Losing, Phase}
+use Rattle.run_spec.specs.States.{Scene, Sealing}
+use Rattle.world.specs.World.{AreMore, Holds, Keeps, Worlding, results_in, scene_in}
+use Rattle.world.proofs.Growing.{more_then, no_more}
+use Rattle.world.proofs.Turning.{keeps_then}
 use Rattle.closing.specs.declared.closed.Closed.{Closed}
 use Rattle.closing.specs.Closing.{ClosingStops, HasEnded, HasReason, IsBounded, IsCutAt, answer_of}
 use Rattle.closing.proofs.Leading.{runs_again}
 use Rattle.closing.proofs.Turned.{more_told, past_joined}
-use Rattle.rv_base.specs.declared.journal.JournalEntry.{JournalEntry}
-use Rattle.rv_base.specs.Turns.{IsWithinLimits}
+use Rattle.journal.specs.declared.journal.JournalEntry.{JournalEntry}
+use Rattle.journal.specs.Turns.{IsWithinLimits}
 use Rattle.running.specs.declared.run.Played.{Played}
 use Rattle.running.specs.Apart as apart
 use Rattle.running.specs.Threads.{IsLeftPaired}

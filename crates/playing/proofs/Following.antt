@@ -3,30 +3,30 @@ use Rattle.std.proofs.Common.{◌≡◌, ◌⊎◌, inl, inr, ℕ, ◌+◌, Bool
 use Rattle.std.specs.Prelude.{count_by, reverse, slice_get, Option, Some, None, if◌then◌else◌}
 use Rattle.std.proofs.lemmas.List.Sums.{sum_by-append}
 use Rattle.of_types.specs.declared.setup.Setup.{Setup}
-use Rattle.rv_base.specs.declared.journal.Actor.{Actor}
-use Rattle.rv_base.specs.declared.journal.JournalEntry.{JournalEntry}
-use Rattle.rv_base.specs.declared.journal.JournalEntry.TheVariants.{Post, Refused}
-use Rattle.rv_base.specs.declared.journal.Packet.{Packet}
-use Rattle.rv_base.specs.declared.journal.SaveResult.{SaveResult}
-use Rattle.rv_base.specs.declared.journal.Turn.{Turn}
-use Rattle.rv_base.specs.declared.journal.Turn.TheVariants as turn
-use Rattle.rv_base.specs.declared.wire.Stop.{Stop}
-use Rattle.rv_base.specs.declared.wire.Stop.TheVariants.{OutOfMemory, JournalFull}
-use Rattle.rv_base.specs.Actors.{actor_of, is_input, same_actor, IsActor}
-use Rattle.rv_base.specs.Pool.{past, pick}
-use Rattle.rv_base.specs.Refusals.{MayBeRefused}
-use Rattle.rv_base.specs.Turns.{drawn_entry, entry_of, lost_entry, turn_actor}
-use Rattle.rv_base.proofs.Lists.{past-push}
-use Rattle.rv_base.specs.Stables.{Saving}
+use Rattle.journal.specs.declared.journal.Actor.{Actor}
+use Rattle.journal.specs.declared.journal.JournalEntry.{JournalEntry}
+use Rattle.journal.specs.declared.journal.JournalEntry.TheVariants.{Post, Refused}
+use Rattle.journal.specs.declared.journal.Packet.{Packet}
+use Rattle.journal.specs.declared.journal.SaveResult.{SaveResult}
+use Rattle.journal.specs.declared.journal.Turn.{Turn}
+use Rattle.journal.specs.declared.journal.Turn.TheVariants as turn
+use Rattle.journal.specs.declared.wire.Stop.{Stop}
+use Rattle.journal.specs.declared.wire.Stop.TheVariants.{OutOfMemory, JournalFull}
+use Rattle.journal.specs.Actors.{actor_of, is_input, same_actor, IsActor}
+use Rattle.journal.specs.Pool.{past, pick}
+use Rattle.journal.specs.Refusals.{MayBeRefused}
+use Rattle.journal.specs.Turns.{drawn_entry, entry_of, lost_entry, turn_actor}
+use Rattle.journal.proofs.Lists.{past-push}
+use Rattle.journal.specs.Stables.{Saving}
 use Rattle.app_core.specs.Law.{AppLaw}
-use Rattle.rv_laws.specs.Laws.{EntrySuspectsUpTo, IsSuspectedUpTo}
-use Rattle.rv_runs.specs.Schedule.{FollowsInOrder, IsBegun, In_the_script, IsPosted, IsStepOf, TakesInOrder, inputs}
-use Rattle.rv_runs.specs.States.{Scene, Sealing}
-use Rattle.rv_world.specs.Refusals.{IsHalted, IsRefusal, None_stands, One_stands, Posted, Turned_down, TurnStops, Unchanged, Unposted}
-use Rattle.rv_world.specs.World.{AreMore, Applies, Holds, IsStuck, Keeps, PairsStand, Worlding, results_in, scene_in, taken, with_posts}
-use Rattle.rv_world.specs.Debts.{Debt}
-use Rattle.rv_world.proofs.Growing.{more_then, no_more}
-use Rattle.rv_world.proofs.Turning.{keeps_then, rests_keeps}
+use Rattle.run_laws.specs.Laws.{EntrySuspectsUpTo, IsSuspectedUpTo}
+use Rattle.run_spec.specs.Schedule.{FollowsInOrder, IsBegun, In_the_script, IsPosted, IsStepOf, TakesInOrder, inputs}
+use Rattle.run_spec.specs.States.{Scene, Sealing}
+use Rattle.world.specs.Refusals.{IsHalted, IsRefusal, None_stands, One_stands, Posted, Turned_down, TurnStops, Unchanged, Unposted}
+use Rattle.world.specs.World.{AreMore, Applies, Holds, IsStuck, Keeps, PairsStand, Worlding, results_in, scene_in, taken, with_posts}
+use Rattle.world.specs.Debts.{Debt}
+use Rattle.world.proofs.Growing.{more_then, no_more}
+use Rattle.world.proofs.Turning.{keeps_then, rests_keeps}
 use Rattle.closing.proofs.Leading.{runs_again, turned, turned_by}
 use Rattle.closing.proofs.Turned.{Added, No_post, One_post, PostsOf, Turned, added_alone, more_before, more_told, owed_nothing, past_new}
 use Rattle.closing.proofs.Worlds.{posted_is}

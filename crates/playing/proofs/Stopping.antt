@@ -3,19 +3,19 @@ use Rattle.std.proofs.Common.{◌≡◌, ℕ, Bool, true, List, [], ◌∷◌, z
 use Rattle.std.specs.Prelude.{slice_get, Option, Some, None, if◌then◌else◌}
 use Rattle.std.specs.List.{AllByRecursion}
 use Rattle.std.proofs.lemmas.Bool.{eq-eqb, eqb-true}
-use Rattle.rv_base.specs.declared.journal.Actor.{Actor}
-use Rattle.rv_base.specs.declared.journal.Actor.TheVariants as actor
-use Rattle.rv_base.specs.declared.journal.JournalEntry.{JournalEntry}
-use Rattle.rv_base.specs.declared.journal.Letter.{Letter}
-use Rattle.rv_base.specs.declared.journal.SaveResult.{SaveResult}
-use Rattle.rv_base.specs.Actors.{actor_of, same_actor, IsActor}
-use Rattle.rv_base.specs.Pool.{past}
-use Rattle.rv_base.specs.Turns.{IsFull}
+use Rattle.journal.specs.declared.journal.Actor.{Actor}
+use Rattle.journal.specs.declared.journal.Actor.TheVariants as actor
+use Rattle.journal.specs.declared.journal.JournalEntry.{JournalEntry}
+use Rattle.journal.specs.declared.journal.Letter.{Letter}
+use Rattle.journal.specs.declared.journal.SaveResult.{SaveResult}
+use Rattle.journal.specs.Actors.{actor_of, same_actor, IsActor}
+use Rattle.journal.specs.Pool.{past}
+use Rattle.journal.specs.Turns.{IsFull}
 use Rattle.app_core.specs.Law.{AppLaw}
-use Rattle.rv_runs.specs.Schedule.{IsJournalFull, owed_of}
-use Rattle.rv_runs.specs.States.{Scene}
-use Rattle.rv_world.specs.Debts.{Debt}
-use Rattle.rv_world.specs.World.{IsStuck, Worlding, debt_of, results_in}
+use Rattle.run_spec.specs.Schedule.{IsJournalFull, owed_of}
+use Rattle.run_spec.specs.States.{Scene}
+use Rattle.world.specs.Debts.{Debt}
+use Rattle.world.specs.World.{IsStuck, Worlding, debt_of, results_in}
 use Rattle.closing.proofs.Worlds.{Runs}
 
 -- two actors that are the same

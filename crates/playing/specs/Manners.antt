@@ -1,10 +1,10 @@
 -- How a script is done: its steps in order, or by each actor for itself, in a thread of its own.
 use Rattle.std.specs.Prelude.{ℕ, List}
-use Rattle.rv_base.specs.declared.journal.JournalEntry.{JournalEntry}
-use Rattle.rv_base.specs.declared.journal.SaveResult.{SaveResult}
-use Rattle.rv_base.specs.declared.journal.Turn.{Turn}
-use Rattle.rv_runs.specs.Schedule.{FollowsInOrder, IsBegun}
-use Rattle.rv_runs.specs.States.{Scene}
+use Rattle.journal.specs.declared.journal.JournalEntry.{JournalEntry}
+use Rattle.journal.specs.declared.journal.SaveResult.{SaveResult}
+use Rattle.journal.specs.declared.journal.Turn.{Turn}
+use Rattle.run_spec.specs.Schedule.{FollowsInOrder, IsBegun}
+use Rattle.run_spec.specs.States.{Scene}
 use Rattle.running.specs.Apart.{FollowsApart, IsBegunApart}
 
 pub data Manner : Type 0 where

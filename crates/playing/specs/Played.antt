@@ -1,19 +1,19 @@
 -- What playing makes of a world.
 use Rattle.std.specs.Prelude.{◌≡◌, ℕ, List, ◌++◌, length}
-use Rattle.rv_base.specs.declared.journal.JournalEntry.{JournalEntry}
-use Rattle.rv_base.specs.declared.journal.SaveResult.{SaveResult}
-use Rattle.rv_base.specs.declared.journal.Turn.{Turn}
-use Rattle.rv_base.specs.declared.journal.Turn.TheVariants as turn
-use Rattle.rv_base.specs.declared.wire.Stop.{Stop}
-use Rattle.rv_base.specs.declared.wire.Stop.TheVariants.{OutOfMemory, JournalFull}
-use Rattle.rv_base.specs.Pool.{past}
-use Rattle.rv_laws.specs.Laws.{SuspectsUpTo}
-use Rattle.rv_runs.specs.Schedule.{Losing, Phase, Closes, ClosesTo, FollowsInOrder, TakesInOrder}
-use Rattle.rv_runs.specs.States.{Scene, Sealing}
-use Rattle.rv_base.specs.Stables.{Saving}
+use Rattle.journal.specs.declared.journal.JournalEntry.{JournalEntry}
+use Rattle.journal.specs.declared.journal.SaveResult.{SaveResult}
+use Rattle.journal.specs.declared.journal.Turn.{Turn}
+use Rattle.journal.specs.declared.journal.Turn.TheVariants as turn
+use Rattle.journal.specs.declared.wire.Stop.{Stop}
+use Rattle.journal.specs.declared.wire.Stop.TheVariants.{OutOfMemory, JournalFull}
+use Rattle.journal.specs.Pool.{past}
+use Rattle.run_laws.specs.Laws.{SuspectsUpTo}
+use Rattle.run_spec.specs.Schedule.{Losing, Phase, Closes, ClosesTo, FollowsInOrder, TakesInOrder}
+use Rattle.run_spec.specs.States.{Scene, Sealing}
+use Rattle.journal.specs.Stables.{Saving}
 use Rattle.app_core.specs.Law.{AppLaw}
-use Rattle.rv_world.specs.Refusals.{IsRefusal}
-use Rattle.rv_world.specs.World.{AreMore, Worlding, results_in, scene_in}
+use Rattle.world.specs.Refusals.{IsRefusal}
+use Rattle.world.specs.World.{AreMore, Worlding, results_in, scene_in}
 use Rattle.running.specs.declared.run.Played.{Played}
 use Rattle.running.specs.Threads.{IsLeftLegal, IsLeftPaired}
 use Rattle.closing.specs.declared.closed.Closed.{Closed}

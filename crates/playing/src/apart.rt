@@ -1,10 +1,10 @@
 //! A script whose actors play apart: each does its own steps in a thread of its own.
 ghost use Rattle.std.specs.Prelude.{◌≡◌, ℕ, List, None, [], IfOk, IfErr};
 ghost use Rattle.std.specs.List.{AllByRecursion};
-ghost use Rattle.rv_base.specs.Actors.{IsActor};
-ghost use Rattle.rv_base.specs.Turns.{IsWithinLimits, turn_actor};
-ghost use Rattle.rv_base.specs.Pool.{past};
-ghost use Rattle.rv_world.specs.World.{ForEachScene, Holds, Keeps, PairsStand};
+ghost use Rattle.journal.specs.Actors.{IsActor};
+ghost use Rattle.journal.specs.Turns.{IsWithinLimits, turn_actor};
+ghost use Rattle.journal.specs.Pool.{past};
+ghost use Rattle.world.specs.World.{ForEachScene, Holds, Keeps, PairsStand};
 ghost use Rattle.closing.specs.Closing.{HasMajority};
 ghost use Rattle.closing.specs.Views.{most_view_of_a_script};
 ghost use Rattle.playing.specs.Manners.{Apart};
@@ -13,9 +13,9 @@ ghost use Rattle.playing.specs.Played.{HaltsAs, HasPlayed, StepSuspectsUpTo};
 use app_core::App;
 use closing::Closed;
 use running::{Halt, run_threads};
-use rv_base::{Gate, Stable, Turn};
-use rv_bodies::Body;
-use rv_world::World;
+use journal::{Gate, Stable, Turn};
+use players::Body;
+use world::World;
 use std::alloc::Global;
 use std::sync::Wait;
 use std::thread::Threads;

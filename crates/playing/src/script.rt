@@ -1,11 +1,11 @@
 //! A script whose steps are done in order.
 ghost use Rattle.std.specs.Prelude.{◌≡◌, ℕ, List, None, [], OnOk, IfOk, IfErr};
 ghost use Rattle.std.specs.List.{AllByRecursion};
-ghost use Rattle.rv_base.specs.Actors.{IsActor};
-ghost use Rattle.rv_base.specs.Pool.{past};
-ghost use Rattle.rv_base.specs.Turns.{turn_actor};
-ghost use Rattle.rv_laws.specs.Laws.{IsSuspectedUpTo};
-ghost use Rattle.rv_world.specs.World.{ForEachScene, Holds, Keeps, PairsStand};
+ghost use Rattle.journal.specs.Actors.{IsActor};
+ghost use Rattle.journal.specs.Pool.{past};
+ghost use Rattle.journal.specs.Turns.{turn_actor};
+ghost use Rattle.run_laws.specs.Laws.{IsSuspectedUpTo};
+ghost use Rattle.world.specs.World.{ForEachScene, Holds, Keeps, PairsStand};
 ghost use Rattle.closing.specs.Closing.{HasMajority};
 ghost use Rattle.closing.specs.Views.{most_view_of_a_script};
 ghost use Rattle.playing.specs.Manners.{In_order};
@@ -13,9 +13,9 @@ ghost use Rattle.playing.specs.Played.{HasFollowed, HasPlayedTo, RunStops, StepS
 
 use app_core::App;
 use closing::Closed;
-use rv_base::{Stable, Stop, Turn};
-use rv_bodies::Body;
-use rv_world::World;
+use journal::{Stable, Stop, Turn};
+use players::Body;
+use world::World;
 use std::alloc::Global;
 
 /// Does the steps of a script in order.

@@ -3,9 +3,9 @@
 
 use app_core::Part;
 use app_upgrade::{Slot, all_versions};
-use endings::{NO_MEMORY, words_of};
+use command_line::{NO_MEMORY, words_of};
 use firewall_app::Firewall;
-use rv_base::{FreeGate, Sink, Source, StdSink, StdSource};
+use journal::{FreeGate, Sink, Source, StdSink, StdSource};
 use std::alloc::{AllocError, Global};
 use std::io::ErrorKind;
 use std::process::ExitCode;

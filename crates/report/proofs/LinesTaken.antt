@@ -4,12 +4,12 @@ use Rattle.std.specs.Prelude.{Option, Some, codes, ◌==◌}
 use Rattle.std.proofs.lemmas.Bool.{eqb-true}
 use Rattle.of_types.specs.declared.message.Event.{Event}
 use Rattle.of_types.specs.declared.message.Executed.{Executed}
-use Rattle.rv_base.specs.declared.journal.Actor.TheVariants.{Controller}
-use Rattle.rv_base.specs.declared.journal.JournalEntry.{JournalEntry}
-use Rattle.rv_base.specs.declared.journal.JournalEntry.TheVariants as entry
-use Rattle.rv_base.specs.declared.journal.Letter.{Letter}
-use Rattle.rv_base.specs.declared.journal.Local.{Local}
-use Rattle.rv_base.specs.declared.journal.Local.TheVariants as local
+use Rattle.journal.specs.declared.journal.Actor.TheVariants.{Controller}
+use Rattle.journal.specs.declared.journal.JournalEntry.{JournalEntry}
+use Rattle.journal.specs.declared.journal.JournalEntry.TheVariants as entry
+use Rattle.journal.specs.declared.journal.Letter.{Letter}
+use Rattle.journal.specs.declared.journal.Local.{Local}
+use Rattle.journal.specs.declared.journal.Local.TheVariants as local
 use Rattle.of_messages.specs.Canonical.{actions_of}
 use Rattle.of_match.specs.Writing.{canonical_bare_match}
 use Rattle.of_ravana.specs.Canonical.{canonical_order}

@@ -4,9 +4,9 @@ use Rattle.std.specs.Prelude.{Option, Some, codes, IfOk, IfSome}
 use Rattle.std.specs.List.{AllByRecursion}
 use Rattle.of_bytes.proofs.Steps.{ok_is}
 use Rattle.numerals.specs.Numerals.{is_numeral}
-use Rattle.rv_base.specs.declared.journal.JournalEntry.{JournalEntry}
-use Rattle.rv_base.specs.declared.journal.JournalEntry.TheVariants as entry
-use Rattle.rv_base.proofs.All.{all_append}
+use Rattle.journal.specs.declared.journal.JournalEntry.{JournalEntry}
+use Rattle.journal.specs.declared.journal.JournalEntry.TheVariants as entry
+use Rattle.journal.proofs.All.{all_append}
 use Rattle.vr_log.specs.declared.entry.Entry.{Entry}
 use Rattle.vr_log.specs.Log.{log_size}
 use Rattle.vr_log.specs.Same.{same_numbers}

@@ -8,7 +8,7 @@ use Rattle.of_types.specs.declared.setup.Prefix.{Prefix}
 use Rattle.of_types.specs.declared.setup.Rule.{Rule}
 use Rattle.of_types.specs.declared.setup.Setup.{Setup}
 use Rattle.of_types.specs.Setups.{is_group, IsAddressPrefix, IsRule, IsSetup}
-use Rattle.rv_base.proofs.All.{all_append, all_weaker}
+use Rattle.journal.proofs.All.{all_append, all_weaker}
 use Rattle.report.specs.Lines.{line_at}
 use Rattle.report.specs.OneLine.{begins, may_join, is_asked, counts_at, ports_at, link_at, link_words_at, prefix_at, rule_words_at, rule_at}
 use Rattle.report.specs.Reading.{port_counts_at, links_at, rules_at, setup_at}

@@ -8,7 +8,7 @@ use Rattle.of_types.specs.declared.setup.Link.{Link}
 use Rattle.of_types.specs.declared.setup.Prefix.{Prefix}
 use Rattle.of_types.specs.declared.setup.Setup.{Setup}
 use Rattle.of_types.specs.Setups.{is_group, IsPort, IsAddressPrefix, AreApart, ends_of}
-use Rattle.rv_base.proofs.All.{all_append}
+use Rattle.journal.proofs.All.{all_append}
 use Rattle.report.specs.OneLine.{is_port, may_join, is_asked}
 use Rattle.wires.specs.Wires.{is_taken}
 use Rattle.wires.proofs.Apart.{same_end_sym, apart_link, free_is, not_true}

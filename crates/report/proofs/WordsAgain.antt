@@ -7,8 +7,8 @@ use Rattle.std.proofs.lemmas.Bool.{and_parts, cases_lt, lt-leb, leb-true, le-leb
 use Rattle.std.proofs.lemmas.Fmt.{decimal_nonempty}
 use Rattle.numerals.specs.Numerals.{is_digit, are_digits, numeral_within}
 use Rattle.numerals.proofs.Decimal.{numeral_again}
-use Rattle.rv_base.specs.declared.journal.Actor.{Actor}
-use Rattle.rv_base.specs.declared.journal.Actor.TheVariants.{Controller, Switch}
+use Rattle.journal.specs.declared.journal.Actor.{Actor}
+use Rattle.journal.specs.declared.journal.Actor.TheVariants.{Controller, Switch}
 use Rattle.report.specs.Records.{AreBytes, FitsActor}
 use Rattle.report.specs.Report.{word, number, labelled, actor_word, flag, address_word, hex, hex_of, hex_digit}
 use Rattle.report.specs.Spelled.{◌>>=◌, after_at, ends_word, number8_at, number16_at, number32_at, number64_at, labelled_at, actor_at, controller_at, dash_or, flag_at, is_dot, dotted_at, address_of, address_at, digit_of, byte_of, digits_of, hex_bytes, hex_at}

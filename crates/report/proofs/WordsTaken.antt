@@ -7,8 +7,8 @@ use Rattle.std.proofs.lemmas.Bool.{and_parts, leb-true, eqb-true, le-leb, lt-leb
 use Rattle.std.proofs.lemmas.List.{take-append-drop}
 use Rattle.numerals.specs.Numerals.{numeral_within}
 use Rattle.numerals.proofs.Decimal.{numeral_spells}
-use Rattle.rv_base.specs.declared.journal.Actor.{Actor}
-use Rattle.rv_base.specs.declared.journal.Actor.TheVariants.{Controller, Switch}
+use Rattle.journal.specs.declared.journal.Actor.{Actor}
+use Rattle.journal.specs.declared.journal.Actor.TheVariants.{Controller, Switch}
 use Rattle.report.specs.Records.{AreBytes, FitsActor}
 use Rattle.report.specs.Report.{word, number, labelled, actor_word, flag, address_word, hex, hex_of, hex_digit}
 use Rattle.report.specs.Spelled.{◌>>=◌, after_at, word_at, number8_at, number16_at, number32_at, number64_at, labelled_at, actor_of, actor_at, controller_of, controller_at, dash_or, flag_of, flag_at, is_dot, cut_at, length_before, dotted_at, address_of, address_at, digit_of, byte_of, digits_of, hex_bytes, hex_at}

@@ -13,8 +13,8 @@ use Rattle.of_types.specs.declared.message.Order.{Order}
 use Rattle.of_types.specs.declared.message.Order.TheVariants as order
 use Rattle.of_types.specs.Sizes.{happening_size, order_size, plain_size}
 use Rattle.of_types.specs.Valid.{IsValidHappening, IsValidOrder, IsValidPlain}
-use Rattle.rv_base.specs.declared.journal.JournalEntry.{JournalEntry}
-use Rattle.rv_base.specs.declared.journal.JournalEntry.TheVariants as entry
+use Rattle.journal.specs.declared.journal.JournalEntry.{JournalEntry}
+use Rattle.journal.specs.declared.journal.JournalEntry.TheVariants as entry
 use Rattle.vr_log.specs.declared.entry.Entry.{Entry}
 use Rattle.vr_log.specs.declared.entry.Entry.TheVariants.{Received, Processed}
 use Rattle.vr_log.specs.Sizes.{IsValidEntry}

@@ -8,8 +8,8 @@ use Rattle.of_types.specs.declared.message.Event.{Event}
 use Rattle.of_types.specs.declared.message.Executed.{Executed}
 use Rattle.of_types.specs.declared.message.OfMessage.{OfMessage}
 use Rattle.of_types.specs.declared.message.OfMessage.TheVariants as plain
-use Rattle.rv_base.specs.declared.journal.JournalEntry.{JournalEntry}
-use Rattle.rv_base.specs.declared.journal.JournalEntry.TheVariants as entry
+use Rattle.journal.specs.declared.journal.JournalEntry.{JournalEntry}
+use Rattle.journal.specs.declared.journal.JournalEntry.TheVariants as entry
 use Rattle.vr_log.specs.declared.entry.Entry.{Entry}
 use Rattle.vr_log.specs.declared.entry.Entry.TheVariants.{Received, Processed}
 use Rattle.report.specs.Records.{AreBytes, FitsRule, FitsActor, FitsLetter, FitsInput}

@@ -8,11 +8,11 @@ use Rattle.of_types.specs.declared.setup.Link.{Link}
 use Rattle.of_types.specs.declared.setup.Prefix.{Prefix}
 use Rattle.of_types.specs.declared.setup.Rule.{Rule}
 use Rattle.of_types.specs.Setups.{is_group}
-use Rattle.rv_base.specs.declared.journal.JournalEntry.{JournalEntry}
-use Rattle.rv_base.specs.declared.journal.JournalEntry.TheVariants as entry
-use Rattle.rv_base.specs.declared.journal.Letter.{Letter}
-use Rattle.rv_base.specs.declared.journal.Local.{Local}
-use Rattle.rv_base.specs.declared.journal.Local.TheVariants as local
+use Rattle.journal.specs.declared.journal.JournalEntry.{JournalEntry}
+use Rattle.journal.specs.declared.journal.JournalEntry.TheVariants as entry
+use Rattle.journal.specs.declared.journal.Letter.{Letter}
+use Rattle.journal.specs.declared.journal.Local.{Local}
+use Rattle.journal.specs.declared.journal.Local.TheVariants as local
 use Rattle.vr_log.specs.declared.entry.Entry.{Entry}
 use Rattle.vr_log.specs.declared.entry.Entry.TheVariants.{Received, Processed}
 use Rattle.report.specs.declared.journal_lines.PostLine.{PostLine}

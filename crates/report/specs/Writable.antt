@@ -7,8 +7,8 @@ use Rattle.of_types.specs.declared.message.Executed.{Executed}
 use Rattle.of_types.specs.Setups.{IsSetup}
 use Rattle.of_types.specs.Sizes.{happening_size, order_size}
 use Rattle.of_types.specs.Valid.{IsValidHappening, IsValidMatch, IsValidOrder}
-use Rattle.rv_base.specs.declared.journal.JournalEntry.{JournalEntry}
-use Rattle.rv_base.specs.declared.journal.JournalEntry.TheVariants as entry
+use Rattle.journal.specs.declared.journal.JournalEntry.{JournalEntry}
+use Rattle.journal.specs.declared.journal.JournalEntry.TheVariants as entry
 use Rattle.vr_log.specs.Sizes.{IsValidEntry}
 use Rattle.report.specs.declared.record.Record.{Record}
 use Rattle.report.specs.declared.record.Shown.{Shown}

@@ -13,7 +13,7 @@ use of_messages::{
     flow_mod_fits, flow_removed_fits, packet_in_fits, packet_out_fits, port_status_fits,
 };
 use of_types::{Event, Executed, Happening, Match, Octets, Order, Rule};
-use rv_base::{Actor, JournalEntry, Letter, Local};
+use journal::{Actor, JournalEntry, Letter, Local};
 use vr_log::Entry;
 
 /// A value of whose numbers and bytes its type says something.

@@ -9,7 +9,7 @@ use crate::counted::{CountedLine, read_each};
 use crate::fault::{Broken, Misfit, on_line};
 use crate::spelled::{actor, after, ended, flag, hex, known, number32, number64};
 use of_types::{Items, Octets};
-use rv_base::{Actor, Journal, JournalEntry, Letter, Local};
+use journal::{Actor, Journal, JournalEntry, Letter, Local};
 use std::alloc::Global;
 
 impl CountedLine for Letter<Octets> {

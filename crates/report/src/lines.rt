@@ -1,12 +1,12 @@
 //! The lines of a report.
 ghost use Rattle.std.specs.Prelude.{◌≡◌, ◌++◌, ◌∷◌, [], ℕ, List, OnOk, codes};
-ghost use Rattle.rv_base.specs.declared.journal.JournalEntry.TheVariants as entry;
+ghost use Rattle.journal.specs.declared.journal.JournalEntry.TheVariants as entry;
 ghost use Rattle.report.specs.Report.{lines_of, line, actor_word, entry_lines, event_words};
 
 use crate::word::{Word, write_line};
 use of_ravana::canonical_happening;
 use of_types::{Event, Link, Octets, Rule};
-use rv_base::{Actor, JournalEntry, Letter, Local};
+use journal::{Actor, JournalEntry, Letter, Local};
 use std::alloc::{AllocError, Global};
 use vr_log::Entry;
 

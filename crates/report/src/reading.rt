@@ -17,7 +17,7 @@ use crate::spelled::{after, end_of_line, ended, labelled};
 use crate::sums::write_sum_words;
 use crate::switch_lines::switches;
 use of_types::{Items, Octets};
-use rv_base::Journal;
+use journal::Journal;
 use std::alloc::{AllocError, Global};
 use vr_log::Entries;
 

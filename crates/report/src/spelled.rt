@@ -8,7 +8,7 @@ ghost use Rattle.report.specs.Spelled.{◌>>=◌ as then_read, Gives, is_digit};
 use crate::fault::Misfit;
 use numerals::numeral_within;
 use of_types::Octets;
-use rv_base::Actor;
+use journal::Actor;
 use std::alloc::Global;
 
 /// What comes behind a text.

@@ -10,7 +10,7 @@ use of_match::bare_match;
 use of_messages::actions_of;
 use of_ravana::canonical_order;
 use of_types::{Executed, Octets};
-use rv_base::Actor;
+use journal::Actor;
 use std::alloc::{AllocError, Global};
 
 fn write_executed(

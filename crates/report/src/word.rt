@@ -8,7 +8,7 @@ use crate::words::{
     write_number_or_dash, write_word,
 };
 use of_types::Octets;
-use rv_base::Actor;
+use journal::Actor;
 use std::alloc::AllocError;
 
 /// A word of a line.

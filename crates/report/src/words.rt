@@ -5,7 +5,7 @@ ghost use Rattle.report.specs.Report.{hex_digit, hex_of, hex, word, newline, act
 
 use itoa::{Buffer, Integer};
 use of_types::Octets;
-use rv_base::Actor;
+use journal::Actor;
 use std::alloc::AllocError;
 
 /// Writes the digits of a number.

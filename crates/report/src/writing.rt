@@ -1,14 +1,14 @@
 //! Writing a report to a sink.
 ghost use Rattle.std.specs.Prelude.{◌≡◌, ◌≤◌, Err, OnOk};
 ghost use Rattle.std.specs.Io.KnownBytes.{Appends};
-ghost use Rattle.rv_base.specs.Causes.{Rose};
+ghost use Rattle.journal.specs.Causes.{Rose};
 ghost use Rattle.report.specs.Report.{text};
 ghost use Rattle.streams.specs.Fronts.{AppendsFront};
 ghost use Rattle.streams.specs.declared.fault.StreamFault.TheVariants as faults;
 
 use crate::record::Record;
 use crate::report_text::text;
-use rv_base::Sink;
+use journal::Sink;
 use std::alloc::Global;
 use streams::{StreamFault, write_all};
 

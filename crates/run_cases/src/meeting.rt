@@ -1,13 +1,13 @@
 //! Two controllers meet: each raises a flag and looks for the other's. Both see it only where they run at the same time, so one
 //! thread that plays all actors doesn't get through, nor do threads that take their turns one after another.
 ghost use Rattle.std.specs.Prelude.{◌≡◌, IfOk};
-ghost use Rattle.rv_base.specs.Stables.{pair_of};
+ghost use Rattle.journal.specs.Stables.{pair_of};
 ghost use Rattle.top_call.specs.Play.{AreFresh};
 
 use crate::serving::{PLAIN, Served, serve_by};
 use cases::{Call, Difference, words_of};
 use of_types::Octets;
-use rv_base::{Actor, Failed, FreeGate, Gate, MemoryStable, Stable};
+use journal::{Actor, Failed, FreeGate, Gate, MemoryStable, Stable};
 use std::alloc::{AllocError, Global};
 use std::sync::Wait;
 use std::sync::atomic::{AtomicU64, Ordering};

@@ -2,9 +2,9 @@
 //! events. It comes to rest, and the audit holds what its switches did against one controller that never fails.
 ghost use Rattle.std.specs.Prelude.{◌<◌, ℕ, List, length, IfSome};
 ghost use Rattle.std.specs.List.{AllByRecursion};
-ghost use Rattle.rv_base.specs.Actors.{IsActor};
-ghost use Rattle.rv_base.specs.Turns.{turn_actor};
-ghost use Rattle.rv_world.specs.World.{Holds, Keeps, PairsStand};
+ghost use Rattle.journal.specs.Actors.{IsActor};
+ghost use Rattle.journal.specs.Turns.{turn_actor};
+ghost use Rattle.world.specs.World.{Holds, Keeps, PairsStand};
 ghost use Rattle.scenario.specs.Scenario.{IsScenario};
 
 use crate::wanting::{Wanting, app_of, shelves_of};
@@ -13,11 +13,11 @@ use audit::{Verdict, check};
 use cases::Difference;
 use closing::{Closed, may_close};
 use report::text;
-use rv_actors::Bytes;
-use rv_base::{JournalEntry, MemoryStable, Stable, Stop, Turn};
-use rv_bodies::Body;
-use rv_record::bare_record;
-use rv_world::World;
+use byte_bodies::Bytes;
+use journal::{JournalEntry, MemoryStable, Stable, Stop, Turn};
+use players::Body;
+use world_record::bare_record;
+use world::World;
 use scenario::{Scenario, read_scenario};
 use std::alloc::{AllocError, Global};
 use top_call::stables;

@@ -8,7 +8,7 @@ use cases::{Answer, Call, ControllerSave};
 use firewall_app::Firewall;
 use learning_app::PlainLearning;
 use of_types::Octets;
-use rv_base::{FailingSave, FreeGate, Gate, MemorySink, MemorySource, MemoryStable, Stable};
+use journal::{FailingSave, FreeGate, Gate, MemorySink, MemorySource, MemoryStable, Stable};
 use std::alloc::{AllocError, Global};
 use std::sync::Wait;
 use std::thread::Threads;

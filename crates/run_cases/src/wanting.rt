@@ -2,7 +2,7 @@
 ghost use Rattle.std.specs.Prelude.{◌≡◌, ◌∷◌, [], length, IfOk, OnOk};
 ghost use Rattle.app_core.specs.Chain.{learning};
 ghost use Rattle.group_controller.specs.Turns.{AreAlike};
-ghost use Rattle.rv_world.specs.World.{AreStocked, IsStocked};
+ghost use Rattle.world.specs.World.{AreStocked, IsStocked};
 
 use app_chain::ChainOf;
 use app_core::App;

@@ -1,8 +1,8 @@
 -- How a call ends.
 use Rattle.std.specs.Prelude.{◌≡◌, ℕ, List, ◌++◌, Option, None, codes, ⊤}
 use Rattle.report.specs.Report.{newline}
-use Rattle.endings.specs.Conversion as call
-use Rattle.endings.specs.declared.conversion.Ending.{Ending}
+use Rattle.command_line.specs.Conversion as call
+use Rattle.command_line.specs.declared.conversion.Ending.{Ending}
 use Rattle.run_chart.specs.Words.{window_of}
 
 unfoldable pub usage_line : List ℕ

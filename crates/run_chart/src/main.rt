@@ -4,8 +4,8 @@
 mod outcome;
 mod window;
 
-use endings::{NO_MEMORY, accepted_words};
-use rv_base::{StdSink, StdSource};
+use command_line::{NO_MEMORY, accepted_words};
+use journal::{StdSink, StdSource};
 use std::io;
 use std::process::ExitCode;
 

@@ -1,17 +1,17 @@
 //! How a call ends, and what it writes.
 ghost use Rattle.std.specs.Prelude.{◌≡◌, ◌≢◌, map, string_bytes, IfOk};
 ghost use Rattle.std.specs.Io.KnownBytes.{Appends};
-ghost use Rattle.rv_base.specs.Causes.{Rose};
-ghost use Rattle.endings.specs.Conversion as call;
-ghost use Rattle.endings.specs.declared.conversion.Ending.{Ending};
+ghost use Rattle.journal.specs.Causes.{Rose};
+ghost use Rattle.command_line.specs.Conversion as call;
+ghost use Rattle.command_line.specs.declared.conversion.Ending.{Ending};
 ghost use Rattle.run_chart.specs.Outcome as out;
 
 use crate::window::window_of;
 use chart::{Window, draw, svg};
-use endings::{Ending, NO_MEMORY, Taken, end_call, take_report};
+use command_line::{Ending, NO_MEMORY, Taken, end_call, take_report};
 use of_types::Octets;
 use report::Record;
-use rv_base::{Sink, Source};
+use journal::{Sink, Source};
 use std::alloc::{AllocError, Global};
 
 /// The line that tells which words there are.

@@ -2,8 +2,8 @@
 use Rattle.std.specs.Prelude.{◌≡◌, ◌<◌, ℕ, List, ◌++◌, Option, codes}
 use Rattle.report.specs.Report.{newline}
 use Rattle.report.specs.declared.record.Record.{Record}
-use Rattle.endings.specs.Conversion as call
-use Rattle.endings.specs.declared.conversion.Ending.{Ending}
+use Rattle.command_line.specs.Conversion as call
+use Rattle.command_line.specs.declared.conversion.Ending.{Ending}
 use Rattle.capture_laws.specs.Packets.{captured}
 use Rattle.capture_laws.specs.Interfaces.{pcapng_of}
 

@@ -2,21 +2,21 @@
 use Rattle.std.proofs.Common.{◌≡◌, ℕ, List, [], ◌∷◌, ◌++◌}
 use Rattle.std.specs.Prelude.{Option, Some, None}
 use Rattle.app_core.specs.Law.{AppLaw}
-use Rattle.rv_base.specs.declared.journal.Actor.{Actor}
-use Rattle.rv_base.specs.declared.journal.JournalEntry.{JournalEntry}
-use Rattle.rv_base.specs.declared.journal.JournalEntry.TheVariants.{Refused}
-use Rattle.rv_base.specs.declared.journal.Letter.{Letter}
-use Rattle.rv_base.specs.declared.journal.Packet.{Packet}
-use Rattle.rv_base.specs.Turns.{posting}
+use Rattle.journal.specs.declared.journal.Actor.{Actor}
+use Rattle.journal.specs.declared.journal.JournalEntry.{JournalEntry}
+use Rattle.journal.specs.declared.journal.JournalEntry.TheVariants.{Refused}
+use Rattle.journal.specs.declared.journal.Letter.{Letter}
+use Rattle.journal.specs.declared.journal.Packet.{Packet}
+use Rattle.journal.specs.Turns.{posting}
 use Rattle.group_controller.specs.declared.messages.ControllerInput.{ControllerInput}
 use Rattle.group_controller.specs.declared.messages.ControllerInput.TheVariants as controller_input
 use Rattle.group_controller.specs.declared.messages.ControllerSays.{ControllerSays}
 use Rattle.group_controller.specs.Turns.{Controlling, Controls, Turns, state_of}
-use Rattle.rv_runs.specs.States.{Scene, controller_hears, controller_message, controller_speech, crashed}
-use Rattle.rv_world.specs.Standing.{ControllerStands}
-use Rattle.rv_world.specs.World.{IsOwed}
-use Rattle.rv_world.proofs.Controlling as standing
-use Rattle.switch_board.specs.Calls.{beside}
+use Rattle.run_spec.specs.States.{Scene, controller_hears, controller_message, controller_speech, crashed}
+use Rattle.world.specs.Standing.{ControllerStands}
+use Rattle.world.specs.World.{IsOwed}
+use Rattle.world.proofs.Controlling as standing
+use Rattle.shared_wire.specs.Calls.{beside}
 use Rattle.running.specs.Hearing.{Hears}
 use Rattle.running.proofs.Hearing.{heard, unheard}
 

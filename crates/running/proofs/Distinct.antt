@@ -2,11 +2,11 @@
 use Rattle.std.proofs.Common.{◌≡◌, ◌<◌, ℕ, ◌+◌, zero, suc, false, ◌++◌, length, map, refl, arith, length-append}
 use Rattle.std.specs.List.{AllByRecursion, IsDistinct, range_with_len}
 use Rattle.std.proofs.lemmas.List.FromFn.{length-map-range_with_len}
-use Rattle.rv_base.specs.declared.journal.Actor.{Actor}
-use Rattle.rv_base.specs.declared.journal.Actor.TheVariants as actor
-use Rattle.rv_base.specs.Actors.{same_actor}
-use Rattle.rv_base.proofs.All.{all_append}
-use Rattle.switch_board.proofs.Parts.{not_same}
+use Rattle.journal.specs.declared.journal.Actor.{Actor}
+use Rattle.journal.specs.declared.journal.Actor.TheVariants as actor
+use Rattle.journal.specs.Actors.{same_actor}
+use Rattle.journal.proofs.All.{all_append}
+use Rattle.shared_wire.proofs.Parts.{not_same}
 use Rattle.running.specs.Runs.{actors_up_to}
 
 later_controllers : (a b n : ℕ) → a < b → AllByRecursion (λ (y : Actor). same_actor (actor.Controller a) y ≡ false) (map (λ (c : ℕ). actor.Controller c) (range_with_len b n))

@@ -1,13 +1,13 @@
 -- How a job ended, for what the journal tells.
 use Rattle.std.proofs.Common.{◌<◌, ◌⊎◌, inl, inr, ℕ, List, [], refl, subst, arith}
 use Rattle.std.specs.Prelude.{Option}
-use Rattle.rv_base.specs.declared.journal.JournalEntry.{JournalEntry}
-use Rattle.rv_base.specs.declared.journal.Letter.{Letter}
-use Rattle.rv_base.specs.declared.journal.Packet.{Packet}
-use Rattle.rv_base.specs.declared.journal.Turn.{Turn}
-use Rattle.rv_base.specs.Limits.{bytes_limit, letters_limit}
-use Rattle.rv_base.specs.Pool.{past}
-use Rattle.rv_base.specs.Turns.{IsFull, IsWithinLimits}
+use Rattle.journal.specs.declared.journal.JournalEntry.{JournalEntry}
+use Rattle.journal.specs.declared.journal.Letter.{Letter}
+use Rattle.journal.specs.declared.journal.Packet.{Packet}
+use Rattle.journal.specs.declared.journal.Turn.{Turn}
+use Rattle.journal.specs.Limits.{bytes_limit, letters_limit}
+use Rattle.journal.specs.Pool.{past}
+use Rattle.journal.specs.Turns.{IsFull, IsWithinLimits}
 use Rattle.running.specs.declared.job.Job.{Job}
 use Rattle.running.specs.Jobs.{HasDone, IsAtEnd, HasNoRoom}
 

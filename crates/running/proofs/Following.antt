@@ -1,10 +1,10 @@
 -- Each actor takes its own steps in order, also in a journal that others have made longer.
 use Rattle.std.proofs.Common.{◌≡◌, ◌≤◌, ℕ, Bool, true, false, suc, List, [], ◌∷◌, ◌++◌, length, refl, sym, ◌∙◌, ap, arith}
-use Rattle.rv_base.specs.declared.journal.Actor.{Actor}
-use Rattle.rv_base.specs.declared.journal.JournalEntry.{JournalEntry}
-use Rattle.rv_base.specs.declared.journal.Turn.{Turn}
-use Rattle.rv_base.specs.Actors.{same_actor, actor_of, is_input}
-use Rattle.rv_base.specs.Part.{part}
+use Rattle.journal.specs.declared.journal.Actor.{Actor}
+use Rattle.journal.specs.declared.journal.JournalEntry.{JournalEntry}
+use Rattle.journal.specs.declared.journal.Turn.{Turn}
+use Rattle.journal.specs.Actors.{same_actor, actor_of, is_input}
+use Rattle.journal.specs.Part.{part}
 use Rattle.running.specs.Apart.{inputs_of, TakesOwn}
 
 module _ {B : Type 0} where

@@ -3,24 +3,24 @@ use Rattle.std.proofs.Common.{◌≡◌, ◌≤◌, ◌<◌, ℕ, ◌+◌, zero,
 use Rattle.std.specs.Prelude.{Some, None, slice_get, map}
 use Rattle.std.specs.List.{AllByRecursion, range_with_len}
 use Rattle.std.proofs.lemmas.Option.{slice_get_within}
-use Rattle.rv_base.specs.declared.journal.Actor.TheVariants as actor
-use Rattle.rv_base.specs.declared.journal.JournalEntry.{JournalEntry}
-use Rattle.rv_base.specs.declared.journal.Turn.{Turn}
-use Rattle.rv_base.specs.declared.wire.Stop.{Stop}
+use Rattle.journal.specs.declared.journal.Actor.TheVariants as actor
+use Rattle.journal.specs.declared.journal.JournalEntry.{JournalEntry}
+use Rattle.journal.specs.declared.journal.Turn.{Turn}
+use Rattle.journal.specs.declared.wire.Stop.{Stop}
 use Rattle.of_types.specs.declared.setup.Setup.{Setup}
-use Rattle.rv_base.specs.Actors.{IsActor}
-use Rattle.rv_base.specs.Part.{part}
-use Rattle.rv_base.specs.Pool.{past}
-use Rattle.rv_base.specs.Stables.{Saving}
-use Rattle.rv_base.specs.Turns.{turn_actor}
+use Rattle.journal.specs.Actors.{IsActor}
+use Rattle.journal.specs.Part.{part}
+use Rattle.journal.specs.Pool.{past}
+use Rattle.journal.specs.Stables.{Saving}
+use Rattle.journal.specs.Turns.{turn_actor}
 use Rattle.app_core.specs.Law.{AppLaw}
 use Rattle.of_switch.specs.State.{SwitchState, starting_switch}
 use Rattle.group_controller.specs.Turns.{Controlling}
-use Rattle.rv_runs.specs.Committed.{controller_state, switch_state}
-use Rattle.rv_runs.specs.Legal.{results_of}
-use Rattle.rv_runs.specs.States.{Sealing, controller_at}
-use Rattle.rv_world.specs.World.{AreNew, AreTold, Holds, IsNew, IsPlayed, Keeps, PairsStand, Worlding, resting, results_in, scene_in, starting_switches}
-use Rattle.rv_world.proofs.Places.{results_at}
+use Rattle.run_spec.specs.Committed.{controller_state, switch_state}
+use Rattle.run_spec.specs.Legal.{results_of}
+use Rattle.run_spec.specs.States.{Sealing, controller_at}
+use Rattle.world.specs.World.{AreNew, AreTold, Holds, IsNew, IsPlayed, Keeps, PairsStand, Worlding, resting, results_in, scene_in, starting_switches}
+use Rattle.world.proofs.Places.{results_at}
 use Rattle.running.specs.declared.run.Played.{Played}
 use Rattle.running.specs.Apart.{FollowsApart}
 use Rattle.running.specs.Threads.{HaltsApart, HasPlayedApart, StartsApart}

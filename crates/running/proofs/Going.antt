@@ -2,27 +2,27 @@
 use Rattle.std.proofs.Common.{◌≡◌, ℕ, true, zero, Bool, List, [], ◌∷◌, ◌++◌, drop, refl, sym, ◌∙◌, ap, subst, Result, Ok, Err, IfOk}
 use Rattle.std.specs.Prelude.{Option, Some, None, IfSome}
 use Rattle.std.proofs.lemmas.List.{reverse-append}
-use Rattle.rv_base.specs.declared.journal.Actor.{Actor}
-use Rattle.rv_base.specs.declared.journal.JournalEntry.{JournalEntry}
-use Rattle.rv_base.specs.declared.journal.Letter.{Letter}
-use Rattle.rv_base.specs.declared.journal.Local.{Local as LocalInput}
-use Rattle.rv_base.specs.declared.journal.Packet.{Packet}
-use Rattle.rv_base.specs.declared.journal.Turn.{Turn}
-use Rattle.rv_base.specs.declared.journal.Turn.TheVariants as turn
-use Rattle.rv_base.specs.declared.place.PacketPlace.{PacketPlace}
-use Rattle.rv_base.specs.Orderly.{IsOrderly}
-use Rattle.rv_base.specs.Part.{drawn, packet_of}
-use Rattle.rv_base.specs.Places.{IsFound, packet_at}
-use Rattle.rv_base.specs.Pool.{past, pick, pool}
-use Rattle.rv_base.specs.Turns.{entry_of, drawn_entry, lost_entry, posting, posted, turn_actor, turn_entries}
-use Rattle.rv_runs.specs.declared.messages.Unsealed.{Unsealed}
-use Rattle.rv_runs.specs.Legal.{FitsTypes}
-use Rattle.rv_runs.specs.Messages.{way_of}
-use Rattle.rv_runs.specs.States.{Sealing, content}
-use Rattle.rv_runs.proofs.Pools.{orderly_before}
-use Rattle.rv_base.proofs.Found.{IsPicked, body_of, picked, picked_packet}
-use Rattle.switch_board.specs.Places.{PlaceState}
-use Rattle.switch_board.specs.Calls.{beside, Adds, AddsNothing}
+use Rattle.journal.specs.declared.journal.Actor.{Actor}
+use Rattle.journal.specs.declared.journal.JournalEntry.{JournalEntry}
+use Rattle.journal.specs.declared.journal.Letter.{Letter}
+use Rattle.journal.specs.declared.journal.Local.{Local as LocalInput}
+use Rattle.journal.specs.declared.journal.Packet.{Packet}
+use Rattle.journal.specs.declared.journal.Turn.{Turn}
+use Rattle.journal.specs.declared.journal.Turn.TheVariants as turn
+use Rattle.journal.specs.declared.place.PacketPlace.{PacketPlace}
+use Rattle.journal.specs.Orderly.{IsOrderly}
+use Rattle.journal.specs.Part.{drawn, packet_of}
+use Rattle.journal.specs.Places.{IsFound, packet_at}
+use Rattle.journal.specs.Pool.{past, pick, pool}
+use Rattle.journal.specs.Turns.{entry_of, drawn_entry, lost_entry, posting, posted, turn_actor, turn_entries}
+use Rattle.run_spec.specs.declared.messages.Unsealed.{Unsealed}
+use Rattle.run_spec.specs.Legal.{FitsTypes}
+use Rattle.run_spec.specs.Messages.{way_of}
+use Rattle.run_spec.specs.States.{Sealing, content}
+use Rattle.run_spec.proofs.Pools.{orderly_before}
+use Rattle.journal.proofs.Found.{IsPicked, body_of, picked, picked_packet}
+use Rattle.shared_wire.specs.Places.{PlaceState}
+use Rattle.shared_wire.specs.Calls.{beside, Adds, AddsNothing}
 use Rattle.running.specs.Hearing.{Advances, Hears}
 
 module _ {B I : Type 0} (sealing : Sealing B) (hears : Actor → Unsealed → I) (locally : LocalInput → I) (p q : PlaceState B) (letters : List (Letter B)) (step : Turn) where

@@ -1,14 +1,14 @@
 -- What an actor hears at an entry of its own is its input there; else it rests.
 use Rattle.std.proofs.Common.{◌≡◌, List, refl}
 use Rattle.std.specs.Prelude.{Option, Some, None}
-use Rattle.rv_base.specs.declared.journal.Actor.{Actor}
-use Rattle.rv_base.specs.declared.journal.JournalEntry.{JournalEntry}
-use Rattle.rv_base.specs.declared.journal.JournalEntry.TheVariants.{Post, Draw, Lose, Local, Idle, Refused}
-use Rattle.rv_base.specs.declared.journal.Packet.{Packet}
-use Rattle.rv_runs.specs.Inputs.{IsInput, By_draw, By_local}
-use Rattle.rv_runs.specs.Legal.{EntryFits}
-use Rattle.rv_runs.specs.States.{Sealing, Speech}
-use Rattle.rv_world.proofs.Standing.{IsIdle}
+use Rattle.journal.specs.declared.journal.Actor.{Actor}
+use Rattle.journal.specs.declared.journal.JournalEntry.{JournalEntry}
+use Rattle.journal.specs.declared.journal.JournalEntry.TheVariants.{Post, Draw, Lose, Local, Idle, Refused}
+use Rattle.journal.specs.declared.journal.Packet.{Packet}
+use Rattle.run_spec.specs.Inputs.{IsInput, By_draw, By_local}
+use Rattle.run_spec.specs.Legal.{EntryFits}
+use Rattle.run_spec.specs.States.{Sealing, Speech}
+use Rattle.world.proofs.Standing.{IsIdle}
 use Rattle.running.specs.Hearing.{Hears}
 
 module _ {B I A : Type 0} (speech : Speech I A) (sealing : Sealing B) where

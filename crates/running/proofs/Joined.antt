@@ -5,26 +5,26 @@ use Rattle.std.specs.List.{AllByRecursion}
 use Rattle.std.proofs.lemmas.List.{reverse-append}
 use Rattle.of_types.specs.declared.setup.Setup.{Setup}
 use Rattle.of_types.specs.Setups.{IsSetup}
-use Rattle.rv_base.specs.declared.journal.Actor.{Actor}
-use Rattle.rv_base.specs.declared.journal.Actor.TheVariants as actor
-use Rattle.rv_base.specs.declared.journal.JournalEntry.{JournalEntry}
-use Rattle.rv_base.specs.declared.journal.Letter.{Letter}
-use Rattle.rv_base.specs.declared.journal.Packet.{Packet}
-use Rattle.rv_base.specs.declared.journal.Turn.{Turn}
-use Rattle.rv_base.specs.Actors.{actor_of, IsActor}
-use Rattle.rv_base.specs.Orderly.{IsOrderly}
-use Rattle.rv_base.specs.Part.{part}
-use Rattle.rv_base.specs.Pool.{past}
-use Rattle.rv_base.specs.Turns.{IsFull}
+use Rattle.journal.specs.declared.journal.Actor.{Actor}
+use Rattle.journal.specs.declared.journal.Actor.TheVariants as actor
+use Rattle.journal.specs.declared.journal.JournalEntry.{JournalEntry}
+use Rattle.journal.specs.declared.journal.Letter.{Letter}
+use Rattle.journal.specs.declared.journal.Packet.{Packet}
+use Rattle.journal.specs.declared.journal.Turn.{Turn}
+use Rattle.journal.specs.Actors.{actor_of, IsActor}
+use Rattle.journal.specs.Orderly.{IsOrderly}
+use Rattle.journal.specs.Part.{part}
+use Rattle.journal.specs.Pool.{past}
+use Rattle.journal.specs.Turns.{IsFull}
 use Rattle.of_switch.specs.State.{SwitchState}
 use Rattle.group_controller.specs.Turns.{Controlling}
-use Rattle.rv_runs.specs.States.{Scene, Sealing, controller_at, controller_message, switch_at, switch_message}
-use Rattle.rv_runs.specs.Legal.{IsLegalPast, results_of}
-use Rattle.rv_runs.specs.Schedule.{owed_of}
-use Rattle.rv_world.specs.World.{IsMember, IsOwed, IsPlayed, resting, results_in}
-use Rattle.rv_world.specs.Standing.{AllStand, ControllerStands, SwitchStands}
-use Rattle.rv_world.proofs.Joining as joining
-use Rattle.rv_world.proofs.Standing.{none_said}
+use Rattle.run_spec.specs.States.{Scene, Sealing, controller_at, controller_message, switch_at, switch_message}
+use Rattle.run_spec.specs.Legal.{IsLegalPast, results_of}
+use Rattle.run_spec.specs.Schedule.{owed_of}
+use Rattle.world.specs.World.{IsMember, IsOwed, IsPlayed, resting, results_in}
+use Rattle.world.specs.Standing.{AllStand, ControllerStands, SwitchStands}
+use Rattle.world.proofs.Joining as joining
+use Rattle.world.proofs.Standing.{none_said}
 use Rattle.running.specs.declared.job.Job.{Job}
 use Rattle.running.specs.declared.seated.Served.{Served}
 use Rattle.running.specs.Apart.{steps_of, BeginsAlone, BeginsApart, FollowsApart, IsCutFor}
@@ -33,7 +33,7 @@ use Rattle.running.specs.Playing.{ServedPlays, SwitchPlays, scene_of}
 use Rattle.running.proofs.Following.{Taken, still}
 use Rattle.running.proofs.Lists.{got_map, map_long}
 use Rattle.app_core.specs.Law.{AppLaw}
-use Rattle.rv_base.specs.Stables.{Saving}
+use Rattle.journal.specs.Stables.{Saving}
 use Rattle.app_core.specs.Chain.{given_by}
 use Rattle.dispatcher.specs.Ledger.{most_commands}
 

@@ -3,7 +3,7 @@ use Rattle.std.proofs.Common.{◌≡◌, ◌≤◌, ◌<◌, ℕ, ◌+◌, ◌-�
 use Rattle.std.specs.Prelude.{Some, All, Contains, slice_get, slice_index_or}
 use Rattle.std.specs.List.{range_with_len, zip}
 use Rattle.group_controller.specs.Turns.{Controlling}
-use Rattle.switch_board.specs.Places.{PlaceState}
+use Rattle.shared_wire.specs.Places.{PlaceState}
 use Rattle.running.specs.declared.seated.Served.{Served}
 use Rattle.running.specs.declared.task.Task.{Task}
 use Rattle.running.specs.Runs.{seated, served, task_of}

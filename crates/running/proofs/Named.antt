@@ -3,13 +3,13 @@ use Rattle.std.proofs.Common.{◌≡◌, ◌≤◌, ◌<◌, ℕ, ◌+◌, zero,
 use Rattle.std.specs.Prelude.{Some, Contains, slice_get, slice_index_or}
 use Rattle.std.specs.List.{AllByRecursion, range_with_len}
 use Rattle.of_types.specs.declared.setup.Setup.{Setup}
-use Rattle.rv_base.specs.declared.journal.Actor.{Actor}
-use Rattle.rv_base.specs.declared.journal.Actor.TheVariants as actor
-use Rattle.rv_base.specs.declared.journal.JournalEntry.{JournalEntry}
-use Rattle.rv_base.specs.Actors.{actor_of, IsActor}
-use Rattle.rv_base.proofs.Placing.{slice_get-append}
+use Rattle.journal.specs.declared.journal.Actor.{Actor}
+use Rattle.journal.specs.declared.journal.Actor.TheVariants as actor
+use Rattle.journal.specs.declared.journal.JournalEntry.{JournalEntry}
+use Rattle.journal.specs.Actors.{actor_of, IsActor}
+use Rattle.journal.proofs.Placing.{slice_get-append}
 use Rattle.running.specs.Runs.{actors_up_to}
-use Rattle.rv_world.proofs.Starts.{mapped_at}
+use Rattle.world.proofs.Starts.{mapped_at}
 
 pub plus_none : (n : ℕ) → 0 + n ≡ n
 plus_none n = omega arith

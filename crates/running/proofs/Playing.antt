@@ -2,25 +2,25 @@
 use Rattle.std.proofs.Common.{◌≡◌, ℕ, List, [], ◌∷◌, refl, sym, subst, Result, Ok, Err, IfOk, OnOk, OnErr, IfErr}
 use Rattle.std.specs.Prelude.{Option, Some, None}
 use Rattle.of_types.specs.declared.setup.Setup.{Setup}
-use Rattle.rv_base.specs.declared.journal.Actor.{Actor}
-use Rattle.rv_base.specs.declared.journal.JournalEntry.{JournalEntry}
-use Rattle.rv_base.specs.declared.journal.JournalEntry.TheVariants.{Refused}
-use Rattle.rv_base.specs.declared.journal.Letter.{Letter}
-use Rattle.rv_base.specs.declared.journal.Packet.{Packet}
-use Rattle.rv_base.specs.declared.journal.SaveResult.{SaveResult}
+use Rattle.journal.specs.declared.journal.Actor.{Actor}
+use Rattle.journal.specs.declared.journal.JournalEntry.{JournalEntry}
+use Rattle.journal.specs.declared.journal.JournalEntry.TheVariants.{Refused}
+use Rattle.journal.specs.declared.journal.Letter.{Letter}
+use Rattle.journal.specs.declared.journal.Packet.{Packet}
+use Rattle.journal.specs.declared.journal.SaveResult.{SaveResult}
 use Rattle.group_controller.specs.declared.messages.ControllerInput.{ControllerInput}
 use Rattle.group_controller.specs.declared.messages.ControllerInput.TheVariants as controller_input
 use Rattle.group_controller.specs.declared.messages.ControllerSays.{ControllerSays}
-use Rattle.rv_runs.specs.States.{Sealing, controller_hears, controller_message}
-use Rattle.rv_players.specs.Turns.{ControllerTurned, ControllerWanted}
-use Rattle.rv_world.specs.World.{IsOwed, SavesTold}
-use Rattle.rv_world.proofs.Stables.{saves_told, told_then}
+use Rattle.run_spec.specs.States.{Sealing, controller_hears, controller_message}
+use Rattle.players.specs.Turns.{ControllerTurned, ControllerWanted}
+use Rattle.world.specs.World.{IsOwed, SavesTold}
+use Rattle.world.proofs.Stables.{saves_told, told_then}
 use Rattle.running.specs.declared.seated.Served.{Served}
 use Rattle.running.specs.Hearing.{Hears}
 use Rattle.running.specs.Playing.{ServedPlays, scene_of}
 use Rattle.running.proofs.Controlling.{controller_refuses, controller_takes}
 use Rattle.app_core.specs.Law.{AppLaw}
-use Rattle.rv_base.specs.Stables.{Saving}
+use Rattle.journal.specs.Stables.{Saving}
 
 pub if_ok : {T E : Type 0} (r : Result T E) (P Q : T → Type 0) → ((x : T) → P x → Q x) → IfOk r P → IfOk r Q
 if_ok (Ok x) P Q made h = made x h

@@ -4,13 +4,13 @@ use Rattle.std.specs.Prelude.{Option, Some, All, slice_get, slice_index_or}
 use Rattle.std.proofs.lemmas.List.{map-append}
 use Rattle.std.proofs.lemmas.Option.{get_or_from_slice_get, slice_get_within}
 use Rattle.of_types.specs.declared.setup.Setup.{Setup}
-use Rattle.rv_base.specs.declared.journal.Actor.{Actor}
-use Rattle.rv_base.specs.declared.journal.JournalEntry.{JournalEntry}
-use Rattle.rv_base.specs.declared.journal.Letter.{Letter}
-use Rattle.rv_base.specs.declared.journal.Packet.{Packet}
-use Rattle.rv_base.specs.declared.journal.Turn.{Turn}
+use Rattle.journal.specs.declared.journal.Actor.{Actor}
+use Rattle.journal.specs.declared.journal.JournalEntry.{JournalEntry}
+use Rattle.journal.specs.declared.journal.Letter.{Letter}
+use Rattle.journal.specs.declared.journal.Packet.{Packet}
+use Rattle.journal.specs.declared.journal.Turn.{Turn}
 use Rattle.group_controller.specs.Turns.{Controlling}
-use Rattle.switch_board.specs.Places.{fresh, PlaceState, TableId}
+use Rattle.shared_wire.specs.Places.{fresh, PlaceState, TableId}
 use Rattle.running.specs.declared.seated.Served.{Served}
 use Rattle.running.specs.declared.task.Task.{Task}
 use Rattle.running.specs.Runs.{place_of, seated, served}

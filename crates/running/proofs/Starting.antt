@@ -2,22 +2,22 @@
 use Rattle.std.proofs.Common.{◌≡◌, ℕ, List, [], length, refl, ap}
 use Rattle.std.specs.Prelude.{Option}
 use Rattle.of_types.specs.declared.setup.Setup.{Setup}
-use Rattle.rv_base.specs.declared.journal.Actor.{Actor}
-use Rattle.rv_base.specs.declared.journal.Actor.TheVariants as actor
-use Rattle.rv_base.specs.declared.journal.JournalEntry.{JournalEntry}
-use Rattle.rv_base.specs.declared.journal.Letter.{Letter}
-use Rattle.rv_base.specs.declared.journal.Packet.{Packet}
-use Rattle.rv_base.specs.declared.journal.Turn.{Turn}
+use Rattle.journal.specs.declared.journal.Actor.{Actor}
+use Rattle.journal.specs.declared.journal.Actor.TheVariants as actor
+use Rattle.journal.specs.declared.journal.JournalEntry.{JournalEntry}
+use Rattle.journal.specs.declared.journal.Letter.{Letter}
+use Rattle.journal.specs.declared.journal.Packet.{Packet}
+use Rattle.journal.specs.declared.journal.Turn.{Turn}
 use Rattle.of_switch.specs.State.{starting_switch}
 use Rattle.group_controller.specs.Turns.{Controlling, pair_in, state_of}
-use Rattle.rv_runs.specs.States.{Sealing}
-use Rattle.rv_world.specs.World.{IsNew}
-use Rattle.rv_world.proofs.Stables.{unsaved_told}
-use Rattle.switch_board.specs.Places.{fresh, TableId}
+use Rattle.run_spec.specs.States.{Sealing}
+use Rattle.world.specs.World.{IsNew}
+use Rattle.world.proofs.Stables.{unsaved_told}
+use Rattle.shared_wire.specs.Places.{fresh, TableId}
 use Rattle.running.specs.Jobs.{PlaysOn}
 use Rattle.running.specs.Playing.{ServedPlays, SwitchPlays}
 use Rattle.app_core.specs.Law.{AppLaw}
-use Rattle.rv_base.specs.Stables.{Saving}
+use Rattle.journal.specs.Stables.{Saving}
 
 module _ {B : Type 0} (sealing : Sealing B) (setup : Setup) (kinds : List ℕ) where
   pub switch_fresh : (s : ℕ) → SwitchPlays sealing setup kinds (actor.Switch s) (starting_switch s setup) [] (starting_switch s setup) []

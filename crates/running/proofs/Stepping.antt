@@ -3,29 +3,29 @@ use Rattle.std.proofs.Common.{◌≡◌, ℕ, ◌+◌, Bool, true, false, zero, 
 use Rattle.std.specs.Prelude.{Option, Some, None, ◌&&◌, slice_get, if◌then◌else◌}
 use Rattle.std.proofs.lemmas.List.{reverse-append}
 use Rattle.std.proofs.lemmas.List.Sums.{sum_by-cons}
-use Rattle.rv_base.specs.declared.journal.Actor.{Actor}
-use Rattle.rv_base.specs.declared.journal.JournalEntry.{JournalEntry}
-use Rattle.rv_base.specs.declared.journal.JournalEntry.TheVariants.{Post, Draw, Lose, Local, Idle, Refused}
-use Rattle.rv_base.specs.declared.journal.Letter.{Letter}
-use Rattle.rv_base.specs.declared.journal.Local.{Local as LocalInput}
-use Rattle.rv_base.specs.declared.journal.Packet.{Packet}
-use Rattle.rv_base.specs.declared.journal.Turn.{Turn}
-use Rattle.rv_base.specs.declared.journal.Turn.TheVariants as turn
-use Rattle.rv_base.specs.declared.wire.Stop.{Stop}
-use Rattle.rv_base.specs.declared.wire.Stop.TheVariants.{OutOfMemory, JournalFull}
-use Rattle.rv_base.specs.Actors.{same_actor, actor_of, is_input}
-use Rattle.rv_base.specs.Part.{part, drawn}
-use Rattle.rv_base.specs.Pool.{past, pick}
-use Rattle.rv_base.specs.Turns.{entry_of, drawn_entry, lost_entry, posting, posted, turn_actor, IsFull}
-use Rattle.rv_runs.specs.declared.messages.Unsealed.{Unsealed}
-use Rattle.rv_runs.specs.States.{Sealing}
-use Rattle.switch_board.specs.Rule.{StartsWith}
-use Rattle.switch_board.specs.Places.{PlaceState}
-use Rattle.rv_base.specs.declared.wire.Refused.{Refused as Refusal}
-use Rattle.rv_base.specs.Answers.{RefusedBy}
-use Rattle.switch_board.specs.Calls.{beside, Adds, Refuses}
-use Rattle.switch_board.proofs.Parts.{AllBy, part-own, same_of}
-use Rattle.switch_board.proofs.Turns.{by_entry, by_posting}
+use Rattle.journal.specs.declared.journal.Actor.{Actor}
+use Rattle.journal.specs.declared.journal.JournalEntry.{JournalEntry}
+use Rattle.journal.specs.declared.journal.JournalEntry.TheVariants.{Post, Draw, Lose, Local, Idle, Refused}
+use Rattle.journal.specs.declared.journal.Letter.{Letter}
+use Rattle.journal.specs.declared.journal.Local.{Local as LocalInput}
+use Rattle.journal.specs.declared.journal.Packet.{Packet}
+use Rattle.journal.specs.declared.journal.Turn.{Turn}
+use Rattle.journal.specs.declared.journal.Turn.TheVariants as turn
+use Rattle.journal.specs.declared.wire.Stop.{Stop}
+use Rattle.journal.specs.declared.wire.Stop.TheVariants.{OutOfMemory, JournalFull}
+use Rattle.journal.specs.Actors.{same_actor, actor_of, is_input}
+use Rattle.journal.specs.Part.{part, drawn}
+use Rattle.journal.specs.Pool.{past, pick}
+use Rattle.journal.specs.Turns.{entry_of, drawn_entry, lost_entry, posting, posted, turn_actor, IsFull}
+use Rattle.run_spec.specs.declared.messages.Unsealed.{Unsealed}
+use Rattle.run_spec.specs.States.{Sealing}
+use Rattle.shared_wire.specs.Rule.{StartsWith}
+use Rattle.shared_wire.specs.Places.{PlaceState}
+use Rattle.journal.specs.declared.wire.Refused.{Refused as Refusal}
+use Rattle.journal.specs.Answers.{RefusedBy}
+use Rattle.shared_wire.specs.Calls.{beside, Adds, Refuses}
+use Rattle.shared_wire.proofs.Parts.{AllBy, part-own, same_of}
+use Rattle.shared_wire.proofs.Turns.{by_entry, by_posting}
 use Rattle.running.specs.Apart.{steps_of, inputs_of, IsStepAt}
 use Rattle.running.specs.Hearing.{Advances, StopsAt}
 use Rattle.running.specs.Jobs.{PlaysOn, StopsIn}

@@ -1,21 +1,21 @@
 -- A switch goes on behind its own entries.
 use Rattle.std.proofs.Common.{◌≡◌, ℕ, List, [], ◌∷◌, ◌++◌, ◌∙◌, ap, subst}
 use Rattle.std.specs.Prelude.{Option, Some, None}
-use Rattle.rv_base.specs.declared.journal.Actor.{Actor}
-use Rattle.rv_base.specs.declared.journal.JournalEntry.{JournalEntry}
-use Rattle.rv_base.specs.declared.journal.Letter.{Letter}
-use Rattle.rv_base.specs.declared.journal.Packet.{Packet}
-use Rattle.rv_base.specs.Turns.{posting}
+use Rattle.journal.specs.declared.journal.Actor.{Actor}
+use Rattle.journal.specs.declared.journal.JournalEntry.{JournalEntry}
+use Rattle.journal.specs.declared.journal.Letter.{Letter}
+use Rattle.journal.specs.declared.journal.Packet.{Packet}
+use Rattle.journal.specs.Turns.{posting}
 use Rattle.of_switch.specs.declared.says.SwitchInput.{SwitchInput}
 use Rattle.of_switch.specs.declared.says.SwitchInput.TheVariants as switch_input
 use Rattle.of_switch.specs.declared.says.SwitchSays.{SwitchSays}
 use Rattle.of_switch.specs.State.{SwitchState, starting_switch}
 use Rattle.of_switch.specs.Rules.{switch_turn}
-use Rattle.rv_runs.specs.States.{Scene, switch_hears, switch_message, switch_rules, switch_speech}
-use Rattle.rv_world.specs.Standing.{SwitchStands}
-use Rattle.rv_world.specs.World.{IsOwed}
-use Rattle.rv_world.proofs.Standing.{posts, rests, takes}
-use Rattle.switch_board.specs.Calls.{beside}
+use Rattle.run_spec.specs.States.{Scene, switch_hears, switch_message, switch_rules, switch_speech}
+use Rattle.world.specs.Standing.{SwitchStands}
+use Rattle.world.specs.World.{IsOwed}
+use Rattle.world.proofs.Standing.{posts, rests, takes}
+use Rattle.shared_wire.specs.Calls.{beside}
 use Rattle.running.specs.Hearing.{Hears}
 use Rattle.running.proofs.Hearing.{heard, unheard}
 

@@ -5,26 +5,26 @@ use Rattle.std.specs.List.{AllByRecursion, range_with_len, zip}
 use Rattle.std.proofs.lemmas.Option.{get_or_from_slice_get, slice_get-get_or, slice_get_within}
 use Rattle.std.proofs.Math.Seq.{drop-append_seam}
 use Rattle.of_types.specs.declared.setup.Setup.{Setup}
-use Rattle.rv_base.specs.declared.journal.Actor.{Actor}
-use Rattle.rv_base.specs.declared.journal.Actor.TheVariants as actor
-use Rattle.rv_base.specs.declared.journal.JournalEntry.{JournalEntry}
-use Rattle.rv_base.specs.declared.journal.Turn.{Turn}
-use Rattle.rv_base.specs.declared.wire.Stop.{Stop}
-use Rattle.rv_base.specs.declared.wire.Stop.TheVariants.{OutOfMemory, JournalFull}
-use Rattle.rv_base.specs.Actors.{actor_of, IsActor}
-use Rattle.rv_base.specs.Pool.{past}
-use Rattle.rv_base.specs.Stables.{Saving}
-use Rattle.rv_base.proofs.All.{all_append}
-use Rattle.rv_base.proofs.Placing.{slice_get-append}
+use Rattle.journal.specs.declared.journal.Actor.{Actor}
+use Rattle.journal.specs.declared.journal.Actor.TheVariants as actor
+use Rattle.journal.specs.declared.journal.JournalEntry.{JournalEntry}
+use Rattle.journal.specs.declared.journal.Turn.{Turn}
+use Rattle.journal.specs.declared.wire.Stop.{Stop}
+use Rattle.journal.specs.declared.wire.Stop.TheVariants.{OutOfMemory, JournalFull}
+use Rattle.journal.specs.Actors.{actor_of, IsActor}
+use Rattle.journal.specs.Pool.{past}
+use Rattle.journal.specs.Stables.{Saving}
+use Rattle.journal.proofs.All.{all_append}
+use Rattle.journal.proofs.Placing.{slice_get-append}
 use Rattle.of_switch.specs.State.{SwitchState, starting_switch}
 use Rattle.app_core.specs.Law.{AppLaw}
 use Rattle.group_controller.specs.Turns.{Controlling, pair_in, state_of}
-use Rattle.rv_runs.specs.States.{Sealing}
-use Rattle.rv_runs.specs.Legal.{IsLegalPast}
-use Rattle.rv_base.specs.Turns.{IsFull, IsWithinLimits}
-use Rattle.rv_world.specs.World.{AreTold, IsMember, IsPlayed, PairsStand, SavesTold, resting, results_in}
-use Rattle.switch_board.specs.Places.{fresh, IsPartOf, PlaceState, TableId}
-use Rattle.switch_board.proofs.Lists.{all_reverse}
+use Rattle.run_spec.specs.States.{Sealing}
+use Rattle.run_spec.specs.Legal.{IsLegalPast}
+use Rattle.journal.specs.Turns.{IsFull, IsWithinLimits}
+use Rattle.world.specs.World.{AreTold, IsMember, IsPlayed, PairsStand, SavesTold, resting, results_in}
+use Rattle.shared_wire.specs.Places.{fresh, IsPartOf, PlaceState, TableId}
+use Rattle.shared_wire.proofs.Lists.{all_reverse}
 use Rattle.running.specs.declared.job.Job.{Job}
 use Rattle.running.specs.declared.run.Played.{Played}
 use Rattle.running.specs.declared.seated.Served.{Served}
@@ -38,7 +38,7 @@ use Rattle.running.specs.Threads.{IsLeftPaired, HaltsApart, HasPlayedApart, IsLe
 use Rattle.running.specs.Together.{HavePlayed}
 use Rattle.running.proofs.Ends.{done_ends, stuck_ends}
 use Rattle.running.proofs.Joined as joined
-use Rattle.rv_world.proofs.Starts.{mapped_at, mapped_length}
+use Rattle.world.proofs.Starts.{mapped_at, mapped_length}
 use Rattle.running.proofs.Lists.{at_number, by_number, drop_mapped, got_behind, got_map, got_zip, map_long, same_behind, zip_first, zip_second}
 use Rattle.running.proofs.Named.{plus_none, controller_at, all_controllers, all_switches, named_each}
 use Rattle.running.proofs.Starting.{job_fresh, served_fresh, switch_fresh}

@@ -1,15 +1,15 @@
 -- Which journals a script gives where each actor does its own steps, in a thread of its own. Pasts have their newest entry first.
 use Rattle.std.specs.Prelude.{◌≡◌, ℕ, true, ◌&&◌, List, [], ◌∷◌, ◌++◌, length, filter, count_by, reverse, slice_get, Some}
-use Rattle.rv_base.specs.declared.journal.Actor.{Actor}
-use Rattle.rv_base.specs.declared.journal.JournalEntry.{JournalEntry}
-use Rattle.rv_base.specs.declared.journal.JournalEntry.TheVariants.{Post, Refused}
-use Rattle.rv_base.specs.declared.journal.SaveResult.{SaveResult}
-use Rattle.rv_base.specs.declared.journal.Turn.{Turn}
-use Rattle.rv_base.specs.Actors.{same_actor, actor_of, is_input, IsActor}
-use Rattle.rv_base.specs.Part.{part}
-use Rattle.rv_base.specs.Turns.{entry_of, turn_actor, IsFull}
-use Rattle.rv_runs.specs.States.{Scene}
-use Rattle.rv_runs.specs.Schedule.{ClosesTo, IsJournalFull, Losing, Phase, owed_of}
+use Rattle.journal.specs.declared.journal.Actor.{Actor}
+use Rattle.journal.specs.declared.journal.JournalEntry.{JournalEntry}
+use Rattle.journal.specs.declared.journal.JournalEntry.TheVariants.{Post, Refused}
+use Rattle.journal.specs.declared.journal.SaveResult.{SaveResult}
+use Rattle.journal.specs.declared.journal.Turn.{Turn}
+use Rattle.journal.specs.Actors.{same_actor, actor_of, is_input, IsActor}
+use Rattle.journal.specs.Part.{part}
+use Rattle.journal.specs.Turns.{entry_of, turn_actor, IsFull}
+use Rattle.run_spec.specs.States.{Scene}
+use Rattle.run_spec.specs.Schedule.{ClosesTo, IsJournalFull, Losing, Phase, owed_of}
 
 -- the steps of one actor
 abbrev pub steps_of : Actor → List Turn → List Turn

@@ -1,19 +1,19 @@
 -- Laws of runs whose actors play apart.
 use Rattle.std.specs.Prelude.{◌≡◌, List, ◌++◌}
 use Rattle.std.specs.List.{AllByRecursion}
-use Rattle.rv_base.specs.declared.journal.Actor.{Actor}
-use Rattle.rv_base.specs.declared.journal.JournalEntry.{JournalEntry}
-use Rattle.rv_base.specs.declared.journal.Letter.{Letter}
-use Rattle.rv_base.specs.declared.journal.Turn.{Turn}
-use Rattle.rv_base.specs.Actors.{actor_of, IsActor}
-use Rattle.rv_base.specs.Orderly.{IsOrderly}
-use Rattle.rv_base.specs.Part.{part}
+use Rattle.journal.specs.declared.journal.Actor.{Actor}
+use Rattle.journal.specs.declared.journal.JournalEntry.{JournalEntry}
+use Rattle.journal.specs.declared.journal.Letter.{Letter}
+use Rattle.journal.specs.declared.journal.Turn.{Turn}
+use Rattle.journal.specs.Actors.{actor_of, IsActor}
+use Rattle.journal.specs.Orderly.{IsOrderly}
+use Rattle.journal.specs.Part.{part}
 use Rattle.of_switch.specs.State.{SwitchState}
 use Rattle.group_controller.specs.Turns.{Controlling}
-use Rattle.rv_runs.specs.States.{Scene}
-use Rattle.rv_runs.specs.Legal.{IsLegalPast}
-use Rattle.rv_world.specs.World.{results_in}
-use Rattle.rv_world.specs.Standing.{AllStand}
+use Rattle.run_spec.specs.States.{Scene}
+use Rattle.run_spec.specs.Legal.{IsLegalPast}
+use Rattle.world.specs.World.{results_in}
+use Rattle.world.specs.Standing.{AllStand}
 use Rattle.running.specs.Apart.{TakesOwn, inputs_of}
 use Rattle.app_core.specs.Law.{AppLaw}
 

@@ -1,19 +1,19 @@
 -- What an actor that plays its own steps is, in a run of a setup.
 use Rattle.std.specs.Prelude.{◌≡◌, ℕ, List, Option}
 use Rattle.of_types.specs.declared.setup.Setup.{Setup}
-use Rattle.rv_base.specs.declared.journal.Actor.{Actor}
-use Rattle.rv_base.specs.declared.journal.Actor.TheVariants as actor
-use Rattle.rv_base.specs.declared.journal.JournalEntry.{JournalEntry}
-use Rattle.rv_base.specs.declared.journal.Letter.{Letter}
-use Rattle.rv_base.specs.declared.journal.Packet.{Packet}
+use Rattle.journal.specs.declared.journal.Actor.{Actor}
+use Rattle.journal.specs.declared.journal.Actor.TheVariants as actor
+use Rattle.journal.specs.declared.journal.JournalEntry.{JournalEntry}
+use Rattle.journal.specs.declared.journal.Letter.{Letter}
+use Rattle.journal.specs.declared.journal.Packet.{Packet}
 use Rattle.of_switch.specs.State.{SwitchState}
 use Rattle.group_controller.specs.Turns.{state_of, pair_in}
-use Rattle.rv_runs.specs.States.{Scene, Sealing}
-use Rattle.rv_world.specs.World.{SavesTold}
-use Rattle.rv_world.specs.Standing.{ControllerStands, SwitchStands}
+use Rattle.run_spec.specs.States.{Scene, Sealing}
+use Rattle.world.specs.World.{SavesTold}
+use Rattle.world.specs.Standing.{ControllerStands, SwitchStands}
 use Rattle.running.specs.declared.seated.Served.{Served}
 use Rattle.app_core.specs.Law.{AppLaw}
-use Rattle.rv_base.specs.Stables.{Saving}
+use Rattle.journal.specs.Stables.{Saving}
 
 abbrev pub scene_of : {B : Type 0} → Sealing B → Setup → List ℕ → Scene B
 scene_of sealing setup kinds = record { setup = setup; kinds = kinds; sealing = sealing }

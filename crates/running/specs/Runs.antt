@@ -1,10 +1,10 @@
 -- What is left of the tasks of a run.
 use Rattle.std.specs.Prelude.{ℕ, List, [], ◌∷◌, ◌++◌, map, Option, Some, None}
 use Rattle.std.specs.List.{range_with_len, zip}
-use Rattle.rv_base.specs.declared.journal.Actor.{Actor}
-use Rattle.rv_base.specs.declared.journal.Actor.TheVariants as actor
-use Rattle.rv_base.specs.declared.wire.Stop.{Stop}
-use Rattle.switch_board.specs.Places.{PlaceState}
+use Rattle.journal.specs.declared.journal.Actor.{Actor}
+use Rattle.journal.specs.declared.journal.Actor.TheVariants as actor
+use Rattle.journal.specs.declared.wire.Stop.{Stop}
+use Rattle.shared_wire.specs.Places.{PlaceState}
 use Rattle.thread_rules.specs.Rules.{worst}
 use Rattle.group_controller.specs.Turns.{Controlling}
 use Rattle.running.specs.declared.seated.Served.{Served}

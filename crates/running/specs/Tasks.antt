@@ -1,12 +1,12 @@
 -- What a thread is given, and what it leaves.
 use Rattle.std.specs.Prelude.{◌≡◌, ◌<◌, ℕ, List, length, Option, slice_index_or}
 use Rattle.of_types.specs.declared.setup.Setup.{Setup}
-use Rattle.rv_base.specs.declared.journal.Actor.{Actor}
-use Rattle.rv_base.specs.declared.journal.JournalEntry.{JournalEntry}
-use Rattle.rv_base.specs.declared.journal.Letter.{Letter}
-use Rattle.rv_base.specs.declared.journal.Packet.{Packet}
-use Rattle.rv_base.specs.declared.journal.Turn.{Turn}
-use Rattle.switch_board.specs.Places.{IsPlace, IsSamePlace, TableId}
+use Rattle.journal.specs.declared.journal.Actor.{Actor}
+use Rattle.journal.specs.declared.journal.JournalEntry.{JournalEntry}
+use Rattle.journal.specs.declared.journal.Letter.{Letter}
+use Rattle.journal.specs.declared.journal.Packet.{Packet}
+use Rattle.journal.specs.declared.journal.Turn.{Turn}
+use Rattle.shared_wire.specs.Places.{IsPlace, IsSamePlace, TableId}
 use Rattle.running.specs.declared.task.Task.{Task}
 use Rattle.running.specs.Jobs.{EndsAs, PlaysOn}
 

@@ -3,22 +3,22 @@ use Rattle.std.specs.Prelude.{◌≡◌, ◌<◌, ◌≤◌, ℕ, List, length, 
 use Rattle.std.specs.List.{AllByRecursion}
 use Rattle.of_types.specs.declared.setup.Setup.{Setup}
 use Rattle.of_types.specs.Setups.{IsSetup}
-use Rattle.rv_base.specs.declared.journal.Turn.{Turn}
-use Rattle.rv_base.specs.declared.wire.Stop.{Stop}
-use Rattle.rv_base.specs.declared.wire.Stop.TheVariants.{OutOfMemory, JournalFull}
-use Rattle.rv_base.specs.Actors.{IsActor}
-use Rattle.rv_base.specs.Pool.{past}
-use Rattle.rv_base.specs.Turns.{IsWithinLimits, turn_actor}
+use Rattle.journal.specs.declared.journal.Turn.{Turn}
+use Rattle.journal.specs.declared.wire.Stop.{Stop}
+use Rattle.journal.specs.declared.wire.Stop.TheVariants.{OutOfMemory, JournalFull}
+use Rattle.journal.specs.Actors.{IsActor}
+use Rattle.journal.specs.Pool.{past}
+use Rattle.journal.specs.Turns.{IsWithinLimits, turn_actor}
 use Rattle.of_switch.specs.State.{SwitchState}
 use Rattle.group_controller.specs.Turns.{Controlling}
-use Rattle.rv_runs.specs.States.{Sealing}
-use Rattle.rv_runs.specs.Legal.{IsLegalPast}
-use Rattle.rv_world.specs.World.{AreNew, AreTold, IsMember, IsPlayed, PairsStand, resting, results_in, starting_switches}
+use Rattle.run_spec.specs.States.{Sealing}
+use Rattle.run_spec.specs.Legal.{IsLegalPast}
+use Rattle.world.specs.World.{AreNew, AreTold, IsMember, IsPlayed, PairsStand, resting, results_in, starting_switches}
 use Rattle.running.specs.declared.run.Played.{Played}
 use Rattle.running.specs.Apart.{BeginsApart, FollowsApart}
 use Rattle.running.specs.Playing.{scene_of}
 use Rattle.app_core.specs.Law.{AppLaw}
-use Rattle.rv_base.specs.Stables.{Saving}
+use Rattle.journal.specs.Stables.{Saving}
 use Rattle.app_core.specs.Chain.{given_by}
 use Rattle.dispatcher.specs.Ledger.{most_commands}
 

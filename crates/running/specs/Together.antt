@@ -1,17 +1,17 @@
 -- What becomes of controllers and switches that play at one board.
 use Rattle.std.specs.Prelude.{◌≡◌, ◌≤◌, ◌+◌, ℕ, List, ◌++◌, length, map, drop, All, Option, None, vec_len, vec_capacity}
-use Rattle.rv_base.specs.declared.journal.Turn.{Turn}
-use Rattle.rv_base.specs.declared.wire.Stop.{Stop}
-use Rattle.rv_base.specs.Orderly.{IsOrderly}
-use Rattle.rv_base.specs.Pool.{past}
-use Rattle.rv_base.specs.Stables.{Saving}
-use Rattle.rv_base.specs.Turns.{IsWithinLimits}
+use Rattle.journal.specs.declared.journal.Turn.{Turn}
+use Rattle.journal.specs.declared.wire.Stop.{Stop}
+use Rattle.journal.specs.Orderly.{IsOrderly}
+use Rattle.journal.specs.Pool.{past}
+use Rattle.journal.specs.Stables.{Saving}
+use Rattle.journal.specs.Turns.{IsWithinLimits}
 use Rattle.of_switch.specs.State.{SwitchState}
 use Rattle.app_core.specs.Law.{AppLaw}
 use Rattle.group_controller.specs.Turns.{Controlling}
-use Rattle.rv_runs.specs.States.{Sealing}
-use Rattle.switch_board.specs.Rule.{AreNamed}
-use Rattle.switch_board.specs.Places.{IsPartOf, PlaceState}
+use Rattle.run_spec.specs.States.{Sealing}
+use Rattle.shared_wire.specs.Rule.{AreNamed}
+use Rattle.shared_wire.specs.Places.{IsPartOf, PlaceState}
 use Rattle.running.specs.declared.ready.Ready.{Ready}
 use Rattle.running.specs.declared.run.Played.{Played}
 use Rattle.running.specs.declared.seated.Served.{Served}

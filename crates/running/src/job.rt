@@ -1,22 +1,22 @@
 //! An actor at its place at a board, and how it plays its own steps.
 ghost use Rattle.std.specs.Prelude.{◌≡◌, ◌+◌, ℕ, List, [], true, Some, OnOk, IfErr, slice_get, length, if◌then◌else◌};
-ghost use Rattle.rv_base.specs.Actors.{same_actor};
+ghost use Rattle.journal.specs.Actors.{same_actor};
 ghost use Rattle.of_types.specs.declared.setup.Setup.{Setup};
-ghost use Rattle.rv_base.specs.declared.journal.Turn.{Turn as ATurn};
-ghost use Rattle.rv_base.specs.Turns.{turn_actor};
-ghost use Rattle.switch_board.specs.Places.{IsSamePlace};
+ghost use Rattle.journal.specs.declared.journal.Turn.{Turn as ATurn};
+ghost use Rattle.journal.specs.Turns.{turn_actor};
+ghost use Rattle.shared_wire.specs.Places.{IsSamePlace};
 ghost use Rattle.running.specs.Apart.{steps_of};
 ghost use Rattle.running.specs.Jobs.{HasDone, PlaysOn, StopsIn};
 
 use crate::next::next_input;
 use crate::seated::Seated;
 use of_types::Items;
-use rv_base::{Gate, Letters, Stop, Turn};
-use rv_bodies::Body;
+use journal::{Gate, Letters, Stop, Turn};
+use players::Body;
 use std::alloc::Global;
 use std::mem;
 use std::sync::Wait;
-use switch_board::{Board, Place};
+use shared_wire::{Board, Place};
 use thread_rules::is_own;
 
 /// An actor at its place, with what it owes.

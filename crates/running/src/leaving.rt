@@ -1,11 +1,11 @@
 //! Players leave their places.
 ghost use Rattle.std.specs.Prelude.{◌≡◌, ◌≤◌, ◌+◌, ◌++◌, All, Contains, map, vec_len, vec_capacity};
 ghost use Rattle.std.specs.Vec.Iter.{into_iter_items, into_iter_len};
-ghost use Rattle.rv_base.specs.Orderly.{IsOrderly};
-ghost use Rattle.rv_base.specs.Pool.{past};
-ghost use Rattle.rv_base.specs.Turns.{IsWithinLimits};
-ghost use Rattle.switch_board.specs.Places.{IsPartOf};
-ghost use Rattle.switch_board.specs.Rule.{AreNamed};
+ghost use Rattle.journal.specs.Orderly.{IsOrderly};
+ghost use Rattle.journal.specs.Pool.{past};
+ghost use Rattle.journal.specs.Turns.{IsWithinLimits};
+ghost use Rattle.shared_wire.specs.Places.{IsPartOf};
+ghost use Rattle.shared_wire.specs.Rule.{AreNamed};
 ghost use Rattle.running.specs.Runs.{controller_of, first_stop, place_of, player_of, stable_of};
 
 use crate::job::Job;
@@ -13,11 +13,11 @@ use crate::seated::Served;
 use crate::task::Task;
 use app_core::App;
 use group_controller::Controller;
-use rv_base::{Stable, Stop, Wire};
-use rv_bodies::Body;
+use journal::{Stable, Stop, Wire};
+use players::Body;
 use std::alloc::Global;
 use std::vec::IntoIter;
-use switch_board::{Board, Place};
+use shared_wire::{Board, Place};
 use thread_rules::worst;
 
 /// What is left of tasks: the places, the players, and the cause that counts. There is room for them.

@@ -1,22 +1,22 @@
 //! An actor goes on to its next step.
 ghost use Rattle.std.specs.Prelude.{◌≡◌, Option, Some, None, [], List, drop, IfOk, IfErr, IsSome, IfSome};
-ghost use Rattle.rv_base.specs.Places.{IsFound, packet_at};
-ghost use Rattle.rv_base.specs.Pool.{past, pick};
-ghost use Rattle.rv_base.specs.Turns.{turn_actor, turn_entries};
-ghost use Rattle.rv_base.specs.declared.journal.Turn.TheVariants as turn;
-ghost use Rattle.switch_board.specs.Calls.{Adds};
-ghost use Rattle.switch_board.specs.Places.{IsSamePlace};
+ghost use Rattle.journal.specs.Places.{IsFound, packet_at};
+ghost use Rattle.journal.specs.Pool.{past, pick};
+ghost use Rattle.journal.specs.Turns.{turn_actor, turn_entries};
+ghost use Rattle.journal.specs.declared.journal.Turn.TheVariants as turn;
+ghost use Rattle.shared_wire.specs.Calls.{Adds};
+ghost use Rattle.shared_wire.specs.Places.{IsSamePlace};
 ghost use Rattle.running.specs.Hearing.{Advances, StopsAt};
 
 use of_types::Items;
-use rv_base::{Letters, Local, PacketPlace, Stop, Turn};
-use rv_bodies::Body;
-use rv_players::{Player, heard};
-use rv_world::fits_types;
+use journal::{Letters, Local, PacketPlace, Stop, Turn};
+use players::Body;
+use players::{Player, heard};
+use world::fits_types;
 use std::alloc::Global;
 use std::mem;
 use std::sync::Wait;
-use switch_board::{Board, Place};
+use shared_wire::{Board, Place};
 
 /// Posts what is owed and draws, in one exchange. At a refusal it is owed as before.
 fn draw_next<B: Body, R: Wait>(

@@ -1,6 +1,6 @@
 //! All that a run of threads needs memory for before its threads start.
 ghost use Rattle.std.specs.Prelude.{◌≡◌, ◌≤◌, ◌<◌, IfOk, map, vec_len, vec_capacity};
-ghost use Rattle.switch_board.specs.Places.{fresh};
+ghost use Rattle.shared_wire.specs.Places.{fresh};
 ghost use Rattle.running.specs.Runs.{actors_up_to};
 ghost use Rattle.running.specs.Together.{HasRoom};
 
@@ -9,10 +9,10 @@ use crate::task::Task;
 use app_core::App;
 use group_controller::Controller;
 use of_switch::Switch;
-use rv_base::{Actor, Stable};
-use rv_bodies::Body;
+use journal::{Actor, Stable};
+use players::Body;
 use std::alloc::{AllocError, Global};
-use switch_board::{Board, Place};
+use shared_wire::{Board, Place};
 
 /// The actors of a group, the controllers before the switches and each ascending.
 fn actors_of(alloc: Global, controllers: usize, switches: usize) -> Result<Vec<Actor>, AllocError>

@@ -1,11 +1,11 @@
 //! A script that its actors play apart: each in a thread of its own, over one board.
 ghost use Rattle.std.specs.Prelude.{◌≡◌, ◌≤◌, ◌<◌, ℕ, List, [], None, All, IfOk, IfErr, drop, length, map, vec_len};
 ghost use Rattle.std.specs.List.{AllByRecursion};
-ghost use Rattle.rv_base.specs.Actors.{IsActor};
-ghost use Rattle.rv_base.specs.Pool.{past};
-ghost use Rattle.rv_base.specs.Turns.{turn_actor};
-ghost use Rattle.rv_world.specs.World.{ForEachScene, Holds, Keeps, PairsStand, results_in};
-ghost use Rattle.switch_board.specs.Places.{fresh};
+ghost use Rattle.journal.specs.Actors.{IsActor};
+ghost use Rattle.journal.specs.Pool.{past};
+ghost use Rattle.journal.specs.Turns.{turn_actor};
+ghost use Rattle.world.specs.World.{ForEachScene, Holds, Keeps, PairsStand, results_in};
+ghost use Rattle.shared_wire.specs.Places.{fresh};
 ghost use Rattle.running.specs.Apart.{FollowsApart};
 ghost use Rattle.running.specs.Playing.{ServedPlays, SwitchPlays};
 ghost use Rattle.running.specs.Tasks.{AllRan, MayBegin};
@@ -22,14 +22,14 @@ use app_core::App;
 use group_controller::Controller;
 use of_switch::Switch;
 use of_types::Setup;
-use rv_base::{Gate, Stable, Stop, Turn, Wire};
-use rv_bodies::Body;
-use rv_world::World;
+use journal::{Gate, Stable, Stop, Turn, Wire};
+use players::Body;
+use world::World;
 use std::alloc::Global;
 use std::sync::Wait;
 use std::thread::Threads;
 use std::{mem, thread};
-use switch_board::Board;
+use shared_wire::Board;
 
 /// What the actors have played: their journal, and they themselves, by number.
 #[derive(Drop)]

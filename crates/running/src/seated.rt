@@ -1,13 +1,13 @@
 //! Actors that play their own steps: a switch, and a controller beside what it saves to.
 ghost use Rattle.std.specs.Prelude.{◌≡◌, ◌∷◌, ℕ, ◌++◌, List, Option, Some, None, [], IfOk, OnErr};
 ghost use Rattle.of_types.specs.declared.setup.Setup.{Setup};
-ghost use Rattle.rv_base.specs.declared.journal.Actor.{Actor};
-ghost use Rattle.rv_base.specs.declared.journal.JournalEntry.{JournalEntry};
-ghost use Rattle.rv_base.specs.declared.journal.Letter.{Letter};
-ghost use Rattle.rv_base.specs.declared.journal.Packet.{Packet};
-ghost use Rattle.rv_base.specs.Turns.{posting};
+ghost use Rattle.journal.specs.declared.journal.Actor.{Actor};
+ghost use Rattle.journal.specs.declared.journal.JournalEntry.{JournalEntry};
+ghost use Rattle.journal.specs.declared.journal.Letter.{Letter};
+ghost use Rattle.journal.specs.declared.journal.Packet.{Packet};
+ghost use Rattle.journal.specs.Turns.{posting};
 ghost use Rattle.group_controller.specs.Turns.{Controls};
-ghost use Rattle.switch_board.specs.Calls.{beside};
+ghost use Rattle.shared_wire.specs.Calls.{beside};
 ghost use Rattle.running.specs.Hearing.{Hears};
 ghost use Rattle.running.specs.Jobs.{HasPlayedSome};
 ghost use Rattle.running.specs.Playing.{ServedPlays, SwitchPlays};
@@ -15,10 +15,10 @@ ghost use Rattle.running.specs.Playing.{ServedPlays, SwitchPlays};
 use app_core::App;
 use group_controller::{Controller, ControllerInput, ControllerSays};
 use of_switch::{Switch, SwitchInput, SwitchSays};
-use rv_base::{Letters, Local, Stable};
-use rv_bodies::Body;
-use rv_players::{Player, sealed_turn};
-use rv_runs::Unsealed;
+use journal::{Letters, Local, Stable};
+use players::Body;
+use players::{Player, sealed_turn};
+use run_spec::Unsealed;
 use std::alloc::{AllocError, Global};
 
 /// An actor that plays its own steps.
@@ -83,7 +83,7 @@ impl<A: App, W: Stable> Player for Served<A, W> {
         Controller::<A>::take_local(input)
     }
 
-    fn hear(alloc: Global, from: rv_base::Actor, unsealed: Unsealed) -> ControllerInput {
+    fn hear(alloc: Global, from: journal::Actor, unsealed: Unsealed) -> ControllerInput {
         Controller::<A>::hear(alloc, from, unsealed)
     }
 

@@ -9,11 +9,11 @@ use crate::task::Task;
 use app_core::App;
 use group_controller::Controller;
 use of_types::Items;
-use rv_base::Stable;
-use rv_bodies::Body;
+use journal::Stable;
+use players::Body;
 use std::alloc::Global;
 use std::vec::IntoIter;
-use switch_board::Place;
+use shared_wire::Place;
 
 /// A player at its place, with nothing owed.
 fn task_at<B: Body, P: Drop>(alloc: Global, place: Place<B>, player: P) -> Task<B, P>

@@ -4,13 +4,13 @@ ghost use Rattle.running.specs.Tasks.{AllRan, WasRun, MayBegin};
 
 use crate::job::{Job, play_alone};
 use crate::seated::Seated;
-use rv_base::{Gate, Stop, Turn};
-use rv_bodies::Body;
+use journal::{Gate, Stop, Turn};
+use players::Body;
 use std::alloc::Global;
 use std::sync::Wait;
 use std::thread;
 use std::thread::Threads;
-use switch_board::Board;
+use shared_wire::Board;
 
 /// The job of an actor, and why it stopped before its end, if it did.
 #[derive(Drop)]

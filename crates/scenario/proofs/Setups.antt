@@ -11,14 +11,14 @@ use Rattle.of_types.specs.declared.setup.Link.{Link}
 use Rattle.of_types.specs.declared.setup.Rule.{Rule}
 use Rattle.of_types.specs.declared.setup.Setup.{Setup}
 use Rattle.of_types.specs.Setups.{is_group, IsPort, IsAddressPrefix, IsRule, IsSetup, AreApart, ends_of}
-use Rattle.rv_base.specs.declared.journal.Actor.{Actor}
-use Rattle.rv_base.specs.declared.journal.Actor.TheVariants as actor
-use Rattle.rv_base.specs.declared.journal.Local.TheVariants as local
-use Rattle.rv_base.specs.declared.journal.Turn.{Turn}
-use Rattle.rv_base.specs.declared.journal.Turn.TheVariants as turn
-use Rattle.rv_base.specs.Actors.{IsActor}
-use Rattle.rv_base.specs.Turns.{turn_actor}
-use Rattle.rv_base.proofs.All.{all_append}
+use Rattle.journal.specs.declared.journal.Actor.{Actor}
+use Rattle.journal.specs.declared.journal.Actor.TheVariants as actor
+use Rattle.journal.specs.declared.journal.Local.TheVariants as local
+use Rattle.journal.specs.declared.journal.Turn.{Turn}
+use Rattle.journal.specs.declared.journal.Turn.TheVariants as turn
+use Rattle.journal.specs.Actors.{IsActor}
+use Rattle.journal.specs.Turns.{turn_actor}
+use Rattle.journal.proofs.All.{all_append}
 use Rattle.scenario.specs.declared.scenario.Fault.{Fault}
 use Rattle.scenario.specs.declared.scenario.FaultKind.{FaultKind}
 use Rattle.scenario.specs.declared.scenario.FaultKind.TheVariants.{Limit}

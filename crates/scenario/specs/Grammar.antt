@@ -8,8 +8,8 @@ use Rattle.serde_json.specs.Find.{get}
 use Rattle.serde_json.specs.View.{view}
 use Rattle.hex.specs.Hex.{decode_of}
 use Rattle.numerals.specs.Numerals.{numeral}
-use Rattle.rv_base.specs.declared.journal.Actor.{Actor}
-use Rattle.rv_base.specs.declared.journal.Actor.TheVariants.{Controller, Switch}
+use Rattle.journal.specs.declared.journal.Actor.{Actor}
+use Rattle.journal.specs.declared.journal.Actor.TheVariants.{Controller, Switch}
 use Rattle.scenario.specs.declared.grammar.Lists.{Lists}
 use Rattle.scenario.specs.declared.written.WrittenSwitch.{WrittenSwitch}
 use Rattle.scenario.specs.declared.written.WrittenLink.{WrittenLink}

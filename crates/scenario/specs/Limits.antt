@@ -6,13 +6,13 @@ use Rattle.of_types.specs.declared.setup.Link.{Link}
 use Rattle.of_types.specs.declared.setup.Prefix.{Prefix}
 use Rattle.of_types.specs.declared.setup.Rule.{Rule}
 use Rattle.of_types.specs.Setups.{is_group}
-use Rattle.rv_base.specs.declared.journal.Actor.{Actor}
-use Rattle.rv_base.specs.declared.journal.Actor.TheVariants as actor
-use Rattle.rv_base.specs.declared.journal.Local.{Local}
-use Rattle.rv_base.specs.declared.journal.Local.TheVariants as local
-use Rattle.rv_base.specs.declared.journal.Turn.{Turn}
-use Rattle.rv_base.specs.declared.journal.Turn.TheVariants as turn
-use Rattle.rv_base.specs.Actors.{same_actor}
+use Rattle.journal.specs.declared.journal.Actor.{Actor}
+use Rattle.journal.specs.declared.journal.Actor.TheVariants as actor
+use Rattle.journal.specs.declared.journal.Local.{Local}
+use Rattle.journal.specs.declared.journal.Local.TheVariants as local
+use Rattle.journal.specs.declared.journal.Turn.{Turn}
+use Rattle.journal.specs.declared.journal.Turn.TheVariants as turn
+use Rattle.journal.specs.Actors.{same_actor}
 use Rattle.scenario.specs.declared.limits.TheConstants.{MOST_SWITCHES, MOST_PORTS, MOST_LINKS, MOST_RULES, MOST_STEPS, MOST_TIMES, MOST_CHOICE, MOST_VIEW, MOST_RESTARTS}
 use Rattle.scenario.specs.declared.limits.Timed.{Timed}
 use Rattle.scenario.specs.declared.written.Written.{Written}

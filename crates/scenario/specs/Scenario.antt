@@ -6,11 +6,11 @@ use Rattle.serde_json.specs.Data.{Data}
 use Rattle.serde_json.specs.Read.{read}
 use Rattle.of_types.specs.declared.setup.Setup.{Setup}
 use Rattle.of_types.specs.Setups.{IsSetup}
-use Rattle.rv_base.specs.declared.journal.Local.TheVariants as local
-use Rattle.rv_base.specs.declared.journal.Turn.{Turn}
-use Rattle.rv_base.specs.declared.journal.Turn.TheVariants as turn
-use Rattle.rv_base.specs.Actors.{IsActor}
-use Rattle.rv_base.specs.Turns.{turn_actor}
+use Rattle.journal.specs.declared.journal.Local.TheVariants as local
+use Rattle.journal.specs.declared.journal.Turn.{Turn}
+use Rattle.journal.specs.declared.journal.Turn.TheVariants as turn
+use Rattle.journal.specs.Actors.{IsActor}
+use Rattle.journal.specs.Turns.{turn_actor}
 use Rattle.scenario.specs.declared.reading.TheConstants.{SCENARIO_LIMIT}
 use Rattle.scenario.specs.declared.limits.TheConstants.{MOST_VIEW}
 use Rattle.scenario.specs.declared.scenario.Fault.{Fault}

@@ -6,7 +6,7 @@ ghost use Rattle.scenario.specs.Scenario.{IsScenario};
 use crate::scenario::{Scenario, Steps};
 use of_bytes::{four, two, zeros};
 use of_types::{Links, Octets, PortCounts, Rules, Setup};
-use rv_base::{Actor, Local, Turn};
+use journal::{Actor, Local, Turn};
 use std::alloc::{AllocError, Global};
 
 /// How many ports each switch of a generated scenario has.

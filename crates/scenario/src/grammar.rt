@@ -14,7 +14,7 @@ use crate::written::{WrittenLink, WrittenPrefix, WrittenRule, WrittenStep, Writt
 use hex::FromHexError;
 use numerals::numeral;
 use of_types::Octets;
-use rv_base::Actor;
+use journal::Actor;
 use serde_json::Value;
 use std::alloc::{AllocError, Global};
 

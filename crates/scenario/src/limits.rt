@@ -14,7 +14,7 @@ use of_types::{
     Items, LONGEST_FRAME, Link, Links, Octets, PortCounts, Prefix, Rule, Rules, SHORTEST_FRAME,
     Setup,
 };
-use rv_base::{Actor, Local, Turn};
+use journal::{Actor, Local, Turn};
 use std::alloc::{AllocError, Global};
 use wires::is_taken;
 

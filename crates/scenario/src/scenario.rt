@@ -2,7 +2,7 @@
 ghost use Rattle.std.specs.Prelude.{◌≡◌};
 
 use of_types::{Items, Setup};
-use rv_base::Turn;
+use journal::Turn;
 use std::alloc::{AllocError, AllocFailed};
 
 /// The steps of a script, in order.

@@ -2,7 +2,7 @@
 ghost use Rattle.std.specs.Prelude.{◌≡◌};
 ghost use Rattle.streams.specs.declared.fault.StreamFault.TheVariants as faults;
 
-use rv_base::Failed;
+use journal::Failed;
 use std::alloc::AllocError;
 
 /// Why bytes were not read or written.

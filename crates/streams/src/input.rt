@@ -1,12 +1,12 @@
 //! Bytes that are read from a source, up to a limit.
 ghost use Rattle.std.specs.Prelude.{◌≡◌, ◌≢◌, ◌<◌, ◌≤◌, ◌+◌, ◌++◌, ◌⊎◌, length, take, IfOk};
 ghost use Rattle.std.specs.Io.KnownBytes.{Consumes, IsAtEnd};
-ghost use Rattle.rv_base.specs.Causes.{Rose};
+ghost use Rattle.journal.specs.Causes.{Rose};
 ghost use Rattle.streams.specs.declared.fault.StreamFault.TheVariants as faults;
 
 use crate::fault::StreamFault;
 use of_types::Octets;
-use rv_base::Source;
+use journal::Source;
 use std::alloc::Global;
 
 /// Reads a piece behind the bytes, and tells its length. 0 is the end.

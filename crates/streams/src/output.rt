@@ -1,10 +1,10 @@
 //! Bytes that are written to a sink.
 ghost use Rattle.std.specs.Prelude.{◌≡◌, ◌≤◌, Err, OnOk, OnErr};
 ghost use Rattle.std.specs.Io.KnownBytes.{Appends};
-ghost use Rattle.rv_base.specs.Causes.{HasCause};
+ghost use Rattle.journal.specs.Causes.{HasCause};
 ghost use Rattle.streams.specs.Fronts.{AppendsFront};
 
-use rv_base::{Failed, Sink};
+use journal::{Failed, Sink};
 
 /// Writes bytes to a sink until it has taken them all. No refused write is tried again.
 pub fn write_all<K: Sink>(sink: &mut K, bytes: &[u8]) -> Result<(), Failed>

@@ -2,16 +2,16 @@
 use Rattle.std.proofs.Common.{◌≡◌, ℕ, List, [], ◌∷◌, refl, sym, ◌∙◌, ap, subst}
 use Rattle.std.specs.Prelude.{Option, map}
 use Rattle.actor_fold.specs.Fold.{Standing, Step, Takes, Posts, Refuses, Rests, standing, standing_first, standing_on}
-use Rattle.rv_base.specs.declared.journal.JournalEntry.{JournalEntry}
-use Rattle.rv_base.specs.declared.journal.Letter.{Letter}
-use Rattle.rv_base.specs.declared.journal.Packet.{Packet}
+use Rattle.journal.specs.declared.journal.JournalEntry.{JournalEntry}
+use Rattle.journal.specs.declared.journal.Letter.{Letter}
+use Rattle.journal.specs.declared.journal.Packet.{Packet}
 use Rattle.flow_clock.specs.Clocked.{Clocked}
 use Rattle.flow_clock.specs.Holding.{clocked_of}
 use Rattle.of_switch.specs.declared.says.SwitchInput.{SwitchInput}
 use Rattle.of_switch.specs.declared.says.SwitchSays.{SwitchSays}
 use Rattle.of_switch.specs.State.{SwitchState, SwitchTurn, starting_switch}
 use Rattle.of_switch.specs.Rules.{switch_turn}
-use Rattle.rv_runs.specs.States.{Scene, SwitchAt, switch_rules, switch_at, step_of, switch_speech}
+use Rattle.run_spec.specs.States.{Scene, SwitchAt, switch_rules, switch_at, step_of, switch_speech}
 use Rattle.switch_tables.specs.Acts.{acts_then}
 use Rattle.switch_tables.specs.Laws.{Doing, DoingAt, doing_rules, doing_at, IsTold}
 use Rattle.switch_tables.proofs.Tables.{turn_does}

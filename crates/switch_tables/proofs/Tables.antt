@@ -15,9 +15,9 @@ use Rattle.of_types.specs.declared.message.Row.{Row}
 use Rattle.of_types.specs.declared.message.Spoken.TheVariants as spoken
 use Rattle.of_types.specs.declared.numbers.TheConstants.{TO_CONTROLLER}
 use Rattle.of_types.specs.Lives.{last_life, switch_up}
-use Rattle.rv_base.specs.declared.journal.Actor.TheVariants as actor
-use Rattle.rv_base.specs.declared.journal.Local.{Local}
-use Rattle.rv_base.specs.declared.journal.Local.TheVariants as local
+use Rattle.journal.specs.declared.journal.Actor.TheVariants as actor
+use Rattle.journal.specs.declared.journal.Local.{Local}
+use Rattle.journal.specs.declared.journal.Local.TheVariants as local
 use Rattle.role_fence.specs.declared.fence.RoleAnswer.{RoleAnswer}
 use Rattle.role_fence.specs.declared.fence.RoleAnswer.TheVariants.{Reply, Stale, BadRole}
 use Rattle.role_fence.specs.Fence.{may_execute, RoleStep, role_step}

@@ -2,9 +2,9 @@
 use Rattle.std.specs.Prelude.{◌≡◌, ℕ, true, List, []}
 use Rattle.actor_fold.specs.Fold.{ActorRules, Standing}
 use Rattle.of_types.specs.declared.setup.Setup.{Setup}
-use Rattle.rv_base.specs.declared.journal.JournalEntry.{JournalEntry}
-use Rattle.rv_base.specs.declared.journal.Letter.{Letter}
-use Rattle.rv_base.specs.declared.journal.Packet.{Packet}
+use Rattle.journal.specs.declared.journal.JournalEntry.{JournalEntry}
+use Rattle.journal.specs.declared.journal.Letter.{Letter}
+use Rattle.journal.specs.declared.journal.Packet.{Packet}
 use Rattle.std.specs.Prelude.{Option}
 use Rattle.flow_clock.specs.History.{Act}
 use Rattle.flow_clock.specs.Holding.{clocked_of}
@@ -12,7 +12,7 @@ use Rattle.of_switch.specs.declared.says.SwitchInput.{SwitchInput}
 use Rattle.of_switch.specs.declared.says.SwitchSays.{SwitchSays}
 use Rattle.of_switch.specs.State.{SwitchState, SwitchTurn, starting_switch}
 use Rattle.of_switch.specs.Rules.{switch_turn}
-use Rattle.rv_runs.specs.States.{Scene, SwitchAt, actor_at, switch_at, switch_speech}
+use Rattle.run_spec.specs.States.{Scene, SwitchAt, actor_at, switch_at, switch_speech}
 use Rattle.switch_tables.specs.Acts.{acts_then}
 
 -- a switch beside what it did with its table in its present life, the latest first

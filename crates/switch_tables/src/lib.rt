@@ -8,9 +8,9 @@ ghost use Rattle.flow_clock.specs.Holding.{clocked_of};
 ghost use Rattle.of_switch.specs.declared.says.SwitchInput.{SwitchInput};
 ghost use Rattle.of_switch.specs.State.{SwitchState};
 ghost use Rattle.of_switch.specs.Rules.{switch_turn};
-ghost use Rattle.rv_base.specs.declared.journal.JournalEntry.{JournalEntry};
-ghost use Rattle.rv_base.specs.declared.journal.Packet.{Packet};
-ghost use Rattle.rv_runs.specs.States.{Scene};
+ghost use Rattle.journal.specs.declared.journal.JournalEntry.{JournalEntry};
+ghost use Rattle.journal.specs.declared.journal.Packet.{Packet};
+ghost use Rattle.run_spec.specs.States.{Scene};
 ghost use Rattle.switch_tables.specs.Acts.{acts_then};
 ghost use Rattle.switch_tables.specs.Laws.{IsTold};
 

@@ -1,7 +1,7 @@
 -- Which of two causes to stop counts.
 use Rattle.std.specs.Prelude.{Option, Some, None}
-use Rattle.rv_base.specs.declared.wire.Stop.{Stop}
-use Rattle.rv_base.specs.declared.wire.Stop.TheVariants.{OutOfMemory, JournalFull}
+use Rattle.journal.specs.declared.wire.Stop.{Stop}
+use Rattle.journal.specs.declared.wire.Stop.TheVariants.{OutOfMemory, JournalFull}
 
 -- the first of them, but want of memory before a full journal
 abbrev pub worst : Option Stop → Option Stop → Option Stop

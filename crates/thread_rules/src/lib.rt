@@ -2,11 +2,11 @@
 #![tactic(auto)]
 
 ghost use Rattle.std.specs.Prelude.{◌≡◌};
-ghost use Rattle.rv_base.specs.Actors.{same_actor};
-ghost use Rattle.rv_base.specs.Turns.{turn_actor};
+ghost use Rattle.journal.specs.Actors.{same_actor};
+ghost use Rattle.journal.specs.Turns.{turn_actor};
 ghost use Rattle.thread_rules.specs.Rules.{worst};
 
-use rv_base::{Actor, Stop, Turn};
+use journal::{Actor, Stop, Turn};
 
 /// Whether a step is an actor's own. It takes each of these, and no other.
 pub fn is_own(step: &Turn, actor: Actor) -> bool

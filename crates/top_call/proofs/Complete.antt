@@ -4,25 +4,25 @@ use Rattle.std.specs.Prelude.{Option, Contains, count_by, is_some, if◌then◌e
 use Rattle.std.specs.List.{AllByRecursion}
 use Rattle.std.proofs.lemmas.Bool.{lt-ltb, le-ltb}
 use Rattle.std.proofs.lemmas.List.Sums.{sum_by-cons}
-use Rattle.rv_base.specs.declared.journal.JournalEntry.{JournalEntry}
-use Rattle.rv_base.specs.declared.journal.SaveResult.{SaveResult}
-use Rattle.rv_base.specs.declared.journal.SaveResult.TheVariants.{Saved, KeptOld, KeptNew}
-use Rattle.rv_base.specs.Stables.{Saving}
+use Rattle.journal.specs.declared.journal.JournalEntry.{JournalEntry}
+use Rattle.journal.specs.declared.journal.SaveResult.{SaveResult}
+use Rattle.journal.specs.declared.journal.SaveResult.TheVariants.{Saved, KeptOld, KeptNew}
+use Rattle.journal.specs.Stables.{Saving}
 use Rattle.vr_log.specs.declared.entry.LogFull.{LogFull}
-use Rattle.rv_runs.specs.Legal.{results_of}
-use Rattle.rv_runs.specs.Schedule.{Answer}
-use Rattle.rv_runs.specs.Schedule as schedule
-use Rattle.rv_runs.specs.States.{Scene}
-use Rattle.rv_world.specs.World.{is_failed}
+use Rattle.run_spec.specs.Legal.{results_of}
+use Rattle.run_spec.specs.Schedule.{Answer}
+use Rattle.run_spec.specs.Schedule as schedule
+use Rattle.run_spec.specs.States.{Scene}
+use Rattle.world.specs.World.{is_failed}
 use Rattle.scenario.specs.declared.scenario.Fault.{Fault}
 use Rattle.scenario.specs.Generated.{generated}
 use Rattle.scenario.specs.Scenario.{scenario_of}
 use Rattle.top_call.specs.declared.sim.Output.{Output}
 use Rattle.scenario.specs.declared.scenario.Scenario.{Scenario}
-use Rattle.words.specs.declared.Job.{Job}
-use Rattle.words.specs.declared.Job.TheVariants.{Audit, Gen}
+use Rattle.command_line.specs.declared.words.Job.{Job}
+use Rattle.command_line.specs.declared.words.Job.TheVariants.{Audit, Gen}
 use Rattle.playing.specs.Manners.{Manner}
-use Rattle.words.specs.Words.{job_of}
+use Rattle.command_line.specs.Words.{job_of}
 use Rattle.audit.specs.Audit.{differs}
 use Rattle.top_call.specs.Audited.{report_limit}
 use Rattle.top_call.specs.Outcome.{Answers, Served, Write_failed, No_memory, IsReadAndWritten, Outcome, IsUnserved, IsAudit, IsOfFourNumbers, IsAsked, Of_bytes, Of_numbers, AsksFor, Its_bytes, Its_numbers, IsComplete, audit_status, manner_of, service_for}

@@ -10,9 +10,9 @@ use Rattle.scenario.specs.declared.scenario.Fault.{Fault}
 use Rattle.scenario.specs.declared.scenario.Scenario.{Scenario}
 use Rattle.scenario.specs.Generated.{generated}
 use Rattle.scenario.specs.Scenario.{scenario_of, scenario_limit}
-use Rattle.words.specs.declared.Job.{Job}
-use Rattle.words.specs.declared.Job.TheVariants.{Sim, Run, Audit, Gen}
-use Rattle.words.specs.Words.{job_of}
+use Rattle.command_line.specs.declared.words.Job.{Job}
+use Rattle.command_line.specs.declared.words.Job.TheVariants.{Sim, Run, Audit, Gen}
+use Rattle.command_line.specs.Words.{job_of}
 use Rattle.top_call.specs.declared.ending.Ending.{Ending}
 use Rattle.top_call.specs.declared.ending.Ending.TheVariants as ending
 use Rattle.top_call.specs.Cause.{HasEndingCause, IsOfNumbers, Tells}
@@ -26,7 +26,7 @@ use Rattle.top_call.specs.Service.{limit_of}
 use Rattle.top_call.specs.Outcome.{Outcome, statuses, statuses_of_audit, IsOneLine, HasRead, To_the_end, Past_the_limit, IsUnserved, IsAudit, IsOfFourNumbers, IsUnplayed, PlaysNothing, ReadsNothing, statuses_of_made, IsAsked, Of_bytes, Of_numbers, manner_of, service_for}
 use Rattle.top_call.specs.Outcome as outcome
 use Rattle.playing.specs.Manners.{Manner, In_order, Apart}
-use Rattle.rv_base.specs.Stables.{Saving}
+use Rattle.journal.specs.Stables.{Saving}
 use Rattle.top_call.specs.Runs.{StablesTell, Telling}
 use Rattle.top_call.proofs.Complete.{no_audit, no_audit_made, never_served, never_made, made_no_run, made_no_audit}
 

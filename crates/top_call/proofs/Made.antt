@@ -4,9 +4,9 @@ use Rattle.std.specs.Prelude.{Option, option_and_then, Contains, nat_le, ◌&&�
 use Rattle.std.specs.Str.{bytes_eq}
 use Rattle.std.proofs.lemmas.Bool.{cases_Bool, leb-true, eqb-true}
 use Rattle.numerals.specs.Numerals.{numeral}
-use Rattle.words.specs.declared.Job.{Job}
-use Rattle.words.specs.declared.Job.TheVariants.{Gen}
-use Rattle.words.specs.Words.{generator_of, group_of, job_of, number_within, plain_job}
+use Rattle.command_line.specs.declared.words.Job.{Job}
+use Rattle.command_line.specs.declared.words.Job.TheVariants.{Gen}
+use Rattle.command_line.specs.Words.{generator_of, group_of, job_of, number_within, plain_job}
 
 -- what the generator asks of them
 pub record AreBounded (controllers switches frames : ℕ) : Type 0 where

@@ -2,11 +2,11 @@
 use Rattle.std.proofs.Common.{◌≡◌, ◌≤◌, ℕ, List, [], ◌∷◌, length, drop, ◌∙◌, ap, arith, length-append}
 use Rattle.std.specs.List.{AllByRecursion}
 use Rattle.std.proofs.Math.Seq.{drop-append_seam}
-use Rattle.rv_base.specs.declared.journal.Local.TheVariants as local
-use Rattle.rv_base.specs.declared.journal.Turn.{Turn}
-use Rattle.rv_base.specs.declared.journal.Turn.TheVariants as turn
-use Rattle.rv_runs.specs.States.{Scene}
-use Rattle.rv_world.specs.World.{Worlding}
+use Rattle.journal.specs.declared.journal.Local.TheVariants as local
+use Rattle.journal.specs.declared.journal.Turn.{Turn}
+use Rattle.journal.specs.declared.journal.Turn.TheVariants as turn
+use Rattle.run_spec.specs.States.{Scene}
+use Rattle.world.specs.World.{Worlding}
 use Rattle.closing.specs.declared.closed.Closed.{Closed}
 use Rattle.closing.specs.Views.{most_view_of_a_script}
 use Rattle.playing.specs.Manners.{Manner}

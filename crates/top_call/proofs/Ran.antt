@@ -5,40 +5,40 @@ use Rattle.std.specs.List.{AllByRecursion, range_with_len}
 use Rattle.std.proofs.lemmas.List.{length-map, reverse-reverse}
 use Rattle.std.proofs.lemmas.Option.{slice_get_within}
 use Rattle.of_types.specs.declared.setup.Setup.{Setup}
-use Rattle.rv_base.specs.declared.journal.JournalEntry.{JournalEntry}
-use Rattle.rv_base.specs.declared.journal.SaveResult.{SaveResult}
-use Rattle.rv_base.specs.declared.journal.SaveResult.TheVariants.{Saved}
-use Rattle.rv_base.specs.declared.journal.Turn.{Turn}
-use Rattle.rv_base.specs.Pool.{past}
-use Rattle.rv_base.specs.Turns.{IsWithinLimits}
-use Rattle.rv_base.proofs.All.{all_get}
+use Rattle.journal.specs.declared.journal.JournalEntry.{JournalEntry}
+use Rattle.journal.specs.declared.journal.SaveResult.{SaveResult}
+use Rattle.journal.specs.declared.journal.SaveResult.TheVariants.{Saved}
+use Rattle.journal.specs.declared.journal.Turn.{Turn}
+use Rattle.journal.specs.Pool.{past}
+use Rattle.journal.specs.Turns.{IsWithinLimits}
+use Rattle.journal.proofs.All.{all_get}
 use Rattle.group_controller.specs.Turns.{Controlling, state_of, pair_in}
 use Rattle.of_switch.specs.State.{SwitchState}
 use Rattle.of_types.specs.Setups.{IsSetup}
-use Rattle.rv_laws.proofs.Told.{told_law}
-use Rattle.rv_laws.proofs.Laws.{agreement_law, lasting_law, once_law, fence_law, valid_law}
-use Rattle.rv_runs.specs.Committed.{count_up, kept, kept_of, members_up, switch_state}
-use Rattle.rv_runs.specs.Legal.{IsPossible, results_of}
+use Rattle.run_laws.proofs.Told.{told_law}
+use Rattle.run_laws.proofs.Laws.{agreement_law, lasting_law, once_law, fence_law, valid_law}
+use Rattle.run_spec.specs.Committed.{count_up, kept, kept_of, members_up, switch_state}
+use Rattle.run_spec.specs.Legal.{IsPossible, results_of}
 use Rattle.playing.specs.Manners.{Manner, In_order, Apart, Begins, Follows}
-use Rattle.rv_runs.specs.Schedule.{Answer, Closes, count_turns, majority}
-use Rattle.rv_runs.specs.Schedule as schedule
-use Rattle.rv_runs.specs.States.{Scene, controller_at}
-use Rattle.rv_base.specs.declared.journal.Actor.TheVariants as actor
-use Rattle.rv_base.specs.Part.{part}
-use Rattle.rv_runs.specs.Bodies.{byte_bodies}
-use Rattle.rv_runs.proofs.Bodies.{bytes_again}
-use Rattle.rv_runs.proofs.Pasts.{from_some}
-use Rattle.rv_runs.proofs.Playing.{IsWholeRun, all_saved, one_journal, the_one_journal}
-use Rattle.rv_runs.proofs.Playing as one_run
-use Rattle.rv_base.specs.declared.wire.Stop.{Stop}
-use Rattle.rv_base.specs.declared.wire.Stop.TheVariants.{OutOfMemory, JournalFull}
-use Rattle.rv_base.specs.Stables.{Saving}
+use Rattle.run_spec.specs.Schedule.{Answer, Closes, count_turns, majority}
+use Rattle.run_spec.specs.Schedule as schedule
+use Rattle.run_spec.specs.States.{Scene, controller_at}
+use Rattle.journal.specs.declared.journal.Actor.TheVariants as actor
+use Rattle.journal.specs.Part.{part}
+use Rattle.run_spec.specs.Bodies.{byte_bodies}
+use Rattle.run_spec.proofs.Bodies.{bytes_again}
+use Rattle.run_spec.proofs.Pasts.{from_some}
+use Rattle.run_spec.proofs.Playing.{IsWholeRun, all_saved, one_journal, the_one_journal}
+use Rattle.run_spec.proofs.Playing as one_run
+use Rattle.journal.specs.declared.wire.Stop.{Stop}
+use Rattle.journal.specs.declared.wire.Stop.TheVariants.{OutOfMemory, JournalFull}
+use Rattle.journal.specs.Stables.{Saving}
 use Rattle.running.specs.declared.run.Played.{Played}
 use Rattle.running.specs.Threads.{IsLeftLegal}
 use Rattle.top_call.specs.declared.sim.Output.TheVariants as told_as
-use Rattle.rv_world.specs.World.{AreMore, Holds, IsMember, Keeps, PairsStand, StartsAs, Worlding, is_failed, results_in, scene_in}
-use Rattle.rv_world.proofs.Growing.{no_more}
-use Rattle.rv_world.proofs.Places.{results_at}
+use Rattle.world.specs.World.{AreMore, Holds, IsMember, Keeps, PairsStand, StartsAs, Worlding, is_failed, results_in, scene_in}
+use Rattle.world.proofs.Growing.{no_more}
+use Rattle.world.proofs.Places.{results_at}
 use Rattle.closing.specs.declared.closed.Closed.{Closed}
 use Rattle.closing.specs.declared.closed.Closed.TheVariants as closed
 use Rattle.closing.specs.Closing.{HasMajority, HasReason, IsBounded, answer_of}
@@ -55,11 +55,11 @@ use Rattle.scenario.specs.declared.scenario.Scenario.{Scenario}
 use Rattle.report.specs.declared.record.Record.{Record}
 use Rattle.report.specs.Fits.{FitsRecord}
 use Rattle.report.specs.Writable.{IsWritable}
-use Rattle.rv_record.specs.Shows.{Shows, committed_at, told_by, told_of}
+use Rattle.world_record.specs.Shows.{Shows, committed_at, told_by, told_of}
 use Rattle.playing.specs.Played.{HaltsAs, HasPlayed, RunStops}
 use Rattle.top_call.specs.declared.sim.Output.{Output}
 use Rattle.top_call.specs.Play.{AreFresh, IfDone, IfReport, StopsAs, ending_by, told_text}
-use Rattle.rv_base.specs.Actors.{actor_of, IsActor}
+use Rattle.journal.specs.Actors.{actor_of, IsActor}
 use Rattle.top_call.proofs.Recorded.{follow_lines, one_record, told_writable}
 use Rattle.top_call.specs.declared.ending.Ending.{Ending}
 use Rattle.top_call.specs.Ending.{EndsRun}

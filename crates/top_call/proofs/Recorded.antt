@@ -16,35 +16,35 @@ use Rattle.of_types.specs.Setups.{IsSetup}
 use Rattle.of_types.specs.Sizes.{happening_size, order_size, plain_size}
 use Rattle.of_types.specs.Valid.{IsValidHappening, IsValidOrder}
 use Rattle.of_ravana.specs.Canonical.{happening_message, order_message}
-use Rattle.rv_base.specs.declared.journal.JournalEntry.{JournalEntry}
-use Rattle.rv_base.specs.declared.journal.JournalEntry.TheVariants.{Post, Draw, Lose, Local, Idle, Refused}
-use Rattle.rv_base.specs.declared.journal.Packet.{Packet}
-use Rattle.rv_base.specs.declared.journal.SaveResult.{SaveResult}
-use Rattle.rv_base.specs.declared.journal.Turn.{Turn}
-use Rattle.rv_base.specs.Pool.{past, pool}
-use Rattle.rv_base.proofs.All.{all_append, all_map, all_weaker}
+use Rattle.journal.specs.declared.journal.JournalEntry.{JournalEntry}
+use Rattle.journal.specs.declared.journal.JournalEntry.TheVariants.{Post, Draw, Lose, Local, Idle, Refused}
+use Rattle.journal.specs.declared.journal.Packet.{Packet}
+use Rattle.journal.specs.declared.journal.SaveResult.{SaveResult}
+use Rattle.journal.specs.declared.journal.Turn.{Turn}
+use Rattle.journal.specs.Pool.{past, pool}
+use Rattle.journal.proofs.All.{all_append, all_map, all_weaker}
 use Rattle.vr_log.specs.declared.entry.Entry.{Entry}
 use Rattle.vr_log.specs.declared.entry.Entry.TheVariants.{Received, Processed}
 use Rattle.vr_log.specs.Sizes.{IsValidEntry}
 use Rattle.of_switch.specs.State.{SwitchState, rows_of}
 use Rattle.group_controller.specs.State.{ControllerState}
-use Rattle.rv_runs.specs.Committed.{decided, members_up, states_of, switch_state}
-use Rattle.rv_runs.specs.Schedule.{Answer, Closes, ClosesTo, Draining, Ends, IsMove, Losing, Met, Move, Phase, Suspecting, NoQuorum, Takes, TakesInOrder, after_move, closing_view, drained, is_drawn, majority, next_drained, next_lost, next_move, next_suspicion, next_view, quorum_of}
-use Rattle.rv_runs.specs.States.{Scene}
-use Rattle.rv_base.specs.declared.journal.Actor.{Actor}
-use Rattle.rv_base.specs.Actors.{actor_of, IsActor}
+use Rattle.run_spec.specs.Committed.{decided, members_up, states_of, switch_state}
+use Rattle.run_spec.specs.Schedule.{Answer, Closes, ClosesTo, Draining, Ends, IsMove, Losing, Met, Move, Phase, Suspecting, NoQuorum, Takes, TakesInOrder, after_move, closing_view, drained, is_drawn, majority, next_drained, next_lost, next_move, next_suspicion, next_view, quorum_of}
+use Rattle.run_spec.specs.States.{Scene}
+use Rattle.journal.specs.declared.journal.Actor.{Actor}
+use Rattle.journal.specs.Actors.{actor_of, IsActor}
 use Rattle.running.specs.Apart.{IsStepAt, TakesOwn, inputs_of, steps_of}
 use Rattle.playing.specs.Manners.{Manner, In_order, Apart, Follows}
 use Rattle.playing.proofs.Stopping.{same_self}
-use Rattle.rv_runs.proofs.Pasts.{from_some}
-use Rattle.rv_laws.specs.Told.{IsSpellable, IsSpellableEntry, IsSpellableEvent, IsSpellableOrder, IsSpellableRow, IsSpellableRun, IsSpellableSwitch}
-use Rattle.rv_world.specs.World.{Worlding}
+use Rattle.run_spec.proofs.Pasts.{from_some}
+use Rattle.run_laws.specs.Told.{IsSpellable, IsSpellableEntry, IsSpellableEvent, IsSpellableOrder, IsSpellableRow, IsSpellableRun, IsSpellableSwitch}
+use Rattle.world.specs.World.{Worlding}
 use Rattle.report.specs.declared.record.Record.{Record}
 use Rattle.report.specs.Fits.{FitsRecord}
 use Rattle.report.specs.Writable.{AreWritable, HasLine, IsWritable, IsWritableEvent, IsWritableExecuted, IsWritableRow, IsWritableTold}
 use Rattle.report.proofs.Writable.{is_record}
 use Rattle.report.proofs.RecordAgain.{one_record as one_text}
-use Rattle.rv_record.specs.Shows.{committed_at, shown_row, told_by, told_of}
+use Rattle.world_record.specs.Shows.{committed_at, shown_row, told_by, told_of}
 use Rattle.top_call.specs.declared.sim.Output.{Output}
 use Rattle.top_call.specs.declared.sim.Output.TheVariants.{Report, LastLine}
 use Rattle.top_call.specs.Play.{IfReport, told_text}

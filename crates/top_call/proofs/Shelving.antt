@@ -1,7 +1,7 @@
 -- The applications of controllers, life by life.
 use Rattle.std.proofs.Common.{◌≡◌, ◌≤◌, ◌<◌, ◌⊎◌, inl, inr, ℕ, ◌+◌, ◌*◌, List, [], ◌∷◌, ◌++◌, length, sym, ◌∙◌, ap, subst, arith, length-append}
 use Rattle.std.proofs.lemmas.Bool.{cases_lt}
-use Rattle.rv_base.proofs.All.{all_append}
+use Rattle.journal.proofs.All.{all_append}
 use Rattle.app_core.specs.Law.{AppLaw}
 use Rattle.group_controller.specs.Turns.{AreAlike}
 use Rattle.app_core.specs.Chain.{given_by}

@@ -1,6 +1,6 @@
 -- What a call is told to have read, written and answered.
 use Rattle.std.specs.Prelude.{ℕ, List, Option}
-use Rattle.rv_base.specs.Causes.{Rose}
+use Rattle.journal.specs.Causes.{Rose}
 use Rattle.app_core.specs.Law.{AppLaw}
 use Rattle.top_call.specs.Play.{AreChains}
 use Rattle.top_call.specs.Outcome.{Answers, IsComplete, IsOfFourNumbers, IsReadAndWritten, IsWritten}

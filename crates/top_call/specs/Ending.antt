@@ -6,7 +6,7 @@ use Rattle.top_call.specs.declared.sim.Output.{Output}
 use Rattle.top_call.specs.declared.sim.Output.TheVariants as told_as
 use Rattle.top_call.specs.declared.ending.Ending.{Ending}
 use Rattle.top_call.specs.declared.ending.Ending.TheVariants.{Report, Usage, Refused, Unread, NoQuorum, Overfull, Unposted, Same, Differs}
-use Rattle.endings.specs.Lines.{unread_line, differs_line}
+use Rattle.command_line.specs.Lines.{unread_line, differs_line}
 use Rattle.top_call.specs.Lines.{usage_line, fault_line, no_quorum_line, overfull_line, unposted_line, same_line}
 use Rattle.audit.specs.Audit.{differs}
 use Rattle.top_call.specs.Audited.{report_limit, too_large}

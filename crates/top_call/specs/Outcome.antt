@@ -7,10 +7,10 @@ use Rattle.scenario.specs.Scenario.{scenario_of, scenario_limit}
 use Rattle.scenario.specs.Generated.{generated}
 use Rattle.top_call.specs.declared.sim.Output.{Output}
 use Rattle.top_call.specs.declared.sim.Output.TheVariants.{Report, LastLine}
-use Rattle.words.specs.declared.Job.{Job}
-use Rattle.words.specs.declared.Job.TheVariants.{Sim, Run, Audit, Gen}
-use Rattle.words.specs.Words.{job_of}
-use Rattle.endings.specs.Lines.{unread_line, differs_line}
+use Rattle.command_line.specs.declared.words.Job.{Job}
+use Rattle.command_line.specs.declared.words.Job.TheVariants.{Sim, Run, Audit, Gen}
+use Rattle.command_line.specs.Words.{job_of}
+use Rattle.command_line.specs.Lines.{unread_line, differs_line}
 use Rattle.top_call.specs.Lines.{usage_line, fault_line, no_quorum_line, overfull_line, unposted_line, same_line}
 use Rattle.audit.specs.Audit.{differs}
 use Rattle.top_call.specs.declared.service.Reader.{Reader}

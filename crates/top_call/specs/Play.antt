@@ -1,10 +1,10 @@
 -- What a run starts from, and how a call ends by it.
 use Rattle.std.specs.Prelude.{◌≡◌, ℕ, ◌*◌, ◌+◌, List, [], ◌∷◌, length}
 use Rattle.std.specs.List.{AllByRecursion}
-use Rattle.rv_base.specs.declared.wire.Stop.{Stop}
-use Rattle.rv_base.specs.declared.wire.Stop.TheVariants.{OutOfMemory, JournalFull}
+use Rattle.journal.specs.declared.wire.Stop.{Stop}
+use Rattle.journal.specs.declared.wire.Stop.TheVariants.{OutOfMemory, JournalFull}
 use Rattle.of_types.specs.Lives.{last_life}
-use Rattle.rv_base.specs.Stables.{Saving}
+use Rattle.journal.specs.Stables.{Saving}
 use Rattle.app_core.specs.Chain.{firewall, slot}
 use Rattle.app_core.specs.Law.{AppLaw}
 use Rattle.group_controller.specs.Turns.{AreAlike}

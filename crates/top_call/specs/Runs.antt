@@ -1,35 +1,35 @@
 -- What the runs of a scenario are.
 use Rattle.std.specs.Prelude.{◌≡◌, ◌≤◌, ◌<◌, ◌⊎◌, ℕ, ◌+◌, ◌-◌, ◌^◌, List, [], ◌++◌, length, count_by, slice_get, Some}
 use Rattle.std.specs.List.{AllByRecursion}
-use Rattle.rv_base.specs.declared.journal.JournalEntry.{JournalEntry}
-use Rattle.rv_base.specs.declared.journal.SaveResult.{SaveResult}
-use Rattle.rv_base.specs.declared.journal.SaveResult.TheVariants.{Saved}
-use Rattle.rv_base.specs.Pool.{past}
-use Rattle.rv_base.specs.Turns.{IsWithinLimits}
-use Rattle.rv_base.specs.Stables.{Saving}
+use Rattle.journal.specs.declared.journal.JournalEntry.{JournalEntry}
+use Rattle.journal.specs.declared.journal.SaveResult.{SaveResult}
+use Rattle.journal.specs.declared.journal.SaveResult.TheVariants.{Saved}
+use Rattle.journal.specs.Pool.{past}
+use Rattle.journal.specs.Turns.{IsWithinLimits}
+use Rattle.journal.specs.Stables.{Saving}
 use Rattle.vr_log.specs.declared.entry.Entry.{Entry}
 use Rattle.vr_log.specs.declared.entry.LogFull.{LogFull}
 use Rattle.group_controller.specs.Turns.{pair_in}
-use Rattle.rv_runs.specs.Bound.{IsQuick, IsSharplyBounded}
-use Rattle.rv_runs.specs.Committed.{controller_state, count_up}
-use Rattle.rv_laws.specs.Laws.{AreAgreed, AreValidLogs}
-use Rattle.rv_runs.specs.Laws.{IsExactlyOnce, IsFenced, IsLasting}
-use Rattle.rv_runs.specs.Legal.{IsLegal, results_of}
-use Rattle.rv_runs.specs.Play.{plays}
+use Rattle.run_spec.specs.Bound.{IsQuick, IsSharplyBounded}
+use Rattle.run_spec.specs.Committed.{controller_state, count_up}
+use Rattle.run_laws.specs.Laws.{AreAgreed, AreValidLogs}
+use Rattle.run_spec.specs.Laws.{IsExactlyOnce, IsFenced, IsLasting}
+use Rattle.run_spec.specs.Legal.{IsLegal, results_of}
+use Rattle.run_spec.specs.Play.{plays}
 use Rattle.playing.specs.Manners.{Manner, In_order, Apart, Begins, Follows}
-use Rattle.rv_runs.specs.Schedule.{Answer, Closes, majority}
-use Rattle.rv_runs.specs.Schedule as schedule
-use Rattle.rv_runs.specs.States.{Scene}
+use Rattle.run_spec.specs.Schedule.{Answer, Closes, majority}
+use Rattle.run_spec.specs.Schedule as schedule
+use Rattle.run_spec.specs.States.{Scene}
 use Rattle.closing_laws.specs.Ends.{HasRested}
 use Rattle.closing_laws.specs.Held.{AreKept}
 use Rattle.closing_laws.specs.Stops.{FitALog, IsAtLimit, events_made}
-use Rattle.rv_world.specs.World.{is_failed}
+use Rattle.world.specs.World.{is_failed}
 use Rattle.scenario.specs.declared.scenario.Scenario.{Scenario}
 use Rattle.report.specs.declared.record.Record.{Record}
 use Rattle.report.specs.Records.{IsRecord}
 use Rattle.report.specs.Report.{text}
-use Rattle.rv_record.specs.Shows.{Shows}
-use Rattle.rv_actors.specs.Bare.{scene_bytes}
+use Rattle.world_record.specs.Shows.{Shows}
+use Rattle.byte_bodies.specs.Bare.{scene_bytes}
 use Rattle.top_call.specs.declared.sim.Output.{Output}
 use Rattle.top_call.specs.Play.{IfReport, told_text}
 

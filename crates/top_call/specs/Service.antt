@@ -1,7 +1,7 @@
 -- What serves each job.
 use Rattle.std.specs.Prelude.{ℕ}
-use Rattle.words.specs.declared.Job.{Job}
-use Rattle.words.specs.declared.Job.TheVariants.{Sim, Run, Audit, Gen}
+use Rattle.command_line.specs.declared.words.Job.{Job}
+use Rattle.command_line.specs.declared.words.Job.TheVariants.{Sim, Run, Audit, Gen}
 use Rattle.scenario.specs.Scenario.{scenario_limit}
 use Rattle.top_call.specs.declared.service.Service.{Service}
 use Rattle.top_call.specs.declared.service.Service.TheVariants as service

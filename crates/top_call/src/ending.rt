@@ -1,11 +1,11 @@
 //! How a call ended, and what it has to write.
 ghost use Rattle.std.specs.Prelude.{◌≡◌, ◌≢◌, [], ◌∷◌, ◌++◌, codes, IfOk, OnOk, OnErr};
 ghost use Rattle.report.specs.Report.{word, further, number};
-ghost use Rattle.endings.specs.Lines.{text_bytes};
+ghost use Rattle.command_line.specs.Lines.{text_bytes};
 ghost use Rattle.top_call.specs.Lines as lines;
 ghost use Rattle.top_call.specs.Ending.{ending_text, ending_status};
 
-use endings::{Text, differs_line, unread_line};
+use command_line::{Text, differs_line, unread_line};
 use of_types::Octets;
 use report::{write_newline, write_number, write_word};
 use scenario::{Fault, FaultKind, FaultPlace};

@@ -3,7 +3,7 @@ ghost use Rattle.std.specs.Prelude.{IfOk};
 ghost use Rattle.top_call.specs.Play.{AreFresh};
 
 use crate::shelves::CONTROLLERS;
-use rv_base::{MemoryStable, Stable};
+use journal::{MemoryStable, Stable};
 use std::alloc::{AllocError, Global};
 
 /// The stable pairs of the most controllers. No save of theirs fails.

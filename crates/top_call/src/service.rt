@@ -4,7 +4,7 @@ ghost use Rattle.top_call.specs.Service.{service_of, limit_of};
 
 use report::REPORT_LIMIT;
 use scenario::SCENARIO_LIMIT;
-use words::Job;
+use command_line::Job;
 
 /// A job that reads.
 #[derive(Clone, Copy)]

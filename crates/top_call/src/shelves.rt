@@ -2,7 +2,7 @@
 ghost use Rattle.std.specs.Prelude.{◌≡◌, ◌≤◌, ◌+◌, ℕ, List, length, map, IfOk, OnOk};
 ghost use Rattle.app_core.specs.Law.{chain_law};
 ghost use Rattle.group_controller.specs.Turns.{AreAlike};
-ghost use Rattle.rv_world.specs.World.{AreStocked};
+ghost use Rattle.world.specs.World.{AreStocked};
 ghost use Rattle.top_call.specs.Play.{AreChains, program_kinds};
 
 use app_chain::LifeOf;

@@ -1,8 +1,8 @@
 //! Playing a scenario from its first step to its report.
 ghost use Rattle.std.specs.Prelude.{◌≡◌, ◌<◌, ◌≤◌, ℕ, List, length, IfOk};
-ghost use Rattle.rv_world.specs.World.{AreStocked};
+ghost use Rattle.world.specs.World.{AreStocked};
 ghost use Rattle.playing.specs.Manners.{In_order, Apart};
-ghost use Rattle.rv_record.specs.Shows.{told_by};
+ghost use Rattle.world_record.specs.Shows.{told_by};
 ghost use Rattle.scenario.specs.Scenario.{IsScenario};
 ghost use Rattle.top_call.specs.declared.sim.Output.TheVariants as told_as;
 ghost use Rattle.top_call.specs.Ending.{EndsRun};
@@ -16,10 +16,10 @@ use closing::Closed;
 use of_types::Octets;
 use playing::{play, play_apart};
 use report::{last_line, record_fits, text};
-use rv_actors::Bytes;
-use rv_base::{Gate, Stable, Stop};
-use rv_record::{record_of, sums_of};
-use rv_world::World;
+use byte_bodies::Bytes;
+use journal::{Gate, Stable, Stop};
+use world_record::{record_of, sums_of};
+use world::World;
 use scenario::Scenario;
 use std::alloc::{AllocError, Global};
 use std::sync::Wait;

@@ -1,7 +1,7 @@
 //! The top call.
 ghost use Rattle.std.specs.Prelude.{◌≡◌, ◌≢◌, ◌≤◌, ℕ, List, map, string_bytes, Contains, IfOk, OnErr};
-ghost use Rattle.rv_base.specs.Causes.{Rose};
-ghost use Rattle.words.specs.Words.{job_of};
+ghost use Rattle.journal.specs.Causes.{Rose};
+ghost use Rattle.command_line.specs.Words.{job_of};
 ghost use Rattle.scenario.specs.Scenario.{IsScenario};
 ghost use Rattle.playing.specs.Manners.{In_order, Apart};
 ghost use Rattle.top_call.specs.declared.service.Reader.TheVariants as readers;
@@ -19,14 +19,14 @@ use crate::service::{Reader, Service};
 use crate::shelves::shelves_of;
 use crate::sim::{Output, simulate, simulate_apart};
 use app_core::App;
-use endings::{NO_MEMORY, WRITE_FAILED};
-use rv_base::{Gate, Sink, Source, Stable};
+use command_line::{NO_MEMORY, WRITE_FAILED};
+use journal::{Gate, Sink, Source, Stable};
 use scenario::{Scenario, ScenarioFault, generate, read_scenario};
 use std::alloc::{AllocError, Global};
 use std::sync::Wait;
 use std::thread::Threads;
 use streams::{StreamFault, read_input, write_all};
-use words::read_words;
+use command_line::read_words;
 
 /// What serves the job that words ask for.
 fn service_for(words: &[String]) -> Option<Service>

@@ -10,8 +10,8 @@ use Rattle.vr_log.specs.declared.state.VrState.{VrState}
 use Rattle.vr_log.specs.Members.{most_failures, others_below}
 use Rattle.vr_normal.specs.Cases.{acks, agreed, counted, is_agreed}
 use Rattle.vr_normal.proofs.Agreed.{greatest_of}
-use Rattle.rv_runs.specs.declared.messages.Message.{Message}
-use Rattle.rv_runs.specs.declared.messages.Message.TheVariants as message
+use Rattle.run_spec.specs.declared.messages.Message.{Message}
+use Rattle.run_spec.specs.declared.messages.Message.TheVariants as message
 use Rattle.closing_laws.specs.Quorum.{has}
 use Rattle.closing_laws.specs.Following.{ArePrepares, AreAcknowledged, Start, KeepsUp, IsAgreed, LeadsFrom}
 use Rattle.closing_laws.proofs.Draining.Followers.{keeps_up_longer, prepares_rise}

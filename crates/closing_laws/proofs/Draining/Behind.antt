@@ -4,8 +4,8 @@ use Rattle.std.proofs.lemmas.List.{append_assoc, reverse-append}
 use Rattle.std.specs.Prelude.{nat_eq, not, reverse, None, if◌then◌else◌}
 use Rattle.std.proofs.lemmas.Bool.{eq-eqb}
 use Rattle.of_types.specs.Setups.{IsSetup}
-use Rattle.rv_base.specs.declared.journal.JournalEntry.{JournalEntry}
-use Rattle.rv_base.specs.declared.journal.SaveResult.{SaveResult}
+use Rattle.journal.specs.declared.journal.JournalEntry.{JournalEntry}
+use Rattle.journal.specs.declared.journal.SaveResult.{SaveResult}
 use Rattle.vr_log.specs.declared.state.Status.{Status}
 use Rattle.vr_log.specs.declared.state.Status.TheVariants.{Normal, ViewChange, Recovering, Down}
 use Rattle.vr_log.specs.declared.state.VrState.{VrState}
@@ -15,10 +15,10 @@ use Rattle.dispatcher.specs.Marks.{no_marks}
 use Rattle.group_controller.specs.State.{ControllerState, Work, fresh, leaving, posting, stepped}
 use Rattle.group_controller.specs.Rules.{switches}
 use Rattle.group_controller.specs.Settling.{role_letter}
-use Rattle.rv_runs.specs.States.{Scene, IsFaithful}
-use Rattle.rv_runs.specs.Legal.{IsPossible}
-use Rattle.rv_runs.specs.Committed.{controller_state}
-use Rattle.rv_runs.specs.Schedule.{ClosesTo, Losing, Phase, after_member, met_by}
+use Rattle.run_spec.specs.States.{Scene, IsFaithful}
+use Rattle.run_spec.specs.Legal.{IsPossible}
+use Rattle.run_spec.specs.Committed.{controller_state}
+use Rattle.run_spec.specs.Schedule.{ClosesTo, Losing, Phase, after_member, met_by}
 use Rattle.closing_laws.specs.Following.{Start}
 use Rattle.closing_laws.specs.Measure.{left_to_do}
 use Rattle.closing_laws.specs.Quorum.{has}

@@ -6,25 +6,25 @@ use Rattle.std.proofs.lemmas.List.Sums.{length-filter}
 use Rattle.std.proofs.lemmas.List.{take_all, length-map}
 use Rattle.of_types.specs.declared.message.Event.{Event}
 use Rattle.of_types.specs.Setups.{IsSetup}
-use Rattle.rv_base.specs.declared.journal.JournalEntry.{JournalEntry}
-use Rattle.rv_base.specs.declared.journal.SaveResult.{SaveResult}
-use Rattle.rv_base.specs.Pool.{pool}
-use Rattle.lists.specs.Lists.{IsIn, IsPrefix}
-use Rattle.lists.proofs.Elements.{filter_has, in_left}
-use Rattle.lists.proofs.Places.{in_get}
-use Rattle.lists.proofs.Prefixes.{prefix_equal, prefix_length}
+use Rattle.journal.specs.declared.journal.JournalEntry.{JournalEntry}
+use Rattle.journal.specs.declared.journal.SaveResult.{SaveResult}
+use Rattle.journal.specs.Pool.{pool}
+use Rattle.list_facts.specs.Lists.{IsIn, IsPrefix}
+use Rattle.list_facts.proofs.Elements.{filter_has, in_left}
+use Rattle.list_facts.proofs.Places.{in_get}
+use Rattle.list_facts.proofs.Prefixes.{prefix_equal, prefix_length}
 use Rattle.vr_log.specs.declared.entry.Entry.{Entry}
 use Rattle.vr_log.specs.declared.state.VrState.{VrState}
 use Rattle.vr_log.specs.Log.{received, processed}
 use Rattle.app_core.specs.Issued.{issued}
 use Rattle.of_switch.specs.State.{SwitchState, events_in, executed_in, life_of}
 use Rattle.group_controller.specs.State.{ControllerState, committed}
-use Rattle.rv_runs.specs.States.{Scene, IsFaithful}
-use Rattle.rv_runs.specs.Legal.{IsPossible}
-use Rattle.rv_runs.specs.Committed.{controller_state, decided, switch_state}
-use Rattle.rv_runs.specs.Laws.{IsAtRest, events_from_life}
-use Rattle.rv_laws.proofs.Laws.{always, once_law}
-use Rattle.rv_laws.proofs.Members.{up_leads}
+use Rattle.run_spec.specs.States.{Scene, IsFaithful}
+use Rattle.run_spec.specs.Legal.{IsPossible}
+use Rattle.run_spec.specs.Committed.{controller_state, decided, switch_state}
+use Rattle.run_spec.specs.Laws.{IsAtRest, events_from_life}
+use Rattle.run_laws.proofs.Laws.{always, once_law}
+use Rattle.run_laws.proofs.Members.{up_leads}
 use Rattle.closing_laws.specs.Following.{Start}
 use Rattle.closing_laws.specs.Serving.{AreFew, IsTrueOf, IsTruePrimary}
 use Rattle.closing_laws.specs.Ends.{HasRested}

@@ -5,14 +5,14 @@ use Rattle.std.specs.List.{AllByRecursion}
 use Rattle.of_types.specs.declared.message.Event.{Event}
 use Rattle.of_types.specs.declared.message.Spoken.{Spoken}
 use Rattle.of_types.specs.Setups.{IsSetup}
-use Rattle.rv_base.specs.declared.journal.Actor.{Actor}
-use Rattle.rv_base.specs.declared.journal.Actor.TheVariants as actor
-use Rattle.rv_base.specs.declared.journal.JournalEntry.{JournalEntry}
-use Rattle.rv_base.specs.declared.journal.Letter.{Letter}
-use Rattle.rv_base.specs.declared.journal.SaveResult.{SaveResult}
-use Rattle.rv_base.specs.Limits.{pool_packets}
-use Rattle.rv_base.specs.Turns.{IsWithinLimits}
-use Rattle.lists.specs.Lists.{IsIn, IsPrefix}
+use Rattle.journal.specs.declared.journal.Actor.{Actor}
+use Rattle.journal.specs.declared.journal.Actor.TheVariants as actor
+use Rattle.journal.specs.declared.journal.JournalEntry.{JournalEntry}
+use Rattle.journal.specs.declared.journal.Letter.{Letter}
+use Rattle.journal.specs.declared.journal.SaveResult.{SaveResult}
+use Rattle.journal.specs.Limits.{pool_packets}
+use Rattle.journal.specs.Turns.{IsWithinLimits}
+use Rattle.list_facts.specs.Lists.{IsIn, IsPrefix}
 use Rattle.vr_log.specs.declared.entry.LogFull.{LogFull}
 use Rattle.vr_log.specs.Log.{received}
 use Rattle.vr_log.specs.declared.state.VrState.{VrState}
@@ -23,13 +23,13 @@ use Rattle.of_switch.specs.State.{SwitchState, SwitchTurn, life_of}
 use Rattle.of_switch.specs.Rules.{switch_turn}
 use Rattle.group_controller.specs.State.{ControllerState}
 use Rattle.group_controller.specs.Rules.{controller_work}
-use Rattle.rv_runs.specs.declared.messages.Message.{Message}
-use Rattle.rv_runs.specs.declared.messages.Message.TheVariants as message
-use Rattle.rv_runs.specs.declared.messages.Unsealed.TheVariants as unsealed
-use Rattle.rv_runs.specs.States.{Scene, IsFaithful, controller_message, switch_hears, switch_message}
-use Rattle.rv_runs.specs.Legal.{IsPossible}
-use Rattle.rv_runs.specs.Committed.{controller_state, switch_state, decided}
-use Rattle.rv_runs.specs.Schedule.{ClosesTo, Met, Done, IsEnd, IsPosted, Phase, next_move, count_turns}
+use Rattle.run_spec.specs.declared.messages.Message.{Message}
+use Rattle.run_spec.specs.declared.messages.Message.TheVariants as message
+use Rattle.run_spec.specs.declared.messages.Unsealed.TheVariants as unsealed
+use Rattle.run_spec.specs.States.{Scene, IsFaithful, controller_message, switch_hears, switch_message}
+use Rattle.run_spec.specs.Legal.{IsPossible}
+use Rattle.run_spec.specs.Committed.{controller_state, switch_state, decided}
+use Rattle.run_spec.specs.Schedule.{ClosesTo, Met, Done, IsEnd, IsPosted, Phase, next_move, count_turns}
 use Rattle.closing_laws.specs.Ends.{HasRested}
 use Rattle.closing_laws.specs.Following.{Start}
 use Rattle.closing_laws.specs.Measure.{commands_from, left_to_do}

@@ -4,24 +4,24 @@ use Rattle.std.specs.Prelude.{Option, Some, None, if◌then◌else◌}
 use Rattle.std.proofs.lemmas.List.{length-append}
 use Rattle.std.proofs.lemmas.List.Sums.{sum_by-cons}
 use Rattle.of_types.specs.Setups.{IsSetup}
-use Rattle.rv_base.specs.declared.journal.Actor.{Actor}
-use Rattle.rv_base.specs.declared.journal.Actor.TheVariants as actor
-use Rattle.rv_base.specs.declared.journal.JournalEntry.{JournalEntry}
-use Rattle.rv_base.specs.declared.journal.JournalEntry.TheVariants.{Post, Draw, Lose, Local, Idle, Refused}
-use Rattle.rv_base.specs.declared.journal.Letter.{Letter}
-use Rattle.rv_base.specs.declared.journal.Packet.{Packet}
-use Rattle.rv_base.specs.declared.journal.SaveResult.{SaveResult}
-use Rattle.rv_base.specs.Actors.{actor_of}
-use Rattle.rv_base.specs.Pool.{pool, numbered}
-use Rattle.rv_base.specs.Turns.{IsWithinLimits}
-use Rattle.lists.specs.Lists.{IsIn}
+use Rattle.journal.specs.declared.journal.Actor.{Actor}
+use Rattle.journal.specs.declared.journal.Actor.TheVariants as actor
+use Rattle.journal.specs.declared.journal.JournalEntry.{JournalEntry}
+use Rattle.journal.specs.declared.journal.JournalEntry.TheVariants.{Post, Draw, Lose, Local, Idle, Refused}
+use Rattle.journal.specs.declared.journal.Letter.{Letter}
+use Rattle.journal.specs.declared.journal.Packet.{Packet}
+use Rattle.journal.specs.declared.journal.SaveResult.{SaveResult}
+use Rattle.journal.specs.Actors.{actor_of}
+use Rattle.journal.specs.Pool.{pool, numbered}
+use Rattle.journal.specs.Turns.{IsWithinLimits}
+use Rattle.list_facts.specs.Lists.{IsIn}
 use Rattle.vr_log.specs.declared.entry.LogFull.{LogFull}
-use Rattle.rv_runs.specs.States.{Scene, IsFaithful, ControllerAt, SwitchAt, controller_message, sealed_letters, switch_message}
-use Rattle.rv_runs.specs.Legal.{IsPossible}
-use Rattle.rv_runs.specs.Schedule.{Done, IsEnd, Phase, Draining, Met, Move, Ends, ClosesTo, IsInputOf, IsMove, IsPosted, after_move, drained, is_drawn, met_by, next_drained, next_move, owed_of, is_turn, count_turns}
-use Rattle.rv_runs.proofs.Pasts.{possible_before, self_controller}
-use Rattle.rv_runs.proofs.Pools.{one_actor}
-use Rattle.rv_agreement.proofs.Pasts.{fits}
+use Rattle.run_spec.specs.States.{Scene, IsFaithful, ControllerAt, SwitchAt, controller_message, sealed_letters, switch_message}
+use Rattle.run_spec.specs.Legal.{IsPossible}
+use Rattle.run_spec.specs.Schedule.{Done, IsEnd, Phase, Draining, Met, Move, Ends, ClosesTo, IsInputOf, IsMove, IsPosted, after_move, drained, is_drawn, met_by, next_drained, next_move, owed_of, is_turn, count_turns}
+use Rattle.run_spec.proofs.Pasts.{possible_before, self_controller}
+use Rattle.run_spec.proofs.Pools.{one_actor}
+use Rattle.run_agreement.proofs.Pasts.{fits}
 use Rattle.closing_laws.specs.Quorum.{has}
 use Rattle.closing_laws.specs.Ways.{Sent}
 use Rattle.closing_laws.specs.Following.{Start}

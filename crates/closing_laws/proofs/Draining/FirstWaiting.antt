@@ -1,18 +1,18 @@
 -- The first packet that waits, and its loss.
 use Rattle.std.proofs.Common.{◌≡◌, ℕ, ◌%◌, false, List, ◌∷◌, ◌∙◌, ap, subst}
 use Rattle.std.specs.Prelude.{Some, if◌then◌else◌}
-use Rattle.rv_base.specs.declared.journal.Actor.{Actor}
-use Rattle.rv_base.specs.declared.journal.JournalEntry.{JournalEntry}
-use Rattle.rv_base.specs.declared.journal.JournalEntry.TheVariants.{Draw, Lose}
-use Rattle.rv_base.specs.declared.journal.Packet.{Packet}
-use Rattle.rv_base.specs.declared.journal.SaveResult.{SaveResult}
-use Rattle.rv_base.specs.Part.{packet_of}
-use Rattle.rv_base.specs.Pool.{pool, letters_posted, without}
-use Rattle.rv_base.proofs.Pools.{Rising, Rising-pool}
-use Rattle.rv_runs.specs.declared.messages.Unsealed.{Unsealed}
-use Rattle.rv_runs.specs.States.{Scene, content, controller_hears, switch_hears}
-use Rattle.rv_runs.specs.Legal.{IsPossible}
-use Rattle.rv_runs.specs.Schedule.{Phase, Draining, Takes, drained, is_drawn, next_drained, next_move}
+use Rattle.journal.specs.declared.journal.Actor.{Actor}
+use Rattle.journal.specs.declared.journal.JournalEntry.{JournalEntry}
+use Rattle.journal.specs.declared.journal.JournalEntry.TheVariants.{Draw, Lose}
+use Rattle.journal.specs.declared.journal.Packet.{Packet}
+use Rattle.journal.specs.declared.journal.SaveResult.{SaveResult}
+use Rattle.journal.specs.Part.{packet_of}
+use Rattle.journal.specs.Pool.{pool, letters_posted, without}
+use Rattle.journal.proofs.Pools.{Rising, Rising-pool}
+use Rattle.run_spec.specs.declared.messages.Unsealed.{Unsealed}
+use Rattle.run_spec.specs.States.{Scene, content, controller_hears, switch_hears}
+use Rattle.run_spec.specs.Legal.{IsPossible}
+use Rattle.run_spec.specs.Schedule.{Phase, Draining, Takes, drained, is_drawn, next_drained, next_move}
 use Rattle.closing_laws.specs.Ways.{Sent}
 use Rattle.closing_laws.specs.Following.{Start}
 use Rattle.closing_laws.specs.Starts.{IsDraining, Last_suspects, Drains}

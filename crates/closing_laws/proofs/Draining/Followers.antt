@@ -3,7 +3,7 @@ use Rattle.std.proofs.Common.{◌≡◌, ◌≤◌, ◌<◌, ◌⊎◌, inl, inr
 use Rattle.std.specs.Prelude.{nat_eq, nat_le, nat_lt, slice_index, None, if◌then◌else◌}
 use Rattle.std.proofs.lemmas.Bool.{eq-eqb, ne_eqb, lt-leb, lt-ltb, ltb-true, ltb-false}
 use Rattle.std.proofs.lemmas.List.{take-append-drop, length-append, drop-append-le, take-append-le, take_all, length-drop, length-take}
-use Rattle.rv_base.specs.declared.journal.Actor.TheVariants as actor
+use Rattle.journal.specs.declared.journal.Actor.TheVariants as actor
 use Rattle.vr_log.specs.declared.entry.Entry.{Entry}
 use Rattle.vr_log.specs.declared.message.VrLetter.{VrLetter}
 use Rattle.vr_log.specs.declared.message.VrMessage.{VrMessage}
@@ -18,9 +18,9 @@ use Rattle.vr_core.specs.declared.input.VrInput.TheVariants as vr_input
 use Rattle.vr_core.specs.Step.{vr_step, on_vr}
 use Rattle.controller_laws.proofs.Logs.{fits_at}
 use Rattle.group_controller.specs.State.{to_members}
-use Rattle.rv_runs.specs.declared.messages.Message.{Message}
-use Rattle.rv_runs.specs.declared.messages.Message.TheVariants as message
-use Rattle.rv_runs.specs.States.{controller_message}
+use Rattle.run_spec.specs.declared.messages.Message.{Message}
+use Rattle.run_spec.specs.declared.messages.Message.TheVariants as message
+use Rattle.run_spec.specs.States.{controller_message}
 use Rattle.closing_laws.specs.Views.{IsReadyMember, in_started, in_view}
 use Rattle.closing_laws.specs.Ways.{told_to}
 use Rattle.closing_laws.specs.Following.{ArePrepares, AreAcknowledged, Start, Waits, IsFollowing, KeepsUp, LeadsFrom}

@@ -3,7 +3,7 @@ use Rattle.std.proofs.Common.{◌≡◌, ◌≤◌, ◌<◌, ◌⊎◌, inl, inr
 use Rattle.std.specs.Prelude.{nat_eq, not, None, if◌then◌else◌}
 use Rattle.std.proofs.lemmas.Bool.{cases_lt, eq-eqb, ne_eqb, eqb-true, or_cases, true≢false, cases_eq}
 use Rattle.std.proofs.lemmas.List.{length-replicate, drop_all}
-use Rattle.rv_base.specs.declared.journal.Actor.TheVariants as actor
+use Rattle.journal.specs.declared.journal.Actor.TheVariants as actor
 use Rattle.vr_log.specs.declared.entry.Entry.{Entry}
 use Rattle.vr_log.specs.declared.message.VrMessage.TheVariants as vr
 use Rattle.vr_log.specs.declared.state.Collected.{Collected}
@@ -11,12 +11,12 @@ use Rattle.vr_log.specs.declared.state.VrState.{VrState}
 use Rattle.vr_log.specs.Choosing.{least_commit, greatest_commit}
 use Rattle.vr_log.specs.Steps.{to_others}
 use Rattle.view_change.specs.Entering.{view_start}
-use Rattle.members.proofs.Checking.{zeros}
+use Rattle.member_moves.proofs.Checking.{zeros}
 use Rattle.group_controller.specs.State.{to_members}
 use Rattle.group_controller.specs.Settling.{role_letter}
-use Rattle.rv_runs.specs.declared.messages.Message.{Message}
-use Rattle.rv_runs.specs.declared.messages.Message.TheVariants as message
-use Rattle.rv_runs.specs.States.{controller_message}
+use Rattle.run_spec.specs.declared.messages.Message.{Message}
+use Rattle.run_spec.specs.declared.messages.Message.TheVariants as message
+use Rattle.run_spec.specs.States.{controller_message}
 use Rattle.closing_laws.specs.Quorum.{has}
 use Rattle.closing_laws.specs.Following.{ArePrepares, Start, Waits, IsAgreed, LeadsFrom}
 use Rattle.closing_laws.specs.Views.{IsCovered, IsReadyMember, in_view, last_first, log_of, started_with, tellers}

@@ -3,14 +3,14 @@ use Rattle.std.proofs.Common.{◌≡◌, ◌≤◌, inl, inr, ℕ, ◌%◌, Bool
 use Rattle.std.specs.Prelude.{nat_eq, not, ◌&&◌, Option, None, option_map, if◌then◌else◌}
 use Rattle.std.proofs.lemmas.Bool.{and_right, ne_eqb, cases_eq}
 use Rattle.of_types.specs.declared.setup.Setup.{Setup}
-use Rattle.rv_base.specs.declared.journal.Actor.{Actor}
-use Rattle.rv_base.specs.declared.journal.Actor.TheVariants as actor
-use Rattle.rv_base.specs.declared.journal.JournalEntry.{JournalEntry}
-use Rattle.rv_base.specs.declared.journal.JournalEntry.TheVariants.{Draw}
-use Rattle.rv_base.specs.declared.journal.Letter.{Letter}
-use Rattle.rv_base.specs.declared.journal.Packet.{Packet}
-use Rattle.rv_base.specs.declared.journal.SaveResult.{SaveResult}
-use Rattle.rv_base.specs.Pool.{pool}
+use Rattle.journal.specs.declared.journal.Actor.{Actor}
+use Rattle.journal.specs.declared.journal.Actor.TheVariants as actor
+use Rattle.journal.specs.declared.journal.JournalEntry.{JournalEntry}
+use Rattle.journal.specs.declared.journal.JournalEntry.TheVariants.{Draw}
+use Rattle.journal.specs.declared.journal.Letter.{Letter}
+use Rattle.journal.specs.declared.journal.Packet.{Packet}
+use Rattle.journal.specs.declared.journal.SaveResult.{SaveResult}
+use Rattle.journal.specs.Pool.{pool}
 use Rattle.vr_log.specs.declared.message.VrMessage.{VrMessage}
 use Rattle.vr_log.specs.declared.state.Status.{Status}
 use Rattle.vr_log.specs.declared.state.Status.TheVariants.{Normal, ViewChange, Recovering, Down}
@@ -24,12 +24,12 @@ use Rattle.group_controller.specs.declared.messages.ControllerInput.TheVariants 
 use Rattle.group_controller.specs.declared.messages.ControllerSays.{ControllerSays}
 use Rattle.group_controller.specs.State.{ControllerState, Work, stepped, to_members, with_no_met_limit}
 use Rattle.group_controller.specs.Rules.{after_step, controller_work}
-use Rattle.rv_runs.specs.declared.messages.Message.{Message}
-use Rattle.rv_runs.specs.declared.messages.Message.TheVariants as message
-use Rattle.rv_runs.specs.declared.messages.Unsealed.TheVariants as unsealed
-use Rattle.rv_runs.specs.States.{Scene, ControllerAt, content, controller_hears, controller_message}
-use Rattle.rv_runs.specs.Legal.{IsPossible}
-use Rattle.rv_runs.specs.Schedule.{Phase, Losing, after_member, is_drawn, met_by}
+use Rattle.run_spec.specs.declared.messages.Message.{Message}
+use Rattle.run_spec.specs.declared.messages.Message.TheVariants as message
+use Rattle.run_spec.specs.declared.messages.Unsealed.TheVariants as unsealed
+use Rattle.run_spec.specs.States.{Scene, ControllerAt, content, controller_hears, controller_message}
+use Rattle.run_spec.specs.Legal.{IsPossible}
+use Rattle.run_spec.specs.Schedule.{Phase, Losing, after_member, is_drawn, met_by}
 use Rattle.closing_laws.specs.Measure.{left_to_do}
 use Rattle.closing_laws.specs.Quorum.{has}
 use Rattle.closing_laws.specs.Ways.{Sent, sent_by}

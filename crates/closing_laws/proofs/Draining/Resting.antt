@@ -8,8 +8,8 @@ use Rattle.of_types.specs.declared.message.Event.{Event}
 use Rattle.of_types.specs.declared.message.Order.{Order}
 use Rattle.of_types.specs.declared.setup.Setup.{Setup}
 use Rattle.of_types.specs.Lives.{count_in, has_ended, life_in}
-use Rattle.lists.specs.Lists.{IsIn}
-use Rattle.lists.proofs.Elements.{in_filter, filter_passes, in_take}
+use Rattle.list_facts.specs.Lists.{IsIn}
+use Rattle.list_facts.proofs.Elements.{in_filter, filter_passes, in_take}
 use Rattle.vr_log.specs.declared.state.VrState.{VrState}
 use Rattle.vr_log.specs.Log.{received, processed}
 use Rattle.two_stage_log.specs.Counts.{has_unprocessed}

@@ -4,18 +4,18 @@ use Rattle.std.specs.Prelude.{◌&&◌, None, if◌then◌else◌}
 use Rattle.std.proofs.lemmas.Bool.{eq-eqb, cases_eq}
 use Rattle.of_types.specs.declared.message.Event.{Event}
 use Rattle.of_types.specs.Setups.{IsSetup}
-use Rattle.rv_base.specs.declared.journal.Actor.{Actor}
-use Rattle.rv_base.specs.declared.journal.Actor.TheVariants as actor
-use Rattle.rv_base.specs.declared.journal.JournalEntry.{JournalEntry}
-use Rattle.rv_base.specs.declared.journal.JournalEntry.TheVariants.{Post}
-use Rattle.rv_base.specs.declared.journal.Letter.{Letter}
-use Rattle.rv_base.specs.declared.journal.Packet.{Packet}
-use Rattle.rv_base.specs.declared.journal.SaveResult.{SaveResult}
-use Rattle.rv_base.specs.Actors.{actor_of}
-use Rattle.rv_base.specs.Part.{part}
-use Rattle.rv_base.specs.Limits.{pool_packets}
-use Rattle.rv_base.specs.Pool.{pool, numbered}
-use Rattle.lists.specs.Lists.{IsIn}
+use Rattle.journal.specs.declared.journal.Actor.{Actor}
+use Rattle.journal.specs.declared.journal.Actor.TheVariants as actor
+use Rattle.journal.specs.declared.journal.JournalEntry.{JournalEntry}
+use Rattle.journal.specs.declared.journal.JournalEntry.TheVariants.{Post}
+use Rattle.journal.specs.declared.journal.Letter.{Letter}
+use Rattle.journal.specs.declared.journal.Packet.{Packet}
+use Rattle.journal.specs.declared.journal.SaveResult.{SaveResult}
+use Rattle.journal.specs.Actors.{actor_of}
+use Rattle.journal.specs.Part.{part}
+use Rattle.journal.specs.Limits.{pool_packets}
+use Rattle.journal.specs.Pool.{pool, numbered}
+use Rattle.list_facts.specs.Lists.{IsIn}
 use Rattle.vr_log.specs.declared.state.Status.{Status}
 use Rattle.vr_log.specs.declared.state.Status.TheVariants.{Normal, ViewChange, Recovering, Down}
 use Rattle.vr_log.specs.declared.state.VrState.{VrState}
@@ -27,14 +27,14 @@ use Rattle.of_switch.specs.Rules.{switch_turn}
 use Rattle.group_controller.specs.declared.messages.ControllerSays.{ControllerSays}
 use Rattle.group_controller.specs.State.{ControllerState}
 use Rattle.group_controller.specs.Rules.{controller_work}
-use Rattle.rv_runs.specs.declared.messages.Message.{Message}
-use Rattle.rv_runs.specs.States.{Scene, IsFaithful, ControllerAt, controller_message, sealed_letters, switch_at, switch_message}
-use Rattle.rv_runs.specs.Legal.{IsPossible}
-use Rattle.rv_runs.specs.Schedule.{IsInputOf, IsPosted, owed_of}
-use Rattle.rv_runs.proofs.Pasts.{possible_before, self_controller, self_switch}
-use Rattle.rv_runs.proofs.Pools.{one_actor}
-use Rattle.rv_agreement.proofs.Pasts.{fits}
-use Rattle.rv_laws.proofs.Laws.{always}
+use Rattle.run_spec.specs.declared.messages.Message.{Message}
+use Rattle.run_spec.specs.States.{Scene, IsFaithful, ControllerAt, controller_message, sealed_letters, switch_at, switch_message}
+use Rattle.run_spec.specs.Legal.{IsPossible}
+use Rattle.run_spec.specs.Schedule.{IsInputOf, IsPosted, owed_of}
+use Rattle.run_spec.proofs.Pasts.{possible_before, self_controller, self_switch}
+use Rattle.run_spec.proofs.Pools.{one_actor}
+use Rattle.run_agreement.proofs.Pasts.{fits}
+use Rattle.run_laws.proofs.Laws.{always}
 use Rattle.closing_laws.specs.Measure.{commands_from, left_to_do}
 use Rattle.closing_laws.specs.Quorum.{has}
 use Rattle.closing_laws.specs.Ways.{Sent, sent_by}

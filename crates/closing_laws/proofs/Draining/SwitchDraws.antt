@@ -1,22 +1,22 @@
 -- A switch draws the first packet that waits.
 use Rattle.std.proofs.Common.{◌≡◌, ◌≤◌, ◌<◌, inl, inr, ℕ, ◌%◌, false, List, ◌∷◌, ◌++◌, map, length, refl, sym, ◌∙◌, ap, subst, arith, ◌+◌}
 use Rattle.std.proofs.lemmas.Bool.{ne_eqb, cases_eq}
-use Rattle.rv_base.specs.declared.journal.Actor.{Actor}
-use Rattle.rv_base.specs.declared.journal.Actor.TheVariants as actor
-use Rattle.rv_base.specs.declared.journal.JournalEntry.{JournalEntry}
-use Rattle.rv_base.specs.declared.journal.JournalEntry.TheVariants.{Draw}
-use Rattle.rv_base.specs.declared.journal.Letter.{Letter}
-use Rattle.rv_base.specs.declared.journal.Packet.{Packet}
-use Rattle.rv_base.specs.declared.journal.SaveResult.{SaveResult}
-use Rattle.rv_base.specs.Pool.{pool}
+use Rattle.journal.specs.declared.journal.Actor.{Actor}
+use Rattle.journal.specs.declared.journal.Actor.TheVariants as actor
+use Rattle.journal.specs.declared.journal.JournalEntry.{JournalEntry}
+use Rattle.journal.specs.declared.journal.JournalEntry.TheVariants.{Draw}
+use Rattle.journal.specs.declared.journal.Letter.{Letter}
+use Rattle.journal.specs.declared.journal.Packet.{Packet}
+use Rattle.journal.specs.declared.journal.SaveResult.{SaveResult}
+use Rattle.journal.specs.Pool.{pool}
 use Rattle.vr_log.specs.declared.state.VrState.{VrState}
 use Rattle.of_switch.specs.declared.says.SwitchSays.{SwitchSays}
 use Rattle.of_switch.specs.declared.says.SwitchInput.{SwitchInput}
 use Rattle.of_switch.specs.State.{SwitchState, SwitchTurn}
 use Rattle.of_switch.specs.Rules.{switch_turn}
 use Rattle.group_controller.specs.State.{ControllerState}
-use Rattle.rv_runs.specs.States.{Scene, SwitchAt, switch_message, switch_took}
-use Rattle.rv_runs.specs.Legal.{IsPossible}
+use Rattle.run_spec.specs.States.{Scene, SwitchAt, switch_message, switch_took}
+use Rattle.run_spec.specs.Legal.{IsPossible}
 use Rattle.closing_laws.specs.Measure.{left_to_do}
 use Rattle.closing_laws.specs.Ways.{Sent, sent_by}
 use Rattle.closing_laws.specs.Following.{Start}

@@ -2,25 +2,25 @@
 use Rattle.std.proofs.Common.{◌≡◌, ◌≤◌, ◌<◌, ◌⊎◌, inl, inr, ℕ, zero, suc, ◌+◌, ◌%◌, Bool, true, false, List, [], ◌∷◌, ◌++◌, length, refl, sym, ◌∙◌, ap, subst, arith}
 use Rattle.std.specs.Prelude.{nat_eq, nat_lt, not, slice_index_or, Option, Some, None, if◌then◌else◌}
 use Rattle.std.proofs.lemmas.Bool.{cond_both, cases_lt, true≢false}
-use Rattle.rv_base.specs.declared.journal.Actor.TheVariants as actor
-use Rattle.rv_base.specs.declared.journal.JournalEntry.{JournalEntry}
-use Rattle.rv_base.specs.declared.journal.JournalEntry.TheVariants.{Post, Draw, Lose, Local, Idle, Refused}
-use Rattle.rv_base.specs.declared.journal.Packet.{Packet}
-use Rattle.rv_base.specs.declared.journal.SaveResult.{SaveResult}
-use Rattle.rv_base.specs.declared.journal.SaveResult.TheVariants.{Saved, KeptOld, KeptNew}
-use Rattle.rv_base.specs.Actors.{same_actor, actor_of}
-use Rattle.rv_base.specs.Part.{drawn}
-use Rattle.rv_base.specs.Pool.{pool}
-use Rattle.rv_base.proofs.Leaving.{same_actor-true}
+use Rattle.journal.specs.declared.journal.Actor.TheVariants as actor
+use Rattle.journal.specs.declared.journal.JournalEntry.{JournalEntry}
+use Rattle.journal.specs.declared.journal.JournalEntry.TheVariants.{Post, Draw, Lose, Local, Idle, Refused}
+use Rattle.journal.specs.declared.journal.Packet.{Packet}
+use Rattle.journal.specs.declared.journal.SaveResult.{SaveResult}
+use Rattle.journal.specs.declared.journal.SaveResult.TheVariants.{Saved, KeptOld, KeptNew}
+use Rattle.journal.specs.Actors.{same_actor, actor_of}
+use Rattle.journal.specs.Part.{drawn}
+use Rattle.journal.specs.Pool.{pool}
+use Rattle.journal.proofs.Leaving.{same_actor-true}
 use Rattle.vr_log.specs.declared.entry.LogFull.{LogFull}
 use Rattle.vr_log.specs.Members.{is_up}
 use Rattle.group_controller.specs.declared.messages.ControllerInput.TheVariants as controller_input
 use Rattle.group_controller.specs.State.{ControllerState, Work}
 use Rattle.group_controller.specs.Rules.{controller_work}
-use Rattle.rv_runs.specs.States.{Scene, ControllerAt, content, controller_hears, controller_saved, controller_step}
-use Rattle.rv_runs.specs.Legal.{results_of}
-use Rattle.rv_runs.specs.Committed.{states_of, members_up}
-use Rattle.rv_runs.specs.Schedule.{Phase, Losing, Suspecting, Draining, Met, Move, Takes, Ends, ClosesTo, IsMove, after_move, after_turn, is_drawn, is_turn, majority, met_by, next_drained, next_lost, next_move, next_suspicion, next_view}
+use Rattle.run_spec.specs.States.{Scene, ControllerAt, content, controller_hears, controller_saved, controller_step}
+use Rattle.run_spec.specs.Legal.{results_of}
+use Rattle.run_spec.specs.Committed.{states_of, members_up}
+use Rattle.run_spec.specs.Schedule.{Phase, Losing, Suspecting, Draining, Met, Move, Takes, Ends, ClosesTo, IsMove, after_move, after_turn, is_drawn, is_turn, majority, met_by, next_drained, next_lost, next_move, next_suspicion, next_view}
 use Rattle.closing_laws.proofs.Journal.Taking.{at, own_steps}
 use Rattle.closing_laws.specs.Starts.{SavesSucceed}
 use Rattle.closing_laws.proofs.Journal.Carrying.{controller_rests}

@@ -2,16 +2,16 @@
 use Rattle.std.proofs.Common.{◌≡◌, ◌≤◌, ◌<◌, inl, inr, ℕ, zero, suc, ◌/◌, ◌%◌, Bool, true, false, List, [], ◌∷◌, ◌++◌, length, refl, ◌∙◌, ap, subst, arith}
 use Rattle.std.specs.Prelude.{nat_lt, reverse, if◌then◌else◌}
 use Rattle.std.proofs.lemmas.Bool.{ltb-false}
-use Rattle.rv_base.specs.declared.journal.JournalEntry.{JournalEntry}
-use Rattle.rv_base.specs.declared.journal.JournalEntry.TheVariants.{Post, Draw, Lose, Local, Idle, Refused}
-use Rattle.rv_base.specs.declared.journal.Packet.{Packet}
-use Rattle.rv_base.specs.declared.journal.SaveResult.{SaveResult}
-use Rattle.rv_base.specs.Pool.{pool}
-use Rattle.rv_base.specs.Turns.{IsWithinLimits}
-use Rattle.rv_runs.specs.States.{Scene}
-use Rattle.rv_runs.specs.Legal.{IsPossible, results_of}
-use Rattle.rv_runs.specs.Committed.{count_up, members_up, states_of}
-use Rattle.rv_runs.specs.Schedule.{Done, NoQuorum, IsEnd, Phase, Losing, Ends, ClosesTo, IsMove, IsPosted, after_move, closing_view, majority, next_lost, next_move, next_suspicion, next_view, quorum_of}
+use Rattle.journal.specs.declared.journal.JournalEntry.{JournalEntry}
+use Rattle.journal.specs.declared.journal.JournalEntry.TheVariants.{Post, Draw, Lose, Local, Idle, Refused}
+use Rattle.journal.specs.declared.journal.Packet.{Packet}
+use Rattle.journal.specs.declared.journal.SaveResult.{SaveResult}
+use Rattle.journal.specs.Pool.{pool}
+use Rattle.journal.specs.Turns.{IsWithinLimits}
+use Rattle.run_spec.specs.States.{Scene}
+use Rattle.run_spec.specs.Legal.{IsPossible, results_of}
+use Rattle.run_spec.specs.Committed.{count_up, members_up, states_of}
+use Rattle.run_spec.specs.Schedule.{Done, NoQuorum, IsEnd, Phase, Losing, Ends, ClosesTo, IsMove, IsPosted, after_move, closing_view, majority, next_lost, next_move, next_suspicion, next_view, quorum_of}
 use Rattle.closing_laws.specs.Starts.{IsAttempt}
 use Rattle.closing_laws.proofs.Ends.Attempts.{StayUp, Falls, course, succeed}
 use Rattle.closing_laws.proofs.Journal.Posting.{later, later_is}

@@ -14,24 +14,24 @@ use Rattle.of_types.specs.declared.numbers.TheConstants.{MASTER}
 use Rattle.of_types.specs.declared.setup.Setup.{Setup}
 use Rattle.of_types.specs.Lives.{last_life}
 use Rattle.of_types.specs.Setups.{IsSetup}
-use Rattle.lists.specs.Lists.{IsIn, IsPrefix}
-use Rattle.lists.proofs.Elements.{in_filter, in_left}
-use Rattle.lists.proofs.Places.{get_in}
-use Rattle.lists.proofs.Prefixes.{front_prefix, prefix_length}
-use Rattle.rv_base.specs.declared.journal.Local.{Local as LocalInput}
-use Rattle.rv_base.specs.declared.journal.Local.TheVariants as local
-use Rattle.rv_base.specs.declared.journal.Actor.{Actor}
-use Rattle.rv_base.specs.declared.journal.Actor.TheVariants as actor
-use Rattle.rv_base.specs.declared.journal.JournalEntry.{JournalEntry}
-use Rattle.rv_base.specs.declared.journal.JournalEntry.TheVariants.{Post, Draw, Lose, Local, Idle, Refused}
-use Rattle.rv_base.specs.declared.journal.Packet.{Packet}
-use Rattle.rv_base.specs.declared.journal.SaveResult.{SaveResult}
-use Rattle.rv_base.specs.declared.journal.SaveResult.TheVariants.{Saved, KeptOld, KeptNew}
-use Rattle.rv_base.specs.declared.journal.Letter.{Letter}
-use Rattle.rv_base.proofs.Leaving.{same_actor-true}
-use Rattle.rv_base.specs.Actors.{actor_of, same_actor}
-use Rattle.rv_base.specs.Part.{part}
-use Rattle.rv_base.specs.Pool.{pool}
+use Rattle.list_facts.specs.Lists.{IsIn, IsPrefix}
+use Rattle.list_facts.proofs.Elements.{in_filter, in_left}
+use Rattle.list_facts.proofs.Places.{get_in}
+use Rattle.list_facts.proofs.Prefixes.{front_prefix, prefix_length}
+use Rattle.journal.specs.declared.journal.Local.{Local as LocalInput}
+use Rattle.journal.specs.declared.journal.Local.TheVariants as local
+use Rattle.journal.specs.declared.journal.Actor.{Actor}
+use Rattle.journal.specs.declared.journal.Actor.TheVariants as actor
+use Rattle.journal.specs.declared.journal.JournalEntry.{JournalEntry}
+use Rattle.journal.specs.declared.journal.JournalEntry.TheVariants.{Post, Draw, Lose, Local, Idle, Refused}
+use Rattle.journal.specs.declared.journal.Packet.{Packet}
+use Rattle.journal.specs.declared.journal.SaveResult.{SaveResult}
+use Rattle.journal.specs.declared.journal.SaveResult.TheVariants.{Saved, KeptOld, KeptNew}
+use Rattle.journal.specs.declared.journal.Letter.{Letter}
+use Rattle.journal.proofs.Leaving.{same_actor-true}
+use Rattle.journal.specs.Actors.{actor_of, same_actor}
+use Rattle.journal.specs.Part.{part}
+use Rattle.journal.specs.Pool.{pool}
 use Rattle.vr_log.specs.declared.entry.Entry.{Entry}
 use Rattle.vr_log.specs.declared.entry.Entry.TheVariants.{Received}
 use Rattle.vr_log.specs.declared.entry.LogFull.{LogFull}
@@ -54,21 +54,21 @@ use Rattle.group_controller.specs.State.{committed, ControllerState, Work, resti
 use Rattle.group_controller.specs.Settling.{after_proposal, finishing, goes_on, is_alone, is_settled, is_untold, processing, proposing, settling, with_answers, with_commands, with_proposal}
 use Rattle.of_switch.specs.State.{SwitchState}
 use Rattle.controller_laws.proofs.Logs.{received_prefix}
-use Rattle.rv_runs.specs.States.{Scene, IsFaithful, ControllerAt, SwitchAt, content, controller_hears, controller_saved, controller_step, controller_took, switch_at}
+use Rattle.run_spec.specs.States.{Scene, IsFaithful, ControllerAt, SwitchAt, content, controller_hears, controller_saved, controller_step, controller_took, switch_at}
 use Rattle.group_controller.specs.Rules.{after_step, controller_work, has_started, is_down, on_extension, on_input, on_hello, on_local, on_master, on_tick, on_plain, on_result, on_switch, on_wish, when_down}
-use Rattle.rv_runs.specs.Legal.{IsPossible, results_of}
-use Rattle.rv_runs.specs.Committed.{controller_state, members_up, states_of, switch_state}
-use Rattle.rv_runs.specs.Schedule.{Answer, Overfull, IsEnd, Phase, Losing, Suspecting, Draining, Met, Move, Takes, Ends, ClosesTo, IsMove, after_member, after_move, after_turn, majority, met_by, next_drained, next_lost, next_move, next_suspicion}
-use Rattle.rv_runs.proofs.Pasts.{possible_before, self_controller}
-use Rattle.rv_runs.proofs.Pools.{drawn_found}
+use Rattle.run_spec.specs.Legal.{IsPossible, results_of}
+use Rattle.run_spec.specs.Committed.{controller_state, members_up, states_of, switch_state}
+use Rattle.run_spec.specs.Schedule.{Answer, Overfull, IsEnd, Phase, Losing, Suspecting, Draining, Met, Move, Takes, Ends, ClosesTo, IsMove, after_member, after_move, after_turn, majority, met_by, next_drained, next_lost, next_move, next_suspicion}
+use Rattle.run_spec.proofs.Pasts.{possible_before, self_controller}
+use Rattle.run_spec.proofs.Pools.{drawn_found}
 use Rattle.exactly_once.specs.Facts.{facts_of}
 use Rattle.exactly_once.specs.Invariant.{IsHeardByController, Logged}
 use Rattle.exactly_once.specs.Truths.{IsGenuine}
 use Rattle.exactly_once.proofs.ControllerTurns.{received_at}
 use Rattle.exactly_once.proofs.Journals.{firm_events}
 use Rattle.exactly_once.proofs.Packets.{heard_by_controller}
-use Rattle.rv_laws.proofs.Laws.{always}
-use Rattle.rv_laws.proofs.Members.{owned_at}
+use Rattle.run_laws.proofs.Laws.{always}
+use Rattle.run_laws.proofs.Members.{owned_at}
 use Rattle.closing_laws.specs.Stops.{ClosingsMeetLimits, FitALog, IsAtLimit}
 use Rattle.closing_laws.proofs.Ends.Attempts.{move_on, not_met}
 use Rattle.closing_laws.proofs.Ends.FittingLogs.{Comes, IsNext, Is_done, has_room}

@@ -4,18 +4,18 @@ use Rattle.std.specs.Prelude.{nat_eq, not, Option, Some, None, slice_index_or, i
 use Rattle.std.specs.List.{AllByRecursion, range_with_len}
 use Rattle.std.proofs.lemmas.Bool.{cond_both, true≢false, le-ltb}
 use Rattle.of_types.specs.declared.setup.Setup.{Setup}
-use Rattle.rv_base.specs.declared.journal.Actor.{Actor}
-use Rattle.rv_base.specs.declared.journal.Actor.TheVariants as actor
-use Rattle.rv_base.specs.declared.journal.JournalEntry.{JournalEntry}
-use Rattle.rv_base.specs.declared.journal.JournalEntry.TheVariants.{Post, Draw, Lose, Local, Idle, Refused}
-use Rattle.rv_base.specs.declared.journal.Local.TheVariants as local
-use Rattle.rv_base.specs.declared.journal.Packet.{Packet}
-use Rattle.rv_base.specs.declared.journal.SaveResult.{SaveResult}
-use Rattle.rv_base.specs.declared.journal.SaveResult.TheVariants.{Saved}
-use Rattle.rv_base.proofs.Leaving.{same_actor-true}
-use Rattle.rv_base.specs.Actors.{same_actor, actor_of}
-use Rattle.rv_base.specs.Part.{drawn}
-use Rattle.rv_base.specs.Pool.{pool}
+use Rattle.journal.specs.declared.journal.Actor.{Actor}
+use Rattle.journal.specs.declared.journal.Actor.TheVariants as actor
+use Rattle.journal.specs.declared.journal.JournalEntry.{JournalEntry}
+use Rattle.journal.specs.declared.journal.JournalEntry.TheVariants.{Post, Draw, Lose, Local, Idle, Refused}
+use Rattle.journal.specs.declared.journal.Local.TheVariants as local
+use Rattle.journal.specs.declared.journal.Packet.{Packet}
+use Rattle.journal.specs.declared.journal.SaveResult.{SaveResult}
+use Rattle.journal.specs.declared.journal.SaveResult.TheVariants.{Saved}
+use Rattle.journal.proofs.Leaving.{same_actor-true}
+use Rattle.journal.specs.Actors.{same_actor, actor_of}
+use Rattle.journal.specs.Part.{drawn}
+use Rattle.journal.specs.Pool.{pool}
 use Rattle.vr_log.specs.declared.entry.LogFull.{LogFull}
 use Rattle.vr_log.specs.declared.state.Status.{Status}
 use Rattle.vr_log.specs.declared.state.Status.TheVariants.{Normal, ViewChange, Recovering, Down}
@@ -27,14 +27,14 @@ use Rattle.group_controller.specs.Rules.{controller_work, is_down}
 use Rattle.controller_laws.proofs.Reached.{turn_chain}
 use Rattle.controller_laws.specs.Moves.{Chain, Start, Then}
 use Rattle.controller_laws.specs.Turns.{beginning}
-use Rattle.rv_runs.specs.declared.messages.Message.TheVariants as message
-use Rattle.rv_runs.specs.declared.messages.Unsealed.{Unsealed}
-use Rattle.rv_runs.specs.declared.messages.Unsealed.TheVariants as unsealed
-use Rattle.rv_runs.specs.States.{Scene, ControllerAt, content, controller_hears, controller_step}
-use Rattle.rv_runs.specs.Legal.{results_of}
-use Rattle.rv_runs.specs.Committed.{controller_state, count_up, members_up, states_of}
-use Rattle.rv_runs.specs.Schedule.{Answer, NoQuorum, IsEnd, Phase, Losing, Suspecting, Draining, Met, Move, Takes, Ends, ClosesTo, IsMove, after_member, after_move, after_turn, is_drawn, majority, met_by, next_drained, next_lost, next_move, next_suspicion, next_view}
-use Rattle.rv_laws.proofs.Members.{move_up}
+use Rattle.run_spec.specs.declared.messages.Message.TheVariants as message
+use Rattle.run_spec.specs.declared.messages.Unsealed.{Unsealed}
+use Rattle.run_spec.specs.declared.messages.Unsealed.TheVariants as unsealed
+use Rattle.run_spec.specs.States.{Scene, ControllerAt, content, controller_hears, controller_step}
+use Rattle.run_spec.specs.Legal.{results_of}
+use Rattle.run_spec.specs.Committed.{controller_state, count_up, members_up, states_of}
+use Rattle.run_spec.specs.Schedule.{Answer, NoQuorum, IsEnd, Phase, Losing, Suspecting, Draining, Met, Move, Takes, Ends, ClosesTo, IsMove, after_member, after_move, after_turn, is_drawn, majority, met_by, next_drained, next_lost, next_move, next_suspicion, next_view}
+use Rattle.run_laws.proofs.Members.{move_up}
 use Rattle.closing_laws.specs.Quorum.{has}
 use Rattle.closing_laws.specs.Starts.{SavesSucceed, view_after, quorum_after}
 use Rattle.closing_laws.specs.Stops.{ClosingsFindAQuorum}

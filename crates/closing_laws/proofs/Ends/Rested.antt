@@ -3,14 +3,14 @@ use Rattle.std.proofs.Common.{◌≡◌, ◌≤◌, inl, inr, ℕ, List, [], ◌
 use Rattle.std.specs.Prelude.{reverse, Option, Some, None}
 use Rattle.std.proofs.lemmas.Bool.{cases_lt}
 use Rattle.of_types.specs.Setups.{IsSetup}
-use Rattle.rv_base.specs.declared.journal.JournalEntry.{JournalEntry}
-use Rattle.rv_base.specs.declared.journal.SaveResult.{SaveResult}
-use Rattle.rv_base.specs.Turns.{IsWithinLimits}
+use Rattle.journal.specs.declared.journal.JournalEntry.{JournalEntry}
+use Rattle.journal.specs.declared.journal.SaveResult.{SaveResult}
+use Rattle.journal.specs.Turns.{IsWithinLimits}
 use Rattle.vr_log.specs.declared.entry.LogFull.{LogFull}
 use Rattle.group_controller.specs.State.{ControllerState}
-use Rattle.rv_runs.specs.States.{Scene, IsFaithful}
-use Rattle.rv_runs.specs.Legal.{IsPossible, results_of}
-use Rattle.rv_runs.specs.Schedule.{IsPosted, count_turns, ClosesTo, Done, IsEnd, Phase, met_by, next_move}
+use Rattle.run_spec.specs.States.{Scene, IsFaithful}
+use Rattle.run_spec.specs.Legal.{IsPossible, results_of}
+use Rattle.run_spec.specs.Schedule.{IsPosted, count_turns, ClosesTo, Done, IsEnd, Phase, met_by, next_move}
 use Rattle.closing_laws.specs.Ends.{ClosingsRest, HasRested}
 use Rattle.closing_laws.specs.Following.{Start}
 use Rattle.closing_laws.specs.Serving.{AreFew}

@@ -2,11 +2,11 @@
 use Rattle.std.proofs.Common.{◌≡◌, Bool, true, false, List, [], ◌∷◌, ◌++◌, map, refl, ◌∙◌, ap}
 use Rattle.std.specs.Prelude.{◌&&◌, if◌then◌else◌}
 use Rattle.std.proofs.lemmas.List.{append-nil}
-use Rattle.rv_base.specs.declared.journal.Actor.{Actor}
-use Rattle.rv_base.specs.declared.journal.Letter.{Letter}
-use Rattle.rv_base.specs.Actors.{same_actor}
-use Rattle.rv_base.proofs.Leaving.{same_actor-refl}
-use Rattle.rv_runs.specs.declared.messages.Message.{Message}
+use Rattle.journal.specs.declared.journal.Actor.{Actor}
+use Rattle.journal.specs.declared.journal.Letter.{Letter}
+use Rattle.journal.specs.Actors.{same_actor}
+use Rattle.journal.proofs.Leaving.{same_actor-refl}
+use Rattle.run_spec.specs.declared.messages.Message.{Message}
 use Rattle.closing_laws.specs.Ways.{Sent, sent_by, goes, between, told_to}
 
 pub between_joined : (from to : Actor) (ms ns : List Sent) → between from to (ms ++ ns) ≡ between from to ms ++ between from to ns

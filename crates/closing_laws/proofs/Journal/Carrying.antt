@@ -6,32 +6,32 @@ use Rattle.std.proofs.lemmas.Bool.{and_parts, leb-true}
 use Rattle.of_types.specs.declared.message.Event.{Event}
 use Rattle.of_types.specs.declared.message.Executed.{Executed}
 use Rattle.of_types.specs.declared.setup.Setup.{Setup}
-use Rattle.rv_base.specs.declared.journal.Actor.{Actor}
-use Rattle.rv_base.specs.declared.journal.Actor.TheVariants as actor
-use Rattle.rv_base.specs.declared.journal.JournalEntry.{JournalEntry}
-use Rattle.rv_base.specs.declared.journal.JournalEntry.TheVariants.{Post, Draw, Lose}
-use Rattle.rv_base.specs.declared.journal.Letter.{Letter}
-use Rattle.rv_base.specs.declared.journal.Packet.{Packet}
-use Rattle.rv_base.specs.declared.journal.SaveResult.{SaveResult}
-use Rattle.rv_base.specs.declared.journal.SaveResult.TheVariants.{Saved}
-use Rattle.rv_base.specs.Actors.{same_actor, actor_of}
-use Rattle.rv_base.specs.Part.{part, drawn, packet_of}
-use Rattle.rv_base.specs.Pool.{pool, numbered}
-use Rattle.lists.specs.Lists.{IsIn}
+use Rattle.journal.specs.declared.journal.Actor.{Actor}
+use Rattle.journal.specs.declared.journal.Actor.TheVariants as actor
+use Rattle.journal.specs.declared.journal.JournalEntry.{JournalEntry}
+use Rattle.journal.specs.declared.journal.JournalEntry.TheVariants.{Post, Draw, Lose}
+use Rattle.journal.specs.declared.journal.Letter.{Letter}
+use Rattle.journal.specs.declared.journal.Packet.{Packet}
+use Rattle.journal.specs.declared.journal.SaveResult.{SaveResult}
+use Rattle.journal.specs.declared.journal.SaveResult.TheVariants.{Saved}
+use Rattle.journal.specs.Actors.{same_actor, actor_of}
+use Rattle.journal.specs.Part.{part, drawn, packet_of}
+use Rattle.journal.specs.Pool.{pool, numbered}
+use Rattle.list_facts.specs.Lists.{IsIn}
 use Rattle.of_switch.specs.declared.says.SwitchSays.{SwitchSays}
 use Rattle.of_switch.specs.Rules.{switch_turn}
 use Rattle.group_controller.specs.declared.messages.ControllerInput.{ControllerInput}
 use Rattle.group_controller.specs.declared.messages.ControllerSays.{ControllerSays}
 use Rattle.group_controller.specs.State.{Work}
 use Rattle.group_controller.specs.Rules.{controller_work}
-use Rattle.rv_runs.specs.declared.messages.Message.{Message}
-use Rattle.rv_runs.specs.declared.messages.Unsealed.{Unsealed}
-use Rattle.rv_runs.specs.declared.messages.Unsealed.TheVariants as unsealed
-use Rattle.rv_runs.specs.declared.messages.Way.{Way}
-use Rattle.rv_runs.specs.Messages.{FitsMessage, IsValidMessage, way_of, way_of_message}
-use Rattle.rv_runs.specs.States.{Scene, Sealing, IsFaithful, ControllerAt, SwitchAt, content, controller_at, controller_hears, controller_message, controller_saved, controller_took, controller_step, sealed_letters, switch_at, switch_hears, switch_message, switch_step, switch_took}
-use Rattle.rv_runs.specs.Legal.{results_of}
-use Rattle.rv_runs.proofs.Pasts.{self_switch}
+use Rattle.run_spec.specs.declared.messages.Message.{Message}
+use Rattle.run_spec.specs.declared.messages.Unsealed.{Unsealed}
+use Rattle.run_spec.specs.declared.messages.Unsealed.TheVariants as unsealed
+use Rattle.run_spec.specs.declared.messages.Way.{Way}
+use Rattle.run_spec.specs.Messages.{FitsMessage, IsValidMessage, way_of, way_of_message}
+use Rattle.run_spec.specs.States.{Scene, Sealing, IsFaithful, ControllerAt, SwitchAt, content, controller_at, controller_hears, controller_message, controller_saved, controller_took, controller_step, sealed_letters, switch_at, switch_hears, switch_message, switch_step, switch_took}
+use Rattle.run_spec.specs.Legal.{results_of}
+use Rattle.run_spec.proofs.Pasts.{self_switch}
 use Rattle.exactly_once.specs.Facts.{PastFacts}
 use Rattle.exactly_once.specs.Invariant.{IsOrder, IsReport, Reported, Forwarded, ToMember, ToSwitch}
 use Rattle.exactly_once.proofs.Packets.{reported_valid, told_valid}

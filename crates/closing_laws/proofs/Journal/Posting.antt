@@ -4,29 +4,29 @@ use Rattle.std.specs.Prelude.{nat_eq, reverse, Option, if◌then◌else◌}
 use Rattle.std.proofs.lemmas.Bool.{eqb-true}
 use Rattle.std.proofs.lemmas.List.{reverse-append}
 use Rattle.of_types.specs.Setups.{IsSetup}
-use Rattle.rv_base.specs.declared.journal.Actor.{Actor}
-use Rattle.rv_base.specs.declared.journal.Actor.TheVariants as actor
-use Rattle.rv_base.specs.declared.journal.JournalEntry.{JournalEntry}
-use Rattle.rv_base.specs.declared.journal.JournalEntry.TheVariants.{Post, Draw, Lose, Local, Idle, Refused}
-use Rattle.rv_base.specs.declared.journal.Letter.{Letter}
-use Rattle.rv_base.specs.declared.journal.Packet.{Packet}
-use Rattle.rv_base.specs.declared.journal.SaveResult.{SaveResult}
-use Rattle.rv_base.specs.Actors.{actor_of, same_actor}
-use Rattle.rv_base.specs.Part.{drawn, part}
-use Rattle.rv_base.specs.Pool.{pool, numbered}
-use Rattle.rv_base.specs.Turns.{IsWithinLimits}
+use Rattle.journal.specs.declared.journal.Actor.{Actor}
+use Rattle.journal.specs.declared.journal.Actor.TheVariants as actor
+use Rattle.journal.specs.declared.journal.JournalEntry.{JournalEntry}
+use Rattle.journal.specs.declared.journal.JournalEntry.TheVariants.{Post, Draw, Lose, Local, Idle, Refused}
+use Rattle.journal.specs.declared.journal.Letter.{Letter}
+use Rattle.journal.specs.declared.journal.Packet.{Packet}
+use Rattle.journal.specs.declared.journal.SaveResult.{SaveResult}
+use Rattle.journal.specs.Actors.{actor_of, same_actor}
+use Rattle.journal.specs.Part.{drawn, part}
+use Rattle.journal.specs.Pool.{pool, numbered}
+use Rattle.journal.specs.Turns.{IsWithinLimits}
 use Rattle.group_controller.specs.declared.messages.ControllerSays.{ControllerSays}
-use Rattle.rv_runs.specs.declared.messages.Message.{Message}
-use Rattle.rv_runs.specs.declared.messages.Unsealed.TheVariants as unsealed
-use Rattle.rv_runs.specs.Committed.{switch_state}
-use Rattle.rv_runs.specs.States.{Scene, Sealing, IsFaithful, ControllerAt, content, controller_message, sealed_letters, switch_at, switch_message}
-use Rattle.rv_runs.specs.Legal.{Fits, IsPossible, IsSoundSwitch}
-use Rattle.rv_runs.specs.Schedule.{Phase, ClosesTo, IsInputOf, IsPosted, owed_of}
-use Rattle.rv_runs.proofs.Entries.{Mine, Another, switch_after}
-use Rattle.rv_runs.proofs.Pasts.{possible_before, self_controller, self_switch}
-use Rattle.rv_runs.proofs.Pools.{one_actor}
-use Rattle.rv_agreement.proofs.Pasts.{fits}
-use Rattle.rv_laws.proofs.Laws.{always}
+use Rattle.run_spec.specs.declared.messages.Message.{Message}
+use Rattle.run_spec.specs.declared.messages.Unsealed.TheVariants as unsealed
+use Rattle.run_spec.specs.Committed.{switch_state}
+use Rattle.run_spec.specs.States.{Scene, Sealing, IsFaithful, ControllerAt, content, controller_message, sealed_letters, switch_at, switch_message}
+use Rattle.run_spec.specs.Legal.{Fits, IsPossible, IsSoundSwitch}
+use Rattle.run_spec.specs.Schedule.{Phase, ClosesTo, IsInputOf, IsPosted, owed_of}
+use Rattle.run_spec.proofs.Entries.{Mine, Another, switch_after}
+use Rattle.run_spec.proofs.Pasts.{possible_before, self_controller, self_switch}
+use Rattle.run_spec.proofs.Pools.{one_actor}
+use Rattle.run_agreement.proofs.Pasts.{fits}
+use Rattle.run_laws.proofs.Laws.{always}
 use Rattle.closing_laws.proofs.Journal.Carrying.{letters_read, ordered_may}
 use Rattle.closing_laws.proofs.Journal.Taking.{all_fit, at, others_stay, own_steps}
 use Rattle.closing_laws.proofs.Pool.Room.{within_before}

@@ -5,19 +5,19 @@ use Rattle.std.specs.List.{AllByRecursion}
 use Rattle.std.proofs.lemmas.Bool.{and_right, eq-eqb}
 use Rattle.std.proofs.lemmas.List.{take_all}
 use Rattle.of_types.specs.declared.setup.Setup.{Setup}
-use Rattle.rv_base.specs.declared.journal.Actor.{Actor}
-use Rattle.rv_base.specs.declared.journal.Actor.TheVariants as actor
-use Rattle.rv_base.specs.declared.journal.JournalEntry.{JournalEntry}
-use Rattle.rv_base.specs.declared.journal.JournalEntry.TheVariants.{Draw, Local}
-use Rattle.rv_base.specs.declared.journal.Letter.{Letter}
-use Rattle.rv_base.specs.declared.journal.Local.TheVariants as local
-use Rattle.rv_base.specs.declared.journal.Packet.{Packet}
-use Rattle.rv_base.specs.declared.journal.SaveResult.{SaveResult}
-use Rattle.rv_base.specs.declared.journal.SaveResult.TheVariants.{Saved}
-use Rattle.rv_base.specs.Actors.{same_actor, actor_of}
-use Rattle.rv_base.specs.Part.{part, drawn, packet_of}
-use Rattle.rv_base.specs.Pool.{pool, numbered, fitting, without}
-use Rattle.rv_base.proofs.Pools.{Rising, without-at}
+use Rattle.journal.specs.declared.journal.Actor.{Actor}
+use Rattle.journal.specs.declared.journal.Actor.TheVariants as actor
+use Rattle.journal.specs.declared.journal.JournalEntry.{JournalEntry}
+use Rattle.journal.specs.declared.journal.JournalEntry.TheVariants.{Draw, Local}
+use Rattle.journal.specs.declared.journal.Letter.{Letter}
+use Rattle.journal.specs.declared.journal.Local.TheVariants as local
+use Rattle.journal.specs.declared.journal.Packet.{Packet}
+use Rattle.journal.specs.declared.journal.SaveResult.{SaveResult}
+use Rattle.journal.specs.declared.journal.SaveResult.TheVariants.{Saved}
+use Rattle.journal.specs.Actors.{same_actor, actor_of}
+use Rattle.journal.specs.Part.{part, drawn, packet_of}
+use Rattle.journal.specs.Pool.{pool, numbered, fitting, without}
+use Rattle.journal.proofs.Pools.{Rising, without-at}
 use Rattle.vr_log.specs.declared.message.VrLetter.{VrLetter}
 use Rattle.vr_log.specs.declared.message.VrMessage.{VrMessage}
 use Rattle.vr_log.specs.declared.state.Status.{Status}
@@ -28,17 +28,17 @@ use Rattle.vr_log.specs.Steps.{VrStep}
 use Rattle.vr_core.specs.declared.input.VrInput.{VrInput}
 use Rattle.vr_core.specs.declared.input.VrInput.TheVariants as vr_input
 use Rattle.vr_core.specs.Step.{vr_step}
-use Rattle.controllers.specs.Spelling.{IsValidTo}
+use Rattle.controller_moves.specs.Spelling.{IsValidTo}
 use Rattle.group_controller.specs.declared.messages.ControllerInput.{ControllerInput}
 use Rattle.group_controller.specs.declared.messages.ControllerInput.TheVariants as controller_input
 use Rattle.group_controller.specs.State.{ControllerState, Work, stepped, to_members, with_no_met_limit}
 use Rattle.group_controller.specs.Rules.{after_step, controller_work, is_down, starting_view}
-use Rattle.rv_runs.specs.declared.messages.Message.TheVariants as message
-use Rattle.rv_runs.specs.declared.messages.Unsealed.TheVariants as unsealed
-use Rattle.rv_runs.specs.Messages.{FitsMessage}
-use Rattle.rv_runs.specs.States.{Scene, IsFaithful, ControllerAt, content, controller_at, controller_hears, controller_message, controller_saved, controller_step, controller_took, sealed_letters}
-use Rattle.rv_runs.specs.Legal.{results_of}
-use Rattle.rv_runs.proofs.Pasts.{self_controller}
+use Rattle.run_spec.specs.declared.messages.Message.TheVariants as message
+use Rattle.run_spec.specs.declared.messages.Unsealed.TheVariants as unsealed
+use Rattle.run_spec.specs.Messages.{FitsMessage}
+use Rattle.run_spec.specs.States.{Scene, IsFaithful, ControllerAt, content, controller_at, controller_hears, controller_message, controller_saved, controller_step, controller_took, sealed_letters}
+use Rattle.run_spec.specs.Legal.{results_of}
+use Rattle.run_spec.proofs.Pasts.{self_controller}
 use Rattle.closing_laws.specs.Draining.{Flight, flown}
 use Rattle.closing_laws.proofs.Lists.Paired.{ArePaired, paired_append}
 

@@ -6,8 +6,8 @@ use Rattle.std.proofs.lemmas.List.{append-nil}
 use Rattle.std.proofs.Math.Bool.{or_assoc}
 use Rattle.vr_log.specs.Members.{others_below}
 use Rattle.of_types.specs.SmallSets.{with_number}
-use Rattle.lists.specs.Lists.{IsIn}
-use Rattle.lists.proofs.Prefixes.{append_filter}
+use Rattle.list_facts.specs.Lists.{IsIn}
+use Rattle.list_facts.proofs.Prefixes.{append_filter}
 use Rattle.closing_laws.specs.Quorum.{has}
 
 -- each of these numbers stands once

@@ -2,7 +2,7 @@
 use Rattle.std.proofs.Common.{◌≤◌, ℕ, ◌+◌, ◌*◌, List, [], ◌∷◌, length, refl, ◌∙◌, ap, subst, arith, inl, inr, mul-add, suc-mul}
 use Rattle.std.specs.Prelude.{sum_by}
 use Rattle.std.proofs.lemmas.List.Sums.{sum_by-cons, sum_by-le-sum_by}
-use Rattle.lists.specs.Lists.{IsIn}
+use Rattle.list_facts.specs.Lists.{IsIn}
 
 -- parts that are at most so many times others, and so many more
 pub sum_most : {X : Type 0} (d e : ℕ) (g h : X → ℕ) (xs : List X) → ((x : X) → IsIn x xs → g x ≤ d * h x + e) → sum_by g xs ≤ d * sum_by h xs + length xs * e

@@ -7,8 +7,8 @@ use Rattle.std.proofs.lemmas.List.{length-map}
 use Rattle.of_types.specs.declared.message.Event.{Event}
 use Rattle.of_types.specs.declared.setup.Setup.{Setup}
 use Rattle.of_types.specs.Lives.{has_ended, life_in}
-use Rattle.rv_base.specs.declared.journal.Actor.TheVariants as actor
-use Rattle.rv_base.specs.declared.journal.Letter.{Letter}
+use Rattle.journal.specs.declared.journal.Actor.TheVariants as actor
+use Rattle.journal.specs.declared.journal.Letter.{Letter}
 use Rattle.vr_log.specs.declared.entry.Entry.{Entry}
 use Rattle.vr_log.specs.declared.message.VrMessage.{VrMessage}
 use Rattle.vr_log.specs.Log.{received}
@@ -21,7 +21,7 @@ use Rattle.dispatcher.specs.Marks.{settled_commands}
 use Rattle.group_controller.specs.declared.messages.ControllerSays.{ControllerSays}
 use Rattle.group_controller.specs.State.{ControllerState, committed, to_member, to_members}
 use Rattle.group_controller.specs.Settling.{ack_letter, answers_at, clear_letter, command_letter, command_letters}
-use Rattle.rv_runs.specs.States.{controller_message}
+use Rattle.run_spec.specs.States.{controller_message}
 use Rattle.closing_laws.specs.Measure.{vr_worth}
 use Rattle.closing_laws.specs.Quorum.{has}
 use Rattle.closing_laws.proofs.Measure.Worths.{worths-append, worths-cons, worths_of, worths_one, worths_two}

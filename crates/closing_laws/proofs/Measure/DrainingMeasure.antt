@@ -6,18 +6,18 @@ use Rattle.std.proofs.lemmas.Bool.{cases_eq}
 use Rattle.std.proofs.lemmas.List.Sums.{sum_by-append, sum_by-cons}
 use Rattle.of_types.specs.declared.message.Spoken.{Spoken}
 use Rattle.of_types.specs.declared.setup.Setup.{Setup}
-use Rattle.rv_base.specs.declared.journal.Actor.{Actor}
-use Rattle.rv_base.specs.declared.journal.Actor.TheVariants as actor
-use Rattle.rv_base.specs.declared.journal.Letter.{Letter}
+use Rattle.journal.specs.declared.journal.Actor.{Actor}
+use Rattle.journal.specs.declared.journal.Actor.TheVariants as actor
+use Rattle.journal.specs.declared.journal.Letter.{Letter}
 use Rattle.of_switch.specs.declared.says.SwitchInput.TheVariants as switch_input
 use Rattle.of_switch.specs.Rules.{switch_turn}
 use Rattle.of_switch.specs.State.{SwitchState}
 use Rattle.group_controller.specs.declared.messages.ControllerSays.{ControllerSays}
 use Rattle.group_controller.specs.State.{ControllerState, Work}
-use Rattle.rv_runs.specs.declared.messages.Message.{Message}
-use Rattle.rv_runs.specs.declared.messages.Message.TheVariants as message
-use Rattle.rv_runs.specs.Schedule.{is_drawn}
-use Rattle.rv_runs.specs.States.{controller_message, switch_message}
+use Rattle.run_spec.specs.declared.messages.Message.{Message}
+use Rattle.run_spec.specs.declared.messages.Message.TheVariants as message
+use Rattle.run_spec.specs.Schedule.{is_drawn}
+use Rattle.run_spec.specs.States.{controller_message, switch_message}
 use Rattle.closing_laws.specs.Measure.{commands_from, left_at, left_at_switches, left_to_do, left_to_process, message_worth, worth, worths}
 use Rattle.closing_laws.specs.Quorum.{has}
 use Rattle.closing_laws.specs.Serving.{IsAttended, IsTrueOf}

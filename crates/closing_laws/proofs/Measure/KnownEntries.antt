@@ -1,13 +1,13 @@
 -- What the members that close know as committed, and how long their logs are.
 use Rattle.std.proofs.Common.{◌≡◌, ◌≤◌, ◌<◌, inl, inr, ℕ, zero, suc, true, List, [], ◌∷◌, ◌++◌, map, length, drop, refl, sym, ◌∙◌, ap, arith, length-append}
 use Rattle.std.specs.List.{range_with_len}
-use Rattle.lists.specs.Lists.{IsIn, IsPrefix}
-use Rattle.lists.proofs.Elements.{filter_has, filter_passes, in_filter, in_map}
+use Rattle.list_facts.specs.Lists.{IsIn, IsPrefix}
+use Rattle.list_facts.proofs.Elements.{filter_has, filter_passes, in_filter, in_map}
 use Rattle.of_types.specs.declared.setup.Setup.{Setup}
-use Rattle.rv_base.specs.declared.journal.Actor.TheVariants as actor
-use Rattle.rv_base.specs.declared.journal.JournalEntry.{JournalEntry}
-use Rattle.rv_base.specs.declared.journal.SaveResult.{SaveResult}
-use Rattle.rv_base.specs.Part.{part}
+use Rattle.journal.specs.declared.journal.Actor.TheVariants as actor
+use Rattle.journal.specs.declared.journal.JournalEntry.{JournalEntry}
+use Rattle.journal.specs.declared.journal.SaveResult.{SaveResult}
+use Rattle.journal.specs.Part.{part}
 use Rattle.vr_log.specs.declared.entry.Entry.{Entry}
 use Rattle.vr_log.specs.Log.{received}
 use Rattle.app_core.specs.Chain.{concat}
@@ -16,12 +16,12 @@ use Rattle.app_core.specs.Issued.{issues}
 use Rattle.controller_laws.proofs.Issued.{issues_prefix}
 use Rattle.controller_laws.proofs.Logs.{received_prefix}
 use Rattle.group_controller.specs.State.{ControllerState, committed}
-use Rattle.rv_runs.specs.Bound.{closing_members, greatest_of, place_known}
-use Rattle.rv_runs.specs.Committed.{controller_state, members_up, states_of}
-use Rattle.rv_runs.specs.Legal.{results_of}
-use Rattle.rv_runs.specs.Schedule.{majority}
-use Rattle.rv_runs.specs.States.{Scene}
-use Rattle.rv_laws.proofs.Members.{owned_at}
+use Rattle.run_spec.specs.Bound.{closing_members, greatest_of, place_known}
+use Rattle.run_spec.specs.Committed.{controller_state, members_up, states_of}
+use Rattle.run_spec.specs.Legal.{results_of}
+use Rattle.run_spec.specs.Schedule.{majority}
+use Rattle.run_spec.specs.States.{Scene}
+use Rattle.run_laws.proofs.Members.{owned_at}
 use Rattle.closing_laws.specs.Measure.{commands_from}
 use Rattle.closing_laws.specs.Quorum.{has}
 use Rattle.closing_laws.specs.Starts.{members_at, quorum_after}

@@ -5,8 +5,8 @@ use Rattle.std.specs.Prelude.{nat_eq, nat_lt, ◌&&◌, sum_by, if◌then◌else
 use Rattle.std.specs.List.{range_with_len}
 use Rattle.std.proofs.lemmas.Bool.{and_from, cases_Bool, eq-eqb, ltb-false}
 use Rattle.std.proofs.lemmas.List.Sums.{sum_by-cons, sum_by-take-drop}
-use Rattle.lists.specs.Lists.{IsIn, IsPrefix}
-use Rattle.lists.proofs.Elements.{in_drop, in_left}
+use Rattle.list_facts.specs.Lists.{IsIn, IsPrefix}
+use Rattle.list_facts.proofs.Elements.{in_drop, in_left}
 use Rattle.of_types.specs.declared.message.Event.{Event}
 use Rattle.of_types.specs.Lives.{count_in}
 use Rattle.vr_log.specs.declared.entry.Entry.{Entry}

@@ -5,9 +5,9 @@ use Rattle.std.specs.List.{range_with_len}
 use Rattle.of_types.specs.declared.message.Event.{Event}
 use Rattle.of_types.specs.Lives.{count_in}
 use Rattle.of_types.specs.Setups.{IsSetup}
-use Rattle.rv_base.specs.declared.journal.Actor.TheVariants as actor
-use Rattle.rv_base.specs.declared.journal.JournalEntry.{JournalEntry}
-use Rattle.rv_base.specs.declared.journal.SaveResult.{SaveResult}
+use Rattle.journal.specs.declared.journal.Actor.TheVariants as actor
+use Rattle.journal.specs.declared.journal.JournalEntry.{JournalEntry}
+use Rattle.journal.specs.declared.journal.SaveResult.{SaveResult}
 use Rattle.vr_log.specs.declared.state.VrState.{VrState}
 use Rattle.vr_log.specs.Log.{processed, received}
 use Rattle.vr_log.specs.Members.{most_failures, others, others_below}
@@ -15,10 +15,10 @@ use Rattle.view_change.specs.Entering.{tells_start, view_start}
 use Rattle.event_buffer.specs.Buffer.{next_number}
 use Rattle.of_switch.specs.State.{SwitchState, life_of}
 use Rattle.group_controller.specs.State.{ControllerState, Work, fresh, stepped}
-use Rattle.rv_runs.specs.Bound.{waiting_at}
-use Rattle.rv_runs.specs.States.{Scene, IsFaithful, controller_message}
-use Rattle.rv_runs.specs.Committed.{controller_state, switch_state}
-use Rattle.rv_runs.specs.Schedule.{Phase}
+use Rattle.run_spec.specs.Bound.{waiting_at}
+use Rattle.run_spec.specs.States.{Scene, IsFaithful, controller_message}
+use Rattle.run_spec.specs.Committed.{controller_state, switch_state}
+use Rattle.run_spec.specs.Schedule.{Phase}
 use Rattle.closing_laws.specs.Following.{LeadsFrom, Start}
 use Rattle.closing_laws.specs.Measure.{commands_from, left_at_switches, left_to_do, left_to_process, logged_held}
 use Rattle.closing_laws.specs.Quorum.{has}

@@ -2,11 +2,11 @@
 use Rattle.std.proofs.Common.{◌≡◌, ◌≤◌, ◌<◌, ℕ, ◌+◌, ◌*◌, ◌/◌, ◌%◌, true, List, ◌∷◌, ◌++◌, map, length, take, refl, sym, ◌∙◌, ap, subst, arith}
 use Rattle.std.specs.Prelude.{filter}
 use Rattle.std.proofs.lemmas.List.{take-take}
-use Rattle.lists.proofs.Prefixes.{takes_prefix}
+use Rattle.list_facts.proofs.Prefixes.{takes_prefix}
 use Rattle.of_types.specs.declared.message.Event.{Event}
 use Rattle.of_types.specs.declared.setup.Setup.{Setup}
-use Rattle.rv_base.specs.declared.journal.Actor.{Actor}
-use Rattle.rv_base.specs.declared.journal.Actor.TheVariants as actor
+use Rattle.journal.specs.declared.journal.Actor.{Actor}
+use Rattle.journal.specs.declared.journal.Actor.TheVariants as actor
 use Rattle.vr_log.specs.Steps.{quiet}
 use Rattle.vr_log.specs.declared.state.VrState.{VrState}
 use Rattle.vr_log.specs.Log.{processed}
@@ -17,9 +17,9 @@ use Rattle.of_switch.specs.State.{SwitchState, life_of}
 use Rattle.group_controller.specs.Settling.{settling}
 use Rattle.group_controller.specs.State.{ControllerState, Work, committed, stepped, with_no_met_limit}
 use Rattle.group_controller.specs.Rules.{controller_work, on_master, on_result, on_wish}
-use Rattle.rv_runs.specs.declared.messages.Message.{Message}
-use Rattle.rv_runs.specs.Schedule.{is_drawn}
-use Rattle.rv_runs.specs.States.{controller_message}
+use Rattle.run_spec.specs.declared.messages.Message.{Message}
+use Rattle.run_spec.specs.Schedule.{is_drawn}
+use Rattle.run_spec.specs.States.{controller_message}
 use Rattle.closing_laws.specs.Following.{LeadsFrom, Start}
 use Rattle.closing_laws.specs.Measure.{commands_from, left_to_do, message_worth}
 use Rattle.closing_laws.specs.Quorum.{has}

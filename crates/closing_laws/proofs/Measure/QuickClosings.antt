@@ -7,24 +7,24 @@ use Rattle.std.proofs.lemmas.Bool.{ltb-true, ltb-false, le-ltb}
 use Rattle.std.proofs.lemmas.List.Sums.{sum_by-cons}
 use Rattle.of_types.specs.declared.message.Event.{Event}
 use Rattle.of_types.specs.Setups.{IsSetup}
-use Rattle.rv_base.specs.declared.journal.JournalEntry.{JournalEntry}
-use Rattle.rv_base.specs.declared.journal.JournalEntry.TheVariants.{Post, Draw, Lose, Local, Idle, Refused}
-use Rattle.rv_base.specs.declared.journal.Packet.{Packet}
-use Rattle.rv_base.specs.declared.journal.SaveResult.{SaveResult}
-use Rattle.rv_base.specs.Pool.{pool}
-use Rattle.rv_base.specs.Turns.{IsWithinLimits}
-use Rattle.lists.specs.Lists.{IsIn}
-use Rattle.lists.proofs.Elements.{in_map}
+use Rattle.journal.specs.declared.journal.JournalEntry.{JournalEntry}
+use Rattle.journal.specs.declared.journal.JournalEntry.TheVariants.{Post, Draw, Lose, Local, Idle, Refused}
+use Rattle.journal.specs.declared.journal.Packet.{Packet}
+use Rattle.journal.specs.declared.journal.SaveResult.{SaveResult}
+use Rattle.journal.specs.Pool.{pool}
+use Rattle.journal.specs.Turns.{IsWithinLimits}
+use Rattle.list_facts.specs.Lists.{IsIn}
+use Rattle.list_facts.proofs.Elements.{in_map}
 use Rattle.vr_log.specs.declared.entry.Entry.{Entry}
 use Rattle.vr_log.specs.Log.{processed, received}
 use Rattle.dispatcher.specs.Ledger.{most_commands}
 use Rattle.group_controller.specs.State.{ControllerState}
 use Rattle.of_switch.specs.State.{SwitchState, life_of}
-use Rattle.rv_runs.specs.Bound.{closing_members, commands_left, ended_waiting, entries_left, events_left, most_by, place_known, sharp_bound, turns_bound}
-use Rattle.rv_runs.specs.Committed.{count_up, decided, kept, kept_of, longest, members_up, states_of}
-use Rattle.rv_runs.specs.Legal.{IsPossible}
-use Rattle.rv_runs.specs.Schedule.{ClosesTo, IsMove, IsPosted, Losing, Phase, after_move, closing_view, count_turns, is_turn, majority, next_lost, next_move, quorum_of}
-use Rattle.rv_runs.specs.States.{Scene, IsFaithful}
+use Rattle.run_spec.specs.Bound.{closing_members, commands_left, ended_waiting, entries_left, events_left, most_by, place_known, sharp_bound, turns_bound}
+use Rattle.run_spec.specs.Committed.{count_up, decided, kept, kept_of, longest, members_up, states_of}
+use Rattle.run_spec.specs.Legal.{IsPossible}
+use Rattle.run_spec.specs.Schedule.{ClosesTo, IsMove, IsPosted, Losing, Phase, after_move, closing_view, count_turns, is_turn, majority, next_lost, next_move, quorum_of}
+use Rattle.run_spec.specs.States.{Scene, IsFaithful}
 use Rattle.app_core.specs.Chain.{given_by}
 use Rattle.closing_laws.specs.Quick.{ClosingsAreQuick, ClosingsAreSharplyBounded}
 use Rattle.closing_laws.specs.Starts.{SavesSucceed}

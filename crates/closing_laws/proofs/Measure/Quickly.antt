@@ -5,14 +5,14 @@ use Rattle.std.specs.List.{range_with_len}
 use Rattle.std.proofs.Math.Path.{fun_ext}
 use Rattle.std.proofs.Math.Seq.{drop-append_seam}
 use Rattle.std.proofs.lemmas.Bool.{cases_lt, le-ltb}
-use Rattle.lists.specs.Lists.{IsIn, IsPrefix}
-use Rattle.lists.proofs.Prefixes.{front_prefix, prefix_trans}
+use Rattle.list_facts.specs.Lists.{IsIn, IsPrefix}
+use Rattle.list_facts.proofs.Prefixes.{front_prefix, prefix_trans}
 use Rattle.of_types.specs.declared.message.Event.{Event}
 use Rattle.of_types.specs.Lives.{count_in}
 use Rattle.of_types.specs.Setups.{IsSetup}
-use Rattle.rv_base.specs.declared.journal.JournalEntry.{JournalEntry}
-use Rattle.rv_base.specs.declared.journal.SaveResult.{SaveResult}
-use Rattle.rv_base.specs.Turns.{IsWithinLimits}
+use Rattle.journal.specs.declared.journal.JournalEntry.{JournalEntry}
+use Rattle.journal.specs.declared.journal.SaveResult.{SaveResult}
+use Rattle.journal.specs.Turns.{IsWithinLimits}
 use Rattle.vr_log.specs.declared.entry.Entry.{Entry}
 use Rattle.vr_log.specs.declared.entry.LogFull.{LogFull}
 use Rattle.vr_log.specs.declared.state.VrState.{VrState}
@@ -23,13 +23,13 @@ use Rattle.two_stage_log.specs.Counts.{processed_of}
 use Rattle.exactly_once.proofs.Growing.{take_prefix, take_same}
 use Rattle.of_switch.specs.State.{SwitchState, life_of}
 use Rattle.group_controller.specs.State.{ControllerState, committed}
-use Rattle.rv_runs.specs.Bound.{closing_members, commands_left, entries_left, greatest_of, place_known, sharp_bound, waiting_at}
-use Rattle.rv_runs.specs.States.{Scene, IsFaithful}
-use Rattle.rv_runs.specs.Legal.{IsPossible}
-use Rattle.rv_runs.specs.Committed.{controller_state, decided, switch_state}
-use Rattle.rv_runs.specs.Schedule.{Phase, ClosesTo, count_turns, met_by}
-use Rattle.rv_agreement.proofs.Groups.{odd_law}
-use Rattle.rv_laws.proofs.Laws.{lasting_law}
+use Rattle.run_spec.specs.Bound.{closing_members, commands_left, entries_left, greatest_of, place_known, sharp_bound, waiting_at}
+use Rattle.run_spec.specs.States.{Scene, IsFaithful}
+use Rattle.run_spec.specs.Legal.{IsPossible}
+use Rattle.run_spec.specs.Committed.{controller_state, decided, switch_state}
+use Rattle.run_spec.specs.Schedule.{Phase, ClosesTo, count_turns, met_by}
+use Rattle.run_agreement.proofs.Groups.{odd_law}
+use Rattle.run_laws.proofs.Laws.{lasting_law}
 use Rattle.closing_laws.specs.Following.{LeadsFrom, Start}
 use Rattle.closing_laws.specs.Measure.{commands_from, logged_held}
 use Rattle.closing_laws.specs.Quorum.{has}

@@ -4,10 +4,10 @@ use Rattle.std.specs.Prelude.{sum_by, None, if◌then◌else◌}
 use Rattle.std.specs.List.{range_with_len}
 use Rattle.std.proofs.lemmas.List.FromFn.{length-range_with_len}
 use Rattle.std.proofs.lemmas.Bool.{eqb-true}
-use Rattle.lists.proofs.Prefixes.{front_prefix, prefix_refl}
+use Rattle.list_facts.proofs.Prefixes.{front_prefix, prefix_refl}
 use Rattle.of_types.specs.declared.setup.Setup.{Setup}
-use Rattle.rv_base.specs.declared.journal.Actor.TheVariants as actor
-use Rattle.rv_base.specs.declared.journal.Letter.{Letter}
+use Rattle.journal.specs.declared.journal.Actor.TheVariants as actor
+use Rattle.journal.specs.declared.journal.Letter.{Letter}
 use Rattle.vr_log.specs.declared.state.VrState.{VrState}
 use Rattle.vr_log.specs.Log.{is_log, processed, received}
 use Rattle.vr_log.specs.Members.{most_failures, others_below}
@@ -20,8 +20,8 @@ use Rattle.group_controller.specs.declared.messages.ControllerSays.{ControllerSa
 use Rattle.group_controller.specs.State.{ControllerState, Work, committed, leaving, posting}
 use Rattle.group_controller.specs.Settling.{is_some_of, role_letter}
 use Rattle.group_controller.specs.Rules.{starting_view, switches}
-use Rattle.rv_runs.specs.Bound.{waiting_at}
-use Rattle.rv_runs.specs.States.{controller_message}
+use Rattle.run_spec.specs.Bound.{waiting_at}
+use Rattle.run_spec.specs.States.{controller_message}
 use Rattle.closing_laws.specs.Measure.{commands_from, left_at, left_at_switches, left_to_process, logged_held, uncommitted, unlogged, unprocessed, unsent}
 use Rattle.closing_laws.specs.Quorum.{has}
 use Rattle.closing_laws.specs.Serving.{logged_of, sent_of}

@@ -11,10 +11,10 @@ use Rattle.of_types.specs.declared.message.Spoken.{Spoken}
 use Rattle.of_types.specs.declared.message.Spoken.TheVariants as spoken
 use Rattle.of_types.specs.declared.numbers.TheConstants.{MASTER}
 use Rattle.of_types.specs.declared.setup.Setup.{Setup}
-use Rattle.rv_base.specs.declared.journal.Actor.{Actor}
-use Rattle.rv_base.specs.declared.journal.Actor.TheVariants as actor
-use Rattle.rv_base.specs.declared.journal.Letter.{Letter}
-use Rattle.lists.specs.Lists.{IsIn}
+use Rattle.journal.specs.declared.journal.Actor.{Actor}
+use Rattle.journal.specs.declared.journal.Actor.TheVariants as actor
+use Rattle.journal.specs.declared.journal.Letter.{Letter}
+use Rattle.list_facts.specs.Lists.{IsIn}
 use Rattle.dispatcher.specs.Ledger.{most_commands}
 use Rattle.event_buffer.specs.Buffer.{Buffer, cleared_to, most_held, next_number, without_dirty}
 use Rattle.of_types.specs.Lives.{count_in}
@@ -30,11 +30,11 @@ use Rattle.of_switch.specs.Commands.{letter_of_result, on_command, settled}
 use Rattle.of_switch.specs.Drafts.{Draft, draft_of, drafted_event, forgets, with_ports, with_raised, with_told}
 use Rattle.of_switch.specs.Rules.{on_role_request, switch_turn}
 use Rattle.of_switch.proofs.Turns.{ack-drafted, forgets-same}
-use Rattle.rv_runs.specs.declared.messages.Message.{Message}
-use Rattle.rv_runs.specs.declared.messages.Message.TheVariants as message
-use Rattle.rv_runs.specs.declared.messages.Unsealed.TheVariants as unsealed
-use Rattle.rv_runs.specs.Schedule.{is_drawn}
-use Rattle.rv_runs.specs.States.{switch_hears, switch_message}
+use Rattle.run_spec.specs.declared.messages.Message.{Message}
+use Rattle.run_spec.specs.declared.messages.Message.TheVariants as message
+use Rattle.run_spec.specs.declared.messages.Unsealed.TheVariants as unsealed
+use Rattle.run_spec.specs.Schedule.{is_drawn}
+use Rattle.run_spec.specs.States.{switch_hears, switch_message}
 use Rattle.closing_laws.specs.Quorum.{has}
 use Rattle.closing_laws.specs.Measure.{left_at, message_worth, unlogged, unsent}
 use Rattle.closing_laws.specs.Serving.{Acknowledges, Asks, Clears, Commands, IsOlder, IsSaidBy, IsAttended, IsTrueOf, acknowledges_events, asks_role, is_request, sent_of}

@@ -3,10 +3,10 @@ use Rattle.std.proofs.Common.{◌≡◌, ℕ, ◌+◌, ◌*◌, List, [], ◌∷
 use Rattle.std.specs.Prelude.{sum_by}
 use Rattle.std.proofs.lemmas.List.{map-append}
 use Rattle.std.proofs.lemmas.List.Sums.{sum_by-append, sum_by-cons}
-use Rattle.lists.specs.Lists.{IsIn}
-use Rattle.rv_base.specs.declared.journal.Actor.{Actor}
-use Rattle.rv_base.specs.declared.journal.Letter.{Letter}
-use Rattle.rv_runs.specs.declared.messages.Message.{Message}
+use Rattle.list_facts.specs.Lists.{IsIn}
+use Rattle.journal.specs.declared.journal.Actor.{Actor}
+use Rattle.journal.specs.declared.journal.Letter.{Letter}
+use Rattle.run_spec.specs.declared.messages.Message.{Message}
 use Rattle.closing_laws.specs.Measure.{worth}
 use Rattle.closing_laws.specs.Ways.{sent_by}
 

@@ -5,14 +5,14 @@ use Rattle.std.specs.List.{range_with_len}
 use Rattle.std.proofs.Math.Seq.{drop-append_seam}
 use Rattle.std.proofs.lemmas.Bool.{and_parts, cases_lt, cond_both, eqb-true, leb-true, ltb-true}
 use Rattle.std.proofs.lemmas.List.{length-take-le}
-use Rattle.lists.specs.Lists.{IsIn, IsPrefix}
-use Rattle.lists.proofs.Prefixes.{front_prefix, prefix_refl, take_prefix, takes_prefix}
+use Rattle.list_facts.specs.Lists.{IsIn, IsPrefix}
+use Rattle.list_facts.proofs.Prefixes.{front_prefix, prefix_refl, take_prefix, takes_prefix}
 use Rattle.of_types.specs.declared.message.Event.{Event}
 use Rattle.of_types.specs.declared.message.Extension.TheVariants as extension
 use Rattle.of_types.specs.declared.message.Outcome.{Outcome}
 use Rattle.of_types.specs.declared.message.Spoken.TheVariants as spoken
 use Rattle.of_types.specs.declared.setup.Setup.{Setup}
-use Rattle.rv_base.specs.declared.journal.Actor.TheVariants as actor
+use Rattle.journal.specs.declared.journal.Actor.TheVariants as actor
 use Rattle.vr_log.specs.declared.entry.Entry.{Entry}
 use Rattle.vr_log.specs.declared.state.VrState.{VrState}
 use Rattle.vr_log.specs.Log.{is_log, may_be_received, processed, received}
@@ -32,9 +32,9 @@ use Rattle.of_switch.specs.State.{SwitchState, SwitchTurn, life_of}
 use Rattle.group_controller.specs.State.{ControllerState, Work, committed, resting, stepped, to_members, with_no_met_limit}
 use Rattle.group_controller.specs.Rules.{controller_work, on_master, on_wish, switches, on_result}
 use Rattle.group_controller.specs.Settling.{ack_letter, after_finishing, command_letters, is_alone, settling, with_answers, with_commands}
-use Rattle.rv_runs.specs.declared.messages.Message.{Message}
-use Rattle.rv_runs.specs.declared.messages.Message.TheVariants as message
-use Rattle.rv_runs.specs.States.{controller_message, switch_message}
+use Rattle.run_spec.specs.declared.messages.Message.{Message}
+use Rattle.run_spec.specs.declared.messages.Message.TheVariants as message
+use Rattle.run_spec.specs.States.{controller_message, switch_message}
 use Rattle.closing_laws.specs.Quorum.{has}
 use Rattle.closing_laws.specs.Following.{Start}
 use Rattle.closing_laws.specs.Serving.{AreFew, events_told, results_said, told_by}

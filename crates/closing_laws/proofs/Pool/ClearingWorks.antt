@@ -3,12 +3,12 @@ use Rattle.std.proofs.Common.{◌≡◌, ◌≤◌, ◌<◌, ◌⊎◌, inl, inr
 use Rattle.std.specs.Prelude.{nat_eq, nat_le, not, if◌then◌else◌}
 use Rattle.std.proofs.lemmas.Bool.{and_parts, cond_both, eqb-true, ltb-true}
 use Rattle.std.proofs.lemmas.List.{map-append, nil_from_length}
-use Rattle.lists.specs.Lists.{IsPrefix}
+use Rattle.list_facts.specs.Lists.{IsPrefix}
 use Rattle.of_types.specs.declared.message.Event.{Event}
 use Rattle.of_types.specs.declared.setup.Setup.{Setup}
 use Rattle.of_types.specs.Lives.{life_in}
-use Rattle.rv_base.specs.declared.journal.Actor.TheVariants as actor
-use Rattle.rv_base.specs.declared.journal.Letter.{Letter}
+use Rattle.journal.specs.declared.journal.Actor.TheVariants as actor
+use Rattle.journal.specs.declared.journal.Letter.{Letter}
 use Rattle.vr_log.specs.declared.entry.Entry.{Entry}
 use Rattle.vr_log.specs.declared.entry.Entry.TheVariants.{Received}
 use Rattle.vr_log.specs.declared.message.VrMessage.TheVariants as vr
@@ -23,7 +23,7 @@ use Rattle.dispatcher.specs.Marks.{Marks, is_finished, outstanding, wanted}
 use Rattle.group_controller.specs.declared.messages.ControllerSays.{ControllerSays}
 use Rattle.group_controller.specs.State.{ControllerState, Work, committed, posting, resting}
 use Rattle.group_controller.specs.Settling.{after_finishing, after_proposal, answers_at, command_letter, command_letters, finishing, goes_on, is_alone, is_settled, is_untold, processing, proposing, settling, with_answers, with_commands}
-use Rattle.rv_runs.specs.States.{controller_message}
+use Rattle.run_spec.specs.States.{controller_message}
 use Rattle.closing_laws.specs.Ways.{Sent, sent_by}
 use Rattle.closing_laws.proofs.Pool.Broadcasts.{posted}
 use Rattle.closing_laws.proofs.Pool.Clearing as clearing

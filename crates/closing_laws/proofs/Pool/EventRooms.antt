@@ -6,11 +6,11 @@ use Rattle.std.specs.List.{range_with_len}
 use Rattle.std.proofs.lemmas.Bool.{and_parts, cases_Bool, eq-eqb, eqb-true}
 use Rattle.std.proofs.lemmas.List.FromFn.{length-range_with_len}
 use Rattle.std.proofs.lemmas.List.Sums.{sum_by-cons}
-use Rattle.lists.proofs.Prefixes.{front_prefix}
+use Rattle.list_facts.proofs.Prefixes.{front_prefix}
 use Rattle.of_types.specs.declared.message.Event.{Event}
 use Rattle.of_types.specs.declared.setup.Setup.{Setup}
 use Rattle.of_types.specs.Lives.{count_in}
-use Rattle.rv_base.specs.declared.journal.Actor.TheVariants as actor
+use Rattle.journal.specs.declared.journal.Actor.TheVariants as actor
 use Rattle.vr_log.specs.declared.state.VrState.{VrState}
 use Rattle.vr_log.specs.Log.{processed, received}
 use Rattle.vr_log.proofs.Logs.{IsLog_is, length_is}
@@ -21,7 +21,7 @@ use Rattle.of_switch.specs.State.{SwitchState, life_of}
 use Rattle.group_controller.specs.State.{ControllerState, Work, committed, to_members}
 use Rattle.group_controller.specs.Rules.{controller_work, switches}
 use Rattle.group_controller.specs.Settling.{is_some_of, role_letter}
-use Rattle.rv_runs.specs.States.{controller_message, switch_message}
+use Rattle.run_spec.specs.States.{controller_message, switch_message}
 use Rattle.closing_laws.specs.Quorum.{has}
 use Rattle.closing_laws.specs.Following.{Start}
 use Rattle.closing_laws.specs.Serving.{AreFew, IsOlder, logged_of, sent_of}

@@ -14,8 +14,8 @@ use Rattle.of_types.specs.declared.numbers.TheConstants.{ALL_PORTS, FLOOD, IN_PO
 use Rattle.of_types.specs.declared.refusal.TheConstants.{NOT_MASTER}
 use Rattle.of_types.specs.declared.setup.Link.{Link}
 use Rattle.of_types.specs.Setups.{AreApart, ends_of}
-use Rattle.rv_base.specs.declared.journal.Actor.TheVariants as actor
-use Rattle.rv_base.specs.declared.journal.Letter.{Letter}
+use Rattle.journal.specs.declared.journal.Actor.TheVariants as actor
+use Rattle.journal.specs.declared.journal.Letter.{Letter}
 use Rattle.command_buffer.specs.declared.buffer.Offer.{Offer}
 use Rattle.command_buffer.specs.declared.buffer.Offer.TheVariants.{Ahead, Execute, Full, Repeat}
 use Rattle.command_buffer.specs.Results.{offer_of}
@@ -26,7 +26,7 @@ use Rattle.of_switch.specs.Commands.{done_as, executes, on_command, on_offer, re
 use Rattle.of_switch.specs.Events.{is_down}
 use Rattle.of_switch.specs.Forwarding.{over_link, over_links, puts_all, puts_out, sends_to, targets}
 use Rattle.role_fence.specs.Fence.{may_execute}
-use Rattle.rv_runs.specs.States.{switch_message}
+use Rattle.run_spec.specs.States.{switch_message}
 use Rattle.closing_laws.specs.Ways.{Sent, sent_by}
 use Rattle.closing_laws.proofs.Measure.CommandCounts.{fewer_filter}
 use Rattle.closing_laws.proofs.Pool.Rooms.{is_frame, is_result, waits}

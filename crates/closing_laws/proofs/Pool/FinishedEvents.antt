@@ -4,13 +4,13 @@ use Rattle.std.proofs.Common.{◌≡◌, ◌≤◌, ◌<◌, ◌⊎◌, inl, inr
 use Rattle.std.specs.Prelude.{nat_eq, nat_le, not, ◌&&◌, Option, Some, if◌then◌else◌}
 use Rattle.std.proofs.lemmas.Bool.{and_parts, cond_both, eqb-false, eqb-true, ltb-true, true≢false}
 use Rattle.std.proofs.lemmas.List.{drop-append-le, drop_all, nil_from_length}
-use Rattle.lists.specs.Lists.{IsIn, IsPrefix}
-use Rattle.lists.proofs.Elements.{in_append}
-use Rattle.lists.proofs.Prefixes.{front_prefix, prefix_refl, takes_prefix}
+use Rattle.list_facts.specs.Lists.{IsIn, IsPrefix}
+use Rattle.list_facts.proofs.Elements.{in_append}
+use Rattle.list_facts.proofs.Prefixes.{front_prefix, prefix_refl, takes_prefix}
 use Rattle.of_types.specs.declared.message.Event.{Event}
 use Rattle.of_types.specs.declared.message.Happening.{Happening}
 use Rattle.of_types.specs.declared.setup.Setup.{Setup}
-use Rattle.rv_base.specs.declared.journal.Actor.TheVariants as actor
+use Rattle.journal.specs.declared.journal.Actor.TheVariants as actor
 use Rattle.vr_log.specs.declared.entry.Entry.{Entry}
 use Rattle.vr_log.specs.declared.entry.Entry.TheVariants.{Received}
 use Rattle.vr_log.specs.declared.state.VrState.{VrState}

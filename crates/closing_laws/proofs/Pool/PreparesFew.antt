@@ -6,16 +6,16 @@ use Rattle.std.proofs.lemmas.Bool.{and_parts, cases_Bool, cases_lt, eq-eqb, ne_e
 use Rattle.std.proofs.lemmas.List.{drop-drop, length-take}
 use Rattle.std.proofs.lemmas.List.FromFn.{length-range_with_len}
 use Rattle.std.proofs.lemmas.List.Sums.{count_by-le-length, sum_by-le-sum_by}
-use Rattle.lists.specs.Lists.{IsIn, IsPrefix}
-use Rattle.lists.proofs.Elements.{in_right}
-use Rattle.lists.proofs.Prefixes.{takes_prefix}
+use Rattle.list_facts.specs.Lists.{IsIn, IsPrefix}
+use Rattle.list_facts.proofs.Elements.{in_right}
+use Rattle.list_facts.proofs.Prefixes.{takes_prefix}
 use Rattle.of_types.specs.declared.message.Event.{Event}
 use Rattle.of_types.specs.declared.setup.Setup.{Setup}
 use Rattle.of_types.specs.Lives.{count_in}
-use Rattle.rv_base.specs.declared.journal.Actor.{Actor}
-use Rattle.rv_base.specs.declared.journal.Actor.TheVariants as actor
-use Rattle.rv_base.specs.Actors.{same_actor}
-use Rattle.rv_base.proofs.Leaving.{same_actor-true}
+use Rattle.journal.specs.declared.journal.Actor.{Actor}
+use Rattle.journal.specs.declared.journal.Actor.TheVariants as actor
+use Rattle.journal.specs.Actors.{same_actor}
+use Rattle.journal.proofs.Leaving.{same_actor-true}
 use Rattle.vr_log.specs.declared.entry.Entry.{Entry}
 use Rattle.vr_log.specs.declared.message.VrMessage.TheVariants as vr
 use Rattle.vr_log.specs.declared.state.VrState.{VrState}
@@ -25,8 +25,8 @@ use Rattle.vr_log.proofs.Logs.{length_is, received-append}
 use Rattle.controller_laws.proofs.Logs.{count_prefix, processed-append, processed_prefix, received_prefix}
 use Rattle.of_switch.specs.State.{SwitchState, life_of}
 use Rattle.group_controller.specs.State.{ControllerState}
-use Rattle.rv_runs.specs.declared.messages.Message.{Message}
-use Rattle.rv_runs.specs.declared.messages.Message.TheVariants as message
+use Rattle.run_spec.specs.declared.messages.Message.{Message}
+use Rattle.run_spec.specs.declared.messages.Message.TheVariants as message
 use Rattle.closing_laws.specs.Quorum.{has}
 use Rattle.closing_laws.specs.Ways.{Sent, goes, between}
 use Rattle.closing_laws.specs.Following.{AreAcknowledged, ArePrepares, KeepsUp, Start}
@@ -44,7 +44,7 @@ use Rattle.closing_laws.proofs.Pool.Waiting.{waits_cons}
 use Rattle.closing_laws.proofs.Primary.Numbering.{of_range}
 use Rattle.closing_laws.proofs.Start.Rounds.{below_in}
 use Rattle.closing_laws.proofs.Switches.Saying.{count_append, count_cons, count_none}
-use Rattle.rv_runs.proofs.Pasts.{self_controller}
+use Rattle.run_spec.proofs.Pasts.{self_controller}
 
 -- ---- sums
 

@@ -6,14 +6,14 @@ use Rattle.std.proofs.Math.Seq.{drop-append_seam}
 use Rattle.std.proofs.lemmas.Bool.{cond_both}
 use Rattle.std.proofs.lemmas.List.{length-take-le}
 use Rattle.std.proofs.lemmas.List.Sums.{sum_by-cons}
-use Rattle.lists.specs.Lists.{IsIn, IsPrefix}
-use Rattle.lists.proofs.Elements.{in_append, in_filter, in_flat_map, in_map}
-use Rattle.lists.proofs.Prefixes.{prefix_push, prefix_refl}
+use Rattle.list_facts.specs.Lists.{IsIn, IsPrefix}
+use Rattle.list_facts.proofs.Elements.{in_append, in_filter, in_flat_map, in_map}
+use Rattle.list_facts.proofs.Prefixes.{prefix_push, prefix_refl}
 use Rattle.of_types.specs.declared.message.Event.{Event}
 use Rattle.of_types.specs.declared.setup.Setup.{Setup}
 use Rattle.of_types.specs.Lives.{has_ended}
-use Rattle.rv_base.specs.declared.journal.Actor.TheVariants as actor
-use Rattle.rv_base.specs.declared.journal.Letter.{Letter}
+use Rattle.journal.specs.declared.journal.Actor.TheVariants as actor
+use Rattle.journal.specs.declared.journal.Letter.{Letter}
 use Rattle.vr_log.specs.declared.entry.Entry.{Entry}
 use Rattle.vr_log.specs.declared.entry.Entry.TheVariants.{Received, Processed}
 use Rattle.vr_log.specs.declared.message.VrMessage.TheVariants as vr
@@ -35,7 +35,7 @@ use Rattle.group_controller.specs.declared.messages.ControllerSays.{ControllerSa
 use Rattle.group_controller.specs.State.{ControllerState, Work, committed, leaving, resting, stepped, to_member, with_no_met_limit}
 use Rattle.group_controller.specs.Settling.{ack_letter, after_finishing, after_proposal, answers_at, clear_letter, command_letter, command_letters, finishing, goes_on, is_alone, is_settled, is_untold, processing, proposing, settling, with_answers, with_commands}
 use Rattle.group_controller.specs.Rules.{on_master, on_result, on_wish}
-use Rattle.rv_runs.specs.States.{controller_message}
+use Rattle.run_spec.specs.States.{controller_message}
 use Rattle.closing_laws.specs.Serving.{AreFew}
 use Rattle.closing_laws.proofs.Measure.AnswerWorths.{acknowledges_few}
 use Rattle.closing_laws.proofs.Pool.Rooms.{is_event}

@@ -3,15 +3,15 @@ use Rattle.std.proofs.Common.{◌≡◌, ◌≤◌, ℕ, ◌+◌, ◌-◌, Bool,
 use Rattle.std.specs.Prelude.{nat_eq, nat_le, not, if◌then◌else◌}
 use Rattle.std.proofs.lemmas.Bool.{le-leb}
 use Rattle.std.proofs.lemmas.List.Sums.{sum_by-append, sum_by-cons, sum_by-take-le}
-use Rattle.rv_base.specs.declared.journal.Actor.{Actor}
-use Rattle.rv_base.specs.declared.journal.JournalEntry.{JournalEntry}
-use Rattle.rv_base.specs.declared.journal.JournalEntry.TheVariants.{Post, Draw, Lose, Local, Idle, Refused}
-use Rattle.rv_base.specs.declared.journal.Letter.{Letter}
-use Rattle.rv_base.specs.declared.journal.Packet.{Packet}
-use Rattle.rv_base.specs.Limits.{pool_packets, pool_bodies}
-use Rattle.rv_base.specs.Orderly.{IsOrderly, fitting_count, pool_bytes}
-use Rattle.rv_base.specs.Pool.{pool, numbered, fitting, without, letter_bytes, bytes_posted}
-use Rattle.rv_base.specs.Turns.{IsWithinLimits}
+use Rattle.journal.specs.declared.journal.Actor.{Actor}
+use Rattle.journal.specs.declared.journal.JournalEntry.{JournalEntry}
+use Rattle.journal.specs.declared.journal.JournalEntry.TheVariants.{Post, Draw, Lose, Local, Idle, Refused}
+use Rattle.journal.specs.declared.journal.Letter.{Letter}
+use Rattle.journal.specs.declared.journal.Packet.{Packet}
+use Rattle.journal.specs.Limits.{pool_packets, pool_bodies}
+use Rattle.journal.specs.Orderly.{IsOrderly, fitting_count, pool_bytes}
+use Rattle.journal.specs.Pool.{pool, numbered, fitting, without, letter_bytes, bytes_posted}
+use Rattle.journal.specs.Turns.{IsWithinLimits}
 
 module _ {B : Type 0} (size : B → ℕ) where
   bytes-cons : (p : Packet B) (ps : List (Packet B)) → pool_bytes size (p ∷ ps) ≡ size p.body + pool_bytes size ps

@@ -6,8 +6,8 @@ use Rattle.of_types.specs.declared.message.OfMessage.TheVariants as plain
 use Rattle.of_types.specs.declared.message.Spoken.TheVariants as spoken
 use Rattle.of_types.specs.declared.setup.Setup.{Setup}
 use Rattle.of_types.specs.Lives.{count_in}
-use Rattle.rv_base.specs.declared.journal.Actor.TheVariants as actor
-use Rattle.lists.specs.Lists.{IsIn}
+use Rattle.journal.specs.declared.journal.Actor.TheVariants as actor
+use Rattle.list_facts.specs.Lists.{IsIn}
 use Rattle.vr_log.specs.declared.message.VrMessage.{VrMessage}
 use Rattle.vr_log.specs.declared.message.VrMessage.TheVariants as vr
 use Rattle.vr_log.specs.declared.state.VrState.{VrState}
@@ -19,11 +19,11 @@ use Rattle.of_switch.specs.State.{SwitchState, SwitchTurn, life_of}
 use Rattle.of_switch.specs.Rules.{switch_turn}
 use Rattle.group_controller.specs.State.{ControllerState, committed, to_members}
 use Rattle.group_controller.specs.Rules.{controller_work}
-use Rattle.rv_runs.specs.declared.messages.Message.{Message}
-use Rattle.rv_runs.specs.declared.messages.Message.TheVariants as message
-use Rattle.rv_runs.specs.declared.messages.Unsealed.TheVariants as unsealed
-use Rattle.rv_runs.specs.States.{controller_message, switch_hears, switch_message}
-use Rattle.rv_runs.specs.Schedule.{is_drawn}
+use Rattle.run_spec.specs.declared.messages.Message.{Message}
+use Rattle.run_spec.specs.declared.messages.Message.TheVariants as message
+use Rattle.run_spec.specs.declared.messages.Unsealed.TheVariants as unsealed
+use Rattle.run_spec.specs.States.{controller_message, switch_hears, switch_message}
+use Rattle.run_spec.specs.Schedule.{is_drawn}
 use Rattle.closing_laws.specs.Quorum.{has}
 use Rattle.closing_laws.specs.Ways.{Sent, sent_by, between}
 use Rattle.closing_laws.specs.Following.{Start}

@@ -5,7 +5,7 @@ use Rattle.std.specs.Prelude.{count_by, nat_eq, nat_lt, not, ◌&&◌, Option, i
 use Rattle.std.specs.List.{range_with_len}
 use Rattle.std.proofs.lemmas.Bool.{and_from, and_parts, cases_Bool, cases_lt, eq-eqb, eqb-true, le-ltb, lt-ltb, ltb-true, ne_eqb, true≢false}
 use Rattle.std.proofs.lemmas.List.Sums.{count_by-le-length}
-use Rattle.lists.specs.Lists.{IsIn, IsPrefix}
+use Rattle.list_facts.specs.Lists.{IsIn, IsPrefix}
 use Rattle.of_types.specs.declared.message.Event.{Event}
 use Rattle.of_types.specs.declared.setup.Setup.{Setup}
 use Rattle.of_types.specs.Lives.{has_ended, life_in}

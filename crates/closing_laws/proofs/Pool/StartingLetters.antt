@@ -8,7 +8,7 @@ use Rattle.std.proofs.lemmas.List.FromFn.{length-range_with_len}
 use Rattle.of_types.specs.declared.message.Event.{Event}
 use Rattle.of_types.specs.declared.setup.Setup.{Setup}
 use Rattle.of_types.specs.Lives.{has_ended}
-use Rattle.rv_base.specs.declared.journal.Letter.{Letter}
+use Rattle.journal.specs.declared.journal.Letter.{Letter}
 use Rattle.vr_log.specs.declared.entry.Entry.{Entry}
 use Rattle.vr_log.specs.declared.message.VrMessage.TheVariants as vr
 use Rattle.vr_log.specs.declared.state.VrState.{VrState}
@@ -16,7 +16,7 @@ use Rattle.vr_log.specs.Log.{is_log, is_past_limits, processed, received}
 use Rattle.vr_log.specs.Members.{most_failures}
 use Rattle.vr_log.specs.Steps.{to_others}
 use Rattle.view_change.specs.Entering.{tells_start, view_start}
-use Rattle.members.proofs.Spelling.{log_short}
+use Rattle.member_moves.proofs.Spelling.{log_short}
 use Rattle.vr_log.proofs.Logs.{length_is, received-append}
 use Rattle.app_core.specs.declared.issued.Issued.{Issued}
 use Rattle.app_core.specs.Issued.{commands_of}
@@ -31,8 +31,8 @@ use Rattle.closing_laws.specs.Starts.{starting_turn}
 use Rattle.closing_laws.proofs.Measure.AnswerWorths.{acknowledges_few}
 use Rattle.closing_laws.proofs.Pool.FewLetters.{told_few}
 use Rattle.closing_laws.proofs.Primary.Proposing.{proposal, proposed_as, pushed, pushed_all, pushed_behind}
-use Rattle.lists.specs.Lists.{IsIn}
-use Rattle.lists.proofs.Elements.{filter_has}
+use Rattle.list_facts.specs.Lists.{IsIn}
+use Rattle.list_facts.proofs.Elements.{filter_has}
 
 -- what a test finds nowhere
 none_passes : {A : Type 0} (q : A → Bool) (xs : List A) → ((x : A) → IsIn x xs → q x ≡ false) → list_any q xs ≡ false

@@ -10,9 +10,9 @@ use Rattle.of_types.specs.declared.message.Outcome.{Outcome}
 use Rattle.of_types.specs.declared.message.Spoken.TheVariants as spoken
 use Rattle.of_types.specs.declared.numbers.TheConstants.{MASTER}
 use Rattle.of_types.specs.declared.setup.Setup.{Setup}
-use Rattle.rv_base.specs.declared.journal.Actor.{Actor}
-use Rattle.rv_base.specs.declared.journal.Actor.TheVariants as actor
-use Rattle.rv_base.specs.declared.journal.Letter.{Letter}
+use Rattle.journal.specs.declared.journal.Actor.{Actor}
+use Rattle.journal.specs.declared.journal.Actor.TheVariants as actor
+use Rattle.journal.specs.declared.journal.Letter.{Letter}
 use Rattle.dispatcher.specs.Ledger.{most_commands}
 use Rattle.event_buffer.specs.Buffer.{Buffer, cleared_to, next_number}
 use Rattle.group_controller.specs.State.{ControllerState}
@@ -23,10 +23,10 @@ use Rattle.of_switch.specs.Events.{cleared, coming, event_letter, first_held, on
 use Rattle.of_switch.specs.Commands.{letter_of_result, on_command, settled}
 use Rattle.of_switch.specs.Rules.{switch_turn}
 use Rattle.role_fence.specs.Fence.{Fence, as_master}
-use Rattle.rv_runs.specs.declared.messages.Message.{Message}
-use Rattle.rv_runs.specs.declared.messages.Message.TheVariants as message
-use Rattle.rv_runs.specs.declared.messages.Unsealed.TheVariants as unsealed
-use Rattle.rv_runs.specs.States.{switch_hears, switch_message}
+use Rattle.run_spec.specs.declared.messages.Message.{Message}
+use Rattle.run_spec.specs.declared.messages.Message.TheVariants as message
+use Rattle.run_spec.specs.declared.messages.Unsealed.TheVariants as unsealed
+use Rattle.run_spec.specs.States.{switch_hears, switch_message}
 use Rattle.closing_laws.specs.Serving.{Acknowledges, Asks, Clears, Commands, IsOlder, IsSaidBy, IsAttended, IsTrueOf, acknowledges_events, asks_role, is_request, sent_of}
 use Rattle.closing_laws.proofs.Draining.Drained.{put, put_other, put_own}
 use Rattle.closing_laws.proofs.Pool.Rooms.{is_clear, is_else, is_event, is_role}

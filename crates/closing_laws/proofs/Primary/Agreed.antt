@@ -3,8 +3,8 @@ use Rattle.std.proofs.Common.{◌≡◌, ◌≤◌, ◌<◌, inl, ℕ, Bool, tru
 use Rattle.std.specs.Prelude.{nat_eq, nat_lt, nat_le, not, ◌&&◌, None, if◌then◌else◌}
 use Rattle.std.proofs.lemmas.Bool.{and_from, and_parts, and_right, eq-eqb, le-leb, lt-ltb, ltb-false, ltb-true, ne_eqb, not_from_false, not_from_true}
 use Rattle.std.proofs.lemmas.List.{length-take-le}
-use Rattle.lists.specs.Lists.{IsPrefix}
-use Rattle.lists.proofs.Prefixes.{front_prefix, prefix_length, takes_prefix}
+use Rattle.list_facts.specs.Lists.{IsPrefix}
+use Rattle.list_facts.proofs.Prefixes.{front_prefix, prefix_length, takes_prefix}
 use Rattle.of_types.specs.declared.setup.Setup.{Setup}
 use Rattle.vr_log.specs.declared.message.VrMessage.TheVariants as vr
 use Rattle.vr_log.specs.declared.state.VrState.{VrState}
@@ -21,7 +21,7 @@ use Rattle.group_controller.specs.declared.messages.ControllerInput.TheVariants 
 use Rattle.group_controller.specs.State.{ControllerState, Work, committed, stepped, with_no_met_limit}
 use Rattle.group_controller.specs.Rules.{after_step, controller_work, starting_view}
 use Rattle.group_controller.specs.Settling.{is_untold, settling}
-use Rattle.rv_runs.specs.declared.messages.Message.{Message}
+use Rattle.run_spec.specs.declared.messages.Message.{Message}
 use Rattle.closing_laws.specs.Serving.{AreFew, IsSettled, IsToldLast, IsTrueOf, IsTruePrimary}
 use Rattle.closing_laws.proofs.Primary.Committing.{CommitsMore}
 use Rattle.closing_laws.proofs.Primary.EventTurns.{settled_as}

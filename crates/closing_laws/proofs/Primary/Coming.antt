@@ -2,8 +2,8 @@
 use Rattle.std.proofs.Common.{◌≡◌, ◌≤◌, ◌<◌, ◌⊎◌, inl, inr, ℕ, ◌+◌, ◌-◌, zero, suc, Bool, true, false, List, [], ◌∷◌, take, drop, filter, refl, sym, ◌∙◌, ap, subst, arith}
 use Rattle.std.specs.Prelude.{nat_eq, nat_lt, nat_le, slice_get, Some, if◌then◌else◌}
 use Rattle.std.proofs.lemmas.Bool.{cases_order, eq-eqb, le-leb, leb-true, lt-ltb, ne_eqb, true≢false}
-use Rattle.lists.specs.Lists.{IsIn}
-use Rattle.lists.proofs.Places.{get_dropped, in_get}
+use Rattle.list_facts.specs.Lists.{IsIn}
+use Rattle.list_facts.proofs.Places.{get_dropped, in_get}
 use Rattle.of_types.specs.declared.message.Event.{Event}
 use Rattle.of_types.specs.declared.setup.Setup.{Setup}
 use Rattle.of_types.specs.Lives.{count_in, is_switch_up, life_in}

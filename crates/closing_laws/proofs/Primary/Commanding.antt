@@ -3,8 +3,8 @@ use Rattle.std.proofs.Common.{◌≡◌, ◌≤◌, ◌<◌, inl, ℕ, ◌+◌, 
 use Rattle.std.specs.Prelude.{nat_eq, not, Some, if◌then◌else◌}
 use Rattle.std.specs.List.{range_with_len}
 use Rattle.std.proofs.lemmas.Bool.{and_from, and_parts, and_right, eq-eqb, le-ltb, ltb-true, not_from_false, not_from_true, false_from_ne_true}
-use Rattle.lists.specs.Lists.{IsIn}
-use Rattle.lists.proofs.Elements.{in_filter}
+use Rattle.list_facts.specs.Lists.{IsIn}
+use Rattle.list_facts.proofs.Elements.{in_filter}
 use Rattle.of_types.specs.declared.setup.Setup.{Setup}
 use Rattle.of_types.specs.Lives.{has_ended, life_in}
 use Rattle.vr_log.specs.Log.{processed, received}
@@ -19,8 +19,8 @@ use Rattle.controller_laws.proofs.Issued.{issues-take}
 use Rattle.group_controller.specs.declared.messages.ControllerSays.{ControllerSays}
 use Rattle.group_controller.specs.State.{ControllerState, committed}
 use Rattle.group_controller.specs.Settling.{command_letters, is_some_of, is_untold}
-use Rattle.rv_base.specs.declared.journal.Letter.{Letter}
-use Rattle.rv_runs.specs.declared.messages.Message.{Message}
+use Rattle.journal.specs.declared.journal.Letter.{Letter}
+use Rattle.run_spec.specs.declared.messages.Message.{Message}
 use Rattle.closing_laws.specs.Serving.{AreFew, IsAttended, IsToldLast, settled_by, told_by}
 use Rattle.closing_laws.proofs.Primary.Committing.{settled_is, told_is}
 use Rattle.closing_laws.proofs.Primary.Holding.{commanded}

@@ -6,9 +6,9 @@ use Rattle.std.specs.List.{range_with_len}
 use Rattle.std.proofs.lemmas.Bool.{and_parts, cases_lt, eq-eqb, eqb-true, le-ltb, lt-ltb, ltb-true}
 use Rattle.std.proofs.lemmas.List.Sums.{sum_by-append}
 use Rattle.std.proofs.lemmas.Option.{IfSome_then, slice_get_cases}
-use Rattle.lists.specs.Lists.{IsIn, IsPrefix}
-use Rattle.lists.proofs.Elements.{in_left}
-use Rattle.lists.proofs.Prefixes.{prefix_length, prefix_take, take_prefix}
+use Rattle.list_facts.specs.Lists.{IsIn, IsPrefix}
+use Rattle.list_facts.proofs.Elements.{in_left}
+use Rattle.list_facts.proofs.Prefixes.{prefix_length, prefix_take, take_prefix}
 use Rattle.of_types.specs.declared.message.Event.{Event}
 use Rattle.of_types.specs.declared.setup.Setup.{Setup}
 use Rattle.of_types.specs.Lives.{count_in, has_ended, life_in}
@@ -26,8 +26,8 @@ use Rattle.controller_laws.proofs.Logs.{processed_prefix, received_prefix, take_
 use Rattle.group_controller.specs.declared.messages.ControllerSays.{ControllerSays}
 use Rattle.group_controller.specs.State.{ControllerState, committed}
 use Rattle.group_controller.specs.Settling.{ack_letter, answers_at, clear_letter, is_some_of, is_untold}
-use Rattle.rv_base.specs.declared.journal.Letter.{Letter}
-use Rattle.rv_runs.specs.declared.messages.Message.{Message}
+use Rattle.journal.specs.declared.journal.Letter.{Letter}
+use Rattle.run_spec.specs.declared.messages.Message.{Message}
 use Rattle.closing_laws.specs.Serving.{IsAttended, IsToldLast, acknowledges_events, events_told, processed_by, settled_by, told_by}
 use Rattle.closing_laws.proofs.Primary.Growth.{counted_grows, log_front, places_are, processed_within, same_told}
 use Rattle.closing_laws.proofs.Primary.Holding.{IsAcknowledged, answered}

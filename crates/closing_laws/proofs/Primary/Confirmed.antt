@@ -4,15 +4,15 @@ use Rattle.std.specs.Prelude.{nat_eq, count_by, if◌then◌else◌}
 use Rattle.std.specs.List.{AllByRecursion, range_with_len}
 use Rattle.std.proofs.lemmas.Bool.{cases_eq, eq-eqb, ltb-false, ltb-true, ne_eqb, true≢false}
 use Rattle.std.proofs.lemmas.List.Sums.{sum_by-append, sum_by-cons}
-use Rattle.lists.specs.Lists.{IsIn}
-use Rattle.lists.proofs.Elements.{in_filter, in_left, in_right}
-use Rattle.lists.proofs.Prefixes.{prefix_refl}
+use Rattle.list_facts.specs.Lists.{IsIn}
+use Rattle.list_facts.proofs.Elements.{in_filter, in_left, in_right}
+use Rattle.list_facts.proofs.Prefixes.{prefix_refl}
 use Rattle.of_types.specs.declared.message.OfMessage.TheVariants as plain
 use Rattle.of_types.specs.declared.message.Spoken.TheVariants as spoken
 use Rattle.of_types.specs.declared.numbers.TheConstants.{MASTER}
 use Rattle.of_types.specs.declared.setup.Setup.{Setup}
 use Rattle.of_types.specs.Lives.{life_in}
-use Rattle.rv_base.proofs.All.{all_append}
+use Rattle.journal.proofs.All.{all_append}
 use Rattle.vr_log.specs.Log.{received}
 use Rattle.vr_log.specs.Members.{most_failures}
 use Rattle.two_stage_log.specs.Counts.{has_unprocessed}
@@ -24,8 +24,8 @@ use Rattle.group_controller.specs.declared.messages.ControllerInput.TheVariants 
 use Rattle.group_controller.specs.State.{ControllerState, Work, committed, posting, resting, with_no_met_limit}
 use Rattle.group_controller.specs.Rules.{commands_for, controller_work}
 use Rattle.group_controller.specs.Settling.{is_untold}
-use Rattle.rv_runs.specs.declared.messages.Message.{Message}
-use Rattle.rv_runs.specs.declared.messages.Message.TheVariants as message
+use Rattle.run_spec.specs.declared.messages.Message.{Message}
+use Rattle.run_spec.specs.declared.messages.Message.TheVariants as message
 use Rattle.closing_laws.specs.Serving.{AreFew, AreEventsTold, AreUntold, IsMastered, IsSaidBy, IsAttended, IsSettled, IsTrueOf, IsTruePrimary, acknowledges_events, commands_said, is_reply, is_request, processed_by, settled_by, told_by}
 use Rattle.closing_laws.proofs.Primary.Commanding.{among_due, due, few_beyond, first, numbers_due, wanting}
 use Rattle.closing_laws.proofs.Primary.Committing.{settled_is, told_is}

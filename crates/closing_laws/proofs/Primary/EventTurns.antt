@@ -3,7 +3,7 @@ use Rattle.std.proofs.Common.{◌≡◌, ◌≤◌, ◌<◌, inl, inr, ℕ, ◌+
 use Rattle.std.specs.Prelude.{nat_eq, nat_lt, nat_le, not, ◌&&◌, None, if◌then◌else◌}
 use Rattle.std.proofs.lemmas.Bool.{cases_eq, cases_lt, cases_order, eq-eqb, ltb-false}
 use Rattle.std.proofs.lemmas.List.Sums.{sum_by-append}
-use Rattle.lists.proofs.Prefixes.{prefix_refl}
+use Rattle.list_facts.proofs.Prefixes.{prefix_refl}
 use Rattle.of_types.specs.declared.message.Event.{Event}
 use Rattle.of_types.specs.declared.message.Extension.TheVariants as extension
 use Rattle.of_types.specs.declared.message.Happening.{Happening}
@@ -27,7 +27,7 @@ use Rattle.group_controller.specs.declared.messages.ControllerInput.TheVariants 
 use Rattle.group_controller.specs.State.{ControllerState, Work, committed, posting, resting, with_no_met_limit}
 use Rattle.group_controller.specs.Rules.{controller_work, on_wish}
 use Rattle.group_controller.specs.Settling.{ack_letter, after_finishing, after_proposal, is_alone, is_settled, proposing}
-use Rattle.rv_runs.specs.declared.messages.Message.{Message}
+use Rattle.run_spec.specs.declared.messages.Message.{Message}
 use Rattle.closing_laws.specs.Serving.{AreFew, IsAttended, IsSettled, IsTrueOf, IsTruePrimary, acknowledges_events, events_said, logged_of, processed_by}
 use Rattle.closing_laws.proofs.Primary.Coming.{may_come, may_not}
 use Rattle.closing_laws.proofs.Primary.Extending.{extends_none}

@@ -4,8 +4,8 @@ use Rattle.std.specs.Prelude.{nat_eq, nat_lt, nat_le, not, ◌&&◌, None, if◌
 use Rattle.std.proofs.lemmas.Bool.{and_from, and_left, and_parts, and_right, eq-eqb, le-ltb, leb-true, lt-leb, lt-ltb, ltb-true, true≢false}
 use Rattle.std.proofs.lemmas.Option.{none-some}
 use Rattle.std.proofs.lemmas.List.Sums.{sum_by-append}
-use Rattle.lists.specs.Lists.{IsPrefix}
-use Rattle.lists.proofs.Prefixes.{front_prefix, prefix_length, prefix_push, prefix_refl, prefix_trans, take_prefix}
+use Rattle.list_facts.specs.Lists.{IsPrefix}
+use Rattle.list_facts.proofs.Prefixes.{front_prefix, prefix_length, prefix_push, prefix_refl, prefix_trans, take_prefix}
 use Rattle.of_types.specs.declared.setup.Setup.{Setup}
 use Rattle.of_types.specs.Lives.{life_in}
 use Rattle.vr_log.specs.declared.entry.Entry.{Entry}
@@ -18,7 +18,7 @@ use Rattle.of_switch.specs.State.{SwitchState, life_of}
 use Rattle.controller_laws.proofs.Logs.{processed_prefix, received_prefix}
 use Rattle.group_controller.specs.State.{ControllerState, Work, committed, leaving, met_limit}
 use Rattle.group_controller.specs.Settling.{after_proposal, finishing, is_alone, is_settled, processing, with_answers, with_commands}
-use Rattle.rv_runs.specs.declared.messages.Message.{Message}
+use Rattle.run_spec.specs.declared.messages.Message.{Message}
 use Rattle.closing_laws.specs.Serving.{AreFew, IsAttended}
 use Rattle.closing_laws.proofs.Primary.Committing.{CommitsMore, more_committed}
 use Rattle.closing_laws.proofs.Primary.Growth.{log_prefix, log_pushed}

@@ -5,8 +5,8 @@ use Rattle.std.specs.List.{range_with_len}
 use Rattle.std.proofs.lemmas.Bool.{and_from, cases_lt, not_from_false, eqb-true, ne_eqb, lt-ltb, le-ltb, ltb-true, true≢false}
 use Rattle.std.proofs.lemmas.List.Sums.{sum_by-append, sum_by-cons}
 use Rattle.std.proofs.lemmas.Option.{IfSome_then}
-use Rattle.lists.specs.Lists.{IsPrefix}
-use Rattle.lists.proofs.Prefixes.{prefix_equal, prefix_length, prefix_take}
+use Rattle.list_facts.specs.Lists.{IsPrefix}
+use Rattle.list_facts.proofs.Prefixes.{prefix_equal, prefix_length, prefix_take}
 use Rattle.of_types.specs.declared.message.Event.{Event}
 use Rattle.of_types.specs.declared.setup.Setup.{Setup}
 use Rattle.of_types.specs.Lives.{life_in}

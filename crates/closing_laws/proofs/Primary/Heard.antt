@@ -4,8 +4,8 @@ use Rattle.std.specs.Prelude.{nat_le, not, ◌&&◌, Option, None, if◌then◌e
 use Rattle.std.specs.List.{range_with_len}
 use Rattle.std.proofs.lemmas.Bool.{lt-leb}
 use Rattle.std.proofs.lemmas.List.Sums.{sum_by-append, sum_by-cons}
-use Rattle.lists.specs.Lists.{IsIn}
-use Rattle.lists.proofs.Elements.{in_left, in_right}
+use Rattle.list_facts.specs.Lists.{IsIn}
+use Rattle.list_facts.proofs.Elements.{in_left, in_right}
 use Rattle.of_types.specs.declared.message.Event.{Event}
 use Rattle.of_types.specs.declared.message.Extension.TheVariants as extension
 use Rattle.of_types.specs.declared.message.Happening.{Happening}
@@ -13,7 +13,7 @@ use Rattle.of_types.specs.declared.message.Spoken.TheVariants as spoken
 use Rattle.of_types.specs.declared.setup.Setup.{Setup}
 use Rattle.of_types.specs.Lives.{count_in}
 use Rattle.of_types.proofs.Counts.{count_here}
-use Rattle.rv_base.proofs.All.{all_append}
+use Rattle.journal.proofs.All.{all_append}
 use Rattle.vr_log.specs.declared.entry.Entry.{Entry}
 use Rattle.vr_log.specs.declared.entry.Entry.TheVariants.{Received}
 use Rattle.vr_log.specs.Log.{processed, received}
@@ -25,8 +25,8 @@ use Rattle.dispatcher.specs.Marks.{settled_commands}
 use Rattle.of_switch.specs.State.{SwitchState, events_in, life_of}
 use Rattle.group_controller.specs.State.{ControllerState, committed}
 use Rattle.group_controller.specs.Settling.{is_some_of}
-use Rattle.rv_runs.specs.declared.messages.Message.{Message}
-use Rattle.rv_runs.specs.declared.messages.Message.TheVariants as message
+use Rattle.run_spec.specs.declared.messages.Message.{Message}
+use Rattle.run_spec.specs.declared.messages.Message.TheVariants as message
 use Rattle.closing_laws.specs.Serving.{AreCommanded, AreEventsTold, IsMastered, IsSaidBy, IsAttended, IsTrueOf, acknowledges_events, commands_said, events_said, is_reply, is_request, logged_of, processed_by, sent_of, settled_by, told_by}
 use Rattle.closing_laws.proofs.Primary.Coming.{coming_next}
 use Rattle.closing_laws.proofs.Primary.Telling.{AreQuiet, commands_said-append}

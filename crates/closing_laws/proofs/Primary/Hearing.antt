@@ -10,7 +10,7 @@ use Rattle.vr_log.specs.Members.{leads}
 use Rattle.group_controller.specs.declared.messages.ControllerInput.{ControllerInput}
 use Rattle.group_controller.specs.State.{ControllerState, with_no_met_limit}
 use Rattle.group_controller.specs.Rules.{controller_work, is_down, on_input, when_down}
-use Rattle.rv_laws.proofs.Members.{up_leads}
+use Rattle.run_laws.proofs.Members.{up_leads}
 use Rattle.closing_laws.specs.Quorum.{has}
 use Rattle.closing_laws.proofs.Journal.Taking.{up_not_down}
 

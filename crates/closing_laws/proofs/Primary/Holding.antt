@@ -6,13 +6,13 @@ use Rattle.std.proofs.lemmas.Bool.{cases_lt}
 use Rattle.std.proofs.lemmas.List.Sums.{sum_by-append}
 use Rattle.of_types.specs.declared.message.Event.{Event}
 use Rattle.of_types.specs.declared.setup.Setup.{Setup}
-use Rattle.lists.specs.Lists.{IsIn}
-use Rattle.lists.proofs.Elements.{in_left, in_right}
-use Rattle.rv_base.proofs.All.{all_append}
+use Rattle.list_facts.specs.Lists.{IsIn}
+use Rattle.list_facts.proofs.Elements.{in_left, in_right}
+use Rattle.journal.proofs.All.{all_append}
 use Rattle.dispatcher.specs.Marks.{has_result, is_confirmed}
 use Rattle.of_switch.specs.State.{SwitchState, events_in, life_of}
 use Rattle.group_controller.specs.State.{ControllerState}
-use Rattle.rv_runs.specs.declared.messages.Message.{Message}
+use Rattle.run_spec.specs.declared.messages.Message.{Message}
 use Rattle.closing_laws.specs.Serving.{AreCommanded, AreEventsTold, AreUntold, IsMastered, IsOlder, IsSaidBy, IsSaidIn, IsAttended, IsUnasked, acknowledges_events, asks_role, commands_said, events_said, is_reply, is_request, logged_of, processed_by, sent_of, settled_by, told_by}
 use Rattle.closing_laws.proofs.Primary.Numbering.{in_range, range_joined}
 use Rattle.closing_laws.proofs.Primary.Telling.{AreQuiet, commands_said-append}

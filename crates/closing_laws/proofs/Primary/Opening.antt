@@ -6,7 +6,7 @@ use Rattle.std.specs.List.{range_with_len}
 use Rattle.std.proofs.lemmas.Bool.{cases_eq, cases_order, eq-eqb, ne_eqb, true≢false}
 use Rattle.std.proofs.lemmas.List.{drop_all, length-take}
 use Rattle.of_types.specs.declared.setup.Setup.{Setup}
-use Rattle.rv_base.specs.declared.journal.Letter.{Letter}
+use Rattle.journal.specs.declared.journal.Letter.{Letter}
 use Rattle.vr_log.specs.declared.entry.Entry.{Entry}
 use Rattle.vr_log.specs.declared.message.VrLetter.{VrLetter}
 use Rattle.vr_log.specs.declared.state.VrState.{VrState}
@@ -17,7 +17,7 @@ use Rattle.group_controller.specs.declared.messages.ControllerSays.{ControllerSa
 use Rattle.group_controller.specs.State.{ControllerState, Work, committed, leaving, posting, to_members}
 use Rattle.group_controller.specs.Rules.{starting_view, switches}
 use Rattle.group_controller.specs.Settling.{answers_at, role_letter, settling, with_answers, with_commands}
-use Rattle.rv_runs.specs.declared.messages.Message.{Message}
+use Rattle.run_spec.specs.declared.messages.Message.{Message}
 use Rattle.closing_laws.specs.Serving.{Asks, AreFew, Extends, IsOlder, IsAttended, IsSettled, IsToldLast, IsTrueOf, IsTruePrimary, asks_role}
 use Rattle.closing_laws.proofs.Primary.Extending.{AreToOthers}
 use Rattle.closing_laws.proofs.Primary.Finishing.{AreBoundedTo, Finished}

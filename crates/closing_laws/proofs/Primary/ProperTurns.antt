@@ -13,10 +13,10 @@ use Rattle.of_types.specs.declared.message.Outcome.{Outcome}
 use Rattle.of_types.specs.declared.message.Spoken.TheVariants as spoken
 use Rattle.of_types.specs.declared.numbers.TheConstants.{MASTER}
 use Rattle.of_types.specs.declared.setup.Setup.{Setup}
-use Rattle.rv_base.specs.declared.journal.Actor.TheVariants as actor
-use Rattle.rv_base.specs.declared.journal.Letter.{Letter}
-use Rattle.lists.specs.Lists.{IsIn}
-use Rattle.lists.proofs.Elements.{in_append, in_flat_map, in_map}
+use Rattle.journal.specs.declared.journal.Actor.TheVariants as actor
+use Rattle.journal.specs.declared.journal.Letter.{Letter}
+use Rattle.list_facts.specs.Lists.{IsIn}
+use Rattle.list_facts.proofs.Elements.{in_append, in_flat_map, in_map}
 use Rattle.vr_log.specs.declared.entry.Entry.{Entry}
 use Rattle.vr_log.specs.declared.entry.Entry.TheVariants.{Received}
 use Rattle.vr_log.specs.declared.message.VrLetter.{VrLetter}
@@ -40,7 +40,7 @@ use Rattle.group_controller.specs.declared.messages.ControllerSays.{ControllerSa
 use Rattle.group_controller.specs.State.{ControllerState, Work, committed, leaving, met_limit, posting, resting, stepped, to_member, to_members, with_no_met_limit}
 use Rattle.group_controller.specs.Settling.{ack_letter, after_finishing, after_proposal, answers_at, clear_letter, command_letter, command_letters, finishing, goes_on, is_alone, is_settled, is_untold, processing, proposing, settling, with_answers, with_commands, with_proposal}
 use Rattle.group_controller.specs.Rules.{after_step, commands_for, controller_work, on_input, on_master, on_result, on_role_reply, on_spoken, on_wish, starting_view}
-use Rattle.rv_laws.proofs.Members.{up_leads}
+use Rattle.run_laws.proofs.Members.{up_leads}
 use Rattle.closing_laws.proofs.Journal.Taking.{member_work, By_message}
 use Rattle.closing_laws.proofs.Lists.Numbers.{below_has, in_has}
 use Rattle.closing_laws.proofs.Primary.Hearing.{leader_up}

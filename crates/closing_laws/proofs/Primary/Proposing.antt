@@ -5,7 +5,7 @@ use Rattle.std.proofs.Math.Seq.{drop-append_seam}
 use Rattle.std.proofs.lemmas.Bool.{eqb-true, eqb-false, true≢false}
 use Rattle.std.proofs.lemmas.List.{take-append-le, length-take-le}
 use Rattle.of_types.specs.declared.setup.Setup.{Setup}
-use Rattle.rv_base.specs.declared.journal.Letter.{Letter}
+use Rattle.journal.specs.declared.journal.Letter.{Letter}
 use Rattle.vr_log.specs.declared.entry.Entry.{Entry}
 use Rattle.vr_log.specs.declared.message.VrMessage.TheVariants as vr
 use Rattle.vr_log.specs.declared.state.VrState.{VrState}
@@ -18,7 +18,7 @@ use Rattle.of_switch.specs.State.{SwitchState}
 use Rattle.group_controller.specs.declared.messages.ControllerSays.{ControllerSays}
 use Rattle.group_controller.specs.State.{ControllerState, Work, committed, leaving, met_limit, to_members}
 use Rattle.group_controller.specs.Settling.{after_proposal, command_letters, is_alone, is_some_of, is_untold, with_answers, with_commands}
-use Rattle.rv_runs.specs.declared.messages.Message.{Message}
+use Rattle.run_spec.specs.declared.messages.Message.{Message}
 use Rattle.closing_laws.specs.Following.{ArePrepares}
 use Rattle.closing_laws.specs.Serving.{AreFew, Extends, IsAttended, IsToldLast}
 use Rattle.closing_laws.proofs.Primary.Committing.{CommitsMore}

@@ -4,7 +4,7 @@ use Rattle.std.specs.Prelude.{nat_eq, nat_lt, nat_le, ◌&&◌, ◌||◌, count_
 use Rattle.std.proofs.lemmas.Bool.{and_from, and_parts, cases_eq, eq-eqb, eqb-true, le-leb, lt-ltb, or_cases, or_left, or_right, true≢false}
 use Rattle.std.proofs.lemmas.List.Folds.{list_any-append}
 use Rattle.std.proofs.lemmas.List.Sums.{sum_by-cons}
-use Rattle.lists.proofs.Prefixes.{front_prefix}
+use Rattle.list_facts.proofs.Prefixes.{front_prefix}
 use Rattle.of_types.specs.declared.message.Extension.TheVariants as extension
 use Rattle.of_types.specs.declared.message.Outcome.{Outcome}
 use Rattle.of_types.specs.declared.message.Spoken.TheVariants as spoken
@@ -19,8 +19,8 @@ use Rattle.group_controller.specs.declared.messages.ControllerInput.TheVariants 
 use Rattle.group_controller.specs.State.{ControllerState, Work, committed, resting, with_no_met_limit}
 use Rattle.group_controller.specs.Rules.{controller_work}
 use Rattle.group_controller.specs.Settling.{after_finishing}
-use Rattle.rv_runs.specs.declared.messages.Message.{Message}
-use Rattle.rv_runs.specs.declared.messages.Message.TheVariants as message
+use Rattle.run_spec.specs.declared.messages.Message.{Message}
+use Rattle.run_spec.specs.declared.messages.Message.TheVariants as message
 use Rattle.closing_laws.specs.Serving.{AreCommanded, AreFew, AreEventsTold, IsMastered, IsAttended, IsSettled, IsTrueOf, IsTruePrimary, events_told, is_reply, results_said, settled_by}
 use Rattle.closing_laws.proofs.Primary.Committing.{told_is}
 use Rattle.closing_laws.proofs.Primary.Extending.{extends_none}

@@ -2,12 +2,12 @@
 use Rattle.std.proofs.Common.{◌≡◌, ◌≤◌, ◌<◌, ℕ, Bool, true, false, List, [], ◌∷◌, ◌++◌, length, map, drop, flat_map, refl, sym, ◌∙◌, ap, subst, arith, append-nil, append_assoc}
 use Rattle.std.specs.Prelude.{Some, if◌then◌else◌}
 use Rattle.std.proofs.Math.Seq.{drop-append_seam}
-use Rattle.lists.specs.Lists.{IsPrefix}
-use Rattle.lists.proofs.Prefixes.{front_prefix, prefix_trans, take_prefix}
+use Rattle.list_facts.specs.Lists.{IsPrefix}
+use Rattle.list_facts.proofs.Prefixes.{front_prefix, prefix_trans, take_prefix}
 use Rattle.of_types.specs.declared.setup.Setup.{Setup}
 use Rattle.of_types.specs.Lives.{life_in}
-use Rattle.rv_base.specs.declared.journal.Actor.TheVariants as actor
-use Rattle.rv_base.specs.declared.journal.Letter.{Letter}
+use Rattle.journal.specs.declared.journal.Actor.TheVariants as actor
+use Rattle.journal.specs.declared.journal.Letter.{Letter}
 use Rattle.vr_log.specs.declared.entry.Entry.{Entry}
 use Rattle.vr_log.specs.Log.{is_log, processed, received}
 use Rattle.app_core.specs.Chain.{concat}
@@ -22,8 +22,8 @@ use Rattle.controller_laws.proofs.Logs.{processed_prefix, received_prefix}
 use Rattle.group_controller.specs.declared.messages.ControllerSays.{ControllerSays}
 use Rattle.group_controller.specs.State.{ControllerState, Work, committed}
 use Rattle.group_controller.specs.Settling.{ack_letter, answers_at, clear_letter, command_letters, is_untold, with_answers, with_commands}
-use Rattle.rv_runs.specs.declared.messages.Message.{Message}
-use Rattle.rv_runs.specs.States.{controller_message}
+use Rattle.run_spec.specs.declared.messages.Message.{Message}
+use Rattle.run_spec.specs.States.{controller_message}
 use Rattle.closing_laws.specs.Serving.{AreFew, IsAttended, IsToldLast, IsTrueOf}
 use Rattle.closing_laws.specs.Ways.{told_to}
 use Rattle.closing_laws.proofs.Primary.Commanding.{is_told, now_served, told_now_last}

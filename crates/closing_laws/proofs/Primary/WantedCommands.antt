@@ -4,7 +4,7 @@ use Rattle.std.proofs.Common.{◌≡◌, ◌<◌, ℕ, Bool, true, false, List, 
 use Rattle.std.specs.Prelude.{not, ◌&&◌, slice_index_or}
 use Rattle.std.proofs.lemmas.Bool.{lt-ltb, ltb-false, ltb-true, true≢false}
 use Rattle.std.proofs.lemmas.List.{get_or_append_left}
-use Rattle.lists.specs.Lists.{IsPrefix, IsIn}
+use Rattle.list_facts.specs.Lists.{IsPrefix, IsIn}
 use Rattle.of_types.specs.declared.message.Event.{Event}
 use Rattle.of_types.specs.declared.setup.Setup.{Setup}
 use Rattle.of_types.specs.Lives.{has_ended, life_in}
@@ -18,7 +18,7 @@ use Rattle.controller_laws.proofs.Issued.{issues_prefix, none_past}
 use Rattle.controller_laws.proofs.Logs.{received_prefix}
 use Rattle.dispatcher.specs.Marks.{Marks, has_result, is_wanted, wanted}
 use Rattle.closing_laws.proofs.Primary.Growth.{life_grows}
-use Rattle.lists.proofs.Elements.{filter_has, filter_passes, in_filter}
+use Rattle.list_facts.proofs.Elements.{filter_has, filter_passes, in_filter}
 
 module _ {A : Type 0} where
   none_there : (xs : List A) → ((x : A) → IsIn x xs → ⊥) → xs ≡ []

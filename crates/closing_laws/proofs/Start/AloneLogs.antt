@@ -2,10 +2,10 @@
 use Rattle.std.proofs.Common.{◌≡◌, ◌<◌, inl, inr, ℕ, suc, ◌+◌, ◌*◌, Bool, true, false, List, [], ◌++◌, take, drop, refl, sym, ◌∙◌, ap, subst, arith, take-append-drop}
 use Rattle.std.specs.Prelude.{if◌then◌else◌}
 use Rattle.of_types.specs.Setups.{IsSetup}
-use Rattle.rv_base.specs.declared.journal.JournalEntry.{JournalEntry}
-use Rattle.rv_base.specs.declared.journal.SaveResult.{SaveResult}
-use Rattle.lists.specs.Lists.{IsPrefix}
-use Rattle.lists.proofs.Prefixes.{front_prefix, prefix_nil, prefix_trans}
+use Rattle.journal.specs.declared.journal.JournalEntry.{JournalEntry}
+use Rattle.journal.specs.declared.journal.SaveResult.{SaveResult}
+use Rattle.list_facts.specs.Lists.{IsPrefix}
+use Rattle.list_facts.proofs.Prefixes.{front_prefix, prefix_nil, prefix_trans}
 use Rattle.agreement.specs.History.{Group, State}
 use Rattle.agreement.specs.Invariant as agreed
 use Rattle.agreement.specs.Journals as journal
@@ -15,23 +15,23 @@ use Rattle.vr_log.specs.declared.entry.Entry.{Entry}
 use Rattle.vr_log.specs.declared.state.Status.{Status}
 use Rattle.vr_log.specs.declared.state.Status.TheVariants.{Normal, ViewChange, Recovering, Down}
 use Rattle.vr_log.specs.Members.{is_up}
-use Rattle.members.specs.Projection.{group_of, state_of, status_of}
-use Rattle.controllers.specs.Projection.{OwnInput}
-use Rattle.controllers.specs.Rules.{SavingController}
-use Rattle.controllers.proofs.Following.{follow_law}
+use Rattle.member_moves.specs.Projection.{group_of, state_of, status_of}
+use Rattle.controller_moves.specs.Projection.{OwnInput}
+use Rattle.controller_moves.specs.Rules.{SavingController}
+use Rattle.controller_moves.proofs.Following.{follow_law}
 use Rattle.group_controller.specs.State.{committed}
-use Rattle.rv_runs.specs.States.{Scene, IsFaithful}
-use Rattle.rv_runs.specs.Legal.{IsPossible, results_of}
-use Rattle.rv_runs.specs.Committed.{controller_state, decided, kept}
-use Rattle.rv_agreement.specs.Projection.{past_of, rules_of}
-use Rattle.rv_agreement.specs.Reading.{WhereValid}
-use Rattle.rv_agreement.proofs.Agreeing.{past_on}
-use Rattle.rv_agreement.proofs.Journals.{in_group}
-use Rattle.rv_agreement.proofs.Lasting.{decided_kept}
-use Rattle.rv_agreement.proofs.Reading.{IsReadPast, read_drop, read_past}
-use Rattle.rv_agreement.proofs.Standing.{stands_alike}
-use Rattle.rv_laws.proofs.Events.{events_valid}
-use Rattle.rv_laws.proofs.Laws.{always}
+use Rattle.run_spec.specs.States.{Scene, IsFaithful}
+use Rattle.run_spec.specs.Legal.{IsPossible, results_of}
+use Rattle.run_spec.specs.Committed.{controller_state, decided, kept}
+use Rattle.run_agreement.specs.Projection.{past_of, rules_of}
+use Rattle.run_agreement.specs.Reading.{WhereValid}
+use Rattle.run_agreement.proofs.Agreeing.{past_on}
+use Rattle.run_agreement.proofs.Journals.{in_group}
+use Rattle.run_agreement.proofs.Lasting.{decided_kept}
+use Rattle.run_agreement.proofs.Reading.{IsReadPast, read_drop, read_past}
+use Rattle.run_agreement.proofs.Standing.{stands_alike}
+use Rattle.run_laws.proofs.Events.{events_valid}
+use Rattle.run_laws.proofs.Laws.{always}
 
 pub status_up : (s : Status) → elim s [ Normal ↦ true | ViewChange ↦ true | Recovering ↦ false | Down ↦ false ] ≡ true → agreed.is_up (status_of s) ≡ true
 status_up Normal h = refl

@@ -5,24 +5,24 @@ use Rattle.std.specs.List.{AllByRecursion, range_with_len}
 use Rattle.std.proofs.lemmas.Bool.{le-ltb, cases_eq}
 use Rattle.std.proofs.lemmas.List.Sums.{sum_by-append}
 use Rattle.of_types.specs.Setups.{IsSetup}
-use Rattle.rv_base.specs.declared.journal.Actor.{Actor}
-use Rattle.rv_base.specs.declared.journal.Actor.TheVariants as actor
-use Rattle.rv_base.specs.declared.journal.JournalEntry.{JournalEntry}
-use Rattle.rv_base.specs.declared.journal.JournalEntry.TheVariants.{Post, Draw, Lose, Local, Idle, Refused}
-use Rattle.rv_base.specs.declared.journal.Letter.{Letter}
-use Rattle.rv_base.specs.declared.journal.Packet.{Packet}
-use Rattle.rv_base.specs.declared.journal.SaveResult.{SaveResult}
-use Rattle.rv_base.specs.Part.{part}
-use Rattle.rv_base.specs.Pool.{pool}
-use Rattle.rv_base.specs.Turns.{IsWithinLimits}
+use Rattle.journal.specs.declared.journal.Actor.{Actor}
+use Rattle.journal.specs.declared.journal.Actor.TheVariants as actor
+use Rattle.journal.specs.declared.journal.JournalEntry.{JournalEntry}
+use Rattle.journal.specs.declared.journal.JournalEntry.TheVariants.{Post, Draw, Lose, Local, Idle, Refused}
+use Rattle.journal.specs.declared.journal.Letter.{Letter}
+use Rattle.journal.specs.declared.journal.Packet.{Packet}
+use Rattle.journal.specs.declared.journal.SaveResult.{SaveResult}
+use Rattle.journal.specs.Part.{part}
+use Rattle.journal.specs.Pool.{pool}
+use Rattle.journal.specs.Turns.{IsWithinLimits}
 use Rattle.vr_log.specs.declared.state.VrState.{VrState}
 use Rattle.vr_log.specs.Members.{is_up, others_below}
 use Rattle.group_controller.specs.State.{ControllerState}
-use Rattle.rv_runs.specs.States.{Scene, IsFaithful}
-use Rattle.rv_runs.specs.Legal.{IsPossible, results_of}
-use Rattle.rv_runs.specs.Committed.{controller_state, switch_state, states_of, members_up}
-use Rattle.rv_runs.specs.Schedule.{Answer, Phase, Losing, Suspecting, Draining, Move, Ends, NoQuorum, ClosesTo, IsEnd, IsInputOf, IsMove, IsPosted, after_member, count_turns, is_turn, majority, next_move, next_lost, next_suspicion}
-use Rattle.rv_laws.proofs.Members.{owned_at}
+use Rattle.run_spec.specs.States.{Scene, IsFaithful}
+use Rattle.run_spec.specs.Legal.{IsPossible, results_of}
+use Rattle.run_spec.specs.Committed.{controller_state, switch_state, states_of, members_up}
+use Rattle.run_spec.specs.Schedule.{Answer, Phase, Losing, Suspecting, Draining, Move, Ends, NoQuorum, ClosesTo, IsEnd, IsInputOf, IsMove, IsPosted, after_member, count_turns, is_turn, majority, next_move, next_lost, next_suspicion}
+use Rattle.run_laws.proofs.Members.{owned_at}
 use Rattle.closing_laws.specs.Quorum.{has, IsQuorum}
 use Rattle.closing_laws.specs.Draining.{GroupState, all_suspected, resting}
 use Rattle.closing_laws.specs.Views.{HasBest, IsCovered, IsReadyMember, in_view, lacks, turns_to_start}

@@ -3,10 +3,10 @@ use Rattle.std.proofs.Common.{◌≡◌, ◌<◌, inr, ℕ, ◌/◌, Bool, true,
 use Rattle.std.specs.Prelude.{nat_eq}
 use Rattle.std.proofs.lemmas.Bool.{eqb-true}
 use Rattle.of_types.specs.Setups.{IsSetup}
-use Rattle.rv_base.specs.declared.journal.JournalEntry.{JournalEntry}
-use Rattle.rv_base.specs.declared.journal.SaveResult.{SaveResult}
-use Rattle.lists.specs.Lists.{IsPrefix}
-use Rattle.lists.proofs.Prefixes.{prefix_trans}
+use Rattle.journal.specs.declared.journal.JournalEntry.{JournalEntry}
+use Rattle.journal.specs.declared.journal.SaveResult.{SaveResult}
+use Rattle.list_facts.specs.Lists.{IsPrefix}
+use Rattle.list_facts.proofs.Prefixes.{prefix_trans}
 use Rattle.agreement.specs.Decided as decision
 use Rattle.agreement.specs.History.{State, size}
 use Rattle.agreement.specs.Invariant as agreed
@@ -15,12 +15,12 @@ use Rattle.agreement.proofs.Leading.{best_begins, decided_certified}
 use Rattle.vr_log.specs.declared.entry.Entry.{Entry}
 use Rattle.vr_log.specs.declared.state.VrState.{VrState}
 use Rattle.vr_log.specs.Choosing.{length_of}
-use Rattle.members.specs.Projection.{state_of}
-use Rattle.controllers.proofs.Following.{follow_law}
-use Rattle.rv_runs.specs.States.{Scene, IsFaithful}
-use Rattle.rv_runs.specs.Legal.{IsPossible, results_of}
-use Rattle.rv_runs.specs.Committed.{decided}
-use Rattle.rv_agreement.proofs.Leading.{decided_begins}
+use Rattle.member_moves.specs.Projection.{state_of}
+use Rattle.controller_moves.proofs.Following.{follow_law}
+use Rattle.run_spec.specs.States.{Scene, IsFaithful}
+use Rattle.run_spec.specs.Legal.{IsPossible, results_of}
+use Rattle.run_spec.specs.Committed.{decided}
+use Rattle.run_agreement.proofs.Leading.{decided_begins}
 use Rattle.closing_laws.specs.Quorum.{has}
 use Rattle.closing_laws.specs.Starts.{members_at}
 use Rattle.closing_laws.specs.Views.{HasBest, IsReadyMember, log_of}

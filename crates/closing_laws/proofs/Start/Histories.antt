@@ -1,8 +1,8 @@
 -- What the laws of agreement make of a past of a group of several, where all have posted.
 use Rattle.std.proofs.Common.{◌≡◌, ◌≤◌, ◌<◌, ℕ, suc, ◌+◌, ◌*◌, ◌/◌, List, ◌++◌, ap, ◌∙◌, arith}
 use Rattle.of_types.specs.Setups.{IsSetup}
-use Rattle.rv_base.specs.declared.journal.JournalEntry.{JournalEntry}
-use Rattle.rv_base.specs.declared.journal.SaveResult.{SaveResult}
+use Rattle.journal.specs.declared.journal.JournalEntry.{JournalEntry}
+use Rattle.journal.specs.declared.journal.SaveResult.{SaveResult}
 use Rattle.actor_fold.specs.Fold.{Standing}
 use Rattle.agreement.specs.History.{Group, History, Letter, size}
 use Rattle.agreement.specs.Invariant.{Invariant}
@@ -10,22 +10,22 @@ use Rattle.agreement.specs.Journals as journal
 use Rattle.agreement.specs.Journals.{Rules, firm}
 use Rattle.agreement.proofs.Agreeing.{journal_good}
 use Rattle.vr_log.specs.declared.entry.Entry.{Entry}
-use Rattle.members.specs.Projection.{group_of, state_of}
-use Rattle.controllers.specs.Projection.{OwnInput}
-use Rattle.controllers.specs.Rules.{SavingController}
-use Rattle.controllers.proofs.Following.{follow_law}
-use Rattle.rv_runs.specs.States.{Scene, IsFaithful}
-use Rattle.rv_runs.specs.Legal.{IsPossible, results_of}
-use Rattle.rv_runs.specs.Committed.{controller_state}
-use Rattle.rv_agreement.specs.Projection.{past_of, rules_of}
-use Rattle.rv_agreement.specs.Reading.{WhereValid}
-use Rattle.rv_agreement.proofs.Groups.{odd_law}
-use Rattle.rv_agreement.proofs.Journals.{in_group, past_legal}
-use Rattle.rv_agreement.proofs.Leading.{posting, posting_legal, posting_stands}
-use Rattle.rv_agreement.proofs.Reading.{IsReadPast, read_past}
-use Rattle.rv_agreement.proofs.Standing.{stands_alike}
-use Rattle.rv_laws.proofs.Events.{events_valid}
-use Rattle.rv_laws.proofs.Laws.{always}
+use Rattle.member_moves.specs.Projection.{group_of, state_of}
+use Rattle.controller_moves.specs.Projection.{OwnInput}
+use Rattle.controller_moves.specs.Rules.{SavingController}
+use Rattle.controller_moves.proofs.Following.{follow_law}
+use Rattle.run_spec.specs.States.{Scene, IsFaithful}
+use Rattle.run_spec.specs.Legal.{IsPossible, results_of}
+use Rattle.run_spec.specs.Committed.{controller_state}
+use Rattle.run_agreement.specs.Projection.{past_of, rules_of}
+use Rattle.run_agreement.specs.Reading.{WhereValid}
+use Rattle.run_agreement.proofs.Groups.{odd_law}
+use Rattle.run_agreement.proofs.Journals.{in_group, past_legal}
+use Rattle.run_agreement.proofs.Leading.{posting, posting_legal, posting_stands}
+use Rattle.run_agreement.proofs.Reading.{IsReadPast, read_past}
+use Rattle.run_agreement.proofs.Standing.{stands_alike}
+use Rattle.run_laws.proofs.Events.{events_valid}
+use Rattle.run_laws.proofs.Laws.{always}
 
 module _ {B : Type 0} (scene : Scene B) (results : List (List SaveResult)) (setup : IsSetup scene.setup) (faithful : IsFaithful scene.sealing) (P : List (JournalEntry B)) (possible : IsPossible scene results P)
     (several : 0 < scene.setup.controllers / 2) where

@@ -6,8 +6,8 @@ use Rattle.std.proofs.lemmas.Nat.{mod-mul-add}
 use Rattle.std.proofs.lemmas.Bool.{cases_lt, both_ways}
 use Rattle.vr_log.specs.Members.{is_up}
 use Rattle.group_controller.specs.State.{ControllerState}
-use Rattle.rv_runs.specs.Committed.{members_up}
-use Rattle.rv_runs.specs.Schedule.{bound_of, first_view, closing_view}
+use Rattle.run_spec.specs.Committed.{members_up}
+use Rattle.run_spec.specs.Schedule.{bound_of, first_view, closing_view}
 use Rattle.closing_laws.specs.Quorum.{has, AreBelow, HasTheLeastView}
 
 -- among as many views as a group has members each member leads one

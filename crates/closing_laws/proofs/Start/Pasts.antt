@@ -2,17 +2,17 @@
 use Rattle.std.proofs.Common.{◌≡◌, ◌≤◌, ℕ, zero, suc, ◌+◌, ◌/◌, ◌%◌, Bool, true, List, [], ◌∷◌, length, map, refl, sym, ◌∙◌, ap, arith}
 use Rattle.std.specs.Prelude.{filter, if◌then◌else◌}
 use Rattle.std.specs.List.{range_with_len}
-use Rattle.rv_base.specs.declared.journal.Actor.TheVariants as actor
-use Rattle.rv_base.specs.declared.journal.JournalEntry.{JournalEntry}
-use Rattle.rv_base.specs.declared.journal.SaveResult.{SaveResult}
-use Rattle.rv_base.specs.Part.{part}
+use Rattle.journal.specs.declared.journal.Actor.TheVariants as actor
+use Rattle.journal.specs.declared.journal.JournalEntry.{JournalEntry}
+use Rattle.journal.specs.declared.journal.SaveResult.{SaveResult}
+use Rattle.journal.specs.Part.{part}
 use Rattle.vr_log.specs.Members.{is_up, others_below}
 use Rattle.group_controller.specs.State.{ControllerState}
-use Rattle.rv_runs.specs.States.{Scene}
-use Rattle.rv_runs.specs.Legal.{results_of}
-use Rattle.rv_runs.specs.Committed.{controller_state, states_of, members_up}
-use Rattle.rv_runs.specs.Schedule.{closing_view, majority}
-use Rattle.rv_laws.proofs.Members.{owned_at}
+use Rattle.run_spec.specs.States.{Scene}
+use Rattle.run_spec.specs.Legal.{results_of}
+use Rattle.run_spec.specs.Committed.{controller_state, states_of, members_up}
+use Rattle.run_spec.specs.Schedule.{closing_view, majority}
+use Rattle.run_laws.proofs.Members.{owned_at}
 use Rattle.closing_laws.specs.Quorum.{has, HasAQuorum, HasTheLeastView, WhereMostAreUp, members_that_close}
 use Rattle.closing_laws.proofs.Lists.Numbers.{has_here, filter_has, below_has}
 use Rattle.closing_laws.proofs.Lists.Picked.{below_range, quorum_of_picked}

@@ -3,15 +3,15 @@ use Rattle.std.proofs.Common.{◌≡◌, ◌<◌, ◌⊎◌, inl, inr, ℕ, ◌%
 use Rattle.std.specs.Prelude.{nat_eq, None, if◌then◌else◌}
 use Rattle.std.proofs.lemmas.Bool.{eq-eqb, eqb-false, ne_eqb}
 use Rattle.of_types.specs.Setups.{IsSetup}
-use Rattle.rv_base.specs.declared.journal.Actor.{Actor}
-use Rattle.rv_base.specs.declared.journal.Actor.TheVariants as actor
-use Rattle.rv_base.specs.declared.journal.JournalEntry.{JournalEntry}
-use Rattle.rv_base.specs.declared.journal.JournalEntry.TheVariants.{Post, Draw, Lose, Local, Idle, Refused}
-use Rattle.rv_base.specs.declared.journal.Letter.{Letter}
-use Rattle.rv_base.specs.declared.journal.Packet.{Packet}
-use Rattle.rv_base.specs.declared.journal.SaveResult.{SaveResult}
-use Rattle.rv_base.specs.Pool.{pool, numbered}
-use Rattle.rv_base.specs.Turns.{IsWithinLimits}
+use Rattle.journal.specs.declared.journal.Actor.{Actor}
+use Rattle.journal.specs.declared.journal.Actor.TheVariants as actor
+use Rattle.journal.specs.declared.journal.JournalEntry.{JournalEntry}
+use Rattle.journal.specs.declared.journal.JournalEntry.TheVariants.{Post, Draw, Lose, Local, Idle, Refused}
+use Rattle.journal.specs.declared.journal.Letter.{Letter}
+use Rattle.journal.specs.declared.journal.Packet.{Packet}
+use Rattle.journal.specs.declared.journal.SaveResult.{SaveResult}
+use Rattle.journal.specs.Pool.{pool, numbered}
+use Rattle.journal.specs.Turns.{IsWithinLimits}
 use Rattle.vr_log.specs.declared.state.VrState.{VrState}
 use Rattle.vr_log.specs.Choosing.{greatest_commit}
 use Rattle.vr_log.specs.Log.{is_log}
@@ -20,13 +20,13 @@ use Rattle.view_change.specs.Entering.{tells_start}
 use Rattle.group_controller.specs.declared.messages.ControllerSays.{ControllerSays}
 use Rattle.group_controller.specs.State.{ControllerState, Work, with_no_met_limit}
 use Rattle.group_controller.specs.Rules.{after_step}
-use Rattle.rv_runs.specs.declared.messages.Unsealed.TheVariants as unsealed
-use Rattle.rv_runs.specs.Committed.{switch_state}
-use Rattle.rv_runs.specs.States.{Scene, IsFaithful, ControllerAt, content, controller_message, sealed_letters}
-use Rattle.rv_runs.specs.Legal.{IsPossible}
-use Rattle.rv_runs.specs.Schedule.{Answer, IsEnd, Phase, Draining, Move, ClosesTo, IsMove, IsPosted, after_member, count_turns, drained, next_move}
-use Rattle.rv_runs.proofs.Pasts.{possible_before, self_controller}
-use Rattle.rv_agreement.proofs.Pasts.{fits}
+use Rattle.run_spec.specs.declared.messages.Unsealed.TheVariants as unsealed
+use Rattle.run_spec.specs.Committed.{switch_state}
+use Rattle.run_spec.specs.States.{Scene, IsFaithful, ControllerAt, content, controller_message, sealed_letters}
+use Rattle.run_spec.specs.Legal.{IsPossible}
+use Rattle.run_spec.specs.Schedule.{Answer, IsEnd, Phase, Draining, Move, ClosesTo, IsMove, IsPosted, after_member, count_turns, drained, next_move}
+use Rattle.run_spec.proofs.Pasts.{possible_before, self_controller}
+use Rattle.run_agreement.proofs.Pasts.{fits}
 use Rattle.closing_laws.specs.Quorum.{has}
 use Rattle.closing_laws.specs.Draining.{Flight, GroupState}
 use Rattle.closing_laws.specs.Views.{IsReadyMember, log_of, started_with, tellers}

@@ -6,20 +6,20 @@ use Rattle.std.proofs.lemmas.Bool.{eqb-true, eqb-false, ne_eqb}
 use Rattle.std.proofs.lemmas.List.{length-append, length-map}
 use Rattle.std.proofs.lemmas.List.Sums.{sum_by-cons}
 use Rattle.of_types.specs.Setups.{IsSetup}
-use Rattle.rv_base.specs.declared.journal.Actor.{Actor}
-use Rattle.rv_base.specs.declared.journal.Actor.TheVariants as actor
-use Rattle.rv_base.specs.declared.journal.JournalEntry.{JournalEntry}
-use Rattle.rv_base.specs.declared.journal.JournalEntry.TheVariants.{Post, Draw, Lose, Local, Idle, Refused}
-use Rattle.rv_base.specs.declared.journal.Letter.{Letter}
-use Rattle.rv_base.specs.declared.journal.Local.TheVariants as local
-use Rattle.rv_base.specs.declared.journal.Packet.{Packet}
-use Rattle.rv_base.specs.declared.journal.SaveResult.{SaveResult}
-use Rattle.rv_base.specs.declared.journal.SaveResult.TheVariants.{Saved}
-use Rattle.rv_base.specs.Actors.{actor_of}
-use Rattle.rv_base.specs.Part.{packet_of, part}
-use Rattle.rv_base.specs.Pool.{pool, numbered, letters_posted, without}
-use Rattle.rv_base.specs.Turns.{IsWithinLimits}
-use Rattle.rv_base.proofs.Pools.{Rising, Rising-pool}
+use Rattle.journal.specs.declared.journal.Actor.{Actor}
+use Rattle.journal.specs.declared.journal.Actor.TheVariants as actor
+use Rattle.journal.specs.declared.journal.JournalEntry.{JournalEntry}
+use Rattle.journal.specs.declared.journal.JournalEntry.TheVariants.{Post, Draw, Lose, Local, Idle, Refused}
+use Rattle.journal.specs.declared.journal.Letter.{Letter}
+use Rattle.journal.specs.declared.journal.Local.TheVariants as local
+use Rattle.journal.specs.declared.journal.Packet.{Packet}
+use Rattle.journal.specs.declared.journal.SaveResult.{SaveResult}
+use Rattle.journal.specs.declared.journal.SaveResult.TheVariants.{Saved}
+use Rattle.journal.specs.Actors.{actor_of}
+use Rattle.journal.specs.Part.{packet_of, part}
+use Rattle.journal.specs.Pool.{pool, numbered, letters_posted, without}
+use Rattle.journal.specs.Turns.{IsWithinLimits}
+use Rattle.journal.proofs.Pools.{Rising, Rising-pool}
 use Rattle.vr_log.specs.declared.message.VrLetter.{VrLetter}
 use Rattle.vr_log.specs.declared.message.VrMessage.{VrMessage}
 use Rattle.vr_log.specs.declared.state.VrState.{VrState}
@@ -28,24 +28,24 @@ use Rattle.vr_log.specs.Steps.{VrStep}
 use Rattle.vr_core.specs.declared.input.VrInput.{VrInput}
 use Rattle.vr_core.specs.declared.input.VrInput.TheVariants as vr_input
 use Rattle.vr_core.specs.Step.{vr_step}
-use Rattle.controllers.specs.Spelling.{IsValidTo}
+use Rattle.controller_moves.specs.Spelling.{IsValidTo}
 use Rattle.group_controller.specs.declared.messages.ControllerInput.{ControllerInput}
 use Rattle.group_controller.specs.declared.messages.ControllerInput.TheVariants as controller_input
 use Rattle.group_controller.specs.declared.messages.ControllerSays.{ControllerSays}
 use Rattle.group_controller.specs.State.{ControllerState, Work, stepped, to_member, to_members, with_no_met_limit}
 use Rattle.group_controller.specs.Rules.{after_step, controller_work}
-use Rattle.rv_runs.specs.declared.messages.Unsealed.{Unsealed}
-use Rattle.rv_runs.specs.Committed.{switch_state}
-use Rattle.rv_runs.specs.Messages.{FitsMessage}
-use Rattle.rv_runs.specs.States.{Scene, IsFaithful, ControllerAt, content, controller_hears, controller_message, sealed_letters}
-use Rattle.rv_runs.specs.Legal.{IsPossible, results_of}
-use Rattle.rv_runs.specs.Schedule.{Answer, IsEnd, Phase, Suspecting, Draining, Losing, Move, Takes, ClosesTo, IsInputOf, IsMove, IsPosted, after_member, after_move, count_turns, drained, is_drawn, is_turn, met_by, next_drained, next_move}
-use Rattle.rv_runs.proofs.Pasts.{possible_before, self_controller}
-use Rattle.rv_agreement.proofs.Pasts.{fits}
-use Rattle.rv_agreement.proofs.Spelling.{all_spelled}
-use Rattle.rv_laws.proofs.Events.{events_valid}
-use Rattle.rv_laws.proofs.Laws.{always}
-use Rattle.rv_laws.proofs.Members.{owned_at}
+use Rattle.run_spec.specs.declared.messages.Unsealed.{Unsealed}
+use Rattle.run_spec.specs.Committed.{switch_state}
+use Rattle.run_spec.specs.Messages.{FitsMessage}
+use Rattle.run_spec.specs.States.{Scene, IsFaithful, ControllerAt, content, controller_hears, controller_message, sealed_letters}
+use Rattle.run_spec.specs.Legal.{IsPossible, results_of}
+use Rattle.run_spec.specs.Schedule.{Answer, IsEnd, Phase, Suspecting, Draining, Losing, Move, Takes, ClosesTo, IsInputOf, IsMove, IsPosted, after_member, after_move, count_turns, drained, is_drawn, is_turn, met_by, next_drained, next_move}
+use Rattle.run_spec.proofs.Pasts.{possible_before, self_controller}
+use Rattle.run_agreement.proofs.Pasts.{fits}
+use Rattle.run_agreement.proofs.Spelling.{all_spelled}
+use Rattle.run_laws.proofs.Events.{events_valid}
+use Rattle.run_laws.proofs.Laws.{always}
+use Rattle.run_laws.proofs.Members.{owned_at}
 use Rattle.closing_laws.specs.Quorum.{has}
 use Rattle.closing_laws.specs.Draining.{Flight, GroupState, flown, suspected, took}
 use Rattle.closing_laws.specs.Starts.{SavesSucceed}

@@ -5,8 +5,8 @@ use Rattle.std.specs.List.{AllByRecursion}
 use Rattle.std.proofs.lemmas.Bool.{cases_lt, eq-eqb, le-ltb, lt-ltb}
 use Rattle.std.proofs.lemmas.List.{map-append}
 use Rattle.of_types.specs.declared.message.Event.{Event}
-use Rattle.rv_base.specs.declared.journal.Letter.{Letter}
-use Rattle.lists.proofs.Prefixes.{append_filter}
+use Rattle.journal.specs.declared.journal.Letter.{Letter}
+use Rattle.list_facts.proofs.Prefixes.{append_filter}
 use Rattle.event_buffer.specs.Buffer.{Buffer, cleared_to, most_held}
 use Rattle.of_switch.specs.declared.says.SwitchSays.{SwitchSays}
 use Rattle.of_switch.specs.State.{SwitchState, SwitchTurn, events_in, life_of, number_of}

@@ -9,10 +9,10 @@ use Rattle.of_types.specs.declared.message.Outcome.{Outcome}
 use Rattle.of_types.specs.declared.message.Outcome.TheVariants as outcome
 use Rattle.of_types.specs.declared.numbers.TheConstants.{TO_CONTROLLER}
 use Rattle.of_types.specs.declared.setup.Link.{Link}
-use Rattle.rv_base.specs.declared.journal.Actor.TheVariants as actor
-use Rattle.rv_base.specs.declared.journal.Letter.{Letter}
-use Rattle.lists.specs.Lists.{IsIn}
-use Rattle.lists.proofs.Elements.{in_append, in_flat_map}
+use Rattle.journal.specs.declared.journal.Actor.TheVariants as actor
+use Rattle.journal.specs.declared.journal.Letter.{Letter}
+use Rattle.list_facts.specs.Lists.{IsIn}
+use Rattle.list_facts.proofs.Elements.{in_append, in_flat_map}
 use Rattle.role_fence.specs.Fence.{may_execute}
 use Rattle.command_buffer.specs.declared.buffer.Offer.TheVariants.{Repeat}
 use Rattle.command_buffer.specs.Results.{Results, first_kept, kept_result, most_kept, offer_of}

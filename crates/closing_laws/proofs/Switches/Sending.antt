@@ -5,9 +5,9 @@ use Rattle.std.specs.Prelude.{nat_le, slice_get, Some}
 use Rattle.std.proofs.lemmas.Bool.{cases_lt, le-leb, lt-leb}
 use Rattle.std.proofs.lemmas.List.{drop-drop, drop-take, drop_all, drop-append-le, length-drop, take-append-le, take-take, take_min}
 use Rattle.of_types.specs.declared.message.Event.{Event}
-use Rattle.lists.specs.Lists.{IsIn}
-use Rattle.lists.proofs.Places.{get_dropped, in_get}
-use Rattle.lists.proofs.Prefixes.{append_filter}
+use Rattle.list_facts.specs.Lists.{IsIn}
+use Rattle.list_facts.proofs.Places.{get_dropped, in_get}
+use Rattle.list_facts.proofs.Prefixes.{append_filter}
 use Rattle.of_switch.specs.Events.{window}
 
 module _ {A : Type 0} where

@@ -6,15 +6,15 @@ use Rattle.of_types.specs.declared.message.Event.{Event}
 use Rattle.of_types.specs.declared.message.Extension.{Extension}
 use Rattle.of_types.specs.declared.message.Spoken.TheVariants as spoken
 use Rattle.of_types.specs.declared.setup.Setup.{Setup}
-use Rattle.lists.specs.Lists.{IsIn}
+use Rattle.list_facts.specs.Lists.{IsIn}
 use Rattle.dispatcher.specs.Marks.{has_result, is_confirmed, settled_commands}
 use Rattle.group_controller.specs.State.{ControllerState, committed}
 use Rattle.event_buffer.specs.Buffer.{Buffer}
 use Rattle.role_fence.specs.Fence.{Fence}
 use Rattle.of_switch.specs.State.{SwitchState, life_of}
-use Rattle.rv_runs.specs.declared.messages.Message.{Message}
-use Rattle.rv_runs.specs.declared.messages.Message.TheVariants as message
-use Rattle.rv_base.proofs.All.{all_append}
+use Rattle.run_spec.specs.declared.messages.Message.{Message}
+use Rattle.run_spec.specs.declared.messages.Message.TheVariants as message
+use Rattle.journal.proofs.All.{all_append}
 use Rattle.closing_laws.specs.Serving.{AreCommanded, AreEventsTold, AreUntold, IsMastered, IsSaidIn, IsAttended, IsUnasked, acknowledges_events, commands_said, events_said, is_reply, is_request, logged_of, processed_by, results_said, told_through}
 use Rattle.closing_laws.proofs.Switches.Saying.{count_cons, events_append, results_append}
 

@@ -6,11 +6,11 @@ use Rattle.std.proofs.lemmas.List.{drop-drop}
 use Rattle.of_types.specs.declared.message.Event.{Event}
 use Rattle.of_types.specs.declared.setup.Setup.{Setup}
 use Rattle.of_types.specs.Lives.{count_in}
-use Rattle.rv_base.specs.declared.journal.Letter.{Letter}
-use Rattle.rv_base.specs.declared.journal.Actor.TheVariants as actor
-use Rattle.lists.specs.Lists.{IsIn}
-use Rattle.lists.proofs.Elements.{all_in, in_append, in_left}
-use Rattle.lists.proofs.Places.{get_front}
+use Rattle.journal.specs.declared.journal.Letter.{Letter}
+use Rattle.journal.specs.declared.journal.Actor.TheVariants as actor
+use Rattle.list_facts.specs.Lists.{IsIn}
+use Rattle.list_facts.proofs.Elements.{all_in, in_append, in_left}
+use Rattle.list_facts.proofs.Places.{get_front}
 use Rattle.vr_log.specs.Log.{received}
 use Rattle.exactly_once.specs.Truths.{IsMade}
 use Rattle.event_buffer.specs.Buffer.{cleared_to}
@@ -21,8 +21,8 @@ use Rattle.group_controller.specs.State.{ControllerState, committed}
 use Rattle.of_switch.specs.declared.says.SwitchSays.{SwitchSays}
 use Rattle.of_switch.specs.State.{SwitchState, SwitchTurn, events_in, life_of}
 use Rattle.of_switch.specs.Events.{event_letter, window}
-use Rattle.rv_runs.specs.declared.messages.Message.{Message}
-use Rattle.rv_runs.specs.States.{switch_message}
+use Rattle.run_spec.specs.declared.messages.Message.{Message}
+use Rattle.run_spec.specs.States.{switch_message}
 use Rattle.closing_laws.specs.Serving.{AreEventsTold, IsSaidIn, IsAttended, IsTrueOf, acknowledges_events, events_said, is_reply, is_request, logged_of, processed_by, results_said, sent_of}
 use Rattle.closing_laws.specs.Ways.{told_to}
 use Rattle.closing_laws.proofs.Switches.AckTurns.{AfterAck}

@@ -9,10 +9,10 @@ use Rattle.of_types.specs.declared.message.OfMessage.TheVariants as plain
 use Rattle.of_types.specs.declared.message.Spoken.TheVariants as spoken
 use Rattle.of_types.specs.declared.numbers.TheConstants.{MASTER}
 use Rattle.of_types.specs.declared.setup.Setup.{Setup}
-use Rattle.rv_base.specs.declared.journal.Actor.TheVariants as actor
-use Rattle.rv_base.specs.declared.journal.Letter.{Letter}
-use Rattle.lists.specs.Lists.{IsIn}
-use Rattle.lists.proofs.Elements.{all_in}
+use Rattle.journal.specs.declared.journal.Actor.TheVariants as actor
+use Rattle.journal.specs.declared.journal.Letter.{Letter}
+use Rattle.list_facts.specs.Lists.{IsIn}
+use Rattle.list_facts.proofs.Elements.{all_in}
 use Rattle.exactly_once.specs.Truths.{IsMade}
 use Rattle.role_fence.specs.Fence.{as_master, is_stale}
 use Rattle.dispatcher.specs.Marks.{is_confirmed}
@@ -22,9 +22,9 @@ use Rattle.of_switch.specs.declared.says.SwitchSays.{SwitchSays}
 use Rattle.of_switch.specs.State.{SwitchState, events_in, life_of, to_controller}
 use Rattle.of_switch.specs.Events.{event_letter, first_held, window}
 use Rattle.of_switch.specs.Rules.{on_role_request}
-use Rattle.rv_runs.specs.declared.messages.Message.{Message}
-use Rattle.rv_runs.specs.declared.messages.Message.TheVariants as message
-use Rattle.rv_runs.specs.States.{switch_message}
+use Rattle.run_spec.specs.declared.messages.Message.{Message}
+use Rattle.run_spec.specs.declared.messages.Message.TheVariants as message
+use Rattle.run_spec.specs.States.{switch_message}
 use Rattle.closing_laws.specs.Serving.{AreEventsTold, IsOlder, IsSaidIn, IsAttended, IsTrueOf, IsUnasked, Replies, asks_role, events_said, is_reply, is_request, logged_of, results_said, sent_of}
 use Rattle.closing_laws.specs.Ways.{told_to}
 use Rattle.closing_laws.proofs.Switches.Saying.{count_cons, event_message, events_of_messages, heard_of_events, replies_of_events, results_of_events, told_events}

@@ -7,13 +7,13 @@ use Rattle.of_types.specs.declared.message.Extension.TheVariants as extension
 use Rattle.of_types.specs.declared.message.Order.{Order}
 use Rattle.of_types.specs.declared.message.Spoken.TheVariants as spoken
 use Rattle.of_types.specs.declared.setup.Setup.{Setup}
-use Rattle.rv_base.specs.declared.journal.Actor.{Actor}
-use Rattle.rv_base.specs.declared.journal.Actor.TheVariants as actor
-use Rattle.rv_base.specs.declared.journal.Letter.{Letter}
-use Rattle.rv_base.specs.Actors.{same_actor}
-use Rattle.rv_base.proofs.All.{all_append}
-use Rattle.lists.specs.Lists.{IsIn}
-use Rattle.lists.proofs.Elements.{in_append, in_left, in_right}
+use Rattle.journal.specs.declared.journal.Actor.{Actor}
+use Rattle.journal.specs.declared.journal.Actor.TheVariants as actor
+use Rattle.journal.specs.declared.journal.Letter.{Letter}
+use Rattle.journal.specs.Actors.{same_actor}
+use Rattle.journal.proofs.All.{all_append}
+use Rattle.list_facts.specs.Lists.{IsIn}
+use Rattle.list_facts.proofs.Elements.{in_append, in_left, in_right}
 use Rattle.role_fence.specs.Fence.{Fence}
 use Rattle.event_buffer.specs.Buffer.{Buffer}
 use Rattle.dispatcher.specs.Marks.{has_result, is_confirmed, settled_commands}
@@ -21,9 +21,9 @@ use Rattle.group_controller.specs.State.{ControllerState, committed}
 use Rattle.of_switch.specs.declared.says.SwitchSays.{SwitchSays}
 use Rattle.of_switch.specs.State.{SwitchState, SwitchTurn, life_of}
 use Rattle.of_switch.specs.Commands.{letter_of_result}
-use Rattle.rv_runs.specs.declared.messages.Message.{Message}
-use Rattle.rv_runs.specs.declared.messages.Message.TheVariants as message
-use Rattle.rv_runs.specs.States.{switch_message}
+use Rattle.run_spec.specs.declared.messages.Message.{Message}
+use Rattle.run_spec.specs.declared.messages.Message.TheVariants as message
+use Rattle.run_spec.specs.States.{switch_message}
 use Rattle.closing_laws.specs.Serving.{AreCommanded, IsSaidIn, IsAttended, Results, commands_said, events_said, is_reply, is_request, results_said, told_by, told_through}
 use Rattle.closing_laws.specs.Ways.{told_to}
 use Rattle.closing_laws.proofs.Primary.Telling.{told_to-append}

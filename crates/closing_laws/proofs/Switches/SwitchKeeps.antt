@@ -9,10 +9,10 @@ use Rattle.of_types.specs.declared.message.Order.{Order}
 use Rattle.of_types.specs.declared.message.Spoken.{Spoken}
 use Rattle.of_types.specs.declared.message.Spoken.TheVariants as spoken
 use Rattle.of_types.specs.declared.setup.Setup.{Setup}
-use Rattle.rv_base.specs.declared.journal.Actor.TheVariants as actor
-use Rattle.rv_base.specs.declared.journal.Letter.{Letter}
-use Rattle.lists.specs.Lists.{IsIn}
-use Rattle.lists.proofs.Elements.{in_append}
+use Rattle.journal.specs.declared.journal.Actor.TheVariants as actor
+use Rattle.journal.specs.declared.journal.Letter.{Letter}
+use Rattle.list_facts.specs.Lists.{IsIn}
+use Rattle.list_facts.proofs.Elements.{in_append}
 use Rattle.dispatcher.specs.Ledger.{most_commands}
 use Rattle.event_buffer.specs.Buffer.{Buffer}
 use Rattle.group_controller.specs.State.{ControllerState}
@@ -22,10 +22,10 @@ use Rattle.of_switch.specs.State.{SwitchState, SwitchTurn, events_in, life_of, n
 use Rattle.of_switch.specs.Events.{first_held, on_event_ack}
 use Rattle.of_switch.specs.Commands.{letter_of_result, on_command, settled}
 use Rattle.of_switch.specs.Rules.{switch_turn}
-use Rattle.rv_runs.specs.declared.messages.Message.{Message}
-use Rattle.rv_runs.specs.declared.messages.Message.TheVariants as message
-use Rattle.rv_runs.specs.declared.messages.Unsealed.TheVariants as unsealed
-use Rattle.rv_runs.specs.States.{switch_hears, switch_message}
+use Rattle.run_spec.specs.declared.messages.Message.{Message}
+use Rattle.run_spec.specs.declared.messages.Message.TheVariants as message
+use Rattle.run_spec.specs.declared.messages.Unsealed.TheVariants as unsealed
+use Rattle.run_spec.specs.States.{switch_hears, switch_message}
 use Rattle.closing_laws.specs.Serving.{Acknowledges, Asks, Clears, Commands, IsSaidBy, IsAttended, IsTrueOf, acknowledges_events, asks_role, commands_said, is_request}
 use Rattle.closing_laws.specs.Ways.{told_to}
 use Rattle.closing_laws.proofs.Switches.AckTurns.{acked}

@@ -8,20 +8,20 @@ use Rattle.of_types.specs.declared.message.OfMessage.TheVariants as plain
 use Rattle.of_types.specs.declared.message.Spoken.{Spoken}
 use Rattle.of_types.specs.declared.message.Spoken.TheVariants as spoken
 use Rattle.of_types.specs.declared.numbers.TheConstants.{MASTER}
-use Rattle.rv_base.specs.Actors.{same_actor, actor_of}
-use Rattle.rv_base.specs.Orderly.{IsOrderly}
-use Rattle.rv_base.specs.Part.{part, drawn}
-use Rattle.rv_base.specs.Pool.{pool}
-use Rattle.rv_base.specs.declared.journal.Actor.{Actor}
-use Rattle.rv_base.specs.declared.journal.Actor.TheVariants as actor
-use Rattle.rv_base.specs.declared.journal.JournalEntry.{JournalEntry}
-use Rattle.rv_base.specs.declared.journal.JournalEntry.TheVariants.{Post, Draw, Lose, Local, Idle, Refused}
-use Rattle.rv_base.specs.declared.journal.Letter.{Letter}
-use Rattle.rv_base.specs.declared.journal.Packet.{Packet}
-use Rattle.rv_base.specs.declared.journal.SaveResult.{SaveResult}
-use Rattle.rv_base.specs.declared.journal.SaveResult.TheVariants.{Saved, KeptOld, KeptNew}
-use Rattle.lists.specs.Lists.{IsIn}
-use Rattle.lists.proofs.Elements.{all_of}
+use Rattle.journal.specs.Actors.{same_actor, actor_of}
+use Rattle.journal.specs.Orderly.{IsOrderly}
+use Rattle.journal.specs.Part.{part, drawn}
+use Rattle.journal.specs.Pool.{pool}
+use Rattle.journal.specs.declared.journal.Actor.{Actor}
+use Rattle.journal.specs.declared.journal.Actor.TheVariants as actor
+use Rattle.journal.specs.declared.journal.JournalEntry.{JournalEntry}
+use Rattle.journal.specs.declared.journal.JournalEntry.TheVariants.{Post, Draw, Lose, Local, Idle, Refused}
+use Rattle.journal.specs.declared.journal.Letter.{Letter}
+use Rattle.journal.specs.declared.journal.Packet.{Packet}
+use Rattle.journal.specs.declared.journal.SaveResult.{SaveResult}
+use Rattle.journal.specs.declared.journal.SaveResult.TheVariants.{Saved, KeptOld, KeptNew}
+use Rattle.list_facts.specs.Lists.{IsIn}
+use Rattle.list_facts.proofs.Elements.{all_of}
 use Rattle.vr_log.specs.Members.{leads}
 use Rattle.role_fence.specs.Fence.{Fence}
 use Rattle.of_switch.specs.declared.says.SwitchInput.{SwitchInput}
@@ -34,25 +34,25 @@ use Rattle.group_controller.specs.declared.messages.ControllerSays.{ControllerSa
 use Rattle.group_controller.specs.declared.messages.ControllerSays.TheVariants as controller_says
 use Rattle.group_controller.specs.State.{Work}
 use Rattle.group_controller.specs.Rules.{controller_work}
-use Rattle.rv_runs.specs.declared.messages.Message.{Message}
-use Rattle.rv_runs.specs.declared.messages.Message.TheVariants as message
-use Rattle.rv_runs.specs.declared.messages.Unsealed.{Unsealed}
-use Rattle.rv_runs.specs.declared.messages.Unsealed.TheVariants as unsealed
-use Rattle.rv_runs.specs.declared.messages.Way.{Way}
-use Rattle.rv_runs.specs.Messages.{IsValidMessage, FitsMessage, way_of, way_of_message}
-use Rattle.rv_runs.specs.States.{Scene, Sealing, ControllerAt, SwitchAt, IsFaithful, content, switch_hears, controller_hears, controller_message, controller_saved, controller_took, controller_at, switch_at, switch_step}
-use Rattle.rv_runs.specs.Legal.{IsPossible, results_of}
-use Rattle.rv_runs.specs.Committed.{controller_state}
-use Rattle.rv_runs.specs.Inputs.{IsHeardAt, By_draw, By_local}
-use Rattle.rv_runs.proofs.Entries.{Mine, Another, switch_after, SwitchGoes, Takes, Rests, Posts, Refuses, switch_goes}
-use Rattle.rv_runs.proofs.Pasts.{possible_before, from_some, self_controller}
-use Rattle.rv_runs.proofs.Pools.{one_actor, drawn_found, IsPosted, Was, New, pool_after}
+use Rattle.run_spec.specs.declared.messages.Message.{Message}
+use Rattle.run_spec.specs.declared.messages.Message.TheVariants as message
+use Rattle.run_spec.specs.declared.messages.Unsealed.{Unsealed}
+use Rattle.run_spec.specs.declared.messages.Unsealed.TheVariants as unsealed
+use Rattle.run_spec.specs.declared.messages.Way.{Way}
+use Rattle.run_spec.specs.Messages.{IsValidMessage, FitsMessage, way_of, way_of_message}
+use Rattle.run_spec.specs.States.{Scene, Sealing, ControllerAt, SwitchAt, IsFaithful, content, switch_hears, controller_hears, controller_message, controller_saved, controller_took, controller_at, switch_at, switch_step}
+use Rattle.run_spec.specs.Legal.{IsPossible, results_of}
+use Rattle.run_spec.specs.Committed.{controller_state}
+use Rattle.run_spec.specs.Inputs.{IsHeardAt, By_draw, By_local}
+use Rattle.run_spec.proofs.Entries.{Mine, Another, switch_after, SwitchGoes, Takes, Rests, Posts, Refuses, switch_goes}
+use Rattle.run_spec.proofs.Pasts.{possible_before, from_some, self_controller}
+use Rattle.run_spec.proofs.Pools.{one_actor, drawn_found, IsPosted, Was, New, pool_after}
 use Rattle.exactly_once.specs.Facts.{facts_of}
 use Rattle.exactly_once.specs.Invariant.{HoldsOfRun, ToSwitch, ToMember, IsHeardBySwitch}
 use Rattle.exactly_once.proofs.Packets.{heard_by_switch, told_valid}
 use Rattle.exactly_once.proofs.SwitchMoves.{Move, Raises, Says, Notes, Changes, Ages, Clears, Executes, Masters, Fences, Restarts, turn_keeps}
-use Rattle.rv_agreement.proofs.Pasts.{named, was_owed}
-use Rattle.rv_laws.proofs.Laws.{always}
+use Rattle.run_agreement.proofs.Pasts.{named, was_owed}
+use Rattle.run_laws.proofs.Laws.{always}
 use Rattle.closing_laws.proofs.Truths.Asking.{AsksBy, AskBy, turn_asks}
 
 -- a request for a role

@@ -13,11 +13,11 @@ use Rattle.of_types.specs.declared.message.Spoken.TheVariants as spoken
 use Rattle.of_types.specs.declared.numbers.TheConstants.{MASTER}
 use Rattle.of_types.specs.declared.setup.Setup.{Setup}
 use Rattle.of_types.specs.Lives.{last_life}
-use Rattle.rv_base.specs.declared.journal.Letter.{Letter}
-use Rattle.rv_base.specs.declared.journal.Local.{Local}
-use Rattle.rv_base.specs.declared.journal.Local.TheVariants as local
-use Rattle.rv_base.proofs.All.{all_append, all_made, all_weaker}
-use Rattle.lists.proofs.Elements.{all_in, all_of, in_flat_map}
+use Rattle.journal.specs.declared.journal.Letter.{Letter}
+use Rattle.journal.specs.declared.journal.Local.{Local}
+use Rattle.journal.specs.declared.journal.Local.TheVariants as local
+use Rattle.journal.proofs.All.{all_append, all_made, all_weaker}
+use Rattle.list_facts.proofs.Elements.{all_in, all_of, in_flat_map}
 use Rattle.vr_log.specs.declared.entry.Entry.{Entry}
 use Rattle.vr_log.specs.declared.entry.Entry.TheVariants.{Received}
 use Rattle.vr_log.specs.declared.message.VrLetter.{VrLetter}

@@ -1,12 +1,12 @@
 -- A controller that led a view above 0 as it posted has f + 1 controllers that promise the view, from then on.
 use Rattle.std.proofs.Common.{◌≡◌, ℕ, ◌+◌, ◌*◌, ◌<◌, ◌≤◌, true, nat_le, leb, List, [], ◌∷◌, ◌++◌, refl, sym, ap, ◌∙◌, subst, arith, le_refl, le_trans, append-nil}
 use Rattle.std.proofs.lemmas.Bool.{and_parts, eqb-true, leb-true, le-leb}
-use Rattle.rv_base.specs.declared.journal.Actor.TheVariants as actor
-use Rattle.rv_base.specs.declared.journal.JournalEntry.{JournalEntry}
-use Rattle.rv_base.specs.declared.journal.JournalEntry.TheVariants.{Post}
-use Rattle.rv_base.specs.declared.journal.Letter.{Letter}
-use Rattle.rv_base.specs.declared.journal.SaveResult.{SaveResult}
-use Rattle.rv_base.specs.Part.{part}
+use Rattle.journal.specs.declared.journal.Actor.TheVariants as actor
+use Rattle.journal.specs.declared.journal.JournalEntry.{JournalEntry}
+use Rattle.journal.specs.declared.journal.JournalEntry.TheVariants.{Post}
+use Rattle.journal.specs.declared.journal.Letter.{Letter}
+use Rattle.journal.specs.declared.journal.SaveResult.{SaveResult}
+use Rattle.journal.specs.Part.{part}
 use Rattle.actor_fold.specs.Fold.{Standing}
 use Rattle.agreement.specs.Lists.{count_below}
 use Rattle.agreement.specs.History as core
@@ -26,19 +26,19 @@ use Rattle.agreement.proofs.Standing.{stands_own, stands_valid}
 use Rattle.vr_log.specs.declared.entry.Entry.{Entry}
 use Rattle.vr_log.specs.declared.state.VrState.{VrState}
 use Rattle.vr_log.specs.Members as member
-use Rattle.members.specs.Projection.{group_of, state_of, is_member}
-use Rattle.members.proofs.Members.{IsMemberOf, member_of, normal_of, same_primary}
-use Rattle.controllers.specs.Projection.{OwnInput}
-use Rattle.controllers.specs.Rules.{SavingController}
-use Rattle.controllers.proofs.Following.{follow_law}
-use Rattle.rv_runs.specs.States.{Scene, controller_at}
-use Rattle.rv_runs.specs.Legal.{results_of}
-use Rattle.rv_runs.specs.Committed.{controller_state}
-use Rattle.rv_agreement.specs.Projection.{past_of, rules_of}
-use Rattle.rv_agreement.proofs.Agreeing.{past_on}
-use Rattle.rv_agreement.proofs.Journals.{in_group, past_legal}
-use Rattle.rv_agreement.proofs.Reading.{IsReadPast, read_before}
-use Rattle.rv_agreement.proofs.Standing.{saving, stands_alike}
+use Rattle.member_moves.specs.Projection.{group_of, state_of, is_member}
+use Rattle.member_moves.proofs.Members.{IsMemberOf, member_of, normal_of, same_primary}
+use Rattle.controller_moves.specs.Projection.{OwnInput}
+use Rattle.controller_moves.specs.Rules.{SavingController}
+use Rattle.controller_moves.proofs.Following.{follow_law}
+use Rattle.run_spec.specs.States.{Scene, controller_at}
+use Rattle.run_spec.specs.Legal.{results_of}
+use Rattle.run_spec.specs.Committed.{controller_state}
+use Rattle.run_agreement.specs.Projection.{past_of, rules_of}
+use Rattle.run_agreement.proofs.Agreeing.{past_on}
+use Rattle.run_agreement.proofs.Journals.{in_group, past_legal}
+use Rattle.run_agreement.proofs.Reading.{IsReadPast, read_before}
+use Rattle.run_agreement.proofs.Standing.{saving, stands_alike}
 
 -- no promise falls
 run_promises : {E : Type 0} {g : Group E} {h0 h : History E} → IsGroup g → Invariant g h0 → Run g h0 h → (j : ℕ) → h0.promise j ≤ h.promise j

@@ -6,17 +6,17 @@ use Rattle.of_types.specs.declared.message.Event.{Event}
 use Rattle.of_types.specs.declared.setup.Setup.{Setup}
 use Rattle.of_types.specs.Lives.{is_switch_up}
 use Rattle.of_types.specs.Setups.{IsSetup}
-use Rattle.rv_base.specs.declared.journal.Actor.{Actor}
-use Rattle.rv_base.specs.declared.journal.Actor.TheVariants as actor
-use Rattle.rv_base.specs.declared.journal.JournalEntry.{JournalEntry}
-use Rattle.rv_base.specs.declared.journal.Packet.{Packet}
-use Rattle.rv_base.specs.declared.journal.SaveResult.{SaveResult}
-use Rattle.rv_base.specs.Actors.{IsActor, actor_of}
-use Rattle.rv_base.specs.Part.{part}
-use Rattle.rv_base.specs.Pool.{pool}
-use Rattle.lists.specs.Lists.{IsIn, IsPrefix}
-use Rattle.lists.proofs.Elements.{all_of}
-use Rattle.lists.proofs.Prefixes.{front_prefix, prefix_filter}
+use Rattle.journal.specs.declared.journal.Actor.{Actor}
+use Rattle.journal.specs.declared.journal.Actor.TheVariants as actor
+use Rattle.journal.specs.declared.journal.JournalEntry.{JournalEntry}
+use Rattle.journal.specs.declared.journal.Packet.{Packet}
+use Rattle.journal.specs.declared.journal.SaveResult.{SaveResult}
+use Rattle.journal.specs.Actors.{IsActor, actor_of}
+use Rattle.journal.specs.Part.{part}
+use Rattle.journal.specs.Pool.{pool}
+use Rattle.list_facts.specs.Lists.{IsIn, IsPrefix}
+use Rattle.list_facts.proofs.Elements.{all_of}
+use Rattle.list_facts.proofs.Prefixes.{front_prefix, prefix_filter}
 use Rattle.vr_log.specs.declared.entry.Entry.{Entry}
 use Rattle.vr_log.specs.declared.entry.Entry.TheVariants.{Received}
 use Rattle.vr_log.specs.Log.{is_log, received}
@@ -25,19 +25,19 @@ use Rattle.vr_log.specs.Members.{leads}
 use Rattle.of_switch.specs.State.{SwitchState, events_in, life_of}
 use Rattle.group_controller.specs.State.{ControllerState}
 use Rattle.controller_laws.proofs.Logs.{processed_count}
-use Rattle.rv_runs.specs.States.{Scene, SwitchAt, IsFaithful, switch_at}
-use Rattle.rv_runs.specs.Legal.{IsPossible, results_of}
-use Rattle.rv_runs.specs.Committed.{decided, controller_state, switch_state}
-use Rattle.rv_runs.proofs.Pasts.{possible_before}
-use Rattle.rv_runs.proofs.Pools.{Was, New, pool_after}
+use Rattle.run_spec.specs.States.{Scene, SwitchAt, IsFaithful, switch_at}
+use Rattle.run_spec.specs.Legal.{IsPossible, results_of}
+use Rattle.run_spec.specs.Committed.{decided, controller_state, switch_state}
+use Rattle.run_spec.proofs.Pasts.{possible_before}
+use Rattle.run_spec.proofs.Pools.{Was, New, pool_after}
 use Rattle.exactly_once.specs.Facts.{PastFacts, facts_of, events_of, executed_of}
 use Rattle.exactly_once.specs.Truths.{IsTrueEntry}
 use Rattle.exactly_once.specs.Invariant.{HoldsOfRun, IsHonest, IsSound, IsSoundAt, Logged, Own}
 use Rattle.exactly_once.proofs.ControllerTurns.{received_at}
 use Rattle.exactly_once.proofs.Journals.{firm_events, firm_executed}
-use Rattle.rv_agreement.proofs.Groups.{odd_law}
-use Rattle.rv_laws.proofs.Laws.{always, led_law, waits_law}
-use Rattle.rv_laws.proofs.Members.{IsOwned, owned_at}
+use Rattle.run_agreement.proofs.Groups.{odd_law}
+use Rattle.run_laws.proofs.Laws.{always, led_law, waits_law}
+use Rattle.run_laws.proofs.Members.{IsOwned, owned_at}
 use Rattle.closing_laws.specs.Quorum.{has}
 use Rattle.closing_laws.specs.Serving.{IsTrueOf, IsTruePrimary}
 use Rattle.closing_laws.proofs.Lists.Picked.{IsPicked}

@@ -3,23 +3,23 @@ use Rattle.std.proofs.Common.{◌≡◌, ℕ, ◌+◌, ◌*◌, ◌/◌, ◌<◌
 use Rattle.std.specs.Prelude.{suc, Option, Some, None}
 use Rattle.std.proofs.lemmas.Bool.{cases_lt, leb-true}
 use Rattle.of_types.specs.Setups.{IsSetup}
-use Rattle.rv_base.specs.declared.journal.Actor.TheVariants as actor
-use Rattle.rv_base.specs.declared.journal.JournalEntry.{JournalEntry}
-use Rattle.rv_base.specs.declared.journal.JournalEntry.TheVariants.{Post}
-use Rattle.rv_base.specs.declared.journal.SaveResult.{SaveResult}
+use Rattle.journal.specs.declared.journal.Actor.TheVariants as actor
+use Rattle.journal.specs.declared.journal.JournalEntry.{JournalEntry}
+use Rattle.journal.specs.declared.journal.JournalEntry.TheVariants.{Post}
+use Rattle.journal.specs.declared.journal.SaveResult.{SaveResult}
 use Rattle.agreement.specs.Lists.{count_below}
 use Rattle.agreement.proofs.Counts.{count_share, count_some}
 use Rattle.vr_log.specs.Members.{is_up}
 use Rattle.group_controller.specs.State.{ControllerState}
-use Rattle.rv_runs.specs.States.{Scene, IsFaithful}
-use Rattle.rv_runs.specs.Legal.{IsPossible}
-use Rattle.rv_runs.specs.Committed.{controller_state, switch_state, states_of, count_up}
-use Rattle.rv_runs.specs.Schedule.{closing_view, majority}
-use Rattle.rv_agreement.specs.Reading.{WhereValid}
-use Rattle.rv_agreement.proofs.Groups.{odd_law}
-use Rattle.rv_agreement.proofs.Reading.{IsReadPast, read_past}
-use Rattle.rv_laws.proofs.Events.{events_valid}
-use Rattle.rv_laws.proofs.Laws.{always}
+use Rattle.run_spec.specs.States.{Scene, IsFaithful}
+use Rattle.run_spec.specs.Legal.{IsPossible}
+use Rattle.run_spec.specs.Committed.{controller_state, switch_state, states_of, count_up}
+use Rattle.run_spec.specs.Schedule.{closing_view, majority}
+use Rattle.run_agreement.specs.Reading.{WhereValid}
+use Rattle.run_agreement.proofs.Groups.{odd_law}
+use Rattle.run_agreement.proofs.Reading.{IsReadPast, read_past}
+use Rattle.run_laws.proofs.Events.{events_valid}
+use Rattle.run_laws.proofs.Laws.{always}
 use Rattle.closing_laws.specs.Serving.{IsOlder}
 use Rattle.closing_laws.proofs.Start.Begun.{all_range}
 use Rattle.closing_laws.proofs.Start.Pasts as pasts

@@ -5,8 +5,8 @@ use Rattle.of_types.specs.declared.message.Command.{Command}
 use Rattle.of_types.specs.declared.message.Event.{Event}
 use Rattle.of_types.specs.declared.setup.Setup.{Setup}
 use Rattle.of_types.specs.Setups.{IsSetup}
-use Rattle.lists.specs.Lists.{IsIn}
-use Rattle.lists.proofs.Elements.{all_of}
+use Rattle.list_facts.specs.Lists.{IsIn}
+use Rattle.list_facts.proofs.Elements.{all_of}
 use Rattle.app_core.specs.declared.issued.Issued.{Issued}
 use Rattle.app_core.specs.Chain.{chain_next, reactions, reactions_from, starting_chain}
 use Rattle.app_core.specs.Issued.{commands_of, issues}

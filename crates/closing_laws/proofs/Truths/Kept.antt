@@ -1,6 +1,6 @@
 -- A switch holds what it made in its present life, but for what has left.
-use Rattle.rv_base.specs.declared.journal.Actor.TheVariants as actor
-use Rattle.rv_base.specs.Part.{part}
+use Rattle.journal.specs.declared.journal.Actor.TheVariants as actor
+use Rattle.journal.specs.Part.{part}
 use Rattle.closing_laws.specs.Held.{EventsAreKept}
 use Rattle.closing_laws.proofs.Truths.SwitchPasts.{order_now}
 

@@ -3,11 +3,11 @@ use Rattle.std.proofs.Common.{◌≡◌, ℕ, ◌+◌, ◌*◌, ◌≤◌, inl, 
 use Rattle.std.specs.Prelude.{Option, Some, None}
 use Rattle.std.proofs.lemmas.Bool.{false≢true}
 use Rattle.of_types.specs.declared.setup.Setup.{Setup}
-use Rattle.rv_base.specs.declared.journal.Actor.TheVariants as actor
-use Rattle.rv_base.specs.declared.journal.JournalEntry.{JournalEntry}
-use Rattle.rv_base.specs.declared.journal.SaveResult.{SaveResult}
-use Rattle.rv_base.specs.Part.{part, drawn}
-use Rattle.rv_base.specs.declared.journal.Packet.{Packet}
+use Rattle.journal.specs.declared.journal.Actor.TheVariants as actor
+use Rattle.journal.specs.declared.journal.JournalEntry.{JournalEntry}
+use Rattle.journal.specs.declared.journal.SaveResult.{SaveResult}
+use Rattle.journal.specs.Part.{part, drawn}
+use Rattle.journal.specs.declared.journal.Packet.{Packet}
 use Rattle.agreement.specs.History.{Group, size}
 use Rattle.agreement.specs.Invariant as invariant
 use Rattle.vr_log.specs.declared.entry.Entry.{Entry}
@@ -16,8 +16,8 @@ use Rattle.vr_log.specs.declared.state.Status.TheVariants as status
 use Rattle.vr_log.specs.declared.state.VrState.{VrState}
 use Rattle.vr_log.specs.Members.{is_up}
 use Rattle.vr_core.specs.declared.input.VrInput.{VrInput}
-use Rattle.members.specs.Projection.{group_of, status_of, is_member}
-use Rattle.members.proofs.Members.{up_of, newer_of}
+use Rattle.member_moves.specs.Projection.{group_of, status_of, is_member}
+use Rattle.member_moves.proofs.Members.{up_of, newer_of}
 use Rattle.group_controller.specs.declared.messages.ControllerInput.{ControllerInput}
 use Rattle.group_controller.specs.State.{ControllerState, Work}
 use Rattle.group_controller.specs.Rules.{is_down, controller_work}
@@ -25,17 +25,17 @@ use Rattle.controller_laws.specs.Moves.{Chain, Start, Then, Move, Steps, Says, S
 use Rattle.controller_laws.specs.MemberMoves.{MemberMove, Enters, Tallies, Collects, Stocks, Starts, Adopts, Recovers, Appends, Commits, Keeps}
 use Rattle.controller_laws.specs.Turns.{beginning}
 use Rattle.controller_laws.proofs.Reached.{turn_chain}
-use Rattle.controllers.specs.Projection.{input_of}
-use Rattle.controllers.specs.Rules.{SavingController, done}
-use Rattle.controllers.proofs.Following.{follow_law}
-use Rattle.rv_runs.specs.States.{Scene, controller_at}
-use Rattle.rv_runs.specs.Legal.{results_of}
-use Rattle.rv_runs.specs.Committed.{controller_state}
-use Rattle.rv_runs.proofs.Entries.{ControllerGoes, Turns, Falls, Stays, Own, Other, controller_after}
-use Rattle.rv_agreement.specs.Projection.{taken_by}
-use Rattle.rv_agreement.proofs.Inputs.{same_input}
-use Rattle.rv_agreement.proofs.Reading.{IsReadPast, read_before}
-use Rattle.rv_laws.proofs.Members.{move_up}
+use Rattle.controller_moves.specs.Projection.{input_of}
+use Rattle.controller_moves.specs.Rules.{SavingController, done}
+use Rattle.controller_moves.proofs.Following.{follow_law}
+use Rattle.run_spec.specs.States.{Scene, controller_at}
+use Rattle.run_spec.specs.Legal.{results_of}
+use Rattle.run_spec.specs.Committed.{controller_state}
+use Rattle.run_spec.proofs.Entries.{ControllerGoes, Turns, Falls, Stays, Own, Other, controller_after}
+use Rattle.run_agreement.specs.Projection.{taken_by}
+use Rattle.run_agreement.proofs.Inputs.{same_input}
+use Rattle.run_agreement.proofs.Reading.{IsReadPast, read_before}
+use Rattle.run_laws.proofs.Members.{move_up}
 use Rattle.closing_laws.proofs.Truths.Backed.{member_at}
 
 -- one that is up doesn't recover, and isn't down

@@ -1,9 +1,9 @@
 -- What is true of a log whose beginning is committed: past that at most one event stands as processed, one that is committed.
 use Rattle.std.proofs.Common.{◌≡◌, ◌≤◌, ◌<◌, inl, inr, ℕ, ◌+◌, true, List, ◌∷◌, length, take, refl, sym, subst, arith}
 use Rattle.std.proofs.lemmas.Bool.{lt-ltb, cases_lt}
-use Rattle.lists.specs.Lists.{IsIn, IsPrefix}
-use Rattle.lists.proofs.Elements.{in_right}
-use Rattle.lists.proofs.Prefixes.{prefix_take}
+use Rattle.list_facts.specs.Lists.{IsIn, IsPrefix}
+use Rattle.list_facts.proofs.Elements.{in_right}
+use Rattle.list_facts.proofs.Prefixes.{prefix_take}
 use Rattle.vr_log.specs.declared.entry.Entry.{Entry}
 use Rattle.vr_log.specs.declared.entry.Entry.TheVariants.{Processed}
 use Rattle.vr_log.specs.Log.{received, processed, is_log}

@@ -2,7 +2,7 @@
 use Rattle.std.proofs.Common.{◌≡◌, ◌≤◌, ◌<◌, ℕ, zero, suc, ◌+◌, ◌*◌, ◌/◌, Bool, true, false, List, [], ◌∷◌, ◌++◌, length, refl, ◌∙◌, ap, arith, length-append}
 use Rattle.std.specs.Prelude.{nat_le, filter, if◌then◌else◌}
 use Rattle.std.proofs.lemmas.Bool.{ne_eqb, le-leb}
-use Rattle.lists.proofs.Prefixes.{append_filter}
+use Rattle.list_facts.proofs.Prefixes.{append_filter}
 use Rattle.agreement.specs.Lists.{count_below}
 use Rattle.vr_log.specs.Members.{others_below}
 use Rattle.closing_laws.specs.Quorum.{has}

@@ -7,9 +7,9 @@ use Rattle.std.proofs.lemmas.List.{drop-append-le, drop-drop, length-drop}
 use Rattle.of_types.specs.declared.message.Event.{Event}
 use Rattle.of_types.specs.Lives.{is_switch_up}
 use Rattle.of_types.specs.SmallSets.{AscendWithin, without_number}
-use Rattle.lists.specs.Lists.{IsIn}
-use Rattle.lists.proofs.Elements.{filter_passes, in_filter}
-use Rattle.lists.proofs.Prefixes.{filter_more, filter_same}
+use Rattle.list_facts.specs.Lists.{IsIn}
+use Rattle.list_facts.proofs.Elements.{filter_passes, in_filter}
+use Rattle.list_facts.proofs.Prefixes.{filter_more, filter_same}
 use Rattle.event_buffer.specs.Buffer.{Buffer, is_full, most_held}
 use Rattle.exactly_once.specs.Facts.{events_of}
 

@@ -20,10 +20,10 @@ use Rattle.of_types.specs.declared.numbers.TheConstants.{TO_CONTROLLER}
 use Rattle.of_types.specs.Lives.{last_life, switch_up}
 use Rattle.of_types.specs.SmallSets.{AscendWithin, with_number, without_number}
 use Rattle.of_types.proofs.Places.{ascend-with, ascend-without}
-use Rattle.rv_base.specs.declared.journal.Actor.TheVariants as actor
-use Rattle.rv_base.specs.declared.journal.Local.{Local}
-use Rattle.rv_base.specs.declared.journal.Local.TheVariants as local
-use Rattle.lists.specs.Lists.{IsIn}
+use Rattle.journal.specs.declared.journal.Actor.TheVariants as actor
+use Rattle.journal.specs.declared.journal.Local.{Local}
+use Rattle.journal.specs.declared.journal.Local.TheVariants as local
+use Rattle.list_facts.specs.Lists.{IsIn}
 use Rattle.role_fence.specs.declared.fence.RoleAnswer.{RoleAnswer}
 use Rattle.role_fence.specs.declared.fence.RoleAnswer.TheVariants.{Reply, Stale, BadRole}
 use Rattle.role_fence.specs.Fence.{may_execute, RoleStep, role_step}

@@ -2,12 +2,12 @@
 use Rattle.std.proofs.Common.{◌<◌, ℕ, List, [], ◌∷◌, length, arith}
 use Rattle.std.specs.Prelude.{Option, Some, None}
 use Rattle.of_types.specs.Setups.{IsSetup}
-use Rattle.rv_base.specs.declared.journal.JournalEntry.{JournalEntry}
-use Rattle.rv_base.specs.declared.journal.JournalEntry.TheVariants.{Post, Draw, Lose, Local, Idle, Refused}
-use Rattle.rv_base.specs.declared.journal.Packet.{Packet}
+use Rattle.journal.specs.declared.journal.JournalEntry.{JournalEntry}
+use Rattle.journal.specs.declared.journal.JournalEntry.TheVariants.{Post, Draw, Lose, Local, Idle, Refused}
+use Rattle.journal.specs.declared.journal.Packet.{Packet}
 use Rattle.of_switch.specs.declared.says.SwitchInput.TheVariants as switch_input
 use Rattle.of_switch.specs.State.{starting_switch}
-use Rattle.rv_runs.specs.States.{Scene, SwitchAt, switch_at, switch_step}
+use Rattle.run_spec.specs.States.{Scene, SwitchAt, switch_at, switch_step}
 use Rattle.closing_laws.proofs.Truths.SwitchLists.{held_none}
 use Rattle.closing_laws.proofs.Truths.SwitchOrder.{KeepsOrder, order_kept}
 

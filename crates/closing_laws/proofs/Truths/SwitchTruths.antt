@@ -8,9 +8,9 @@ use Rattle.std.proofs.lemmas.List.Sums.{length-filter}
 use Rattle.of_types.specs.declared.message.Event.{Event}
 use Rattle.of_types.specs.declared.setup.Setup.{Setup}
 use Rattle.of_types.specs.Lives.{count_in, life_in}
-use Rattle.lists.specs.Lists.{IsIn, IsPrefix}
-use Rattle.lists.proofs.Places.{get_prefix}
-use Rattle.lists.proofs.Prefixes.{front_prefix, prefix_length}
+use Rattle.list_facts.specs.Lists.{IsIn, IsPrefix}
+use Rattle.list_facts.proofs.Places.{get_prefix}
+use Rattle.list_facts.proofs.Prefixes.{front_prefix, prefix_length}
 use Rattle.vr_log.specs.declared.entry.Entry.{Entry}
 use Rattle.vr_log.specs.declared.entry.Entry.TheVariants.{Received, Processed}
 use Rattle.vr_log.specs.Log.{received, processed, is_log}

@@ -5,17 +5,17 @@ use Rattle.std.specs.List.{list_any}
 use Rattle.of_types.specs.declared.setup.Link.{Link}
 use Rattle.of_types.specs.declared.setup.Setup.{Setup}
 use Rattle.of_types.specs.Setups.{AreApart, IsSetup, ends_of}
-use Rattle.rv_base.specs.declared.journal.Actor.TheVariants as actor
-use Rattle.rv_base.specs.declared.journal.JournalEntry.{JournalEntry}
-use Rattle.rv_base.specs.declared.journal.JournalEntry.TheVariants.{Post, Draw, Lose, Local, Idle, Refused}
-use Rattle.rv_base.specs.declared.journal.Packet.{Packet}
-use Rattle.rv_base.specs.Part.{part}
+use Rattle.journal.specs.declared.journal.Actor.TheVariants as actor
+use Rattle.journal.specs.declared.journal.JournalEntry.{JournalEntry}
+use Rattle.journal.specs.declared.journal.JournalEntry.TheVariants.{Post, Draw, Lose, Local, Idle, Refused}
+use Rattle.journal.specs.declared.journal.Packet.{Packet}
+use Rattle.journal.specs.Part.{part}
 use Rattle.of_switch.specs.declared.says.SwitchInput.{SwitchInput}
 use Rattle.of_switch.specs.declared.says.SwitchInput.TheVariants as switch_input
 use Rattle.of_switch.specs.State.{SwitchState, SwitchTurn, is_at, starting_switch}
 use Rattle.of_switch.specs.Rules.{switch_turn}
-use Rattle.rv_runs.specs.Committed.{switch_state}
-use Rattle.rv_runs.specs.States.{Scene, SwitchAt, content, switch_at, switch_hears, switch_step}
+use Rattle.run_spec.specs.Committed.{switch_state}
+use Rattle.run_spec.specs.States.{Scene, SwitchAt, content, switch_at, switch_hears, switch_step}
 use Rattle.exactly_once.proofs.SwitchMoves.{Move, Raises, Says, Notes, Changes, Ages, Clears, Executes, Masters, Fences, Restarts, turn_keeps}
 
 -- a switch has its wires of the setup, those at its number, and no more ports than a switch may have

@@ -22,7 +22,7 @@ use of_types::{
     IN_PORT, Items, NO_BUFFER, NOT_MASTER, Order, Outcome, PacketOut, Refusal, Spoken, TABLE_FULL,
     UNKNOWN_BUFFER,
 };
-use rv_base::{Letter, Letters};
+use journal::{Letter, Letters};
 use std::alloc::AllocError;
 
 /// Which command it is: who sent it, by which generation, its number, and what is settled.

@@ -18,7 +18,7 @@ use of_types::{
     SEND_REMOVED, switch_up,
 };
 use role_fence::RoleFence;
-use rv_base::Letters;
+use journal::Letters;
 use std::alloc::{AllocError, Global};
 use std::collections::VecDeque;
 

@@ -14,7 +14,7 @@ use of_types::{
     ALL_PORTS, FLOOD, Fields, Happening, IN_PORT, Items, LONGEST_FRAME, Link, Octets, PacketIn,
     REASON_ACTION, REASON_NO_MATCH, Row, SHORTEST_FRAME, TO_CONTROLLER, fields, is_any,
 };
-use rv_base::Letters;
+use journal::Letters;
 use std::alloc::AllocError;
 
 impl Switch {

@@ -14,7 +14,7 @@ use of_types::{
     STALE_ROLE, Spoken,
 };
 use role_fence::RoleAnswer;
-use rv_base::{Actor, Letter, Letters};
+use journal::{Actor, Letter, Letters};
 use std::alloc::{AllocError, Global};
 
 impl Switch {

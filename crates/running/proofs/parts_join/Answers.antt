@@ -1,4 +1,4 @@
-use Rattle.rv_world.proofs.Joining.{legal}
+use Rattle.world.proofs.Joining.{legal}
 use Rattle.running.proofs.parts_join.Goals as goal
 
 pub returns : goal.returns

@@ -1,4 +1,4 @@
-use Rattle.rv_base.specs.Pool.{past}
+use Rattle.journal.specs.Pool.{past}
 use Rattle.chart.specs.Arrows.{shown}
 use Rattle.chart.proofs.Shown.{exactly}
 use Rattle.chart.proofs.drawing.draw.Goals as goal

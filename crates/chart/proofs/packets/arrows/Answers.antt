@@ -1,6 +1,6 @@
 use Rattle.std.proofs.Common.{◌∙◌, sym, nat_cmp, take, refl}
 use Rattle.std.proofs.lemmas.List.{append-nil}
-use Rattle.rv_base.specs.Pool.{past}
+use Rattle.journal.specs.Pool.{past}
 use Rattle.std.specs.BTreeMap.{get}
 use Rattle.chart.specs.Arrows.{arrows, sent}
 use Rattle.chart.proofs.Noting.{arrows_more, length-past, sent_more}

@@ -1,7 +1,7 @@
 use Rattle.std.proofs.Common.{◌≡◌, ℕ, take}
 use Rattle.std.specs.BTreeMap.{get}
 use Rattle.std.specs.Ordering.{nat_cmp}
-use Rattle.rv_base.specs.Pool.{past}
+use Rattle.journal.specs.Pool.{past}
 use Rattle.chart.specs.Arrows.{arrows, sent}
 use Rattle.chart.proofs.packets.arrows.Given as goal
 

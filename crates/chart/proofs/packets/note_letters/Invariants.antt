@@ -2,7 +2,7 @@ use Rattle.std.proofs.Common.{◌≡◌, ℕ, take}
 use Rattle.std.specs.BTreeMap.{get}
 use Rattle.std.specs.Option.{option_or}
 use Rattle.std.specs.Ordering.{nat_cmp}
-use Rattle.rv_base.specs.Pool.{numbered}
+use Rattle.journal.specs.Pool.{numbered}
 use Rattle.chart.specs.Arrows.{sent_among}
 use Rattle.chart.proofs.packets.note_letters.Given as goal
 

@@ -1,5 +1,5 @@
 use Rattle.std.proofs.Common.{◌∙◌, ◌-◌, length, refl}
-use Rattle.rv_base.proofs.Lists.{numbered-take}
+use Rattle.journal.proofs.Lists.{numbered-take}
 use Rattle.chart.proofs.packets.note_posted.Goals as goal
 
 pub returns-in_ok-note_letters-in-Post : goal.returns-in_ok-note_letters-in-Post

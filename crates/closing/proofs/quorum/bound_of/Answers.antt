@@ -1,4 +1,4 @@
-use Rattle.rv_world.specs.World.{scene_in}
+use Rattle.world.specs.World.{scene_in}
 use Rattle.closing.proofs.Worlds.{bounded, member_of}
 use Rattle.closing.proofs.quorum.bound_of.Goals as goal
 

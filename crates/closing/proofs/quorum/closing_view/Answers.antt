@@ -1,5 +1,5 @@
 use Rattle.std.proofs.Common.{ap, arith}
-use Rattle.rv_world.specs.World.{scene_in}
+use Rattle.world.specs.World.{scene_in}
 use Rattle.closing.specs.Views.{most_view_of_a_closing}
 use Rattle.closing.proofs.Worlds.{bound_near}
 use Rattle.closing.proofs.Parts.{few_members}

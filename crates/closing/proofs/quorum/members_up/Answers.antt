@@ -1,5 +1,5 @@
 use Rattle.std.proofs.Common.{◌∙◌}
-use Rattle.rv_world.specs.World.{scene_in}
+use Rattle.world.specs.World.{scene_in}
 use Rattle.closing.proofs.Worlds.{counted, knows_itself, member_of}
 use Rattle.closing.proofs.quorum.members_up.Goals as goal
 

@@ -1,5 +1,5 @@
 use Rattle.std.proofs.Common.{◌≡◌, ◌++◌, drop}
-use Rattle.rv_runs.specs.Committed.{members_up}
+use Rattle.run_spec.specs.Committed.{members_up}
 use Rattle.closing.specs.Closing.{states_in, up_in}
 use Rattle.closing.proofs.quorum.members_up.Given as goal
 

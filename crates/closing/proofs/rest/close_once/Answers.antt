@@ -1,8 +1,8 @@
 use Rattle.std.proofs.Common.{◌≡◌, ◌+◌, length, ◌∙◌, ap, arith}
 use Rattle.std.proofs.lemmas.Result.{err_from_is_err_and}
-use Rattle.rv_base.specs.Pool.{past}
-use Rattle.rv_runs.specs.Schedule.{Losing, majority}
-use Rattle.rv_world.specs.World.{scene_in}
+use Rattle.journal.specs.Pool.{past}
+use Rattle.run_spec.specs.Schedule.{Losing, majority}
+use Rattle.world.specs.World.{scene_in}
 use Rattle.std.specs.Prelude.{◌/◌}
 use Rattle.closing.specs.Closing.{ClosesIn, EndsBy, StandsAt, up_in}
 use Rattle.closing.specs.Views.{most_view_of_a_closing, views_of_an_attempt}

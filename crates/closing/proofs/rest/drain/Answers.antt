@@ -1,7 +1,7 @@
 use Rattle.closing.specs.declared.closed.Came.{Came}
 use Rattle.std.proofs.Common.{sym, ◌∙◌, subst, arith, Err}
 use Rattle.std.proofs.lemmas.Result.{err_from_is_err_and}
-use Rattle.rv_world.specs.World.{scene_in}
+use Rattle.world.specs.World.{scene_in}
 use Rattle.closing.specs.Closing.{CameTo, Drained, Drains, LeadsTo, StandsAt, UpBy, up_in}
 use Rattle.closing.proofs.Leading.{leads_then}
 use Rattle.closing.proofs.Parts.{keeps_then, none_waits, not_over, over_came, rests_then, same_stop}

@@ -1,6 +1,6 @@
 use Rattle.std.proofs.Common.{◌≡◌}
-use Rattle.rv_base.specs.Pool.{past}
-use Rattle.rv_world.specs.World.{Keeps}
+use Rattle.journal.specs.Pool.{past}
+use Rattle.world.specs.World.{Keeps}
 use Rattle.closing.specs.Closing.{Drains, LeadsTo, Rests, up_in, work_left}
 use Rattle.closing.proofs.rest.drain.Given as goal
 

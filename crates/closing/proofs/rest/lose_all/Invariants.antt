@@ -1,7 +1,7 @@
 use Rattle.std.proofs.Common.{◌≡◌}
-use Rattle.rv_base.specs.Pool.{past}
-use Rattle.rv_runs.specs.Schedule.{Losing}
-use Rattle.rv_world.specs.World.{Keeps}
+use Rattle.journal.specs.Pool.{past}
+use Rattle.run_spec.specs.Schedule.{Losing}
+use Rattle.world.specs.World.{Keeps}
 use Rattle.closing.specs.Closing.{ClosesIn, LeadsTo, Rests, up_in, work_left}
 use Rattle.closing.proofs.rest.lose_all.Given as goal
 

@@ -1,8 +1,8 @@
 use Rattle.std.proofs.Common.{◌+◌, ◌-◌, ◌*◌, length}
-use Rattle.rv_base.specs.Pool.{past}
-use Rattle.rv_runs.specs.Schedule.{Losing}
-use Rattle.rv_world.specs.World.{Keeps}
-use Rattle.rv_laws.specs.Laws.{IsSuspectedUpTo}
+use Rattle.journal.specs.Pool.{past}
+use Rattle.run_spec.specs.Schedule.{Losing}
+use Rattle.world.specs.World.{Keeps}
+use Rattle.run_laws.specs.Laws.{IsSuspectedUpTo}
 use Rattle.closing.specs.Closing.{ClosesIn, LeadsTo, up_in}
 use Rattle.closing.specs.Views.{most_view_of_a_script, views_of_an_attempt}
 use Rattle.closing.proofs.rest.run.Given as goal

@@ -1,7 +1,7 @@
 use Rattle.closing.specs.declared.closed.Came.{Came}
 use Rattle.std.proofs.Common.{◌+◌, drop, sym, ◌∙◌, subst, arith, Err}
 use Rattle.std.proofs.lemmas.Result.{err_from_is_err_and}
-use Rattle.rv_world.specs.World.{scene_in}
+use Rattle.world.specs.World.{scene_in}
 use Rattle.closing.specs.Closing.{CameTo, Drains, LeadsTo, StandsAt, Suspects, UpBy, up_in}
 use Rattle.std.proofs.lemmas.List.{drop_all}
 use Rattle.closing.proofs.Lists.{drop_at}

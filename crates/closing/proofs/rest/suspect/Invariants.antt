@@ -1,5 +1,5 @@
 use Rattle.std.proofs.Common.{◌≡◌, drop}
-use Rattle.rv_world.specs.World.{Keeps}
+use Rattle.world.specs.World.{Keeps}
 use Rattle.closing.specs.Closing.{LeadsTo, Rests, Suspects, up_in}
 use Rattle.closing.proofs.rest.suspect.Given as goal
 

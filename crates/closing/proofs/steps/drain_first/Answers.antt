@@ -1,7 +1,7 @@
 use Rattle.closing.specs.declared.closed.Came.{Came}
 use Rattle.std.proofs.Common.{sym, ◌∙◌}
 use Rattle.std.proofs.lemmas.Result.{err_from_is_err_and}
-use Rattle.rv_world.specs.World.{scene_in}
+use Rattle.world.specs.World.{scene_in}
 use Rattle.closing.specs.Closing.{CameTo, Drains}
 use Rattle.closing.proofs.Parts.{same_stop}
 use Rattle.closing.proofs.steps.drain_first.Goals as goal

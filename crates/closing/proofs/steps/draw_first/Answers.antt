@@ -1,6 +1,6 @@
 use Rattle.std.proofs.Common.{refl, sym, subst}
 use Rattle.std.proofs.lemmas.Result.{err_from_is_err_and}
-use Rattle.rv_base.specs.Actors.{IsActor}
+use Rattle.journal.specs.Actors.{IsActor}
 use Rattle.closing.specs.Closing.{CameTo, Drains}
 use Rattle.closing.proofs.Worlds.{knows_itself}
 use Rattle.closing.proofs.Stepping.{named, draw_cut, draw_leads, draw_up, draw_less}

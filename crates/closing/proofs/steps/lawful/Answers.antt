@@ -1,4 +1,4 @@
-use Rattle.rv_laws.proofs.Laws.{waits_law}
+use Rattle.run_laws.proofs.Laws.{waits_law}
 use Rattle.closing.proofs.Worlds.{views_known}
 use Rattle.closing.proofs.steps.lawful.Goals as goal
 

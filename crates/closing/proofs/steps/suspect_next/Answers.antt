@@ -1,6 +1,6 @@
 use Rattle.std.proofs.Common.{◌<◌, sym, subst}
 use Rattle.std.proofs.lemmas.Result.{err_from_is_err_and}
-use Rattle.rv_world.specs.World.{scene_in}
+use Rattle.world.specs.World.{scene_in}
 use Rattle.closing.specs.Closing.{CameTo, Suspects}
 use Rattle.closing.proofs.Worlds.{knows_itself, up_within}
 use Rattle.closing.proofs.Stepping.{suspect_cut, suspect_leads, suspect_up}

@@ -1,6 +1,6 @@
 use Rattle.std.proofs.Common.{take_all, refl, sym, ◌∙◌, subst}
-use Rattle.rv_base.specs.Pool.{past}
-use Rattle.rv_laws.specs.Laws.{IsSuspectedUpTo}
+use Rattle.journal.specs.Pool.{past}
+use Rattle.run_laws.specs.Laws.{IsSuspectedUpTo}
 use Rattle.closing.specs.Views.{most_view_of_a_script}
 use Rattle.closing.proofs.Looking.{suspects_more, suspects_one}
 use Rattle.closing.proofs.views.may_close.Goals as goal

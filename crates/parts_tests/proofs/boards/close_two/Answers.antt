@@ -1,7 +1,7 @@
 use Rattle.std.proofs.Common.{◌≡◌, ◌∙◌, [], ◌∷◌, ◌++◌, map, ap, sym, subst, All}
 use Rattle.std.specs.Prelude.{Contains}
 use Rattle.std.proofs.lemmas.List.Elements.{All-contains_itself}
-use Rattle.switch_board.specs.Places.{PlaceState}
+use Rattle.shared_wire.specs.Places.{PlaceState}
 use Rattle.parts_tests.proofs.boards.close_two.Goals as goal
 
 pub close-requires-clause-all : goal.close-requires-clause-all

@@ -1,4 +1,4 @@
-use Rattle.switch_board.specs.Places.{IsSamePlace}
+use Rattle.shared_wire.specs.Places.{IsSamePlace}
 use Rattle.parts_tests.proofs.boards.draws.Given as goal
 
 abbrev pub invariant-loop : goal.invariant-loop

@@ -1,7 +1,7 @@
 use Rattle.std.proofs.Common.{◌≡◌, ◌∙◌, List, length, sym, ap, subst}
 use Rattle.std.proofs.lemmas.Result.{err_from_is_err_and}
-use Rattle.rv_world.specs.World.{Keeps, PairsStand}
-use Rattle.rv_world.proofs.Turning.{keeps_then}
+use Rattle.world.specs.World.{Keeps, PairsStand}
+use Rattle.world.proofs.Turning.{keeps_then}
 use Rattle.closing.specs.Views.{most_view_of_a_script}
 use Rattle.playing.specs.Manners.{Apart}
 use Rattle.playing.specs.Played.{HaltsAs}

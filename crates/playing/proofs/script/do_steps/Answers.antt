@@ -1,8 +1,8 @@
 use Rattle.std.proofs.Common.{arith}
 use Rattle.std.proofs.lemmas.Result.{err_from_is_err_and}
-use Rattle.rv_base.specs.Actors.{IsActor}
-use Rattle.rv_base.specs.Turns.{turn_actor}
-use Rattle.rv_world.proofs.Acting.{stood_at}
+use Rattle.journal.specs.Actors.{IsActor}
+use Rattle.journal.specs.Turns.{turn_actor}
+use Rattle.world.proofs.Acting.{stood_at}
 use Rattle.closing.specs.Views.{most_view_of_a_script}
 use Rattle.playing.specs.Played.{StepSuspectsUpTo}
 use Rattle.playing.proofs.Following.{keeps_next, stands_last, stands_next, stops_next}

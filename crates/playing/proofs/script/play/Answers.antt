@@ -1,6 +1,6 @@
 use Rattle.std.proofs.Common.{length, ap}
 use Rattle.std.proofs.lemmas.Result.{err_from_is_err_and}
-use Rattle.rv_world.proofs.Turning.{keeps_then}
+use Rattle.world.proofs.Turning.{keeps_then}
 use Rattle.playing.specs.Manners.{In_order}
 use Rattle.playing.proofs.Ending.{closing_stops, played}
 use Rattle.playing.proofs.script.play.Goals as goal

@@ -1,5 +1,5 @@
 use Rattle.std.proofs.Common.{ℕ, List}
-use Rattle.rv_world.specs.World.{Holds, PairsStand}
+use Rattle.world.specs.World.{Holds, PairsStand}
 use Rattle.run_cases.proofs.refusals.come_to_rest.Given as goal
 
 abbrev pub invariant-attempts : goal.invariant-attempts

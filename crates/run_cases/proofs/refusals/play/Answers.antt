@@ -1,12 +1,12 @@
 use Rattle.std.proofs.Common.{◌∷◌, [], List, sym, subst}
 use Rattle.std.specs.List.{AllByRecursion}
 use Rattle.of_types.specs.declared.setup.Setup.{Setup}
-use Rattle.rv_base.specs.declared.journal.Turn.{Turn}
-use Rattle.rv_base.specs.contracts.stable.MemoryStableStable.TheImpl as stable
-use Rattle.rv_base.specs.Actors.{IsActor}
-use Rattle.rv_base.specs.Turns.{turn_actor}
+use Rattle.journal.specs.declared.journal.Turn.{Turn}
+use Rattle.journal.specs.contracts.stable.MemoryStableStable.TheImpl as stable
+use Rattle.journal.specs.Actors.{IsActor}
+use Rattle.journal.specs.Turns.{turn_actor}
 use Rattle.app_core.specs.Chain.{learning}
-use Rattle.rv_world.specs.World.{PairsStand}
+use Rattle.world.specs.World.{PairsStand}
 use Rattle.top_call.proofs.Ran.{fresh_pairs}
 use Rattle.run_cases.specs.contracts.wanting.WantingApp.TheImpl.{ghosts}
 use Rattle.run_cases.proofs.refusals.play.Goals as goal

@@ -1,9 +1,9 @@
 use Rattle.std.proofs.Common.{sym, subst}
-use Rattle.rv_base.specs.Actors.{IsActor}
-use Rattle.rv_base.specs.Turns.{turn_actor}
-use Rattle.rv_base.proofs.All.{all_get}
-use Rattle.rv_world.proofs.Acting.{stood_at}
-use Rattle.rv_world.proofs.Turning.{keeps_then}
+use Rattle.journal.specs.Actors.{IsActor}
+use Rattle.journal.specs.Turns.{turn_actor}
+use Rattle.journal.proofs.All.{all_get}
+use Rattle.world.proofs.Acting.{stood_at}
+use Rattle.world.proofs.Turning.{keeps_then}
 use Rattle.closing.proofs.Parts.{keeps_none}
 use Rattle.run_cases.proofs.refusals.take_steps.Goals as goal
 

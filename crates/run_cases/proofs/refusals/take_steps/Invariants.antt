@@ -1,4 +1,4 @@
-use Rattle.rv_world.specs.World.{Keeps}
+use Rattle.world.specs.World.{Keeps}
 use Rattle.run_cases.proofs.refusals.take_steps.Given as goal
 
 abbrev pub invariant-loop-step : goal.invariant-loop-step

@@ -1,6 +1,6 @@
 use Rattle.std.proofs.Common.{◌≡◌, length}
 use Rattle.std.specs.List.{AllByRecursion}
-use Rattle.rv_base.specs.Stables.{pair_of}
+use Rattle.journal.specs.Stables.{pair_of}
 use Rattle.run_cases.proofs.serving.stables.Given as goal
 
 abbrev pub invariant-making : goal.invariant-making

@@ -1,7 +1,7 @@
 use Rattle.std.proofs.Common.{◌+◌, ◌∷◌, [], List, length, length-append, sym, ◌∙◌, ap, subst}
-use Rattle.rv_base.proofs.All.{all_append}
+use Rattle.journal.proofs.All.{all_append}
 use Rattle.app_core.specs.Chain.{learning}
-use Rattle.rv_world.specs.World.{AreStocked, IsStocked}
+use Rattle.world.specs.World.{AreStocked, IsStocked}
 use Rattle.run_cases.specs.contracts.wanting.WantingApp.TheImpl.{ghosts}
 use Rattle.run_cases.proofs.wanting.shelves_of.Goals as goal
 

@@ -1,6 +1,6 @@
 use Rattle.std.proofs.Common.{◌≡◌, ◌∷◌, [], length}
 use Rattle.app_core.specs.Chain.{learning}
-use Rattle.rv_world.specs.World.{AreStocked}
+use Rattle.world.specs.World.{AreStocked}
 use Rattle.run_cases.specs.contracts.wanting.WantingApp.TheImpl.{ghosts}
 use Rattle.run_cases.proofs.wanting.shelves_of.Given as goal
 

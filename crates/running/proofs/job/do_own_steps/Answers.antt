@@ -1,9 +1,9 @@
 use Rattle.std.proofs.Common.{subst, sym, ◌∙◌, ◌≡◌, ◌+◌, length, take, true}
 use Rattle.std.specs.Prelude.{if◌then◌else◌, slice_get, Some}
 use Rattle.std.proofs.lemmas.Result.{err_from_is_err_and}
-use Rattle.rv_base.specs.Actors.{same_actor}
-use Rattle.rv_base.specs.Turns.{turn_actor}
-use Rattle.rv_world.proofs.Acting.{stood_at}
+use Rattle.journal.specs.Actors.{same_actor}
+use Rattle.journal.specs.Turns.{turn_actor}
+use Rattle.world.proofs.Acting.{stood_at}
 use Rattle.running.specs.Apart.{steps_of}
 use Rattle.running.specs.Jobs.{PlaysOn, StopsIn}
 use Rattle.running.proofs.Playing.{err_at, on_ok_at}

@@ -1,6 +1,6 @@
 use Rattle.std.proofs.Common.{subst, sym, rules, [], ◌≡◌}
-use Rattle.rv_base.specs.Turns.{posting}
-use Rattle.switch_board.specs.Calls.{Adds, Refuses}
+use Rattle.journal.specs.Turns.{posting}
+use Rattle.shared_wire.specs.Calls.{Adds, Refuses}
 use Rattle.running.specs.Jobs.{PlaysOn}
 use Rattle.running.proofs.Stepping.{last_posted, refused_stops, stops_in}
 use Rattle.running.proofs.job.post_last.Goals as goal

@@ -1,9 +1,9 @@
 use Rattle.std.proofs.Common.{subst, sym, [], ◌∷◌, ◌++◌, ◌+◌}
 use Rattle.std.proofs.lemmas.Result.{err_from_is_err_and}
-use Rattle.rv_base.specs.Part.{drawn}
-use Rattle.rv_base.specs.Pool.{past}
-use Rattle.rv_base.specs.Turns.{entry_of, posting, posted}
-use Rattle.switch_board.specs.Calls.{beside}
+use Rattle.journal.specs.Part.{drawn}
+use Rattle.journal.specs.Pool.{past}
+use Rattle.journal.specs.Turns.{entry_of, posting, posted}
+use Rattle.shared_wire.specs.Calls.{beside}
 use Rattle.running.specs.Hearing.{Hears}
 use Rattle.running.specs.Jobs.{HasPlayedSome}
 use Rattle.running.proofs.Playing.{ok_at, on_err_at}

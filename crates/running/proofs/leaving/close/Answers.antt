@@ -1,7 +1,7 @@
 use Rattle.std.proofs.Common.{subst}
-use Rattle.rv_base.specs.Orderly.{IsOrderly}
-use Rattle.rv_base.specs.Pool.{past}
-use Rattle.rv_base.specs.Turns.{IsWithinLimits}
+use Rattle.journal.specs.Orderly.{IsOrderly}
+use Rattle.journal.specs.Pool.{past}
+use Rattle.journal.specs.Turns.{IsWithinLimits}
 use Rattle.running.proofs.leaving.close.Goals as goal
 
 pub returns-clause-orderly : goal.returns-clause-orderly

@@ -1,8 +1,8 @@
 use Rattle.std.proofs.Common.{subst, Some}
-use Rattle.rv_base.specs.declared.journal.Turn.TheVariants as turn
-use Rattle.rv_base.specs.Orderly.{IsOrderly}
-use Rattle.rv_base.specs.Places.{IsFound}
-use Rattle.rv_base.specs.Pool.{past, pick}
+use Rattle.journal.specs.declared.journal.Turn.TheVariants as turn
+use Rattle.journal.specs.Orderly.{IsOrderly}
+use Rattle.journal.specs.Places.{IsFound}
+use Rattle.journal.specs.Pool.{past, pick}
 use Rattle.std.specs.Prelude.{drop}
 use Rattle.running.proofs.Going.{finds, finds_nothing, still_on}
 use Rattle.running.proofs.next.draws.Goals as goal

@@ -1,7 +1,7 @@
 use Rattle.std.proofs.Common.{rules, ◌∙◌, ap, subst}
-use Rattle.rv_base.specs.declared.journal.Turn.TheVariants as turn
-use Rattle.rv_base.specs.Turns.{turn_entries}
-use Rattle.switch_board.specs.Calls.{Adds}
+use Rattle.journal.specs.declared.journal.Turn.TheVariants as turn
+use Rattle.journal.specs.Turns.{turn_entries}
+use Rattle.shared_wire.specs.Calls.{Adds}
 use Rattle.running.proofs.Going.{local_on}
 use Rattle.running.proofs.next.takes_local.Goals as goal
 

@@ -1,7 +1,7 @@
 use Rattle.std.proofs.Common.{ℕ, [], ◌∷◌, ◌++◌, sym, ◌∙◌, ap, map, append_assoc}
 use Rattle.std.specs.List.{range_with_len}
-use Rattle.rv_base.specs.declared.journal.Actor.TheVariants as actor
-use Rattle.rv_world.proofs.Shelves.{mapped_push}
+use Rattle.journal.specs.declared.journal.Actor.TheVariants as actor
+use Rattle.world.proofs.Shelves.{mapped_push}
 use Rattle.running.proofs.ready.actors_of.Goals as goal
 
 pub loop-number-preserved : goal.loop-number-preserved

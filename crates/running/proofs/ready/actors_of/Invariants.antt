@@ -1,6 +1,6 @@
 use Rattle.std.proofs.Common.{◌≡◌, ◌++◌, ℕ, map}
 use Rattle.std.specs.List.{range_with_len}
-use Rattle.rv_base.specs.declared.journal.Actor.TheVariants as actor
+use Rattle.journal.specs.declared.journal.Actor.TheVariants as actor
 use Rattle.running.proofs.ready.actors_of.Given as goal
 
 abbrev pub invariant-loop-number : goal.invariant-loop-number

@@ -1,8 +1,8 @@
 use Rattle.std.proofs.Common.{List, subst, sym, ◌∙◌, ap, ◌<◌, length, map, arith}
 use Rattle.std.specs.List.{IsDistinct}
-use Rattle.rv_base.specs.declared.journal.Actor.{Actor}
-use Rattle.rv_base.specs.Actors.{same_actor}
-use Rattle.switch_board.specs.Places.{fresh}
+use Rattle.journal.specs.declared.journal.Actor.{Actor}
+use Rattle.journal.specs.Actors.{same_actor}
+use Rattle.shared_wire.specs.Places.{fresh}
 use Rattle.running.proofs.Distinct.{distinct, how_many}
 use Rattle.running.proofs.ready.board_of.Goals as goal
 

@@ -2,8 +2,8 @@ use Rattle.std.proofs.Common.{◌≡◌, ◌++◌, ℕ, length, map, drop, sym, 
 use Rattle.std.specs.Prelude.{All, vec_len}
 use Rattle.std.specs.Vec.Iter.{into_iter_items}
 use Rattle.std.proofs.lemmas.List.Elements.{All-append}
-use Rattle.switch_board.specs.Places.{fresh, IsPartOf, PlaceState}
-use Rattle.switch_board.specs.Rule.{AreNamed}
+use Rattle.shared_wire.specs.Places.{fresh, IsPartOf, PlaceState}
+use Rattle.shared_wire.specs.Rule.{AreNamed}
 use Rattle.running.specs.Playing.{ServedPlays, SwitchPlays}
 use Rattle.running.specs.Runs.{controller_of, first_stop, place_of, player_of, seated, served, stable_of}
 use Rattle.running.specs.Tasks.{AllRan, MayBegin}

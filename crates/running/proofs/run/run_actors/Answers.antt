@@ -1,11 +1,11 @@
 use Rattle.std.proofs.Common.{length, map, drop, refl, sym, ◌∙◌, ap, subst}
 use Rattle.std.specs.Prelude.{All}
-use Rattle.switch_board.specs.Places.{fresh}
+use Rattle.shared_wire.specs.Places.{fresh}
 use Rattle.running.specs.Playing.{ServedPlays, SwitchPlays}
 use Rattle.running.specs.Runs.{actors_up_to, seated, served}
 use Rattle.running.specs.Tasks.{MayBegin}
 use Rattle.running.specs.Together.{HavePlayed}
-use Rattle.rv_world.proofs.Turning.{none_told}
+use Rattle.world.proofs.Turning.{none_told}
 use Rattle.running.proofs.Together as together
 use Rattle.running.proofs.run.run_actors.Goals as goal
 

@@ -1,9 +1,9 @@
 use Rattle.std.proofs.Common.{◌≡◌, ◌≤◌, ◌<◌, ◌+◌, List, [], ◌∷◌, length, sym, ◌∙◌, ap, subst, arith}
 use Rattle.std.specs.List.{AllByRecursion}
 use Rattle.group_controller.specs.Turns.{AreAlike}
-use Rattle.rv_base.proofs.All.{all_append}
-use Rattle.rv_world.proofs.Yielding.{some_step, none_step}
-use Rattle.rv_world.specs.World.{IsStocked}
+use Rattle.journal.proofs.All.{all_append}
+use Rattle.world.proofs.Yielding.{some_step, none_step}
+use Rattle.world.specs.World.{IsStocked}
 use Rattle.top_call.proofs.Shelving.{IsFilled, alike_push, all_full, long_push, none_filled, not_full, passed, put, put_last}
 use Rattle.top_call.proofs.shelves.shelves_of.Goals as goal
 

@@ -1,7 +1,7 @@
 use Rattle.std.proofs.Common.{ℕ, List, length}
 use Rattle.std.specs.List.{AllByRecursion}
 use Rattle.group_controller.specs.Turns.{AreAlike}
-use Rattle.rv_world.specs.World.{IsStocked}
+use Rattle.world.specs.World.{IsStocked}
 use Rattle.top_call.specs.Play.{AreChains}
 use Rattle.top_call.proofs.Shelving.{IsFilled}
 use Rattle.top_call.proofs.shelves.shelves_of.Given as goal

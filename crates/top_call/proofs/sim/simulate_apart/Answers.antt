@@ -1,11 +1,11 @@
 use Rattle.std.proofs.Common.{List, refl, sym, subst}
 use Rattle.std.specs.List.{AllByRecursion}
 use Rattle.of_types.specs.declared.setup.Setup.{Setup}
-use Rattle.rv_base.specs.declared.journal.Turn.{Turn}
-use Rattle.rv_base.specs.Actors.{IsActor}
-use Rattle.rv_base.specs.Turns.{turn_actor}
-use Rattle.rv_runs.specs.Bodies.{byte_bodies}
-use Rattle.rv_world.specs.World.{scene_in}
+use Rattle.journal.specs.declared.journal.Turn.{Turn}
+use Rattle.journal.specs.Actors.{IsActor}
+use Rattle.journal.specs.Turns.{turn_actor}
+use Rattle.run_spec.specs.Bodies.{byte_bodies}
+use Rattle.world.specs.World.{scene_in}
 use Rattle.closing.specs.Views.{most_view_of_a_script}
 use Rattle.closing.proofs.Leading.{runs_again}
 use Rattle.playing.specs.Manners.{Apart}

@@ -1,6 +1,6 @@
 use Rattle.std.proofs.Common.{rules, ◌≡◌, ◌≤◌, ◌+◌, ◌∷◌, [], ◌++◌, ap, subst, sym, ◌∙◌}
 use Rattle.std.specs.Prelude.{box_value, option_map}
-use Rattle.rv_base.specs.Stables.{standing}
+use Rattle.journal.specs.Stables.{standing}
 use Rattle.app_core.specs.Chain.{given_by, starting_chain}
 use Rattle.dispatcher.specs.Ledger.{most_commands}
 use Rattle.group_controller.specs.Acting.{Acting}

@@ -1,6 +1,6 @@
 use Rattle.std.proofs.Common.{◌∙◌, List, ◌++◌, ◌-◌, length, take, append_assoc, ap}
 use Rattle.of_types.specs.declared.message.Event.{Event}
-use Rattle.rv_base.specs.declared.journal.Letter.{Letter}
+use Rattle.journal.specs.declared.journal.Letter.{Letter}
 use Rattle.of_switch.specs.declared.says.SwitchSays.{SwitchSays}
 use Rattle.of_switch.specs.contracts.draft.Draft.{the_view}
 use Rattle.of_switch.specs.Drafts.{Draft, with_first}

@@ -1,7 +1,7 @@
 use Rattle.std.proofs.Common.{[], ◌∷◌, inl, inr, refl}
 use Rattle.std.specs.Prelude.{None}
-use Rattle.rv_base.specs.declared.journal.JournalEntry.TheVariants.{Refused}
-use Rattle.rv_runs.specs.States.{controller_message, sealed_letters}
+use Rattle.journal.specs.declared.journal.JournalEntry.TheVariants.{Refused}
+use Rattle.run_spec.specs.States.{controller_message, sealed_letters}
 use Rattle.running.proofs.Playing.{if_ok, on_err_then, served_takes, served_wants}
 use Rattle.running.proofs.seated.ServedSeated.take.Goals as goal
 

@@ -1,5 +1,5 @@
 use Rattle.std.proofs.Common.{[], ◌∷◌, inl, inr, refl, sym, subst}
-use Rattle.rv_runs.specs.States.{sealed_letters, switch_message}
+use Rattle.run_spec.specs.States.{sealed_letters, switch_message}
 use Rattle.running.specs.Playing.{SwitchPlays, scene_of}
 use Rattle.running.proofs.Playing.{if_ok, on_err_then}
 use Rattle.running.proofs.Switching.{switch_takes}

@@ -1,4 +1,4 @@
-use Rattle.rv_record.specs.Shows.{told_by}
+use Rattle.world_record.specs.Shows.{told_by}
 use Rattle.top_call.proofs.LastLine.{tells_last}
 use Rattle.top_call.proofs.sim.Output.text_of.Goals as goal
 

@@ -1,0 +1,107 @@
+//! A call that makes something of a report: how it takes the report, and how it ends.
+ghost use Rattle.std.specs.Prelude.{◌≡◌, ◌≢◌, IfOk};
+ghost use Rattle.std.specs.Io.KnownBytes.{Appends};
+ghost use Rattle.journal.specs.Causes.{Rose};
+ghost use Rattle.command_line.specs.Conversion as call;
+ghost use Rattle.command_line.specs.Lines.{text_bytes};
+
+use crate::status::{NO_MEMORY, WRITE_FAILED};
+use crate::text::{Text, differs_line, unread_line};
+use of_types::Octets;
+use report::{REPORT_LIMIT, Record, ReportFault, read_report};
+use journal::{Sink, Source};
+use std::alloc::{AllocError, Global};
+use streams::{StreamFault, read_input, write_all};
+
+/// How a call ended, before anything is written.
+#[derive(Drop)]
+pub enum Ending {
+    /// What was made of a report.
+    Made(Octets),
+    /// The words are not accepted.
+    Usage,
+    /// There are more bytes than a report has.
+    TooLarge,
+    /// The source failed.
+    Unread,
+    /// The first line that is none of a report's.
+    Differs { line: u64 },
+}
+
+/// What a source gave: a report, or how the call ends without one.
+#[derive(Drop)]
+pub enum Taken {
+    Told(Record),
+    Ended(Ending),
+}
+
+/// What a source gives.
+pub fn take_report<S: Source>(alloc: Global, source: &mut S) -> Result<Taken, AllocError>
+    ensures { IfOk result (call.IsTaken (S.left source.old) (S.left source.new) (Rose (S.faults source.old) (S.faults source.new))) }
+{
+    match read_input(alloc, source, REPORT_LIMIT) {
+        Ok(bytes) => taken_bytes(alloc, bytes.as_slice()),
+        Err(StreamFault::Failed) => Ok(Taken::Ended(Ending::Unread)),
+        Err(StreamFault::OutOfMemory) => Err(AllocError),
+    }
+}
+
+/// Writes the text of an ending, and answers the status.
+pub fn end_call<K: Sink>(alloc: Global, ending: Ending, usage: &'static [u8], sink: &mut K) -> u8
+    ensures told { result ≢ 5 → result ≢ 6 → (result ≡ call.status_of ending)
+        × Appends (K.taken sink.old) (K.taken sink.new) (call.ending_text usage.now ending) }
+    ensures unwritten { result ≡ 5 → Rose (K.faults sink.old) (K.faults sink.new) }
+    ensures memory { result ≡ 6 → sink.new ≡ sink.old }
+{
+    let status = ending.status();
+    let Ok(text) = ending.into_text(alloc, usage) else {
+        return NO_MEMORY;
+    };
+    match write_all(sink, text.as_slice()) {
+        Ok(()) => status,
+        Err(_) => WRITE_FAILED,
+    }
+}
+
+/// What bytes are.
+fn taken_bytes(alloc: Global, bytes: &[u8]) -> Result<Taken, AllocError>
+    ensures { IfOk result (call.AreTaken bytes.now) }
+{
+    if bytes.len() > REPORT_LIMIT {
+        return Ok(Taken::Ended(Ending::TooLarge));
+    }
+    match read_report(alloc, bytes) {
+        Ok(told) => Ok(Taken::Told(told)),
+        Err(ReportFault::NotText { line }) => Ok(Taken::Ended(Ending::Differs { line })),
+        Err(ReportFault::OutOfMemory) => Err(AllocError),
+    }
+}
+
+impl Ending {
+    /// The status of a call that ended so.
+    fn status(&self) -> u8
+        ensures { result ≡ call.status_of self.now }
+    {
+        match self {
+            Ending::Made(_) => 0,
+            Ending::Usage => 2,
+            Ending::TooLarge => 3,
+            Ending::Unread => 4,
+            Ending::Differs { .. } => 8,
+        }
+    }
+
+    /// What is written. Only what was made and a line that differs take memory.
+    #[tactic(auto, unfolding(crate::specs::Conversion::size_line))]
+    fn into_text(self, alloc: Global, usage: &'static [u8]) -> Result<Text, AllocError>
+        ensures { IfOk result (λ text. text_bytes text ≡ call.ending_text usage.now self) }
+    {
+        match self {
+            Ending::Made(text) => Ok(Text::Own(text)),
+            Ending::Usage => Ok(Text::Fixed(usage)),
+            Ending::TooLarge => Ok(Text::Fixed(b"fault 3 size top\n")),
+            Ending::Unread => Ok(Text::Fixed(unread_line())),
+            Ending::Differs { line } => Ok(Text::Own(differs_line(alloc, line)?)),
+        }
+    }
+}

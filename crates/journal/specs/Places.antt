@@ -1,0 +1,92 @@
+-- Where the letters of packets stand in a journal, and queues of such places.
+use Rattle.std.specs.Prelude.{◌≡◌, ℕ, ◌+◌, ◌%◌, nat_le, Bool, List, [], ◌∷◌, length, get_or, filter, slice_get, option_map, Option, Some, None, if◌then◌else◌}
+use Rattle.std.specs.List.{remove}
+use Rattle.journal.specs.declared.journal.Actor.{Actor}
+use Rattle.journal.specs.declared.journal.Actor.TheVariants.{Controller, Switch}
+use Rattle.journal.specs.declared.journal.JournalEntry.{JournalEntry}
+use Rattle.journal.specs.declared.journal.JournalEntry.TheVariants.{Post, Draw, Lose, Local, Idle, Refused}
+use Rattle.journal.specs.declared.journal.Letter.{Letter}
+use Rattle.journal.specs.declared.journal.Packet.{Packet}
+use Rattle.journal.specs.declared.place.PacketPlace.{PacketPlace}
+use Rattle.journal.specs.declared.queues.Queues.{Queues}
+use Rattle.journal.specs.Actors.{same_actor}
+
+-- a letter as the packet of this number
+abbrev pub packet_as : {B : Type 0} → ℕ → Actor → Letter B → Packet B
+packet_as id from letter = record { id = id; from = from; to = letter.to; body = letter.body }
+
+-- letter k of a post: numbered first + k, from the post's actor, to the letter's receiver, with its body
+abbrev pub packet_in : {B : Type 0} → ℕ → Option (JournalEntry B) → Option (Packet B)
+packet_in k None = None
+packet_in k (Some (Post actor first letters lost)) = option_map (λ letter. packet_as (first + k) actor letter) (slice_get letters k)
+packet_in k (Some (Draw actor id keep)) = None
+packet_in k (Some (Lose actor id)) = None
+packet_in k (Some (Local actor input)) = None
+packet_in k (Some (Idle actor)) = None
+packet_in k (Some (Refused actor)) = None
+
+-- the packet of a place: letter k of the post at entry i, in a journal with its oldest entry first
+abbrev pub packet_at : {B : Type 0} → PacketPlace → List (JournalEntry B) → Option (Packet B)
+packet_at place journal = packet_in place.letter (slice_get journal place.entry)
+
+-- the packet stands at the place, which tells its number, its sender and its receiver
+pub record IsPlaceOf {B : Type 0} (journal : List (JournalEntry B)) (place : PacketPlace) (p : Packet B) : Type 0 where
+  pub stands : packet_at place journal ≡ Some p
+  pub id_is : place.id ≡ p.id
+  pub from_is : place.from ≡ p.from
+  pub to_is : place.to ≡ p.to
+
+-- the place of a packet, or nothing exactly where there is none
+abbrev pub IsFound : {B : Type 0} → List (JournalEntry B) → Option PacketPlace → Option (Packet B) → Type 0
+IsFound journal None None = Unit {0}
+IsFound journal None (Some p) = ⊥
+IsFound journal (Some place) None = ⊥
+IsFound journal (Some place) (Some p) = IsPlaceOf journal place p
+
+-- the places of packets, one of each in their order
+abbrev pub ArePlacesOf : {B : Type 0} → List (JournalEntry B) → List PacketPlace → List (Packet B) → Type 0
+ArePlacesOf journal [] [] = Unit {0}
+ArePlacesOf journal [] (p ∷ packets) = ⊥
+ArePlacesOf journal (place ∷ places) [] = ⊥
+ArePlacesOf journal (place ∷ places) (p ∷ packets) = IsPlaceOf journal place p × ArePlacesOf journal places packets
+
+-- the places of letters from letter k on of the post at an entry, numbered from there on
+abbrev pub placed : {B : Type 0} → ℕ → ℕ → ℕ → Actor → List (Letter B) → List PacketPlace
+placed entry k first from [] = []
+placed entry k first from (letter ∷ letters) =
+    record { id = first; from = from; to = letter.to; entry = entry; letter = k } ∷ placed entry (k + 1) (first + 1) from letters
+
+-- those of them for an actor
+abbrev pub sent_to : Actor → List PacketPlace → List PacketPlace
+sent_to a places = filter (λ place. same_actor place.to a) places
+
+abbrev pub letters_to : {B : Type 0} → Actor → List (Letter B) → List (Letter B)
+letters_to a letters = filter (λ letter. same_actor letter.to a) letters
+
+-- the queue of an actor
+abbrev pub queue_of : Queues → Actor → List PacketPlace
+queue_of queues (Controller n) = get_or queues.controllers n []
+queue_of queues (Switch n) = get_or queues.switches n []
+
+-- the place of a choice, counted round
+abbrev pub picked : ℕ → List PacketPlace → Option PacketPlace
+picked choice places = slice_get places (choice % length places)
+
+-- a queue once its place of a choice was picked
+abbrev pub left_in : ℕ → Bool → List PacketPlace → List PacketPlace
+left_in choice keep places = if keep then places else remove places (choice % length places)
+
+-- the one of the lower number, the first of two with the same
+abbrev pub lower : Option PacketPlace → PacketPlace → PacketPlace
+lower None place = place
+lower (Some best) place = if nat_le best.id place.id then best else place
+
+-- the one of the lowest number, of one place and the first of each list
+abbrev pub lowest : Option PacketPlace → List (List PacketPlace) → Option PacketPlace
+lowest best [] = best
+lowest best ([] ∷ lists) = lowest best lists
+lowest best ((place ∷ places) ∷ lists) = lowest (Some (lower best place)) lists
+
+-- the one of the lowest number in queues, by the first of each
+abbrev pub first_of : Queues → Option PacketPlace
+first_of queues = lowest (lowest None queues.controllers) queues.switches

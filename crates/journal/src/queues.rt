@@ -1,0 +1,249 @@
+//! The packets that wait, in a queue for each actor.
+ghost use Rattle.std.specs.Prelude.{◌≡◌, ℕ, ◌<◌, ◌+◌, ◌-◌, ◌^◌, ◌%◌, ◌++◌, [], ◌∷◌, nat_eq, length, take, drop, get_or, filter, slice_get, OnOk, OnErr, Option, if◌then◌else◌};
+ghost use Rattle.journal.specs.Actors.{same_actor};
+ghost use Rattle.journal.specs.Places.{placed, queue_of, left_in, picked, sent_to, letters_to, lowest, lower, first_of};
+
+use crate::journal::{Actor, Letter};
+use crate::place::PacketPlace;
+use std::alloc::{AllocError, Global};
+use std::collections::VecDeque;
+use std::marker::Model;
+
+/// The queues of controllers, or those of switches, by the number of their actor. Contracts see the
+/// list of their lists. Past its end all are empty.
+#[derive(Drop)]
+struct Row {
+    queues: Vec<VecDeque<PacketPlace>>,
+}
+
+impl Model for Row {
+    ghost use Rattle.std.specs.Prelude.{List, map};
+    ghost use Rattle.journal.specs.declared.place.PacketPlace.{PacketPlace};
+
+    ghost Value = { List (List PacketPlace) };
+
+    ghost view = { λ row. map (λ q. q.items) row.queues.items };
+}
+
+/// The packet of a choice, counted round. It leaves the queue, unless it is kept.
+fn pick(queue: &mut VecDeque<PacketPlace>, choice: u64, keep: bool) -> Option<PacketPlace>
+    ensures found { result ≡ picked choice queue.old.items }
+    ensures left { queue.new.items ≡ left_in choice keep queue.old.items }
+{
+    let count = queue.len() as u64;
+    if count == 0 {
+        return None;
+    }
+    let index = (choice % count) as usize;
+    if keep {
+        queue.get(index).copied()
+    } else {
+        queue.remove(index)
+    }
+}
+
+/// The packet of a choice, counted round. It stays in the queue.
+fn look(queue: &VecDeque<PacketPlace>, choice: u64) -> Option<PacketPlace>
+    ensures { result ≡ picked choice queue.now.items }
+{
+    let count = queue.len() as u64;
+    if count == 0 {
+        return None;
+    }
+    queue.get((choice % count) as usize).copied()
+}
+
+/// The one of the lower number, the first of two with the same.
+fn lower(best: Option<PacketPlace>, place: PacketPlace) -> PacketPlace
+    ensures { result ≡ lower best place }
+{
+    match best {
+        Some(found) if found.id <= place.id => found,
+        _ => place,
+    }
+}
+
+impl Row {
+    /// All queues are empty.
+    fn new(alloc: Global) -> Row
+        ensures { result ≡ [] }
+    {
+        Row {
+            queues: Vec::new(alloc),
+        }
+    }
+
+    /// Makes the row long enough for this number.
+    fn reach(&mut self, number: usize) -> Result<(), AllocError>
+        ensures same { (n : ℕ) → get_or self.new n [] ≡ get_or self.old n [] }
+        ensures ok { OnOk result (number < length self.new) }
+    {
+        let alloc = *self.queues.allocator();
+        while self.queues.len() <= number {
+            self.queues.push(VecDeque::new(alloc))?;
+        }
+        Ok(())
+    }
+
+    /// Adds a packet to the end of a queue. An `Err` changes none.
+    fn push(&mut self, number: u8, place: PacketPlace) -> Result<(), AllocError>
+        ensures ok { OnOk result ((n : ℕ) → get_or self.new n [] ≡ (if nat_eq n number then get_or self.old n [] ++ place ∷ [] else get_or self.old n [])) }
+        ensures err { OnErr result ((n : ℕ) → get_or self.new n [] ≡ get_or self.old n []) }
+    {
+        let index = number as usize;
+        self.reach(index)?;
+        self.queues[index].push_back(place)?;
+        Ok(())
+    }
+
+    /// Takes the last packet of a queue away, if it has one.
+    fn pop(&mut self, number: u8)
+        ensures { (n : ℕ) → get_or self.new n [] ≡ (if nat_eq n number then take (length (get_or self.old n []) - 1) (get_or self.old n []) else get_or self.old n []) }
+    {
+        let index = number as usize;
+        if index < self.queues.len() {
+            let _ = self.queues[index].pop_back();
+        }
+    }
+
+    /// The packet of a choice, counted round. It leaves its queue, unless it is kept.
+    fn pick(&mut self, number: u8, choice: u64, keep: bool) -> Option<PacketPlace>
+        ensures found { result ≡ picked choice (get_or self.old number []) }
+        ensures left { (n : ℕ) → get_or self.new n [] ≡ (if nat_eq n number then left_in choice keep (get_or self.old n []) else get_or self.old n []) }
+    {
+        let index = number as usize;
+        if index >= self.queues.len() {
+            return None;
+        }
+        pick(&mut self.queues[index], choice, keep)
+    }
+
+    /// The packet of a choice, counted round. It stays in its queue.
+    fn look(&self, number: u8, choice: u64) -> Option<PacketPlace>
+        ensures { result ≡ picked choice (get_or self.now number []) }
+    {
+        let index = number as usize;
+        if index >= self.queues.len() {
+            return None;
+        }
+        look(&self.queues[index], choice)
+    }
+
+    /// The one of the lowest number, of `best` and the first of each queue.
+    fn first(&self, best: Option<PacketPlace>) -> Option<PacketPlace>
+        ensures { result ≡ lowest best self.now }
+    {
+        let mut best = best;
+        for queue in &self.queues {
+            if let Some(front) = queue.front() {
+                best = Some(lower(best, *front));
+            }
+        }
+        best
+    }
+}
+
+/// The packets that wait for each actor, by number.
+#[derive(Drop)]
+pub struct Queues {
+    controllers: Row,
+    switches: Row,
+}
+
+impl Queues {
+    /// All queues are empty.
+    pub fn new(alloc: Global) -> Queues
+        ensures { result ≡ record { controllers = []; switches = [] } }
+    {
+        Queues {
+            controllers: Row::new(alloc),
+            switches: Row::new(alloc),
+        }
+    }
+
+    /// Adds a packet to the end of its receiver's queue. An `Err` changes none.
+    fn push(&mut self, place: PacketPlace) -> Result<(), AllocError>
+        ensures ok { OnOk result ((a : Actor) → queue_of self.new a ≡ (if same_actor place.to a then queue_of self.old a ++ place ∷ [] else queue_of self.old a)) }
+        ensures err { OnErr result ((a : Actor) → queue_of self.new a ≡ queue_of self.old a) }
+    {
+        match place.to {
+            Actor::Controller(number) => self.controllers.push(number, place),
+            Actor::Switch(number) => self.switches.push(number, place),
+        }
+    }
+
+    /// Takes the last packet of a queue away, if it has one.
+    fn pop(&mut self, actor: Actor)
+        ensures { (a : Actor) → queue_of self.new a ≡ (if same_actor actor a then take (length (queue_of self.old a) - 1) (queue_of self.old a) else queue_of self.old a) }
+    {
+        match actor {
+            Actor::Controller(number) => self.controllers.pop(number),
+            Actor::Switch(number) => self.switches.pop(number),
+        }
+    }
+
+    /// For each letter, takes the last packet of its receiver away.
+    fn pop_each<B>(&mut self, letters: &[Letter<B>])
+        ensures { (a : Actor) → queue_of self.new a ≡ take (length (queue_of self.old a) - length (letters_to a letters.now)) (queue_of self.old a) }
+    {
+        for letter in letters {
+            self.pop(letter.to);
+        }
+    }
+
+    /// Adds the letters of the post at this entry, numbered from `first` on. An `Err` changes no queue.
+    pub fn append<B>(
+        &mut self,
+        entry: usize,
+        first: u64,
+        from: Actor,
+        letters: &[Letter<B>],
+    ) -> Result<(), AllocError>
+        requires { first + length letters.now < 2 ^ 64 }
+        ensures ok { OnOk result ((a : Actor) → queue_of self.new a ≡ queue_of self.old a ++ sent_to a (placed entry 0 first from letters.now)) }
+        ensures err { OnErr result ((a : Actor) → queue_of self.new a ≡ queue_of self.old a) }
+    {
+        for (letter, sent) in letters.iter().enumerate() {
+            let place = PacketPlace {
+                id: first + letter as u64,
+                from,
+                to: sent.to,
+                entry,
+                letter,
+            };
+            if let Err(error) = self.push(place) {
+                self.pop_each(&letters[..letter]);
+                return Err(error);
+            }
+        }
+        Ok(())
+    }
+
+    /// The packet of a choice, counted round. It leaves the actor's queue, unless it is kept.
+    pub fn pick(&mut self, actor: Actor, choice: u64, keep: bool) -> Option<PacketPlace>
+        ensures found { result ≡ picked choice (queue_of self.old actor) }
+        ensures left { (a : Actor) → queue_of self.new a ≡ (if same_actor actor a then left_in choice keep (queue_of self.old a) else queue_of self.old a) }
+    {
+        match actor {
+            Actor::Controller(number) => self.controllers.pick(number, choice, keep),
+            Actor::Switch(number) => self.switches.pick(number, choice, keep),
+        }
+    }
+
+    /// The packet of a choice, counted round. It stays in the actor's queue.
+    pub fn look(&self, actor: Actor, choice: u64) -> Option<PacketPlace>
+        ensures { result ≡ picked choice (queue_of self.now actor) }
+    {
+        match actor {
+            Actor::Controller(number) => self.controllers.look(number, choice),
+            Actor::Switch(number) => self.switches.look(number, choice),
+        }
+    }
+
+    /// The packet of the lowest number, by the first of each queue.
+    pub fn first(&self) -> Option<PacketPlace>
+        ensures { result ≡ first_of self.now }
+    {
+        self.switches.first(self.controllers.first(None))
+    }
+}

@@ -1,0 +1,200 @@
+//! The journal beside the queues of what waits: what one turn of an actor adds to it.
+ghost use Rattle.std.specs.Prelude.{◌≡◌, [], ◌∷◌, ◌++◌, slice_get, OnOk, IfOk, IfErr, IfSome, IsSome};
+ghost use Rattle.journal.specs.Pool.{past, pool, pick};
+ghost use Rattle.journal.specs.Orderly.{IsOrderly};
+ghost use Rattle.journal.specs.Refusals.{MayBeRefused};
+ghost use Rattle.journal.specs.Turns.{posting, posted, turn_actor, turn_entries, IsWithinLimits};
+ghost use Rattle.journal.specs.Answers.{RefusedBy};
+ghost use Rattle.journal.specs.Places.{packet_at, IsFound};
+ghost use Rattle.journal.specs.Ledger.{found_in};
+ghost use Rattle.journal.specs.declared.journal.JournalEntry.TheVariants as entries;
+ghost use Rattle.journal.specs.declared.journal.Turn.TheVariants as turn;
+ghost use Rattle.journal.specs.declared.wire.Stop.TheVariants as refusals;
+
+use crate::journal::{Actor, Journal, JournalEntry, Letters, Local, Turn, Weight};
+use crate::ledger::Ledger;
+use crate::place::{PacketPlace, body_at};
+use of_types::Items;
+use std::alloc::{AllocError, Global};
+use std::marker::Model;
+
+/// The most packets that the pool holds.
+pub const POOL_PACKETS: usize = 32_768;
+
+/// The most bytes of bodies that the pool holds.
+pub const POOL_BYTES: u64 = 67_108_864;
+
+/// The most letters that a journal posts.
+pub const LETTERS_LIMIT: u64 = 1_000_000;
+
+/// The most bytes of bodies that a journal posts.
+pub const BYTES_LIMIT: u64 = 67_108_864;
+
+/// Why a turn was refused: want of memory, or the sums of bytes and letters with those of the outbox,
+/// one of them past its limit.
+#[derive(Clone, Copy, PartialEq, Eq, Debug)]
+pub enum Stop {
+    OutOfMemory,
+    JournalFull { bytes: u64, letters: u64 },
+}
+
+impl From<AllocError> for Stop {
+    ghost from_gives = { λ _ refusal. refusal ≡ refusals.OutOfMemory };
+
+    fn from(_: AllocError) -> Stop {
+        Stop::OutOfMemory
+    }
+}
+
+/// A turn that added nothing. The letters come back.
+#[derive(Drop)]
+pub struct Refused<B> {
+    pub post: Letters<B>,
+    pub cause: Stop,
+}
+
+/// A journal beside what waits, which contracts see as the list of its entries, the oldest first.
+#[derive(Drop)]
+pub struct Wire<B: Weight> {
+    ledger: Ledger<B>,
+}
+
+impl<B: Weight> Model for Wire<B> {
+    ghost use Rattle.std.specs.Prelude.{List};
+    ghost use Rattle.journal.specs.declared.journal.JournalEntry.{JournalEntry};
+    ghost use Rattle.journal.specs.Ledger.{IsLedger};
+
+    ghost Value = { List (JournalEntry B) };
+
+    ghost view = { λ w. w.ledger.entries.items };
+
+    ghost invariant = { λ w. IsLedger B.size w.ledger };
+}
+
+impl<B: Weight> Wire<B> {
+    /// The empty journal.
+    pub fn new(alloc: Global) -> Wire<B>
+        ensures { result ≡ [] }
+    {
+        Wire {
+            ledger: Ledger::new(alloc),
+        }
+    }
+
+    /// Each journal is orderly, and within its limits.
+    pub fn lawful(&self)
+        ensures orderly { IsOrderly B.size (past self.now) }
+        ensures within { IsWithinLimits B.size (past self.now) }
+    {
+        let _ = &self.ledger;
+    }
+
+    /// The entries, the oldest first.
+    pub fn entries(&self) -> &[JournalEntry<B>]
+        ensures { result.now ≡ self.now }
+    {
+        self.ledger.entries.as_slice()
+    }
+
+    /// The packet of the lowest number that waits, by the first of each queue.
+    pub fn first(&self) -> Option<PacketPlace>
+        ensures { IsFound self.now result (slice_get (pool (past self.now)) 0) }
+    {
+        self.ledger.queues.first()
+    }
+
+    /// The packet of a choice, if one waits for the actor. It goes on waiting. It takes no memory.
+    pub fn look(&self, actor: Actor, choice: u64) -> Option<PacketPlace>
+        ensures { IsFound self.now result (pick actor choice (past self.now)) }
+    {
+        self.ledger.look(actor, choice)
+    }
+
+    /// The body of the letter at a place that `draw`, `lose`, `look` or `first` gave. It stands from then on.
+    pub fn body(&self, place: PacketPlace) -> &B
+        requires { IsSome (packet_at place self.now) }
+        ensures { IfSome (packet_at place self.now) (λ packet. result.now ≡ packet.body) }
+    {
+        body_at(self.ledger.entries.as_slice(), place)
+    }
+
+    /// Gives the journal. It takes no memory.
+    pub fn into_journal(self) -> Journal<B>
+        ensures { result ≡ self }
+    {
+        Items::from_vec(self.ledger.entries)
+    }
+
+    /// Posts an outbox.
+    pub fn post(&mut self, actor: Actor, post: Letters<B>) -> Result<(), Refused<B>>
+        ensures ok { OnOk result (self.new ≡ self.old ++ posting B.size actor post (past self.old)) }
+        ensures err { IfErr result (λ r. (self.new ≡ self.old) × (r.post ≡ post) × RefusedBy B.size r.cause post (past self.old)) }
+    {
+        self.ledger.post(actor, post, 0)
+    }
+
+    /// Posts, and then draws the packet of a choice, if one waits for the actor. Where `keep`, it goes on
+    /// waiting.
+    pub fn draw(
+        &mut self,
+        actor: Actor,
+        post: Letters<B>,
+        choice: u64,
+        keep: bool,
+    ) -> Result<Option<PacketPlace>, Refused<B>>
+        ensures ok { OnOk result (self.new ≡ self.old ++ turn_entries B.size post (turn.Draw actor choice keep) (past self.old)) }
+        ensures found { IfOk result (λ found. IsFound self.new found (pick actor choice (posted B.size actor post (past self.old)))) }
+        ensures err { IfErr result (λ r. (self.new ≡ self.old) × (r.post ≡ post) × RefusedBy B.size r.cause post (past self.old)) }
+    {
+        self.turn(
+            Turn::Draw {
+                actor,
+                choice,
+                keep,
+            },
+            post,
+        )
+    }
+
+    /// Posts, and then loses the packet of a choice, if one waits for the actor.
+    pub fn lose(
+        &mut self,
+        actor: Actor,
+        post: Letters<B>,
+        choice: u64,
+    ) -> Result<Option<PacketPlace>, Refused<B>>
+        ensures ok { OnOk result (self.new ≡ self.old ++ turn_entries B.size post (turn.Lose actor choice) (past self.old)) }
+        ensures found { IfOk result (λ found. IsFound self.new found (pick actor choice (posted B.size actor post (past self.old)))) }
+        ensures err { IfErr result (λ r. (self.new ≡ self.old) × (r.post ≡ post) × RefusedBy B.size r.cause post (past self.old)) }
+    {
+        self.turn(Turn::Lose { actor, choice }, post)
+    }
+
+    /// Posts, and then takes a local input, which is dropped at a refusal.
+    pub fn local(&mut self, actor: Actor, post: Letters<B>, input: Local) -> Result<(), Refused<B>>
+        ensures ok { OnOk result (self.new ≡ self.old ++ turn_entries B.size post (turn.Local actor input) (past self.old)) }
+        ensures err { IfErr result (λ r. (self.new ≡ self.old) × (r.post ≡ post) × RefusedBy B.size r.cause post (past self.old)) }
+    {
+        self.turn(Turn::Local { actor, input }, post)?;
+        Ok(())
+    }
+
+    /// Posts, and then takes a step.
+    fn turn(&mut self, step: Turn, post: Letters<B>) -> Result<Option<PacketPlace>, Refused<B>>
+        ensures ok { OnOk result (self.new ≡ self.old ++ turn_entries B.size post step (past self.old)) }
+        ensures found { IfOk result (λ found. IsFound self.new found (found_in step (pool (posted B.size (turn_actor step) post (past self.old))))) }
+        ensures err { IfErr result (λ r. (self.new ≡ self.old) × (r.post ≡ post) × RefusedBy B.size r.cause post (past self.old)) }
+    {
+        self.ledger.post(step.actor(), post, 2)?;
+        Ok(self.ledger.take(step))
+    }
+
+    /// Says that the input of the newest entry, a draw or a local one, found no memory. It takes none itself: each such
+    /// entry came with room for this one.
+    pub fn refuse(&mut self, actor: Actor)
+        requires { MayBeRefused (past self.old) }
+        ensures { self.new ≡ self.old ++ entries.Refused actor ∷ [] }
+    {
+        self.ledger.refuse(actor);
+    }
+}

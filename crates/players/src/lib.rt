@@ -1,0 +1,19 @@
+//! An actor of a run, and the bodies that it writes and reads: a body that is its message, what the types of a message of OpenFlow
+//! say of its numbers, and what an actor hears and says, unsealed from packets and sealed into letters.
+#![tactic(auto)]
+
+mod body;
+mod fitting;
+mod hearing;
+mod player;
+mod sealing;
+mod turns;
+mod typed;
+
+pub use body::{Body, seal};
+pub use fitting::spoken_fits;
+pub use hearing::heard;
+pub use player::Player;
+pub use sealing::sealed;
+pub use turns::{TakesTurns, sealed_turn, typed_turn};
+pub use typed::Typed;

@@ -1,0 +1,100 @@
+//! Actors take turns: an input, what it makes them save, and what they say.
+ghost use Rattle.std.specs.Prelude.{◌≡◌, ◌⊎◌, List, IfOk, OnErr};
+ghost use Rattle.journal.specs.declared.journal.Letter.{Letter};
+ghost use Rattle.run_spec.specs.Legal.{AreTyped};
+ghost use Rattle.run_spec.specs.States.{sealed_letters};
+ghost use Rattle.players.specs.Turns.{ControllerTurned, ControllerWanted, IsReady, SwitchTurned};
+
+use crate::player::Player;
+use crate::sealing::{letters_fit, sealed};
+use app_core::App;
+use group_controller::{Controller, ControllerInput, ControllerSays};
+use of_switch::{Switch, SwitchInput, SwitchSays};
+use journal::{Letters, Stable};
+use crate::body::Body;
+use std::alloc::{AllocError, Global};
+
+/// An actor that takes turns beside what it saves to: a controller beside its stable pair, a switch beside nothing.
+pub trait TakesTurns<W>: Player {
+    /// It may take a turn beside this.
+    ghost ready: { Self → W → Type 0 };
+    /// It takes an input, and says these letters.
+    ghost turned: { Self → W → Self.Input → Self → W → List (Letter Self.Says) → Type 0 };
+    /// It found no memory for an input, and this is what that leaves.
+    ghost wanted: { Self → W → Self → W → Type 0 };
+
+    /// Takes an input, and gives what it says.
+    fn take_turn(
+        &mut self,
+        beside: &mut W,
+        input: Self::Input,
+    ) -> Result<Letters<Self::Says>, AllocError>
+        requires { ready self.old beside.old }
+        ensures turned { IfOk result (λ letters. turned self.old beside.old input self.new beside.new letters) }
+        ensures wanted { OnErr result (wanted self.old beside.old self.new beside.new) };
+}
+
+impl TakesTurns<()> for Switch {
+    ghost ready = { λ state nothing. Unit {0} };
+
+    ghost turned = { λ old nothing input new none letters. SwitchTurned old input new letters };
+
+    ghost wanted = { λ old nothing new none. new ≡ old };
+
+    fn take_turn(
+        &mut self,
+        _beside: &mut (),
+        input: SwitchInput,
+    ) -> Result<Letters<SwitchSays>, AllocError> {
+        self.turn(input)
+    }
+}
+
+impl<A: App, W: Stable> TakesTurns<W> for Controller<A> {
+    ghost ready = { IsReady A.law W.saving };
+
+    ghost turned = { ControllerTurned A.law W.saving };
+
+    ghost wanted = { ControllerWanted A.law W.saving };
+
+    fn take_turn(
+        &mut self,
+        beside: &mut W,
+        input: ControllerInput,
+    ) -> Result<Letters<ControllerSays>, AllocError> {
+        self.turn(input, beside)
+    }
+}
+
+/// An actor takes an input, and gives what it says. Each number of it fits its field.
+pub fn typed_turn<P: TakesTurns<W>, W>(
+    player: &mut P,
+    beside: &mut W,
+    input: P::Input,
+) -> Result<Letters<P::Says>, AllocError>
+    requires { P.ready player.old beside.old }
+    ensures turned { IfOk result (λ letters. P.turned player.old beside.old input player.new beside.new letters × AreTyped P.said letters) }
+    ensures wanted { OnErr result (P.wanted player.old beside.old player.new beside.new) }
+{
+    let letters = player.take_turn(beside, input)?;
+    letters_fit::<P>(letters.as_slice());
+    Ok(letters)
+}
+
+/// An actor takes an input, and gives what it says, sealed. Each number of it fits its field. Where there is no memory to seal it, it
+/// is lost.
+pub fn sealed_turn<P: TakesTurns<W>, W, B: Body>(
+    alloc: Global,
+    player: &mut P,
+    beside: &mut W,
+    input: P::Input,
+) -> Result<Letters<B>, AllocError>
+    requires { P.ready player.old beside.old }
+    ensures turned { IfOk result (λ sealed. (letters : List (Letter P.Says)) × P.turned player.old beside.old input player.new beside.new letters
+        × (sealed ≡ sealed_letters P.said B.sealing letters) × AreTyped P.said letters) }
+    ensures wanted { OnErr result (P.wanted player.old beside.old player.new beside.new
+        ⊎ ((letters : List (Letter P.Says)) × P.turned player.old beside.old input player.new beside.new letters × AreTyped P.said letters)) }
+{
+    let letters = typed_turn(player, beside, input)?;
+    sealed::<P, B>(alloc, letters.as_slice())
+}

@@ -1,7 +1,0 @@
-use Rattle.std.proofs.Common.{◌≡◌, ◌-◌, length, take}
-use Rattle.rv_base.specs.declared.journal.Actor.{Actor}
-use Rattle.rv_base.specs.Places.{queue_of, letters_to}
-use Rattle.rv_base.proofs.queues.Queues.pop_each.Given as goal
-
-abbrev pub invariant-loop-letter : goal.invariant-loop-letter
-invariant-loop-letter g l = (a : Actor) → queue_of l.self a ≡ take (length (queue_of l.fn.self a) - length (letters_to a (take l.letter-index l.letters))) (queue_of l.fn.self a)

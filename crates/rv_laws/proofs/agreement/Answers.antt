@@ -1,5 +1,0 @@
-use Rattle.rv_laws.proofs.Laws.{agreement_law}
-use Rattle.rv_laws.proofs.agreement.Goals as goal
-
-pub returns : goal.returns
-returns g c = agreement_law

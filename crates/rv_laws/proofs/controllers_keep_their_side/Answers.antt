@@ -1,5 +1,0 @@
-use Rattle.rv_laws.proofs.Laws.{sides_law}
-use Rattle.rv_laws.proofs.controllers_keep_their_side.Goals as goal
-
-pub returns : goal.returns
-returns g c = sides_law

@@ -1,5 +1,0 @@
-use Rattle.rv_laws.proofs.Laws.{once_law}
-use Rattle.rv_laws.proofs.exactly_once.Goals as goal
-
-pub returns : goal.returns
-returns g c = once_law

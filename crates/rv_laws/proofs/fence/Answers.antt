@@ -1,5 +1,0 @@
-use Rattle.rv_laws.proofs.Laws.{fence_law}
-use Rattle.rv_laws.proofs.fence.Goals as goal
-
-pub returns : goal.returns
-returns g c = fence_law

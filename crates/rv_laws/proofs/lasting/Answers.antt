@@ -1,5 +1,0 @@
-use Rattle.rv_laws.proofs.Laws.{lasting_law}
-use Rattle.rv_laws.proofs.lasting.Goals as goal
-
-pub returns : goal.returns
-returns g c = lasting_law

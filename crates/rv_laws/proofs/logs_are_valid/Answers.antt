@@ -1,5 +1,0 @@
-use Rattle.rv_laws.proofs.Laws.{valid_law}
-use Rattle.rv_laws.proofs.logs_are_valid.Goals as goal
-
-pub returns : goal.returns
-returns g c = valid_law

@@ -1,5 +1,0 @@
-use Rattle.rv_laws.proofs.Views.{views_law}
-use Rattle.rv_laws.proofs.views_are_suspected.Goals as goal
-
-pub returns : goal.returns
-returns g c = views_law

@@ -1,5 +1,0 @@
-use Rattle.rv_laws.proofs.Laws.{waits_law}
-use Rattle.rv_laws.proofs.waits_for_actors.Goals as goal
-
-pub returns : goal.returns
-returns g c = waits_law

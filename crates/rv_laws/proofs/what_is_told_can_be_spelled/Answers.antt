@@ -1,5 +1,0 @@
-use Rattle.rv_laws.proofs.Told.{told_law}
-use Rattle.rv_laws.proofs.what_is_told_can_be_spelled.Goals as goal
-
-pub returns : goal.returns
-returns g c = told_law

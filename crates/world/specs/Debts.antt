@@ -1,0 +1,23 @@
+-- What an actor has still to post, as its letters are to stand in the journal.
+use Rattle.std.specs.Prelude.{ℕ, List, Option, Some, None}
+use Rattle.journal.specs.declared.journal.Actor.{Actor}
+use Rattle.journal.specs.declared.journal.Actor.TheVariants as actor
+use Rattle.journal.specs.declared.journal.Letter.{Letter}
+use Rattle.run_spec.specs.States.{Sealing, sealed_letters, switch_message, controller_message}
+use Rattle.world.specs.declared.outbox.Outbox.{Outbox}
+use Rattle.world.specs.declared.outbox.Outbox.TheVariants as outbox
+
+-- the outbox of an actor, sealed
+pub record Debt (B : Type 0) : Type 0 where
+  pub actor : Actor
+  pub letters : List (Letter B)
+
+-- an outbox as its actor said it, once it is sealed
+abbrev pub sealed_outbox : {B : Type 0} → Sealing B → Outbox → Debt B
+sealed_outbox sealing (outbox.Controller number letters) = record { actor = actor.Controller number; letters = sealed_letters controller_message sealing letters }
+sealed_outbox sealing (outbox.Switch number letters) = record { actor = actor.Switch number; letters = sealed_letters switch_message sealing letters }
+
+-- what is owed, if anything is
+abbrev pub owing : {B : Type 0} → Sealing B → Option Outbox → Option (Debt B)
+owing sealing None = None
+owing sealing (Some said) = Some (sealed_outbox sealing said)

@@ -1,0 +1,97 @@
+//! The record of a run: what a report tells of a world.
+#![tactic(auto)]
+
+ghost use Rattle.std.specs.Prelude.{◌≡◌, ◌<◌, ◌≤◌, length, IfOk};
+ghost use Rattle.report.specs.Sums.{sums_in};
+ghost use Rattle.run_spec.specs.Schedule.{count_turns};
+ghost use Rattle.world_record.specs.Shows.{bare_record, told_by};
+
+mod committed;
+mod told;
+
+use crate::committed::{committed_log, count_committed};
+use crate::told::{told_all, told_counts};
+use app_core::App;
+use of_types::Items;
+use report::{Record, Sums};
+use byte_bodies::{Bytes, bare};
+use journal::JournalEntry;
+use world::World;
+use std::alloc::{AllocError, Global};
+
+/// How many turns entries are: suspicions and draws.
+fn count_turns(entries: &[JournalEntry<Bytes>]) -> u64
+    ensures { result ≡ count_turns entries.now }
+{
+    let mut turns = 0;
+    for entry in entries {
+        turns += u64::from(matches!(
+            entry,
+            JournalEntry::Draw { .. } | JournalEntry::Local { .. }
+        ));
+    }
+    turns
+}
+
+/// What the last line of a world's report sums up, by the log of a primary. So many steps were its script's, which made so many of
+/// its entries. Nothing is copied but the rows of one switch at a time.
+pub fn sums_of<A: App>(
+    world: &World<Bytes, A>,
+    primary: u8,
+    steps: usize,
+    script: usize,
+) -> Result<Sums, AllocError>
+    requires led { primary < length world.now.controllers }
+    requires script { script ≤ length world.now.journal }
+    ensures { IfOk result (λ sums. sums ≡ sums_in (told_by world.now primary steps script)) }
+{
+    let (events, executed, rows) = told_counts(world)?;
+    Ok(Sums {
+        script: steps as u64,
+        closing: count_turns(&world.journal()[script..]),
+        events,
+        entries: count_committed(world.controller(primary)),
+        executed,
+        rows,
+    })
+}
+
+/// The record of a world without its journal, with the log of a primary. So many steps were its script's, which made so many of its
+/// entries.
+pub fn bare_record<A: App>(
+    alloc: Global,
+    world: &World<Bytes, A>,
+    primary: u8,
+    steps: usize,
+    script: usize,
+) -> Result<Record, AllocError>
+    requires led { primary < length world.now.controllers }
+    requires script { script ≤ length world.now.journal }
+    ensures { IfOk result (λ told. told ≡ bare_record world.now primary steps script) }
+{
+    Ok(Record {
+        setup: world.setup().copy()?,
+        journal: Items::new(alloc),
+        log: committed_log(alloc, world.controller(primary))?,
+        switches: told_all(alloc, world)?,
+        script: steps as u64,
+        closing: count_turns(&world.journal()[script..]),
+    })
+}
+
+/// The record of a world, with the log of a primary, and with so many steps of a script, which made so many of its entries.
+pub fn record_of<A: App>(
+    alloc: Global,
+    world: World<Bytes, A>,
+    primary: u8,
+    steps: usize,
+    script: usize,
+) -> Result<Record, AllocError>
+    requires led { primary < length world.controllers }
+    requires script { script ≤ length world.journal }
+    ensures { IfOk result (λ told. told ≡ told_by world primary steps script) }
+{
+    let mut told = bare_record(alloc, &world, primary, steps, script)?;
+    told.journal = bare(alloc, world.into_journal())?;
+    Ok(told)
+}

@@ -25,11 +25,11 @@ use Rattle.vr_core.specs.Step.{vr_step}
 use Rattle.app_core.specs.declared.issued.Issued.{Issued}
 use Rattle.dispatcher.specs.declared.answers.Wish.{Wish}
 use Rattle.dispatcher.specs.declared.answers.Wish.TheVariants.{Propose, Acknowledge, Nothing}
-use Rattle.dispatcher.specs.Marks.{Marks, no_marks, is_confirmed, confirmed_by, is_pending, has_result, with_mark, with_result, outstanding}
+use Rattle.dispatcher.specs.Marks.{Marks, no_marks, is_confirmed, confirmed_by, is_pending, has_result, with_mark, with_marked_result, outstanding}
 use Rattle.dispatcher.specs.Folding.{wish}
 use Rattle.group_controller.specs.declared.messages.ControllerInput.{ControllerInput}
 use Rattle.group_controller.specs.declared.messages.ControllerInput.TheVariants as controller_input
-use Rattle.group_controller.specs.State.{ControllerState, Work, committed, with_no_met_limit, down, resting, posting, leaving, stepped}
+use Rattle.group_controller.specs.State.{ControllerState, Work, committed, with_no_met_limit, down, resting, posting_work, leaving, stepped}
 use Rattle.group_controller.specs.Settling.{role_letter, after_finishing, settling}
 use Rattle.group_controller.specs.Rules.{switches, has_started, starting_view, after_step, unconfirmed, tick_letters, on_tick, on_wish, on_result, on_master, on_hello, on_plain, on_extension, on_spoken, on_switch, on_restart, on_local, on_input, when_down, is_down, controller_work}
 use Rattle.address_laws.specs.Addresses.{AreSwitches, AreOfSwitches, KnowsSwitches, IsToController}
@@ -59,7 +59,7 @@ module _ (kinds : List ℕ) (setup : Setup) where
   view_starts : (work : Work) → IsAddressedWork setup work → Ends (starting_view kinds setup work)
   view_starts work a names =
       let c : ControllerState = record work.state { marks = no_marks; last_told = None } in
-      let begun : Work = posting (leaving work c) (map (role_letter c.vr.view) (switches setup)) in
+      let begun : Work = posting_work (leaving work c) (map (role_letter c.vr.view) (switches setup)) in
       let b = posted kinds setup (leaving work c) (map (role_letter c.vr.view) (switches setup)) (roles_go kinds setup c.vr.view (switches setup) all_switches)
       (record { knows = record { member = a.knows.member; confirmed = tt }; sends = a.sends }) in
       addressed kinds setup (settling kinds setup c.vr.commit begun) (settled kinds setup c.vr.commit begun (with_names kinds setup begun b (settling_kept kinds setup c.vr.commit begun names)))
@@ -89,14 +89,14 @@ module _ (kinds : List ℕ) (setup : Setup) where
   wished c event (Acknowledge through) there k names = record { knows = k; sends = (there, tt) }
   wished c event Nothing there k names = record { knows = k; sends = tt }
 
-  marked : (log : _) (marks : Marks) (switch life number : ℕ) → AreSwitches setup marks.confirmed → AreSwitches setup (with_result kinds setup log marks switch life number).confirmed
+  marked : (log : _) (marks : Marks) (switch life number : ℕ) → AreSwitches setup marks.confirmed → AreSwitches setup (with_marked_result kinds setup log marks switch life number).confirmed
   marked log marks switch life number h =
       cond_both (is_pending kinds setup log switch life number) (with_mark marks switch life number) marks (λ (m : Marks). AreSwitches setup m.confirmed)
       (λ _. cond_both (has_result marks switch life number) marks _ (λ (m : Marks). AreSwitches setup m.confirmed) (λ _. h) (λ _. h)) (λ _. h)
 
   results : (c : ControllerState) (switch life number : ℕ) → KnowsSwitches setup c → Ends (on_result kinds setup c switch life number)
   results c switch life number k =
-      let now : ControllerState = record c { marks = with_result kinds setup (committed c) c.marks switch life number } in
+      let now : ControllerState = record c { marks = with_marked_result kinds setup (committed c) c.marks switch life number } in
       choice (is_pending kinds setup (committed c) switch life number) (after_finishing kinds setup (resting now)) (resting c)
       (λ names. addressed kinds setup _ (all_finished kinds setup (resting now)
       (record { knows = record { member = k.member; confirmed = marked (committed c) c.marks switch life number k.confirmed }; sends = tt; log = finishing_kept kinds setup (resting now) names })))

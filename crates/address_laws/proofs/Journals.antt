@@ -18,7 +18,7 @@ use Rattle.journal.specs.declared.journal.SaveResult.{SaveResult}
 use Rattle.journal.specs.declared.journal.SaveResult.TheVariants.{Saved, KeptOld, KeptNew}
 use Rattle.journal.specs.Actors.{same_actor, actor_of, IsActor, AreAddressed}
 use Rattle.journal.specs.Part.{part, drawn}
-use Rattle.journal.specs.Pool.{pool, numbered, fitting}
+use Rattle.journal.specs.Pool.{pool, numbered_letters, fitting}
 use Rattle.journal.proofs.All.{all_append, all_map, all_filter, all_take, all_weaker, all_found}
 use Rattle.of_switch.specs.State.{starting_switch, is_at}
 use Rattle.of_switch.specs.Rules.{switch_turn}
@@ -36,7 +36,7 @@ use Rattle.run_spec.specs.States.{Scene, Sealing, content, switch_hears, control
 use Rattle.run_spec.specs.Legal.{IsSoundSwitch, IsSoundController, IsPossible, results_of}
 use Rattle.run_spec.specs.Committed.{controller_state}
 use Rattle.run_spec.proofs.Pasts.{possible_before}
-use Rattle.address_laws.specs.Addresses.{AreOfSwitches, KnowsSwitches, KnowsControllers, IsToController, IsToSwitch}
+use Rattle.address_laws.specs.Addresses.{AreOfSwitches, KnowsSwitches, KnowsControllers, IsToController, WritesToSwitch}
 use Rattle.address_laws.specs.Laws.{IsAddressedWork, JournalsAreAddressed}
 use Rattle.address_laws.proofs.Controllers.{down_knows, controllers_write}
 use Rattle.address_laws.proofs.Switches.{switches_write}
@@ -63,7 +63,7 @@ pub record IsAddressed {B : Type 0} (scene : Scene B) (results : List (List Save
   pub controllers : (c : ℕ) → c < scene.setup.controllers → ControllerWrites scene.setup (controller_at scene (results_of results c) c (part (actor.Controller c) entries))
 
 -- what an actor hears comes from who sent it
-heard_by_switch : (setup : Setup) (sender : Actor) (said : Unsealed) → IsActor setup sender → IsToSwitch setup (switch_hears sender said)
+heard_by_switch : (setup : Setup) (sender : Actor) (said : Unsealed) → IsActor setup sender → WritesToSwitch setup (switch_hears sender said)
 heard_by_switch setup (actor.Controller c) (unsealed.Message (message.Of xid said)) there = there
 heard_by_switch setup (actor.Switch s) (unsealed.Message (message.Frame port bytes)) there = tt
 heard_by_switch setup (actor.Controller c) (unsealed.Malformed kind code xid head) there = there
@@ -87,7 +87,7 @@ heard_by_controller setup (actor.Switch s) (unsealed.Message (message.Frame port
 sealed_to : {A B : Type 0} (setup : Setup) (said : B → Message) (sealing : Sealing A) (letters : List (Letter B)) → AreAddressed setup letters → AreAddressed setup (sealed_letters said sealing letters)
 sealed_to setup said sealing letters h = all_map _ (λ l. IsActor setup l.to) (λ l. IsActor setup l.to) (λ l there. there) letters h
 
-numbered_go : {B : Type 0} (setup : Setup) (first : ℕ) (a : Actor) (letters : List (Letter B)) → IsActor setup a → AreAddressed setup letters → AllByRecursion (λ p. GoesBetween setup p) (numbered first a letters)
+numbered_go : {B : Type 0} (setup : Setup) (first : ℕ) (a : Actor) (letters : List (Letter B)) → IsActor setup a → AreAddressed setup letters → AllByRecursion (λ p. GoesBetween setup p) (numbered_letters first a letters)
 numbered_go setup first a [] there h = tt
 numbered_go setup first a (l ∷ letters) there (here, h) = ((there, here), numbered_go setup (first + 1) a letters there h)
 
@@ -105,7 +105,7 @@ starting_knows setup s is =
     }
 
 module _ {B : Type 0} (scene : Scene B) where
-  switch_takes : (w : SwitchAt) (x : SwitchInput) → SwitchWrites scene.setup w → IsToSwitch scene.setup x → SwitchWrites scene.setup (switch_took w (switch_turn w.now x))
+  switch_takes : (w : SwitchAt) (x : SwitchInput) → SwitchWrites scene.setup w → WritesToSwitch scene.setup x → SwitchWrites scene.setup (switch_took w (switch_turn w.now x))
   switch_takes w x k there = let t = switches_write scene.setup w.now x k.now there in record { now = t.knows; before = k.now; owed = t.sends }
 
   switch_steps : (w : SwitchAt) (e : JournalEntry B) (found : Option (Packet B)) → SwitchWrites scene.setup w → ((p : Packet B) → found ≡ Some p → GoesBetween scene.setup p) →
@@ -202,7 +202,7 @@ module _ {B : Type 0} (scene : Scene B) where
         AllByRecursion (λ p. GoesBetween scene.setup p) (pool (e ∷ before))
     packets_go (Post a first letters lost) before l k =
         all_append _ (pool before) (fitting first a letters lost) k.packets
-        (all_take _ (length letters - lost) (numbered first a letters) (numbered_go scene.setup first a letters l.named.0 (posted_to a first lost letters before l.named.0 l k)))
+        (all_take _ (length letters - lost) (numbered_letters first a letters) (numbered_go scene.setup first a letters l.named.0 (posted_to a first lost letters before l.named.0 l k)))
     packets_go (Draw a id true) before l k = k.packets
     packets_go (Draw a id false) before l k = all_filter _ _ (pool before) k.packets
     packets_go (Lose a id) before l k = all_filter _ _ (pool before) k.packets

@@ -21,11 +21,11 @@ use Rattle.vr_log.specs.Choosing.{has_collected, may_choose, is_better, best_of,
 use Rattle.vr_normal.specs.Cases.{asks_later, from_primary, commits, prepares, is_counted, prepare_ok}
 use Rattle.vr_normal.specs.Proposing.{proposed}
 use Rattle.vr_normal.specs.Ticks.{prepares_from, repeated, repeats_to, sent_log, tick_primary, tick_changing, tick_recovering, ticked}
-use Rattle.view_change.specs.Entering.{entered, enter, voted, collects, own_log, votes, view_start, started, starts, chooses_from, chooses, check}
-use Rattle.view_change.specs.Adopting.{adopted, adopts, adopt}
-use Rattle.view_change.specs.Cases.{enters, suspect, vote_later, vote_here, start_view_change, collect_later, collect, do_view_change, start_view, is_change, fetch, is_wanted, supplied, supply}
+use Rattle.view_change.specs.Entering.{entered_view, enter, voted, collects, own_log, votes, view_start, started_view, starts, chooses_from, chooses, check}
+use Rattle.view_change.specs.Adopting.{adopted_log, adopts, adopt}
+use Rattle.view_change.specs.Cases.{enters, suspect, vote_later, vote_here, start_view_change, collect_later, collect, do_view_change, start_view, is_change, fetch, is_message_wanted, supplied, supply}
 use Rattle.vr_recovery.specs.Cases.{is_answered, get_state, is_longer, lacking, completes, is_adopted, new_state}
-use Rattle.vr_recovery.specs.Recovering.{restarted, recovering_state, recovery, responded, greatest_view, ending, ends_with, recovers, response}
+use Rattle.vr_recovery.specs.Recovering.{restarted, recovering_state, recovery, responded, greatest_view_told, ending, ends_with, recovers, response}
 use Rattle.vr_core.specs.declared.input.VrInput.{VrInput}
 use Rattle.vr_core.specs.declared.input.VrInput.TheVariants as vr_input
 use Rattle.vr_core.specs.Step.{on_vr, vr_step}
@@ -117,7 +117,7 @@ module _ (n : ℕ) where
   best_from best [] here h = here
   best_from best (c ∷ cs) here (first, h) = best_from (if is_better c best then c else best) cs (cond_both (is_better c best) c best (λ (d : Collected). d.from < n) (λ _. first) (λ _. here)) h
 
-  entered_in : (s : VrState) (view : ℕ) → IsOfGroup n s → IsOfGroup n (entered s view)
+  entered_in : (s : VrState) (view : ℕ) → IsOfGroup n s → IsOfGroup n (entered_view s view)
   entered_in s view h = record { all = h.all; me = h.me; collected = tt }
 
   enter_stays : (s : VrState) (view : ℕ) → IsOfGroup n s → StaysIn n (enter s view)
@@ -141,13 +141,13 @@ module _ (n : ℕ) where
       (λ _. told (record s { sent = true }) (primary_of s s.view) _ (sent_in s h) (primary_below s s.view h)))
       (λ _. rests s h)
 
-  started_in : (s : VrState) (log : List Entry) (least most : ℕ) → IsOfGroup n s → IsOfGroup n (started s log least most)
+  started_in : (s : VrState) (log : List Entry) (least most : ℕ) → IsOfGroup n s → IsOfGroup n (started_view s log least most)
   started_in s log least most h = record { all = h.all; me = h.me; collected = h.collected }
 
   start_stays : (s : VrState) (c : Collected) (cs : List Collected) → IsOfGroup n s → StaysIn n (starts s c cs)
   start_stays s c cs h =
       let k = started_in s (take (best_of c cs).commit (front s) ++ (best_of c cs).log) (least_commit c.commit cs) (greatest_commit c.commit cs) h in
-      record { member = k; letters = all_told (started s _ _ _) _ k }
+      record { member = k; letters = all_told (started_view s _ _ _) _ k }
 
   choice_stays : (s : VrState) (cs : List Collected) → IsOfGroup n s → AllByRecursion (λ c. c.from < n) cs → StaysIn n (chooses_from s cs)
   choice_stays s [] h all = rests s h
@@ -161,7 +161,7 @@ module _ (n : ℕ) where
   check_stays s h = let v = votes_stay s h in then_both (votes s) chooses v (chooses_stay (votes s).state v.member)
 
   enters_stay : (s : VrState) (view : ℕ) → IsOfGroup n s → StaysIn n (enters s view)
-  enters_stay s view h = then_both (enter s view) check (enter_stays s view h) (check_stays (entered s view) (entered_in s view h))
+  enters_stay s view h = then_both (enter s view) check (enter_stays s view h) (check_stays (entered_view s view) (entered_in s view h))
 
   suspect_stays : (s : VrState) (view : ℕ) → IsOfGroup n s → StaysIn n (suspect s view)
   suspect_stays s view h = both (is_later s view) _ _ (λ _. checked s (enters s view) h (enters_stay s view h)) (λ _. rests s h)
@@ -170,7 +170,7 @@ module _ (n : ℕ) where
   vote_stays s from view h =
       both (is_other s from) _ _
       (λ other. both (is_later s view) (vote_later s from view) _
-      (λ _. checked s _ h (then_both (enter s view) (λ next. check (voted next from)) (enter_stays s view h) (check_stays (voted (entered s view) from) (voted_in (entered s view) from (entered_in s view h)))))
+      (λ _. checked s _ h (then_both (enter s view) (λ next. check (voted next from)) (enter_stays s view h) (check_stays (voted (entered_view s view) from) (voted_in (entered_view s view) from (entered_in s view h)))))
       (λ _. both (nat_eq view s.view) (vote_here s from) _
       (λ _. both (is_changing s) _ _ (λ _. checked s _ h (check_stays (voted s from) (voted_in s from h)))
       (λ _. both (leads s) _ _ (λ _. told s from (view_start s) h (other_below s from h other)) (λ _. rests s h)))
@@ -180,7 +180,7 @@ module _ (n : ℕ) where
   collect_stays : (s : VrState) (view : ℕ) (c : Collected) → c.from < n → IsOfGroup n s → StaysIn n (collect s view c)
   collect_stays s view c there h =
       both (is_later s view) (collect_later s view c) _
-      (λ _. checked s _ h (then_both (enter s view) (λ next. check (collects next c)) (enter_stays s view h) (check_stays (collects (entered s view) c) (collected_in (entered s view) c (entered_in s view h) there))))
+      (λ _. checked s _ h (then_both (enter s view) (λ next. check (collects next c)) (enter_stays s view h) (check_stays (collects (entered_view s view) c) (collected_in (entered_view s view) c (entered_in s view h) there))))
       (λ _. both (nat_eq view s.view && is_changing s) _ _ (λ _. checked s _ h (check_stays (collects s c) (collected_in s c h there))) (λ _. rests s h))
 
   collects_stay : (s : VrState) (from view normal commit : ℕ) (log : List Entry) → IsOfGroup n s → StaysIn n (do_view_change s from (message.DoViewChange view normal commit log))
@@ -189,7 +189,7 @@ module _ (n : ℕ) where
       (λ other. both (is_primary_of s s.me view) _ _ (λ _. collect_stays s view (record { from = from; normal = normal; commit = commit; log = log }) (other_below s from h other) h) (λ _. rests s h))
       (λ _. rests s h)
 
-  adopted_in : (s : VrState) (view first commit : ℕ) (log : List Entry) → IsOfGroup n s → IsOfGroup n (adopted s view first commit log)
+  adopted_in : (s : VrState) (view first commit : ℕ) (log : List Entry) → IsOfGroup n s → IsOfGroup n (adopted_log s view first commit log)
   adopted_in s view first commit log h = record { all = h.all; me = h.me; collected = h.collected }
 
   adopt_stays : (s : VrState) (view first commit : ℕ) (log : List Entry) → IsOfGroup n s → StaysIn n (adopt s view first commit log)
@@ -198,7 +198,7 @@ module _ (n : ℕ) where
       both (nat_lt s.commit first) _ (adopts s view first commit log) (λ _. asked s view s.commit h)
       (λ _. record {
         member = k;
-        letters = cond_both (nat_lt commit (length (adopted s view first commit log).log)) _ _ (AreToMembers n) (λ _. (primary_below (adopted s view first commit log) view k, tt)) (λ _. tt);
+        letters = cond_both (nat_lt commit (length (adopted_log s view first commit log).log)) _ _ (AreToMembers n) (λ _. (primary_below (adopted_log s view first commit log) view k, tt)) (λ _. tt);
       })
 
   start_view_stays : (s : VrState) (from view first commit : ℕ) (log : List Entry) → IsOfGroup n s → StaysIn n (start_view s from (message.StartView view first commit log))
@@ -214,7 +214,7 @@ module _ (n : ℕ) where
   supply_stays : (s : VrState) (from view first : ℕ) (log : List Entry) → IsOfGroup n s → StaysIn n (supply s from (message.Supply view first log))
   supply_stays s from view first log h =
       both (is_other s from) _ _
-      (λ _. both (is_wanted s view first log) _ _ (λ _. checked s _ h (check_stays (supplied s first log) (record { all = h.all; me = h.me; collected = h.collected }))) (λ _. rests s h)) (λ _. rests s h)
+      (λ _. both (is_message_wanted s view first log) _ _ (λ _. checked s _ h (check_stays (supplied s first log) (record { all = h.all; me = h.me; collected = h.collected }))) (λ _. rests s h)) (λ _. rests s h)
 
   -- a transfer, and a recovery
   get_stays : (s : VrState) (from view op : ℕ) → IsOfGroup n s → StaysIn n (get_state s from (message.GetState view op))
@@ -246,7 +246,7 @@ module _ (n : ℕ) where
       let r = responded s (record { from = from; view = view; filled = filled }) in
       both (is_other s from) _ _
       (λ _. both (is_recovering s && nat_eq nonce s.life) _ _
-      (λ _. checked s (recovers r) h (end_stays r (greatest_view r.responses) (ending r) (record { all = h.all; me = h.me; collected = h.collected }))) (λ _. rests s h)) (λ _. rests s h)
+      (λ _. checked s (recovers r) h (end_stays r (greatest_view_told r.responses) (ending r) (record { all = h.all; me = h.me; collected = h.collected }))) (λ _. rests s h)) (λ _. rests s h)
 
   -- what is sent again
   prepares_go : (view commit op : ℕ) (entries : List Entry) (to : ℕ) → to < n → AreToMembers n (prepares_from view commit op entries to)

@@ -18,9 +18,9 @@ use Rattle.app_core.specs.declared.issued.Issued.{Issued}
 use Rattle.app_core.specs.Issued.{commands_of}
 use Rattle.dispatcher.specs.declared.answers.Through.{Through}
 use Rattle.dispatcher.specs.Marks.{Marks, is_confirmed, wanted, outstanding}
-use Rattle.dispatcher.specs.Folding.{numbered, acknowledges, acknowledges_at, is_told, clears, clears_at, places_processed}
+use Rattle.dispatcher.specs.Folding.{numbered, acknowledges_event, acknowledges_at, is_told, clears, clears_at, places_processed}
 use Rattle.group_controller.specs.declared.messages.ControllerSays.{ControllerSays}
-use Rattle.group_controller.specs.State.{ControllerState, Work, committed, met_limit, posting, leaving, resting, to_member, to_members}
+use Rattle.group_controller.specs.State.{ControllerState, Work, committed, met_limit, posting_work, leaving, resting, to_member, to_members}
 use Rattle.group_controller.specs.Settling.{role_letter, command_letter, command_letters, ack_letter, clear_letter, answers_at, with_answers, is_untold, with_commands, with_proposal, is_settled, is_alone, after_proposal, goes_on, processing, finishing, after_finishing, settling, proposing}
 use Rattle.address_laws.specs.Addresses.{AreSwitches, IsOfSwitch, AreOfSwitches, KnowsSwitches}
 use Rattle.address_laws.specs.Laws.{IsAddressedWork}
@@ -60,7 +60,7 @@ module _ (kinds : List ℕ) (setup : Setup) where
   events_of (Received event ∷ log) (here, h) = (here, events_of log h)
   events_of (Processed j ∷ log) (here, h) = events_of log h
 
-  acks_go : (log : List Entry) (o : Option Event) → ((e : Event) → o ≡ Some e → e.switch < length setup.ports) → AreAddressed setup (map ack_letter (acknowledges log o))
+  acks_go : (log : List Entry) (o : Option Event) → ((e : Event) → o ≡ Some e → e.switch < length setup.ports) → AreAddressed setup (map ack_letter (acknowledges_event log o))
   acks_go log None there = tt
   acks_go log (Some e) there =
       cond_both (has_ended e.switch e.life (received log)) _ _ (λ (ts : List Through). AreAddressed setup (map ack_letter ts)) (λ _. tt) (λ _. (there e refl, tt))
@@ -79,7 +79,7 @@ module _ (kinds : List ℕ) (setup : Setup) where
       (clears_go (committed c) (commands_of kinds setup (received (committed c)) j))
 
   -- work goes on
-  pub posted : (work : Work) (letters : List (Letter ControllerSays)) → AreAddressed setup letters → IsAddressedWork setup work → IsAddressedWork setup (posting work letters)
+  pub posted : (work : Work) (letters : List (Letter ControllerSays)) → AreAddressed setup letters → IsAddressedWork setup work → IsAddressedWork setup (posting_work work letters)
   posted work letters h a = record { knows = a.knows; sends = all_append _ work.letters letters a.sends h }
 
   answered : (before : ℕ) (work : Work) → IsGood setup work → IsGood setup (with_answers kinds setup before work)

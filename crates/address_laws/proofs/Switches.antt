@@ -38,13 +38,13 @@ use Rattle.flow_clock.specs.Clocked.{clock_told}
 use Rattle.of_switch.specs.declared.says.SwitchInput.{SwitchInput}
 use Rattle.of_switch.specs.declared.says.SwitchInput.TheVariants as switch_input
 use Rattle.of_switch.specs.declared.says.SwitchSays.{SwitchSays}
-use Rattle.of_switch.specs.State.{SwitchState, SwitchTurn, quiet, posts, then_turn, answers, greetings, rows_of, number_of, life_of}
-use Rattle.of_switch.specs.Events.{window, first_held, event_letter, event_letters, with_event, raised, packet_raised, is_down, port_status, with_port, port_raised, is_port, on_port, remembers, coming, cleared, on_event_ack, tells_ports, next_life, on_restart, tick_letters, flow_removed, tells_left, aged}
-use Rattle.of_switch.specs.Forwarding.{is_frame, is_up, targets, over_link, over_links, sends_to, puts_out, puts_all, packet_in, through_row, fields_at, counting, on_frame}
-use Rattle.of_switch.specs.Commands.{result_of, does, done_as, counted, result_letter, executes, on_offer, settled, on_command}
-use Rattle.of_switch.specs.Rules.{on_local, told_master, on_role, on_role_request, on_plain, on_own_life, life_said, on_extension, on_malformed, switch_turn}
+use Rattle.of_switch.specs.State.{SwitchState, SwitchTurn, quiet_switch, posts, then_turn, answers, greetings, rows_of, own_number_of, life_of}
+use Rattle.of_switch.specs.Events.{window, first_held, event_letter, event_letters, with_event, raised, packet_raised, is_port_down, port_status, with_port, port_raised, is_port, on_port, remembers, coming, cleared, on_event_ack, tells_ports, next_life, switch_on_restart, switch_tick_letters, flow_removed, tells_left, aged}
+use Rattle.of_switch.specs.Forwarding.{is_frame, is_port_up, targets, over_link, over_links, sends_to, puts_out, puts_all, packet_in_of, through_row, frame_fields_at, counting_ports, on_frame}
+use Rattle.of_switch.specs.Commands.{result_of, does, done_as, counted_command, result_letter, executes, on_offer, settled, on_command}
+use Rattle.of_switch.specs.Rules.{switch_on_local, told_master, on_role, on_role_request, switch_on_plain, on_own_life, life_said, switch_on_extension, on_malformed, switch_turn}
 use Rattle.of_switch.proofs.Leaving.{any_left_told}
-use Rattle.address_laws.specs.Addresses.{KnowsControllers, IsToSwitch}
+use Rattle.address_laws.specs.Addresses.{KnowsControllers, WritesToSwitch}
 use Rattle.address_laws.specs.Laws.{IsAddressedTurn, SwitchesWriteToActors}
 use Rattle.address_laws.proofs.Lists.{all_flat, all_flat_of, range_below}
 
@@ -67,7 +67,7 @@ module _ (setup : Setup) where
   choice : (b : Bool) (x y : SwitchTurn) → (b ≡ true → Good x) → (b ≡ false → Good y) → Good (if b then x else y)
   choice b x y f g = cond_both b x y Good f g
 
-  rests : (s : SwitchState) → Knows s → Good (quiet s)
+  rests : (s : SwitchState) → Knows s → Good (quiet_switch s)
   rests s k = record { knows = k; sends = tt }
 
   then_both : (first : SwitchTurn) (next : SwitchState → SwitchTurn) → Good first → ((s : SwitchState) → Knows s → Good (next s)) → Good (then_turn first next)
@@ -96,7 +96,7 @@ module _ (setup : Setup) where
 
   ports_change : (s : SwitchState) (port : ℕ) (up : Bool) → Knows s → Good (on_port s port up)
   ports_change s port up k =
-      choice (is_port s port && (if up then is_down s port else not (is_down s port))) _ _ (λ _. port_raises port (with_port s port up) (same_known s (with_port s port up) refl refl refl k)) (λ _. rests s k)
+      choice (is_port s port && (if up then is_port_down s port else not (is_port_down s port))) _ _ (λ _. port_raises port (with_port s port up) (same_known s (with_port s port up) refl refl refl k)) (λ _. rests s k)
 
   remembered : (ports : List ℕ) (turn : SwitchTurn) → Good turn → Good (remembers ports turn)
   remembered [] turn g = g
@@ -119,7 +119,7 @@ module _ (setup : Setup) where
       all_map _ (λ c. c < setup.controllers) (λ l. IsActor setup l.to) (λ c there. there) (range_with_len 0 s.controllers)
       (subst (λ (n : ℕ). AllByRecursion (λ c. c < setup.controllers) (range_with_len 0 n)) (sym k.all) (range_below 0 setup.controllers setup.controllers (omega arith)))
 
-  restarts : (s : SwitchState) → Knows s → Good (on_restart s)
+  restarts : (s : SwitchState) → Knows s → Good (switch_on_restart s)
   restarts s k =
       choice (nat_lt (life_of s) last_life) _ _
       (λ _. then_both (tells_ports s.down (raised switch_up (next_life s))) (λ now. posts now (greetings now))
@@ -127,7 +127,7 @@ module _ (setup : Setup) where
       (λ now h. record { knows = h; sends = greetings_go now h }))
       (λ _. rests s k)
 
-  ticks_go : (s : SwitchState) (o : Option ℕ) → IfSome o (λ c. c < setup.controllers) → Knows s → AreAddressed setup (tick_letters s o)
+  ticks_go : (s : SwitchState) (o : Option ℕ) → IfSome o (λ c. c < setup.controllers) → Knows s → AreAddressed setup (switch_tick_letters s o)
   ticks_go s None h k = cond_both (nat_lt 0 (life_of s)) _ _ (AreAddressed setup) (λ _. greetings_go s k) (λ _. tt)
   ticks_go s (Some c) h k = all_made (event_letter c) (λ l. IsActor setup l.to) (λ e. h) (first_held s)
 
@@ -145,7 +145,7 @@ module _ (setup : Setup) where
 
   links_go : (s : SwitchState) (frame : List ℕ) (port : ℕ) → Knows s → AreAddressed setup (over_links s frame port)
   links_go s frame port k =
-      all_flat_of (over_link frame (number_of s) port) (λ l. (l.switch < length setup.ports) × (l.peer < length setup.ports)) (λ l. IsActor setup l.to) (link_goes frame (number_of s) port) s.links k.links
+      all_flat_of (over_link frame (own_number_of s) port) (λ l. (l.switch < length setup.ports) × (l.peer < length setup.ports)) (λ l. IsActor setup l.to) (link_goes frame (own_number_of s) port) s.links k.links
 
   frames_go : (frame : List ℕ) (ports : List ℕ) (s : SwitchState) → Knows s → Good (sends_to frame ports s)
   frames_go frame ports s k =
@@ -161,18 +161,18 @@ module _ (setup : Setup) where
 
   row_goes : (s : SwitchState) (port : ℕ) (frame : List ℕ) (o : Option Row) → Knows s → Good (through_row s port frame o)
   row_goes s port frame None k = rests s k
-  row_goes s port frame (Some row) k = outputs_go (packet_raised (packet_in row port frame)) (packet_raises (packet_in row port frame)) port frame row.actions (quiet s) (rests s k)
+  row_goes s port frame (Some row) k = outputs_go (packet_raised (packet_in_of row port frame)) (packet_raises (packet_in_of row port frame)) port frame row.actions (quiet_switch s) (rests s k)
 
   frame_goes : (s : SwitchState) (port : ℕ) (frame : List ℕ) → Knows s → Good (on_frame s port frame)
   frame_goes s port frame k =
-      choice (is_up s port && is_frame frame) _ _
+      choice (is_port_up s port && is_frame frame) _ _
       (λ _.
-      let met = row_goes s port frame (chosen_row (rows_of s) (fields_at port frame)) k in
-      let turn = through_row s port frame (chosen_row (rows_of s) (fields_at port frame)) in
-      record { knows = same_known turn.state (counting port frame turn).state refl refl refl met.knows; sends = met.sends })
+      let met = row_goes s port frame (chosen_row (rows_of s) (frame_fields_at port frame)) k in
+      let turn = through_row s port frame (chosen_row (rows_of s) (frame_fields_at port frame)) in
+      record { knows = same_known turn.state (counting_ports port frame turn).state refl refl refl met.knows; sends = met.sends })
       (λ _. rests s k)
 
-  local_goes : (s : SwitchState) (what : Local) → Knows s → Good (on_local s what)
+  local_goes : (s : SwitchState) (what : Local) → Knows s → Good (switch_on_local s what)
   local_goes s (local.Frame port bytes) k = frame_goes s port bytes k
   local_goes s (local.Port port up) k = ports_change s port up k
   local_goes s local.Tick k = record { knows = aged_known s k; sends = ticks_go (aged s) s.fence.master k.master (aged_known s k) }
@@ -182,7 +182,7 @@ module _ (setup : Setup) where
 
   -- commands
   done : (what : Order) (s : SwitchState) → Knows s → Good (does what s)
-  done (order.PacketOut out) s k = outputs_go quiet rests out.in_port out.payload out.actions (quiet s) (rests s k)
+  done (order.PacketOut out) s k = outputs_go quiet_switch rests out.in_port out.payload out.actions (quiet_switch s) (rests s k)
   done (order.FlowMod change) s k = rests _ (same_known s (does (order.FlowMod change) s).state refl refl refl k)
 
   done_so : (result : Outcome) (what : Order) (s : SwitchState) → Knows s → Good (done_as result what s)
@@ -193,9 +193,9 @@ module _ (setup : Setup) where
   module _ (from : ℕ) (there : from < setup.controllers) where
     executed : (s : SwitchState) (generation number : ℕ) (what : Order) → Knows s → Good (executes s from generation number what)
     executed s generation number what k =
-        then_both (done_as (result_of s what) what s) (λ now. posts (counted from generation number what (result_of s what) now) (result_letter s from number (result_of s what) ∷ []))
+        then_both (done_as (result_of s what) what s) (λ now. posts (counted_command from generation number what (result_of s what) now) (result_letter s from number (result_of s what) ∷ []))
         (done_so (result_of s what) what s k)
-        (λ now h. record { knows = same_known now (counted from generation number what (result_of s what) now) refl refl refl h; sends = (there, tt) })
+        (λ now h. record { knows = same_known now (counted_command from generation number what (result_of s what) now) refl refl refl h; sends = (there, tt) })
 
     offered : (s : SwitchState) (generation number : ℕ) (what : Order) (o : Offer) → Knows s → Good (on_offer s from generation number what o)
     offered s generation number what Execute k = executed s generation number what k
@@ -235,7 +235,7 @@ module _ (setup : Setup) where
     role_goes s xid role generation k =
         let step = role_step s.fence from role generation in answer_goes s xid role step step.answer (role_known s.fence role generation k.master) k
 
-    plain_goes : (s : SwitchState) (xid : ℕ) (what : OfMessage) → Knows s → Good (on_plain s from xid what)
+    plain_goes : (s : SwitchState) (xid : ℕ) (what : OfMessage) → Knows s → Good (switch_on_plain s from xid what)
     plain_goes s xid plain.Hello k = rests s k
     plain_goes s xid (plain.Error kind code head) k = rests s k
     plain_goes s xid (plain.EchoReply body) k = rests s k
@@ -260,14 +260,14 @@ module _ (setup : Setup) where
     life_goes s xid (extension.CmdAck life number result) k = record { knows = k; sends = (there, tt) }
     life_goes s xid (extension.Clear life through) k = rests _ (same_known s (settled s through) refl refl refl k)
 
-    extension_goes : (s : SwitchState) (xid : ℕ) (what : Extension) → Knows s → Good (on_extension s from xid what)
+    extension_goes : (s : SwitchState) (xid : ℕ) (what : Extension) → Knows s → Good (switch_on_extension s from xid what)
     extension_goes s xid what k = choice (nat_eq (life_said what) (life_of s)) _ _ (λ _. life_goes s xid what k) (λ _. rests s k)
 
   fault_goes : (s : SwitchState) (from : Actor) (kind code xid : ℕ) (head : List ℕ) → IsActor setup from → Knows s → Good (on_malformed s from kind code xid head)
   fault_goes s (actor.Controller from) kind code xid head there k = record { knows = k; sends = (there, tt) }
   fault_goes s (actor.Switch from) kind code xid head there k = rests s k
 
-  turn_goes : (s : SwitchState) (x : SwitchInput) → Knows s → IsToSwitch setup x → Good (switch_turn s x)
+  turn_goes : (s : SwitchState) (x : SwitchInput) → Knows s → WritesToSwitch setup x → Good (switch_turn s x)
   unfolding switch_turn
   turn_goes s (switch_input.Local what) k there = local_goes s what k
   turn_goes s (switch_input.Of from xid (spoken.Plain what)) k there = plain_goes from there s xid what k

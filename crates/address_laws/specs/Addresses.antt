@@ -49,7 +49,7 @@ IsToController setup (controller_input.Of switch xid said) = switch < length set
 IsToController setup _ = Unit {0}
 
 -- and what a switch takes
-abbrev pub IsToSwitch : Setup → SwitchInput → Type 0
-IsToSwitch setup (switch_input.Of from xid said) = from < setup.controllers
-IsToSwitch setup (switch_input.Malformed from kind code xid head) = IsActor setup from
-IsToSwitch setup _ = Unit {0}
+abbrev pub WritesToSwitch : Setup → SwitchInput → Type 0
+WritesToSwitch setup (switch_input.Of from xid said) = from < setup.controllers
+WritesToSwitch setup (switch_input.Malformed from kind code xid head) = IsActor setup from
+WritesToSwitch setup _ = Unit {0}

@@ -16,7 +16,7 @@ use Rattle.group_controller.specs.Rules.{controller_work}
 use Rattle.run_spec.specs.States.{Scene}
 use Rattle.run_spec.specs.Legal.{IsPossible}
 use Rattle.run_spec.specs.Committed.{controller_state}
-use Rattle.address_laws.specs.Addresses.{AreOfSwitches, KnowsSwitches, KnowsControllers, IsToController, IsToSwitch}
+use Rattle.address_laws.specs.Addresses.{AreOfSwitches, KnowsSwitches, KnowsControllers, IsToController, WritesToSwitch}
 
 -- a turn of a switch leaves what it knows, and writes to actors of the setup
 pub record IsAddressedTurn (setup : Setup) (turn : SwitchTurn) : Type 0 where
@@ -25,7 +25,7 @@ pub record IsAddressedTurn (setup : Setup) (turn : SwitchTurn) : Type 0 where
 
 -- each turn of a switch that takes what comes from the setup
 abbrev pub SwitchesWriteToActors : Type 0
-SwitchesWriteToActors = (setup : Setup) (s : SwitchState) (x : SwitchInput) → KnowsControllers setup s → IsToSwitch setup x → IsAddressedTurn setup (switch_turn s x)
+SwitchesWriteToActors = (setup : Setup) (s : SwitchState) (x : SwitchInput) → KnowsControllers setup s → WritesToSwitch setup x → IsAddressedTurn setup (switch_turn s x)
 
 -- a turn of a controller leaves what it knows, and writes to actors of the setup
 pub record IsAddressedWork (setup : Setup) (work : Work) : Type 0 where

@@ -4,9 +4,9 @@ use Rattle.std.proofs.lemmas.Bool.{cases_eq, both_ways}
 use Rattle.agreement.specs.Lists.{IsAtMost}
 use Rattle.list_facts.proofs.Prefixes.{prefix_refl}
 use Rattle.list_facts.specs.Lists.{IsIn, IsPrefix}
-use Rattle.agreement.specs.History.{Group, size, primary_of, Status, Normal, ViewChange, Recovering, Down, Supplied, RecoveryResponse, Letter, Response, State, History, letter}
+use Rattle.agreement.specs.History.{Group, size, primary_in, Status, Normal, ViewChange, Recovering, Down, Supplied, RecoveryResponse, Letter, Response, State, History, abstract_letter}
 use Rattle.agreement.specs.Quorums.{is_prepare_ok, has_accepted, IsLogOf}
-use Rattle.agreement.specs.Invariant.{is_up, IsBallot, IsGoodSupply, IsGoodState, IsGoodLetter, Invariant}
+use Rattle.agreement.specs.Invariant.{is_up_status, IsBallot, IsGoodSupply, IsGoodState, IsGoodLetter, Invariant}
 use Rattle.agreement.specs.Moves.{Moved, LogsStay, AcknowledgeNothing, AreFrom}
 use Rattle.agreement.proofs.Frame.{Step, Fresh, same_life, accepted_own, accepted_posted, log_of_more, ballot_more, supply_more, accepted_more, invariant_kept, acknowledged_same, step_of, fresh_unless}
 
@@ -21,16 +21,16 @@ pub record Owed {E : Type 0} (g : Group E) (h : History E) (c : ℕ) (s : State 
   pub normal : s.status ≡ Normal → (s.normal ≡ s.view) × (s.view ≡ p)
   pub changing : s.status ≡ ViewChange → (s.normal < s.view) × (s.view ≡ p)
   pub blank : s.status ≡ Recovering → (s.log ≡ []) × (s.commit ≡ 0)
-  pub covers : is_up s.status ≡ true → (v m : ℕ) → 1 ≤ m → has_accepted g h v m c ≡ true → IsAtMost v m s.normal (length s.log)
-  pub of_view : is_up s.status ≡ true → IsLogOf g h s.normal s.log s.commit
-  pub counted : s.status ≡ Normal → c ≡ primary_of g s.view → (i m : ℕ) → i ≢ c → 1 ≤ m → m ≤ s.acked i → has_accepted g h s.view m i ≡ true
-  pub ballot : s.status ≡ ViewChange → c ≡ primary_of g s.view → IsBallot g h s.view s.collected
+  pub covers : is_up_status s.status ≡ true → (v m : ℕ) → 1 ≤ m → has_accepted g h v m c ≡ true → IsAtMost v m s.normal (length s.log)
+  pub of_view : is_up_status s.status ≡ true → IsLogOf g h s.normal s.log s.commit
+  pub counted : s.status ≡ Normal → c ≡ primary_in g s.view → (i m : ℕ) → i ≢ c → 1 ≤ m → m ≤ s.acked i → has_accepted g h s.view m i ≡ true
+  pub ballot : s.status ≡ ViewChange → c ≡ primary_in g s.view → IsBallot g h s.view s.collected
   pub supplied : s.status ≡ ViewChange → (x : Supplied E) → s.supply ≡ Some x → (x.first ≤ s.commit) × IsGoodSupply g h x.first x.rest
-  pub heard : s.status ≡ Recovering → (r : Response E) → IsIn r s.responses → (r.from ≢ c) × IsIn (letter r.from c (RecoveryResponse r.view l r.answer)) h.sent
+  pub heard : s.status ≡ Recovering → (r : Response E) → IsIn r s.responses → (r.from ≢ c) × IsIn (abstract_letter r.from c (RecoveryResponse r.view l r.answer)) h.sent
 
 module _ {E : Type 0} (g : Group E) {h h' : History E} {c : ℕ} {s : State E} {p l : ℕ} {new : List (Letter E)} (t : Moved h h' c s p l new) (q : LogsStay h h') (silent : AcknowledgeNothing new) where
   pub same_accepted : (v m j : ℕ) → has_accepted g h' v m j ≡ has_accepted g h v m j
-  same_accepted v m j = elim (cases_eq j (primary_of g v)) [
+  same_accepted v m j = elim (cases_eq j (primary_in g v)) [
     | inl e ↦ accepted_own g h' v m j e ∙ ap (λ (x : List E). leb m (length x)) (q.same v) ∙ sym (accepted_own g h v m j e)
     | inr e ↦ accepted_posted g h' v m j e ∙ acknowledged_same h.sent h'.sent new j v m t.sent_more t.sent_split (λ x k is ok. both_ways (is_prepare_ok x.message v m) (silent x k v m) ok) ∙ sym (accepted_posted g h v m j e)
   ]
@@ -56,7 +56,7 @@ module _ {E : Type 0} (g : Group E) {h h' : History E} {c : ℕ} {s : State E} {
         counted = λ e z i m a b d. accepted_more st s.view m i (o.counted e z i m a b d);
         ballot = λ e z. ballot_more st (o.ballot e z);
         supplied = λ e x i. let z = o.supplied e x i in (z.0, supply_more st z.1);
-        heard = λ e x i. let z = o.heard e x i in (z.0, t.sent_more _ (subst (λ (y : ℕ). IsIn (letter x.from c (RecoveryResponse x.view y x.answer)) h.sent) (sym t.life_own) z.1));
+        heard = λ e x i. let z = o.heard e x i in (z.0, t.sent_more _ (subst (λ (y : ℕ). IsIn (abstract_letter x.from c (RecoveryResponse x.view y x.answer)) h.sent) (sym t.life_own) z.1));
       }
 
   -- a quiet move keeps the invariant

@@ -3,8 +3,8 @@ use Rattle.std.proofs.Common.{◌≡◌, ℕ, ◌<◌, ◌≤◌, inl, inr, Bool
 use Rattle.std.proofs.lemmas.Bool.{cases_eq, leb-true, le-leb}
 use Rattle.std.proofs.lemmas.List.{length-map}
 use Rattle.agreement.specs.Lists.{count_below}
-use Rattle.agreement.specs.History.{Group, size, primary_of, Normal, ViewChange, Recovering, Down, Vote, Letter, State, History}
-use Rattle.agreement.specs.Invariant.{is_up, Invariant, IsGroup}
+use Rattle.agreement.specs.History.{Group, size, primary_in, Normal, ViewChange, Recovering, Down, Vote, Letter, State, History}
+use Rattle.agreement.specs.Invariant.{is_up_status, Invariant, IsGroup}
 use Rattle.agreement.specs.Moves.{Moved, Move, Enters, Collects, Stocks, Starts, Adopts, Appends, Commits, Acknowledges, Counts, Proposes, Keeps, Recovers, Falls, Rises, Speaks, Notes}
 use Rattle.agreement.specs.Laws.{IsStart, Run, still, then, IsBacked, PrimariesAreBacked}
 use Rattle.agreement.proofs.Counts.{count_more, count_list}
@@ -24,7 +24,7 @@ module _ {E : Type 0} {g : Group E} {h h' : History E} {c : ℕ} {new : List (Le
       omega arith
 
 module _ {E : Type 0} {g : Group E} {h h' : History E} {c : ℕ} where
-  own_backed : IsGroup g → Invariant g h → IsBacked g h → c < size g → Move g h h' c → (h'.state c).status ≡ Normal → c ≡ primary_of g (h'.state c).view → 1 ≤ (h'.state c).view → g.most_failures < count_below (backs h' (h'.state c).view) (size g)
+  own_backed : IsGroup g → Invariant g h → IsBacked g h → c < size g → Move g h h' c → (h'.state c).status ≡ Normal → c ≡ primary_in g (h'.state c).view → 1 ≤ (h'.state c).view → g.most_failures < count_below (backs h' (h'.state c).view) (size g)
   own_backed gr i k b m n is o = by m
     where
       step : Step g h h' c (move_keeps gr i b m).new
@@ -32,7 +32,7 @@ module _ {E : Type 0} {g : Group E} {h h' : History E} {c : ℕ} where
 
       old : (h'.state c).status ≡ (h.state c).status → (h'.state c).view ≡ (h.state c).view → g.most_failures < count_below (backs h' (h'.state c).view) (size g)
       old es ev = subst (λ (v : ℕ). g.most_failures < count_below (backs h' v) (size g)) (sym ev)
-          (backs_more step (h.state c).view (k c b (sym es ∙ n) (is ∙ ap (primary_of g) ev) (omega (arith, ev))))
+          (backs_more step (h.state c).view (k c b (sym es ∙ n) (is ∙ ap (primary_in g) ev) (omega (arith, ev))))
 
       same : {s : State E} {p l : ℕ} {new : List (Letter E)} → Moved h h' c s p l new → s.status ≡ (h.state c).status → s.view ≡ (h.state c).view → g.most_failures < count_below (backs h' (h'.state c).view) (size g)
       same t es ev = old (ap (λ (s : State E). s.status) t.state_own ∙ es) (ap (λ (s : State E). s.view) t.state_own ∙ ev)
@@ -40,8 +40,8 @@ module _ {E : Type 0} {g : Group E} {h h' : History E} {c : ℕ} where
       status_of : {s : State E} {p l : ℕ} {new : List (Letter E)} → Moved h h' c s p l new → s.status ≡ Normal
       status_of t = sym (ap (λ (s : State E). s.status) t.state_own) ∙ n
 
-      view_of : {s : State E} {p l : ℕ} {new : List (Letter E)} → Moved h h' c s p l new → c ≡ primary_of g s.view
-      view_of t = is ∙ ap (λ (s : State E). primary_of g s.view) t.state_own
+      view_of : {s : State E} {p l : ℕ} {new : List (Letter E)} → Moved h h' c s p l new → c ≡ primary_in g s.view
+      view_of t = is ∙ ap (λ (s : State E). primary_in g s.view) t.state_own
 
       by : Move g h h' c → g.most_failures < count_below (backs h' (h'.state c).view) (size g)
       by (Enters w up later t q) = absurd (let z : ViewChange ≡ Normal = status_of t in cc)
@@ -67,18 +67,18 @@ module _ {E : Type 0} {g : Group E} {h h' : History E} {c : ℕ} where
       by (Falls p l up older t q) = absurd (let z : Down ≡ Normal = status_of t in cc)
       by (Rises new n' letters t q) = absurd (let z : Recovering ≡ Normal = status_of t in cc)
       by (Speaks new from' unlike good t q) = same t refl refl
-      by (Notes s' alike t q) = same t alike.status (alike.view (ap is_up (sym alike.status ∙ status_of t)))
+      by (Notes s' alike t q) = same t alike.status (alike.view (ap is_up_status (sym alike.status ∙ status_of t)))
 
   move_backed : IsGroup g → Invariant g h → IsBacked g h → c < size g → Move g h h' c → IsBacked g h'
   move_backed gr i k b m j bj n is o = elim (cases_eq j c) [
     | inl e ↦ subst (λ (y : ℕ). g.most_failures < count_below (backs h' (h'.state y).view) (size g)) (sym e)
-        (own_backed gr i k b m (subst (λ (y : ℕ). (h'.state y).status ≡ Normal) e n) (subst (λ (y : ℕ). y ≡ primary_of g (h'.state y).view) e is) (subst (λ (y : ℕ). 1 ≤ (h'.state y).view) e o))
+        (own_backed gr i k b m (subst (λ (y : ℕ). (h'.state y).status ≡ Normal) e n) (subst (λ (y : ℕ). y ≡ primary_in g (h'.state y).view) e is) (subst (λ (y : ℕ). 1 ≤ (h'.state y).view) e o))
     | inr ne ↦
         let t = (move_keeps gr i b m).step in
         let s = t.state_other j ne in
         let ev : (h'.state j).view ≡ (h.state j).view = ap (λ (s : State E). s.view) s in
         subst (λ (v : ℕ). g.most_failures < count_below (backs h' v) (size g)) (sym ev)
-        (backs_more t (h.state j).view (k j bj (ap (λ (s : State E). s.status) (sym s) ∙ n) (is ∙ ap (primary_of g) ev) (omega (arith, ev))))
+        (backs_more t (h.state j).view (k j bj (ap (λ (s : State E). s.status) (sym s) ∙ n) (is ∙ ap (primary_in g) ev) (omega (arith, ev))))
   ]
 
 module _ {E : Type 0} {g : Group E} {h0 : History E} where

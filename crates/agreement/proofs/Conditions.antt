@@ -1,12 +1,12 @@
 -- Why the conditions of the moves hold in the cases of the rules. Here s is a good state of c, and the letter was posted.
 use Rattle.std.proofs.Common.{◌≡◌, ◌≢◌, ℕ, ◌+◌, ◌-◌, ◌<◌, ◌≤◌, min, max, true, not, eqb, leb, List, [], ◌∷◌, ◌++◌, length, take, drop, refl, sym, ap, ◌∙◌, subst, arith, length-drop, append_assoc}
 use Rattle.std.proofs.lemmas.Bool.{and_from, le-leb, eq-eqb, leb-true, and_parts, eqb-false, not-true}
-use Rattle.agreement.specs.Lists.{count_below, without}
+use Rattle.agreement.specs.Lists.{count_below, without_controller}
 use Rattle.list_facts.proofs.Prefixes.{prefix_append, prefix_both, prefix_lacks, prefix_next, prefix_trans, take_within}
 use Rattle.list_facts.specs.Lists.{IsIn, IsPrefix}
-use Rattle.agreement.specs.History.{Group, size, primary_of, Normal, ViewChange, Filled, PrepareOk, State, History, letter}
+use Rattle.agreement.specs.History.{Group, size, primary_in, Normal, ViewChange, Filled, PrepareOk, State, History, abstract_letter}
 use Rattle.agreement.specs.Quorums.{has_accepted, HasQuorum, IsCommitted, IsVote}
-use Rattle.agreement.specs.Invariant.{is_up, IsGoodState, IsGoodResponse, IsGoodPrepare, IsGoodVote, IsGoodSupply, IsGoodNews, Invariant, IsGroup}
+use Rattle.agreement.specs.Invariant.{is_up_status, IsGoodState, IsGoodResponse, IsGoodPrepare, IsGoodVote, IsGoodSupply, IsGoodNews, Invariant, IsGroup}
 use Rattle.agreement.proofs.Counts.{count_some, count_others}
 use Rattle.agreement.proofs.Quorums.{committed_less, committed_max}
 use Rattle.agreement.proofs.Frame.{accepted_posted, acknowledged_from}
@@ -18,8 +18,8 @@ module _ {E : Type 0} {g : Group E} {h : History E} {c : ℕ} {s : State E} (r :
   own_vote n = let at = r.changing n in record {
     promised = omega (arith, at.1);
     earlier = at.0;
-    of_view = r.of_view (ap is_up n);
-    covers = λ v m l o a. r.covers (ap is_up n) v m o a;
+    of_view = r.of_view (ap is_up_status n);
+    covers = λ v m l o a. r.covers (ap is_up_status n) v m o a;
   }
 
   pub own_good_vote : s.status ≡ ViewChange → IsGoodVote g h c s.view s.normal s.commit (drop s.commit s.log)
@@ -30,7 +30,7 @@ module _ {E : Type 0} {g : Group E} {h : History E} {c : ℕ} {s : State E} (r :
   own_news m n = record { log = s.log; of_view = own_of_view r n; rest_is = refl }
 
   -- SUPPLY: what is told of the own committed entries
-  pub own_supply : Invariant g h → (m : ℕ) → is_up s.status ≡ true → m ≤ s.commit → IsGoodSupply g h m (drop m (take s.commit s.log))
+  pub own_supply : Invariant g h → (m : ℕ) → is_up_status s.status ≡ true → m ≤ s.commit → IsGoodSupply g h m (drop m (take s.commit s.log))
   own_supply i m u l = let o = r.of_view u in let n = o.within in record { log = take s.commit s.log; certified = committed_certified i o; within = omega (arith, take_within s.commit s.log n); rest_is = refl }
 
   -- PREPARE that is posted again
@@ -57,15 +57,15 @@ module _ {E : Type 0} {g : Group E} {h : History E} {c : ℕ} {s : State E} (r :
       (prefix_next x.before e own.front x.front (omega arith), committed_max own.committed (committed_less x.committed (omega arith) (omega arith)))
 
   -- PREPAREOK: its sender has accepted the place
-  pub acknowledged_accepted : (j place : ℕ) → s.status ≡ Normal → c ≡ primary_of g s.view → j ≢ c → IsIn (letter j c (PrepareOk s.view place)) h.sent → has_accepted g h s.view place j ≡ true
+  pub acknowledged_accepted : (j place : ℕ) → s.status ≡ Normal → c ≡ primary_in g s.view → j ≢ c → IsIn (abstract_letter j c (PrepareOk s.view place)) h.sent → has_accepted g h s.view place j ≡ true
   acknowledged_accepted j place n is ne i =
       accepted_posted g h s.view place j (λ z. ne (z ∙ sym is))
-      ∙ acknowledged_from h.sent j s.view place (letter j c (PrepareOk s.view place)) i refl (and_from (eqb s.view s.view) (leb place place) (eq-eqb s.view s.view refl) (le-leb place place (omega arith)))
+      ∙ acknowledged_from h.sent j s.view place (abstract_letter j c (PrepareOk s.view place)) i refl (and_from (eqb s.view s.view) (leb place place) (eq-eqb s.view s.view refl) (le-leb place place (omega arith)))
 
   -- what f others have acknowledged has a quorum
-  pub majority_quorum : (m : ℕ) → c < size g → s.status ≡ Normal → c ≡ primary_of g s.view → 1 ≤ g.most_failures → 1 ≤ m → g.most_failures ≤ count_below (without c (λ i. leb m (s.acked i))) (size g) → Invariant g h → HasQuorum g h s.view m × (m ≤ length s.log)
+  pub majority_quorum : (m : ℕ) → c < size g → s.status ≡ Normal → c ≡ primary_in g s.view → 1 ≤ g.most_failures → 1 ≤ m → g.most_failures ≤ count_below (without_controller c (λ i. leb m (s.acked i))) (size g) → Invariant g h → HasQuorum g h s.view m × (m ≤ length s.log)
   majority_quorum m b n is f o many i =
-      let some = count_some (without c (λ i. leb m (s.acked i))) (size g) (omega arith) in
+      let some = count_some (without_controller c (λ i. leb m (s.acked i))) (size g) (omega arith) in
       let of_one = and_parts (leb m (s.acked some.0)) (not (eqb some.0 c)) some.2 in
       let ne : some.0 ≢ c = eqb-false some.0 c (not-true (eqb some.0 c) of_one.1) in
       let a = r.counted n is some.0 m ne o (leb-true m (s.acked some.0) of_one.0) in
@@ -78,7 +78,7 @@ module _ {E : Type 0} {g : Group E} {h : History E} {c : ℕ} {s : State E} (r :
       (q, omega (arith, ap length (own_log r n is)))
 
   -- RECOVERYRESPONSE to j: what a primary tells
-  pub own_response : (j x : ℕ) → s.status ≡ Normal → c ≡ primary_of g s.view → j < size g → Invariant g h → x ≤ h.life j → IsGoodResponse g h c j s.view x (Filled s.commit s.log)
+  pub own_response : (j x : ℕ) → s.status ≡ Normal → c ≡ primary_in g s.view → j < size g → Invariant g h → x ≤ h.life j → IsGoodResponse g h c j s.view x (Filled s.commit s.log)
   own_response j x n is b i l = (
     l,
     record {
@@ -89,5 +89,5 @@ module _ {E : Type 0} {g : Group E} {h : History E} {c : ℕ} {s : State E} (r :
   )
 
   -- the log and the commit number of a state that is up
-  pub own_valid : IsGroup g → Invariant g h → is_up s.status ≡ true → (g.is_log s.log ≡ true) × (s.commit ≤ length s.log)
+  pub own_valid : IsGroup g → Invariant g h → is_up_status s.status ≡ true → (g.is_log s.log ≡ true) × (s.commit ≤ length s.log)
   own_valid gr i u = let o = r.of_view u in (gr.closed s.log (h.logs s.normal) o.front (i.views s.normal).valid, o.within)

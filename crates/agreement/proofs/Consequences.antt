@@ -5,32 +5,32 @@ use Rattle.std.proofs.lemmas.List.{nil_from_length}
 use Rattle.agreement.specs.Lists.{IsAtMost}
 use Rattle.list_facts.proofs.Prefixes.{comparable, front_prefix, prefix_both, prefix_equal, prefix_length, prefix_nil, prefix_trans, take_within}
 use Rattle.list_facts.specs.Lists.{IsIn, IsPrefix}
-use Rattle.agreement.specs.History.{Group, size, primary_of, Normal, ViewChange, Recovering, Answer, Filled, Response, State, History, Status, Down}
+use Rattle.agreement.specs.History.{Group, size, primary_in, Normal, ViewChange, Recovering, Answer, Filled, Response, State, History, Status, Down}
 use Rattle.agreement.specs.Quorums.{has_accepted, HasQuorum, IsSafe, nothing, backed, IsLogOf, IsCertified, empty, shown}
-use Rattle.agreement.specs.Invariant.{is_up, IsGoodState, IsGoodAnswer, IsGoodResponse, Invariant}
+use Rattle.agreement.specs.Invariant.{is_up_status, IsGoodState, IsGoodAnswer, IsGoodResponse, Invariant}
 use Rattle.agreement.proofs.Counts.{count_some}
 use Rattle.agreement.proofs.Quorums.{quorum_begins, certified_front}
 use Rattle.agreement.proofs.Frame.{accepted_own}
 
 module _ {E : Type 0} (g : Group E) (h : History E) where
   -- the primary of v has accepted each place of its log
-  pub own_place : (v m c : ℕ) → c ≡ primary_of g v → m ≤ length (h.logs v) → has_accepted g h v m c ≡ true
+  pub own_place : (v m c : ℕ) → c ≡ primary_in g v → m ≤ length (h.logs v) → has_accepted g h v m c ≡ true
   own_place v m c e l = accepted_own g h v m c e ∙ le-leb m (length (h.logs v)) l
 
 module _ {E : Type 0} {g : Group E} {h : History E} {c : ℕ} {s : State E} where
   -- a view that its primary has not started has no log
-  pub not_begun : IsGoodState g h c s → s.status ≡ ViewChange → c ≡ primary_of g s.view → h.logs s.view ≡ []
+  pub not_begun : IsGoodState g h c s → s.status ≡ ViewChange → c ≡ primary_in g s.view → h.logs s.view ≡ []
   not_begun r e p = elim (cases_lt 0 (length (h.logs s.view))) [
     | inl l ↦
-        let b : IsAtMost s.view 1 s.normal (length s.log) = r.covers (ap is_up e) s.view 1 (omega arith) (own_place g h s.view 1 c p (omega arith)) in
+        let b : IsAtMost s.view 1 s.normal (length s.log) = r.covers (ap is_up_status e) s.view 1 (omega arith) (own_place g h s.view 1 c p (omega arith)) in
         let n = (r.changing e).0 in absurd (omega arith)
     | inr l ↦ nil_from_length (h.logs s.view) (omega arith)
   ]
 
   -- a normal primary has the whole log of its view
-  pub own_log : IsGoodState g h c s → s.status ≡ Normal → c ≡ primary_of g s.view → h.logs s.view ≡ s.log
+  pub own_log : IsGoodState g h c s → s.status ≡ Normal → c ≡ primary_in g s.view → h.logs s.view ≡ s.log
   own_log r e p =
-      let up : is_up s.status ≡ true = ap is_up e in
+      let up : is_up_status s.status ≡ true = ap is_up_status e in
       let n = (r.normal e).0 in
       let front : IsPrefix s.log (h.logs s.view) = subst (λ (v : ℕ). IsPrefix s.log (h.logs v)) n (r.of_view up).front in
       let long : length (h.logs s.view) ≤ length s.log = elim (cases_lt 0 (length (h.logs s.view))) [
@@ -41,17 +41,17 @@ module _ {E : Type 0} {g : Group E} {h : History E} {c : ℕ} {s : State E} wher
       ] in
       sym (prefix_equal front long)
 
-pub up_cases : (x : Status) → is_up x ≡ true → (x ≡ Normal) ⊎ (x ≡ ViewChange)
+pub up_cases : (x : Status) → is_up_status x ≡ true → (x ≡ Normal) ⊎ (x ≡ ViewChange)
 up_cases Normal e = inl refl
 up_cases ViewChange e = inr refl
 up_cases Recovering e = absurd (false≢true e)
 up_cases Down e = absurd (false≢true e)
 
-pub up_not_down : (x : Status) → is_up x ≡ true → x ≢ Down
-up_not_down x u e = false≢true (ap is_up (sym e) ∙ u)
+pub up_not_down : (x : Status) → is_up_status x ≡ true → x ≢ Down
+up_not_down x u e = false≢true (ap is_up_status (sym e) ∙ u)
 
 module _ {E : Type 0} {g : Group E} {h : History E} {c : ℕ} {s : State E} (r : IsGoodState g h c s) where
-  pub up_view : is_up s.status ≡ true → (s.view ≡ h.promise c) × (s.normal ≤ s.view)
+  pub up_view : is_up_status s.status ≡ true → (s.view ≡ h.promise c) × (s.normal ≤ s.view)
   up_view u = elim (up_cases s.status u) [
     | inl e ↦ let x = r.normal e in (x.1, omega (arith, x.0))
     | inr e ↦ let x = r.changing e in (x.1, omega (arith, x.0))
@@ -59,10 +59,10 @@ module _ {E : Type 0} {g : Group E} {h : History E} {c : ℕ} {s : State E} (r :
 
   -- a normal state's log is a log of its view
   pub own_of_view : s.status ≡ Normal → IsLogOf g h s.view s.log s.commit
-  own_of_view n = subst (λ (v : ℕ). IsLogOf g h v s.log s.commit) (r.normal n).0 (r.of_view (ap is_up n))
+  own_of_view n = subst (λ (v : ℕ). IsLogOf g h v s.log s.commit) (r.normal n).0 (r.of_view (ap is_up_status n))
 
   -- what is adopted is of a view above that of the log
-  pub adopted_above : {w : ℕ} → is_up s.status ≡ true → (s.view < w) ⊎ ((s.view ≡ w) × (s.status ≡ ViewChange)) → s.normal < w
+  pub adopted_above : {w : ℕ} → is_up_status s.status ≡ true → (s.view < w) ⊎ ((s.view ≡ w) × (s.status ≡ ViewChange)) → s.normal < w
   adopted_above u later = let at = up_view u in elim later [ inl z ↦ omega (arith, at.1) | inr z ↦ omega (arith, z.0, (r.changing z.1).0) ]
 
 module _ {E : Type 0} {g : Group E} {h : History E} where

@@ -1,7 +1,7 @@
 -- Counts of the numbers below a bound that pass a test.
 use Rattle.std.proofs.Common.{◌≡◌, ◌≢◌, ℕ, zero, suc, ◌+◌, ◌<◌, ◌≤◌, inl, inr, Bool, true, false, cond, not, ◌&&◌, eqb, List, [], ◌∷◌, length, refl, sym, ap, ◌∙◌, ap₂, arith}
 use Rattle.std.proofs.lemmas.Bool.{cases_eq, cases_Bool, both_ways, and_parts, and_from, eqb-false, eq-eqb, ne_eqb, not_from_false, not-true}
-use Rattle.agreement.specs.Lists.{AreDistinct, count_below, without}
+use Rattle.agreement.specs.Lists.{AreDistinct, count_below, without_controller}
 use Rattle.list_facts.specs.Lists.{IsIn}
 
 abbrev one : Bool → ℕ
@@ -40,29 +40,29 @@ count_share p q (suc n) h = elim (cases_Bool (p n && q n)) [
       let r = count_share p q n (omega arith) in (r.0, omega (arith, r.1), r.2, r.3)
 ]
 
-without_below : (p : ℕ → Bool) (x n : ℕ) → n ≤ x → count_below (without x p) n ≡ count_below p n
+without_below : (p : ℕ → Bool) (x n : ℕ) → n ≤ x → count_below (without_controller x p) n ≡ count_below p n
 without_below p x zero h = refl
 without_below p x (suc n) h =
     let e : eqb n x ≡ false = ne_eqb n x (λ z. omega arith) in
-    let same : without x p n ≡ p n = grind (arith, e) in
+    let same : without_controller x p n ≡ p n = grind (arith, e) in
     ap₂ (λ (a : ℕ) (b : Bool). a + one b) (without_below p x n (omega arith)) same
 
 -- a count is one more than without a number that passes
-pub count_without : (p : ℕ → Bool) (x n : ℕ) → x < n → p x ≡ true → count_below p n ≡ count_below (without x p) n + 1
+pub count_without : (p : ℕ → Bool) (x n : ℕ) → x < n → p x ≡ true → count_below p n ≡ count_below (without_controller x p) n + 1
 count_without p x zero h e = absurd (omega arith)
 count_without p x (suc n) h e = elim (cases_eq n x) [
   | inl z ↦
       let here : one (p n) ≡ 1 = ap one (ap p z ∙ e) in
-      let out : without x p n ≡ false = grind (arith, eq-eqb n x z) in
-      let gone : one (without x p n) ≡ 0 = ap one out in
+      let out : without_controller x p n ≡ false = grind (arith, eq-eqb n x z) in
+      let gone : one (without_controller x p n) ≡ 0 = ap one out in
       omega (arith, without_below p x n (omega (arith, z)))
   | inr z ↦
-      let kept : without x p n ≡ p n = grind (arith, ne_eqb n x z) in
-      let same : one (without x p n) ≡ one (p n) = ap one kept in
+      let kept : without_controller x p n ≡ p n = grind (arith, ne_eqb n x z) in
+      let same : one (without_controller x p n) ≡ one (p n) = ap one kept in
       omega (arith, count_without p x n (omega (arith, z)) e)
 ]
 
-without_at : (p : ℕ → Bool) (x y : ℕ) → x ≢ y → p y ≡ true → without x p y ≡ true
+without_at : (p : ℕ → Bool) (x y : ℕ) → x ≢ y → p y ≡ true → without_controller x p y ≡ true
 without_at p x y ne e = and_from (p y) (not (eqb y x)) e (not_from_false (eqb y x) (ne_eqb y x (λ z. ne (sym z))))
 
 -- different numbers that pass
@@ -70,11 +70,11 @@ pub count_list : (xs : List ℕ) (p : ℕ → Bool) (n : ℕ) → AreDistinct xs
 count_list [] p n d h = omega arith
 count_list (x ∷ xs) p n d h =
     let here = h x (inl refl) in
-    let rest = count_list xs (without x p) n d.1 (λ y m. ((h y (inr m)).0, without_at p x y (d.0 y m) (h y (inr m)).1)) in
+    let rest = count_list xs (without_controller x p) n d.1 (λ y m. ((h y (inr m)).0, without_at p x y (d.0 y m) (h y (inr m)).1)) in
     omega (arith, count_without p x n here.0 here.1)
 
 -- a number that passes, and f others
-pub count_others : (p q : ℕ → Bool) (x n f : ℕ) → x < n → p x ≡ true → f ≤ count_below (without x q) n → ((i : ℕ) → i < n → i ≢ x → q i ≡ true → p i ≡ true) → f < count_below p n
+pub count_others : (p q : ℕ → Bool) (x n f : ℕ) → x < n → p x ≡ true → f ≤ count_below (without_controller x q) n → ((i : ℕ) → i < n → i ≢ x → q i ≡ true → p i ≡ true) → f < count_below p n
 count_others p q x n f l e many others =
-    let more = count_more (without x q) (without x p) n (λ i b h. let s = and_parts (q i) (not (eqb i x)) h in let ne = eqb-false i x (not-true (eqb i x) s.1) in without_at p x i (λ z. ne (sym z)) (others i b ne s.0)) in
+    let more = count_more (without_controller x q) (without_controller x p) n (λ i b h. let s = and_parts (q i) (not (eqb i x)) h in let ne = eqb-false i x (not-true (eqb i x) s.1) in without_at p x i (λ z. ne (sym z)) (others i b ne s.0)) in
     omega (arith, count_without p x n l e)

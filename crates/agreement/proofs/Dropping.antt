@@ -4,7 +4,7 @@ use Rattle.std.proofs.lemmas.Bool.{false≢true}
 use Rattle.list_facts.proofs.Prefixes.{front_prefix, prefix_append, prefix_trans}
 use Rattle.list_facts.specs.Lists.{IsPrefix}
 use Rattle.agreement.specs.History.{Group, size, Status, Recovering, Down, State, History}
-use Rattle.agreement.specs.Invariant.{is_up, Invariant}
+use Rattle.agreement.specs.Invariant.{is_up_status, Invariant}
 use Rattle.agreement.specs.Moves.{Moved, Move, Enters, Collects, Stocks, Starts, Adopts, Appends, Commits, Acknowledges, Counts, Proposes, Keeps, Recovers, Falls, Rises, Speaks, Notes}
 use Rattle.agreement.specs.Laws.{committed_log, NothingIsDropped}
 use Rattle.agreement.proofs.Quorums.{best_is_safe}
@@ -12,14 +12,14 @@ use Rattle.agreement.proofs.Consequences.{committed_begins, up_not_down, adopted
 use Rattle.agreement.proofs.Keeping.{move_keeps}
 use Rattle.agreement.proofs.Conditions.{own_valid}
 
-not_up : (s : Status) → s ≡ Recovering → is_up s ≡ true → ⊥
-not_up s e u = false≢true (ap is_up (sym e) ∙ u)
+not_up : (s : Status) → s ≡ Recovering → is_up_status s ≡ true → ⊥
+not_up s e u = false≢true (ap is_up_status (sym e) ∙ u)
 
-not_down : (s : Status) → s ≡ Down → is_up s ≡ true → ⊥
-not_down s e u = false≢true (ap is_up (sym e) ∙ u)
+not_down : (s : Status) → s ≡ Down → is_up_status s ≡ true → ⊥
+not_down s e u = false≢true (ap is_up_status (sym e) ∙ u)
 
 module _ {E : Type 0} {g : Group E} {h h' : History E} {c : ℕ} where
-  front_kept : Invariant g h → c < size g → Move g h h' c → is_up (h.state c).status ≡ true → is_up (h'.state c).status ≡ true → IsPrefix (committed_log (h.state c)) (h'.state c).log
+  front_kept : Invariant g h → c < size g → Move g h h' c → is_up_status (h.state c).status ≡ true → is_up_status (h'.state c).status ≡ true → IsPrefix (committed_log (h.state c)) (h'.state c).log
   front_kept i b m u u' = by m
     where
       same : h'.state c ≡ h.state c → IsPrefix (committed_log (h.state c)) (h'.state c).log

@@ -4,7 +4,7 @@ use Rattle.std.proofs.Common.{◌≡◌, ◌≢◌, ℕ, ◌<◌, ◌≤◌, ◌
 use Rattle.std.proofs.lemmas.Bool.{cases_eq, cases_Bool, and_parts, and_from, or_right, or_left, or_cases, lt-ltb, ltb-true, leb-true, le-leb, false≢true, eqb-true, ne_eqb, eq-eqb, cond-true, cond-false}
 use Rattle.list_facts.proofs.Prefixes.{prefix_length, prefix_take, prefix_trans}
 use Rattle.list_facts.specs.Lists.{IsIn, IsPrefix}
-use Rattle.agreement.specs.History.{Group, size, primary_of, Recovering, Vote, Answer, Filled, Bare, Message, Prepare, PrepareOk, Commit, StartViewChange, DoViewChange, StartView, GetState, NewState, Fetch, Supply, Recovery, RecoveryResponse, Letter, State, History, letter}
+use Rattle.agreement.specs.History.{Group, size, primary_in, Recovering, Vote, Answer, Filled, Bare, Message, Prepare, PrepareOk, Commit, StartViewChange, DoViewChange, StartView, GetState, NewState, Fetch, Supply, Recovery, RecoveryResponse, Letter, State, History, abstract_letter}
 use Rattle.agreement.specs.Quorums.{has_acknowledged, is_prepare_ok, has_accepted, blocks, HasQuorum, IsBlocked, IsSafe, IsCommitted, nothing, backed, IsLogOf, IsVote, IsCertified, empty, shown}
 use Rattle.agreement.specs.Invariant.{IsGoodVote, IsGoodSupply, IsGoodNews, IsBallot, IsGoodState, IsGoodAnswer, IsGoodResponse, IsGoodMessage, IsGoodLetter, IsGoodView, Invariant}
 use Rattle.agreement.proofs.Counts.{count_more}
@@ -18,7 +18,7 @@ pub record Step {E : Type 0} (g : Group E) (h h' : History E) (c : ℕ) (new : L
   pub promise_up : h.promise c ≤ h'.promise c
   pub life_up : h.life c ≤ h'.life c
   pub logs_longer : (v : ℕ) → IsPrefix (h.logs v) (h'.logs v)
-  pub logs_other : (v : ℕ) → primary_of g v ≢ c → h'.logs v ≡ h.logs v
+  pub logs_other : (v : ℕ) → primary_in g v ≢ c → h'.logs v ≡ h.logs v
   pub sent_more : (l : Letter E) → IsIn l h.sent → IsIn l h'.sent
   pub sent_split : (l : Letter E) → IsIn l h'.sent → IsIn l new ⊎ IsIn l h.sent
   pub posted : (l : Letter E) → IsIn l new → l.sender ≡ c
@@ -32,13 +32,13 @@ pub data Fresh {E : Type 0} (g : Group E) (h h' : History E) (c : ℕ) : Type 0 
 
 -- who has accepted, by its two cases
 module _ {E : Type 0} (g : Group E) (h : History E) where
-  pub accepted_own : (v m c : ℕ) → c ≡ primary_of g v → has_accepted g h v m c ≡ leb m (length (h.logs v))
+  pub accepted_own : (v m c : ℕ) → c ≡ primary_in g v → has_accepted g h v m c ≡ leb m (length (h.logs v))
   unfolding has_accepted
-  accepted_own v m c e = cond-true (eqb c (primary_of g v)) _ _ (eq-eqb c (primary_of g v) e)
+  accepted_own v m c e = cond-true (eqb c (primary_in g v)) _ _ (eq-eqb c (primary_in g v) e)
 
-  pub accepted_posted : (v m c : ℕ) → c ≢ primary_of g v → has_accepted g h v m c ≡ has_acknowledged h.sent c v m
+  pub accepted_posted : (v m c : ℕ) → c ≢ primary_in g v → has_accepted g h v m c ≡ has_acknowledged h.sent c v m
   unfolding has_accepted
-  accepted_posted v m c e = cond-false (eqb c (primary_of g v)) _ _ (ne_eqb c (primary_of g v) e)
+  accepted_posted v m c e = cond-false (eqb c (primary_in g v)) _ _ (ne_eqb c (primary_in g v) e)
 
 -- a letter by which c has accepted, and back
 pub acknowledged_by : {E : Type 0} (ls : List (Letter E)) (c v m : ℕ) → has_acknowledged ls c v m ≡ true → (l : Letter E) × IsIn l ls × (l.sender ≡ c) × (is_prepare_ok l.message v m ≡ true)
@@ -75,7 +75,7 @@ acknowledged_same old all new c v m more split other = tests_same (has_acknowled
 
 -- a move is a step, where its letters are its own, and the logs and what is accepted are as asked
 pub step_of : {E : Type 0} (g : Group E) {h h' : History E} {c : ℕ} {s : State E} {p l : ℕ} {new : List (Letter E)} → Moved h h' c s p l new → h.promise c ≤ p → h.life c ≤ l → AreFrom c new
-    → ((v : ℕ) → IsPrefix (h.logs v) (h'.logs v)) → ((v : ℕ) → primary_of g v ≢ c → h'.logs v ≡ h.logs v)
+    → ((v : ℕ) → IsPrefix (h.logs v) (h'.logs v)) → ((v : ℕ) → primary_in g v ≢ c → h'.logs v ≡ h.logs v)
     → ((v m : ℕ) → has_accepted g h' v m c ≡ true → has_accepted g h v m c ≡ false → v ≡ h'.promise c) → Step g h h' c new
 step_of g t up older from' longer others newly = record {
   state_other = t.state_other;
@@ -98,13 +98,13 @@ fresh_unless {E = E} t ne = not_recovering (λ e. ne (ap (λ (x : State E). x.st
 module _ {E : Type 0} {g : Group E} {h h' : History E} {c : ℕ} {new : List (Letter E)} (t : Step g h h' c new) where
   -- the others have accepted what they had, and the mover no less
   pub accepted_other : (v m j : ℕ) → j ≢ c → has_accepted g h' v m j ≡ has_accepted g h v m j
-  accepted_other v m j ne = elim (cases_eq j (primary_of g v)) [
+  accepted_other v m j ne = elim (cases_eq j (primary_in g v)) [
     | inl e ↦ accepted_own g h' v m j e ∙ ap (λ (l : List E). leb m (length l)) (t.logs_other v (λ z. ne (e ∙ z))) ∙ sym (accepted_own g h v m j e)
     | inr e ↦ accepted_posted g h' v m j e ∙ acknowledged_same h.sent h'.sent new j v m t.sent_more t.sent_split (λ l k is ok. ne (sym is ∙ t.posted l k)) ∙ sym (accepted_posted g h v m j e)
   ]
 
   pub accepted_more : (v m j : ℕ) → has_accepted g h v m j ≡ true → has_accepted g h' v m j ≡ true
-  accepted_more v m j a = elim (cases_eq j (primary_of g v)) [
+  accepted_more v m j a = elim (cases_eq j (primary_in g v)) [
     | inl e ↦
         let n = prefix_length (t.logs_longer v) in
         let k = leb-true m (length (h.logs v)) (sym (accepted_own g h v m j e) ∙ a) in
@@ -253,7 +253,7 @@ module _ {E : Type 0} {g : Group E} {h h' : History E} {c : ℕ} {new : List (Le
         counted = λ e q i m z o b. accepted_more s.view m i (r.counted e q i m z o b);
         ballot = λ e q. ballot_more (r.ballot e q);
         supplied = λ e x i. let z = r.supplied e x i in (z.0, supply_more z.1);
-        heard = λ e x i. let z = r.heard e x i in (z.0, t.sent_more _ (subst (λ (y : ℕ). IsIn (letter x.from j (RecoveryResponse x.view y x.answer)) h.sent) (sym (t.life_other j ne)) z.1));
+        heard = λ e x i. let z = r.heard e x i in (z.0, t.sent_more _ (subst (λ (y : ℕ). IsIn (abstract_letter x.from j (RecoveryResponse x.view y x.answer)) h.sent) (sym (t.life_other j ne)) z.1));
       }
 
   pub view_more : (v : ℕ) → h'.logs v ≡ h.logs v → IsGoodView g h v → IsGoodView g h' v

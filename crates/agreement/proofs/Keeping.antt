@@ -4,10 +4,10 @@ use Rattle.std.proofs.lemmas.Bool.{cases_eq}
 use Rattle.agreement.specs.Lists.{IsAtMost}
 use Rattle.list_facts.proofs.Prefixes.{prefix_append, prefix_nil, prefix_refl}
 use Rattle.list_facts.specs.Lists.{IsIn, IsPrefix}
-use Rattle.agreement.specs.History.{Group, size, primary_of, Normal, ViewChange, Vote, Message, Prepare, PrepareOk, Recovery, Letter, State, History, letter}
+use Rattle.agreement.specs.History.{Group, size, primary_in, Normal, ViewChange, Vote, Message, Prepare, PrepareOk, Recovery, Letter, State, History, abstract_letter}
 use Rattle.agreement.specs.Quorums.{is_prepare_ok, IsSafe, IsLogOf}
-use Rattle.agreement.specs.Invariant.{is_up, IsGoodVote, IsGoodState, IsGoodMessage, IsGoodLetter, IsGoodView, Invariant, IsGroup}
-use Rattle.agreement.specs.Moves.{Moved, LogsStay, LogBecomes, AcknowledgeNothing, AreFrom, started, appended, risen, Move, Enters, Collects, Stocks, Starts, Adopts, Appends, Commits, Acknowledges, Counts, Proposes, Keeps, Recovers, Falls, Rises, Speaks, Notes, IsBest}
+use Rattle.agreement.specs.Invariant.{is_up_status, IsGoodVote, IsGoodState, IsGoodMessage, IsGoodLetter, IsGoodView, Invariant, IsGroup}
+use Rattle.agreement.specs.Moves.{Moved, LogsStay, LogBecomes, AcknowledgeNothing, AreFrom, started, appended_to_history, risen, Move, Enters, Collects, Stocks, Starts, Adopts, Appends, Commits, Acknowledges, Counts, Proposes, Keeps, Recovers, Falls, Rises, Speaks, Notes, IsBest}
 use Rattle.agreement.proofs.Quorums.{safe_longer, best_is_safe, best_has_room}
 use Rattle.agreement.proofs.Frame.{Step, Fresh, new_life, log_of_more, safe_more, committed_more, accepted_more, message_more, invariant_kept, fresh_unless}
 use Rattle.agreement.proofs.Consequences.{not_begun, own_log, up_view, own_of_view}
@@ -33,7 +33,7 @@ module _ {E : Type 0} {g : Group E} {h h' : History E} {c : ℕ} where
   with_same_pair : {s : State E} → Moved h h' c s (h.promise c) (h.life c) [] → LogsStay h h' → Invariant g h → c < size g → s.status ≡ (h.state c).status → Owed g h c s (h.promise c) (h.life c) → Kept g h h' c
   with_same_pair t q i b e o = without_letters t q i b (omega arith) (omega arith) (fresh_still g t q no_letters e refl) o
 
-  start_keeps : IsGroup g → (star most : Vote E) (good : IsGoodVote g h star.from (h.state c).view star.normal star.commit star.rest) → (h.state c).status ≡ ViewChange → c ≡ primary_of g (h.state c).view → g.most_failures < length (h.state c).collected
+  start_keeps : IsGroup g → (star most : Vote E) (good : IsGoodVote g h star.from (h.state c).view star.normal star.commit star.rest) → (h.state c).status ≡ ViewChange → c ≡ primary_in g (h.state c).view → g.most_failures < length (h.state c).collected
       → IsBest (h.state c).collected star → IsIn most (h.state c).collected
       → Moved h h' c (started (h.state c) good.whole most.commit) (h.promise c) (h.life c) [] → LogBecomes h h' (h.state c).view good.whole → Invariant g h → c < size g → Kept g h h' c
   start_keeps gr star most good n is many best in'' t q i b =
@@ -57,7 +57,7 @@ module _ {E : Type 0} {g : Group E} {h h' : History E} {c : ℕ} where
         normal = refl;
         promised = at.1 ∙ sym t.promise_own;
         newly = grown_new g t q no_letters is;
-        covers = λ v m o a. let x : IsAtMost v m (h.state c).normal (length (h.state c).log) = r.covers (ap is_up n) v m o a in inl (omega (arith, at.0));
+        covers = λ v m o a. let x : IsAtMost v m (h.state c).normal (length (h.state c).log) = r.covers (ap is_up_status n) v m o a in inl (omega (arith, at.0));
         of_view = of_view;
         counted = λ e z m ne o l. absurd (omega arith);
       } in
@@ -76,9 +76,9 @@ module _ {E : Type 0} {g : Group E} {h h' : History E} {c : ℕ} where
             ]);
       }
 
-  propose_keeps : (e : E) (new : List (Letter E)) → (h.state c).status ≡ Normal → c ≡ primary_of g (h.state c).view → g.is_log ((h.state c).log ++ e ∷ []) ≡ true
+  propose_keeps : (e : E) (new : List (Letter E)) → (h.state c).status ≡ Normal → c ≡ primary_in g (h.state c).view → g.is_log ((h.state c).log ++ e ∷ []) ≡ true
       → ((l : Letter E) → IsIn l new → (l.sender ≡ c) × (l.message ≡ Prepare (h.state c).view (length (h.state c).log + 1) (h.state c).commit e))
-      → Moved h h' c (appended (h.state c) ((h.state c).log ++ e ∷ [])) (h.promise c) (h.life c) new → LogBecomes h h' (h.state c).view ((h.state c).log ++ e ∷ []) → Invariant g h → c < size g → Kept g h h' c
+      → Moved h h' c (appended_to_history (h.state c) ((h.state c).log ++ e ∷ [])) (h.promise c) (h.life c) new → LogBecomes h h' (h.state c).view ((h.state c).log ++ e ∷ []) → Invariant g h → c < size g → Kept g h h' c
   propose_keeps e new n is valid letters t q i b =
       let r = i.states c b in
       let w : ℕ = (h.state c).view in
@@ -99,12 +99,12 @@ module _ {E : Type 0} {g : Group E} {h h' : History E} {c : ℕ} where
         safe = safe_more step (safe_longer own.safe (prefix_append old (e ∷ [])));
         committed = committed_more step own.committed;
       } in
-      let louder : Louder g h h' c (appended (h.state c) log) = record {
+      let louder : Louder g h h' c (appended_to_history (h.state c) log) = record {
         is_normal = n;
         normal = at.0;
         promised = at.1 ∙ sym t.promise_own;
         newly = grown_new g t q no is;
-        covers = λ v m o a. elim (r.covers (ap is_up n) v m o a) [
+        covers = λ v m o a. elim (r.covers (ap is_up_status n) v m o a) [
           | inl x ↦ inl (omega (arith, at.0))
           | inr x ↦ inr (x.0 ∙ at.0, omega (arith, x.1))
         ];
@@ -126,8 +126,8 @@ module _ {E : Type 0} {g : Group E} {h h' : History E} {c : ℕ} where
             ]);
       }
 
-  ack_keeps : (to : ℕ) → (h.state c).status ≡ Normal → c ≢ primary_of g (h.state c).view
-      → Moved h h' c (h.state c) (h.promise c) (h.life c) ((letter c to (PrepareOk (h.state c).view (length (h.state c).log))) ∷ []) → LogsStay h h' → Invariant g h → c < size g → Kept g h h' c
+  ack_keeps : (to : ℕ) → (h.state c).status ≡ Normal → c ≢ primary_in g (h.state c).view
+      → Moved h h' c (h.state c) (h.promise c) (h.life c) ((abstract_letter c to (PrepareOk (h.state c).view (length (h.state c).log))) ∷ []) → LogsStay h h' → Invariant g h → c < size g → Kept g h h' c
   ack_keeps to n ne t q i b =
       let r = i.states c b in
       let at = r.normal n in
@@ -138,7 +138,7 @@ module _ {E : Type 0} {g : Group E} {h h' : History E} {c : ℕ} where
         normal = at.0;
         promised = at.1 ∙ sym t.promise_own;
         newly = ack_new g t q;
-        covers = λ v m o a. subst (λ (y : ℕ). IsAtMost v m y (length (h.state c).log)) at.0 (r.covers (ap is_up n) v m o a);
+        covers = λ v m o a. subst (λ (y : ℕ). IsAtMost v m y (length (h.state c).log)) at.0 (r.covers (ap is_up_status n) v m o a);
         of_view = log_of_more step own;
         counted = λ z. absurd (ne z);
       } in

@@ -5,8 +5,8 @@ use Rattle.list_facts.proofs.Elements.{in_append, in_left, in_right}
 use Rattle.list_facts.proofs.Prefixes.{prefix_equal, prefix_nil, prefix_refl, prefix_trans}
 use Rattle.list_facts.specs.Lists.{IsIn, IsPrefix}
 use Rattle.agreement.specs.History.{Group, size}
-use Rattle.agreement.specs.Journals.{Rules, Entry, IsLegal, Follows, kept}
-use Rattle.agreement.specs.Decided.{longest, shown_below, decided, DecisionsLast}
+use Rattle.agreement.specs.Journals.{Rules, Entry, IsAllowed, Follows, kept_log}
+use Rattle.agreement.specs.Decided.{longest_log, shown_below, decided_log, DecisionsLast}
 use Rattle.agreement.proofs.Agreeing.{legal_past, journals_law}
 
 abbrev longer : {E : Type 0} → List E → List E → List E
@@ -21,7 +21,7 @@ longer_most {E = E} best xs = cond_both (ltb (length best) (length xs)) xs best 
     (λ e. let l = ltb-true (length best) (length xs) e in (omega arith, omega arith)) (λ e. let l = ltb-false (length best) (length xs) e in (omega arith, omega arith))
 
 -- the longest of some lists is the first or a longer one, and none is longer
-longest_is : {E : Type 0} (best : List E) (rest : List (List E)) → (longest best rest ≡ best) ⊎ (IsIn (longest best rest) rest × (length best < length (longest best rest)))
+longest_is : {E : Type 0} (best : List E) (rest : List (List E)) → (longest_log best rest ≡ best) ⊎ (IsIn (longest_log best rest) rest × (length best < length (longest_log best rest)))
 longest_is best [] = inl refl
 longest_is best (xs ∷ rest) =
     let b = longer best xs in
@@ -36,25 +36,25 @@ longest_is best (xs ∷ rest) =
       ]
     ]
 
-longest_most : {E : Type 0} (best : List E) (rest : List (List E)) → (length best ≤ length (longest best rest)) × ((xs : List E) → IsIn xs rest → length xs ≤ length (longest best rest))
+longest_most : {E : Type 0} (best : List E) (rest : List (List E)) → (length best ≤ length (longest_log best rest)) × ((xs : List E) → IsIn xs rest → length xs ≤ length (longest_log best rest))
 longest_most best [] = (omega arith, (λ xs i. absurd i))
 longest_most best (x ∷ rest) =
     let m = longer_most best x in
     let r = longest_most (longer best x) rest in
     (omega (arith, m.0, r.0), (λ xs i. elim i [ inl e ↦ let n = ap length e in omega (arith, m.1, r.0) | inr j ↦ r.1 xs j ]))
 
-shown_is : {Own A E : Type 0} (r : Rules Own A E) (n : ℕ) (past : List (Entry Own E)) (xs : List E) → IsIn xs (shown_below r n past) → (c : ℕ) × (c < n) × (xs ≡ kept r c past)
+shown_is : {Own A E : Type 0} (r : Rules Own A E) (n : ℕ) (past : List (Entry Own E)) (xs : List E) → IsIn xs (shown_below r n past) → (c : ℕ) × (c < n) × (xs ≡ kept_log r c past)
 shown_is r zero past xs i = absurd i
-shown_is r (suc n) past xs i = elim (in_append xs (shown_below r n past) (kept r n past ∷ []) i) [
+shown_is r (suc n) past xs i = elim (in_append xs (shown_below r n past) (kept_log r n past ∷ []) i) [
   | inl j ↦ let x = shown_is r n past xs j in (x.0, omega (arith, x.1), x.2)
   | inr j ↦ elim j [ inl e ↦ (n, omega arith, e) | inr k ↦ absurd k ]
 ]
 
-shown_at : {Own A E : Type 0} (r : Rules Own A E) (n c : ℕ) (past : List (Entry Own E)) → c < n → IsIn (kept r c past) (shown_below r n past)
+shown_at : {Own A E : Type 0} (r : Rules Own A E) (n c : ℕ) (past : List (Entry Own E)) → c < n → IsIn (kept_log r c past) (shown_below r n past)
 shown_at r zero c past l = absurd (omega arith)
 shown_at {E = E} r (suc n) c past l = elim (cases_eq c n) [
-  | inl e ↦ in_right (kept r c past) (shown_below r n past) (kept r n past ∷ []) (inl (ap (λ (j : ℕ). kept r j past) e))
-  | inr ne ↦ in_left (kept r c past) (shown_below r n past) (kept r n past ∷ []) (shown_at r n c past (omega arith))
+  | inl e ↦ in_right (kept_log r c past) (shown_below r n past) (kept_log r n past ∷ []) (inl (ap (λ (j : ℕ). kept_log r j past) e))
+  | inr ne ↦ in_left (kept_log r c past) (shown_below r n past) (kept_log r n past ∷ []) (shown_at r n c past (omega arith))
 ]
 
 -- of two lists one begins the other, and the second is as long: the first begins the second
@@ -66,11 +66,11 @@ begins_longer {E = E} xs ys p l = elim p [
 
 module _ {Own A E : Type 0} {r : Rules Own A E} {g : Group E} (f : Follows r g) where
   -- what is decided was shown at some time
-  pub decided_is : (past : List (Entry Own E)) → (decided r g past ≡ []) ⊎ ((more before : List (Entry Own E)) × (c : ℕ) × (past ≡ more ++ before) × (c < size g) × (decided r g past ≡ kept r c before))
-  unfolding decided
+  pub decided_is : (past : List (Entry Own E)) → (decided_log r g past ≡ []) ⊎ ((more before : List (Entry Own E)) × (c : ℕ) × (past ≡ more ++ before) × (c < size g) × (decided_log r g past ≡ kept_log r c before))
+  unfolding decided_log
   decided_is [] = inl refl
-  decided_is (e ∷ past) = elim (longest_is (decided r g past) (shown_below r (size g) (e ∷ past))) [
-    | inr z ↦ let x = shown_is r (size g) (e ∷ past) (longest (decided r g past) (shown_below r (size g) (e ∷ past))) z.0 in inr ([], e ∷ past, x.0, refl, x.1, x.2)
+  decided_is (e ∷ past) = elim (longest_is (decided_log r g past) (shown_below r (size g) (e ∷ past))) [
+    | inr z ↦ let x = shown_is r (size g) (e ∷ past) (longest_log (decided_log r g past) (shown_below r (size g) (e ∷ past))) z.0 in inr ([], e ∷ past, x.0, refl, x.1, x.2)
     | inl z ↦ elim (decided_is past) [
       | inl n ↦ inl (z ∙ n)
       | inr x ↦ inr (e ∷ x.0, x.1, x.2, ap (λ (l : List (Entry Own E)). e ∷ l) x.3, x.4, z ∙ x.5)
@@ -78,37 +78,37 @@ module _ {Own A E : Type 0} {r : Rules Own A E} {g : Group E} (f : Follows r g) 
   ]
 
   -- what is decided agrees with what is shown now
-  decided_agrees : (more past : List (Entry Own E)) → IsLegal r g (more ++ past) → (c : ℕ) → c < size g → IsPrefix (decided r g past) (kept r c (more ++ past)) ⊎ IsPrefix (kept r c (more ++ past)) (decided r g past)
+  decided_agrees : (more past : List (Entry Own E)) → IsAllowed r g (more ++ past) → (c : ℕ) → c < size g → IsPrefix (decided_log r g past) (kept_log r c (more ++ past)) ⊎ IsPrefix (kept_log r c (more ++ past)) (decided_log r g past)
   decided_agrees more past k c b = elim (decided_is past) [
-    | inl n ↦ inl (subst (λ (l : List E). IsPrefix l (kept r c (more ++ past))) (sym n) (prefix_nil (kept r c (more ++ past))))
+    | inl n ↦ inl (subst (λ (l : List E). IsPrefix l (kept_log r c (more ++ past))) (sym n) (prefix_nil (kept_log r c (more ++ past))))
     | inr x ↦
         let whole : more ++ past ≡ (more ++ x.0) ++ x.1 = ap (λ (l : List (Entry Own E)). more ++ l) x.3 ∙ sym (append_assoc more x.0 x.1) in
-        let a = journals_law r g (more ++ x.0) x.1 x.2 c f (subst (λ (l : List (Entry Own E)). IsLegal r g l) whole k) x.4 b in
-        subst (λ (l : List E). IsPrefix l (kept r c (more ++ past)) ⊎ IsPrefix (kept r c (more ++ past)) l) (sym x.5)
-        (subst (λ (l : List (Entry Own E)). IsPrefix (kept r x.2 x.1) (kept r c l) ⊎ IsPrefix (kept r c l) (kept r x.2 x.1)) (sym whole) a)
+        let a = journals_law r g (more ++ x.0) x.1 x.2 c f (subst (λ (l : List (Entry Own E)). IsAllowed r g l) whole k) x.4 b in
+        subst (λ (l : List E). IsPrefix l (kept_log r c (more ++ past)) ⊎ IsPrefix (kept_log r c (more ++ past)) l) (sym x.5)
+        (subst (λ (l : List (Entry Own E)). IsPrefix (kept_log r x.2 x.1) (kept_log r c l) ⊎ IsPrefix (kept_log r c l) (kept_log r x.2 x.1)) (sym whole) a)
   ]
 
-  decided_one : (e : Entry Own E) (past : List (Entry Own E)) → IsLegal r g (e ∷ past) → IsPrefix (decided r g past) (decided r g (e ∷ past))
-  unfolding decided
-  decided_one e past k = elim (longest_is (decided r g past) (shown_below r (size g) (e ∷ past))) [
-    | inl z ↦ subst (λ (l : List E). IsPrefix (decided r g past) l) (sym z) (prefix_refl (decided r g past))
+  decided_one : (e : Entry Own E) (past : List (Entry Own E)) → IsAllowed r g (e ∷ past) → IsPrefix (decided_log r g past) (decided_log r g (e ∷ past))
+  unfolding decided_log
+  decided_one e past k = elim (longest_is (decided_log r g past) (shown_below r (size g) (e ∷ past))) [
+    | inl z ↦ subst (λ (l : List E). IsPrefix (decided_log r g past) l) (sym z) (prefix_refl (decided_log r g past))
     | inr z ↦
-        let all : List E = longest (decided r g past) (shown_below r (size g) (e ∷ past)) in
+        let all : List E = longest_log (decided_log r g past) (shown_below r (size g) (e ∷ past)) in
         let x = shown_is r (size g) (e ∷ past) all z.0 in
         let a = decided_agrees (e ∷ []) past k x.0 x.1 in
-        begins_longer (decided r g past) all (subst (λ (l : List E). IsPrefix (decided r g past) l ⊎ IsPrefix l (decided r g past)) (sym x.2) a) (omega (arith, z.1))
+        begins_longer (decided_log r g past) all (subst (λ (l : List E). IsPrefix (decided_log r g past) l ⊎ IsPrefix l (decided_log r g past)) (sym x.2) a) (omega (arith, z.1))
   ]
 
-  decided_more : (more past : List (Entry Own E)) → IsLegal r g (more ++ past) → IsPrefix (decided r g past) (decided r g (more ++ past))
-  decided_more [] past k = prefix_refl (decided r g past)
+  decided_more : (more past : List (Entry Own E)) → IsAllowed r g (more ++ past) → IsPrefix (decided_log r g past) (decided_log r g (more ++ past))
+  decided_more [] past k = prefix_refl (decided_log r g past)
   decided_more (e ∷ more) past k = prefix_trans (decided_more more past k.1) (decided_one e (more ++ past) k)
 
-  decided_holds : (past : List (Entry Own E)) → IsLegal r g past → (c : ℕ) (e : Entry Own E) (before : List (Entry Own E)) → c < size g → past ≡ e ∷ before → IsPrefix (kept r c past) (decided r g past)
-  unfolding decided
+  decided_holds : (past : List (Entry Own E)) → IsAllowed r g past → (c : ℕ) (e : Entry Own E) (before : List (Entry Own E)) → c < size g → past ≡ e ∷ before → IsPrefix (kept_log r c past) (decided_log r g past)
+  unfolding decided_log
   decided_holds past k c e before b is =
-      let m = (longest_most (decided r g before) (shown_below r (size g) (e ∷ before))).1 (kept r c (e ∷ before)) (shown_at r (size g) c (e ∷ before) b) in
-      let long : length (kept r c past) ≤ length (decided r g past) = subst (λ (l : List (Entry Own E)). length (kept r c l) ≤ length (decided r g l)) (sym is) m in
-      begins_longer (kept r c past) (decided r g past) (elim (decided_agrees [] past k c b) [ inl p ↦ inr p | inr p ↦ inl p ]) long
+      let m = (longest_most (decided_log r g before) (shown_below r (size g) (e ∷ before))).1 (kept_log r c (e ∷ before)) (shown_at r (size g) c (e ∷ before) b) in
+      let long : length (kept_log r c past) ≤ length (decided_log r g past) = subst (λ (l : List (Entry Own E)). length (kept_log r c l) ≤ length (decided_log r g l)) (sym is) m in
+      begins_longer (kept_log r c past) (decided_log r g past) (elim (decided_agrees [] past k c b) [ inl p ↦ inr p | inr p ↦ inl p ]) long
 
 pub lasting_law : {Own A E : Type 0} → DecisionsLast Own A E
 lasting_law r g more past f k = record { stays = decided_more f more past k; holds = decided_holds f past (legal_past r g more past k) }

@@ -4,13 +4,13 @@ use Rattle.std.proofs.lemmas.Bool.{cases_lt, leb-true, ltb-true, cond-true, cond
 use Rattle.agreement.specs.Lists.{IsAtMost, count_below}
 use Rattle.list_facts.proofs.Prefixes.{front_prefix, prefix_both, prefix_nil, prefix_trans, take_within}
 use Rattle.list_facts.specs.Lists.{IsPrefix}
-use Rattle.actor_fold.specs.Fold.{Standing}
-use Rattle.agreement.specs.History.{Group, size, primary_of, Normal, Letter, State, History}
+use Rattle.actor_fold.specs.Fold.{ActorStanding}
+use Rattle.agreement.specs.History.{Group, size, primary_in, Normal, Letter, State, History}
 use Rattle.agreement.specs.Quorums.{has_accepted, HasQuorum, IsSafe, IsCertified, empty, shown}
-use Rattle.agreement.specs.Invariant.{is_up, Invariant, IsGroup}
+use Rattle.agreement.specs.Invariant.{is_up_status, Invariant, IsGroup}
 use Rattle.agreement.specs.Laws.{Run, still, then, committed_log}
-use Rattle.agreement.specs.Journals.{Rules, Entry, stands, history, IsLegal, Follows, kept}
-use Rattle.agreement.specs.Decided.{decided}
+use Rattle.agreement.specs.Journals.{Rules, Entry, stands, history, IsAllowed, Follows, kept_log}
+use Rattle.agreement.specs.Decided.{decided_log}
 use Rattle.agreement.specs.Leading.{MostPromiseUpTo, SafeLogsBegin, LaterLogsBegin, PrimariesLead, DecidedIsLed}
 use Rattle.agreement.proofs.Counts.{count_share}
 use Rattle.agreement.proofs.Numbers.{below_trans}
@@ -44,7 +44,7 @@ module _ {E : Type 0} {g : Group E} where
       prefix_trans (prefix_both p (front_prefix m (h.logs v)) (omega arith)) f.front
 
   -- of more than f controllers that are up, the best log begins with all that is certified
-  pub best_begins : {h : History E} → Invariant g h → (passes : ℕ → Bool) (best : ℕ) (ys : List E) → g.most_failures < count_below passes (size g) → ((j : ℕ) → passes j ≡ true → is_up (h.state j).status ≡ true)
+  pub best_begins : {h : History E} → Invariant g h → (passes : ℕ → Bool) (best : ℕ) (ys : List E) → g.most_failures < count_below passes (size g) → ((j : ℕ) → passes j ≡ true → is_up_status (h.state j).status ≡ true)
       → passes best ≡ true → best < size g → ((j : ℕ) → passes j ≡ true → IsAtMost (h.state j).normal (length (h.state j).log) (h.state best).normal (length (h.state best).log))
       → IsCertified g h ys → IsPrefix ys (h.state best).log
   unfolding size
@@ -97,43 +97,43 @@ lead_law {E = E} g h c (y ∷ ys) i b n is many (shown v m a f p q) =
 
 module _ {Own A E : Type 0} {r : Rules Own A E} {g : Group E} (f : Follows r g) where
   -- what a journal has decided is certified
-  pub decided_certified : 1 ≤ g.most_failures → (past : List (Entry Own E)) → IsLegal r g past → IsCertified g (history r g past) (decided r g past)
+  pub decided_certified : 1 ≤ g.most_failures → (past : List (Entry Own E)) → IsAllowed r g past → IsCertified g (history r g past) (decided_log r g past)
   decided_certified o past k = elim (decided_is f past) [
     | inl e ↦ empty e
     | inr x ↦
-        let k' : IsLegal r g (x.0 ++ x.1) = subst (λ (l : List (Entry Own E)). IsLegal r g l) x.3 k in
+        let k' : IsAllowed r g (x.0 ++ x.1) = subst (λ (l : List (Entry Own E)). IsAllowed r g l) x.3 k in
         let k1 = legal_past r g x.0 x.1 k' in
         let i1 = journal_good f o x.1 k1 in
         let shown_then = shown_certified f.group i1 x.4 (journal_shows f o x.1 x.2 i1 k1 x.4) in
         let now = run_certified f.group i1 (journal_runs f o x.0 x.1 i1 k') shown_then in
-        subst (λ (l : List E). IsCertified g (history r g past) l) (sym x.5) (subst (λ (l : List (Entry Own E)). IsCertified g (history r g l) (kept r x.2 x.1)) (sym x.3) now)
+        subst (λ (l : List E). IsCertified g (history r g past) l) (sym x.5) (subst (λ (l : List (Entry Own E)). IsCertified g (history r g l) (kept_log r x.2 x.1)) (sym x.3) now)
   ]
 
   -- where c leads at state s, its log begins with what is decided
   abbrev IsLed : List (Entry Own E) → ℕ → State E → Type 0
-  IsLed past c s = s.status ≡ Normal → c ≡ primary_of g s.view → MostPromiseUpTo g (history r g past) s.view → IsPrefix (decided r g past) s.log
+  IsLed past c s = s.status ≡ Normal → c ≡ primary_in g s.view → MostPromiseUpTo g (history r g past) s.view → IsPrefix (decided_log r g past) s.log
 
-  many_led : 1 ≤ g.most_failures → (past : List (Entry Own E)) (c : ℕ) → IsLegal r g past → c < size g → (stands r c past).fresh ≡ false
+  many_led : 1 ≤ g.most_failures → (past : List (Entry Own E)) (c : ℕ) → IsAllowed r g past → c < size g → (stands r c past).fresh ≡ false
       → IsLed past c (r.state (stands r c past).now)
   many_led o past c k b closed =
-      let w : Standing A (Letter E) = stands r c past in
+      let w : ActorStanding A (Letter E) = stands r c past in
       subst (λ (a : A). IsLed past c (r.state a)) (cond-false w.fresh w.before w.now closed)
-      (λ n is many. lead_law g (history r g past) c (decided r g past) (journal_good f o past k) b n is many (decided_certified o past k))
+      (λ n is many. lead_law g (history r g past) c (decided_log r g past) (journal_good f o past k) b n is many (decided_certified o past k))
 
   one_led : g.most_failures ≡ 0 → (past : List (Entry Own E)) (c : ℕ) → c < size g
-      → (let s = r.state (stands r c past).now in s.status ≡ Normal → IsPrefix (decided r g past) s.log)
+      → (let s = r.state (stands r c past).now in s.status ≡ Normal → IsPrefix (decided_log r g past) s.log)
   one_led o past c b n = elim (decided_is f past) [
     | inl e ↦ subst (λ (l : List E). IsPrefix l (r.state (stands r c past).now).log) (sym e) (prefix_nil (r.state (stands r c past).now).log)
     | inr x ↦
         let same : x.2 ≡ c = alone_below f o x.2 x.4 ∙ sym (alone_below f o c b) in
         let s : State E = r.state (stands r c x.1).now in
-        let up : is_up (r.state (stands r c (x.0 ++ x.1)).now).status ≡ true =
-        ap (λ (l : List (Entry Own E)). is_up (r.state (stands r c l).now).status) (sym x.3) ∙ ap is_up n in
+        let up : is_up_status (r.state (stands r c (x.0 ++ x.1)).now).status ≡ true =
+        ap (λ (l : List (Entry Own E)). is_up_status (r.state (stands r c l).now).status) (sym x.3) ∙ ap is_up_status n in
         let on = journal_goes f o c x.0 x.1 b up in
         let front : IsPrefix (committed_log s) (r.state (stands r c (x.0 ++ x.1)).now).log = prefix_trans (front_prefix s.commit s.log) on.longer in
         let now : IsPrefix (committed_log s) (r.state (stands r c past).now).log =
         subst (λ (l : List (Entry Own E)). IsPrefix (committed_log s) (r.state (stands r c l).now).log) (sym x.3) front in
-        let decided_is_it : decided r g past ≡ committed_log s = x.5 ∙ ap (λ (j : ℕ). kept r j x.1) same ∙ cond-true (is_up s.status) (committed_log s) [] on.up in
+        let decided_is_it : decided_log r g past ≡ committed_log s = x.5 ∙ ap (λ (j : ℕ). kept_log r j x.1) same ∙ cond-true (is_up_status s.status) (committed_log s) [] on.up in
         subst (λ (l : List E). IsPrefix l (r.state (stands r c past).now).log) (sym decided_is_it) now
   ]
 

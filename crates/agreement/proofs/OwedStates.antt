@@ -6,10 +6,10 @@ use Rattle.agreement.specs.Lists.{IsAtMost, AreDistinct}
 use Rattle.list_facts.proofs.Elements.{in_append}
 use Rattle.list_facts.proofs.Prefixes.{prefix_length}
 use Rattle.list_facts.specs.Lists.{IsIn, IsPrefix}
-use Rattle.agreement.specs.History.{Group, size, primary_of, Status, Normal, ViewChange, Recovering, Down, Vote, Supplied, Message, PrepareOk, RecoveryResponse, Response, State, History, letter}
+use Rattle.agreement.specs.History.{Group, size, primary_in, Status, Normal, ViewChange, Recovering, Down, Vote, Supplied, Message, PrepareOk, RecoveryResponse, Response, State, History, abstract_letter}
 use Rattle.agreement.specs.Quorums.{is_prepare_ok, has_accepted, IsCommitted, IsLogOf}
-use Rattle.agreement.specs.Invariant.{is_up, IsGoodVote, IsGoodSupply, IsBallot, IsGoodState}
-use Rattle.agreement.specs.Moves.{AcknowledgeNothing, AreFrom, entered, collecting, adopted, supplying, appended, committing, counting, hearing, fallen, risen, Resembles}
+use Rattle.agreement.specs.Invariant.{is_up_status, IsGoodVote, IsGoodSupply, IsBallot, IsGoodState}
+use Rattle.agreement.specs.Moves.{AcknowledgeNothing, AreFrom, entered, collecting, adopted, supplying, appended_to_history, committing, counting, hearing, fallen, risen, Resembles}
 use Rattle.agreement.proofs.Quorums.{safe_longer, committed_less, committed_max, committed_has_room}
 use Rattle.agreement.proofs.Frame.{accepted_own, accepted_posted, acknowledged_by, acknowledged_from}
 use Rattle.agreement.proofs.AcceptingNothing.{Owed}
@@ -24,7 +24,7 @@ not_both x a b = let z : Recovering ≡ Down = sym a ∙ b in cc
 
 -- who has accepted a place has accepted those below it
 pub accepted_down : {E : Type 0} (g : Group E) (h : History E) (v m n c : ℕ) → m ≤ n → has_accepted g h v n c ≡ true → has_accepted g h v m c ≡ true
-accepted_down g h v m n c l a = elim (cases_eq c (primary_of g v)) [
+accepted_down g h v m n c l a = elim (cases_eq c (primary_in g v)) [
   | inl e ↦ let k = leb-true n (length (h.logs v)) (sym (accepted_own g h v n c e) ∙ a) in accepted_own g h v m c e ∙ le-leb m (length (h.logs v)) (omega arith)
   | inr e ↦ let r = acknowledged_by h.sent c v n (sym (accepted_posted g h v n c e) ∙ a) in accepted_posted g h v m c e ∙ acknowledged_from h.sent c v m r.0 r.1 r.2 (prepare_ok_down r.0.message v m n l r.3)
 ]
@@ -46,7 +46,7 @@ pub no_letters_from : {E : Type 0} (c : ℕ) → AreFrom {E = E} c []
 no_letters_from c l i = absurd i
 
 module _ {E : Type 0} {g : Group E} {h : History E} {c : ℕ} {s : State E} where
-  pub owed_enter : (w l : ℕ) → IsGoodState g h c s → is_up s.status ≡ true → s.view < w → Owed g h c (entered s w) w l
+  pub owed_enter : (w l : ℕ) → IsGoodState g h c s → is_up_status s.status ≡ true → s.view < w → Owed g h c (entered s w) w l
   owed_enter w l r u o =
       let x = up_view r u in
       record {
@@ -98,7 +98,7 @@ module _ {E : Type 0} {g : Group E} {h : History E} {c : ℕ} {s : State E} wher
     heard = r.heard;
   }
 
-  pub owed_adopt : (w k l : ℕ) (log : List E) → IsGoodState g h c s → is_up s.status ≡ true → c ≢ primary_of g w → IsLogOf g h w log k → (s.view < w) ⊎ ((s.view ≡ w) × (s.status ≡ ViewChange))
+  pub owed_adopt : (w k l : ℕ) (log : List E) → IsGoodState g h c s → is_up_status s.status ≡ true → c ≢ primary_in g w → IsLogOf g h w log k → (s.view < w) ⊎ ((s.view ≡ w) × (s.status ≡ ViewChange))
       → Owed g h c (adopted s w log (max s.commit k)) w l
   owed_adopt w k l log r u ne x later =
       let above : s.normal < w = adopted_above r u later in
@@ -117,9 +117,9 @@ module _ {E : Type 0} {g : Group E} {h : History E} {c : ℕ} {s : State E} wher
         heard = λ e. absurd cc;
       }
 
-  pub owed_append : (log : List E) → IsGoodState g h c s → s.status ≡ Normal → c ≢ primary_of g s.view → IsPrefix s.log log → IsPrefix log (h.logs s.view) → Owed g h c (appended s log) (h.promise c) (h.life c)
+  pub owed_append : (log : List E) → IsGoodState g h c s → s.status ≡ Normal → c ≢ primary_in g s.view → IsPrefix s.log log → IsPrefix log (h.logs s.view) → Owed g h c (appended_to_history s log) (h.promise c) (h.life c)
   owed_append log r n ne p q =
-      let u : is_up s.status ≡ true = ap is_up n in
+      let u : is_up_status s.status ≡ true = ap is_up_status n in
       let own = r.of_view u in
       let len = prefix_length p in
       let w = own.within in
@@ -142,7 +142,7 @@ module _ {E : Type 0} {g : Group E} {h : History E} {c : ℕ} {s : State E} wher
 
   pub owed_commit : (k : ℕ) → IsGoodState g h c s → s.status ≡ Normal → k ≤ length s.log → IsCommitted g h s.view k → Owed g h c (committing s k) (h.promise c) (h.life c)
   owed_commit k r n fits shown_by =
-      let own = r.of_view (ap is_up n) in
+      let own = r.of_view (ap is_up_status n) in
       record {
         normal = r.normal;
         changing = r.changing;
@@ -178,7 +178,7 @@ module _ {E : Type 0} {g : Group E} {h : History E} {c : ℕ} {s : State E} wher
     heard = r.heard;
   }
 
-  pub owed_keep : (x : Response E) (responses : List (Response E)) → IsGoodState g h c s → s.status ≡ Recovering → x.from ≢ c → IsIn (letter x.from c (RecoveryResponse x.view (h.life c) x.answer)) h.sent
+  pub owed_keep : (x : Response E) (responses : List (Response E)) → IsGoodState g h c s → s.status ≡ Recovering → x.from ≢ c → IsIn (abstract_letter x.from c (RecoveryResponse x.view (h.life c) x.answer)) h.sent
       → ((y : Response E) → IsIn y responses → (y ≡ x) ⊎ IsIn y s.responses) → Owed g h c (hearing s responses) (h.promise c) (h.life c)
   owed_keep x responses r n apart at these = record {
     normal = r.normal;
@@ -190,12 +190,12 @@ module _ {E : Type 0} {g : Group E} {h : History E} {c : ℕ} {s : State E} wher
     ballot = r.ballot;
     supplied = r.supplied;
     heard = λ e y i. elim (these y i) [
-      | inl q ↦ subst (λ (z : Response E). (z.from ≢ c) × IsIn (letter z.from c (RecoveryResponse z.view (h.life c) z.answer)) h.sent) (sym q) (apart, at)
+      | inl q ↦ subst (λ (z : Response E). (z.from ≢ c) × IsIn (abstract_letter z.from c (RecoveryResponse z.view (h.life c) z.answer)) h.sent) (sym q) (apart, at)
       | inr j ↦ r.heard e y j
     ];
   }
 
-  pub owed_recover : (w k l : ℕ) (log : List E) → IsGoodState g h c s → h.promise c ≤ w → c ≢ primary_of g w → IsLogOf g h w log k → ((m : ℕ) → 1 ≤ m → has_accepted g h w m c ≡ true → m ≤ length log)
+  pub owed_recover : (w k l : ℕ) (log : List E) → IsGoodState g h c s → h.promise c ≤ w → c ≢ primary_in g w → IsLogOf g h w log k → ((m : ℕ) → 1 ≤ m → has_accepted g h w m c ≡ true → m ≤ length log)
       → Owed g h c (adopted s w log k) w l
   owed_recover w k l log r above ne x fresh = record {
     normal = λ e. (refl, refl);
@@ -214,18 +214,18 @@ module _ {E : Type 0} {g : Group E} {h : History E} {c : ℕ} {s : State E} wher
 
   pub owed_note : (s' : State E) → IsGoodState g h c s → Resembles s s' → Owed g h c s' (h.promise c) (h.life c)
   owed_note s' r m = record {
-    normal = λ e. let n : s.status ≡ Normal = sym m.status ∙ e in let x = r.normal n in let u : is_up s.status ≡ true = ap is_up n in (m.normal u ∙ x.0 ∙ sym (m.view u), m.view u ∙ x.1);
-    changing = λ e. let n : s.status ≡ ViewChange = sym m.status ∙ e in let x = r.changing n in let u : is_up s.status ≡ true = ap is_up n in (omega (arith, x.0, m.normal u, m.view u), m.view u ∙ x.1);
+    normal = λ e. let n : s.status ≡ Normal = sym m.status ∙ e in let x = r.normal n in let u : is_up_status s.status ≡ true = ap is_up_status n in (m.normal u ∙ x.0 ∙ sym (m.view u), m.view u ∙ x.1);
+    changing = λ e. let n : s.status ≡ ViewChange = sym m.status ∙ e in let x = r.changing n in let u : is_up_status s.status ≡ true = ap is_up_status n in (omega (arith, x.0, m.normal u, m.view u), m.view u ∙ x.1);
     blank = λ e. let n : s.status ≡ Recovering = sym m.status ∙ e in let x = r.blank n in let d : s.status ≢ Down = λ z. not_both s.status n z in (m.log d ∙ x.0, m.commit d ∙ x.1);
-    covers = λ e v k o a. let u : is_up s.status ≡ true = ap is_up (sym m.status) ∙ e in let d : s.status ≢ Down = up_not_down s.status u in
+    covers = λ e v k o a. let u : is_up_status s.status ≡ true = ap is_up_status (sym m.status) ∙ e in let d : s.status ≢ Down = up_not_down s.status u in
         subst (λ (y : ℕ). IsAtMost v k y (length s'.log)) (sym (m.normal u)) (subst (λ (y : List E). IsAtMost v k s.normal (length y)) (sym (m.log d)) (r.covers u v k o a));
-    of_view = λ e. let u : is_up s.status ≡ true = ap is_up (sym m.status) ∙ e in let d : s.status ≢ Down = up_not_down s.status u in
+    of_view = λ e. let u : is_up_status s.status ≡ true = ap is_up_status (sym m.status) ∙ e in let d : s.status ≢ Down = up_not_down s.status u in
         subst (λ (y : ℕ). IsLogOf g h y s'.log s'.commit) (sym (m.normal u)) (subst (λ (y : List E). IsLogOf g h s.normal y s'.commit) (sym (m.log d)) (subst (λ (y : ℕ). IsLogOf g h s.normal s.log y) (sym (m.commit d)) (r.of_view u)));
-    counted = λ e z i k ne o l. let n : s.status ≡ Normal = sym m.status ∙ e in let v = m.view (ap is_up n) in
-        subst (λ (y : ℕ). has_accepted g h y k i ≡ true) (sym v) (r.counted n (z ∙ ap (primary_of g) v) i k ne o (omega (arith, m.acked n i)));
-    ballot = λ e z. let n : s.status ≡ ViewChange = sym m.status ∙ e in let v = m.view (ap is_up n) in
-        subst (λ (y : ℕ). IsBallot g h y s'.collected) (sym v) (subst (λ (y : List (Vote E)). IsBallot g h s.view y) (sym (m.collected n)) (r.ballot n (z ∙ ap (primary_of g) v)));
-    supplied = λ e x i. let n : s.status ≡ ViewChange = sym m.status ∙ e in let z = r.supplied n x (sym (m.supply n) ∙ i) in (omega (arith, z.0, m.commit (up_not_down s.status (ap is_up n))), z.1);
+    counted = λ e z i k ne o l. let n : s.status ≡ Normal = sym m.status ∙ e in let v = m.view (ap is_up_status n) in
+        subst (λ (y : ℕ). has_accepted g h y k i ≡ true) (sym v) (r.counted n (z ∙ ap (primary_in g) v) i k ne o (omega (arith, m.acked n i)));
+    ballot = λ e z. let n : s.status ≡ ViewChange = sym m.status ∙ e in let v = m.view (ap is_up_status n) in
+        subst (λ (y : ℕ). IsBallot g h y s'.collected) (sym v) (subst (λ (y : List (Vote E)). IsBallot g h s.view y) (sym (m.collected n)) (r.ballot n (z ∙ ap (primary_in g) v)));
+    supplied = λ e x i. let n : s.status ≡ ViewChange = sym m.status ∙ e in let z = r.supplied n x (sym (m.supply n) ∙ i) in (omega (arith, z.0, m.commit (up_not_down s.status (ap is_up_status n))), z.1);
     heard = λ e x i. let n : s.status ≡ Recovering = sym m.status ∙ e in r.heard n x (subst (λ (y : List (Response E)). IsIn x y) (m.responses n) i);
   }
 

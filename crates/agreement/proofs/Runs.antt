@@ -3,9 +3,9 @@ use Rattle.std.proofs.Common.{◌≡◌, ℕ, ◌<◌, ◌≤◌, inl, inr, true
 use Rattle.std.proofs.lemmas.Bool.{cases_eq, false≢true, leb-true}
 use Rattle.list_facts.proofs.Prefixes.{prefix_nil}
 use Rattle.list_facts.specs.Lists.{IsIn, IsPrefix}
-use Rattle.agreement.specs.History.{Group, size, primary_of, Letter, History}
+use Rattle.agreement.specs.History.{Group, size, primary_in, Letter, History}
 use Rattle.agreement.specs.Quorums.{has_acknowledged, has_accepted, nothing, IsCertified}
-use Rattle.agreement.specs.Invariant.{is_up, Invariant, IsGroup}
+use Rattle.agreement.specs.Invariant.{is_up_status, Invariant, IsGroup}
 use Rattle.agreement.specs.Laws.{VotesMakeASafeLog, CertifiedLogsAgree, MovesKeepTheInvariant, CommittedLogsAgree, IsStart, Run, still, then, committed_log}
 use Rattle.agreement.proofs.Quorums.{best_is_safe}
 use Rattle.agreement.proofs.Frame.{accepted_own, accepted_posted, certified_more}
@@ -19,7 +19,7 @@ posted_nowhere (l ∷ ls) c v m e a = absurd cc
 
 module _ {E : Type 0} {h : History E} where
   nobody_accepts : (g : Group E) → IsStart h → (v m c : ℕ) → 1 ≤ m → has_accepted g h v m c ≡ true → ⊥
-  nobody_accepts g z v m c o a = elim (cases_eq c (primary_of g v)) [
+  nobody_accepts g z v m c o a = elim (cases_eq c (primary_in g v)) [
     | inl e ↦ let k = leb-true m (length (h.logs v)) (sym (accepted_own g h v m c e) ∙ a) in let n = ap length (z.logs v) in omega arith
     | inr e ↦ posted_nowhere h.sent c v m z.sent (sym (accepted_posted g h v m c e) ∙ a)
   ]
@@ -59,7 +59,7 @@ module _ {E : Type 0} {g : Group E} {h : History E} where
   run_certified gr i (then c b r m) k = certified_more (move_keeps gr (run_keeps gr i r) b m).step (run_certified gr i r k)
 
   -- what a controller that is up has committed is certified
-  pub up_certified : Invariant g h → (c : ℕ) → c < size g → is_up (h.state c).status ≡ true → IsCertified g h (committed_log (h.state c))
+  pub up_certified : Invariant g h → (c : ℕ) → c < size g → is_up_status (h.state c).status ≡ true → IsCertified g h (committed_log (h.state c))
   up_certified i c b u = committed_certified i ((i.states c b).of_view u)
 
 pub votes_law : {E : Type 0} → VotesMakeASafeLog E

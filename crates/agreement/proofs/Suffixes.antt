@@ -4,9 +4,9 @@ use Rattle.list_facts.proofs.Prefixes.{prefix_take, take_within}
 use Rattle.list_facts.specs.Lists.{IsPrefix}
 use Rattle.agreement.specs.History.{Group, ViewChange, Supplied, State, History}
 use Rattle.agreement.specs.Quorums.{IsLogOf, IsCertified}
-use Rattle.agreement.specs.Invariant.{is_up, IsGoodVote, IsGoodState, Invariant}
+use Rattle.agreement.specs.Invariant.{is_up_status, IsGoodVote, IsGoodState, Invariant}
 use Rattle.agreement.specs.Laws.{FrontsComplete, SuffixesComplete}
-use Rattle.agreement.specs.Effects.{front_with, front_of}
+use Rattle.agreement.specs.Effects.{history_front_with, front_of}
 use Rattle.agreement.proofs.Consequences.{committed_certified, committed_begins, certified_agree}
 
 same_front : {E : Type 0} (b : ℕ) (front best : List E) → take b front ≡ take b best → take b front ++ drop b best ≡ best
@@ -35,11 +35,11 @@ module _ {E : Type 0} {g : Group E} {h : History E} where
       let same : take m log ≡ take m z = sym (take-take m k log lk) ∙ join i m (committed_certified i r) cz (omega (arith, take_within k log n)) lz in
       ap (λ (x : List E). take m log ++ x) e ∙ same_front m log z same
 
-  front_good : Invariant g h → {c : ℕ} {s : State E} → IsGoodState g h c s → s.status ≡ ViewChange → (o : Option (Supplied E)) → s.supply ≡ o → IsCertified g h (front_with s o)
-  front_good i r n None e = committed_certified i (r.of_view (ap is_up n))
+  front_good : Invariant g h → {c : ℕ} {s : State E} → IsGoodState g h c s → s.status ≡ ViewChange → (o : Option (Supplied E)) → s.supply ≡ o → IsCertified g h (history_front_with s o)
+  front_good i r n None e = committed_certified i (r.of_view (ap is_up_status n))
   front_good i {s = s} r n (Some x) e =
       let k = r.supplied n x e in
-      subst (λ (l : List E). IsCertified g h l) (sym (supplied_front i (r.of_view (ap is_up n)) k.1.certified k.0 k.1.within k.1.rest_is)) k.1.certified
+      subst (λ (l : List E). IsCertified g h l) (sym (supplied_front i (r.of_view (ap is_up_status n)) k.1.certified k.0 k.1.within k.1.rest_is)) k.1.certified
 
   pub front_certified : Invariant g h → {c : ℕ} {s : State E} → IsGoodState g h c s → s.status ≡ ViewChange → IsCertified g h (front_of s)
   front_certified i {s = s} r n = front_good i r n s.supply refl

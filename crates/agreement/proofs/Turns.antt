@@ -2,9 +2,9 @@
 use Rattle.std.proofs.Common.{◌≡◌, ℕ, ◌<◌, ◌≤◌, true, List, length, take, refl, sym, ap, ◌∙◌, subst, arith}
 use Rattle.list_facts.proofs.Prefixes.{prefix_refl, prefix_take, prefix_trans}
 use Rattle.list_facts.specs.Lists.{IsIn, IsPrefix}
-use Rattle.agreement.specs.History.{Group, size, primary_of, ViewChange, Vote, Letter, State, History}
+use Rattle.agreement.specs.History.{Group, size, primary_in, ViewChange, Vote, Letter, State, History}
 use Rattle.agreement.specs.Quorums.{has_accepted, IsCertified, empty, shown}
-use Rattle.agreement.specs.Invariant.{is_up, IsGoodVote, IsGoodState, Invariant, IsGroup}
+use Rattle.agreement.specs.Invariant.{is_up_status, IsGoodVote, IsGoodState, Invariant, IsGroup}
 use Rattle.agreement.specs.Moves.{Moved, LogsStay, AcknowledgeNothing, Resembles, started, IsBest}
 use Rattle.agreement.specs.Laws.{Run, still, then, committed_log}
 use Rattle.agreement.specs.Turns.{AcceptsAlike, KeepsCommitted, StartsView, FirstMoves, first_none, first_then, LastMoves, last_none, last_then, Turn, plainly, starting, Shown, nothing_shown, shown_now, shown_open, ShownLogsAgree}
@@ -36,7 +36,7 @@ module _ {E : Type 0} {g : Group E} {h h' : History E} {c : ℕ} where
   pub alike_of : {s : State E} {p l : ℕ} {new : List (Letter E)} → Moved h h' c s p l new → LogsStay h h' → AcknowledgeNothing new → AcceptsAlike g h h'
   alike_of t q n = record { accept = same_accepted g t q n; logs = q.same }
 
-  pub start_begins : {s : State E} → IsGoodState g h c s → (star most : Vote E) (good : IsGoodVote g h star.from s.view star.normal star.commit star.rest) → s.status ≡ ViewChange → c ≡ primary_of g s.view → g.most_failures < length s.collected
+  pub start_begins : {s : State E} → IsGoodState g h c s → (star most : Vote E) (good : IsGoodVote g h star.from s.view star.normal star.commit star.rest) → s.status ≡ ViewChange → c ≡ primary_in g s.view → g.most_failures < length s.collected
       → IsBest s.collected star → IsIn most s.collected
       → h'.state c ≡ started s good.whole most.commit → StartsView g h h' c
   start_begins r star most good n is many best in'' e =
@@ -63,15 +63,15 @@ module _ {E : Type 0} {g : Group E} {h : History E} {c : ℕ} where
   last_all last_none = record { status = refl; commit = λ u. refl; longer = λ u. prefix_refl (h.state c).log }
   last_all (last_then l m b) = let a = last_all l in record {
     status = b.status ∙ a.status;
-    commit = λ u. b.commit (ap is_up a.status ∙ u) ∙ a.commit u;
-    longer = λ u. prefix_trans (a.longer u) (b.longer (ap is_up a.status ∙ u));
+    commit = λ u. b.commit (ap is_up_status a.status ∙ u) ∙ a.commit u;
+    longer = λ u. prefix_trans (a.longer u) (b.longer (ap is_up_status a.status ∙ u));
   }
 
   -- the last moves leave what is committed
-  last_committed : {h' : History E} → LastMoves g c h h' → is_up (h'.state c).status ≡ true → (h.state c).commit ≤ length (h.state c).log → committed_log (h'.state c) ≡ committed_log (h.state c)
+  last_committed : {h' : History E} → LastMoves g c h h' → is_up_status (h'.state c).status ≡ true → (h.state c).commit ≤ length (h.state c).log → committed_log (h'.state c) ≡ committed_log (h.state c)
   last_committed {h'} l u fits =
       let a = last_all l in
-      let u0 : is_up (h.state c).status ≡ true = ap is_up (sym a.status) ∙ u in
+      let u0 : is_up_status (h.state c).status ≡ true = ap is_up_status (sym a.status) ∙ u in
       ap (λ (k : ℕ). take k (h'.state c).log) (a.commit u0) ∙ sym (prefix_take (h.state c).commit (a.longer u0) fits)
 
   -- a turn is a run
@@ -81,11 +81,11 @@ module _ {E : Type 0} {g : Group E} {h : History E} {c : ℕ} where
 
 module _ {E : Type 0} {g : Group E} {h : History E} {c : ℕ} where
   -- what it shows is certified where it began
-  pub turn_shown : {h' : History E} → IsGroup g → Invariant g h → c < size g → Turn g c h h' → is_up (h'.state c).status ≡ true → IsCertified g h (committed_log (h'.state c))
+  pub turn_shown : {h' : History E} → IsGroup g → Invariant g h → c < size g → Turn g c h h' → is_up_status (h'.state c).status ≡ true → IsCertified g h (committed_log (h'.state c))
   turn_shown gr i b (plainly h1 q l) u =
       let i1 = run_keeps gr i (quiet_run b q) in
       let a = last_all l in
-      let u1 : is_up (h1.state c).status ≡ true = ap is_up (sym a.status) ∙ u in
+      let u1 : is_up_status (h1.state c).status ≡ true = ap is_up_status (sym a.status) ∙ u in
       let fits = ((i1.states c b).of_view u1).within in
       certified_back (quiet_alike q) (subst (λ (x : List E). IsCertified g h1 x) (sym (last_committed l u fits)) (up_certified i1 c b u1))
   turn_shown gr i b (starting h1 h2 q m e l) u =

@@ -12,8 +12,8 @@ unfoldable pub size : {E : Type 0} → Group E → ℕ
 size g = 2 * g.most_failures + 1
 
 -- the primary of a view: controllers take their turns
-unfoldable pub primary_of : {E : Type 0} → Group E → ℕ → ℕ
-primary_of g view = view % (2 * g.most_failures + 1)
+unfoldable pub primary_in : {E : Type 0} → Group E → ℕ → ℕ
+primary_in g view = view % (2 * g.most_failures + 1)
 
 pub data Status : Type 0 where
   Normal ViewChange Recovering Down : Status
@@ -57,8 +57,8 @@ pub record Letter (E : Type 0) : Type 0 where
   pub message : Message E
 
 -- a message from one controller to another
-abbrev pub letter : {E : Type 0} → ℕ → ℕ → Message E → Letter E
-letter sender receiver message = record { sender = sender; receiver = receiver; message = message }
+abbrev pub abstract_letter : {E : Type 0} → ℕ → ℕ → Message E → Letter E
+abstract_letter sender receiver message = record { sender = sender; receiver = receiver; message = message }
 
 -- a response that a recovering controller keeps
 pub record Response (E : Type 0) : Type 0 where
@@ -83,5 +83,5 @@ pub record History (E : Type 0) : Type 0 where
   pub state : ℕ → State E
   pub promise : ℕ → ℕ  -- the view that each controller has promised, as it is stable: no save takes it back
   pub life : ℕ → ℕ  -- the life that each is in, as it is stable
-  pub sent : List (Letter E)  -- each letter that was ever posted, the lost ones too
+  pub sent : List (Letter E)  -- each abstract_letter that was ever posted, the lost ones too
   pub logs : ℕ → List E  -- the log of each view: its primary's, as that was last normal in the view

@@ -2,15 +2,15 @@
 use Rattle.std.specs.Prelude.{◌≡◌, ◌≢◌, ℕ, ◌+◌, ◌<◌, ◌≤◌, ◌⊎◌, Bool, true, false, Some, List, [], ◌∷◌, ◌++◌, length, drop, map, ⊤}
 use Rattle.agreement.specs.Lists.{IsAtMost, AreDistinct}
 use Rattle.list_facts.specs.Lists.{IsIn, IsPrefix}
-use Rattle.agreement.specs.History.{Group, size, primary_of, Status, Normal, ViewChange, Recovering, Down, Vote, Supplied, Answer, Filled, Bare, Message, Prepare, PrepareOk, Commit, StartViewChange, DoViewChange, StartView, GetState, NewState, Fetch, Supply, Recovery, RecoveryResponse, Letter, letter, Response, State, History}
+use Rattle.agreement.specs.History.{Group, size, primary_in, Status, Normal, ViewChange, Recovering, Down, Vote, Supplied, Answer, Filled, Bare, Message, Prepare, PrepareOk, Commit, StartViewChange, DoViewChange, StartView, GetState, NewState, Fetch, Supply, Recovery, RecoveryResponse, Letter, abstract_letter, Response, State, History}
 use Rattle.agreement.specs.Quorums.{has_accepted, IsSafe, IsCommitted, IsLogOf, IsVote, IsCertified}
 
 -- it takes part: it is neither recovering nor down
-abbrev pub is_up : Status → Bool
-is_up Normal = true
-is_up ViewChange = true
-is_up Recovering = false
-is_up Down = false
+abbrev pub is_up_status : Status → Bool
+is_up_status Normal = true
+is_up_status ViewChange = true
+is_up_status Recovering = false
+is_up_status Down = false
 
 -- a vote of c for view w: of some log that c may vote with, the entries behind its commit number
 pub record IsGoodVote {E : Type 0} (g : Group E) (h : History E) (c w u k : ℕ) (rest : List E) : Type 0 where
@@ -42,22 +42,22 @@ pub record IsGoodState {E : Type 0} (g : Group E) (h : History E) (c : ℕ) (s :
   pub promised : (v m : ℕ) → 1 ≤ m → has_accepted g h v m c ≡ true → v ≤ h.promise c
   pub held : (v m : ℕ) → 1 ≤ m → has_accepted g h v m c ≡ true → m ≤ length (h.logs v)
   -- while it is up, its log covers all that it has accepted, and is a log of the view in which it was last normal
-  pub covers : is_up s.status ≡ true → (v m : ℕ) → 1 ≤ m → has_accepted g h v m c ≡ true → IsAtMost v m s.normal (length s.log)
-  pub of_view : is_up s.status ≡ true → IsLogOf g h s.normal s.log s.commit
+  pub covers : is_up_status s.status ≡ true → (v m : ℕ) → 1 ≤ m → has_accepted g h v m c ≡ true → IsAtMost v m s.normal (length s.log)
+  pub of_view : is_up_status s.status ≡ true → IsLogOf g h s.normal s.log s.commit
   -- a primary counts what others have accepted
-  pub counted : s.status ≡ Normal → c ≡ primary_of g s.view
+  pub counted : s.status ≡ Normal → c ≡ primary_in g s.view
       → (i m : ℕ) → i ≢ c → 1 ≤ m → m ≤ s.acked i → has_accepted g h s.view m i ≡ true
   -- while a view changes, its primary has collected good votes, and was supplied with what is certified
-  pub ballot : s.status ≡ ViewChange → c ≡ primary_of g s.view → IsBallot g h s.view s.collected
+  pub ballot : s.status ≡ ViewChange → c ≡ primary_in g s.view → IsBallot g h s.view s.collected
   pub supplied : s.status ≡ ViewChange → (x : Supplied E) → s.supply ≡ Some x → (x.first ≤ s.commit) × IsGoodSupply g h x.first x.rest
   -- one that recovers keeps responses that others posted to this life of it
   pub heard : s.status ≡ Recovering → (r : Response E) → IsIn r s.responses
-      → (r.from ≢ c) × IsIn (letter r.from c (RecoveryResponse r.view (h.life c) r.answer)) h.sent
+      → (r.from ≢ c) × IsIn (abstract_letter r.from c (RecoveryResponse r.view (h.life c) r.answer)) h.sent
 
 -- A filled response of i to life x of c: from the primary of its view v, a log of that view. While c recovers in that
 -- life, the log has each place of the view that c has accepted.
 pub record IsGoodAnswer {E : Type 0} (g : Group E) (h : History E) (i c v x k : ℕ) (log : List E) : Type 0 where
-  pub by_primary : i ≡ primary_of g v
+  pub by_primary : i ≡ primary_in g v
   pub of_view : IsLogOf g h v log k
   pub fresh : (h.state c).status ≡ Recovering → h.life c ≡ x → (m : ℕ) → 1 ≤ m → has_accepted g h v m c ≡ true → m ≤ length log
 

@@ -2,10 +2,10 @@
 -- newest first.
 use Rattle.std.specs.Prelude.{◌≡◌, ◌≢◌, ℕ, ◌<◌, ◌≤◌, ◌⊎◌, Bool, true, false, ◌&&◌, nat_eq, List, [], ◌∷◌, ◌++◌, map, filter, if◌then◌else◌, ⊤}
 use Rattle.actor_fold.specs.Fold as step
-use Rattle.actor_fold.specs.Fold.{Step, Standing, ActorRules, standing}
+use Rattle.actor_fold.specs.Fold.{Step, ActorStanding, ActorRules, actor_standing}
 use Rattle.list_facts.specs.Lists.{IsIn, IsPrefix}
-use Rattle.agreement.specs.History.{Group, size, primary_of, Status, Normal, ViewChange, Recovering, Down, Letter, State, History}
-use Rattle.agreement.specs.Invariant.{is_up, Invariant, IsGroup}
+use Rattle.agreement.specs.History.{Group, size, primary_in, Status, Normal, ViewChange, Recovering, Down, Letter, State, History}
+use Rattle.agreement.specs.Invariant.{is_up_status, Invariant, IsGroup}
 use Rattle.agreement.specs.Moves.{StandsAt, Moved, Resembles, fallen}
 use Rattle.agreement.specs.Laws.{IsStart, committed_log}
 use Rattle.agreement.specs.Turns.{Turn}
@@ -48,7 +48,7 @@ abbrev pub own_steps : {Own E : Type 0} → ℕ → List (Entry Own E) → List 
 own_steps c past = map own_step (filter (λ e. nat_eq (controller_of e) c) past)
 
 -- controller c takes an input, and owes what its turn says. No saves are counted here
-abbrev pub took : {Own A E : Type 0} → Rules Own A E → ℕ → Standing A (Letter E) → Input Own E → Standing A (Letter E)
+abbrev pub took : {Own A E : Type 0} → Rules Own A E → ℕ → ActorStanding A (Letter E) → Input Own E → ActorStanding A (Letter E)
 took r c w x = let turn = r.turn c w.now x in record w { now = turn.0; before = w.now; owed = turn.1; fresh = true }
 
 -- the rules of controller c as those of an actor
@@ -56,36 +56,36 @@ abbrev pub actor_rules : {Own A E : Type 0} → Rules Own A E → ℕ → ActorR
 actor_rules r c = record { takes = took r c; refused = r.refused c }
 
 -- where controller c stands after a past
-abbrev pub stands : {Own A E : Type 0} → Rules Own A E → ℕ → List (Entry Own E) → Standing A (Letter E)
-stands r c past = standing (actor_rules r c) (r.start c) (own_steps c past)
+abbrev pub stands : {Own A E : Type 0} → Rules Own A E → ℕ → List (Entry Own E) → ActorStanding A (Letter E)
+stands r c past = actor_standing (actor_rules r c) (r.start c) (own_steps c past)
 
 -- the state that no refusal takes back any more: that before the newest entry, where it took an input
-abbrev pub firm : {A L : Type 0} → Standing A L → A
+abbrev pub firm : {A L : Type 0} → ActorStanding A L → A
 firm w = if w.fresh then w.before else w.now
 
 -- the letters that an entry adds to those that were posted
-abbrev pub left_by : {Own A E : Type 0} → Rules Own A E → Entry Own E → List (Entry Own E) → List (Letter E)
-left_by r (Takes d x) past = []
-left_by r (Posts d) past = (stands r d past).owed
-left_by r (Refused d) past = []
+abbrev pub rest_left_by : {Own A E : Type 0} → Rules Own A E → Entry Own E → List (Entry Own E) → List (Letter E)
+rest_left_by r (Takes d x) past = []
+rest_left_by r (Posts d) past = (stands r d past).owed
+rest_left_by r (Refused d) past = []
 
-abbrev pub posted : {Own A E : Type 0} → Rules Own A E → List (Entry Own E) → List (Letter E)
-posted r [] = []
-posted r (e ∷ past) = left_by r e past ++ posted r past
+abbrev pub posted_in_history : {Own A E : Type 0} → Rules Own A E → List (Entry Own E) → List (Letter E)
+posted_in_history r [] = []
+posted_in_history r (e ∷ past) = rest_left_by r e past ++ posted_in_history r past
 
-abbrev pub is_normal : Status → Bool
-is_normal Normal = true
-is_normal ViewChange = false
-is_normal Recovering = false
-is_normal Down = false
+abbrev pub is_normal_status : Status → Bool
+is_normal_status Normal = true
+is_normal_status ViewChange = false
+is_normal_status Recovering = false
+is_normal_status Down = false
 
 -- the log of view v, where this is the state of its primary, and that was the log before
 abbrev pub tracked : {E : Type 0} → ℕ → State E → List E → List E
-tracked v s old = if is_normal s.status && nat_eq s.view v then s.log else old
+tracked v s old = if is_normal_status s.status && nat_eq s.view v then s.log else old
 
 abbrev pub logs : {Own A E : Type 0} → Rules Own A E → Group E → List (Entry Own E) → ℕ → List E
 logs r g [] v = []
-logs r g (e ∷ past) v = tracked v (r.state (firm (stands r (primary_of g v) (e ∷ past)))) (logs r g past v)
+logs r g (e ∷ past) v = tracked v (r.state (firm (stands r (primary_in g v) (e ∷ past)))) (logs r g past v)
 
 -- the history of a past: of each controller the state that no refusal takes back
 abbrev pub history : {Own A E : Type 0} → Rules Own A E → Group E → List (Entry Own E) → History E
@@ -94,7 +94,7 @@ history r g past =
       state = λ c. r.state (firm (stands r c past));
       promise = λ c. r.promise (firm (stands r c past));
       life = λ c. r.life (firm (stands r c past));
-      sent = posted r past;
+      sent = posted_in_history r past;
       logs = logs r g past;
     }
 
@@ -106,22 +106,22 @@ Comes c (Heard l) sent = (l.receiver ≡ c) × IsIn l sent
 -- The entry may stand behind a past. An input comes where nothing is owed, and is refused where it is still its controller's
 -- newest entry. A letter may come again, late, or never.
 abbrev pub MayStand : {Own A E : Type 0} → Rules Own A E → Group E → Entry Own E → List (Entry Own E) → Type 0
-MayStand r g (Takes c x) past = (c < size g) × Comes c x (posted r past) × ((stands r c past).owed ≡ [])
+MayStand r g (Takes c x) past = (c < size g) × Comes c x (posted_in_history r past) × ((stands r c past).owed ≡ [])
 MayStand r g (Posts c) past = c < size g
 MayStand r g (Refused c) past = (c < size g) × ((stands r c past).fresh ≡ true)
 
-abbrev pub IsLegal : {Own A E : Type 0} → Rules Own A E → Group E → List (Entry Own E) → Type 0
-IsLegal r g [] = ⊤
-IsLegal r g (e ∷ past) = MayStand r g e past × IsLegal r g past
+abbrev pub IsAllowed : {Own A E : Type 0} → Rules Own A E → Group E → List (Entry Own E) → Type 0
+IsAllowed r g [] = ⊤
+IsAllowed r g (e ∷ past) = MayStand r g e past × IsAllowed r g past
 
 -- the log of each view of which c is primary follows c, and the others stay
 pub record Tracks {E : Type 0} (g : Group E) (h h' : History E) (c : ℕ) : Type 0 where
-  pub own : (v : ℕ) → c ≡ primary_of g v → h'.logs v ≡ tracked v (h'.state c) (h.logs v)
-  pub others : (v : ℕ) → c ≢ primary_of g v → h'.logs v ≡ h.logs v
+  pub own : (v : ℕ) → c ≡ primary_in g v → h'.logs v ≡ tracked v (h'.state c) (h.logs v)
+  pub others : (v : ℕ) → c ≢ primary_in g v → h'.logs v ≡ h.logs v
 
 -- it was up before, and its log goes on from the one before
 pub record GoesOn {E : Type 0} (s s' : State E) : Type 0 where
-  pub up : is_up s.status ≡ true
+  pub up : is_up_status s.status ≡ true
   pub longer : IsPrefix s.log s'.log
 
 -- What is to be shown of rules, case by case, so that the laws hold of their journals.
@@ -135,7 +135,7 @@ pub record Follows {Own A E : Type 0} (r : Rules Own A E) (g : Group E) : Type 0
       → Tracks g h h' c → Turn g c h h'
   -- in a group of one the log only goes on
   pub alone : g.most_failures ≡ 0 → (c : ℕ) (a : A) (x : Input Own E) → c < size g → r.is_valid c a ≡ true
-      → is_up (r.state (r.turn c a x).0).status ≡ true → GoesOn (r.state a) (r.state (r.turn c a x).0)
+      → is_up_status (r.state (r.turn c a x).0).status ≡ true → GoesOn (r.state a) (r.state (r.turn c a x).0)
   -- valid states stay valid
   pub starts_valid : (c : ℕ) → c < size g → r.is_valid c (r.start c) ≡ true
   pub turns_valid : (c : ℕ) (a : A) (x : Input Own E) → c < size g → r.is_valid c a ≡ true → r.is_valid c (r.turn c a x).0 ≡ true
@@ -145,11 +145,11 @@ pub record Follows {Own A E : Type 0} (r : Rules Own A E) (g : Group E) : Type 0
       × (r.promise (r.refused c a) ≡ r.promise a) × (r.life (r.refused c a) ≡ r.life a)
 
 -- what c shows as committed, where it is up: that of its state, also while its newest input may still be refused
-abbrev pub kept : {Own A E : Type 0} → Rules Own A E → ℕ → List (Entry Own E) → List E
-kept r c past = let s = r.state (stands r c past).now in if is_up s.status then committed_log s else []
+abbrev pub kept_log : {Own A E : Type 0} → Rules Own A E → ℕ → List (Entry Own E) → List E
+kept_log r c past = let s = r.state (stands r c past).now in if is_up_status s.status then committed_log s else []
 
 -- whatever two controllers show, at any two times of a journal, one of the two logs begins the other
 abbrev pub JournalsAgree : Type 0 → Type 0 → Type 0 → Type 0
 JournalsAgree Own A E = (r : Rules Own A E) (g : Group E) (more past : List (Entry Own E)) (c d : ℕ)
-    → Follows r g → IsLegal r g (more ++ past) → c < size g → d < size g
-    → IsPrefix (kept r c past) (kept r d (more ++ past)) ⊎ IsPrefix (kept r d (more ++ past)) (kept r c past)
+    → Follows r g → IsAllowed r g (more ++ past) → c < size g → d < size g
+    → IsPrefix (kept_log r c past) (kept_log r d (more ++ past)) ⊎ IsPrefix (kept_log r d (more ++ past)) (kept_log r c past)

@@ -2,12 +2,12 @@
 use Rattle.std.specs.Prelude.{◌≡◌, ℕ, ◌<◌, false, nat_lt, nat_le, List}
 use Rattle.agreement.specs.Lists.{count_below}
 use Rattle.list_facts.specs.Lists.{IsPrefix}
-use Rattle.agreement.specs.History.{Group, size, primary_of, Normal, History}
+use Rattle.agreement.specs.History.{Group, size, primary_in, Normal, History}
 use Rattle.agreement.specs.Quorums.{IsSafe, IsCertified}
 use Rattle.agreement.specs.Invariant.{Invariant, IsGroup}
 use Rattle.agreement.specs.Laws.{Run}
-use Rattle.agreement.specs.Journals.{Rules, Entry, stands, history, IsLegal, Follows}
-use Rattle.agreement.specs.Decided.{decided}
+use Rattle.agreement.specs.Journals.{Rules, Entry, stands, history, IsAllowed, Follows}
+use Rattle.agreement.specs.Decided.{decided_log}
 
 -- f + 1 controllers have promised a view below w
 abbrev pub MostPromiseBelow : {E : Type 0} → Group E → History E → ℕ → Type 0
@@ -30,11 +30,11 @@ LaterLogsBegin E = (g : Group E) (h0 h : History E) (w : ℕ) (xs ys : List E) �
 -- where f + 1 promises are not above its view, the log of a normal primary begins with all that is certified
 abbrev pub PrimariesLead : Type 0 → Type 0
 PrimariesLead E = (g : Group E) (h : History E) (c : ℕ) (ys : List E) → Invariant g h → c < size g
-    → (h.state c).status ≡ Normal → c ≡ primary_of g (h.state c).view → MostPromiseUpTo g h (h.state c).view → IsCertified g h ys → IsPrefix ys (h.state c).log
+    → (h.state c).status ≡ Normal → c ≡ primary_in g (h.state c).view → MostPromiseUpTo g h (h.state c).view → IsCertified g h ys → IsPrefix ys (h.state c).log
 
 -- and so with what a journal has decided, where no input of the primary may still be refused
 abbrev pub DecidedIsLed : Type 0 → Type 0 → Type 0 → Type 0
-DecidedIsLed Own A E = (r : Rules Own A E) (g : Group E) (past : List (Entry Own E)) (c : ℕ) → Follows r g → IsLegal r g past → c < size g
+DecidedIsLed Own A E = (r : Rules Own A E) (g : Group E) (past : List (Entry Own E)) (c : ℕ) → Follows r g → IsAllowed r g past → c < size g
     → (stands r c past).fresh ≡ false
     → (let s = r.state (stands r c past).now in
-    s.status ≡ Normal → c ≡ primary_of g s.view → MostPromiseUpTo g (history r g past) s.view → IsPrefix (decided r g past) s.log)
+    s.status ≡ Normal → c ≡ primary_in g s.view → MostPromiseUpTo g (history r g past) s.view → IsPrefix (decided_log r g past) s.log)

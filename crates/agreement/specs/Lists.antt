@@ -17,5 +17,5 @@ count_below passes zero = 0
 count_below passes (suc n) = count_below passes n + (if passes n then 1 else 0)
 
 -- the same test, but that x does not pass it
-abbrev pub without : ℕ → (ℕ → Bool) → ℕ → Bool
-without x passes i = passes i && not (nat_eq i x)
+abbrev pub without_controller : ℕ → (ℕ → Bool) → ℕ → Bool
+without_controller x passes i = passes i && not (nat_eq i x)

@@ -2,7 +2,7 @@
 use Rattle.std.specs.Prelude.{◌≡◌, ℕ, ◌<◌, ◌≤◌, ◌⊎◌, Bool, true, false, not, ◌&&◌, ◌||◌, nat_eq, nat_lt, nat_le, List, [], ◌∷◌, length, take, if◌then◌else◌}
 use Rattle.agreement.specs.Lists.{IsAtMost, count_below}
 use Rattle.list_facts.specs.Lists.{IsPrefix}
-use Rattle.agreement.specs.History.{Group, size, primary_of, Message, PrepareOk, Letter, History}
+use Rattle.agreement.specs.History.{Group, size, primary_in, Message, PrepareOk, Letter, History}
 
 -- the message is PREPAREOK of view v, for place m or a later one
 abbrev pub is_prepare_ok : {E : Type 0} → Message E → ℕ → ℕ → Bool
@@ -16,7 +16,7 @@ has_acknowledged (l ∷ sent) c v m = (nat_eq l.sender c && is_prepare_ok l.mess
 
 -- c has accepted place m of view v, in any of its lives: as the view's primary by its log, else by a PREPAREOK
 unfoldable pub has_accepted : {E : Type 0} → Group E → History E → ℕ → ℕ → ℕ → Bool
-has_accepted g h v m c = if nat_eq c (primary_of g v) then nat_le m (length (h.logs v)) else has_acknowledged h.sent c v m
+has_accepted g h v m c = if nat_eq c (primary_in g v) then nat_le m (length (h.logs v)) else has_acknowledged h.sent c v m
 
 -- c has not accepted place m of view v, and never will: it has promised a later view
 unfoldable pub blocks : {E : Type 0} → Group E → History E → ℕ → ℕ → ℕ → Bool

@@ -4,7 +4,7 @@ use Rattle.std.specs.Prelude.{◌≡◌, ℕ, ◌<◌, ◌≤◌, ◌⊎◌, tru
 use Rattle.list_facts.specs.Lists.{IsPrefix}
 use Rattle.agreement.specs.History.{Group, size, State, History}
 use Rattle.agreement.specs.Quorums.{has_accepted, IsCertified}
-use Rattle.agreement.specs.Invariant.{is_up, IsGroup}
+use Rattle.agreement.specs.Invariant.{is_up_status, IsGroup}
 use Rattle.agreement.specs.Moves.{Move}
 use Rattle.agreement.specs.Laws.{IsStart, Run, committed_log}
 
@@ -16,8 +16,8 @@ pub record AcceptsAlike {E : Type 0} (g : Group E) (h h' : History E) : Type 0 w
 -- the commit number stays, and the log goes on from the one before
 pub record KeepsCommitted {E : Type 0} (s s' : State E) : Type 0 where
   pub status : s'.status ≡ s.status
-  pub commit : is_up s.status ≡ true → s'.commit ≡ s.commit
-  pub longer : is_up s.status ≡ true → IsPrefix s.log s'.log
+  pub commit : is_up_status s.status ≡ true → s'.commit ≡ s.commit
+  pub longer : is_up_status s.status ≡ true → IsPrefix s.log s'.log
 
 -- first moves of a turn: nobody has accepted more after them
 pub data FirstMoves {E : Type 0} (g : Group E) (c : ℕ) (h : History E) : History E → Type 0 where
@@ -42,8 +42,8 @@ pub data Turn {E : Type 0} (g : Group E) (c : ℕ) (h h' : History E) : Type 0 w
 -- c shows a log as committed: nothing, or that of its state, or that of a turn which is not over and may be taken back
 pub data Shown {E : Type 0} (g : Group E) (h : History E) (c : ℕ) : List E → Type 0 where
   nothing_shown : Shown g h c []
-  shown_now : is_up (h.state c).status ≡ true → Shown g h c (committed_log (h.state c))
-  shown_open : (h' : History E) → Turn g c h h' → is_up (h'.state c).status ≡ true → Shown g h c (committed_log (h'.state c))
+  shown_now : is_up_status (h.state c).status ≡ true → Shown g h c (committed_log (h.state c))
+  shown_open : (h' : History E) → Turn g c h h' → is_up_status (h'.state c).status ≡ true → Shown g h c (committed_log (h'.state c))
 
 -- whatever two controllers show, at any two times, one of the two logs begins the other
 abbrev pub ShownLogsAgree : Type 0 → Type 0

@@ -10,7 +10,7 @@ use Rattle.app_core.specs.declared.manner.Manner.{Manner}
 use Rattle.app_core.specs.Chain.{flat, hosts_of, learning_rule, most_given, part_next, rule_of, starting}
 use Rattle.app_core.specs.Learning.{hosts_after, learning_commands, hosts_next, commands_next}
 use Rattle.app_core.specs.PartRule.{PartRule, rule_step}
-use Rattle.app_core.specs.Parts.{Steps}
+use Rattle.app_core.specs.Parts.{PartSteps}
 use Rattle.app_core.proofs.LearningLaws.{learning_few}
 
 pub hosts_of-flat : (hosts : List Host) → hosts_of (flat hosts) ≡ hosts
@@ -46,8 +46,8 @@ module _ (kind : ℕ) (manner : Manner) (learns : rule_of kind ≡ learning_rule
       pub learning_steps : (switches : ℕ) → switches ≡ length setup.ports → (new : List Host) (before after : List Command) →
           new ≡ (if nat_lt event.switch switches then hosts_after manner hosts event.switch event.what else hosts) →
           after ≡ before ++ (if nat_lt event.switch switches then learning_commands manner (hosts_after manner hosts event.switch event.what) event.switch event.what else []) →
-          Steps (part_next kind setup (flat hosts) event) (flat new) before after false
+          PartSteps (part_next kind setup (flat hosts) event) (flat new) before after false
       unfolding part_next
       learning_steps switches fits new before after knows asks =
-          subst (λ (rule : PartRule). Steps (rule_step rule setup (flat hosts) event) (flat new) before after false) (sym learns)
+          subst (λ (rule : PartRule). PartSteps (rule_step rule setup (flat hosts) event) (flat new) before after false) (sym learns)
           (rw (choice (nat_lt event.switch (length setup.ports)) refl) (record { state_is = ap flat (rw fits at knows); commands_are = rw fits at asks; stops_is = refl }))

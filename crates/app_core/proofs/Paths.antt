@@ -10,7 +10,7 @@ use Rattle.app_core.specs.declared.host.Host.{Host}
 use Rattle.app_core.specs.declared.switch_port.SwitchPort.{SwitchPort}
 use Rattle.app_core.specs.Chain.{flat, flat_ports, ports_of, flat_routing, routing_of, routing, routing_rule, routing_step, most_given, part_next, starting}
 use Rattle.app_core.specs.PartRule.{PartRule, rule_step}
-use Rattle.app_core.specs.Parts.{Steps}
+use Rattle.app_core.specs.Parts.{PartSteps}
 use Rattle.app_core.specs.Routing.{Routing, routing_after, routing_commands}
 use Rattle.app_core.proofs.Hosts.{hosts_of-flat}
 use Rattle.app_core.proofs.RoutingLaws.{commands_few}
@@ -51,10 +51,10 @@ module _ (setup : Setup) (r : Routing) (event : Event) where
   pub routing_steps : (new : Routing) (before after : List Command) →
       new ≡ (if nat_lt event.switch (length setup.ports) then knows_after else r) →
       after ≡ before ++ (if nat_lt event.switch (length setup.ports) then asked else []) →
-      Steps (part_next routing setup (flat_routing r) event) (flat_routing new) before after false
+      PartSteps (part_next routing setup (flat_routing r) event) (flat_routing new) before after false
   unfolding part_next
   routing_steps new before after knows asks =
-      subst (λ (rule : PartRule). Steps (rule_step rule setup (flat_routing r) event) (flat_routing new) before after false) (sym routing_row)
+      subst (λ (rule : PartRule). PartSteps (rule_step rule setup (flat_routing r) event) (flat_routing new) before after false) (sym routing_row)
       (rw (choice (nat_lt event.switch (length setup.ports)) refl) (record { state_is = ap flat_routing knows; commands_are = asks; stops_is = refl }))
 
   -- how many commands it appends

@@ -7,7 +7,7 @@ use Rattle.std.proofs.lemmas.Bool.Decides.{eqb_tells}
 use Rattle.of_types.specs.declared.setup.Setup.{Setup}
 use Rattle.of_types.specs.Setups.{IsSetup}
 use Rattle.app_core.specs.declared.switch_port.SwitchPort.{SwitchPort}
-use Rattle.app_core.specs.Routes.{over_link, behind, walks, route, IsWalk, IsLesser, IsRoute}
+use Rattle.app_core.specs.Routes.{over_known_link, behind_link, walks, route, IsWalk, IsLesser, IsRoute}
 use Rattle.app_core.proofs.Linked.{one_port, over_ports, port_bounds}
 
 -- an element of a list
@@ -85,26 +85,26 @@ module _ (setup : Setup) (down : List SwitchPort) (to : ℕ) where
   at_port : ℕ → ℕ → SwitchPort
   at_port from port = record { switch = from; port = port }
 
-  behind_in : (hop : SwitchPort) (o : Option SwitchPort) (rest : ℕ → List (List SwitchPort)) (w : List SwitchPort) → In (behind hop o rest) w →
+  behind_in : (hop : SwitchPort) (o : Option SwitchPort) (rest : ℕ → List (List SwitchPort)) (w : List SwitchPort) → In (behind_link hop o rest) w →
       (end : SwitchPort) × (o ≡ Some end) × ((v : List SwitchPort) × (w ≡ hop ∷ v) × In (rest end.switch) v)
   behind_in hop None rest w h = absurd h
   behind_in hop (Some end) rest w h = (end, refl, in_map hop (rest end.switch) w h)
 
-  behind_head : (hop : SwitchPort) (o : Option SwitchPort) (rest : ℕ → List (List SwitchPort)) (w : List SwitchPort) → slice_get (behind hop o rest) 0 ≡ Some w →
+  behind_head : (hop : SwitchPort) (o : Option SwitchPort) (rest : ℕ → List (List SwitchPort)) (w : List SwitchPort) → slice_get (behind_link hop o rest) 0 ≡ Some w →
       (end : SwitchPort) × (o ≡ Some end) × ((v : List SwitchPort) × (w ≡ hop ∷ v) × (slice_get (rest end.switch) 0 ≡ Some v))
   behind_head hop None rest w e = absurd cc
   behind_head hop (Some end) rest w e = (end, refl, map_head hop (rest end.switch) w e)
 
   from_port : ℕ → ℕ → ℕ → List (List SwitchPort)
-  from_port hops from port = behind (record { switch = from; port = port }) (over_link setup down (record { switch = from; port = port })) (walks setup down to hops)
+  from_port hops from port = behind_link (record { switch = from; port = port }) (over_known_link setup down (record { switch = from; port = port })) (walks setup down to hops)
 
   -- what one more hop gives
   pub walks_in : (hops from : ℕ) (w : List SwitchPort) → In (walks setup down to (suc hops) from) w →
-      (port : ℕ) × (end : SwitchPort) × (v : List SwitchPort) × (w ≡ record { switch = from; port = port } ∷ v) × (over_link setup down (record { switch = from; port = port }) ≡ Some end) × In (walks setup down to hops end.switch) v
+      (port : ℕ) × (end : SwitchPort) × (v : List SwitchPort) × (w ≡ record { switch = from; port = port } ∷ v) × (over_known_link setup down (record { switch = from; port = port }) ≡ Some end) × In (walks setup down to hops end.switch) v
   unfolding walks
   walks_in hops from w h =
-      let i = in_flat (λ port. behind (record { switch = from; port = port }) (over_link setup down (record { switch = from; port = port })) (walks setup down to hops)) w 1 (slice_index setup.ports from) h in
-      let b = behind_in (record { switch = from; port = i.0 }) (over_link setup down (record { switch = from; port = i.0 })) (walks setup down to hops) w i.3 in
+      let i = in_flat (λ port. behind_link (record { switch = from; port = port }) (over_known_link setup down (record { switch = from; port = port })) (walks setup down to hops)) w 1 (slice_index setup.ports from) h in
+      let b = behind_in (record { switch = from; port = i.0 }) (over_known_link setup down (record { switch = from; port = i.0 })) (walks setup down to hops) w i.3 in
       (i.0, b.0, b.2.0, b.2.1, b.1, b.2.2)
 
   walks_none : (from : ℕ) (w : List SwitchPort) → In (walks setup down to 0 from) w → (w ≡ []) × (from ≡ to)
@@ -134,9 +134,9 @@ module _ (setup : Setup) (down : List SwitchPort) (to : ℕ) where
       let few : hop.port ≤ slice_index setup.ports from = subst (λ s. hop.port ≤ slice_index setup.ports s) at bounds.2 in
       let same : record { switch = from; port = hop.port } ≡ hop = one_port (record { switch = from; port = hop.port }) hop (sym at) refl in
       let one = bounds.1 in
-      flat_in (λ port. behind (record { switch = from; port = port }) (over_link setup down (record { switch = from; port = port })) (walks setup down to (length hops)))
+      flat_in (λ port. behind_link (record { switch = from; port = port }) (over_known_link setup down (record { switch = from; port = port })) (walks setup down to (length hops)))
       (hop ∷ hops) 1 (slice_index setup.ports from) hop.port one (omega arith)
-      (subst (λ h. In (behind h (over_link setup down h) (walks setup down to (length hops))) (hop ∷ hops)) (sym same)
+      (subst (λ h. In (behind_link h (over_known_link setup down h) (walks setup down to (length hops))) (hop ∷ hops)) (sym same)
       (rw link (map_in hop (walks setup down to (length hops) end.switch) hops (walks_all is hops end.switch rest))))
 
   -- none of them is less than the first
@@ -144,11 +144,11 @@ module _ (setup : Setup) (down : List SwitchPort) (to : ℕ) where
   unfolding walks
   first_least zero from w v e h less = let n = walks_none from v h in subst (λ l. IsLesser l w) n.0 less
   first_least (suc hops) from w v e h less =
-      let f = λ (port : ℕ). behind (record { switch = from; port = port }) (over_link setup down (record { switch = from; port = port })) (walks setup down to hops) in
+      let f = λ (port : ℕ). behind_link (record { switch = from; port = port }) (over_known_link setup down (record { switch = from; port = port })) (walks setup down to hops) in
       let a = flat_split f w 1 (slice_index setup.ports from) e in
       let b = in_flat f v 1 (slice_index setup.ports from) h in
-      let x = behind_head (record { switch = from; port = a.0 }) (over_link setup down (record { switch = from; port = a.0 })) (walks setup down to hops) w a.3 in
-      let y = behind_in (record { switch = from; port = b.0 }) (over_link setup down (record { switch = from; port = b.0 })) (walks setup down to hops) v b.3 in
+      let x = behind_head (record { switch = from; port = a.0 }) (over_known_link setup down (record { switch = from; port = a.0 })) (walks setup down to hops) w a.3 in
+      let y = behind_in (record { switch = from; port = b.0 }) (over_known_link setup down (record { switch = from; port = b.0 })) (walks setup down to hops) v b.3 in
       let lesser : IsLesser (record { switch = from; port = b.0 } ∷ y.2.0) (record { switch = from; port = a.0 } ∷ x.2.0) = subst (λ l. IsLesser l (record { switch = from; port = a.0 } ∷ x.2.0)) y.2.1 (subst (λ l. IsLesser v l) x.2.1 less) in
       let not_before : a.0 ≤ b.0 = elim (cases_lt b.0 a.0) [
         | inl l ↦ absurd (subst (λ l. In l v) (a.4 b.0 b.1 l) b.3)
@@ -157,7 +157,7 @@ module _ (setup : Setup) (down : List SwitchPort) (to : ℕ) where
       elim lesser [
         | inl l ↦ omega arith
         | inr s ↦
-            let ends : x.0 ≡ y.0 = (let p = x.1 in let q = ap (λ port. over_link setup down (record { switch = from; port = port })) s.0 in let r = y.1 in cc) in
+            let ends : x.0 ≡ y.0 = (let p = x.1 in let q = ap (λ port. over_known_link setup down (record { switch = from; port = port })) s.0 in let r = y.1 in cc) in
             first_least hops x.0.switch x.2.0 y.2.0 x.2.2 (subst (λ (z : SwitchPort). In (walks setup down to hops z.switch) y.2.0) (sym ends) y.2.2) s.1
       ]
 

@@ -16,7 +16,7 @@ use Rattle.app_core.specs.declared.switch_port.Leg.{Leg}
 use Rattle.app_core.specs.declared.switch_port.SwitchPort.{SwitchPort}
 use Rattle.app_core.specs.Chain.{routing_of, routing_rule}
 use Rattle.app_core.specs.Orders.{AreBytes, AreGoodCommands, Ascend, IsGoodCommand, IsShort}
-use Rattle.app_core.specs.Routes.{IsWalk, is_same, other_end, route}
+use Rattle.app_core.specs.Routes.{IsWalk, is_same_port, other_end, route}
 use Rattle.app_core.specs.Routing.{Routing, arrival, frame_out, frame_out_if, first_output, open_ports, flooded, legs, path_row, installed, routed, forgetting_ends, place_of_destination, routing_after, routing_commands}
 use Rattle.app_core.specs.Learning.{forgetting_rows}
 use Rattle.app_core.specs.Rules.{HasLaws, state_after}
@@ -57,7 +57,7 @@ module _ (setup : Setup) (is : IsSetup setup) where
 
   routed_few : (down : List SwitchPort) (at : SwitchPort) (frame : List ℕ) (o : Option SwitchPort) → length (routed setup down at frame o) ≤ 64
   routed_few down at frame None = flooded_few down at frame
-  routed_few down at frame (Some target) = by_same (is_same target at)
+  routed_few down at frame (Some target) = by_same (is_same_port target at)
     where
       by_same : (b : Bool) → length (if b then [] else installed setup at frame target (route setup down at.switch target.switch)) ≤ 64
       by_same true = omega arith
@@ -144,7 +144,7 @@ module _ (setup : Setup) (is : IsSetup setup) where
     routed_lawful : (down : List SwitchPort) (at : SwitchPort) → at.switch ≡ event.switch → (o : Option SwitchPort) → AllByRecursion Is (routed setup down at frame o)
     routed_lawful down at here None = flooded_lawful down at
     routed_lawful down at here (Some target) =
-        cond_both (is_same target at) [] (installed setup at frame target (route setup down at.switch target.switch)) (AllByRecursion Is) (λ _. tt)
+        cond_both (is_same_port target at) [] (installed setup at frame target (route setup down at.switch target.switch)) (AllByRecursion Is) (λ _. tt)
         (λ _. installed_lawful down at here target (route setup down at.switch target.switch) refl)
 
   module _ (event : Event) (there : event.switch < length setup.ports) where

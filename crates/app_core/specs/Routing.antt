@@ -17,7 +17,7 @@ use Rattle.app_core.specs.declared.switch_port.Leg.{Leg}
 use Rattle.app_core.specs.declared.switch_port.SwitchPort.{SwitchPort}
 use Rattle.app_core.specs.Commands.{flow_mod}
 use Rattle.app_core.specs.Learning.{is_single, forgotten, forgotten_at, forgetting_rows, frames_to}
-use Rattle.app_core.specs.Routes.{is_same, other_end, ports_at, is_edge, is_down, route}
+use Rattle.app_core.specs.Routes.{is_same_port, other_end, ports_at, is_edge, is_link_down, route}
 
 -- what routing knows: where each address was seen, in the order in which they were first seen, and the ports that are down,
 -- ascending by switch and port
@@ -26,40 +26,40 @@ pub record Routing : Type 0 where
   pub down : List SwitchPort
 
 -- where an address was seen, at whatever switch
-abbrev pub place_of : List Host → ℕ → Option SwitchPort
-place_of [] address = None
-place_of (h ∷ hosts) address =
-    if nat_eq h.address address then Some (record { switch = h.switch; port = h.port }) else place_of hosts address
+abbrev pub host_place_of : List Host → ℕ → Option SwitchPort
+host_place_of [] address = None
+host_place_of (h ∷ hosts) address =
+    if nat_eq h.address address then Some (record { switch = h.switch; port = h.port }) else host_place_of hosts address
 
 -- an address is set to a port. A known one keeps its place
-abbrev pub placed : List Host → ℕ → SwitchPort → List Host
-placed [] address at = record { switch = at.switch; address = address; port = at.port } ∷ []
-placed (h ∷ hosts) address at =
+abbrev pub placed_host : List Host → ℕ → SwitchPort → List Host
+placed_host [] address at = record { switch = at.switch; address = address; port = at.port } ∷ []
+placed_host (h ∷ hosts) address at =
     if nat_eq h.address address then record { switch = at.switch; address = address; port = at.port } ∷ hosts
-    else h ∷ placed hosts address at
+    else h ∷ placed_host hosts address at
 
 -- the source of a frame that came in by an edge port is seen there, where it is the address of one host
 abbrev pub with_place : Setup → List Host → SwitchPort → Option ℕ → List Host
 with_place setup hosts at None = hosts
-with_place setup hosts at (Some address) = if is_edge setup at && is_single address then placed hosts address at else hosts
+with_place setup hosts at (Some address) = if is_edge setup at && is_single address then placed_host hosts address at else hosts
 
 -- where the destination was seen
 abbrev pub place_of_destination : List Host → Option ℕ → Option SwitchPort
 place_of_destination hosts None = None
-place_of_destination hosts (Some address) = place_of hosts address
+place_of_destination hosts (Some address) = host_place_of hosts address
 
 -- one port comes before another: by switch and then by port
-abbrev pub is_before : SwitchPort → SwitchPort → Bool
-is_before a b = nat_lt a.switch b.switch || (nat_eq a.switch b.switch && nat_lt a.port b.port)
+abbrev pub is_port_before : SwitchPort → SwitchPort → Bool
+is_port_before a b = nat_lt a.switch b.switch || (nat_eq a.switch b.switch && nat_lt a.port b.port)
 
 -- a port joins those that are down, at its place
-abbrev pub with_port : List SwitchPort → SwitchPort → List SwitchPort
-with_port [] at = at ∷ []
-with_port (p ∷ down) at = if is_before p at then p ∷ with_port down at else if is_same p at then p ∷ down else at ∷ p ∷ down
+abbrev pub with_known_port : List SwitchPort → SwitchPort → List SwitchPort
+with_known_port [] at = at ∷ []
+with_known_port (p ∷ down) at = if is_port_before p at then p ∷ with_known_port down at else if is_same_port p at then p ∷ down else at ∷ p ∷ down
 
 -- a port leaves them, and all ports of a switch do
 abbrev pub without_port : List SwitchPort → SwitchPort → List SwitchPort
-without_port down at = filter (λ p. not (is_same p at)) down
+without_port down at = filter (λ p. not (is_same_port p at)) down
 
 abbrev pub without_switch : List SwitchPort → ℕ → List SwitchPort
 without_switch down switch = filter (λ p. not (nat_eq p.switch switch)) down
@@ -69,7 +69,7 @@ abbrev pub routing_after_port : Routing → ℕ → PortStatus → Routing
 routing_after_port r switch p =
     if is_switch_up (happening.PortStatus p) then record { hosts = forgotten_at r.hosts switch; down = without_switch r.down switch }
     else if p.up then record { hosts = r.hosts; down = without_port r.down (record { switch = switch; port = p.port }) }
-    else record { hosts = forgotten r.hosts switch p.port; down = with_port r.down (record { switch = switch; port = p.port }) }
+    else record { hosts = forgotten r.hosts switch p.port; down = with_known_port r.down (record { switch = switch; port = p.port }) }
 
 -- what routing knows after an event
 abbrev pub routing_after : Setup → Routing → ℕ → Happening → Routing
@@ -86,7 +86,7 @@ frame_out switch in_port frame outputs =
 -- the edge ports of a switch that are up, but for the one that a frame came in by
 abbrev pub open_ports : Setup → List SwitchPort → SwitchPort → ℕ → List ℕ
 open_ports setup down at switch =
-    filter (λ port. let p : SwitchPort = record { switch = switch; port = port } in is_edge setup p && not (is_down down p) && not (is_same p at)) (ports_at setup switch)
+    filter (λ port. let p : SwitchPort = record { switch = switch; port = port } in is_edge setup p && not (is_link_down down p) && not (is_same_port p at)) (ports_at setup switch)
 
 -- a switch sends a frame out by these ports, if there is one
 abbrev pub frame_out_if : ℕ → List ℕ → List ℕ → List Command
@@ -123,21 +123,21 @@ path_row address leg =
     flow_mod leg.switch 3 Add 10 ANY_PORT (frames_to leg.input address) (leg.output ∷ [])
 
 -- of so many switches of a path, numbered from the first, rows are installed at once
-abbrev pub most_rows : ℕ
-most_rows = 63
+abbrev pub most_routing_rows : ℕ
+most_routing_rows = 63
 
 -- the rows of a walk, from the last back to the first, and then the frame goes its way. Nothing where there is no walk
 abbrev pub installed : Setup → SwitchPort → List ℕ → SwitchPort → Option (List SwitchPort) → List Command
 installed setup at frame target None = []
 installed setup at frame target (Some walk) =
-    map (path_row (unwrap_or (number_at 6 0 frame) 0)) (reverse (take most_rows (legs setup at.port walk target)))
+    map (path_row (unwrap_or (number_at 6 0 frame) 0)) (reverse (take most_routing_rows (legs setup at.port walk target)))
     ++ frame_out at.switch at.port frame (first_output walk target ∷ []) ∷ []
 
 -- what is sent for a frame whose destination was seen there: nothing where it came from there
 abbrev pub routed : Setup → List SwitchPort → SwitchPort → List ℕ → Option SwitchPort → List Command
 routed setup down at frame None = flooded setup down at frame
 routed setup down at frame (Some target) =
-    if is_same target at then [] else installed setup at frame target (route setup down at.switch target.switch)
+    if is_same_port target at then [] else installed setup at frame target (route setup down at.switch target.switch)
 
 -- the rows that send to a port that went down go, at both ends of its link if it is in one
 abbrev pub forgetting_ends : ℕ → ℕ → Option SwitchPort → List Command

@@ -14,7 +14,7 @@ use Rattle.app_core.specs.declared.operator.TheConstants.{OPERATOR_SWITCH}
 use Rattle.app_core.specs.Chain.{most_given, part_next, plain_rule_of, rule_of, slot, starting, starting_chain, versions}
 use Rattle.app_core.specs.Operator.{asked_at, asked_version}
 use Rattle.app_core.specs.PartRule.{PartRule}
-use Rattle.app_core.specs.Parts.{AllFit, Steps}
+use Rattle.app_core.specs.Parts.{AllFit, PartSteps}
 use Rattle.app_core.specs.Slot.{at_version, version_of}
 use Rattle.app_core.proofs.Rows.{aging_row, hub_row, learning_row, pinned_row, routing_row, slot_row}
 use Rattle.app_upgrade.specs.declared.version.Version.{Version}
@@ -143,7 +143,7 @@ module _ (numbers_of : Version → List ℕ) (parts : List Version) (last : AreL
 
   -- it is asked for a version
   pub slot_asked : AreWaiting → (setup : Setup) → 0 < length setup.ports → (event : Event) (asked : ℕ) → asked_version event ≡ Some asked → (new : List Version) → new ≡ left_after asked parts → (out : List Command) →
-      Steps (part_next slot setup (at_version (active_of parts) (get_or (map numbers_of parts) 0 [])) event) (at_version (active_of new) (get_or (map numbers_of new) 0 [])) out out false
+      PartSteps (part_next slot setup (at_version (active_of parts) (get_or (map numbers_of parts) 0 [])) event) (at_version (active_of new) (get_or (map numbers_of new) 0 [])) out out false
   unfolding part_next
   slot_asked waiting setup some event asked is new left out =
       let there : event.switch < length setup.ports = omega (arith, some, asked_there event.switch event.what asked is) in
@@ -165,8 +165,8 @@ module _ (parts : List Version) (last : AreLast parts) where
   is_active setup event none state true known = rw (known, slot_row, none, active_rule) refl
 
   pub slot_reacts : {E : Type 0} (setup : Setup) (event : Event) → asked_version event ≡ None → (state : List ℕ) (new : List Version) → map kind_in new ≡ map kind_in parts → (r : Result Bool E) (state_after : List ℕ) (before after : List Command) →
-      IfOk r (λ stops. Steps (part_next (get_or (map kind_in parts) 0 0) setup state event) state_after before after stops) →
-      IfOk r (λ stops. Steps (part_next slot setup (at_version (active_of parts) state) event) (at_version (active_of new) state_after) before after stops)
+      IfOk r (λ stops. PartSteps (part_next (get_or (map kind_in parts) 0 0) setup state event) state_after before after stops) →
+      IfOk r (λ stops. PartSteps (part_next slot setup (at_version (active_of parts) state) event) (at_version (active_of new) state_after) before after stops)
   slot_reacts setup event none state new kinds (Err e) state_after before after step = tt
   slot_reacts setup event none state new kinds (Ok stops) state_after before after step =
       let same : active_of new ≡ active_of parts = ap (λ n. length versions - n) (sym (length-map new kind_in) ∙ (ap length kinds ∙ length-map parts kind_in)) in

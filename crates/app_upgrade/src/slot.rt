@@ -2,7 +2,7 @@
 ghost use Rattle.std.specs.Prelude.{◌≡◌, ◌≤◌, ◌<◌, ◌+◌, ◌-◌, ℕ, [], drop, length, map, slice_index_or, IfOk, OnOk};
 ghost use Rattle.of_types.specs.declared.setup.Setup.{Setup};
 ghost use Rattle.app_core.specs.Chain.{slot, learning, versions, most_given, part_next, starting_chain};
-ghost use Rattle.app_core.specs.Parts.{Steps, AllFit};
+ghost use Rattle.app_core.specs.Parts.{PartSteps, AllFit};
 ghost use Rattle.app_core.specs.Slot.{at_version};
 ghost use Rattle.app_upgrade.specs.Versions.{AreLast, active_of, left_after, kind_in};
 
@@ -70,7 +70,7 @@ fn react_first<P: Part>(
     ensures fit { (s : Setup) → AllFit P.is_fit parts.old s → AllFit P.is_fit parts.new s }
     ensures rest { drop 1 (map P.numbers parts.new) ≡ drop 1 (map P.numbers parts.old) }
     ensures step { (s : Setup) → AllFit P.is_fit parts.old s → IfOk result (λ stops.
-        Steps (part_next (slice_index_or (map P.kind_of parts.old) 0 0) s (slice_index_or (map P.numbers parts.old) 0 []) event.now) (slice_index_or (map P.numbers parts.new) 0 []) out.old out.new stops) }
+        PartSteps (part_next (slice_index_or (map P.kind_of parts.old) 0 0) s (slice_index_or (map P.numbers parts.old) 0 []) event.now) (slice_index_or (map P.numbers parts.new) 0 []) out.old out.new stops) }
     ensures few { (s : Setup) → AllFit P.is_fit parts.old s → OnOk result (length out.new ≤ length out.old + most_given (slice_index_or (map P.kind_of parts.old) 0 0)) }
 {
     let Some((first, rest)) = parts.split_first_mut() else {
@@ -93,7 +93,7 @@ fn react_active(
     ensures fit { (s : Setup) → AllFit ⟦<Version as Part>⟧.is_fit parts.old.items s → AllFit ⟦<Version as Part>⟧.is_fit parts.new.items s }
     ensures rest { drop 1 (map ⟦<Version as Part>⟧.numbers parts.new.items) ≡ drop 1 (map ⟦<Version as Part>⟧.numbers parts.old.items) }
     ensures step { (s : Setup) → AllFit ⟦<Version as Part>⟧.is_fit parts.old.items s → IfOk result (λ stops.
-        Steps (part_next (slice_index_or (map kind_in parts.old.items) 0 0) s (slice_index_or (map ⟦<Version as Part>⟧.numbers parts.old.items) 0 []) event.now)
+        PartSteps (part_next (slice_index_or (map kind_in parts.old.items) 0 0) s (slice_index_or (map ⟦<Version as Part>⟧.numbers parts.old.items) 0 []) event.now)
         (slice_index_or (map ⟦<Version as Part>⟧.numbers parts.new.items) 0 []) out.old out.new stops) }
     ensures few { (s : Setup) → AllFit ⟦<Version as Part>⟧.is_fit parts.old.items s → OnOk result (length out.new ≤ length out.old + 64) }
 {

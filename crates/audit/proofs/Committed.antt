@@ -16,9 +16,9 @@ use Rattle.app_core.specs.Issued.{issues}
 use Rattle.report.specs.declared.record.Record.{Record}
 use Rattle.report.specs.declared.record.Told.{Told}
 use Rattle.audit.specs.declared.switch_lines.Committed.{Committed}
-use Rattle.audit.specs.Audit.{is_processed, events_fail, differs_from, executed_fails, told_fails, switches_fail, log_fails, lines_before, lines_fail, first_failing}
+use Rattle.audit.specs.Audit.{is_processed_line, events_fail, differs_from, executed_fails, told_fails, switches_fail, log_fails, lines_before, lines_fail, first_failing}
 use Rattle.audit.specs.Issuing.{order_in}
-use Rattle.audit.specs.Judging.{is_below, is_processed_by, events_fail_by, order_fails, executed_fails_by, told_fails_by, switches_fail_by, IsCommitted}
+use Rattle.audit.specs.Judging.{is_below, is_processed_in, events_fail_by, order_fails, executed_fails_by, told_fails_by, switches_fail_by, IsCommittedLog}
 use Rattle.audit.specs.Names.{Name, same_name, name_of, issued_name}
 use Rattle.audit.specs.Received.{equal_at}
 use Rattle.audit.proofs.Failing.{first_here, first_behind, none_fails}
@@ -81,8 +81,8 @@ order_is (x ∷ all) switch y = by (same_name (issued_name x) (switch, y.life, y
     by true o f h = refl
     by false o f h = h
 
-module _ (kinds : List ℕ) (r : Record) (c : Committed) (committed : IsCommitted kinds r c) (sound : IsSound (received r.log)) where
-  processed_is : (line : Event) → is_processed_by c line ≡ is_processed r.log line
+module _ (kinds : List ℕ) (r : Record) (c : Committed) (committed : IsCommittedLog kinds r c) (sound : IsSound (received r.log)) where
+  processed_is : (line : Event) → is_processed_in c line ≡ is_processed_line r.log line
   processed_is line =
       ap (λ (n : ℕ). is_below n (equal_at c.received line)) committed.finished
       ∙ ap (λ (l : List Event). is_below (processed r.log) (equal_at l line)) committed.events
@@ -92,7 +92,7 @@ module _ (kinds : List ℕ) (r : Record) (c : Committed) (committed : IsCommitte
   events_are t [] = refl
   events_are t (e ∷ events) =
       ap (λ (b : Bool). (nat_eq e.life t.life && nat_le t.held (count_by (λ f. nat_eq f.life t.life) events) && not b) ∷ events_fail_by c t.life t.held events) (processed_is e)
-      ∙ ap (λ (l : List Bool). (nat_eq e.life t.life && nat_le t.held (count_by (λ f. nat_eq f.life t.life) events) && not (is_processed r.log e)) ∷ l) (events_are t events)
+      ∙ ap (λ (l : List Bool). (nat_eq e.life t.life && nat_le t.held (count_by (λ f. nat_eq f.life t.life) events) && not (is_processed_line r.log e)) ∷ l) (events_are t events)
 
   executed_is : (switch : ℕ) (y : Executed) → executed_fails_by c switch y ≡ executed_fails (concat (issues kinds r.setup (received r.log))) switch y
   executed_is switch y = ap (λ o. order_fails o y.order) (committed.orders (switch, y.life, y.number)) ∙ order_is (concat (issues kinds r.setup (received r.log))) switch y
@@ -131,7 +131,7 @@ module _ (kinds : List ℕ) (r : Record) where
       ∙ first_here line n (log_fails kinds r [] r.log) (switches_fail kinds r 0 r.switches) (sym is ∙ some))
 
   pub switches_first : (line switches : ℕ) (found : Option ℕ) (c : Committed) → line ≡ lines_before r + 1 → found ≡ first_failing line (log_fails kinds r [] r.log) → found ≡ None →
-      switches ≡ line + length r.log → IsCommitted kinds r c → first_failing switches (switches_fail_by c 0 r.switches) ≡ first_failing 1 (lines_fail kinds r)
+      switches ≡ line + length r.log → IsCommittedLog kinds r c → first_failing switches (switches_fail_by c 0 r.switches) ≡ first_failing 1 (lines_fail kinds r)
   switches_first line switches found c from is none next committed =
       let sound = sound_all kinds r line [] r.log (sym is ∙ none) nothing_sound in
       ap (λ (l : List Bool). first_failing switches l) (switches_are kinds r c committed sound 0 r.switches)

@@ -10,8 +10,8 @@ use Rattle.app_core.specs.Issued.{commands_of}
 use Rattle.report.specs.declared.record.Record.{Record}
 use Rattle.audit.specs.declared.evidence.Evidence.{Evidence}
 use Rattle.audit.specs.declared.following.Following.{Following}
-use Rattle.audit.specs.Audit.{has_event_line, is_settled, entry_fails, log_fails, first_failing}
-use Rattle.audit.specs.Following.{IsStart, Joins}
+use Rattle.audit.specs.Audit.{has_event_line, is_settled_line, entry_fails, log_fails, first_failing}
+use Rattle.audit.specs.Following.{IsFollowingStart, Joins}
 use Rattle.audit.specs.Judging.{IsEvidence, entry_fails_by}
 use Rattle.audit.proofs.Judged.{entry_is}
 use Rattle.audit.proofs.Standing.{IsSound, IsStanding, starts, stands_more, sound_more}
@@ -22,7 +22,7 @@ Follows ev log line number i f =
     (kinds : List ℕ) (r : Record) → IsEvidence kinds r ev → r.log ≡ log →
     IsStanding (take i log) f × (first_failing number (log_fails kinds r (take i log) (drop i log)) ≡ first_failing line (log_fails kinds r [] log))
 
-pub follows_starts : (ev : Evidence) (log : List Entry) (line : ℕ) (f : Following) → IsStart f → Follows ev log line line 0 f
+pub follows_starts : (ev : Evidence) (log : List Entry) (line : ℕ) (f : Following) → IsFollowingStart f → Follows ev log line line 0 f
 follows_starts ev log line f start kinds r evident is = (starts f start, refl)
 
 may_true : (m x : Bool) → not (m && x) ≡ false → m ≡ true
@@ -32,7 +32,7 @@ may_true false x h = absurd cc
 -- a line that does not fail may follow
 pub may_from : (kinds : List ℕ) (r : Record) (before : List Entry) (entry : Entry) → entry_fails kinds r before entry ≡ false → may_follow before entry ≡ true
 may_from kinds r before (Received e) h = may_true (may_follow before (Received e)) (has_event_line r.switches e) h
-may_from kinds r before (Processed j) h = may_true (may_follow before (Processed j)) (list_all (is_settled r.switches before) (commands_of kinds r.setup (received r.log) j)) h
+may_from kinds r before (Processed j) h = may_true (may_follow before (Processed j)) (list_all (is_settled_line r.switches before) (commands_of kinds r.setup (received r.log) j)) h
 
 module _ (ev : Evidence) (log : List Entry) (line number i : ℕ) (f : Following) (entry : Entry) (lt : i < length log) (at : entry ≡ get_or log i entry) (follows : Follows ev log line number i f) where
   back : drop i log ≡ entry ∷ drop (i + 1) log

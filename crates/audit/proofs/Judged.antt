@@ -19,9 +19,9 @@ use Rattle.report.specs.declared.record.Record.{Record}
 use Rattle.report.specs.declared.record.Told.{Told}
 use Rattle.audit.specs.declared.evidence.Evidence.{Evidence}
 use Rattle.audit.specs.declared.following.Following.{Following}
-use Rattle.audit.specs.Audit.{has_event_line, has_executed_line, is_settled, entry_fails}
+use Rattle.audit.specs.Audit.{has_event_line, has_executed_line, is_settled_line, entry_fails}
 use Rattle.audit.specs.Issuing.{HoldsOrders}
-use Rattle.audit.specs.Judging.{is_place, tells, is_told, executes, is_executed, IsEvidence, is_settled_by, entry_fails_by}
+use Rattle.audit.specs.Judging.{is_place, tells_event, is_told_as_executed, executed_as_told, is_executed, IsEvidence, is_settled_by, entry_fails_by}
 use Rattle.audit.specs.Names.{Name, same_name, name_of, issued_name}
 use Rattle.audit.specs.Received.{equal_at}
 use Rattle.audit.proofs.Naming.{name_equal, name_same}
@@ -87,7 +87,7 @@ module _ (e line : Event) where
           let y = name_equal (name_of e) (name_of line) t in
           absurd cc (apart, ap (λ (q : Name). same_name (name_of d) q) (y ∙ sym x), name_same (name_of d))
 
-  pub tells_is : (front rest : List Event) → list_any (λ f. same_name (name_of f) (name_of e)) front ≡ false → tells (front ++ e ∷ rest) (length front) line ≡ same_event e line
+  pub tells_is : (front rest : List Event) → list_any (λ f. same_name (name_of f) (name_of e)) front ≡ false → tells_event (front ++ e ∷ rest) (length front) line ≡ same_event e line
   tells_is [] rest fresh = first_tells (equal_at rest line) (same_name (name_of e) (name_of line))
   tells_is (d ∷ front) rest fresh =
       let p = or_parts (same_name (name_of d) (name_of e)) (list_any (λ f. same_name (name_of f) (name_of e)) front) fresh in
@@ -97,10 +97,10 @@ module _ (e line : Event) where
       or_parts false b h = (refl, h)
       or_parts true b h = absurd cc
 
-pub told_is : (e : Event) (front rest : List Event) (switches : List Told) → list_any (λ f. same_name (name_of f) (name_of e)) front ≡ false → is_told (front ++ e ∷ rest) switches (length front) ≡ has_event_line switches e
+pub told_is : (e : Event) (front rest : List Event) (switches : List Told) → list_any (λ f. same_name (name_of f) (name_of e)) front ≡ false → is_told_as_executed (front ++ e ∷ rest) switches (length front) ≡ has_event_line switches e
 told_is e front rest switches fresh =
-    any_same (λ t. list_any (tells (front ++ e ∷ rest) (length front)) t.events) (λ t. list_any (same_event e) t.events) switches
-    (λ t. any_same (tells (front ++ e ∷ rest) (length front)) (same_event e) t.events (λ line. tells_is e line front rest fresh))
+    any_same (λ t. list_any (tells_event (front ++ e ∷ rest) (length front)) t.events) (λ t. list_any (same_event e) t.events) switches
+    (λ t. any_same (tells_event (front ++ e ∷ rest) (length front)) (same_event e) t.events (λ line. tells_is e line front rest fresh))
 
 -- ---- executed lines
 
@@ -113,14 +113,14 @@ module _ (life number : ℕ) where
   none_below k s [] lt = refl
   none_below k s (t ∷ switches) lt =
       ap (λ b. b || is_executed (k + 1) switches (s, life, number))
-      (none_any (executes k (s, life, number)) t.executed (λ y. ap (λ b. b && nat_eq y.life life && nat_eq y.number number) (ne_eqb k s (λ e. absurd (omega (arith, e, lt))))))
+      (none_any (executed_as_told k (s, life, number)) t.executed (λ y. ap (λ b. b && nat_eq y.life life && nat_eq y.number number) (ne_eqb k s (λ e. absurd (omega (arith, e, lt))))))
       ∙ none_below (k + 1) s switches (omega (arith, lt))
 
   pub executed_at : (k s : ℕ) (switches : List Told) → is_executed k switches (k + s, life, number) ≡ has_executed_line switches s life number
   executed_at k s [] = refl
   executed_at k zero (t ∷ switches) =
       ap (λ b. b || is_executed (k + 1) switches (k + 0, life, number))
-      (any_same (executes k (k + 0, life, number)) (λ y. nat_eq y.life life && nat_eq y.number number) t.executed (λ y. ap (λ b. b && nat_eq y.life life && nat_eq y.number number) (eq-eqb k (k + 0) (omega arith))))
+      (any_same (executed_as_told k (k + 0, life, number)) (λ y. nat_eq y.life life && nat_eq y.number number) t.executed (λ y. ap (λ b. b && nat_eq y.life life && nat_eq y.number number) (eq-eqb k (k + 0) (omega arith))))
       ∙ ap (λ b. list_any (λ y. nat_eq y.life life && nat_eq y.number number) t.executed || b) (none_below (k + 1) (k + 0) switches (omega arith))
       ∙ or_none (list_any (λ y. nat_eq y.life life && nat_eq y.number number) t.executed)
     where
@@ -129,7 +129,7 @@ module _ (life number : ℕ) where
       or_none false = refl
   executed_at k (suc s) (t ∷ switches) =
       ap (λ b. b || is_executed (k + 1) switches (k + suc s, life, number))
-      (none_any (executes k (k + suc s, life, number)) t.executed (λ y. ap (λ b. b && nat_eq y.life life && nat_eq y.number number) (ne_eqb k (k + suc s) (λ e. absurd (omega (arith, e))))))
+      (none_any (executed_as_told k (k + suc s, life, number)) t.executed (λ y. ap (λ b. b && nat_eq y.life life && nat_eq y.number number) (ne_eqb k (k + suc s) (λ e. absurd (omega (arith, e))))))
       ∙ ap (λ (n : ℕ). is_executed (k + 1) switches (n, life, number)) (omega arith) ∙ executed_at (k + 1) s switches
 
 -- ---- a line of the log
@@ -148,7 +148,7 @@ all_map p f [] = refl
 all_map p f (x ∷ xs) = ap (λ b. p (f x) && b) (all_map p f xs)
 
 module _ (kinds : List ℕ) (r : Record) (ev : Evidence) (evident : IsEvidence kinds r ev) (before rest : List Entry) (f : Following) (standing : IsStanding before f) where
-  settled_is : (x : Issued) → is_settled_by ev f (issued_name x) ≡ is_settled r.switches before x
+  settled_is : (x : Issued) → is_settled_by ev f (issued_name x) ≡ is_settled_line r.switches before x
   settled_is x =
       ap (λ b. b || nat_lt x.life (get_or f.lives x.switch 0)) (evident.executed (issued_name x) ∙ ap (λ (n : ℕ). is_executed 0 r.switches (n, x.life, x.number)) (omega arith) ∙ executed_at x.life x.number 0 x.switch r.switches)
       ∙ ap (λ (l : ℕ). has_executed_line r.switches x.switch x.life x.number || nat_lt x.life l) (standing.followed.lives x.switch)
@@ -158,7 +158,7 @@ module _ (kinds : List ℕ) (r : Record) (ev : Evidence) (evident : IsEvidence k
       ap (λ m. not (m && get_or ev.told.items f.received false)) (may_is before f (Received e) standing.followed)
       ∙ both (may_follow before (Received e)) (get_or ev.told.items f.received false) (has_event_line r.switches e)
       (λ may. ap (λ (n : ℕ). get_or ev.told.items n false) standing.followed.events ∙ evident.told (length (received before))
-      ∙ ap (λ (l : List Event). is_told l r.switches (length (received before))) (ap received is ∙ received-append before (Received e ∷ rest))
+      ∙ ap (λ (l : List Event). is_told_as_executed l r.switches (length (received before))) (ap received is ∙ received-append before (Received e ∷ rest))
       ∙ told_is e (received before) (received rest) r.switches (is_fresh e (received before) standing.sound may))
   entry_is (Processed j) is =
       ap (λ m. not (m && list_all (is_settled_by ev f) (slice_index_or ev.names j []))) (may_is before f (Processed j) standing.followed)
@@ -166,4 +166,4 @@ module _ (kinds : List ℕ) (r : Record) (ev : Evidence) (evident : IsEvidence k
       (ap (λ (l : List (List Name)). list_all (is_settled_by ev f) (slice_index_or l j [])) evident.names
       ∙ ap (λ (l : List Name). list_all (is_settled_by ev f) l) (index_map (λ list. map issued_name list) (issues kinds r.setup (received r.log)) j refl)
       ∙ all_map (is_settled_by ev f) issued_name (commands_of kinds r.setup (received r.log) j)
-      ∙ all_same (λ x. is_settled_by ev f (issued_name x)) (is_settled r.switches before) (commands_of kinds r.setup (received r.log) j) settled_is)
+      ∙ all_same (λ x. is_settled_by ev f (issued_name x)) (is_settled_line r.switches before) (commands_of kinds r.setup (received r.log) j) settled_is)

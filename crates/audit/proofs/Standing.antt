@@ -12,7 +12,7 @@ use Rattle.vr_log.specs.declared.entry.Entry.TheVariants.{Received, Processed}
 use Rattle.vr_log.specs.Log.{received, may_be_received, may_follow}
 use Rattle.vr_log.proofs.Logs.{received-append, processed_push, no_earlier, number_is}
 use Rattle.audit.specs.declared.following.Following.{Following}
-use Rattle.audit.specs.Following.{IsStart, IsFollowed, may_join, Joined, Joins}
+use Rattle.audit.specs.Following.{IsFollowingStart, IsFollowed, may_go_behind, Joined, Joins}
 use Rattle.audit.specs.Names.{Name, same_name, name_of}
 use Rattle.audit.proofs.Issues.{zero_at}
 use Rattle.audit.proofs.Naming.{name_equal, name_same}
@@ -92,7 +92,7 @@ sound_more e events sound h =
 
 -- ---- what is kept while a log is followed
 
-pub may_is : (log : List Entry) (f : Following) (entry : Entry) → IsFollowed log f → may_join f entry ≡ may_follow log entry
+pub may_is : (log : List Entry) (f : Following) (entry : Entry) → IsFollowed log f → may_go_behind f entry ≡ may_follow log entry
 may_is log f (Received e) t = rw (t.lives e.switch, t.numbers e.switch) refl
 may_is log f (Processed j) t = rw (t.finished, t.events) refl
 
@@ -100,7 +100,7 @@ pub record IsStanding (log : List Entry) (f : Following) : Type 0 where
   pub followed : IsFollowed log f
   pub sound : IsSound (received log)
 
-pub starts : (f : Following) → IsStart f → IsStanding [] f
+pub starts : (f : Following) → IsFollowingStart f → IsStanding [] f
 starts f start =
     record {
       followed = record {

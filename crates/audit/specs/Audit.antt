@@ -34,15 +34,15 @@ has_executed_line switches switch life number =
     elim (slice_get switches switch) [ None ↦ false | Some t ↦ list_any (λ y. y.life == life && y.number == number) t.executed ]
 
 -- a command was executed, or its switch began a later life before
-abbrev pub is_settled : List Told → List Entry → Issued → Bool
-is_settled switches before x = has_executed_line switches x.switch x.life x.number || has_ended x.switch x.life (received before)
+abbrev pub is_settled_line : List Told → List Entry → Issued → Bool
+is_settled_line switches before x = has_executed_line switches x.switch x.life x.number || has_ended x.switch x.life (received before)
 
 -- a line of the log fails: it may not follow those before it, an event has no event line, or a command of an event that
 -- is processed was not settled
 abbrev pub entry_fails : List ℕ → Record → List Entry → Entry → Bool
 entry_fails kinds r before (Received e) = not (may_follow before (Received e) && has_event_line r.switches e)
 entry_fails kinds r before (Processed j) =
-    not (may_follow before (Processed j) && list_all (is_settled r.switches before) (commands_of kinds r.setup (received r.log) j))
+    not (may_follow before (Processed j) && list_all (is_settled_line r.switches before) (commands_of kinds r.setup (received r.log) j))
 
 abbrev pub log_fails : List ℕ → Record → List Entry → List Entry → List Bool
 log_fails kinds r before [] = []
@@ -51,14 +51,14 @@ log_fails kinds r before (e ∷ log) = entry_fails kinds r before e ∷ log_fail
 -- ---- the lines of a switch
 
 -- an event stands in the log and is processed there
-abbrev pub is_processed : List Entry → Event → Bool
-is_processed log line = list_any (λ e. same_event e line) (take (processed log) (received log))
+abbrev pub is_processed_line : List Entry → Event → Bool
+is_processed_line log line = list_any (λ e. same_event e line) (take (processed log) (received log))
 
 -- an event line of the present life fails that is neither among the last ones that are held nor processed
 abbrev pub events_fail : List Entry → Told → List Event → List Bool
 events_fail log t [] = []
 events_fail log t (e ∷ events) =
-    (e.life == t.life && nat_le t.held (count_by (λ f. f.life == t.life) events) && not (is_processed log e)) ∷ events_fail log t events
+    (e.life == t.life && nat_le t.held (count_by (λ f. f.life == t.life) events) && not (is_processed_line log e)) ∷ events_fail log t events
 
 -- an order is not what was issued
 abbrev pub differs_from : Option Issued → Order → Bool

@@ -8,7 +8,7 @@ use Rattle.vr_log.specs.Log.{received, processed}
 use Rattle.audit.specs.declared.following.Following.{Following}
 
 -- before the first entry
-pub record IsStart (f : Following) : Type 0 where
+pub record IsFollowingStart (f : Following) : Type 0 where
   pub lives : f.lives ≡ replicate 256 0
   pub numbers : f.numbers ≡ replicate 256 0
   pub received : f.received ≡ 0
@@ -21,11 +21,11 @@ pub record IsFollowed (log : List Entry) (f : Following) : Type 0 where
   pub events : f.received ≡ length (received log)
   pub finished : f.processed ≡ processed log
 
-abbrev pub may_join : Following → Entry → Bool
-may_join f (Received event) =
+abbrev pub may_go_behind : Following → Entry → Bool
+may_go_behind f (Received event) =
     if nat_eq event.life (get_or f.lives event.switch 0) then nat_eq event.number (get_or f.numbers event.switch 0)
     else nat_lt (get_or f.lives event.switch 0) event.life && nat_eq event.number 0 && is_switch_up event.what
-may_join f (Processed j) = nat_eq j f.processed && nat_lt j f.received
+may_go_behind f (Processed j) = nat_eq j f.processed && nat_lt j f.received
 
 abbrev pub has_begun : Following → ℕ → ℕ → Bool
 has_begun f switch life = nat_lt life (get_or f.lives switch 0)

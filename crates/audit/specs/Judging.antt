@@ -14,7 +14,7 @@ use Rattle.report.specs.declared.record.Told.{Told}
 use Rattle.audit.specs.declared.following.Following.{Following}
 use Rattle.audit.specs.declared.evidence.Evidence.{Evidence}
 use Rattle.audit.specs.declared.switch_lines.Committed.{Committed}
-use Rattle.audit.specs.Following.{may_join, has_begun}
+use Rattle.audit.specs.Following.{may_go_behind, has_begun}
 use Rattle.audit.specs.Issuing.{HoldsOrders}
 use Rattle.audit.specs.Names.{Name, same_name, issued_name, value_of}
 use Rattle.audit.specs.Orders.{same_order}
@@ -26,24 +26,24 @@ is_place i None = false
 is_place i (Some n) = nat_eq n i
 
 -- an event line tells of the event at a place
-abbrev pub tells : List Event → ℕ → Event → Bool
-tells events i line = is_place i (equal_at events line)
+abbrev pub tells_event : List Event → ℕ → Event → Bool
+tells_event events i line = is_place i (equal_at events line)
 
-abbrev pub is_told : List Event → List Told → ℕ → Bool
-is_told events switches i = list_any (λ t. list_any (tells events i) t.events) switches
+abbrev pub is_told_as_executed : List Event → List Told → ℕ → Bool
+is_told_as_executed events switches i = list_any (λ t. list_any (tells_event events i) t.events) switches
 
 -- an executed line of a switch has a name
-abbrev pub executes : ℕ → Name → Executed → Bool
-executes switch name y = same_name (switch, y.life, y.number) name
+abbrev pub executed_as_told : ℕ → Name → Executed → Bool
+executed_as_told switch name y = same_name (switch, y.life, y.number) name
 
 -- of these switches, from this number on, one has such a line
 abbrev pub is_executed : ℕ → List Told → Name → Bool
 is_executed switch [] name = false
-is_executed switch (t ∷ switches) name = list_any (executes switch name) t.executed || is_executed (switch + 1) switches name
+is_executed switch (t ∷ switches) name = list_any (executed_as_told switch name) t.executed || is_executed (switch + 1) switches name
 
 -- the evidence is that of a report
 pub record IsEvidence (kinds : List ℕ) (r : Record) (e : Evidence) : Type 0 where
-  pub told : (i : ℕ) → get_or e.told.items i false ≡ is_told (received r.log) r.switches i
+  pub told : (i : ℕ) → get_or e.told.items i false ≡ is_told_as_executed (received r.log) r.switches i
   pub executed : (q : Name) → is_some (value_of e.executed q) ≡ is_executed 0 r.switches q
   pub names : e.names ≡ map (λ list. map issued_name list) (issues kinds r.setup (received r.log))
 
@@ -51,11 +51,11 @@ abbrev pub is_settled_by : Evidence → Following → Name → Bool
 is_settled_by e f name = is_some (value_of e.executed name) || has_begun f name.0 name.1
 
 abbrev pub entry_fails_by : Evidence → Following → Entry → Bool
-entry_fails_by e f (Received event) = not (may_join f (Received event) && get_or e.told.items f.received false)
-entry_fails_by e f (Processed j) = not (may_join f (Processed j) && list_all (is_settled_by e f) (slice_index_or e.names j []))
+entry_fails_by e f (Received event) = not (may_go_behind f (Received event) && get_or e.told.items f.received false)
+entry_fails_by e f (Processed j) = not (may_go_behind f (Processed j) && list_all (is_settled_by e f) (slice_index_or e.names j []))
 
 -- what is committed is that of a report
-pub record IsCommitted (kinds : List ℕ) (r : Record) (c : Committed) : Type 0 where
+pub record IsCommittedLog (kinds : List ℕ) (r : Record) (c : Committed) : Type 0 where
   pub events : c.received ≡ received r.log
   pub finished : c.processed ≡ processed r.log
   pub orders : HoldsOrders (concat (issues kinds r.setup (received r.log))) c.orders
@@ -65,13 +65,13 @@ abbrev pub is_below : ℕ → Option ℕ → Bool
 is_below n None = false
 is_below n (Some i) = nat_lt i n
 
-abbrev pub is_processed_by : Committed → Event → Bool
-is_processed_by c line = is_below c.processed (equal_at c.received line)
+abbrev pub is_processed_in : Committed → Event → Bool
+is_processed_in c line = is_below c.processed (equal_at c.received line)
 
 abbrev pub events_fail_by : Committed → ℕ → ℕ → List Event → List Bool
 events_fail_by c life held [] = []
 events_fail_by c life held (e ∷ events) =
-    (nat_eq e.life life && nat_le held (count_by (λ f. nat_eq f.life life) events) && not (is_processed_by c e)) ∷ events_fail_by c life held events
+    (nat_eq e.life life && nat_le held (count_by (λ f. nat_eq f.life life) events) && not (is_processed_in c e)) ∷ events_fail_by c life held events
 
 abbrev pub order_fails : Option Order → Order → Bool
 order_fails None order = true

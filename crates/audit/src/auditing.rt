@@ -2,7 +2,7 @@
 ghost use Rattle.std.specs.Prelude.{◌≡◌, ◌+◌, ℕ, List, sum_by, IfOk};
 ghost use Rattle.of_types.specs.Setups.{IsSetup};
 ghost use Rattle.audit.specs.Audit.{count_entry_lines, lines_before, lines_fail, first_failing, differs, verdict_of};
-ghost use Rattle.audit.specs.Judging.{IsEvidence, IsCommitted};
+ghost use Rattle.audit.specs.Judging.{IsEvidence, IsCommittedLog};
 
 use crate::counting::add;
 use crate::evidence::{Evidence, executed_names, told_events};
@@ -64,7 +64,7 @@ fn gather<A: App>(
 ) -> Result<(Evidence, Committed), AllocError>
     requires { IsSetup lines.now.setup }
     ensures evidence { IfOk result (λ x. IsEvidence (A.law.kinds app.old) lines.now x.0) }
-    ensures committed { IfOk result (λ x. IsCommitted (A.law.kinds app.old) lines.now x.1) }
+    ensures committed { IfOk result (λ x. IsCommittedLog (A.law.kinds app.old) lines.now x.1) }
 {
     app.start(alloc, &lines.setup)?;
     let received = events_of(alloc, lines.log.as_slice())?;
@@ -93,7 +93,7 @@ fn first_judged(
     evidence: &Evidence,
     committed: &Committed,
 ) -> Result<Option<u64>, AllocError>
-    ensures { (kinds : List ℕ) → IsEvidence kinds lines.now evidence.now → IsCommitted kinds lines.now committed.now →
+    ensures { (kinds : List ℕ) → IsEvidence kinds lines.now evidence.now → IsCommittedLog kinds lines.now committed.now →
         IfOk result (λ first. first ≡ first_failing 1 (lines_fail kinds lines.now)) }
 {
     let entries = add(lines_before(lines)?, 1)?;

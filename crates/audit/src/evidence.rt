@@ -2,7 +2,7 @@
 ghost use Rattle.std.specs.Prelude.{◌≡◌, ◌||◌, ℕ, false, length, get_or, replicate, is_some, IfOk, OnOk};
 ghost use Rattle.std.specs.List.{list_any};
 ghost use Rattle.audit.specs.Names.{Name, value_of};
-ghost use Rattle.audit.specs.Judging.{tells, is_told, executes, is_executed};
+ghost use Rattle.audit.specs.Judging.{tells_event, is_told_as_executed, executed_as_told, is_executed};
 
 use crate::named::{Name, Named};
 use crate::received::Received;
@@ -22,7 +22,7 @@ pub struct Evidence {
 /// Marks the event that a line tells of.
 fn mark(told: &mut [bool], received: &Received, line: &Event)
     requires { length told.old ≡ length received.now }
-    ensures { (i : ℕ) → get_or told.new i false ≡ (get_or told.old i false || tells received.now i line.now) }
+    ensures { (i : ℕ) → get_or told.new i false ≡ (get_or told.old i false || tells_event received.now i line.now) }
 {
     if let Some(at) = received.find(line) {
         told[at] = true;
@@ -31,7 +31,7 @@ fn mark(told: &mut [bool], received: &Received, line: &Event)
 
 fn mark_each(told: &mut [bool], received: &Received, lines: &[Event])
     requires { length told.old ≡ length received.now }
-    ensures { (i : ℕ) → get_or told.new i false ≡ (get_or told.old i false || list_any (tells received.now i) lines.now) }
+    ensures { (i : ℕ) → get_or told.new i false ≡ (get_or told.old i false || list_any (tells_event received.now i) lines.now) }
 {
     for line in lines {
         mark(told, received, line);
@@ -40,7 +40,7 @@ fn mark_each(told: &mut [bool], received: &Received, lines: &[Event])
 
 fn mark_all(told: &mut [bool], received: &Received, switches: &[Told])
     requires { length told.old ≡ length received.now }
-    ensures { (i : ℕ) → get_or told.new i false ≡ (get_or told.old i false || is_told received.now switches.now i) }
+    ensures { (i : ℕ) → get_or told.new i false ≡ (get_or told.old i false || is_told_as_executed received.now switches.now i) }
 {
     for lines in switches {
         mark_each(told, received, lines.events.as_slice());
@@ -61,7 +61,7 @@ pub fn told_events(
     received: &Received,
     switches: &[Told],
 ) -> Result<Vec<bool>, AllocError>
-    ensures { IfOk result (λ told. (i : ℕ) → get_or told.items i false ≡ is_told received.now switches.now i) }
+    ensures { IfOk result (λ told. (i : ℕ) → get_or told.items i false ≡ is_told_as_executed received.now switches.now i) }
 {
     let mut told = unmarked(alloc, received.len())?;
     mark_all(told.as_mut_slice(), received, switches);
@@ -69,7 +69,7 @@ pub fn told_events(
 }
 
 fn note_each(names: &mut Named<()>, switch: usize, executed: &[Executed]) -> Result<(), AllocError>
-    ensures { OnOk result ((q : Name) → is_some (value_of names.new q) ≡ (is_some (value_of names.old q) || list_any (executes switch q) executed.now)) }
+    ensures { OnOk result ((q : Name) → is_some (value_of names.new q) ≡ (is_some (value_of names.old q) || list_any (executed_as_told switch q) executed.now)) }
 {
     for command in executed {
         names.note((switch, command.life, command.number), ())?;

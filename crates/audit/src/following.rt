@@ -1,7 +1,7 @@
 //! A log, followed from entry to entry.
 ghost use Rattle.std.specs.Prelude.{◌≡◌, OnOk};
 ghost use Rattle.vr_log.specs.declared.entry.Entry.TheVariants as entries;
-ghost use Rattle.audit.specs.Following.{IsStart, may_join, Joins, Joined, has_begun};
+ghost use Rattle.audit.specs.Following.{IsFollowingStart, may_go_behind, Joins, Joined, has_begun};
 
 use crate::counting::add;
 use crate::lives::Lives;
@@ -22,7 +22,7 @@ pub struct Following {
 impl Following {
     /// Before the first entry.
     pub fn new() -> Following
-        ensures { IsStart result }
+        ensures { IsFollowingStart result }
     {
         Following {
             lives: Lives::new(),
@@ -40,7 +40,7 @@ impl Following {
     }
 
     fn may_be_received(&self, event: &Event) -> bool
-        ensures { result ≡ may_join self.now (entries.Received event.now) }
+        ensures { result ≡ may_go_behind self.now (entries.Received event.now) }
     {
         let life = self.lives.of(usize::from(event.switch));
         if event.life == life {
@@ -52,7 +52,7 @@ impl Following {
 
     /// Whether an entry may follow.
     pub fn may_join(&self, entry: &Entry) -> bool
-        ensures { result ≡ may_join self.now entry.now }
+        ensures { result ≡ may_go_behind self.now entry.now }
     {
         match entry {
             Entry::Received(event) => self.may_be_received(event),

@@ -1,7 +1,7 @@
 //! The lines of the switches, held against the log.
 ghost use Rattle.std.specs.Prelude.{◌≡◌, ◌+◌, ◌-◌, ◌&&◌, ℕ, not, nat_eq, nat_le, map, if◌then◌else◌, length, count_by, Option, IfOk};
 ghost use Rattle.audit.specs.Audit.{first_failing};
-ghost use Rattle.audit.specs.Judging.{is_processed_by, events_fail_by, executed_fails_by, told_fails_by, switches_fail_by};
+ghost use Rattle.audit.specs.Judging.{is_processed_in, events_fail_by, executed_fails_by, told_fails_by, switches_fail_by};
 
 use crate::counting::add;
 use crate::named::Named;
@@ -22,7 +22,7 @@ pub struct Committed {
 
 /// Whether an event stands among those that are processed.
 fn is_processed(line: &Event, committed: &Committed) -> bool
-    ensures { result ≡ is_processed_by committed.now line.now }
+    ensures { result ≡ is_processed_in committed.now line.now }
 {
     match committed.received.find(line) {
         Some(place) => place < committed.processed,
@@ -49,7 +49,7 @@ fn left_behind(left: u64, life: u32, line: &Event) -> u64
 
 /// Whether a line of the present life is neither among the last ones that are held, with so many behind it, nor processed.
 fn event_fails(left: u64, told: &Told, line: &Event, committed: &Committed) -> bool
-    ensures { result ≡ (nat_eq line.now.life told.now.life && nat_le told.now.held left && not (is_processed_by committed.now line.now)) }
+    ensures { result ≡ (nat_eq line.now.life told.now.life && nat_le told.now.held left && not (is_processed_in committed.now line.now)) }
 {
     line.life == told.life && told.held <= left && !is_processed(line, committed)
 }

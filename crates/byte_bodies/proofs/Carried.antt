@@ -34,7 +34,7 @@ use Rattle.run_spec.specs.declared.messages.Unsealed.{Unsealed}
 use Rattle.run_spec.specs.declared.messages.Unsealed.TheVariants as unsealed
 use Rattle.run_spec.specs.declared.messages.Way.{Way}
 use Rattle.run_spec.specs.Committed.{decided, kept, kept_of, longest}
-use Rattle.run_spec.specs.Legal.{AreTyped, EntryFits, Fits, IsPossible, IsSoundController, IsSoundSwitch, results_of}
+use Rattle.run_spec.specs.Legal.{AreTyped, EntryFits, FitsDebt, IsPossible, IsSoundController, IsSoundSwitch, results_of}
 use Rattle.run_spec.specs.Messages.{FitsMessage, IsValidMessage, way_of, way_of_message}
 use Rattle.run_spec.specs.States.{ControllerAt, IsFaithful, Scene, Sealing, SwitchAt, content, controller_at, controller_hears, controller_message, controller_step, controller_took, sealed_letters, switch_at, switch_hears, switch_message, switch_step, switch_took}
 use Rattle.run_spec.proofs.Entries.{Another, Mine, Other, Own, controller_after, switch_after}
@@ -283,7 +283,7 @@ module _ {B C : Type 0} (sealing : Sealing B) (other : Sealing C) (carry : Way �
   some_carried a (l ∷ letters) some = λ none. absurd cc
 
   fits_same : {A : Type 0} (said : A → Message) (a : Actor) (owed : List (Letter A)) (steps : List (JournalEntry B × Option (Packet B))) (e : JournalEntry B) → actor_of e ≡ a →
-      (AreTyped said owed → AllByRecursion (λ l. CanSay said a l) owed) → Fits said sealing owed steps e → Fits said other owed (carried_part carry steps) (carried_entry carry e)
+      (AreTyped said owed → AllByRecursion (λ l. CanSay said a l) owed) → FitsDebt said sealing owed steps e → FitsDebt said other owed (carried_part carry steps) (carried_entry carry e)
   fits_same said a owed steps (Post b first letters lost) is can h =
       (ap (λ (x : Actor). carried_letters carry x letters) is ∙ ap (λ (ls : List (Letter B)). carried_letters carry a ls) h.0 ∙ carried_sealed said a owed (can h.2), some_carried b letters h.1, h.2)
   fits_same said a owed steps (Draw b id keep) is can h = h
@@ -305,24 +305,24 @@ module _ {B C : Type 0} (sealing : Sealing B) (other : Sealing C) (carry : Way �
       (λ c there same. controller_fits c there earlier (subst (λ (x : Actor). same_actor x (actor.Controller c) ≡ true) (same_actors carry e) same))
     where
       switch_fits : (s : ℕ) → s < length setup.ports → IsPossible From results before → same_actor (actor_of e) (actor.Switch s) ≡ true →
-          Fits switch_message other (switch_at Over s (part (actor.Switch s) (carried carry before))).owed (part (actor.Switch s) (carried carry before)) (carried_entry carry e)
+          FitsDebt switch_message other (switch_at Over s (part (actor.Switch s) (carried carry before))).owed (part (actor.Switch s) (carried carry before)) (carried_entry carry e)
       switch_fits s there earlier same =
           let w : SwitchAt = switch_at From s (part (actor.Switch s) before) in
           let own : part (actor.Switch s) (e ∷ before) ≡ (e, drawn e before) ∷ part (actor.Switch s) before = rw same refl in
           let h = (subst (λ (p : List (JournalEntry B × Option (Packet B))). IsSoundSwitch From s p) own (possible.switches s there)).0 in
           let f = fits_same switch_message (actor.Switch s) w.owed (part (actor.Switch s) before) e (one_actor (actor_of e) (actor.Switch s) same) (switch_can sealing faithful kinds setup is_setup results s there before earlier) h in
-          subst (λ (x : SwitchAt). Fits switch_message other x.owed (part (actor.Switch s) (carried carry before)) (carried_entry carry e)) (sym (switch_same s before earlier))
-          (subst (λ (p : List (JournalEntry C × Option (Packet C))). Fits switch_message other w.owed p (carried_entry carry e)) (sym (part_carried carry (actor.Switch s) before)) f)
+          subst (λ (x : SwitchAt). FitsDebt switch_message other x.owed (part (actor.Switch s) (carried carry before)) (carried_entry carry e)) (sym (switch_same s before earlier))
+          (subst (λ (p : List (JournalEntry C × Option (Packet C))). FitsDebt switch_message other w.owed p (carried_entry carry e)) (sym (part_carried carry (actor.Switch s) before)) f)
 
       controller_fits : (c : ℕ) → c < setup.controllers → IsPossible From results before → same_actor (actor_of e) (actor.Controller c) ≡ true →
-          Fits controller_message other (controller_at Over (results_of results c) c (part (actor.Controller c) (carried carry before))).owed (part (actor.Controller c) (carried carry before)) (carried_entry carry e)
+          FitsDebt controller_message other (controller_at Over (results_of results c) c (part (actor.Controller c) (carried carry before))).owed (part (actor.Controller c) (carried carry before)) (carried_entry carry e)
       controller_fits c there earlier same =
           let w : ControllerAt = controller_at From (results_of results c) c (part (actor.Controller c) before) in
           let own : part (actor.Controller c) (e ∷ before) ≡ (e, drawn e before) ∷ part (actor.Controller c) before = rw same refl in
           let h = (subst (λ (p : List (JournalEntry B × Option (Packet B))). IsSoundController From (results_of results c) c p) own (possible.controllers c there)).0 in
           let f = fits_same controller_message (actor.Controller c) w.owed (part (actor.Controller c) before) e (one_actor (actor_of e) (actor.Controller c) same) (controller_can sealing faithful kinds setup is_setup results c there before earlier) h in
-          subst (λ (x : ControllerAt). Fits controller_message other x.owed (part (actor.Controller c) (carried carry before)) (carried_entry carry e)) (sym (controller_same c before earlier))
-          (subst (λ (p : List (JournalEntry C × Option (Packet C))). Fits controller_message other w.owed p (carried_entry carry e)) (sym (part_carried carry (actor.Controller c) before)) f)
+          subst (λ (x : ControllerAt). FitsDebt controller_message other x.owed (part (actor.Controller c) (carried carry before)) (carried_entry carry e)) (sym (controller_same c before earlier))
+          (subst (λ (p : List (JournalEntry C × Option (Packet C))). FitsDebt controller_message other w.owed p (carried_entry carry e)) (sym (part_carried carry (actor.Controller c) before)) f)
 
   -- the same is decided
   pub decided_same : (entries : List (JournalEntry B)) → IsPossible From results entries → decided Over results (carried carry entries) ≡ decided From results entries

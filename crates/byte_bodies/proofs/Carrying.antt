@@ -12,7 +12,7 @@ use Rattle.journal.specs.declared.journal.Turn.{Turn}
 use Rattle.journal.specs.declared.journal.Turn.TheVariants as turn
 use Rattle.journal.specs.Actors.{same_actor, actor_of}
 use Rattle.journal.specs.Part.{drawn, packet_of, part}
-use Rattle.journal.specs.Pool.{chosen, fitting, letters_posted, numbered, pick, pool, waiting, without}
+use Rattle.journal.specs.Pool.{chosen, fitting, letters_posted, numbered_letters, pick, pool, waiting, without}
 use Rattle.journal.specs.Turns.{drawn_entry, entry_of, lost_entry}
 use Rattle.run_spec.specs.declared.messages.Way.{Way}
 use Rattle.run_spec.specs.Legal.{IsTurn}
@@ -103,16 +103,16 @@ module _ {B C : Type 0} (carry : Way → B → C) where
   same_actors (Refused a) = refl
 
   -- what waits
-  numbered_carried : (first : ℕ) (a : Actor) (letters : List (Letter B)) → numbered first a (carried_letters a letters) ≡ map (λ p. carried_packet p) (numbered first a letters)
+  numbered_carried : (first : ℕ) (a : Actor) (letters : List (Letter B)) → numbered_letters first a (carried_letters a letters) ≡ map (λ p. carried_packet p) (numbered_letters first a letters)
   numbered_carried first a [] = refl
   numbered_carried first a (l ∷ letters) =
       ap (λ (ps : List (Packet C)). record { id = first; from = a; to = l.to; body = carry (way_of a l.to) l.body } ∷ ps) (numbered_carried (first + 1) a letters)
 
   fitting_carried : (first : ℕ) (a : Actor) (letters : List (Letter B)) (lost : ℕ) → fitting first a (carried_letters a letters) lost ≡ map (λ p. carried_packet p) (fitting first a letters lost)
   fitting_carried first a letters lost =
-      ap (λ (n : ℕ). take (n - lost) (numbered first a (carried_letters a letters))) (length-map letters (λ l. carried_letter a l))
+      ap (λ (n : ℕ). take (n - lost) (numbered_letters first a (carried_letters a letters))) (length-map letters (λ l. carried_letter a l))
       ∙ ap (λ (ps : List (Packet C)). take (length letters - lost) ps) (numbered_carried first a letters)
-      ∙ map_take (λ p. carried_packet p) (length letters - lost) (numbered first a letters)
+      ∙ map_take (λ p. carried_packet p) (length letters - lost) (numbered_letters first a letters)
 
   without_carried : (id : ℕ) (ps : List (Packet B)) → without id (map (λ p. carried_packet p) ps) ≡ map (λ p. carried_packet p) (without id ps)
   without_carried id ps = map_filter (λ p. carried_packet p) (λ p. not (nat_eq p.id id)) ps

@@ -8,7 +8,7 @@ use Rattle.of_types.specs.declared.numbers.TheConstants.{VERSION}
 use Rattle.of_types.specs.declared.refusal.TheConstants.{BAD_VERSION, BAD_LENGTH}
 use Rattle.of_bytes.specs.Numbers.{number}
 use Rattle.of_bytes.proofs.Steps.{passed, or_false, not_false}
-use Rattle.of_frame.specs.Framing.{behind, front_of, length_at}
+use Rattle.of_frame.specs.Framing.{behind, front_of_message, length_at}
 use Rattle.of_messages.specs.Reading.{body_at, message_at}
 use Rattle.byte_bodies.specs.Framed.{IsOneFrame}
 
@@ -43,6 +43,6 @@ one_frame bytes m e =
     let whole : number 2 2 bytes ≡ length bytes = eqb-true (number 2 2 bytes) (length bytes) (not_false (number 2 2 bytes == length bytes) r.1) in
     let is = length_is bytes long version whole in
     record {
-      next = ap (λ o. front_of o bytes) is ∙ ap (λ (l : List ℕ). Ok (Some l)) (take_all (length bytes) bytes (omega arith));
+      next = ap (λ o. front_of_message o bytes) is ∙ ap (λ (l : List ℕ). Ok (Some l)) (take_all (length bytes) bytes (omega arith));
       rest = ap (λ o. behind o bytes) is ∙ drop_all (length bytes) bytes (omega arith);
     }

@@ -6,7 +6,7 @@ use Rattle.of_types.specs.declared.message.Spoken.TheVariants as spoken
 use Rattle.of_types.specs.Sizes.{plain_size, extension_size}
 use Rattle.of_bytes.specs.Numbers.{four}
 use Rattle.of_messages.proofs.Written.{message_size as plain_has_size}
-use Rattle.of_ravana.specs.Canonical.{canonical, canonical_extension}
+use Rattle.of_ravana.specs.Canonical.{canonical_spoken, canonical_extension}
 use Rattle.of_ravana.proofs.Written.{extension_has_size}
 use Rattle.vr_log.specs.declared.entry.Entry.{Entry}
 use Rattle.vr_log.specs.declared.entry.Entry.TheVariants.{Received, Processed}
@@ -50,7 +50,7 @@ frame_below : (n : ℕ) → n ≤ 1514 → 4 + n ≤ 65535
 frame_below n le = omega (arith, le)
 
 pub bytes_sized : (m : Message) → IsValidMessage m → FitsMessage m → length (message_bytes m) ≡ message_size m
-unfolding canonical four
+unfolding canonical_spoken four
 bytes_sized (message.Of xid (spoken.Ravana said)) valid fits =
     plain_has_size xid (plain.Experimenter (canonical_extension said)) ∙ extension_has_size said ∙ below (extension_size said) 65535 (2 ^ 64 - 1) valid.1 (lit≤ tt)
 bytes_sized (message.Of xid (spoken.Plain (plain.Experimenter body))) valid fits = absurd valid

@@ -11,10 +11,11 @@ use Rattle.of_bytes.specs.Numbers.{number}
 use Rattle.journal.proofs.Lists.{past-push}
 use Rattle.capture_laws.specs.declared.shapes.Captured.{Captured}
 use Rattle.capture_laws.specs.declared.shapes.Fate.{Fate}
-use Rattle.capture_laws.specs.Fates.{Entry, comment_of, fate, fate_or_none, noted}
-use Rattle.capture_laws.specs.Packets.{captured, frame_at, with_entries, with_entry, with_frame, with_letter, with_letters}
+use Rattle.report.specs.Records.{ByteEntry}
+use Rattle.capture_laws.specs.Fates.{comment_of, fate, fate_or_none, noted}
+use Rattle.capture_laws.specs.Packets.{captured, frame_at, with_entries, with_packets_of_entry, with_frame, with_letter, with_packets_of_post}
 use Rattle.capture_laws.specs.Streams.{bytes_on, direction, joined, most_bytes, piece_of, segment, sequence, with_body}
-use Rattle.capture.specs.Tapes.{AreNextBytes, next_of}
+use Rattle.capture.specs.Tapes.{AreNextBytes, next_tape}
 use Rattle.capture_laws.proofs.Joining.{joined-push}
 
 -- what is changed at a number is what was known of that number
@@ -27,16 +28,16 @@ by_number id q old f = by_test (nat_eq id q) refl
     by_test false is = refl
 
 -- the past of an entry more
-past-take : (entries : List Entry) (i : ℕ) (d : Entry) → i < length entries → past (take (suc i) entries) ≡ get_or entries i d ∷ past (take i entries)
+past-take : (entries : List ByteEntry) (i : ℕ) (d : ByteEntry) → i < length entries → past (take (suc i) entries) ≡ get_or entries i d ∷ past (take i entries)
 past-take entries i d within = ap past (take-suc entries i d within) ∙ past-push (take i entries) (get_or entries i d)
 
-pub fates_more : (entries : List Entry) (i : ℕ) (e : Entry) (now new : ℕ → Option Fate) → i < length entries → e ≡ get_or entries i e →
+pub fates_more : (entries : List ByteEntry) (i : ℕ) (e : ByteEntry) (now new : ℕ → Option Fate) → i < length entries → e ≡ get_or entries i e →
     ((q : ℕ) → now q ≡ fate q (past (take i entries))) → ((q : ℕ) → new q ≡ noted q e (now q)) → (q : ℕ) → new q ≡ fate q (past (take (i + 1) entries))
 unfolding fate
 fates_more entries i e now new within is known step q =
     rw (add-one i, past-take entries i e within, sym is) (step q ∙ rw (known q) refl)
 
-pub next_put : (b : Bool) (n : ℕ) (old : Option ℕ) → next_of (cond b (Some n) old) ≡ cond b n (next_of old)
+pub next_put : (b : Bool) (n : ℕ) (old : Option ℕ) → next_tape (cond b (Some n) old) ≡ cond b n (next_tape old)
 next_put true n old = refl
 next_put false n old = refl
 
@@ -63,7 +64,7 @@ counted_frame next packets time switch port comment frame counted k =
     counted k ∙ sym (sequence-push k packets (frame_at time switch port comment frame) ∙ sequence-none k packets)
 
 pub counted_more : (old new : ℕ → Option ℕ) (packets : List Captured) (time : ℕ) (from to : Actor) (comment piece : List ℕ) (ends : Bool) → AreNextBytes old packets →
-    ((k : ℕ) → next_of (new k) ≡ cond (nat_eq (direction from to) k) ((next_of (old (direction from to)) + length piece) % 4294967296) (next_of (old k))) →
+    ((k : ℕ) → next_tape (new k) ≡ cond (nat_eq (direction from to) k) ((next_tape (old (direction from to)) + length piece) % 4294967296) (next_tape (old k))) →
     AreNextBytes new (packets ++ segment time from to comment piece ends packets ∷ [])
 counted_more old new packets time from to comment piece ends counted put k =
     put k ∙ by_test (nat_eq d k) refl ∙ sym (sequence-push k packets (segment time from to comment piece ends packets))
@@ -71,7 +72,7 @@ counted_more old new packets time from to comment piece ends counted put k =
     d : ℕ
     d = direction from to
 
-    by_test : (b : Bool) → nat_eq d k ≡ b → cond b ((next_of (old d) + length piece) % 4294967296) (next_of (old k)) ≡ (sequence k packets + length (cond b piece [])) % 4294967296
+    by_test : (b : Bool) → nat_eq d k ≡ b → cond b ((next_tape (old d) + length piece) % 4294967296) (next_tape (old k)) ≡ (sequence k packets + length (cond b piece [])) % 4294967296
     by_test true is =
         let same : d ≡ k = eqb-true d k is in
         ap (λ (n : ℕ). (n + length piece) % 4294967296) (counted d ∙ ap (λ (n : ℕ). sequence n packets) same)
@@ -113,26 +114,26 @@ pub drop_here : {A : Type 0} (xs : List A) (i : ℕ) (x : A) → i < length xs �
 drop_here {A} xs i x within is = rw (add-one i) (drop-cons xs i x within ∙ ap (λ (y : A). y ∷ drop (suc i) xs) (sym is))
 
 pub letters_step : (fates : ℕ → Option Fate) (time : ℕ) (from : Actor) (first room i : ℕ) (letters : List (Letter (List ℕ))) (l : Letter (List ℕ)) (packets : List Captured) →
-    i < length letters → l ≡ get_or letters i l → with_letters fates time from first room i (drop i letters) packets
-    ≡ with_letters fates time from first room (i + 1) (drop (i + 1) letters) (with_letter time from l.to (comment_of (first + i) (nat_lt i room) (fates (first + i))) l.body packets)
-unfolding with_letters
+    i < length letters → l ≡ get_or letters i l → with_packets_of_post fates time from first room i (drop i letters) packets
+    ≡ with_packets_of_post fates time from first room (i + 1) (drop (i + 1) letters) (with_letter time from l.to (comment_of (first + i) (nat_lt i room) (fates (first + i))) l.body packets)
+unfolding with_packets_of_post
 letters_step fates time from first room i letters l packets within is = rw (drop_here letters i l within is) refl
 
 pub letters_end : (fates : ℕ → Option Fate) (time : ℕ) (from : Actor) (first room i : ℕ) (letters : List (Letter (List ℕ))) (packets : List Captured) →
-    length letters ≤ i → with_letters fates time from first room i (drop i letters) packets ≡ packets
-unfolding with_letters
+    length letters ≤ i → with_packets_of_post fates time from first room i (drop i letters) packets ≡ packets
+unfolding with_packets_of_post
 letters_end fates time from first room i letters packets over = rw (drop_all i letters over) refl
 
-pub entries_step : (fates : ℕ → Option Fate) (i : ℕ) (journal : List Entry) (e : Entry) (packets : List Captured) → i < length journal → e ≡ get_or journal i e →
-    with_entries fates (i + 1) (drop i journal) packets ≡ with_entries fates (i + 1 + 1) (drop (i + 1) journal) (with_entry fates (i + 1) e packets)
+pub entries_step : (fates : ℕ → Option Fate) (i : ℕ) (journal : List ByteEntry) (e : ByteEntry) (packets : List Captured) → i < length journal → e ≡ get_or journal i e →
+    with_entries fates (i + 1) (drop i journal) packets ≡ with_entries fates (i + 1 + 1) (drop (i + 1) journal) (with_packets_of_entry fates (i + 1) e packets)
 unfolding with_entries
 entries_step fates i journal e packets within is = rw (drop_here journal i e within is) refl
 
-pub entries_end : (fates : ℕ → Option Fate) (time i : ℕ) (journal : List Entry) (packets : List Captured) → length journal ≤ i → with_entries fates time (drop i journal) packets ≡ packets
+pub entries_end : (fates : ℕ → Option Fate) (time i : ℕ) (journal : List ByteEntry) (packets : List Captured) → length journal ≤ i → with_entries fates time (drop i journal) packets ≡ packets
 unfolding with_entries
 entries_end fates time i journal packets over = rw (drop_all i journal over) refl
 
 -- what is known of letters, in another way
-pub same_fates : (now : ℕ → Option Fate) (journal : List Entry) → ((q : ℕ) → now q ≡ fate q (past journal)) → with_entries now 1 journal [] ≡ captured journal
+pub same_fates : (now : ℕ → Option Fate) (journal : List ByteEntry) → ((q : ℕ) → now q ≡ fate q (past journal)) → with_entries now 1 journal [] ≡ captured journal
 unfolding captured
 same_fates now journal same = ap (λ (f : ℕ → Option Fate). with_entries f 1 journal []) (λ i q. same q i)

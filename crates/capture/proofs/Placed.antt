@@ -6,23 +6,23 @@ use Rattle.capture.proofs.Noted.{drop_here}
 use Rattle.capture_laws.specs.declared.shapes.Captured.{Captured}
 use Rattle.capture_laws.specs.declared.shapes.Port.{Port}
 use Rattle.capture_laws.specs.Blocks.{interface_block}
-use Rattle.capture_laws.specs.Interfaces.{interfaces, packet, packets_of, place_of, port_name, ports_from, same_port, with_port}
+use Rattle.capture_laws.specs.Interfaces.{interfaces, packet, packets_of, interface_place_of, port_name, ports_from, same_port, with_packet_port}
 
 -- the first of those that are left
 drop_at_place : {A : Type 0} (xs : List A) (i : ℕ) (d : A) → i < length xs → drop i xs ≡ get_or xs i d ∷ drop (i + 1) xs
 drop_at_place xs i d within = rw (add-one i) (drop-cons xs i d within)
 
 pub place_here : (p q : Port) (ports : List Port) (i : ℕ) (b : Bool) → i < length ports → same_port p (get_or ports i q) ≡ b →
-    place_of p (drop i ports) ≡ cond b 0 (1 + place_of p (drop (i + 1) ports))
-unfolding place_of
+    interface_place_of p (drop i ports) ≡ cond b 0 (1 + interface_place_of p (drop (i + 1) ports))
+unfolding interface_place_of
 place_here p q ports i b within test = rw (drop_at_place ports i q within, test) refl
 
-pub place_none : (p : Port) (ports : List Port) (i : ℕ) → length ports ≤ i → place_of p (drop i ports) ≡ 0
-unfolding place_of
+pub place_none : (p : Port) (ports : List Port) (i : ℕ) → length ports ≤ i → interface_place_of p (drop i ports) ≡ 0
+unfolding interface_place_of
 place_none p ports i over = rw (drop_all i ports over) refl
 
 pub ports_step : (packets : List Captured) (i : ℕ) (p : Captured) (ports : List Port) → i < length packets → p ≡ get_or packets i p →
-    ports_from (drop i packets) ports ≡ ports_from (drop (i + 1) packets) (with_port p.way ports)
+    ports_from (drop i packets) ports ≡ ports_from (drop (i + 1) packets) (with_packet_port p.way ports)
 unfolding ports_from
 ports_step packets i p ports within is = rw (drop_here packets i p within is) refl
 

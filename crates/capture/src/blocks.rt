@@ -199,9 +199,9 @@ fn write_short(out: &mut Octets, code: u16, bytes: &[u8]) -> Result<(), AllocErr
     Ok(())
 }
 
-#[tactic(auto, unfolding(capture_laws::specs::Blocks::padded))]
+#[tactic(auto, unfolding(capture_laws::specs::Blocks::padded_block))]
 fn write_padded(out: &mut Octets, bytes: &[u8]) -> Result<(), AllocError>
-    ensures { OnOk result (out.new ≡ out.old ++ blocks.padded bytes.now) }
+    ensures { OnOk result (out.new ≡ out.old ++ blocks.padded_block bytes.now) }
 {
     out.append(bytes)?;
     write_padding(out, bytes.len())?;
@@ -209,9 +209,9 @@ fn write_padded(out: &mut Octets, bytes: &[u8]) -> Result<(), AllocError>
 }
 
 /// Adds zeros up to a multiple of four.
-#[tactic(auto, unfolding(capture_laws::specs::Blocks::padding, of_bytes::specs::Numbers::zeros))]
+#[tactic(auto, unfolding(capture_laws::specs::Blocks::block_padding, of_bytes::specs::Numbers::zeros))]
 fn write_padding(out: &mut Octets, count: usize) -> Result<(), AllocError>
-    ensures { OnOk result (out.new ≡ out.old ++ blocks.padding count) }
+    ensures { OnOk result (out.new ≡ out.old ++ blocks.block_padding count) }
 {
     out.append(&[0; 4][..(4 - count % 4) % 4])
 }

@@ -92,7 +92,7 @@ fn known(fates: &BTreeMap<u128, Fate>, id: u128) -> Fate
 }
 
 /// What tells of a letter by its number that it found no room.
-#[tactic(auto, unfolding(capture_laws::specs::Fates::roomless_words, report::specs::Report::number))]
+#[tactic(auto, unfolding(capture_laws::specs::Fates::roomless_words, report::specs::Report::number_text))]
 fn roomless(alloc: Global, id: u128) -> Result<Octets, AllocError>
     ensures { IfOk result (λ comment. comment ≡ roomless_words id) }
 {
@@ -102,7 +102,7 @@ fn roomless(alloc: Global, id: u128) -> Result<Octets, AllocError>
     Ok(comment)
 }
 
-#[tactic(auto, unfolding(capture_laws::specs::Fates::comment_of, report::specs::Report::number))]
+#[tactic(auto, unfolding(capture_laws::specs::Fates::comment_of, report::specs::Report::number_text))]
 fn told(alloc: Global, id: u128, fate: Fate) -> Result<Octets, AllocError>
     ensures { IfOk result (λ comment. comment ≡ comment_of id true (Some fate)) }
 {
@@ -123,7 +123,7 @@ fn write_kept(out: &mut Octets, kept: u64) -> Result<(), AllocError>
     Ok(())
 }
 
-#[tactic(auto, unfolding(capture_laws::specs::Fates::kept_times, report::specs::Report::number))]
+#[tactic(auto, unfolding(capture_laws::specs::Fates::kept_times, report::specs::Report::number_text))]
 fn write_times(out: &mut Octets, kept: u64) -> Result<(), AllocError>
     ensures { OnOk result (out.new ≡ out.old ++ told_times kept) }
 {

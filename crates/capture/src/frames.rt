@@ -182,7 +182,7 @@ fn ip_front(count: usize) -> Front<IP_FRONT>
 }
 
 /// What TCP sums beside a segment.
-#[tactic(auto, unfolding(capture_laws::specs::Frames::pseudo, capture_laws::specs::Frames::ends_of))]
+#[tactic(auto, unfolding(capture_laws::specs::Frames::pseudo, capture_laws::specs::Frames::frame_ends_of))]
 fn pseudo(from: Actor, to: Actor, count: usize) -> Front<PSEUDO>
     requires { count < 2 ^ 63 }
     ensures front { result ≡ frames.pseudo from to count }
@@ -196,9 +196,9 @@ fn pseudo(from: Actor, to: Actor, count: usize) -> Front<PSEUDO>
     pseudo
 }
 
-#[tactic(auto, unfolding(capture_laws::specs::Frames::ends_of))]
+#[tactic(auto, unfolding(capture_laws::specs::Frames::frame_ends_of))]
 fn ends_of(from: Actor, to: Actor) -> Front<ENDS>
-    ensures front { result ≡ frames.ends_of from to }
+    ensures front { result ≡ frames.frame_ends_of from to }
     ensures len { length result ≤ 20 }
 {
     let mut ends = Front::new();

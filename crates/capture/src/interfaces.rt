@@ -1,6 +1,6 @@
 //! The interfaces of a capture.
 ghost use Rattle.std.specs.Prelude.{◌≡◌, ◌≤◌, ◌++◌, length, IfOk, OnOk};
-ghost use Rattle.capture_laws.specs.Interfaces.{interface_of as number_of, interfaces, place_of as place_in, port_name as name_of, ports_of as ports_in, same_port, with_port};
+ghost use Rattle.capture_laws.specs.Interfaces.{interface_of as number_of, interfaces, interface_place_of as place_in, port_name as name_of, ports_of_packets as ports_in, same_port, with_packet_port};
 
 use crate::blocks::write_interface;
 use capture_laws::{Captured, Port, Way};
@@ -48,7 +48,7 @@ pub fn write_interfaces(out: &mut Octets, alloc: Global, ports: &[Port]) -> Resu
 
 /// Adds the port of a packet, if it is new.
 fn add_port(ports: &mut Items<Port>, way: Way) -> Result<(), AllocError>
-    ensures { OnOk result (ports.new ≡ with_port way ports.old) }
+    ensures { OnOk result (ports.new ≡ with_packet_port way ports.old) }
 {
     match way {
         Way::Frame(port) => {

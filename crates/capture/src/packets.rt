@@ -2,7 +2,7 @@
 ghost use Rattle.std.specs.Prelude.{◌≡◌, ◌+◌, ◌++◌, ◌∷◌, [], ℕ, nat_lt, IfOk, OnOk};
 ghost use Rattle.std.specs.BTreeMap.{get};
 ghost use Rattle.std.specs.Ordering.{nat_cmp};
-ghost use Rattle.capture_laws.specs.Packets.{captured as captured_of, frame_at, with_entry, with_frame, with_letter, with_letters};
+ghost use Rattle.capture_laws.specs.Packets.{captured as captured_of, frame_at, with_packets_of_entry, with_frame, with_letter, with_packets_of_post};
 ghost use Rattle.capture_laws.specs.Fates.{comment_of};
 ghost use Rattle.capture.specs.Tapes.{IsTape};
 
@@ -47,7 +47,7 @@ pub fn captured<'a>(
 }
 
 /// Adds what an entry posts, or a frame from a host.
-#[tactic(auto, unfolding(capture_laws::specs::Packets::with_entry))]
+#[tactic(auto, unfolding(capture_laws::specs::Packets::with_packets_of_entry))]
 fn add_entry<'a>(
     tape: &mut Tape<'a>,
     alloc: Global,
@@ -57,7 +57,7 @@ fn add_entry<'a>(
 ) -> Result<(), AllocError>
     requires { IsTape tape.old }
     ensures counted { OnOk result (IsTape tape.new) }
-    ensures added { OnOk result (tape.new.packets ≡ with_entry (get nat_cmp fates.now) time entry.now tape.old.packets) }
+    ensures added { OnOk result (tape.new.packets ≡ with_packets_of_entry (get nat_cmp fates.now) time entry.now tape.old.packets) }
 {
     match entry {
         JournalEntry::Post {
@@ -100,7 +100,7 @@ fn add_letters<'a>(
     requires { IsTape tape.old }
     ensures counted { OnOk result (IsTape tape.new) }
     ensures added { OnOk result (tape.new.packets
-        ≡ with_letters (get nat_cmp fates.now) posting.time posting.from posting.first posting.room 0 letters.now tape.old.packets) }
+        ≡ with_packets_of_post (get nat_cmp fates.now) posting.time posting.from posting.first posting.room 0 letters.now tape.old.packets) }
 {
     'letters: for (index, letter) in letters.iter().enumerate() {
         add_numbered(tape, alloc, fates, posting, index, letter)?;

@@ -4,7 +4,7 @@ ghost use Rattle.std.specs.BTreeMap.{get};
 ghost use Rattle.std.specs.Ordering.{nat_cmp};
 ghost use Rattle.capture_laws.specs.Streams as streams;
 ghost use Rattle.capture_laws.specs.Streams.{segment, with_body};
-ghost use Rattle.capture.specs.Tapes.{IsTape, next_behind, next_of};
+ghost use Rattle.capture.specs.Tapes.{IsTape, next_behind, next_tape};
 
 use capture_laws::{Captured, Piece, Way};
 use of_types::{Items, Octets};
@@ -125,7 +125,7 @@ fn push_segment<'a>(
 /// Counts bytes of a direction.
 fn count(next: &mut BTreeMap<u32, u32>, direction: u32, bytes: usize) -> Result<(), AllocError>
     requires { bytes < 2 ^ 32 }
-    ensures { OnOk result ((k : ℕ) → next_of (get nat_cmp next.new k) ≡ next_behind direction bytes (get nat_cmp next.old) k) }
+    ensures { OnOk result ((k : ℕ) → next_tape (get nat_cmp next.new k) ≡ next_behind direction bytes (get nat_cmp next.old) k) }
 {
     let number = u64::from(next_byte(next, direction)) + bytes as u64;
     next.insert(direction, (number % 4_294_967_296) as u32)?;
@@ -134,7 +134,7 @@ fn count(next: &mut BTreeMap<u32, u32>, direction: u32, bytes: usize) -> Result<
 
 /// The number of the next byte of a direction.
 fn next_byte(next: &BTreeMap<u32, u32>, direction: u32) -> u32
-    ensures { result ≡ next_of (get nat_cmp next.now direction) }
+    ensures { result ≡ next_tape (get nat_cmp next.now direction) }
 {
     match next.get(&direction) {
         Some(number) => *number,

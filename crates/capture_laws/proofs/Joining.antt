@@ -11,9 +11,10 @@ use Rattle.journal.specs.Pool.{past}
 use Rattle.of_bytes.specs.Numbers.{number}
 use Rattle.capture_laws.specs.declared.shapes.Captured.{Captured}
 use Rattle.capture_laws.specs.declared.shapes.Fate.{Fate}
-use Rattle.capture_laws.specs.Fates.{Entry, comment_of, fate}
+use Rattle.report.specs.Records.{ByteEntry}
+use Rattle.capture_laws.specs.Fates.{comment_of, fate}
 use Rattle.capture_laws.specs.Streams.{bytes_on, direction, joined, most_bytes, piece_of, segment, with_body}
-use Rattle.capture_laws.specs.Packets.{AreInSequence, IsInSequence, FitsPacket, bodies_on, body_on, captured, frame_at, posted_by, posted_on, with_entries, with_entry, with_letter, with_letters}
+use Rattle.capture_laws.specs.Packets.{AreInSequence, IsInSequence, FitsPacket, bodies_on, body_on, captured, frame_at, posted_by, posted_on, with_entries, with_packets_of_entry, with_letter, with_packets_of_post}
 
 pub joined-append : (k : ℕ) (xs ys : List Captured) → joined k (xs ++ ys) ≡ joined k xs ++ joined k ys
 unfolding joined
@@ -72,17 +73,17 @@ joined_letter k time (Controller c) (Switch t) comment body packets = joined_bod
 joined_letter k time (Controller c) (Controller d) comment body packets = joined_body k (length body) time (Controller c) (Controller d) comment body packets (omega arith)
 
 joined_letters : (k : ℕ) (fates : ℕ → Option Fate) (time : ℕ) (from : Actor) (first room index : ℕ) (letters : List (Letter (List ℕ))) (packets : List Captured) →
-    joined k (with_letters fates time from first room index letters packets) ≡ joined k packets ++ bodies_on k from letters
-unfolding with_letters bodies_on
+    joined k (with_packets_of_post fates time from first room index letters packets) ≡ joined k packets ++ bodies_on k from letters
+unfolding with_packets_of_post bodies_on
 joined_letters k fates time from first room index [] packets = sym (append-nil (joined k packets))
 joined_letters k fates time from first room index (l ∷ letters) packets =
     joined_letters k fates time from first room (index + 1) letters (with_letter time from l.to (comment_of (first + index) (nat_lt index room) (fates (first + index))) l.body packets)
     ∙ ap (λ (x : List ℕ). x ++ bodies_on k from letters) (joined_letter k time from l.to (comment_of (first + index) (nat_lt index room) (fates (first + index))) l.body packets)
     ∙ append_assoc (joined k packets) (body_on k from l.to l.body) (bodies_on k from letters)
 
-joined_entry : (k : ℕ) (fates : ℕ → Option Fate) (time : ℕ) (e : Entry) (packets : List Captured) →
-    joined k (with_entry fates time e packets) ≡ joined k packets ++ posted_by k e
-unfolding with_entry
+joined_entry : (k : ℕ) (fates : ℕ → Option Fate) (time : ℕ) (e : ByteEntry) (packets : List Captured) →
+    joined k (with_packets_of_entry fates time e packets) ≡ joined k packets ++ posted_by k e
+unfolding with_packets_of_entry
 joined_entry k fates time (Post actor first letters lost) packets = joined_letters k fates time actor first (length letters - lost) 0 letters packets
 joined_entry k fates time (Local (Switch s) (input.Frame port frame)) packets = joined-push k packets (frame_at time s port [] frame)
 joined_entry k fates time (Local actor input) packets = sym (append-nil (joined k packets))
@@ -91,16 +92,16 @@ joined_entry k fates time (Lose actor id) packets = sym (append-nil (joined k pa
 joined_entry k fates time (Idle actor) packets = sym (append-nil (joined k packets))
 joined_entry k fates time (Refused actor) packets = sym (append-nil (joined k packets))
 
-joined_entries : (k : ℕ) (fates : ℕ → Option Fate) (time : ℕ) (journal : List Entry) (packets : List Captured) →
+joined_entries : (k : ℕ) (fates : ℕ → Option Fate) (time : ℕ) (journal : List ByteEntry) (packets : List Captured) →
     joined k (with_entries fates time journal packets) ≡ joined k packets ++ posted_on k journal
 unfolding with_entries posted_on
 joined_entries k fates time [] packets = sym (append-nil (joined k packets))
 joined_entries k fates time (e ∷ journal) packets =
-    joined_entries k fates (time + 1) journal (with_entry fates time e packets)
+    joined_entries k fates (time + 1) journal (with_packets_of_entry fates time e packets)
     ∙ ap (λ (x : List ℕ). x ++ posted_on k journal) (joined_entry k fates time e packets)
     ∙ append_assoc (joined k packets) (posted_by k e) (posted_on k journal)
 
-pub joined_is_posted : (k : ℕ) (journal : List Entry) → joined k (captured journal) ≡ posted_on k journal
+pub joined_is_posted : (k : ℕ) (journal : List ByteEntry) → joined k (captured journal) ≡ posted_on k journal
 unfolding captured joined
 joined_is_posted k journal = joined_entries k (λ id. fate id (past journal)) 1 journal []
 
@@ -143,15 +144,15 @@ kept_letter P keep time (Controller c) (Switch t) comment body packets h = kept_
 kept_letter P keep time (Controller c) (Controller d) comment body packets h = kept_body P keep (length body) time (Controller c) (Controller d) comment body packets h
 
 kept_letters : (P : List Captured → Type 0) → IsKept P → (fates : ℕ → Option Fate) (time : ℕ) (from : Actor) (first room index : ℕ) (letters : List (Letter (List ℕ)))
-    (packets : List Captured) → P packets → P (with_letters fates time from first room index letters packets)
-unfolding with_letters
+    (packets : List Captured) → P packets → P (with_packets_of_post fates time from first room index letters packets)
+unfolding with_packets_of_post
 kept_letters P keep fates time from first room index [] packets h = h
 kept_letters P keep fates time from first room index (l ∷ letters) packets h =
     let comment = comment_of (first + index) (nat_lt index room) (fates (first + index)) in
     kept_letters P keep fates time from first room (index + 1) letters (with_letter time from l.to comment l.body packets) (kept_letter P keep time from l.to comment l.body packets h)
 
-kept_entry : (P : List Captured → Type 0) → IsKept P → (fates : ℕ → Option Fate) (time : ℕ) (e : Entry) (packets : List Captured) → P packets → P (with_entry fates time e packets)
-unfolding with_entry
+kept_entry : (P : List Captured → Type 0) → IsKept P → (fates : ℕ → Option Fate) (time : ℕ) (e : ByteEntry) (packets : List Captured) → P packets → P (with_packets_of_entry fates time e packets)
+unfolding with_packets_of_entry
 kept_entry P keep fates time (Post actor first letters lost) packets h = kept_letters P keep fates time actor first (length letters - lost) 0 letters packets h
 kept_entry P keep fates time (Local (Switch s) (input.Frame port frame)) packets h = keep.frames packets time s port [] frame h
 kept_entry P keep fates time (Local actor input) packets h = h
@@ -160,18 +161,18 @@ kept_entry P keep fates time (Lose actor id) packets h = h
 kept_entry P keep fates time (Idle actor) packets h = h
 kept_entry P keep fates time (Refused actor) packets h = h
 
-kept_entries : (P : List Captured → Type 0) → IsKept P → (fates : ℕ → Option Fate) (time : ℕ) (journal : List Entry) (packets : List Captured) → P packets →
+kept_entries : (P : List Captured → Type 0) → IsKept P → (fates : ℕ → Option Fate) (time : ℕ) (journal : List ByteEntry) (packets : List Captured) → P packets →
     P (with_entries fates time journal packets)
 unfolding with_entries
 kept_entries P keep fates time [] packets h = h
 kept_entries P keep fates time (e ∷ journal) packets h =
-    kept_entries P keep fates (time + 1) journal (with_entry fates time e packets) (kept_entry P keep fates time e packets h)
+    kept_entries P keep fates (time + 1) journal (with_packets_of_entry fates time e packets) (kept_entry P keep fates time e packets h)
 
-kept_all : (P : List Captured → Type 0) → IsKept P → P [] → (journal : List Entry) → P (captured journal)
+kept_all : (P : List Captured → Type 0) → IsKept P → P [] → (journal : List ByteEntry) → P (captured journal)
 unfolding captured
 kept_all P keep none journal = kept_entries P keep (λ id. fate id (past journal)) 1 journal [] none
 
-pub all_numbered : (journal : List Entry) → AreInSequence [] (captured journal)
+pub all_numbered : (journal : List ByteEntry) → AreInSequence [] (captured journal)
 all_numbered journal = kept_all (AreInSequence []) keep tt journal
   where
     keep : IsKept (AreInSequence [])
@@ -184,7 +185,7 @@ short-push : (xs : List Captured) (p : Captured) → AllByRecursion (λ x. FitsP
 short-push [] p h short = (short, tt)
 short-push (x ∷ xs) p h short = (h.0, short-push xs p h.1 short)
 
-pub all_short : (journal : List Entry) → AllByRecursion (λ p. FitsPacket p.way p.payload) (captured journal)
+pub all_short : (journal : List ByteEntry) → AllByRecursion (λ p. FitsPacket p.way p.payload) (captured journal)
 all_short journal = kept_all (AllByRecursion (λ p. FitsPacket p.way p.payload)) keep tt journal
   where
     keep : IsKept (AllByRecursion (λ p. FitsPacket p.way p.payload))

@@ -9,7 +9,7 @@ use Rattle.capture_laws.specs.declared.shapes.Port.{Port}
 use Rattle.capture_laws.specs.declared.shapes.Way.{Way}
 use Rattle.capture_laws.specs.declared.shapes.Way.TheVariants.{Segment, Frame}
 use Rattle.capture_laws.specs.Frames.{ip}
-use Rattle.capture_laws.specs.Interfaces.{interface_of, place_of, ports_from, ports_of, same_port, with_port}
+use Rattle.capture_laws.specs.Interfaces.{interface_of, interface_place_of, ports_from, ports_of_packets, same_port, with_packet_port}
 use Rattle.capture_laws.specs.Packets.{HasByte}
 use Rattle.capture_laws.specs.Streams.{direction, end_number}
 
@@ -46,14 +46,14 @@ addresses_apart (Switch s) (Switch t) p q e = ap (λ (n : ℕ). Switch n) (same_
 
 -- a port that is told of stays so
 abbrev IsThere : Port → List Port → Type 0
-IsThere p ports = place_of p ports < length ports
+IsThere p ports = interface_place_of p ports < length ports
 
 there-append : (p : Port) (xs ys : List Port) → IsThere p xs → IsThere p (xs ++ ys)
-unfolding place_of
+unfolding interface_place_of
 there-append p [] ys h = absurd (omega (arith, h))
 there-append p (q ∷ xs) ys h = by_test (same_port p q) h (λ k. there-append p xs ys k)
   where
-    by_test : (b : Bool) → cond b 0 (1 + place_of p xs) < length (q ∷ xs) → (IsThere p xs → IsThere p (xs ++ ys)) → cond b 0 (1 + place_of p (xs ++ ys)) < length (q ∷ xs ++ ys)
+    by_test : (b : Bool) → cond b 0 (1 + interface_place_of p xs) < length (q ∷ xs) → (IsThere p xs → IsThere p (xs ++ ys)) → cond b 0 (1 + interface_place_of p (xs ++ ys)) < length (q ∷ xs ++ ys)
     by_test true k others = omega arith
     by_test false k others = let more = others (omega (arith, k)) in omega (arith, more)
 
@@ -61,26 +61,26 @@ same_self : (p : Port) → same_port p p ≡ true
 same_self p = rw (eq-eqb p.switch p.switch refl, eq-eqb p.port p.port refl) refl
 
 there_now : (p : Port) (xs : List Port) → IsThere p (xs ++ p ∷ [])
-unfolding place_of
+unfolding interface_place_of
 there_now p [] = rw (same_self p) (omega arith)
 there_now p (q ∷ xs) = by_test (same_port p q) (there_now p xs)
   where
-    by_test : (b : Bool) → IsThere p (xs ++ p ∷ []) → cond b 0 (1 + place_of p (xs ++ p ∷ [])) < length (q ∷ xs ++ p ∷ [])
+    by_test : (b : Bool) → IsThere p (xs ++ p ∷ []) → cond b 0 (1 + interface_place_of p (xs ++ p ∷ [])) < length (q ∷ xs ++ p ∷ [])
     by_test true more = omega arith
     by_test false more = omega (arith, more)
 
-at_most : (p : Port) (xs : List Port) → place_of p xs ≤ length xs
-unfolding place_of
+at_most : (p : Port) (xs : List Port) → interface_place_of p xs ≤ length xs
+unfolding interface_place_of
 at_most p [] = omega arith
 at_most p (q ∷ xs) = by_test (same_port p q) (at_most p xs)
   where
-    by_test : (b : Bool) → place_of p xs ≤ length xs → cond b 0 (1 + place_of p xs) ≤ length (q ∷ xs)
+    by_test : (b : Bool) → interface_place_of p xs ≤ length xs → cond b 0 (1 + interface_place_of p xs) ≤ length (q ∷ xs)
     by_test true more = omega arith
     by_test false more = omega (arith, more)
 
-with_there : (p : Port) (way : Way) (ports : List Port) → IsThere p ports → IsThere p (with_port way ports)
+with_there : (p : Port) (way : Way) (ports : List Port) → IsThere p ports → IsThere p (with_packet_port way ports)
 with_there p (Segment from to sequence acknowledged ends) ports h = h
-with_there p (Frame q) ports h = by_test (nat_eq (place_of q ports) (length ports))
+with_there p (Frame q) ports h = by_test (nat_eq (interface_place_of q ports) (length ports))
   where
     by_test : (b : Bool) → IsThere p (cond b (ports ++ q ∷ []) ports)
     by_test true = there-append p ports (q ∷ []) h
@@ -89,29 +89,29 @@ with_there p (Frame q) ports h = by_test (nat_eq (place_of q ports) (length port
 kept_there : (p : Port) (packets : List Captured) (ports : List Port) → IsThere p ports → IsThere p (ports_from packets ports)
 unfolding ports_from
 kept_there p [] ports h = h
-kept_there p (x ∷ packets) ports h = kept_there p packets (with_port x.way ports) (with_there p x.way ports h)
+kept_there p (x ∷ packets) ports h = kept_there p packets (with_packet_port x.way ports) (with_there p x.way ports h)
 
-added_there : (q : Port) (ports : List Port) → IsThere q (with_port (Frame q) ports)
-added_there q ports = by_test (nat_eq (place_of q ports) (length ports)) refl
+added_there : (q : Port) (ports : List Port) → IsThere q (with_packet_port (Frame q) ports)
+added_there q ports = by_test (nat_eq (interface_place_of q ports) (length ports)) refl
   where
-    by_test : (b : Bool) → nat_eq (place_of q ports) (length ports) ≡ b → IsThere q (cond b (ports ++ q ∷ []) ports)
+    by_test : (b : Bool) → nat_eq (interface_place_of q ports) (length ports) ≡ b → IsThere q (cond b (ports ++ q ∷ []) ports)
     by_test true is = there_now q ports
-    by_test false is = let most = at_most q ports in let other = eqb-false (place_of q ports) (length ports) is in omega (arith, most, other)
+    by_test false is = let most = at_most q ports in let other = eqb-false (interface_place_of q ports) (length ports) is in omega (arith, most, other)
 
 -- the interface of a packet among those that are told of
 told_one : (way : Way) (packets : List Captured) (ports : List Port) →
-    interface_of (ports_from packets (with_port way ports)) way < 2 + length (ports_from packets (with_port way ports))
+    interface_of (ports_from packets (with_packet_port way ports)) way < 2 + length (ports_from packets (with_packet_port way ports))
 told_one (Segment (Controller c) (Controller d) sequence acknowledged ends) packets ports = omega arith
 told_one (Segment (Controller c) (Switch t) sequence acknowledged ends) packets ports = omega arith
 told_one (Segment (Switch s) (Controller d) sequence acknowledged ends) packets ports = omega arith
 told_one (Segment (Switch s) (Switch t) sequence acknowledged ends) packets ports = omega arith
-told_one (Frame q) packets ports = let there = kept_there q packets (with_port (Frame q) ports) (added_there q ports) in omega (arith, there)
+told_one (Frame q) packets ports = let there = kept_there q packets (with_packet_port (Frame q) ports) (added_there q ports) in omega (arith, there)
 
 all_told : (packets : List Captured) (ports : List Port) →
     AllByRecursion (λ x. interface_of (ports_from packets ports) x.way < 2 + length (ports_from packets ports)) packets
 unfolding ports_from
 all_told [] ports = tt
-all_told (x ∷ packets) ports = (told_one x.way packets ports, all_told packets (with_port x.way ports))
+all_told (x ∷ packets) ports = (told_one x.way packets ports, all_told packets (with_packet_port x.way ports))
 
-pub told : (packets : List Captured) → AllByRecursion (λ x. interface_of (ports_of packets) x.way < 2 + length (ports_of packets)) packets
+pub told : (packets : List Captured) → AllByRecursion (λ x. interface_of (ports_of_packets packets) x.way < 2 + length (ports_of_packets packets)) packets
 told packets = all_told packets []

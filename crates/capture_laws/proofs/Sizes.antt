@@ -5,7 +5,7 @@ use Rattle.std.specs.Prelude.{codes, replicate}
 use Rattle.of_bytes.specs.Numbers.{two, four, eight, zeros}
 use Rattle.capture_laws.specs.declared.shapes.Captured.{Captured}
 use Rattle.capture_laws.specs.declared.shapes.Port.{Port}
-use Rattle.capture_laws.specs.Blocks.{IsBlock, block, comment_option, cut, interface_block, interface_body, most_shown, option, option_of, packet_block, packet_body, padded, padding, section_block, section_body}
+use Rattle.capture_laws.specs.Blocks.{IsBlock, block, comment_option, cut, interface_block, interface_body, most_shown, option, option_of, packet_block, packet_body, padded_block, block_padding, section_block, section_body}
 use Rattle.capture_laws.specs.File.{AreBlocks, blocks_of, interfaces_in, packets_in}
 use Rattle.capture_laws.specs.Frames.{frame_of}
 use Rattle.capture_laws.specs.Interfaces.{capture_of, head, interface_of, interfaces, packet, packets_of, port_name}
@@ -40,18 +40,18 @@ sized_twos : (a b : ℕ) → IsSized (two a ++ two b) 4
 unfolding two
 sized_twos a b = record { even = refl; small = omega arith }
 
-length-padded : (xs : List ℕ) → length (padded xs) ≡ length xs + (4 - length xs % 4) % 4
-unfolding padded padding zeros
+length-padded : (xs : List ℕ) → length (padded_block xs) ≡ length xs + (4 - length xs % 4) % 4
+unfolding padded_block block_padding zeros
 length-padded xs = length-append xs (replicate ((4 - length xs % 4) % 4) 0) ∙ rw (length-replicate {A = ℕ} ((4 - length xs % 4) % 4) 0) refl
 
-sized_padded : (xs : List ℕ) (most : ℕ) → length xs ≤ most → IsSized (padded xs) (most + 3)
+sized_padded : (xs : List ℕ) (most : ℕ) → length xs ≤ most → IsSized (padded_block xs) (most + 3)
 sized_padded xs most h =
     record {
       even = rw (length-padded xs) (even-pad (length xs));
       small = rw (length-padded xs) (omega (arith, h));
     }
 
-length-option : (code : ℕ) (xs : List ℕ) → length (option_of code xs) ≡ 4 + length (padded xs)
+length-option : (code : ℕ) (xs : List ℕ) → length (option_of code xs) ≡ 4 + length (padded_block xs)
 unfolding option_of two
 length-option code xs = omega arith
 
@@ -59,7 +59,7 @@ sized_option_of : (code : ℕ) (xs : List ℕ) → length xs ≤ 65535 → IsSiz
 sized_option_of code xs h =
     let p = sized_padded xs 65535 h in
     record {
-      even = rw (length-option code xs) (even-add 4 (length (padded xs)) refl p.even);
+      even = rw (length-option code xs) (even-add 4 (length (padded_block xs)) refl p.even);
       small = rw (length-option code xs) (omega (arith, p.small));
     }
 
@@ -96,10 +96,10 @@ sized_packet interface time comment bytes =
     let moment = sized-append (four (time / 4294967296)) (four time) 4 4 (sized_four (time / 4294967296)) (sized_four time) in
     let front = sized-append (four interface) (four (time / 4294967296) ++ four time) 4 8 (sized_four interface) moment in
     let data_ = sized_padded shown 262144 (rw (length-take (min (length bytes) most_shown) bytes) (omega arith)) in
-    let told = sized-append (padded shown) (comment_option comment) 262147 65546 data_ (sized_comment comment) in
-    let lengths = sized-append (four (length bytes)) (padded shown ++ comment_option comment) 4 327693 (sized_four (length bytes)) told in
-    let rest = sized-append (four (length shown)) (four (length bytes) ++ (padded shown ++ comment_option comment)) 4 327697 (sized_four (length shown)) lengths in
-    let all = sized-append (four interface ++ (four (time / 4294967296) ++ four time)) (four (length shown) ++ (four (length bytes) ++ (padded shown ++ comment_option comment))) 12 327701 front rest in
+    let told = sized-append (padded_block shown) (comment_option comment) 262147 65546 data_ (sized_comment comment) in
+    let lengths = sized-append (four (length bytes)) (padded_block shown ++ comment_option comment) 4 327693 (sized_four (length bytes)) told in
+    let rest = sized-append (four (length shown)) (four (length bytes) ++ (padded_block shown ++ comment_option comment)) 4 327697 (sized_four (length shown)) lengths in
+    let all = sized-append (four interface ++ (four (time / 4294967296) ++ four time)) (four (length shown) ++ (four (length bytes) ++ (padded_block shown ++ comment_option comment))) 12 327701 front rest in
     record { even = all.even; small = omega (arith, all.small) }
 
 long : (n : ℕ) → length (four n) ≡ 4

@@ -2,7 +2,7 @@
 use Rattle.std.proofs.Common.{◌≡◌, ◌<◌, ◌%◌, ℕ, ◌+◌, Bool, true, List, [], ◌∷◌, ◌++◌, length, ap, ◌∙◌, arith}
 use Rattle.of_bytes.specs.Numbers.{two, four}
 use Rattle.journal.specs.declared.journal.Actor.{Actor}
-use Rattle.capture_laws.specs.Frames.{checksum, ends_of, ip_front, ip_head, pseudo, tcp, tcp_front, tcp_sum, word_sum}
+use Rattle.capture_laws.specs.Frames.{checksum, frame_ends_of, ip_front, ip_head, pseudo, tcp, tcp_front, tcp_sum, word_sum}
 
 -- whole words
 abbrev IsPaired : List ℕ → Type 0
@@ -37,7 +37,7 @@ pub ip_filled : (from to : Actor) (count : ℕ) → word_sum true (ip_head from 
 unfolding ip_head
 ip_filled from to count =
     let front : List ℕ = ip_front count in
-    let ends : List ℕ = ends_of from to in
+    let ends : List ℕ = frame_ends_of from to in
     let s : ℕ = word_sum true front + word_sum true ends in
     let spread : word_sum true (front ++ (two (checksum s) ++ ends)) ≡ s + checksum s =
     sum-append front (two (checksum s) ++ ends) (paired_front count) ∙ rw (sum-two (checksum s) ends (small_checksum s)) (regroup (word_sum true front) (word_sum true ends) (checksum s)) in

@@ -43,18 +43,18 @@ tcp_front from to sequence acknowledged ends =
 unfoldable pub ip_front : ℕ → List ℕ
 ip_front count = (two 0x4500 ++ two (40 + count)) ++ (two 0 ++ (two 0x4000 ++ two 0x4006))
 
-unfoldable pub ends_of : Actor → Actor → List ℕ
-ends_of from to = four (ip from) ++ four (ip to)
+unfoldable pub frame_ends_of : Actor → Actor → List ℕ
+frame_ends_of from to = four (ip from) ++ four (ip to)
 
 -- what TCP sums beside the segment
 unfoldable pub pseudo : Actor → Actor → ℕ → List ℕ
-pseudo from to count = ends_of from to ++ (two 6 ++ two (20 + count))
+pseudo from to count = frame_ends_of from to ++ (two 6 ++ two (20 + count))
 
 unfoldable pub ethernet : Actor → Actor → List ℕ
 ethernet from to = six (mac to) ++ (six (mac from) ++ two 0x0800)
 
 unfoldable pub ip_head : Actor → Actor → ℕ → List ℕ
-ip_head from to count = ip_front count ++ (two (checksum (word_sum true (ip_front count) + word_sum true (ends_of from to))) ++ ends_of from to)
+ip_head from to count = ip_front count ++ (two (checksum (word_sum true (ip_front count) + word_sum true (frame_ends_of from to))) ++ frame_ends_of from to)
 
 -- the sum of a segment with no checksum
 abbrev pub tcp_sum : Actor → Actor → ℕ → ℕ → Bool → List ℕ → ℕ

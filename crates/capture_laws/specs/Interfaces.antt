@@ -13,22 +13,22 @@ abbrev pub same_port : Port → Port → Bool
 same_port p q = nat_eq p.switch q.switch && nat_eq p.port q.port
 
 -- the place of a port among others: their number, where it is none of them
-unfoldable pub place_of : Port → List Port → ℕ
-place_of p [] = 0
-place_of p (q ∷ ports) = if same_port p q then 0 else 1 + place_of p ports
+unfoldable pub interface_place_of : Port → List Port → ℕ
+interface_place_of p [] = 0
+interface_place_of p (q ∷ ports) = if same_port p q then 0 else 1 + interface_place_of p ports
 
 -- ports, and the one of a packet if it is new
-abbrev pub with_port : Way → List Port → List Port
-with_port (Frame p) ports = if nat_eq (place_of p ports) (length ports) then ports ++ p ∷ [] else ports
-with_port (Segment from to sequence acknowledged ends) ports = ports
+abbrev pub with_packet_port : Way → List Port → List Port
+with_packet_port (Frame p) ports = if nat_eq (interface_place_of p ports) (length ports) then ports ++ p ∷ [] else ports
+with_packet_port (Segment from to sequence acknowledged ends) ports = ports
 
 unfoldable pub ports_from : List Captured → List Port → List Port
 ports_from [] ports = ports
-ports_from (p ∷ packets) ports = ports_from packets (with_port p.way ports)
+ports_from (p ∷ packets) ports = ports_from packets (with_packet_port p.way ports)
 
 -- the ports of packets, in the order of their first ones
-abbrev pub ports_of : List Captured → List Port
-ports_of packets = ports_from packets []
+abbrev pub ports_of_packets : List Captured → List Port
+ports_of_packets packets = ports_from packets []
 
 -- the number of the interface where a packet is seen
 abbrev pub interface_of : List Port → Way → ℕ
@@ -36,7 +36,7 @@ interface_of ports (Segment (Controller c) (Controller d) sequence acknowledged 
 interface_of ports (Segment (Controller c) (Switch t) sequence acknowledged ends) = 0
 interface_of ports (Segment (Switch s) (Controller d) sequence acknowledged ends) = 0
 interface_of ports (Segment (Switch s) (Switch t) sequence acknowledged ends) = 0
-interface_of ports (Frame p) = 2 + place_of p ports
+interface_of ports (Frame p) = 2 + interface_place_of p ports
 
 unfoldable pub port_name : Port → List ℕ
 port_name p = codes "s" ++ (decimal p.switch ++ (codes "-p" ++ decimal p.port))
@@ -61,4 +61,4 @@ unfoldable pub capture_of : List Port → List Captured → List ℕ
 capture_of ports packets = head ++ (interfaces ports ++ packets_of ports packets)
 
 abbrev pub pcapng_of : List Captured → List ℕ
-pcapng_of packets = capture_of (ports_of packets) packets
+pcapng_of packets = capture_of (ports_of_packets packets) packets

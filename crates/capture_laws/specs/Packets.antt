@@ -11,7 +11,8 @@ use Rattle.capture_laws.specs.declared.shapes.Captured.{Captured}
 use Rattle.capture_laws.specs.declared.shapes.Fate.{Fate}
 use Rattle.capture_laws.specs.declared.shapes.Way.{Way}
 use Rattle.capture_laws.specs.declared.shapes.Way.TheVariants.{Segment, Frame}
-use Rattle.capture_laws.specs.Fates.{Entry, comment_of, fate}
+use Rattle.report.specs.Records.{ByteEntry}
+use Rattle.capture_laws.specs.Fates.{comment_of, fate}
 use Rattle.capture_laws.specs.Streams.{direction, sequence, with_body}
 
 -- a frame at the port of a switch that takes it in
@@ -31,28 +32,28 @@ with_letter time (Controller c) (Switch t) comment body packets = with_body (len
 with_letter time (Controller c) (Controller d) comment body packets = with_body (length body) time (Controller c) (Controller d) comment body packets
 
 -- letters of a post, from this one on, of which so many find room
-unfoldable pub with_letters : (ℕ → Option Fate) → ℕ → Actor → ℕ → ℕ → ℕ → List (Letter (List ℕ)) → List Captured → List Captured
-with_letters fates time from first room index [] packets = packets
-with_letters fates time from first room index (l ∷ letters) packets =
-    with_letters fates time from first room (index + 1) letters (with_letter time from l.to (comment_of (first + index) (nat_lt index room) (fates (first + index))) l.body packets)
+unfoldable pub with_packets_of_post : (ℕ → Option Fate) → ℕ → Actor → ℕ → ℕ → ℕ → List (Letter (List ℕ)) → List Captured → List Captured
+with_packets_of_post fates time from first room index [] packets = packets
+with_packets_of_post fates time from first room index (l ∷ letters) packets =
+    with_packets_of_post fates time from first room (index + 1) letters (with_letter time from l.to (comment_of (first + index) (nat_lt index room) (fates (first + index))) l.body packets)
 
 -- an entry: what it posts, and a frame from a host
-unfoldable pub with_entry : (ℕ → Option Fate) → ℕ → Entry → List Captured → List Captured
-with_entry fates time (Post actor first letters lost) packets = with_letters fates time actor first (length letters - lost) 0 letters packets
-with_entry fates time (Local (Switch s) (input.Frame port frame)) packets = packets ++ frame_at time s port [] frame ∷ []
-with_entry fates time (Local actor input) packets = packets
-with_entry fates time (Draw actor id keep) packets = packets
-with_entry fates time (Lose actor id) packets = packets
-with_entry fates time (Idle actor) packets = packets
-with_entry fates time (Refused actor) packets = packets
+unfoldable pub with_packets_of_entry : (ℕ → Option Fate) → ℕ → ByteEntry → List Captured → List Captured
+with_packets_of_entry fates time (Post actor first letters lost) packets = with_packets_of_post fates time actor first (length letters - lost) 0 letters packets
+with_packets_of_entry fates time (Local (Switch s) (input.Frame port frame)) packets = packets ++ frame_at time s port [] frame ∷ []
+with_packets_of_entry fates time (Local actor input) packets = packets
+with_packets_of_entry fates time (Draw actor id keep) packets = packets
+with_packets_of_entry fates time (Lose actor id) packets = packets
+with_packets_of_entry fates time (Idle actor) packets = packets
+with_packets_of_entry fates time (Refused actor) packets = packets
 
 -- entries, numbered from there on
-unfoldable pub with_entries : (ℕ → Option Fate) → ℕ → List Entry → List Captured → List Captured
+unfoldable pub with_entries : (ℕ → Option Fate) → ℕ → List ByteEntry → List Captured → List Captured
 with_entries fates time [] packets = packets
-with_entries fates time (e ∷ journal) packets = with_entries fates (time + 1) journal (with_entry fates time e packets)
+with_entries fates time (e ∷ journal) packets = with_entries fates (time + 1) journal (with_packets_of_entry fates time e packets)
 
 -- the packets of a journal; its first entry has the number 1
-unfoldable pub captured : List Entry → List Captured
+unfoldable pub captured : List ByteEntry → List Captured
 captured journal = with_entries (λ id. fate id (past journal)) 1 journal []
 
 -- what is posted in a direction: the bodies of its letters in order, the lost ones too
@@ -66,7 +67,7 @@ unfoldable pub bodies_on : ℕ → Actor → List (Letter (List ℕ)) → List �
 bodies_on k from [] = []
 bodies_on k from (l ∷ letters) = body_on k from l.to l.body ++ bodies_on k from letters
 
-abbrev pub posted_by : ℕ → Entry → List ℕ
+abbrev pub posted_by : ℕ → ByteEntry → List ℕ
 posted_by k (Post actor first letters lost) = bodies_on k actor letters
 posted_by k (Draw actor id keep) = []
 posted_by k (Lose actor id) = []
@@ -74,7 +75,7 @@ posted_by k (Local actor input) = []
 posted_by k (Idle actor) = []
 posted_by k (Refused actor) = []
 
-unfoldable pub posted_on : ℕ → List Entry → List ℕ
+unfoldable pub posted_on : ℕ → List ByteEntry → List ℕ
 posted_on k [] = []
 posted_on k (e ∷ journal) = posted_by k e ++ posted_on k journal
 

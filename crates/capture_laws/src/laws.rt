@@ -5,20 +5,20 @@ ghost use Rattle.journal.specs.declared.journal.Actor.{Actor};
 ghost use Rattle.capture_laws.specs.Frames.{ip, ip_head, segment_sum, word_sum};
 ghost use Rattle.capture_laws.specs.declared.shapes.Captured.{Captured};
 ghost use Rattle.capture_laws.specs.declared.shapes.Port.{Port};
-ghost use Rattle.capture_laws.specs.Fates.{Entry};
+ghost use Rattle.report.specs.Records.{ByteEntry};
 ghost use Rattle.capture_laws.specs.File.{AreBlocks, blocks_of};
-ghost use Rattle.capture_laws.specs.Interfaces.{capture_of, interface_of, ports_of};
+ghost use Rattle.capture_laws.specs.Interfaces.{capture_of, interface_of, ports_of_packets};
 ghost use Rattle.capture_laws.specs.Packets.{AreInSequence, HasByte, FitsPacket, captured, posted_on};
 ghost use Rattle.capture_laws.specs.Streams.{direction, joined};
 
 /// What the streams of a journal's capture say.
 pub fn streams_law()
     // The payloads of a direction, joined, are the bodies of the letters that are posted there, in order.
-    ensures joined { (k : ℕ) (journal : List Entry) → joined k (captured journal) ≡ posted_on k journal }
+    ensures joined { (k : ℕ) (journal : List ByteEntry) → joined k (captured journal) ≡ posted_on k journal }
     // A segment's numbers are one more than the bytes of their directions before it, counted round.
-    ensures numbered { (journal : List Entry) → AreInSequence [] (captured journal) }
+    ensures numbered { (journal : List ByteEntry) → AreInSequence [] (captured journal) }
     // A segment has at most 65,495 bytes.
-    ensures short { (journal : List Entry) → AllByRecursion (λ p. FitsPacket p.way p.payload) (captured journal) }
+    ensures short { (journal : List ByteEntry) → AllByRecursion (λ p. FitsPacket p.way p.payload) (captured journal) }
     // The directions between actors of one byte are apart.
     ensures apart { (a b c d : Actor) → HasByte a → HasByte b → HasByte c → HasByte d → direction a b ≡ direction c d → (a ≡ c) × (b ≡ d) }
     // So are the addresses of such actors.
@@ -29,7 +29,7 @@ pub fn streams_law()
 pub fn blocks_law()
     ensures blocks { (ports : List Port) (packets : List Captured) → AreBlocks (blocks_of ports packets) (capture_of ports packets) }
     // A packet is seen at one of the interfaces before it: two, and one for each port.
-    ensures told { (packets : List Captured) → AllByRecursion (λ p. interface_of (ports_of packets) p.way < 2 + length (ports_of packets)) packets }
+    ensures told { (packets : List Captured) → AllByRecursion (λ p. interface_of (ports_of_packets packets) p.way < 2 + length (ports_of_packets packets)) packets }
 {}
 
 /// What the checksums of a segment's heads are: with them the words sum to a multiple of 65,535.

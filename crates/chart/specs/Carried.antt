@@ -17,13 +17,13 @@ use Rattle.chart.specs.declared.shapes.Carried.{Carried}
 use Rattle.chart.specs.declared.shapes.Carried.TheVariants.{Spoken, Member, Frame, Unread}
 
 -- a message of the extension, which is read from the body of an EXPERIMENTER
-abbrev pub extension_said : ℕ → Result Extension Refusal → Carried
-extension_said bytes (Ok said) = Spoken (spoken.Ravana said)
-extension_said bytes (Err refusal) = Unread bytes
+abbrev pub carried_extension : ℕ → Result Extension Refusal → Carried
+carried_extension bytes (Ok said) = Spoken (spoken.Ravana said)
+carried_extension bytes (Err refusal) = Unread bytes
 
 -- between a controller and a switch
 abbrev pub message_said : ℕ → Result OfMessage Refusal → Carried
-message_said bytes (Ok (plain.Experimenter body)) = extension_said bytes (extension_at body)
+message_said bytes (Ok (plain.Experimenter body)) = carried_extension bytes (extension_at body)
 message_said bytes (Ok said) = Spoken (spoken.Plain said)
 message_said bytes (Err refusal) = Unread bytes
 
@@ -33,12 +33,12 @@ member_said bytes (Ok said) = Member said
 member_said bytes (Err refusal) = Unread bytes
 
 -- between two switches: the port that receives the frame, and the frame
-abbrev pub frame_said : List ℕ → Carried
-frame_said bytes = if nat_lt (length bytes) 4 then Unread (length bytes) else Frame (number 4 0 bytes) (length bytes - 4)
+abbrev pub carried_frame : List ℕ → Carried
+carried_frame bytes = if nat_lt (length bytes) 4 then Unread (length bytes) else Frame (number 4 0 bytes) (length bytes - 4)
 
 -- what a body says that the first actor sends to the second
 unfoldable pub carried_by : Actor → Actor → List ℕ → Carried
 carried_by (Controller c) (Controller d) bytes = member_said (length bytes) (vr_at bytes)
 carried_by (Controller c) (Switch s) bytes = message_said (length bytes) (message_at bytes)
 carried_by (Switch s) (Controller c) bytes = message_said (length bytes) (message_at bytes)
-carried_by (Switch s) (Switch t) bytes = frame_said bytes
+carried_by (Switch s) (Switch t) bytes = carried_frame bytes

@@ -3,7 +3,7 @@ ghost use Rattle.std.specs.Prelude.{◌≡◌, length, IfOk};
 ghost use Rattle.of_messages.specs.Reading.{message_at};
 ghost use Rattle.of_ravana.specs.Reading.{extension_at};
 ghost use Rattle.vr_codec.specs.Reading.{vr_at};
-ghost use Rattle.chart.specs.Carried.{carried_by, extension_said, frame_said, member_said, message_said};
+ghost use Rattle.chart.specs.Carried.{carried_by, carried_extension, carried_frame, member_said, message_said};
 
 use crate::shapes::Carried;
 use of_bytes::u32_at;
@@ -19,7 +19,7 @@ const PORT: usize = 4;
 
 /// What an EXPERIMENTER of so many bytes says with this body.
 fn experimenter(alloc: Global, body: &[u8], bytes: usize) -> Result<Carried, AllocError>
-    ensures { IfOk result (λ carried. carried ≡ extension_said bytes (extension_at body.now)) }
+    ensures { IfOk result (λ carried. carried ≡ carried_extension bytes (extension_at body.now)) }
 {
     match decode_extension(alloc, body) {
         Ok(said) => Ok(Carried::Spoken(Spoken::Ravana(said))),
@@ -52,7 +52,7 @@ fn member(alloc: Global, body: &[u8]) -> Result<Carried, AllocError>
 }
 
 fn on_link(body: &[u8]) -> Carried
-    ensures { result ≡ frame_said body.now }
+    ensures { result ≡ carried_frame body.now }
 {
     if body.len() < PORT {
         return Carried::Unread { bytes: body.len() };

@@ -3,8 +3,9 @@ ghost use Rattle.std.specs.Prelude.{◌≡◌, ◌<◌, ◌^◌, ℕ, List, leng
 ghost use Rattle.std.specs.BTreeMap.{get};
 ghost use Rattle.std.specs.Option.{option_map, option_or};
 ghost use Rattle.std.specs.Ordering.{nat_cmp};
-ghost use Rattle.journal.specs.Pool.{numbered, past};
-ghost use Rattle.chart.specs.Arrows.{Entry, arrow_of, arrow_to as arrow_in, arrows as arrows_of, posted, sent as newest, sent_among};
+ghost use Rattle.journal.specs.Pool.{numbered_letters, past};
+ghost use Rattle.report.specs.Records.{ByteEntry};
+ghost use Rattle.chart.specs.Arrows.{arrow_of, arrow_to as arrow_in, arrows as arrows_of, packets_posted, sent as newest, sent_among};
 
 use crate::bodies::carried;
 use crate::shapes::{Arrow, End};
@@ -29,7 +30,7 @@ fn note_letters(
     first: u64,
     letters: &[Letter<Octets>],
 ) -> Result<(), AllocError>
-    ensures { OnOk result ((id : ℕ) → get nat_cmp sent.new id ≡ option_or (sent_among id place (numbered first sender letters.now)) (get nat_cmp sent.old id)) }
+    ensures { OnOk result ((id : ℕ) → get nat_cmp sent.new id ≡ option_or (sent_among id place (numbered_letters first sender letters.now)) (get nat_cmp sent.old id)) }
 {
     'letters: for (index, letter) in letters.iter().enumerate() {
         let id = u128::from(first) + index as u128;
@@ -52,7 +53,7 @@ fn note_posted(
     place: usize,
     entry: &JournalEntry<Octets>,
 ) -> Result<(), AllocError>
-    ensures { OnOk result ((id : ℕ) → get nat_cmp sent.new id ≡ option_or (sent_among id place (posted entry.now)) (get nat_cmp sent.old id)) }
+    ensures { OnOk result ((id : ℕ) → get nat_cmp sent.new id ≡ option_or (sent_among id place (packets_posted entry.now)) (get nat_cmp sent.old id)) }
 {
     match entry {
         JournalEntry::Post {
@@ -102,7 +103,7 @@ fn arrow_to(
     place: usize,
     entry: &JournalEntry<Octets>,
 ) -> Result<Option<Arrow>, AllocError>
-    ensures { (before : List Entry) → length before ≡ place → ((id : ℕ) → get nat_cmp sent.now id ≡ newest id before) → IfOk result (λ arrow. arrow ≡ arrow_in entry.now before) }
+    ensures { (before : List ByteEntry) → length before ≡ place → ((id : ℕ) → get nat_cmp sent.now id ≡ newest id before) → IfOk result (λ arrow. arrow ≡ arrow_in entry.now before) }
 {
     match *entry {
         JournalEntry::Draw { actor, id, keep } => {

@@ -24,14 +24,14 @@ use Rattle.world.specs.World.{Holds, Worlding, results_in, scene_in}
 use Rattle.world.proofs.Growing.{no_more}
 use Rattle.closing.specs.declared.closed.Closed.{Closed}
 use Rattle.closing.specs.declared.closed.Closed.TheVariants as closed
-use Rattle.closing.specs.Closing.{HasClosed, HasEnded, HasReason, answer_of}
+use Rattle.closing.specs.Closing.{HasClosed, HasEnded, HasReason, closing_answer_of}
 use Rattle.closing.proofs.Leading.{runs_again}
 use Rattle.closing.proofs.Turned.{past_joined}
 use Rattle.closing.proofs.Worlds.{Runs}
 
 module _ {B A : Type 0} (law : AppLaw A) (sealing : Sealing B) (faithful : IsFaithful sealing) (start now : Worlding B A) (kinds : List ℕ)
     (same : now.setup ≡ start.setup) (holds : Holds law sealing now kinds) (within : IsWithinLimits sealing.size (past now.journal))
-    (ended : Closed) (has : HasClosed (scene_in sealing start kinds) (answer_of ended) start now) where
+    (ended : Closed) (has : HasClosed (scene_in sealing start kinds) (closing_answer_of ended) start now) where
   abbrev OfRun : Scene B
   OfRun = scene_in sealing start kinds
 
@@ -44,7 +44,7 @@ module _ {B A : Type 0} (law : AppLaw A) (sealing : Sealing B) (faithful : IsFai
   whole : past now.journal ≡ reverse has.entries ++ past start.journal
   whole = ap past has.joined ∙ past_joined start.journal has.entries
 
-  closes : Closes OfRun Results (past start.journal) has.entries (answer_of ended)
+  closes : Closes OfRun Results (past start.journal) has.entries (closing_answer_of ended)
   closes = has.closes Results (no_more start.setup.controllers Results)
 
   possible : IsPossible OfRun Results (reverse has.entries ++ past start.journal)
@@ -58,7 +58,7 @@ module _ {B A : Type 0} (law : AppLaw A) (sealing : Sealing B) (faithful : IsFai
   of_closing claim proved saved =
       proved OfRun Results (past start.journal) has.entries closes.last runs.setup faithful holds.few possible saved within_limits closes.steps closes.posted
 
-  reason_by : (e : Closed) → Closes OfRun Results (past start.journal) has.entries (answer_of e) → HasReason e OfRun Results (past start.journal) (past now.journal)
+  reason_by : (e : Closed) → Closes OfRun Results (past start.journal) has.entries (closing_answer_of e) → HasReason e OfRun Results (past start.journal) (past now.journal)
   reason_by (closed.Done primary) c =
       subst (λ (l : List (JournalEntry B)). HasRested OfRun Results primary l) (sym whole)
       (rest_law OfRun Results (past start.journal) has.entries primary runs.setup faithful holds.few (subst (λ (l : List (JournalEntry B)). IsLegalPast OfRun Results l) whole runs.legal) c within_limits)

@@ -15,7 +15,7 @@ use Rattle.journal.specs.declared.wire.Stop.{Stop}
 use Rattle.journal.specs.declared.wire.Stop.TheVariants.{OutOfMemory, JournalFull}
 use Rattle.journal.specs.Actors.{actor_of, is_input, IsActor}
 use Rattle.journal.specs.Limits.{letters_limit}
-use Rattle.journal.specs.Pool.{past, pool, without, numbered, fitting, letters_posted}
+use Rattle.journal.specs.Pool.{past, pool, without, numbered_letters, fitting, letters_posted}
 use Rattle.journal.specs.Refusals.{MayBeRefused}
 use Rattle.journal.specs.Turns.{entry_of, turn_actor}
 use Rattle.journal.proofs.Lists.{past-push}
@@ -24,11 +24,11 @@ use Rattle.app_core.specs.Law.{AppLaw}
 use Rattle.run_spec.specs.States.{Scene, Sealing}
 use Rattle.run_spec.specs.Schedule.{Losing, Phase, ClosesTo, IsMove, after_move, next_move}
 use Rattle.world.specs.Debts.{Debt}
-use Rattle.world.specs.Refusals.{IsHalted, IsRefusal, IsRefused, None_stands, One_stands, Posted, Turned_down, TurnStops, Unchanged, Unposted}
+use Rattle.world.specs.Refusals.{IsHalted, IsRefusalBehind, IsRefused, None_stands, One_stands, Posted, Turned_down, TurnStops, Unchanged, Unposted}
 use Rattle.world.specs.World.{AreMore, Applies, Holds, IsStuck, Keeps, PairsStand, Worlding, results_in, scene_in, taken, with_posts}
 use Rattle.world.proofs.Growing.{more_then}
 use Rattle.run_laws.specs.Laws.{EntrySuspectsUpTo, IsSuspectedUpTo}
-use Rattle.closing.specs.Closing.{ClosesIn, IsHaltedAt, LeadsTo, Rests, Stage, StandsAt, work_left}
+use Rattle.closing.specs.Closing.{ClosesIn, IsHaltedAt, LeadsTo, Rests, Stage, ClosingStandsAt, work_left}
 use Rattle.closing.proofs.Worlds.{Runs, posted_is}
 use Rattle.closing.proofs.Turned.{PostsOf, No_post, One_post, Added, added, added_alone, cut_turn, joins, more_before, Turned, more_told, one_move, owed_nothing, past_added, past_joined, same_self}
 use Rattle.closing.proofs.Moves.{First}
@@ -120,7 +120,7 @@ module _ {B A W : Type 0} (law : AppLaw A) (saving : Saving W) (sealing : Sealin
     behind : old.journal ++ e ∷ [] ≡ start.journal ++ moved
     behind = ap (λ l. l ++ e ∷ []) m.closes.joined ∙ append_assoc start.journal m.closes.entries (e ∷ [])
 
-    refusal_is : IsRefusal (e ∷ past old.journal) (Refused (actor_of e) ∷ [])
+    refusal_is : IsRefusalBehind (e ∷ past old.journal) (Refused (actor_of e) ∷ [])
     refusal_is = One_stands (actor_of e) (subst (λ (l : List (JournalEntry B)). MayBeRefused l) (ap past taken_is ∙ past-push old.journal e) r.input) (input, same_self scene [] (actor_of e))
 
     before : (later : List (List SaveResult)) → AreMore scene.setup.controllers (results_in new.controllers) later → AreMore scene.setup.controllers (results_in old.controllers) later
@@ -133,7 +133,7 @@ module _ {B A W : Type 0} (law : AppLaw A) (saving : Saving W) (sealing : Sealin
       entries = moved;
       refusal = Refused (actor_of e) ∷ [];
       joined = r.journal ∙ ap (λ l. l ++ Refused (turn_actor step) ∷ []) (taken_is ∙ behind) ∙ ap (λ a. (start.journal ++ moved) ++ Refused a ∷ []) mine;
-      refused = subst (λ (l : List (JournalEntry B)). IsRefusal l (Refused (actor_of e) ∷ [])) (sym (past-push old.journal e) ∙ ap past behind) refusal_is;
+      refused = subst (λ (l : List (JournalEntry B)). IsRefusalBehind l (Refused (actor_of e) ∷ [])) (sym (past-push old.journal e) ∙ ap past behind) refusal_is;
       begins = λ later more.
           let was = before later more in (
             after_move scene later e (past old.journal) m.next,
@@ -156,7 +156,7 @@ module _ {B A W : Type 0} (law : AppLaw A) (saving : Saving W) (sealing : Sealin
       (cut kinds (turned_by kinds holds k (added_alone sealing.size step old new rested u.journal)) start m)
 
   pub stop_leads : {T : Type 0} (first : Stage B A) (next : T → Stage B A) → Moves first → (stop : Stop) → Keeps law saving sealing old stables new stables_after →
-      TurnStops sealing.size step old new stop → LeadsTo law sealing first (StandsAt next (Err stop)) old new
+      TurnStops sealing.size step old new stop → LeadsTo law sealing first (ClosingStandsAt next (Err stop)) old new
   stop_leads first next moves OutOfMemory k stops kinds holds start c = halts kinds holds k start (moves kinds holds start c) stops
   stop_leads first next moves (JournalFull bytes letters) k (stuck, inl same) kinds holds start c = absurd (never_stuck bytes letters stuck same)
   stop_leads first next moves (JournalFull bytes letters) k (stuck, inr grown) kinds holds start c =
@@ -171,7 +171,7 @@ module _ {B A W : Type 0} (law : AppLaw A) (saving : Saving W) (sealing : Sealin
   pub turn_leads : {T : Type 0} (first : Stage B A) (next : T → Stage B A) → Moves first →
       ((x : T) (kinds : List ℕ) → Turned law (scene_in sealing old kinds) e old new → (start : Worlding B A) → first (scene_in sealing old kinds) start old → next x (scene_in sealing old kinds) start new) →
       (result : Result T Stop) → OnOk result (Applies sealing.size step old new) → Keeps law saving sealing old stables new stables_after →
-      IfErr result (λ stop. TurnStops sealing.size step old new stop) → LeadsTo law sealing first (StandsAt next result) old new
+      IfErr result (λ stop. TurnStops sealing.size step old new stop) → LeadsTo law sealing first (ClosingStandsAt next result) old new
   turn_leads first next moves goes (Ok x) t k stops kinds holds start c = goes x kinds (turned kinds holds k t) start c
   turn_leads first next moves goes (Err stop) t k stops kinds holds start c = stop_leads first next moves stop k stops kinds holds start c
 
@@ -195,7 +195,7 @@ module _ {B A W : Type 0} (law : AppLaw A) (saving : Saving W) (sealing : Sealin
   on_rests limit suspects (Err stop) t = tt
 
 -- letters that are posted wait, or not
-length-numbered : {B : Type 0} (n : ℕ) (a : Actor) (letters : List (Letter B)) → length (numbered n a letters) ≡ length letters
+length-numbered : {B : Type 0} (n : ℕ) (a : Actor) (letters : List (Letter B)) → length (numbered_letters n a letters) ≡ length letters
 length-numbered n a [] = refl
 length-numbered n a (l ∷ letters) = ap (λ k. suc k) (length-numbered (n + 1) a letters)
 
@@ -213,7 +213,7 @@ filter_short p [] = omega arith
 filter_short p (x ∷ xs) = kept_short (p x) x (filter p xs) xs (filter_short p xs)
 
 fitting_few : {B : Type 0} (n : ℕ) (a : Actor) (letters : List (Letter B)) (lost : ℕ) → length (fitting n a letters lost) ≤ length letters
-fitting_few n a letters lost = omega (arith, take_short (length letters - lost) (numbered n a letters), length-numbered n a letters)
+fitting_few n a letters lost = omega (arith, take_short (length letters - lost) (numbered_letters n a letters), length-numbered n a letters)
 
 without_first : {B : Type 0} (p : Packet B) (others : List (Packet B)) → length (without p.id (p ∷ others)) ≤ length others
 without_first p others = rw (eq-eqb p.id p.id refl) (filter_short (λ q. not (nat_eq q.id p.id)) others)

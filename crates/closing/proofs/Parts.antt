@@ -26,7 +26,7 @@ use Rattle.group_controller.specs.State.{ControllerState}
 use Rattle.group_controller.specs.Turns.{state_of}
 use Rattle.run_spec.specs.States.{Scene, Sealing}
 use Rattle.run_spec.specs.Committed.{members_up, states_of}
-use Rattle.run_spec.specs.Schedule.{Phase, Losing, Met, Move, Answer, Ends, IsPosted, IsEnd, closing_view, majority, quorum_of, next_drained, next_lost, next_move, next_suspicion, next_view, ClosesTo}
+use Rattle.run_spec.specs.Schedule.{Phase, Losing, Met, ClosingMove, ClosingAnswer, Ends, IsPosted, IsEnd, closing_view, majority, quorum_of, next_drained, next_lost, next_move, next_suspicion, next_view, ClosesTo}
 use Rattle.run_spec.specs.Schedule as schedule
 use Rattle.world.specs.Debts.{Debt}
 use Rattle.world.specs.World.{AreMore, AreTold, Holds, IsDebtor, Keeps, PairsStand, PostStops, Worlding, posts_of, results_in, scene_in}
@@ -35,7 +35,7 @@ use Rattle.closing.specs.declared.closed.Came.{Came}
 use Rattle.closing.specs.declared.closed.Came.TheVariants as came
 use Rattle.run_laws.specs.Laws.{IsSuspectedUpTo, SuspectsUpTo}
 use Rattle.closing_laws.proofs.Start.Walking.{seven_at_most}
-use Rattle.closing.specs.Closing.{CameTo, ClosesIn, ClosingStops, Drained, EndsBy, HasClosed, IsCutAt, IsHaltedAt, is_over, LeadsTo, Rests, Stage, StandsAt, states_in, Suspects, up_in}
+use Rattle.closing.specs.Closing.{CameTo, ClosesIn, ClosingStops, Drained, EndsBy, HasClosed, IsCutAt, IsHaltedAt, is_over, LeadsTo, Rests, Stage, ClosingStandsAt, states_in, Suspects, up_in}
 use Rattle.closing.specs.Views.{views_of_an_attempt}
 use Rattle.closing.proofs.Worlds.{Runs, posted_is, states_are}
 use Rattle.closing.proofs.Leading.{halted_in}
@@ -64,7 +64,7 @@ over_came stage other came.ToRest scene start now h c = cc
 over_came stage other came.ToAFailedSave scene start now h c = c
 over_came stage other (came.ToTheLimit limit) scene start now h c = c
 
-pub same_stop : (T U : Type 0) {B A : Type 0} (stage : T → Stage B A) (other : U → Stage B A) (stop : Stop) (scene : Scene B) (start now : Worlding B A) → StandsAt stage (Err stop) scene start now → StandsAt other (Err stop) scene start now
+pub same_stop : (T U : Type 0) {B A : Type 0} (stage : T → Stage B A) (other : U → Stage B A) (stop : Stop) (scene : Scene B) (start now : Worlding B A) → ClosingStandsAt stage (Err stop) scene start now → ClosingStandsAt other (Err stop) scene start now
 same_stop T U stage other OutOfMemory scene start now c = c
 same_stop T U stage other (JournalFull bytes letters) scene start now c = c
 
@@ -174,7 +174,7 @@ module _ {B A W : Type 0} (law : AppLaw A) (saving : Saving W) (sealing : Sealin
     pub same_keeps : Keeps law saving sealing old stables new stables
     same_keeps = subst (λ w. Keeps law saving sealing old stables w stables) (sym same) (keeps_none old stables pairs)
 
-    pub post_stops : {T : Type 0} (next : T → Stage B A) (stop : Stop) → PostStops sealing.size old stop → LeadsTo law sealing (ClosesIn Losing) (StandsAt next (Err stop)) old new
+    pub post_stops : {T : Type 0} (next : T → Stage B A) (stop : Stop) → PostStops sealing.size old stop → LeadsTo law sealing (ClosesIn Losing) (ClosingStandsAt next (Err stop)) old new
     post_stops next OutOfMemory stops kinds holds start c = subst (λ w. IsHaltedAt (scene_in sealing old kinds) start w) (sym same) (halted_in (scene_in sealing old kinds) start old Losing c)
     post_stops next (JournalFull bytes letters) stops kinds holds start c =
         subst (λ w. IsCutAt bytes letters (scene_in sealing old kinds) start w) (sym same) (record { phase = Losing; closes = c; stuck = stops })
@@ -218,7 +218,7 @@ module _ {B A : Type 0} (law : AppLaw A) (scene : Scene B) (start now : Worlding
       states : List ControllerState
       states = states_in now.controllers
 
-      suspicion : ℕ → List ℕ → Move B
+      suspicion : ℕ → List ℕ → ClosingMove B
       suspicion v q = next_suspicion n v q q []
 
       enough : next_view {B = B} n states ≡ suspicion (closing_view states n) (quorum_of (closing_view states n % n) (n / 2) (members_up states))
@@ -230,7 +230,7 @@ module _ {B A : Type 0} (law : AppLaw A) (scene : Scene B) (start now : Worlding
           ap (λ q. suspicion view q) (ap (λ l. quorum_of (view % n) (n / 2) l) (sym up_is) ∙ sym quorum_is)
 
   -- and ends
-  pub closed_at : now.owed ≡ None → (phase : Phase) (answer : Answer) → ClosesIn phase scene start now → ((later : List (List SaveResult)) → Later later → IsEnd (next_move scene later phase (past now.journal)) answer) →
+  pub closed_at : now.owed ≡ None → (phase : Phase) (answer : ClosingAnswer) → ClosesIn phase scene start now → ((later : List (List SaveResult)) → Later later → IsEnd (next_move scene later phase (past now.journal)) answer) →
       HasClosed scene answer start now
   closed_at rests phase answer c ends = record {
     entries = c.entries;
@@ -285,6 +285,6 @@ module _ {B A : Type 0} {law : AppLaw A} (scene : Scene B) (now : Worlding B A) 
 pub closes_first : {B A : Type 0} (scene : Scene B) (start : Worlding B A) → ClosesIn Losing scene start start
 closes_first scene start = record { entries = []; joined = sym (append-nil start.journal); steps = λ later more. refl }
 
-pub stops_by : {B A : Type 0} (scene : Scene B) (stop : Stop) (start now : Worlding B A) → StandsAt EndsBy (Err stop) scene start now → ClosingStops scene start now stop
+pub stops_by : {B A : Type 0} (scene : Scene B) (stop : Stop) (start now : Worlding B A) → ClosingStandsAt EndsBy (Err stop) scene start now → ClosingStops scene start now stop
 stops_by scene OutOfMemory start now c = c
 stops_by scene (JournalFull bytes letters) start now c = c

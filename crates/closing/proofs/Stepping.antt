@@ -24,7 +24,7 @@ use Rattle.world.specs.Refusals.{TurnStops}
 use Rattle.world.specs.World.{Applies, Holds, Keeps, PairsStand, Worlding, scene_in}
 use Rattle.closing.specs.declared.closed.Came.{Came}
 use Rattle.closing_laws.specs.Quorum.{has}
-use Rattle.closing.specs.Closing.{CameAt, CameTo, came_of, ClosesIn, Drains, IsFirst, LeadsTo, Stage, StandsAt, Suspects, UpBy, up_in, work_left}
+use Rattle.closing.specs.Closing.{CameAt, CameTo, came_of, ClosesIn, Drains, IsFirst, LeadsTo, Stage, ClosingStandsAt, Suspects, UpBy, up_in, work_left}
 use Rattle.closing.proofs.Worlds.{KnowsItself}
 use Rattle.closing.proofs.Turned.{Turned, added}
 use Rattle.closing.proofs.Moves.{First, first_packet, first_named, took_lose, took_draw, lost_move, drained_lost, drained_drawn, loses, loses_drained, lost_ups, suspects_turn, draws_turn, turn_ups, draws_switch, switch_ups}
@@ -57,7 +57,7 @@ module _ {B A W : Type 0} (law : AppLaw A) (knows : (x : Controlling A) (kinds :
     named = first_named (λ a. IsActor old.setup a) place (past old.journal) found addressed
 
     pub lose_closes : {T : Type 0} (result : Result T Stop) → OnOk result (Applies sealing.size (turn.Lose place.to 0) old new) → Kept → IfErr result (λ stop. TurnStops sealing.size (turn.Lose place.to 0) old new stop) →
-        LeadsTo law sealing (ClosesIn Losing) (StandsAt (λ _. ClosesIn Losing) result) old new
+        LeadsTo law sealing (ClosesIn Losing) (ClosingStandsAt (λ _. ClosesIn Losing) result) old new
     lose_closes result t k stops =
         turn_leads law saving sealing old stables new stables_after (turn.Lose place.to 0) Lost rested pairs (took_lose place (past old.journal) found) refl named refl (ClosesIn Losing) (λ _. ClosesIn Losing)
         (λ kinds holds start c.
@@ -68,7 +68,7 @@ module _ {B A W : Type 0} (law : AppLaw A) (knows : (x : Controlling A) (kinds :
 
     pub lose_drains : (view : ℕ) (quorum : List ℕ) → is_drawn quorum place.from place.to ≡ false →
         {T : Type 0} (result : Result T Stop) → OnOk result (Applies sealing.size (turn.Lose place.to 0) old new) → Kept → IfErr result (λ stop. TurnStops sealing.size (turn.Lose place.to 0) old new stop) →
-        LeadsTo law sealing (Drains view quorum) (StandsAt (λ _. Drains view quorum) result) old new
+        LeadsTo law sealing (Drains view quorum) (ClosingStandsAt (λ _. Drains view quorum) result) old new
     lose_drains view quorum drawn result t k stops =
         turn_leads law saving sealing old stables new stables_after (turn.Lose place.to 0) Lost rested pairs (took_lose place (past old.journal) found) refl named refl (Drains view quorum) (λ _. Drains view quorum)
         (λ kinds holds start c. record {
@@ -105,7 +105,7 @@ module _ {B A W : Type 0} (law : AppLaw A) (knows : (x : Controlling A) (kinds :
 
     module _ (view : ℕ) (quorum : List ℕ) (drawn : is_drawn quorum place.from place.to ≡ true) where
       pub draw_cut : {T : Type 0} (next : T → Stage B A) (stop : Stop) → Kept → TurnStops sealing.size (turn.Draw place.to 0 false) old new stop →
-          LeadsTo law sealing (Drains view quorum) (StandsAt next (Err stop)) old new
+          LeadsTo law sealing (Drains view quorum) (ClosingStandsAt next (Err stop)) old new
       draw_cut next stop k stops =
           stop_leads law saving sealing old stables new stables_after (turn.Draw place.to 0 false) Drawn rested pairs (took_draw place (past old.journal) found) refl named refl (Drains view quorum) next
           (λ kinds holds start c. record {
@@ -153,7 +153,7 @@ module _ {B A W : Type 0} (law : AppLaw A) (knows : (x : Controlling A) (kinds :
     Suspicion = Local (actor.Controller c) (local.Suspect view)
 
     pub suspect_cut : (quorum members : List ℕ) {T : Type 0} (next : T → Stage B A) (stop : Stop) → Kept → TurnStops sealing.size (turn.Local (actor.Controller c) (local.Suspect view)) old new stop →
-        LeadsTo law sealing (Suspects view quorum (c ∷ members)) (StandsAt next (Err stop)) old new
+        LeadsTo law sealing (Suspects view quorum (c ∷ members)) (ClosingStandsAt next (Err stop)) old new
     suspect_cut quorum members next stop k stops =
         stop_leads law saving sealing old stables new stables_after (turn.Local (actor.Controller c) (local.Suspect view)) Suspicion rested pairs refl refl there refl (Suspects view quorum (c ∷ members)) next
         (λ kinds holds start s. record {

@@ -20,13 +20,13 @@ use Rattle.group_controller.specs.Turns.{Controlling, state_of}
 use Rattle.run_spec.specs.States.{Scene, Sealing}
 use Rattle.run_spec.specs.Bound.{IsQuick, IsSharplyBounded}
 use Rattle.run_spec.specs.Committed.{count_up, members_up}
-use Rattle.run_spec.specs.Schedule.{Phase, Losing, Met, Move, Answer, majority, next_move, next_suspicion, next_drained, ClosesTo, Closes}
+use Rattle.run_spec.specs.Schedule.{Phase, Losing, Met, ClosingMove, ClosingAnswer, majority, next_move, next_suspicion, next_drained, ClosesTo, Closes}
 use Rattle.run_spec.specs.Schedule as schedule
 use Rattle.run_laws.specs.Laws.{IsSuspectedUpTo}
 use Rattle.closing_laws.specs.Ends.{HasRested}
 use Rattle.closing_laws.specs.Starts.{SavesSucceed}
 use Rattle.closing_laws.specs.Stops.{IsAtLimit}
-use Rattle.world.specs.Refusals.{IsRefusal}
+use Rattle.world.specs.Refusals.{IsRefusalBehind}
 use Rattle.world.specs.World.{AreMore, Holds, IsStuck, Worlding, results_in, scene_in}
 use Rattle.closing.specs.declared.closed.Came.{Came}
 use Rattle.closing.specs.declared.closed.Came.TheVariants as came
@@ -34,10 +34,10 @@ use Rattle.closing.specs.declared.closed.Closed.{Closed}
 use Rattle.closing.specs.declared.closed.Closed.TheVariants as closed
 
 -- what the schedule calls the end of a closing
-abbrev pub answer_of : Closed → Answer
-answer_of (closed.Done primary) = schedule.Done primary
-answer_of (closed.NoQuorum up needed) = schedule.NoQuorum up needed
-answer_of (closed.Overfull limit) = schedule.Overfull limit
+abbrev pub closing_answer_of : Closed → ClosingAnswer
+closing_answer_of (closed.Done primary) = schedule.Done primary
+closing_answer_of (closed.NoQuorum up needed) = schedule.NoQuorum up needed
+closing_answer_of (closed.Overfull limit) = schedule.Overfull limit
 
 -- the states of controllers, and the numbers of those that take part in a world
 abbrev pub states_in : {A : Type 0} → List (Controlling A) → List ControllerState
@@ -91,7 +91,7 @@ pub record ClosesIn {B A : Type 0} (phase : Phase) (scene : Scene B) (start now 
       ClosesTo scene later Losing (past start.journal) entries phase
 
 -- and its next move is this one, by what waits
-pub record IsNext {B A : Type 0} (move : List (Packet B) → Move B) (scene : Scene B) (start now : Worlding B A) : Type 0 where
+pub record IsNext {B A : Type 0} (move : List (Packet B) → ClosingMove B) (scene : Scene B) (start now : Worlding B A) : Type 0 where
   pub phase : Phase
   pub closes : ClosesIn phase scene start now
   pub next : (later : List (List SaveResult)) → AreMore scene.setup.controllers (results_in now.controllers) later →
@@ -152,15 +152,15 @@ pub record IsHaltedAt {B A : Type 0} (scene : Scene B) (start now : Worlding B A
   pub entries : List (JournalEntry B)
   pub refusal : List (JournalEntry B)
   pub joined : now.journal ≡ start.journal ++ entries ++ refusal
-  pub refused : IsRefusal (past (start.journal ++ entries)) refusal
+  pub refused : IsRefusalBehind (past (start.journal ++ entries)) refusal
   pub begins : (later : List (List SaveResult)) → AreMore scene.setup.controllers (results_in now.controllers) later →
       (last : Phase) × ClosesTo scene later Losing (past start.journal) entries last
 
 -- where a closing stands after a call that may stop
-abbrev pub StandsAt : {T B A : Type 0} → (T → Stage B A) → Result T Stop → Stage B A
-StandsAt stage (Ok x) scene start now = stage x scene start now
-StandsAt stage (Err OutOfMemory) scene start now = IsHaltedAt scene start now
-StandsAt stage (Err (JournalFull bytes letters)) scene start now = IsCutAt bytes letters scene start now
+abbrev pub ClosingStandsAt : {T B A : Type 0} → (T → Stage B A) → Result T Stop → Stage B A
+ClosingStandsAt stage (Ok x) scene start now = stage x scene start now
+ClosingStandsAt stage (Err OutOfMemory) scene start now = IsHaltedAt scene start now
+ClosingStandsAt stage (Err (JournalFull bytes letters)) scene start now = IsCutAt bytes letters scene start now
 
 -- wherever it began, a closing at one stage in a world is at another stage in a later world
 abbrev pub LeadsTo : {B A : Type 0} → AppLaw A → Sealing B → Stage B A → Stage B A → Worlding B A → Worlding B A → Type 0
@@ -172,28 +172,28 @@ LeadsTo {B = B} {A = A} law sealing first next old new = (kinds : List ℕ) → 
 
 -- it stays at its stage
 abbrev pub StaysAt : {T B A : Type 0} → AppLaw A → Sealing B → Stage B A → Result T Stop → Worlding B A → Worlding B A → Type 0
-StaysAt law sealing stage result old new = LeadsTo law sealing stage (StandsAt (λ _. stage) result) old new
+StaysAt law sealing stage result old new = LeadsTo law sealing stage (ClosingStandsAt (λ _. stage) result) old new
 
 -- the next member suspects, and these are still to
 abbrev pub NextSuspects : {B A : Type 0} → AppLaw A → Sealing B → ℕ → List ℕ → ℕ → List ℕ → Result Came Stop → Worlding B A → Worlding B A → Type 0
 NextSuspects law sealing view quorum number members result old new =
-    LeadsTo law sealing (Suspects view quorum (number ∷ members)) (StandsAt (CameTo (Suspects view quorum members)) result) old new
+    LeadsTo law sealing (Suspects view quorum (number ∷ members)) (ClosingStandsAt (CameTo (Suspects view quorum members)) result) old new
 
 -- all members suspect, and what waits is to be drained
 abbrev pub AllSuspect : {B A : Type 0} → AppLaw A → Sealing B → ℕ → List ℕ → Result Came Stop → Worlding B A → Worlding B A → Type 0
-AllSuspect law sealing view quorum result old new = LeadsTo law sealing (Suspects view quorum quorum) (StandsAt (CameTo (Drains view quorum)) result) old new
+AllSuspect law sealing view quorum result old new = LeadsTo law sealing (Suspects view quorum quorum) (ClosingStandsAt (CameTo (Drains view quorum)) result) old new
 
 -- one packet is drained, and what waits still is to be
 abbrev pub DrainsOne : {B A : Type 0} → AppLaw A → Sealing B → ℕ → List ℕ → Result Came Stop → Worlding B A → Worlding B A → Type 0
-DrainsOne law sealing view quorum result old new = LeadsTo law sealing (Drains view quorum) (StandsAt (CameTo (Drains view quorum)) result) old new
+DrainsOne law sealing view quorum result old new = LeadsTo law sealing (Drains view quorum) (ClosingStandsAt (CameTo (Drains view quorum)) result) old new
 
 -- all that waits is drained, and is gone
 abbrev pub DrainsAll : {B A : Type 0} → AppLaw A → Sealing B → ℕ → List ℕ → Result Came Stop → Worlding B A → Worlding B A → Type 0
-DrainsAll law sealing view quorum result old new = LeadsTo law sealing (Drains view quorum) (StandsAt (CameTo (Drained view quorum)) result) old new
+DrainsAll law sealing view quorum result old new = LeadsTo law sealing (Drains view quorum) (ClosingStandsAt (CameTo (Drained view quorum)) result) old new
 
 -- all members suspect, and all that waits is drained, and is gone
 abbrev pub ClosesBy : {B A : Type 0} → AppLaw A → Sealing B → ℕ → List ℕ → Result Came Stop → Worlding B A → Worlding B A → Type 0
-ClosesBy law sealing view quorum result old new = LeadsTo law sealing (Suspects view quorum quorum) (StandsAt (CameTo (Drained view quorum)) result) old new
+ClosesBy law sealing view quorum result old new = LeadsTo law sealing (Suspects view quorum quorum) (ClosingStandsAt (CameTo (Drained view quorum)) result) old new
 
 -- what a part of a closing keeps of a world: nothing is owed, and no view above a limit was suspected
 pub record Rests {B A : Type 0} (limit : ℕ) (old new : Worlding B A) : Type 0 where
@@ -205,7 +205,7 @@ abbrev pub RaisesViewsBy : {B A : Type 0} → ℕ → Worlding B A → Worlding 
 RaisesViewsBy more old new = (limit : ℕ) → IsSuspectedUpTo limit (past old.journal) → IsSuspectedUpTo (limit + more) (past new.journal)
 
 -- a closing that began in one world has ended in another with this answer, whatever becomes of later saves
-pub record HasClosed {B A : Type 0} (scene : Scene B) (answer : Answer) (start now : Worlding B A) : Type 0 where
+pub record HasClosed {B A : Type 0} (scene : Scene B) (answer : ClosingAnswer) (start now : Worlding B A) : Type 0 where
   pub entries : List (JournalEntry B)
   pub joined : now.journal ≡ start.journal ++ entries
   pub closes : (later : List (List SaveResult)) → AreMore scene.setup.controllers (results_in now.controllers) later →
@@ -226,18 +226,18 @@ pub record IsBounded {B : Type 0} (scene : Scene B) (results : List (List SaveRe
 
 -- a closing that began in one world has ended in another as a call tells: by its schedule, for a reason, within its bounds
 pub record HasEnded {B A : Type 0} (scene : Scene B) (start now : Worlding B A) (ended : Closed) : Type 0 where
-  pub closed : HasClosed scene (answer_of ended) start now
+  pub closed : HasClosed scene (closing_answer_of ended) start now
   pub reason : HasReason ended scene (results_in now.controllers) (past start.journal) (past now.journal)
   pub bounded : IsBounded scene (results_in now.controllers) (past start.journal) closed.entries
 
 -- it has ended, or begins again
 abbrev pub EndsBy : {B A : Type 0} → Option Closed → Stage B A
 EndsBy None scene start now = ClosesIn Losing scene start now
-EndsBy (Some ended) scene start now = HasClosed scene (answer_of ended) start now
+EndsBy (Some ended) scene start now = HasClosed scene (closing_answer_of ended) start now
 
 -- an attempt leads a closing to its end, or to where it begins again
 abbrev pub Attempts : {B A : Type 0} → AppLaw A → Sealing B → Result (Option Closed) Stop → Worlding B A → Worlding B A → Type 0
-Attempts law sealing result old new = LeadsTo law sealing (ClosesIn Losing) (StandsAt EndsBy result) old new
+Attempts law sealing result old new = LeadsTo law sealing (ClosesIn Losing) (ClosingStandsAt EndsBy result) old new
 
 -- who takes part then: at its end a majority, and one less where it begins again
 abbrev pub UpTo : {B A : Type 0} → Option Closed → Worlding B A → Worlding B A → Type 0

@@ -34,7 +34,7 @@ pub record Start : Type 0 where
 
 -- A member of the quorum waits for the word that the view has started, with what it had before; behind that word come the
 -- entries that followed.
-pub record Waits (start : Start) (primary : VrState) (b : ℕ) (s : VrState) (out in_ : List Message) : Type 0 where
+pub record WaitsFor (start : Start) (primary : VrState) (b : ℕ) (s : VrState) (out in_ : List Message) : Type 0 where
   pub had : VrState
   pub voters : List ℕ
   pub is_member : IsReadyMember primary.controllers primary.view b had
@@ -64,7 +64,7 @@ pub record IsFollowing (start : Start) (primary : VrState) (b : ℕ) (s : VrStat
   pub acks : AreAcknowledged primary.view start.known (slice_index primary.acked b) (length s.log) in_
 
 abbrev pub KeepsUp : Start → VrState → ℕ → VrState → List Message → List Message → Type 0
-KeepsUp start primary b s out in_ = Waits start primary b s out in_ ⊎ IsFollowing start primary b s out in_
+KeepsUp start primary b s out in_ = WaitsFor start primary b s out in_ ⊎ IsFollowing start primary b s out in_
 
 -- what each other member of a quorum has acknowledged is committed
 abbrev pub IsAgreed : VrState → List ℕ → Type 0

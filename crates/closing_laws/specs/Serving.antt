@@ -24,7 +24,7 @@ use Rattle.app_core.specs.declared.issued.Issued.{Issued}
 use Rattle.app_core.specs.Issued.{count_issued, commands_of, issues}
 use Rattle.app_core.specs.Orders.{HasFewOutputs}
 use Rattle.event_buffer.specs.Buffer.{most_held, next_number}
-use Rattle.of_switch.specs.State.{SwitchState, events_in, life_of, number_of}
+use Rattle.of_switch.specs.State.{SwitchState, events_in, life_of, own_number_of}
 use Rattle.of_switch.specs.Events.{window}
 use Rattle.dispatcher.specs.Ledger.{most_commands}
 use Rattle.dispatcher.specs.Marks.{has_result, is_confirmed, settled_commands}
@@ -113,8 +113,8 @@ events_told c = processed (committed c) + (if is_untold c then 0 else 1)
 abbrev pub told_through : List ℕ → Setup → ControllerState → ℕ → ℕ → ℕ
 told_through kinds setup c s life = count_issued s life (concat (take (events_told c) (issues kinds setup (received (committed c)))))
 
-abbrev pub told_by : List ℕ → Setup → ControllerState → ℕ → SwitchState → ℕ
-told_by kinds setup c s sw = told_through kinds setup c s (life_of sw)
+abbrev pub letters_told_by : List ℕ → Setup → ControllerState → ℕ → SwitchState → ℕ
+letters_told_by kinds setup c s sw = told_through kinds setup c s (life_of sw)
 
 -- a generation is older than this one, or there is none
 abbrev pub IsOlder : Option ℕ → ℕ → Type 0
@@ -149,9 +149,9 @@ pub record AreEventsTold (c : ControllerState) (s : ℕ) (sw : SwitchState) (out
 -- was told and is not settled has its result, or waits, or its result does.
 pub record AreCommanded (kinds : List ℕ) (setup : Setup) (c : ControllerState) (s : ℕ) (sw : SwitchState) (out in_ : List Message) : Type 0 where
   pub next : ℕ
-  pub waits : commands_said (life_of sw) out ≡ range_with_len next (told_by kinds setup c s sw - next)
-  pub in_order : next < told_by kinds setup c s sw → next ≤ sw.results.executed
-  pub accounted : (i : ℕ) → settled_by kinds setup c s sw ≤ i → i < told_by kinds setup c s sw →
+  pub waits : commands_said (life_of sw) out ≡ range_with_len next (letters_told_by kinds setup c s sw - next)
+  pub in_order : next < letters_told_by kinds setup c s sw → next ≤ sw.results.executed
+  pub accounted : (i : ℕ) → settled_by kinds setup c s sw ≤ i → i < letters_told_by kinds setup c s sw →
       (has_result c.marks s (life_of sw) i ≡ true) ⊎ (IsIn i (commands_said (life_of sw) out) ⊎ IsIn i (results_said in_))
 
 -- Of one that has not: nothing is told, and nothing came.
@@ -167,8 +167,8 @@ pub record IsAttended (kinds : List ℕ) (setup : Setup) (c : ControllerState) (
   pub role : IsUnasked c s sw out in_ ⊎ (IsMastered c s sw out in_ × AreEventsTold c s sw out in_)
   pub confirmed : is_confirmed c.marks s ≡ true → AreCommanded kinds setup c s sw out in_
   pub unconfirmed : is_confirmed c.marks s ≡ false → AreUntold c s sw out in_
-  pub marks : (i : ℕ) → has_result c.marks s (life_of sw) i ≡ true → i < told_by kinds setup c s sw
-  pub results : (i : ℕ) → IsIn i (results_said in_) → i < told_by kinds setup c s sw
+  pub marks : (i : ℕ) → has_result c.marks s (life_of sw) i ≡ true → i < letters_told_by kinds setup c s sw
+  pub results : (i : ℕ) → IsIn i (results_said in_) → i < letters_told_by kinds setup c s sw
 
 -- The commands of an event that was told last in this view: it is not beyond the first that is not processed.
 abbrev pub IsToldLast : ControllerState → Type 0
@@ -184,7 +184,7 @@ pub record IsSettled (kinds : List ℕ) (setup : Setup) (c : ControllerState) : 
 -- logged, what is logged it has made, and what is settled it has carried out; no event of a later life is logged; a later life begins
 -- with its switch-up event; and where ports are remembered the buffer is full.
 pub record IsTrueOf (kinds : List ℕ) (setup : Setup) (c : ControllerState) (s : ℕ) (sw : SwitchState) : Type 0 where
-  pub number : number_of sw ≡ s
+  pub number : own_number_of sw ≡ s
   pub made : (i : ℕ) (e : Event) → slice_get (events_in sw (life_of sw)) i ≡ Some e → IsMade s (life_of sw) i e
   pub held : sw.buffer.held ≡ drop sw.buffer.cleared (events_in sw (life_of sw))
   pub next : next_number sw.buffer ≡ length (events_in sw (life_of sw))

@@ -6,7 +6,7 @@ use Rattle.journal.specs.declared.journal.JournalEntry.{JournalEntry}
 use Rattle.journal.specs.declared.journal.SaveResult.{SaveResult}
 use Rattle.journal.specs.declared.journal.SaveResult.TheVariants.{Saved}
 use Rattle.journal.specs.Part.{part}
-use Rattle.journal.specs.Pool.{numbered, pool}
+use Rattle.journal.specs.Pool.{numbered_letters, pool}
 use Rattle.journal.specs.Turns.{IsWithinLimits}
 use Rattle.of_types.specs.declared.setup.Setup.{Setup}
 use Rattle.vr_log.specs.declared.state.VrState.{VrState}
@@ -17,7 +17,7 @@ use Rattle.run_spec.specs.declared.messages.Unsealed.TheVariants as unsealed
 use Rattle.run_spec.specs.States.{Scene, IsFaithful, content, controller_at, controller_message, sealed_letters}
 use Rattle.run_spec.specs.Legal.{IsPossible, results_of}
 use Rattle.run_spec.specs.Committed.{controller_state, switch_state, states_of, count_up}
-use Rattle.run_spec.specs.Schedule.{Phase, Losing, Suspecting, Draining, Answer, ClosesTo, IsPosted, IsEnd, after_member, closing_view, count_turns, majority, next_move}
+use Rattle.run_spec.specs.Schedule.{Phase, Losing, Suspecting, Draining, ClosingAnswer, ClosesTo, IsPosted, IsEnd, after_member, closing_view, count_turns, majority, next_move}
 use Rattle.closing_laws.specs.Quorum.{has, members_that_close}
 use Rattle.closing_laws.specs.Views.{HasBest, IsCovered, in_view, lacks, log_of, started_with, tellers, turns_to_start}
 
@@ -50,7 +50,7 @@ pub record HasStartedIn {B : Type 0} (scene : Scene B) (results : List (List Sav
       members_at scene results entries c ≡ in_view (start c) view (voters c) true [] None
   pub outside : (c : ℕ) → c < scene.setup.controllers → has quorum c ≡ false → members_at scene results entries c ≡ start c
   pub number : ℕ
-  pub waits : pool entries ≡ numbered number (actor.Controller (view % scene.setup.controllers)) (sealed_letters controller_message scene.sealing turn.letters)
+  pub waits : pool entries ≡ numbered_letters number (actor.Controller (view % scene.setup.controllers)) (sealed_letters controller_message scene.sealing turn.letters)
   pub says : map (content scene.sealing) (pool entries) ≡ map (λ l. unsealed.Message (controller_message l.body)) turn.letters
 
 -- A closing over a past in which nothing waits or is owed, where a majority takes part, up to some phase of it. Each save
@@ -102,7 +102,7 @@ pub record Starts {B : Type 0} (scene : Scene B) (results : List (List SaveResul
 -- it starts with so many turns, and the closing doesn't end before
 pub record StartsInTime {B : Type 0} (scene : Scene B) (results : List (List SaveResult)) (before entries : List (JournalEntry B)) (last : Phase) (best : ℕ) : Type 0 where
   pub starts : turns_after scene results before best ≤ count_turns entries → Starts scene results before entries last best
-  pub goes_on : count_turns entries < turns_after scene results before best → (answer : Answer) → IsEnd (next_move scene results last (reverse entries ++ before)) answer → ⊥
+  pub goes_on : count_turns entries < turns_after scene results before best → (answer : ClosingAnswer) → IsEnd (next_move scene results last (reverse entries ++ before)) answer → ⊥
 
 -- in each closing the view starts in time, from the best log of its quorum
 abbrev pub ViewsStartInTime : Type 0 → Type 0

@@ -11,7 +11,7 @@ use Rattle.vr_log.specs.Choosing.{is_better, least_commit, greatest_commit}
 use Rattle.vr_log.specs.Log.{is_log}
 use Rattle.vr_log.specs.Members.{is_up}
 use Rattle.vr_log.specs.Steps.{letter, to_others}
-use Rattle.view_change.specs.Entering.{entered, own_log, started, view_start}
+use Rattle.view_change.specs.Entering.{entered_view, own_log, started_view, view_start}
 use Rattle.closing_laws.specs.Quorum.{has}
 use Rattle.closing_laws.specs.Draining.{GroupState, flown}
 
@@ -28,7 +28,7 @@ pub record IsReadyMember (n view j : ℕ) (s : VrState) : Type 0 where
 -- a member in a view that changes: what it had, with votes, and what it collected or was supplied
 abbrev pub in_view : VrState → ℕ → List ℕ → Bool → List Collected → Option Supplied → VrState
 in_view s view votes sent collected supply =
-    record (entered s view) { votes = votes; sent = sent; collected = collected; supply = supply }
+    record (entered_view s view) { votes = votes; sent = sent; collected = collected; supply = supply }
 
 -- the same, where it has heard these and no log yet: once f others voted it has told its log, and a primary keeps its own
 abbrev pub voting : ℕ → ℕ → ℕ → VrState → List ℕ → VrState
@@ -70,14 +70,14 @@ abbrev pub lacks : ℕ → (ℕ → VrState) → ℕ → Bool
 lacks primary start best = nat_lt (start primary).commit (start best).commit
 
 -- a list behind the turned one
-abbrev pub behind : List ℕ → List ℕ → List ℕ
-behind [] xs = xs
-behind (c ∷ turned) xs = behind turned (c ∷ xs)
+abbrev pub views_behind : List ℕ → List ℕ → List ℕ
+views_behind [] xs = xs
+views_behind (c ∷ turned) xs = views_behind turned (c ∷ xs)
 
 -- in which order members tell their logs: the last one first, since it has said nothing that it waits for
 abbrev pub last_first : List ℕ → List ℕ → List ℕ
-last_first turned [] = behind turned []
-last_first turned (c ∷ []) = c ∷ behind turned []
+last_first turned [] = views_behind turned []
+last_first turned (c ∷ []) = c ∷ views_behind turned []
 last_first turned (c ∷ (d ∷ more)) = last_first (c ∷ turned) (d ∷ more)
 
 -- in which order the primary collects the logs of the others
@@ -87,7 +87,7 @@ tellers primary quorum = filter (λ j. not (nat_eq primary j)) (last_first [] qu
 -- a view that a primary starts with these logs of others
 abbrev pub started_with : VrState → ℕ → List ℕ → List Collected → List Entry → VrState
 started_with s view voters logs log =
-    started (gathering s view voters logs None) log (least_commit s.commit logs) (greatest_commit s.commit logs)
+    started_view (gathering s view voters logs None) log (least_commit s.commit logs) (greatest_commit s.commit logs)
 
 -- in how many turns a view starts: f + 1 suspicions, a vote of each of them to each other, the logs of f others, and two
 -- where the primary has to fetch

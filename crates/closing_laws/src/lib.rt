@@ -13,11 +13,11 @@ ghost use Rattle.vr_log.specs.Choosing.{best_of, has_collected};
 ghost use Rattle.vr_log.specs.Log.{is_log};
 ghost use Rattle.vr_log.specs.Members.{is_up};
 ghost use Rattle.vr_log.specs.Steps.{is_sound, letter, quiet, sends, to_others};
-ghost use Rattle.view_change.specs.Entering.{own_log, started, tells_start};
+ghost use Rattle.view_change.specs.Entering.{own_log, started_view, tells_start};
 ghost use Rattle.vr_core.specs.declared.input.VrInput.TheVariants as vr_input;
 ghost use Rattle.vr_core.specs.Step.{vr_step};
 ghost use Rattle.closing_laws.specs.Quorum.{HasAQuorum, HasTheLeastView, IsQuorum, WhereMostAreUp, has, members_that_close};
-ghost use Rattle.closing_laws.specs.Draining.{all_suspected, drains, resting};
+ghost use Rattle.closing_laws.specs.Draining.{all_suspected, drains, resting_group};
 ghost use Rattle.closing_laws.specs.Held.{EventsAreKept};
 ghost use Rattle.closing_laws.specs.Starts.{ViewsStartInTime};
 ghost use Rattle.closing_laws.specs.Ends.{ClosingsRest};
@@ -46,7 +46,7 @@ pub fn suspicion_enters()
 /// A member alone in its group starts the view as it suspects, and all of its log is committed.
 pub fn alone_starts()
     ensures { (w : ℕ) (s : VrState) → IsReadyMember 1 w 0 s →
-        vr_step s (vr_input.Suspect w) ≡ record { state = started (gathering s w [] [] None) s.log s.commit s.commit; promise = Some w; letters = [] } }
+        vr_step s (vr_input.Suspect w) ≡ record { state = started_view (gathering s w [] [] None) s.log s.commit s.commit; promise = Some w; letters = [] } }
 {}
 
 /// A vote is counted, while a member lacks votes. With the last one a member tells the primary its log, and the primary
@@ -112,7 +112,7 @@ pub fn view_starts()
     ensures { (n w : ℕ) (quorum : List ℕ) (start : ℕ → VrState) → IsQuorum n w quorum → ((j : ℕ) → has quorum j ≡ true →
         IsReadyMember n w j (start j)) → 0 < n / 2 →
         (best : ℕ) → HasBest quorum start best → IsCovered quorum start best →
-        (packets : ℕ) × HasStarted n w quorum start best (drains packets quorum (all_suspected (resting start) w quorum)) }
+        (packets : ℕ) × HasStarted n w quorum start best (drains packets quorum (all_suspected (resting_group start) w quorum)) }
 {}
 
 /// So it is in every run: a closing over a past in which nothing waits or is owed starts its view from the best log of its

@@ -29,15 +29,15 @@ abbrev pub IsReadOut : List ℕ → Option (List ℕ) → Type 0
 IsReadOut bytes rest = length bytes ≤ REPORT_LIMIT → IsAtEnd rest
 
 -- bytes were read out of a source, and are this
-abbrev pub IsReadAs : Option (List ℕ) → Option (List ℕ) → Taken → Type 0
-IsReadAs left rest taken = (bytes : List ℕ) × Consumes left rest bytes × IsReadOut bytes rest × AreTaken bytes taken
+abbrev pub IsTakenAs : Option (List ℕ) → Option (List ℕ) → Taken → Type 0
+IsTakenAs left rest taken = (bytes : List ℕ) × Consumes left rest bytes × IsReadOut bytes rest × AreTaken bytes taken
 
 -- What was taken, by what was left to be read before and after it. `unread` says that a read failed
 abbrev pub IsTaken : Option (List ℕ) → Option (List ℕ) → Type 0 → Taken → Type 0
-IsTaken left rest unread (Told told) = IsReadAs left rest (Told told)
+IsTaken left rest unread (Told told) = IsTakenAs left rest (Told told)
 IsTaken left rest unread (Ended Unread) = unread
-IsTaken left rest unread (Ended (Differs line)) = IsReadAs left rest (Ended (Differs line))
-IsTaken left rest unread (Ended TooLarge) = IsReadAs left rest (Ended TooLarge)
+IsTaken left rest unread (Ended (Differs line)) = IsTakenAs left rest (Ended (Differs line))
+IsTaken left rest unread (Ended TooLarge) = IsTakenAs left rest (Ended TooLarge)
 IsTaken left rest unread (Ended Usage) = ⊥
 IsTaken left rest unread (Ended (Made text)) = ⊥
 

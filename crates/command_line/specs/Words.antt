@@ -11,25 +11,25 @@ abbrev pub ◌>>=◌ : {A B : Type 0} → Option A → (A → Option B) → Opti
 found >>= next = option_and_then next found
 
 -- a number within bounds, as a numeral
-abbrev pub number_within : ℕ → ℕ → List ℕ → Option ℕ
-number_within low high word = do
+abbrev pub word_within : ℕ → ℕ → List ℕ → Option ℕ
+word_within low high word = do
   n ← numeral word
   if nat_le low n && nat_le n high then Some n else None
 
 -- how many controllers there are
-abbrev pub group_of : List ℕ → Option ℕ
-group_of word = do
-  n ← number_within 1 7 word
+abbrev pub group_in_words : List ℕ → Option ℕ
+group_in_words word = do
+  n ← word_within 1 7 word
   if n == 1 || n == 3 || n == 5 || n == 7 then Some n else None
 
 -- what the generator is given: a number below 2 ^ 32, 1, 3, 5 or 7 controllers, 1 to 64 switches, and 0 to
 -- 2,048 frames. So no numeral has more than ten digits
 abbrev pub generator_of : List ℕ → List ℕ → List ℕ → List ℕ → Option Job
 generator_of first second third fourth = do
-  number ← number_within 0 4294967295 first
-  controllers ← group_of second
-  switches ← number_within 1 64 third
-  frames ← number_within 0 2048 fourth
+  number ← word_within 0 4294967295 first
+  controllers ← group_in_words second
+  switches ← word_within 1 64 third
+  frames ← word_within 0 2048 fourth
   Some (Gen number controllers switches frames)
 
 -- the job of one word

@@ -37,7 +37,7 @@ pub fn unread_line() -> &'static [u8]
 }
 
 /// The line of a report that differs, with the number of the first line that does.
-#[tactic(auto, unfolding(crate::specs::Lines::differs_line, report::specs::Report::line, report::specs::Report::number))]
+#[tactic(auto, unfolding(crate::specs::Lines::differs_line, report::specs::Report::line, report::specs::Report::number_text))]
 pub fn differs_line(alloc: Global, number: u64) -> Result<Octets, AllocError>
     ensures { IfOk result (λ line. line ≡ lines.differs_line number) }
 {

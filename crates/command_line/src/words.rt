@@ -66,7 +66,7 @@ pub fn read_words(words: &[String]) -> Result<Job, WordsFault>
 
 /// A number within bounds, as a numeral.
 fn number_within(low: u32, high: u32, word: &str) -> Option<u32>
-    ensures { result ≡ said.number_within low high word.now }
+    ensures { result ≡ said.word_within low high word.now }
 {
     let number = numeral(word.as_bytes(), 1 << 32)?;
     if (u64::from(low)..=u64::from(high)).contains(&number) {
@@ -78,7 +78,7 @@ fn number_within(low: u32, high: u32, word: &str) -> Option<u32>
 
 /// How many controllers there are.
 fn group_of(word: &str) -> Option<u8>
-    ensures { result ≡ said.group_of word.now }
+    ensures { result ≡ said.group_in_words word.now }
 {
     let number = number_within(1, 7, word)?;
     if matches!(number, 1 | 3 | 5 | 7) {

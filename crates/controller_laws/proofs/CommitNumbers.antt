@@ -28,7 +28,7 @@ use Rattle.list_facts.proofs.Elements.{in_append, in_map}
 use Rattle.list_facts.proofs.Prefixes.{prefix_length, prefix_trans}
 use Rattle.list_facts.specs.Lists.{IsIn, IsPrefix}
 use Rattle.controller_laws.specs.MemberMoves.{MemberMove, IsSaidByMember}
-use Rattle.controller_laws.specs.Moves.{Tells, member_input, IsSaid, Prepares, Asks, Commands, Acks, Clears, Echoes, Move, Steps, Says, Saves, Begins, Proposes, Results, Notes, Chain, Start, Then}
+use Rattle.controller_laws.specs.Moves.{Tells, member_input, IsSaid, Prepares, Asks, Commands, Acks, Clears, Echoes, ControllerMove, Steps, Says, Saves, Begins, Proposes, Results, Notes, Chain, Start, Then}
 use Rattle.controller_laws.specs.Turns.{beginning, IsReached}
 use Rattle.controller_laws.proofs.MemberEntries.{response_among}
 use Rattle.controller_laws.proofs.Reached.{move_grows, chain_reaches}
@@ -120,7 +120,7 @@ module _ (IsCommit : ℕ → Type 0) where
         (l : Letter ControllerSays) → IsIn l (w.letters ++ more) → SaysCommits IsCommit l.body
     more_commits w more k h says l a = elim (in_append l w.letters more a) [ inl old ↦ h.letters l old | inr new ↦ say_commits w l k (says l new) ]
 
-    step_commits : (w w' : Work) → Move kinds setup x w w' → IsCommit w.state.vr.commit → WorkCommits IsCommit w → WorkCommits IsCommit w'
+    step_commits : (w w' : Work) → ControllerMove kinds setup x w w' → IsCommit w.state.vr.commit → WorkCommits IsCommit w → WorkCommits IsCommit w'
     step_commits w w' (Steps s move is) k h =
         subst (λ (v : Work). WorkCommits IsCommit v) (sym is) (record { state = moved_commits (member_input x) w.state.vr s (member_commits x input) k move h.state; letters = h.letters })
     step_commits w w' (Says ls all is) k h = subst (λ (v : Work). WorkCommits IsCommit v) (sym is) (record { state = h.state; letters = more_commits w ls k h all })

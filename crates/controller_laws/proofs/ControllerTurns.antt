@@ -30,27 +30,27 @@ use Rattle.vr_core.specs.declared.input.VrInput.TheVariants as vr_input
 use Rattle.vr_core.specs.Step.{vr_step}
 use Rattle.app_core.specs.declared.issued.Issued.{Issued}
 use Rattle.dispatcher.specs.declared.answers.Through.{Through}
-use Rattle.dispatcher.specs.Marks.{no_marks, confirmed_by, off_role, settled_commands, is_pending, with_result, wanted, outstanding}
-use Rattle.dispatcher.specs.Folding.{numbered, acknowledges, acknowledges_at, clears_at, places_processed, is_done}
+use Rattle.dispatcher.specs.Marks.{no_marks, confirmed_by, off_role, settled_commands, is_pending, with_marked_result, wanted, outstanding}
+use Rattle.dispatcher.specs.Folding.{numbered, acknowledges_event, acknowledges_at, clears_at, places_processed, is_done}
 use Rattle.group_controller.specs.declared.messages.ControllerInput.{ControllerInput}
 use Rattle.group_controller.specs.declared.messages.ControllerInput.TheVariants as controller_input
 use Rattle.group_controller.specs.declared.messages.ControllerSays.{ControllerSays}
-use Rattle.group_controller.specs.State.{ControllerState, Work, committed, with_no_met_limit, down, resting, posting, leaving, stepped, to_member, to_members}
+use Rattle.group_controller.specs.State.{ControllerState, Work, committed, with_no_met_limit, down, resting, posting_work, leaving, stepped, to_member, to_members}
 use Rattle.group_controller.specs.Settling.{role_letter, command_letter, command_letters, ack_letter, clear_letter, answers_at, with_answers, is_untold, with_commands, with_proposal, is_settled, is_alone, after_proposal, goes_on, processing, finishing, settling, proposing}
 use Rattle.group_controller.specs.Rules.{switches, has_started, after_step, unconfirmed, tick_letters, on_tick, on_wish, on_event, on_result, on_role_reply, on_hello, on_plain, on_extension, on_spoken, on_switch, on_restart, on_local, on_input, when_down, is_down, controller_work}
 use Rattle.vr_core.proofs.Lasting.{tick_same}
 use Rattle.std.proofs.lemmas.Bool.{cond_both, not-false}
 use Rattle.list_facts.proofs.Elements.{in_append, in_filter, in_flat_map, in_map}
 use Rattle.list_facts.specs.Lists.{IsIn}
-use Rattle.controller_laws.specs.Moves.{Tells, member_input, IsProposed, IsSaid, Asks, Commands, Acks, Clears, Echoes, Move, Steps, Says, Saves, Begins, Proposes, Results, Notes, Receives, Processes}
+use Rattle.controller_laws.specs.Moves.{Tells, member_input, IsProposed, IsSaid, Asks, Commands, Acks, Clears, Echoes, ControllerMove, Steps, Says, Saves, Begins, Proposes, Results, Notes, Receives, Processes}
 use Rattle.controller_laws.proofs.MemberSteps.{step_keeps}
 
-module _ (kinds : List ℕ) (setup : Setup) (x : ControllerInput) (P : Work → Type 0) (step : (w w' : Work) → Move kinds setup x w w' → P w → P w') where
+module _ (kinds : List ℕ) (setup : Setup) (x : ControllerInput) (P : Work → Type 0) (step : (w w' : Work) → ControllerMove kinds setup x w w' → P w → P w') where
   noted : (w : Work) (confirmed : List ℕ) (told : Option ℕ) (full : Option LogFull) → P w →
       P (leaving w (record w.state { marks = record w.state.marks { confirmed = confirmed }; last_told = told; full = full }))
   noted w confirmed told full h = step w _ (Notes confirmed told full refl) h
 
-  said : (w : Work) (ls : List (Letter ControllerSays)) → ((l : Letter ControllerSays) → IsIn l ls → IsSaid kinds setup x w.state l) → P w → P (posting w ls)
+  said : (w : Work) (ls : List (Letter ControllerSays)) → ((l : Letter ControllerSays) → IsIn l ls → IsSaid kinds setup x w.state l) → P w → P (posting_work w ls)
   said w ls all h = step w _ (Says ls all refl) h
 
   commands_said : (c : ControllerState) (ns : List Issued) → leads c.vr ≡ true → ((n : Issued) → IsIn n ns → IsIn n (wanted kinds setup (committed c) c.marks)) →
@@ -64,7 +64,7 @@ module _ (kinds : List ℕ) (setup : Setup) (x : ControllerInput) (P : Work → 
   roles_said : (c : ControllerState) (ss : List ℕ) → leads c.vr ≡ true → (l : Letter ControllerSays) → IsIn l (map (role_letter c.vr.view) ss) → IsSaid kinds setup x c l
   roles_said c ss lead l h = let r = in_map (role_letter c.vr.view) ss l h in Asks r.0 lead r.2
 
-  acks_said : (c : ControllerState) (o : Option Event) → leads c.vr ≡ true → (l : Letter ControllerSays) → IsIn l (map ack_letter (acknowledges (committed c) o)) → IsSaid kinds setup x c l
+  acks_said : (c : ControllerState) (o : Option Event) → leads c.vr ≡ true → (l : Letter ControllerSays) → IsIn l (map ack_letter (acknowledges_event (committed c) o)) → IsSaid kinds setup x c l
   acks_said c None lead = λ l h. absurd h
   acks_said c (Some e) lead =
       cond_both (has_ended e.switch e.life (received (committed c))) _ _ (λ ts. (l : Letter ControllerSays) → IsIn l (map ack_letter ts) → IsSaid kinds setup x c l)
@@ -88,7 +88,7 @@ module _ (kinds : List ℕ) (setup : Setup) (x : ControllerInput) (P : Work → 
   commanded : (w : Work) → leads w.state.vr ≡ true → P w → P (with_commands kinds setup w)
   commanded w lead h =
       cond_both (is_untold w.state) _ _ P
-      (λ _. noted (posting w (command_letters kinds setup w.state (outstanding kinds setup (committed w.state) w.state.marks))) w.state.marks.confirmed (Some (processed (committed w.state))) w.state.full
+      (λ _. noted (posting_work w (command_letters kinds setup w.state (outstanding kinds setup (committed w.state) w.state.marks))) w.state.marks.confirmed (Some (processed (committed w.state))) w.state.full
       (said w _ (commands_said w.state _ lead (outstanding_are w.state)) h))
       (λ _. h)
 
@@ -150,7 +150,7 @@ module _ (kinds : List ℕ) (setup : Setup) (x : ControllerInput) (P : Work → 
         cond_both (has_started c.vr w.state.vr) _ _ P
         (λ starts.
         let lead = (and_parts (leads w.state.vr) _ starts).0 in
-        settled _ (posting (leaving w (record w.state { marks = no_marks; last_told = None })) (map (role_letter w.state.vr.view) (switches setup))) lead
+        settled _ (posting_work (leaving w (record w.state { marks = no_marks; last_told = None })) (map (role_letter w.state.vr.view) (switches setup))) lead
         (said (leaving w (record w.state { marks = no_marks; last_told = None })) _ (roles_said (record w.state { marks = no_marks; last_told = None }) (switches setup) lead)
         (step w _ (Begins lead refl) stepped_keeps)))
         (λ _. cond_both (leads w.state.vr && nat_lt c.vr.commit w.state.vr.commit) _ _ P
@@ -190,7 +190,7 @@ module _ (kinds : List ℕ) (setup : Setup) (x : ControllerInput) (P : Work → 
       result_keeps : (s xid life number : ℕ) (outcome : Outcome) → x ≡ controller_input.Of s xid (spoken.Ravana (extension.CmdAck life number outcome)) → P (on_result kinds setup c s life number)
       result_keeps s xid life number outcome is =
           cond_both (is_pending kinds setup (committed c) s life number) _ _ P
-          (λ waits. finished _ (resting (record c { marks = with_result kinds setup (committed c) c.marks s life number })) lead (step (resting c) _ (Results s xid life number outcome is lead waits refl) h))
+          (λ waits. finished _ (resting (record c { marks = with_marked_result kinds setup (committed c) c.marks s life number })) lead (step (resting c) _ (Results s xid life number outcome is lead waits refl) h))
           (λ _. h)
 
       reply_keeps : (s role generation : ℕ) → P (on_role_reply kinds setup c s role generation)

@@ -14,15 +14,15 @@ use Rattle.vr_log.specs.declared.state.Supplied.{Supplied}
 use Rattle.vr_log.specs.declared.state.VrState.{VrState}
 use Rattle.vr_log.specs.Members.{most_failures, is_primary}
 use Rattle.vr_log.specs.Choosing.{best_of, least_commit, greatest_commit, front_with, front}
-use Rattle.view_change.specs.Entering.{started}
-use Rattle.view_change.specs.Adopting.{adopted}
+use Rattle.view_change.specs.Entering.{started_view}
+use Rattle.view_change.specs.Adopting.{adopted_log}
 use Rattle.vr_recovery.specs.Cases.{lacking}
 use Rattle.vr_recovery.specs.Recovering.{filled, newest, with_response}
 use Rattle.vr_core.specs.declared.input.VrInput.{VrInput}
 use Rattle.list_facts.proofs.Elements.{in_append}
 use Rattle.list_facts.specs.Lists.{IsIn}
 use Rattle.controller_laws.specs.Entries.{EachFrom, IsGoodBeside, StateHolds, FilledHolds, MessageHolds, MemberInputHolds, BoundRises, IsConsistent}
-use Rattle.controller_laws.specs.MemberMoves.{Brings, One, Several, Shows, Starting, Standing, MemberMove, Enters, Tallies, Collects, Stocks, Starts, Adopts, Recovers, Appends, Commits, Keeps, IsSaidByMember, AsksVote, SendsLog, TellsStart, Repeats, TellsCommit, Acknowledges, AsksLog, AsksAll, Answers, TellsLog, AsksFront, TellsFront}
+use Rattle.controller_laws.specs.MemberMoves.{Brings, One, Several, ShowsMember, Starting, Standing, MemberMove, Enters, Tallies, Collects, Stocks, Starts, Adopts, Recovers, Appends, Commits, Keeps, IsSaidByMember, AsksVote, SendsLog, TellsStart, Repeats, TellsCommit, Acknowledges, AsksLog, AsksAll, Answers, TellsLog, AsksFront, TellsFront}
 use Rattle.controller_laws.proofs.MemberLogs.{best_among, most_of_all}
 use Rattle.controller_laws.proofs.Places.{stands_append, stands_take, stands_drop, stands_get, raised, covered, bare}
 
@@ -69,7 +69,7 @@ module _ (IsGood : ℕ → Entry → Type 0) (IsBound : ℕ → ℕ → Entry �
   start_choice false log k all most = most
 
   starts_holds : (s : VrState) (c : Collected) (cs : List Collected) → IsConsistent s → StateHolds IsGood IsBound s → s.collected ≡ c ∷ cs → (best_of c cs).commit ≤ length (front s) →
-      StateHolds IsGood IsBound (started s (take (best_of c cs).commit (front s) ++ (best_of c cs).log) (least_commit c.commit cs) (greatest_commit c.commit cs))
+      StateHolds IsGood IsBound (started_view s (take (best_of c cs).commit (front s) ++ (best_of c cs).log) (least_commit c.commit cs) (greatest_commit c.commit cs))
   starts_holds s c cs kept h is long =
       let best = best_of c cs in
       let most = greatest_commit c.commit cs in
@@ -89,7 +89,7 @@ module _ (IsGood : ℕ → Entry → Type 0) (IsBound : ℕ → ℕ → Entry �
 
   -- a log that is adopted
   adopts_holds : (s : VrState) (view first commit : ℕ) (log : List Entry) → IsConsistent s → StateHolds IsGood IsBound s → first ≤ s.commit → EachFrom (IsGoodBeside IsGood IsBound commit) first log →
-      StateHolds IsGood IsBound (adopted s view first commit log)
+      StateHolds IsGood IsBound (adopted_log s view first commit log)
   adopts_holds s view first commit log kept h low came =
       let within = kept.commit in
       let k = max s.commit commit in
@@ -133,7 +133,7 @@ module _ (IsGood : ℕ → Entry → Type 0) (IsBound : ℕ → ℕ → Entry �
       subst (λ (l : List Entry). EachFrom (IsGoodBeside IsGood IsBound commit) (length s.log) l) (sym is)
       (subst (λ (n : ℕ). EachFrom (IsGoodBeside IsGood IsBound commit) n (lacking s first log)) place (stands_drop (IsGoodBeside IsGood IsBound commit) first (length s.log - first) log m))
 
-  shows_holds : (x : VrInput) (view first commit : ℕ) (log : List Entry) → MemberInputHolds IsGood IsBound x → Shows x view first commit log → EachFrom (IsGoodBeside IsGood IsBound commit) first log
+  shows_holds : (x : VrInput) (view first commit : ℕ) (log : List Entry) → MemberInputHolds IsGood IsBound x → ShowsMember x view first commit log → EachFrom (IsGoodBeside IsGood IsBound commit) first log
   shows_holds x view first commit log input (Starting from asks) = subst (λ (y : VrInput). MemberInputHolds IsGood IsBound y) asks input
   shows_holds x view first commit log input (Standing from asks) = subst (λ (y : VrInput). MemberInputHolds IsGood IsBound y) asks input
 

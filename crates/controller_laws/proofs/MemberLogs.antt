@@ -15,8 +15,8 @@ use Rattle.vr_log.specs.Members.{is_normal, is_changing, most_failures, is_prima
 use Rattle.vr_log.specs.Same.{same_entries}
 use Rattle.vr_log.specs.Steps.{is_sound}
 use Rattle.vr_log.specs.Choosing.{has_collected, may_choose, best_of, least_commit, greatest_commit, front, is_better}
-use Rattle.view_change.specs.Entering.{entered, started}
-use Rattle.view_change.specs.Adopting.{adopted}
+use Rattle.view_change.specs.Entering.{entered_view, started_view}
+use Rattle.view_change.specs.Adopting.{adopted_log}
 use Rattle.vr_core.specs.declared.input.VrInput.{VrInput}
 use Rattle.vr_log.proofs.Equal.{entries_equal}
 use Rattle.vr_log.proofs.Logs.{IsLog_is, IsLog_append}
@@ -114,8 +114,8 @@ module _ (x : VrInput) (s : VrState) (h : IsConsistent s) where
   not_other : (b : Bool) (n m : ℕ) → n ≡ m → (b && not (nat_eq n m)) ≡ true → ⊥
   not_other b n m e k = let same : nat_eq n m ≡ true = eq-eqb n m e in let off = (and_parts b (not (nat_eq n m)) k).1 in let z : not (nat_eq n m) ≡ false = ap not same in cc
 
-  enters_lasts : (view : ℕ) → Lasts s (entered s view)
-  enters_lasts view = stays (entered s view) refl refl (λ p e. absurd cc) (λ _ c k. absurd k) refl refl
+  enters_lasts : (view : ℕ) → Lasts s (entered_view s view)
+  enters_lasts view = stays (entered_view s view) refl refl (λ p e. absurd cc) (λ _ c k. absurd k) refl refl
 
   collects_lasts : (c : Collected) → (c.from ≡ s.me → c.commit ≡ s.commit) → Lasts s (record s { collected = s.collected ++ c ∷ [] })
   collects_lasts c mine =
@@ -172,15 +172,15 @@ module _ (x : VrInput) (s : VrState) (h : IsConsistent s) where
       subst (λ (t : VrState). Lasts s t) (sym is) (stays (record s { supply = Some (record { first = first; log = log }) }) refl refl
       (λ p e. let z : record { first = first; log = log } ≡ p = cc in subst (λ (q : Supplied). q.first ≤ s.commit) z low) h.own refl refl)
   move_lasts s' (Starts c cs collected may long sound is) =
-      let new = started s (take (best_of c cs).commit (front s) ++ (best_of c cs).log) (least_commit c.commit cs) (greatest_commit c.commit cs) in
+      let new = started_view s (take (best_of c cs).commit (front s) ++ (best_of c cs).log) (least_commit c.commit cs) (greatest_commit c.commit cs) in
       let sound' : is_sound s new ≡ true = ap (λ (t : VrState). is_sound s t) (sym is) ∙ sound in
       subst (λ (t : VrState). Lasts s t) (sym is)
       (sound_lasts new sound' (started_low (nat_eq (most_failures s) 0) (length new.log) (greatest_commit c.commit cs) (sound_reach new sound') (start_most c cs collected may)) refl refl refl refl)
   move_lasts s' (Adopts view first commit log shows newer low sound is) =
-      let new = adopted s view first commit log in
+      let new = adopted_log s view first commit log in
       subst (λ (t : VrState). Lasts s t) (sym is) (sound_lasts new (ap (λ (t : VrState). is_sound s t) (sym is) ∙ sound) (omega arith) refl refl refl refl)
   move_lasts s' (Recovers view r told among view_is filled_is off sound is) =
-      let new = adopted (record s { responses = [] }) view 0 told.commit told.log in
+      let new = adopted_log (record s { responses = [] }) view 0 told.commit told.log in
       subst (λ (t : VrState). Lasts s t) (sym is) (sound_lasts new (ap (λ (t : VrState). is_sound s t) (sym is) ∙ sound) (omega arith) refl refl refl refl)
   move_lasts s' (Appends commit more normal fit brings is) =
       let low = h.commit in let long = length-append s.log more in

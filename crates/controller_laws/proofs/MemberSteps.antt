@@ -18,11 +18,11 @@ use Rattle.vr_log.specs.Steps.{VrStep, quiet, sends, letter, tells, to_others, t
 use Rattle.vr_log.specs.Choosing.{has_collected, may_choose, best_of, front, reaches, fetch_from, fetches}
 use Rattle.vr_normal.specs.Cases.{asks_later, from_primary, commits, prepares, prepare, commit_told, ops, agreed, is_agreed, acked_by, counted, is_counted, prepare_ok}
 use Rattle.vr_normal.specs.Ticks.{prepares_from, repeated, repeats_to, sent_log, tick_primary, tick_changing, tick_recovering}
-use Rattle.view_change.specs.Entering.{sends_log, entered, enter, voted, collects, own_log, starts, chooses_from, chooses, check}
-use Rattle.view_change.specs.Adopting.{adopted, adopt_letters, adopt}
-use Rattle.view_change.specs.Cases.{enters, suspect, vote_here, start_view_change, collect, do_view_change, start_view, is_change, fetch, is_wanted, supplied, supply}
+use Rattle.view_change.specs.Entering.{sends_log, entered_view, enter, voted, collects, own_log, starts, chooses_from, chooses, check}
+use Rattle.view_change.specs.Adopting.{adopted_log, adopt_letters, adopt}
+use Rattle.view_change.specs.Cases.{enters, suspect, vote_here, start_view_change, collect, do_view_change, start_view, is_change, fetch, is_message_wanted, supplied, supply}
 use Rattle.vr_recovery.specs.Cases.{is_answered, get_state, is_longer, lacking, is_adopted, new_state}
-use Rattle.vr_recovery.specs.Recovering.{recovery, responded, greatest_view, told_log, primary_log, is_enough, ending, ends_with, recovers, response}
+use Rattle.vr_recovery.specs.Recovering.{recovery, responded, greatest_view_told, told_log, primary_log, are_responses_enough, ending, ends_with, recovers, response}
 use Rattle.vr_core.specs.declared.input.VrInput.{VrInput}
 use Rattle.vr_core.specs.declared.input.VrInput.TheVariants as vr_input
 use Rattle.vr_core.specs.Step.{on_vr, vr_step}
@@ -32,7 +32,7 @@ use Rattle.list_facts.proofs.Elements.{in_append, in_flat_map, in_map}
 use Rattle.list_facts.proofs.Places.{get_dropped}
 use Rattle.list_facts.specs.Lists.{IsIn}
 use Rattle.controller_laws.specs.Views.{TellsView, Suspected, Told}
-use Rattle.controller_laws.specs.MemberMoves.{One, Several, Shows, Starting, Standing, MemberMove, Enters, Tallies, Collects, Stocks, Starts, Adopts, Recovers, Appends, Commits, Keeps, IsSaidByMember, AsksVote, SendsLog, TellsStart, Repeats, TellsCommit, Acknowledges, AsksLog, AsksAll, Answers, TellsLog, AsksFront, TellsFront}
+use Rattle.controller_laws.specs.MemberMoves.{One, Several, ShowsMember, Starting, Standing, MemberMove, Enters, Tallies, Collects, Stocks, Starts, Adopts, Recovers, Appends, Commits, Keeps, IsSaidByMember, AsksVote, SendsLog, TellsStart, Repeats, TellsCommit, Acknowledges, AsksLog, AsksAll, Answers, TellsLog, AsksFront, TellsFront}
 
 -- letters to several are one each
 mapped_said : (s : VrState) (m : VrMessage) (to : List ℕ) (says : (j : ℕ) (l : VrLetter) → l ≡ letter m j → IsSaidByMember s l) (l : VrLetter) → IsIn l (map (letter m) to) → IsSaidByMember s l
@@ -206,10 +206,10 @@ module _ (x : VrInput) (P : VrState → List VrLetter → Type 0)
       (λ _. sends_log_goes_on s) (λ _ sound. chained s (quiet s) chooses (rests s) (chooses_does s sound))
 
   enter_does : (s : VrState) (view : ℕ) → s.view < view → TellsView x view → Does s (enter s view)
-  enter_does s view less has = lands_said s (entered s view) (to_others s (message.StartViewChange view)) (Enters view less has refl) (mapped_said (entered s view) _ _ (λ j l e. AsksVote j e))
+  enter_does s view less has = lands_said s (entered_view s view) (to_others s (message.StartViewChange view)) (Enters view less has refl) (mapped_said (entered_view s view) _ _ (λ j l e. AsksVote j e))
 
   enters_does : (s : VrState) (view : ℕ) → s.view < view → TellsView x view → Does s (guarded s (enters s view))
-  enters_does s view less has = checked s (enters s view) (λ sound. chained s (enter s view) check (enter_does s view less has) (check_does (entered s view) sound))
+  enters_does s view less has = checked s (enters s view) (λ sound. chained s (enter s view) check (enter_does s view less has) (check_does (entered_view s view) sound))
 
   later_is : (s : VrState) (view : ℕ) → is_later s view ≡ true → s.view < view
   later_is s view h = ltb-true s.view view (and_parts (is_up s) (nat_lt s.view view) h).1
@@ -228,7 +228,7 @@ module _ (x : VrInput) (P : VrState → List VrLetter → Type 0)
       of_other s from _ (λ _. cond_both (is_later s view) _ _ (Does s)
       (λ later. checked s (then_step (enter s view) (λ next. check (voted next from))) (λ sound.
       chained s (enter s view) (λ next. check (voted next from)) (enter_does s view (later_is s view later) (Told from (message.StartViewChange view) is refl))
-      (moved (entered s view) (voted (entered s view) from) (check (voted (entered s view) from)) (Tallies _ false s.acked refl) (check_does (voted (entered s view) from) sound))))
+      (moved (entered_view s view) (voted (entered_view s view) from) (check (voted (entered_view s view) from)) (Tallies _ false s.acked refl) (check_does (voted (entered_view s view) from) sound))))
       (λ _. cond_both (nat_eq view s.view) _ _ (Does s) (λ _. vote_does s from) (λ _. rests s)))
 
   collects_does : (s : VrState) (view : ℕ) (c : Collected) → is_other s c.from ≡ true → x ≡ vr_input.From c.from (message.DoViewChange view c.normal c.commit c.log) → is_sound s (check (collects s c)).state ≡ true → Does s (check (collects s c))
@@ -242,7 +242,7 @@ module _ (x : VrInput) (P : VrState → List VrLetter → Type 0)
       cond_both (is_later s view) _ _ (Does s)
       (λ later. checked s (then_step (enter s view) (λ next. check (collects next c))) (λ sound.
       chained s (enter s view) (λ next. check (collects next c)) (enter_does s view (later_is s view later) (Told c.from (message.DoViewChange view c.normal c.commit c.log) is refl))
-      (collects_does (entered s view) view c other is sound)))
+      (collects_does (entered_view s view) view c other is sound)))
       (λ _. cond_both (nat_eq view s.view && is_changing s) _ _ (Does s)
       (λ _. checked s (check (collects s c)) (collects_does s view c other is))
       (λ _. rests s))
@@ -255,13 +255,13 @@ module _ (x : VrInput) (P : VrState → List VrLetter → Type 0)
   adopt_said : (s : VrState) (commit : ℕ) (l : VrLetter) → IsIn l (adopt_letters s commit) → IsSaidByMember s l
   adopt_said s commit = cond_both (nat_lt commit (length s.log)) _ _ (λ ls. (l : VrLetter) → IsIn l ls → IsSaidByMember s l) (λ _. one_said s _ (λ l e. Acknowledges _ e)) (λ _ l h. absurd h)
 
-  adopt_does : (s : VrState) (view first commit : ℕ) (log : List Entry) → Shows x view first commit log → is_newer s view ≡ true →
+  adopt_does : (s : VrState) (view first commit : ℕ) (log : List Entry) → ShowsMember x view first commit log → is_newer s view ≡ true →
       is_sound s (adopt s view first commit log).state ≡ true → Does s (adopt s view first commit log)
   adopt_does s view first commit log shows newer =
       cond_both (nat_lt s.commit first) _ _ (λ t. is_sound s t.state ≡ true → Does s t)
       (λ _ sound. asked s _ _ _)
       (λ low sound. let l = ltb-false s.commit first low in
-      lands_said s (adopted s view first commit log) (adopt_letters (adopted s view first commit log) commit) (Adopts view first commit log shows newer (omega arith) sound refl) (adopt_said (adopted s view first commit log) commit))
+      lands_said s (adopted_log s view first commit log) (adopt_letters (adopted_log s view first commit log) commit) (Adopts view first commit log shows newer (omega arith) sound refl) (adopt_said (adopted_log s view first commit log) commit))
 
   view_does : (s : VrState) (from view first commit : ℕ) (log : List Entry) → x ≡ vr_input.From from (message.StartView view first commit log) → Does s (start_view s from (message.StartView view first commit log))
   view_does s from view first commit log is =
@@ -277,7 +277,7 @@ module _ (x : VrInput) (P : VrState → List VrLetter → Type 0)
 
   supply_does : (s : VrState) (from view first : ℕ) (log : List Entry) → x ≡ vr_input.From from (message.Supply view first log) → Does s (supply s from (message.Supply view first log))
   supply_does s from view first log is =
-      of_other s from _ (λ _. cond_both (is_wanted s view first log) _ _ (Does s)
+      of_other s from _ (λ _. cond_both (is_message_wanted s view first log) _ _ (Does s)
       (λ ok.
       let low = (and_parts (is_change s view && is_primary s) (nat_le first s.commit) (and_parts (is_change s view && is_primary s && nat_le first s.commit) (nat_lt (length (front s)) (first + length log)) ok).0).1 in
       checked s (check (supplied s first log)) (λ sound.
@@ -314,18 +314,18 @@ module _ (x : VrInput) (P : VrState → List VrLetter → Type 0)
       (λ _. said s _ (one_said s _ (λ l e. Answers from nonce e))))
       (λ _. rests s))
 
-  ends_does : (s : VrState) (o : Option Filled) → ending s ≡ o → is_recovering s ≡ true → is_sound s (ends_with s (greatest_view s.responses) o).state ≡ true → Does s (ends_with s (greatest_view s.responses) o)
+  ends_does : (s : VrState) (o : Option Filled) → ending s ≡ o → is_recovering s ≡ true → is_sound s (ends_with s (greatest_view_told s.responses) o).state ≡ true → Does s (ends_with s (greatest_view_told s.responses) o)
   ends_does s None is off = λ _. rests s
   ends_does s (Some told) is off =
-      let view = greatest_view s.responses in
+      let view = greatest_view_told s.responses in
       let bare : VrState = record s { responses = [] } in
-      let known : primary_log s view ≡ Some told = cond_both (is_enough s) (primary_log s view) None (λ (o : Option Filled). o ≡ Some told → primary_log s view ≡ Some told) (λ _ e. e) (λ _ e. absurd cc) is in
+      let known : primary_log s view ≡ Some told = cond_both (are_responses_enough s) (primary_log s view) None (λ (o : Option Filled). o ≡ Some told → primary_log s view ≡ Some told) (λ _ e. e) (λ _ e. absurd cc) is in
       let r = of_response s view told (find (λ r. nat_eq r.from (primary_of s view)) s.responses) refl known in
       cond_both (nat_lt s.commit 0) _ _ (λ t. is_sound s t.state ≡ true → Does s t)
       (λ less sound. let l = ltb-true s.commit 0 less in absurd (omega arith))
       (λ _ sound.
-      lands_said s (adopted bare view 0 told.commit told.log) (adopt_letters (adopted bare view 0 told.commit told.log) told.commit) (Recovers view r.r told r.among r.view_is r.filled_is off sound refl)
-      (adopt_said (adopted bare view 0 told.commit told.log) told.commit))
+      lands_said s (adopted_log bare view 0 told.commit told.log) (adopt_letters (adopted_log bare view 0 told.commit told.log) told.commit) (Recovers view r.r told r.among r.view_is r.filled_is off sound refl)
+      (adopt_said (adopted_log bare view 0 told.commit told.log) told.commit))
 
   response_does : (s : VrState) (from view nonce : ℕ) (f : Option Filled) → x ≡ vr_input.From from (message.RecoveryResponse view nonce f) → Does s (response s from (message.RecoveryResponse view nonce f))
   response_does s from view nonce f is =

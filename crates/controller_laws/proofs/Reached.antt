@@ -12,7 +12,7 @@ use Rattle.vr_log.specs.declared.state.VrState.{VrState}
 use Rattle.vr_log.specs.Log.{is_past_limits}
 use Rattle.vr_log.specs.Members.{is_normal, is_primary, leads, most_failures, others}
 use Rattle.vr_log.specs.Steps.{letter, to_others}
-use Rattle.dispatcher.specs.Marks.{Marks, has_result, is_pending, with_mark, with_result}
+use Rattle.dispatcher.specs.Marks.{Marks, has_result, is_pending, with_mark, with_marked_result}
 use Rattle.group_controller.specs.declared.messages.ControllerInput.{ControllerInput}
 use Rattle.group_controller.specs.declared.messages.ControllerInput.TheVariants as controller_input
 use Rattle.group_controller.specs.declared.messages.ControllerSays.{ControllerSays}
@@ -23,9 +23,9 @@ use Rattle.vr_log.proofs.Logs.{IsLog_is, IsLog_push}
 use Rattle.list_facts.proofs.Elements.{in_append, in_map}
 use Rattle.list_facts.proofs.Prefixes.{prefix_refl, prefix_trans, take_prefixes}
 use Rattle.list_facts.specs.Lists.{IsIn, IsPrefix}
-use Rattle.controller_laws.specs.Moves.{member_input, IsSaid, Prepares, Move, Steps, Says, Saves, Begins, Proposes, Results, Notes, IsProposed, Chain, Start, Then}
+use Rattle.controller_laws.specs.Moves.{member_input, IsSaid, Prepares, ControllerMove, Steps, Says, Saves, Begins, Proposes, Results, Notes, IsProposed, Chain, Start, Then}
 use Rattle.controller_laws.specs.Entries.{IsConsistent}
-use Rattle.controller_laws.specs.Turns.{beginning, IsSaidWithin, IsMarked, Stood, Came, IsReached}
+use Rattle.controller_laws.specs.Turns.{beginning, IsSaidWithin, HoldsMark, Stood, Came, IsReached}
 use Rattle.controller_laws.proofs.MemberLogs.{move_lasts, normal_not_changing}
 use Rattle.controller_laws.proofs.ControllerTurns.{turn_keeps}
 use Rattle.controller_laws.proofs.Finished.{proposal_follows}
@@ -40,8 +40,8 @@ module _ (kinds : List ℕ) (setup : Setup) (x : ControllerInput) (c : Controlle
   said_on : (w w' : Work) (l : Letter ControllerSays) → IsPrefix (committed w.state) (committed w'.state) → IsSaidWithin kinds setup x c w.state l → IsSaidWithin kinds setup x c w'.state l
   said_on w w' l more h = record { mid = h.mid; chain = h.chain; consistent = h.consistent; grows = prefix_trans h.grows more; said = h.said }
 
-  goes_on : (w w' : Work) → IsReached kinds setup x c w → Move kinds setup x w w' → IsConsistent w'.state.vr → IsPrefix (committed w.state) (committed w'.state) → w'.state.vr.me ≡ w.state.vr.me →
-      w'.state.vr.controllers ≡ w.state.vr.controllers → ((s l i : ℕ) → IsIn (s, l, i) w'.state.marks.acked → IsMarked x c s l i) → (more : List (Letter ControllerSays)) → w'.letters ≡ w.letters ++ more →
+  goes_on : (w w' : Work) → IsReached kinds setup x c w → ControllerMove kinds setup x w w' → IsConsistent w'.state.vr → IsPrefix (committed w.state) (committed w'.state) → w'.state.vr.me ≡ w.state.vr.me →
+      w'.state.vr.controllers ≡ w.state.vr.controllers → ((s l i : ℕ) → IsIn (s, l, i) w'.state.marks.acked → HoldsMark x c s l i) → (more : List (Letter ControllerSays)) → w'.letters ≡ w.letters ++ more →
       ((l : Letter ControllerSays) → IsIn l more → IsSaid kinds setup x w.state l) → IsReached kinds setup x c w'
   goes_on w w' r move kept grows me controllers marks more letters says =
       record {
@@ -59,31 +59,31 @@ module _ (kinds : List ℕ) (setup : Setup) (x : ControllerInput) (c : Controlle
 
   -- the member stays
   notes_on : (w : Work) (s : ControllerState) (save : Option (ℕ × ℕ)) (more : List (Letter ControllerSays)) → s.vr ≡ w.state.vr → IsReached kinds setup x c w →
-      Move kinds setup x w (record { state = s; save = save; letters = w.letters ++ more }) → ((s' l i : ℕ) → IsIn (s', l, i) s.marks.acked → IsMarked x c s' l i) →
+      ControllerMove kinds setup x w (record { state = s; save = save; letters = w.letters ++ more }) → ((s' l i : ℕ) → IsIn (s', l, i) s.marks.acked → HoldsMark x c s' l i) →
       ((l : Letter ControllerSays) → IsIn l more → IsSaid kinds setup x w.state l) → IsReached kinds setup x c (record { state = s; save = save; letters = w.letters ++ more })
   notes_on w s save more same r move marks says =
       goes_on w (record { state = s; save = save; letters = w.letters ++ more }) r move (subst (λ (v : VrState). IsConsistent v) (sym same) r.consistent)
       (subst (λ (v : VrState). IsPrefix (committed w.state) (take v.commit v.log)) (sym same) (prefix_refl (committed w.state)))
       (ap (λ (v : VrState). v.me) same) (ap (λ (v : VrState). v.controllers) same) marks more refl says
 
-  quietly : (w : Work) (s : ControllerState) (save : Option (ℕ × ℕ)) → s.vr ≡ w.state.vr → IsReached kinds setup x c w → Move kinds setup x w (record { state = s; save = save; letters = w.letters }) →
-      ((s' l i : ℕ) → IsIn (s', l, i) s.marks.acked → IsMarked x c s' l i) → IsReached kinds setup x c (record { state = s; save = save; letters = w.letters })
+  quietly : (w : Work) (s : ControllerState) (save : Option (ℕ × ℕ)) → s.vr ≡ w.state.vr → IsReached kinds setup x c w → ControllerMove kinds setup x w (record { state = s; save = save; letters = w.letters }) →
+      ((s' l i : ℕ) → IsIn (s', l, i) s.marks.acked → HoldsMark x c s' l i) → IsReached kinds setup x c (record { state = s; save = save; letters = w.letters })
   quietly w s save same r move marks =
       goes_on w (record { state = s; save = save; letters = w.letters }) r move (subst (λ (v : VrState). IsConsistent v) (sym same) r.consistent)
       (subst (λ (v : VrState). IsPrefix (committed w.state) (take v.commit v.log)) (sym same) (prefix_refl (committed w.state)))
       (ap (λ (v : VrState). v.me) same) (ap (λ (v : VrState). v.controllers) same) marks [] (sym (append-nil w.letters)) (λ l k. absurd k)
 
   -- a result that counts is marked
-  result_marked : (log : List Entry) (m : Marks) (s l i s' l' i' : ℕ) → (IsIn (s', l', i') m.acked → IsMarked x c s' l' i') → IsMarked x c s l i →
-      IsIn (s', l', i') (with_result kinds setup log m s l i).acked → IsMarked x c s' l' i'
+  result_marked : (log : List Entry) (m : Marks) (s l i s' l' i' : ℕ) → (IsIn (s', l', i') m.acked → HoldsMark x c s' l' i') → HoldsMark x c s l i →
+      IsIn (s', l', i') (with_marked_result kinds setup log m s l i).acked → HoldsMark x c s' l' i'
   result_marked log m s l i s' l' i' old new =
-      cond_both (is_pending kinds setup log s l i) (with_mark m s l i) m (λ (n : Marks). IsIn (s', l', i') n.acked → IsMarked x c s' l' i')
-      (λ _. cond_both (has_result m s l i) m (record m { acked = m.acked ++ (s, l, i) ∷ [] }) (λ (n : Marks). IsIn (s', l', i') n.acked → IsMarked x c s' l' i')
+      cond_both (is_pending kinds setup log s l i) (with_mark m s l i) m (λ (n : Marks). IsIn (s', l', i') n.acked → HoldsMark x c s' l' i')
+      (λ _. cond_both (has_result m s l i) m (record m { acked = m.acked ++ (s, l, i) ∷ [] }) (λ (n : Marks). IsIn (s', l', i') n.acked → HoldsMark x c s' l' i')
       (λ _. old)
       (λ _ k. elim (in_append (s', l', i') m.acked ((s, l, i) ∷ []) k) [
         | inl a ↦ old a
         | inr b ↦ elim b [
-          | inl e ↦ subst (λ (t : ℕ × ℕ × ℕ). IsMarked x c t.0 t.1 t.2) (sym e) new
+          | inl e ↦ subst (λ (t : ℕ × ℕ × ℕ). HoldsMark x c t.0 t.1 t.2) (sym e) new
           | inr none ↦ absurd none
         ]
       ]))
@@ -91,7 +91,7 @@ module _ (kinds : List ℕ) (setup : Setup) (x : ControllerInput) (c : Controlle
 
   -- an entry that is proposed
   proposes_on : (w : Work) (entry : Entry) → IsReached kinds setup x c w → leads w.state.vr ≡ true → IsProposed kinds setup x w.state entry → is_past_limits w.state.vr.log entry ≡ false →
-      Move kinds setup x w (with_proposal w entry) → IsReached kinds setup x c (with_proposal w entry)
+      ControllerMove kinds setup x w (with_proposal w entry) → IsReached kinds setup x c (with_proposal w entry)
   proposes_on w entry r lead proposed room move =
       let s = w.state.vr in
       let within = r.consistent.commit in
@@ -111,7 +111,7 @@ module _ (kinds : List ℕ) (setup : Setup) (x : ControllerInput) (c : Controlle
       let b = in_map (letter (message.Prepare s.view (length s.log + 1) s.commit entry)) (others s) a.0 a.1 in
       Prepares b.0 entry lead proposed (a.2 ∙ ap (λ (m : VrLetter). to_member m) b.2))
 
-  pub move_reaches : (w w' : Work) → Move kinds setup x w w' → IsReached kinds setup x c w → IsReached kinds setup x c w'
+  pub move_reaches : (w w' : Work) → ControllerMove kinds setup x w w' → IsReached kinds setup x c w → IsReached kinds setup x c w'
   move_reaches w w' (Steps s move is) r =
       let lasts = move_lasts (member_input x) w.state.vr r.consistent s move in
       subst (λ (v : Work). IsReached kinds setup x c v) (sym is)
@@ -132,7 +132,7 @@ module _ (kinds : List ℕ) (setup : Setup) (x : ControllerInput) (c : Controlle
       subst (λ (v : Work). IsReached kinds setup x c v) (sym is) (quietly w _ w.save refl r (Notes confirmed told full refl) r.marks)
 
   -- what is committed stays
-  pub move_grows : (w w' : Work) → Move kinds setup x w w' → IsConsistent w.state.vr → IsPrefix (committed w.state) (committed w'.state)
+  pub move_grows : (w w' : Work) → ControllerMove kinds setup x w w' → IsConsistent w.state.vr → IsPrefix (committed w.state) (committed w'.state)
   move_grows w w' (Steps s move is) kept = subst (λ (v : Work). IsPrefix (committed w.state) (committed v.state)) (sym is) (move_lasts (member_input x) w.state.vr kept s move).grows
   move_grows w w' (Says ls all is) kept = subst (λ (v : Work). IsPrefix (committed w.state) (committed v.state)) (sym is) (prefix_refl (committed w.state))
   move_grows w w' (Saves save is) kept = subst (λ (v : Work). IsPrefix (committed w.state) (committed v.state)) (sym is) (prefix_refl (committed w.state))

@@ -13,7 +13,7 @@ use Rattle.controller_laws.specs.MemberMoves as moves
 use Rattle.controller_laws.specs.Views as views
 use Rattle.controller_laws.specs.MemberMoves.{MemberMove}
 use Rattle.controller_laws.specs.Views.{TellsView, StateViews, MemberInputViews, view_told, IsKnownView, Own, OfResponse, OfInput}
-use Rattle.controller_laws.specs.Moves.{member_input, Move, Steps, Says, Saves, Begins, Proposes, Results, Notes, Chain, Start, Then}
+use Rattle.controller_laws.specs.Moves.{member_input, ControllerMove, Steps, Says, Saves, Begins, Proposes, Results, Notes, Chain, Start, Then}
 use Rattle.controller_laws.specs.Turns.{beginning}
 use Rattle.controller_laws.proofs.MemberEntries.{response_among}
 
@@ -23,7 +23,7 @@ module _ (kinds : List ℕ) (setup : Setup) (x : ControllerInput) (c : Controlle
     has_view view (views.Suspected is) = subst (λ (y : VrInput). MemberInputViews IsView y) is came
     has_view view (views.Told from m is view_is) = subst IsView (sym view_is) (subst (λ (y : VrInput). MemberInputViews IsView y) is came)
 
-    shown_view : (view first commit : ℕ) (log : List Entry) → moves.Shows (member_input x) view first commit log → IsView view
+    shown_view : (view first commit : ℕ) (log : List Entry) → moves.ShowsMember (member_input x) view first commit log → IsView view
     shown_view view first commit log (moves.Starting from is) = subst (λ (y : VrInput). MemberInputViews IsView y) is came
     shown_view view first commit log (moves.Standing from is) = subst (λ (y : VrInput). MemberInputViews IsView y) is came
 
@@ -52,7 +52,7 @@ module _ (kinds : List ℕ) (setup : Setup) (x : ControllerInput) (c : Controlle
     chain_views h w Start = h
     chain_views h w (Then v v' chain move) = on_move v w move (chain_views h v chain)
       where
-        on_move : (v w : Work) → Move kinds setup x v w → StateViews IsView v.state.vr → StateViews IsView w.state.vr
+        on_move : (v w : Work) → ControllerMove kinds setup x v w → StateViews IsView v.state.vr → StateViews IsView w.state.vr
         on_move v w (Steps s m is) k = subst (λ (u : Work). StateViews IsView u.state.vr) (sym is) (member_views v.state.vr s m k)
         on_move v w (Says ls all is) k = subst (λ (u : Work). StateViews IsView u.state.vr) (sym is) k
         on_move v w (Saves save is) k = subst (λ (u : Work). StateViews IsView u.state.vr) (sym is) k

@@ -19,7 +19,7 @@ use Rattle.controller_laws.specs.Moves as said_of
 use Rattle.list_facts.proofs.Elements.{in_append, in_map}
 use Rattle.list_facts.proofs.Prefixes.{prefix_trans}
 use Rattle.list_facts.specs.Lists.{IsIn, IsPrefix}
-use Rattle.controller_laws.specs.Moves.{member_input, IsSaid, Prepares, Asks, Commands, Acks, Clears, Echoes, Move, Steps, Says, Saves, Begins, Proposes, Results, Notes, IsProposed, Chain, Start, Then}
+use Rattle.controller_laws.specs.Moves.{member_input, IsSaid, Prepares, Asks, Commands, Acks, Clears, Echoes, ControllerMove, Steps, Says, Saves, Begins, Proposes, Results, Notes, IsProposed, Chain, Start, Then}
 use Rattle.controller_laws.specs.Entries.{EachFrom, IsGoodBeside, StateHolds, MemberInputHolds, BoundRises, IsConsistent, SaysHold, InputHolds, WorkHolds}
 use Rattle.controller_laws.specs.Turns.{beginning, IsReached, ProposalsHold}
 use Rattle.controller_laws.proofs.Places.{raised, at_raised, stands_append}
@@ -70,7 +70,7 @@ module _ (kinds : List ℕ) (setup : Setup) (x : ControllerInput) (c : Controlle
         (l : Letter ControllerSays) → IsIn l (w.letters ++ more) → SaysHold IsGood IsBound l.body
     more_hold w more r front h says l k = elim (in_append l w.letters more k) [ inl old ↦ h.letters l old | inr new ↦ says_hold w l r front h.state (says l new) ]
 
-    step_holds : (w w' : Work) → Move kinds setup x w w' → IsReached kinds setup x c w → IsPrefix (committed w.state) (committed last) → WorkHolds IsGood IsBound w → WorkHolds IsGood IsBound w'
+    step_holds : (w w' : Work) → ControllerMove kinds setup x w w' → IsReached kinds setup x c w → IsPrefix (committed w.state) (committed last) → WorkHolds IsGood IsBound w → WorkHolds IsGood IsBound w'
     step_holds w w' (Steps s move is) r front h =
         subst (λ (v : Work). WorkHolds IsGood IsBound v) (sym is) (record { state = move_holds IsGood IsBound grows (member_input x) w.state.vr s (member_holds x input) r.consistent move h.state; letters = h.letters })
     step_holds w w' (Says ls all is) r front h = subst (λ (v : Work). WorkHolds IsGood IsBound v) (sym is) (record { state = h.state; letters = more_hold w ls r front h all })

@@ -11,8 +11,8 @@ use Rattle.vr_log.specs.Log.{follows}
 use Rattle.vr_log.specs.Members.{is_normal, is_recovering, is_other, is_newer}
 use Rattle.vr_log.specs.Steps.{letter, is_sound}
 use Rattle.vr_log.specs.Choosing.{may_choose, best_of, least_commit, greatest_commit, front}
-use Rattle.view_change.specs.Entering.{entered, own_log, view_start, started}
-use Rattle.view_change.specs.Adopting.{adopted}
+use Rattle.view_change.specs.Entering.{entered_view, own_log, view_start, started_view}
+use Rattle.view_change.specs.Adopting.{adopted_log}
 use Rattle.vr_recovery.specs.Cases.{lacking}
 use Rattle.vr_recovery.specs.Recovering.{filled, with_response}
 use Rattle.vr_core.specs.declared.input.VrInput.{VrInput}
@@ -27,24 +27,24 @@ pub data Brings (x : VrInput) (s : VrState) (commit : ℕ) (more : List Entry) :
       more ≡ lacking s first log → Brings x s commit more
 
 -- an input shows the log of a view that has started
-pub data Shows (x : VrInput) (view first commit : ℕ) (log : List Entry) : Type 0 where
-  Starting : (from : ℕ) → x ≡ vr_input.From from (message.StartView view first commit log) → Shows x view first commit log
-  Standing : (from : ℕ) → x ≡ vr_input.From from (message.NewState view first commit log) → Shows x view first commit log
+pub data ShowsMember (x : VrInput) (view first commit : ℕ) (log : List Entry) : Type 0 where
+  Starting : (from : ℕ) → x ≡ vr_input.From from (message.StartView view first commit log) → ShowsMember x view first commit log
+  Standing : (from : ℕ) → x ≡ vr_input.From from (message.NewState view first commit log) → ShowsMember x view first commit log
 
 -- one move of a member within a step
 pub data MemberMove (x : VrInput) (s s' : VrState) : Type 0 where
-  Enters : (view : ℕ) → s.view < view → TellsView x view → s' ≡ entered s view → MemberMove x s s'
+  Enters : (view : ℕ) → s.view < view → TellsView x view → s' ≡ entered_view s view → MemberMove x s s'
   Tallies : (votes : List ℕ) (sent : Bool) (acked : List ℕ) → s' ≡ record s { votes = votes; sent = sent; acked = acked } → MemberMove x s s'
   Collects : (c : Collected) → (c ≡ own_log s) ⊎ ((view : ℕ) × (is_other s c.from ≡ true) × (x ≡ vr_input.From c.from (message.DoViewChange view c.normal c.commit c.log))) →
       s' ≡ record s { collected = s.collected ++ c ∷ [] } → MemberMove x s s'
   Stocks : (from view first : ℕ) (log : List Entry) → x ≡ vr_input.From from (message.Supply view first log) → first ≤ s.commit →
       s' ≡ record s { supply = Some (record { first = first; log = log }) } → MemberMove x s s'
   Starts : (c : Collected) (cs : List Collected) → s.collected ≡ c ∷ cs → may_choose s ≡ true → (best_of c cs).commit ≤ length (front s) →
-      is_sound s s' ≡ true → s' ≡ started s (take (best_of c cs).commit (front s) ++ (best_of c cs).log) (least_commit c.commit cs) (greatest_commit c.commit cs) → MemberMove x s s'
-  Adopts : (view first commit : ℕ) (log : List Entry) → Shows x view first commit log → is_newer s view ≡ true → first ≤ s.commit →
-      is_sound s s' ≡ true → s' ≡ adopted s view first commit log → MemberMove x s s'
+      is_sound s s' ≡ true → s' ≡ started_view s (take (best_of c cs).commit (front s) ++ (best_of c cs).log) (least_commit c.commit cs) (greatest_commit c.commit cs) → MemberMove x s s'
+  Adopts : (view first commit : ℕ) (log : List Entry) → ShowsMember x view first commit log → is_newer s view ≡ true → first ≤ s.commit →
+      is_sound s s' ≡ true → s' ≡ adopted_log s view first commit log → MemberMove x s s'
   Recovers : (view : ℕ) (r : Response) (told : Filled) → IsIn r s.responses → r.view ≡ view → r.filled ≡ Some told → is_recovering s ≡ true →
-      is_sound s s' ≡ true → s' ≡ adopted (record s { responses = [] }) view 0 told.commit told.log → MemberMove x s s'
+      is_sound s s' ≡ true → s' ≡ adopted_log (record s { responses = [] }) view 0 told.commit told.log → MemberMove x s s'
   Appends : (commit : ℕ) (more : List Entry) → is_normal s ≡ true → follows s.log more ≡ true → Brings x s commit more →
       s' ≡ record s { log = s.log ++ more; commit = max s.commit (min commit (length (s.log ++ more))) } → MemberMove x s s'
   Commits : (k : ℕ) → is_normal s ≡ true → s.commit ≤ k → k ≤ max s.commit (length s.log) → s' ≡ record s { commit = k } → MemberMove x s s'

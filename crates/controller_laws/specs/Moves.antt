@@ -20,12 +20,12 @@ use Rattle.vr_log.specs.Steps.{letter}
 use Rattle.vr_core.specs.declared.input.VrInput.{VrInput}
 use Rattle.vr_core.specs.declared.input.VrInput.TheVariants as vr_input
 use Rattle.app_core.specs.declared.issued.Issued.{Issued}
-use Rattle.dispatcher.specs.Marks.{no_marks, settled_commands, is_pending, with_result, wanted}
+use Rattle.dispatcher.specs.Marks.{no_marks, settled_commands, is_pending, with_marked_result, wanted}
 use Rattle.dispatcher.specs.Folding.{numbered, acknowledgement}
 use Rattle.group_controller.specs.declared.messages.ControllerInput.{ControllerInput}
 use Rattle.group_controller.specs.declared.messages.ControllerInput.TheVariants as controller_input
 use Rattle.group_controller.specs.declared.messages.ControllerSays.{ControllerSays}
-use Rattle.group_controller.specs.State.{ControllerState, Work, committed, posting, leaving, to_switch, to_member}
+use Rattle.group_controller.specs.State.{ControllerState, Work, committed, posting_work, leaving, to_switch, to_member}
 use Rattle.group_controller.specs.Settling.{role_letter, command_letter, ack_letter, clear_letter, with_proposal, is_settled}
 use Rattle.list_facts.specs.Lists.{IsIn}
 use Rattle.controller_laws.specs.MemberMoves.{MemberMove, IsSaidByMember}
@@ -58,20 +58,20 @@ pub data IsSaid (kinds : List ℕ) (setup : Setup) (x : ControllerInput) (c : Co
 
 -- One move within the turn of an input: a move of the member, letters, a save, the beginning of a view, a proposal, a
 -- result that counts, or what only the marks and notes of the view show.
-pub data Move (kinds : List ℕ) (setup : Setup) (x : ControllerInput) (w w' : Work) : Type 0 where
-  Steps : (s : VrState) → MemberMove (member_input x) w.state.vr s → w' ≡ leaving w (record w.state { vr = s }) → Move kinds setup x w w'
-  Says : (ls : List (Letter ControllerSays)) → ((l : Letter ControllerSays) → IsIn l ls → IsSaid kinds setup x w.state l) → w' ≡ posting w ls → Move kinds setup x w w'
-  Saves : (save : Option (ℕ × ℕ)) → w' ≡ record w { save = save } → Move kinds setup x w w'
-  Begins : leads w.state.vr ≡ true → w' ≡ leaving w (record w.state { marks = no_marks; last_told = None }) → Move kinds setup x w w'
+pub data ControllerMove (kinds : List ℕ) (setup : Setup) (x : ControllerInput) (w w' : Work) : Type 0 where
+  Steps : (s : VrState) → MemberMove (member_input x) w.state.vr s → w' ≡ leaving w (record w.state { vr = s }) → ControllerMove kinds setup x w w'
+  Says : (ls : List (Letter ControllerSays)) → ((l : Letter ControllerSays) → IsIn l ls → IsSaid kinds setup x w.state l) → w' ≡ posting_work w ls → ControllerMove kinds setup x w w'
+  Saves : (save : Option (ℕ × ℕ)) → w' ≡ record w { save = save } → ControllerMove kinds setup x w w'
+  Begins : leads w.state.vr ≡ true → w' ≡ leaving w (record w.state { marks = no_marks; last_told = None }) → ControllerMove kinds setup x w w'
   Proposes : (entry : Entry) → leads w.state.vr ≡ true → IsProposed kinds setup x w.state entry → is_past_limits w.state.vr.log entry ≡ false →
-      w' ≡ with_proposal w entry → Move kinds setup x w w'
+      w' ≡ with_proposal w entry → ControllerMove kinds setup x w w'
   Results : (s xid life number : ℕ) (outcome : Outcome) → x ≡ controller_input.Of s xid (spoken.Ravana (extension.CmdAck life number outcome)) → leads w.state.vr ≡ true →
       is_pending kinds setup (committed w.state) s life number ≡ true →
-      w' ≡ leaving w (record w.state { marks = with_result kinds setup (committed w.state) w.state.marks s life number }) → Move kinds setup x w w'
+      w' ≡ leaving w (record w.state { marks = with_marked_result kinds setup (committed w.state) w.state.marks s life number }) → ControllerMove kinds setup x w w'
   Notes : (confirmed : List ℕ) (told : Option ℕ) (full : Option LogFull) →
-      w' ≡ leaving w (record w.state { marks = record w.state.marks { confirmed = confirmed }; last_told = told; full = full }) → Move kinds setup x w w'
+      w' ≡ leaving w (record w.state { marks = record w.state.marks { confirmed = confirmed }; last_told = told; full = full }) → ControllerMove kinds setup x w w'
 
 -- moves, one after another
 pub data Chain (kinds : List ℕ) (setup : Setup) (x : ControllerInput) (first : Work) : Work → Type 0 where
   Start : Chain kinds setup x first first
-  Then : (w w' : Work) → Chain kinds setup x first w → Move kinds setup x w w' → Chain kinds setup x first w'
+  Then : (w w' : Work) → Chain kinds setup x first w → ControllerMove kinds setup x w w' → Chain kinds setup x first w'

@@ -27,9 +27,9 @@ pub record IsSaidWithin (kinds : List ℕ) (setup : Setup) (x : ControllerInput)
   pub said : IsSaid kinds setup x mid.state l
 
 -- a mark stood at the beginning of a turn, or came with the input
-pub data IsMarked (x : ControllerInput) (c : ControllerState) (switch life number : ℕ) : Type 0 where
-  Stood : IsIn (switch, life, number) c.marks.acked → IsMarked x c switch life number
-  Came : (xid : ℕ) (outcome : Outcome) → x ≡ controller_input.Of switch xid (spoken.Ravana (extension.CmdAck life number outcome)) → IsMarked x c switch life number
+pub data HoldsMark (x : ControllerInput) (c : ControllerState) (switch life number : ℕ) : Type 0 where
+  Stood : IsIn (switch, life, number) c.marks.acked → HoldsMark x c switch life number
+  Came : (xid : ℕ) (outcome : Outcome) → x ≡ controller_input.Of switch xid (spoken.Ravana (extension.CmdAck life number outcome)) → HoldsMark x c switch life number
 
 -- what holds of work in the midst of a turn
 pub record IsReached (kinds : List ℕ) (setup : Setup) (x : ControllerInput) (c : ControllerState) (w : Work) : Type 0 where
@@ -38,7 +38,7 @@ pub record IsReached (kinds : List ℕ) (setup : Setup) (x : ControllerInput) (c
   pub grows : IsPrefix (committed c) (committed w.state)
   pub me : w.state.vr.me ≡ c.vr.me
   pub controllers : w.state.vr.controllers ≡ c.vr.controllers
-  pub marks : (switch life number : ℕ) → IsIn (switch, life, number) w.state.marks.acked → IsMarked x c switch life number
+  pub marks : (switch life number : ℕ) → IsIn (switch, life, number) w.state.marks.acked → HoldsMark x c switch life number
   pub said : (l : Letter ControllerSays) → IsIn l w.letters → IsSaidWithin kinds setup x c w.state l
 
 -- what is proposed in the midst of a turn that ends so is good at the place where it comes to stand

@@ -9,8 +9,8 @@ use Rattle.journal.specs.declared.journal.SaveResult.TheVariants.{Saved, KeptOld
 use Rattle.list_facts.proofs.Prefixes.{prefix_refl, prefix_trans}
 use Rattle.list_facts.specs.Lists.{IsIn, IsPrefix}
 use Rattle.agreement.specs.History as core
-use Rattle.agreement.specs.History.{Group, size, Message, Answer, State, History, letter}
-use Rattle.agreement.specs.Invariant.{is_up, Invariant}
+use Rattle.agreement.specs.History.{Group, size, Message, Answer, State, History, abstract_letter}
+use Rattle.agreement.specs.Invariant.{is_up_status, Invariant}
 use Rattle.agreement.specs.Moves.{Moved}
 use Rattle.agreement.specs.Turns.{Turn}
 use Rattle.agreement.specs.Journals as journal
@@ -26,7 +26,7 @@ use Rattle.vr_log.specs.Steps.{VrStep}
 use Rattle.vr_log.specs.Valid.{starting_state, down_state}
 use Rattle.vr_core.specs.Step.{vr_step}
 use Rattle.member_moves.specs.Laws.{IsMemberAt}
-use Rattle.member_moves.specs.Projection.{group_of, message_of, answer_of, state_of, status_of, is_member}
+use Rattle.member_moves.specs.Projection.{group_of, message_of, answer_of, member_state_of, member_status_of, is_member}
 use Rattle.member_moves.proofs.Alone.{step_on}
 use Rattle.member_moves.proofs.Changing.{fallen_like}
 use Rattle.member_moves.proofs.Checking.{zeros}
@@ -107,17 +107,17 @@ module _ (kinds : List ℕ) (setup : Setup) (x : ControllerInput) {g : Group Ent
 
   -- in a group of one the log only goes on
   abbrev WorkGoesOn : Work → Type 0
-  WorkGoesOn w = is_up (state_of w.state.vr).status ≡ true → GoesOn (state_of s) (state_of w.state.vr)
+  WorkGoesOn w = is_up_status (member_state_of w.state.vr).status ≡ true → GoesOn (member_state_of s) (member_state_of w.state.vr)
 
   continues_on : (w w' : Work) → WorkGoesOn w → Continues kinds setup x w w' → WorkGoesOn w'
   continues_on w w' goes on u =
       let k = continues_longer kinds setup x w w' on in
-      let z = goes (ap (λ (y : Status). is_up (status_of y)) (sym k.status) ∙ u) in
+      let z = goes (ap (λ (y : Status). is_up_status (member_status_of y)) (sym k.status) ∙ u) in
       record { up = z.up; longer = prefix_trans z.longer k.log }
 
   work_on : g.most_failures ≡ 0 → c < size g → (w : Work) → IsWorkOf kinds setup s x w → WorkGoesOn w
   work_on o b w (Rests a same on) =
-      continues_on (resting a) w (λ u. record { up = ap (λ (z : VrState). is_up (status_of z.status)) (sym same) ∙ u; longer = subst (λ (z : VrState). IsPrefix s.log z.log) (sym same) (prefix_refl s.log) }) on
+      continues_on (resting a) w (λ u. record { up = ap (λ (z : VrState). is_up_status (member_status_of z.status)) (sym same) ∙ u; longer = subst (λ (z : VrState). IsPrefix s.log z.log) (sym same) (prefix_refl s.log) }) on
   work_on o b w (Steps a on) = continues_on (stepped a (vr_step s (member_input x))) w (step_on of o b (member_input x)) on
   work_on o b w (Crashes asked) = λ u. absurd (false≢true u)
   work_on o b w (Restarts asked off) = λ u. absurd (false≢true u)
@@ -134,9 +134,9 @@ module _ (results : List SaveResult) (a : SavingController) (w : Work) where
       by_result KeptNew = down_of g c a.state.vr pair.0 pair.1 of
 
   abbrev OutGoesOn : SavingController → Type 0
-  OutGoesOn z = is_up (state_of z.state.vr).status ≡ true → GoesOn (state_of a.state.vr) (state_of z.state.vr)
+  OutGoesOn z = is_up_status (member_state_of z.state.vr).status ≡ true → GoesOn (member_state_of a.state.vr) (member_state_of z.state.vr)
 
-  done_on : (is_up (state_of w.state.vr).status ≡ true → GoesOn (state_of a.state.vr) (state_of w.state.vr)) → (save : Option (ℕ × ℕ)) → OutGoesOn (done results a w save).0
+  done_on : (is_up_status (member_state_of w.state.vr).status ≡ true → GoesOn (member_state_of a.state.vr) (member_state_of w.state.vr)) → (save : Option (ℕ × ℕ)) → OutGoesOn (done results a w save).0
   done_on on None = on
   done_on on (Some pair) = by_result (slice_index_or results a.saves Saved)
     where
@@ -148,18 +148,18 @@ module _ (results : List SaveResult) (a : SavingController) (w : Work) where
 module _ {most_failures : ℕ} {h h' : History Entry} {c : ℕ} (i : Invariant (group_of most_failures) h) (b : c < size (group_of most_failures)) (results : List SaveResult) (a : SavingController)
     (at : IsMemberAt (group_of most_failures) h c a.state.vr) (w : Work) where
   done_turns : IsWorkTurn (group_of most_failures) h h' c w → (save : Option (ℕ × ℕ)) → PairRises a.state.vr save
-      → (let out = done results a w save in Moved h h' c (state_of out.0.state.vr) out.0.state.vr.promise out.0.state.vr.life (letters_to_members c out.1) → Tracks (group_of most_failures) h h' c → Turn (group_of most_failures) c h h')
+      → (let out = done results a w save in Moved h h' c (member_state_of out.0.state.vr) out.0.state.vr.promise out.0.state.vr.life (letters_to_members c out.1) → Tracks (group_of most_failures) h h' c → Turn (group_of most_failures) c h h')
   done_turns turns None up = turns
   done_turns turns (Some pair) up = by_result (slice_index_or results a.saves Saved)
     where
       by_result : (result : SaveResult)
-          → (let out = saved a w pair result in Moved h h' c (state_of out.0.state.vr) out.0.state.vr.promise out.0.state.vr.life (letters_to_members c out.1) → Tracks (group_of most_failures) h h' c → Turn (group_of most_failures) c h h')
+          → (let out = saved a w pair result in Moved h h' c (member_state_of out.0.state.vr) out.0.state.vr.promise out.0.state.vr.life (letters_to_members c out.1) → Tracks (group_of most_failures) h h' c → Turn (group_of most_failures) c h h')
       by_result Saved = turns
       by_result KeptOld = falls_law (group_of most_failures) h h' c a.state.vr a.state.vr.promise a.state.vr.life (logs_law most_failures) i b at (le_refl a.state.vr.promise) (le_refl a.state.vr.life)
       by_result KeptNew = falls_law (group_of most_failures) h h' c a.state.vr pair.0 pair.1 (logs_law most_failures) i b at up.0 up.1
 
 -- a message that is heard was sent
-heard_sent : (h : History Entry) (c : ℕ) (x : Input OwnInput Entry) → Comes c x h.sent → (from : ℕ) (m : VrMessage) → input_of x ≡ controller_input.Vr from m → IsIn (letter from c (message_of m)) h.sent
+heard_sent : (h : History Entry) (c : ℕ) (x : Input OwnInput Entry) → Comes c x h.sent → (from : ℕ) (m : VrMessage) → input_of x ≡ controller_input.Vr from m → IsIn (abstract_letter from c (message_of m)) h.sent
 heard_sent h c (journal.Local (Happens what)) come from m e = absurd cc
 heard_sent h c (journal.Local (FromSwitch switch xid said)) come from m e = absurd cc
 heard_sent h c (journal.Local (Unread sender)) come from m e = absurd cc
@@ -167,8 +167,8 @@ heard_sent h c (journal.Heard l) come from m e =
     let sender : l.sender ≡ from = cc in
     let what : vr_message_of l.message ≡ m = cc in
     let same : message_of m ≡ l.message = ap (λ (z : VrMessage). message_of z) (sym what) ∙ same_message l.message in
-    subst (λ (z : Message Entry). IsIn (letter from c z) h.sent) (sym same)
-    (subst (λ (z : ℕ). IsIn (letter z c l.message) h.sent) sender (subst (λ (z : ℕ). IsIn (letter l.sender z l.message) h.sent) come.0 come.1))
+    subst (λ (z : Message Entry). IsIn (abstract_letter from c z) h.sent) (sym same)
+    (subst (λ (z : ℕ). IsIn (abstract_letter z c l.message) h.sent) sender (subst (λ (z : ℕ). IsIn (abstract_letter l.sender z l.message) h.sent) come.0 come.1))
 
 pub follow_law : ControllersFollow
 follow_law kinds setup most_failures results = record {
@@ -198,5 +198,5 @@ follow_law kinds setup most_failures results = record {
   refuses_valid = λ c a b valid.
       let g : Group Entry = group_of most_failures in
       is_of g c (down_state a.state.vr.me a.state.vr.controllers a.state.vr.promise a.state.vr.life) (down_of g c a.state.vr a.state.vr.promise a.state.vr.life (member_of g c a.state.vr valid));
-  refuses = λ c a. (fallen_like (state_of a.state.vr) (state_of (down_state a.state.vr.me a.state.vr.controllers a.state.vr.promise a.state.vr.life)) refl, refl, refl);
+  refuses = λ c a. (fallen_like (member_state_of a.state.vr) (member_state_of (down_state a.state.vr.me a.state.vr.controllers a.state.vr.promise a.state.vr.life)) refl, refl, refl);
 }

@@ -9,24 +9,24 @@ use Rattle.journal.specs.declared.journal.Actor.TheVariants.{Controller, Switch}
 use Rattle.journal.specs.declared.journal.Letter.{Letter}
 use Rattle.journal.proofs.All.{all_append}
 use Rattle.agreement.specs.History as core
-use Rattle.agreement.specs.History.{letter}
+use Rattle.agreement.specs.History.{abstract_letter}
 use Rattle.vr_log.specs.declared.entry.Entry.{Entry}
 use Rattle.vr_log.specs.declared.message.VrLetter.{VrLetter}
 use Rattle.member_moves.specs.Projection.{message_of, letters_of}
 use Rattle.group_controller.specs.declared.messages.ControllerSays.{ControllerSays}
 use Rattle.group_controller.specs.State.{Work, to_member, to_members}
-use Rattle.controller_moves.specs.Projection.{letters_to, letters_to_members}
+use Rattle.controller_moves.specs.Projection.{projected_letters_to, letters_to_members}
 use Rattle.controller_moves.specs.Works.{IsToSwitch, AreToSwitches, TellsSwitches}
 
 pub letters_append : (c : ℕ) (xs ys : List (Letter ControllerSays)) → letters_to_members c (xs ++ ys) ≡ letters_to_members c xs ++ letters_to_members c ys
-letters_append c xs ys = flat_map-append (λ (l : Letter ControllerSays). letters_to c l.to l.body) xs ys
+letters_append c xs ys = flat_map-append (λ (l : Letter ControllerSays). projected_letters_to c l.to l.body) xs ys
 
 -- the letters of a member, as the moves see them
 pub letters_members : (c : ℕ) (ls : List VrLetter) → letters_to_members c (to_members ls) ≡ letters_of c ls
 letters_members c ls =
-    flat_map-map (λ (l : Letter ControllerSays). letters_to c l.to l.body) to_member ls ∙ flat_map_single (λ (x : VrLetter). letter c x.to (message_of x.message)) ls
+    flat_map-map (λ (l : Letter ControllerSays). projected_letters_to c l.to l.body) to_member ls ∙ flat_map_single (λ (x : VrLetter). abstract_letter c x.to (message_of x.message)) ls
 
-none_to_switch : (c : ℕ) (to : Actor) (said : ControllerSays) → IsToSwitch to → letters_to c to said ≡ []
+none_to_switch : (c : ℕ) (to : Actor) (said : ControllerSays) → IsToSwitch to → projected_letters_to c to said ≡ []
 none_to_switch c (Controller j) said p = absurd p
 none_to_switch c (Switch s) said p = refl
 

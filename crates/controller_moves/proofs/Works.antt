@@ -28,12 +28,12 @@ use Rattle.vr_log.specs.Steps.{VrStep}
 use Rattle.vr_core.specs.declared.input.VrInput.TheVariants as vr_input
 use Rattle.vr_core.specs.Step.{vr_step}
 use Rattle.app_core.specs.declared.issued.Issued.{Issued}
-use Rattle.dispatcher.specs.Marks.{no_marks, confirmed_by, off_role, is_pending, with_result, outstanding}
+use Rattle.dispatcher.specs.Marks.{no_marks, confirmed_by, off_role, is_pending, with_marked_result, outstanding}
 use Rattle.dispatcher.specs.Folding.{numbered, acknowledges_at, clears_at, places_processed, is_done}
 use Rattle.group_controller.specs.declared.messages.ControllerInput.{ControllerInput}
 use Rattle.group_controller.specs.declared.messages.ControllerInput.TheVariants as controller_input
 use Rattle.group_controller.specs.declared.messages.ControllerSays.{ControllerSays}
-use Rattle.group_controller.specs.State.{ControllerState, Work, committed, with_no_met_limit, met_limit, resting, posting, leaving, stepped}
+use Rattle.group_controller.specs.State.{ControllerState, Work, committed, with_no_met_limit, met_limit, resting, posting_work, leaving, stepped}
 use Rattle.group_controller.specs.Settling.{role_letter, command_letter, command_letters, ack_letter, clear_letter, answers_at, with_answers, is_untold, with_commands, with_proposal, is_settled, is_alone, after_proposal, goes_on, processing, finishing, settling, proposing}
 use Rattle.group_controller.specs.Rules.{switches, has_started, after_step, unconfirmed, tick_letters, on_tick, on_wish, on_event, on_result, on_role_reply, commands_for, on_plain, on_extension, on_spoken, on_switch, on_local, on_input, when_down, is_down, controller_work}
 use Rattle.controller_laws.specs.Moves.{IsProposed, Receives, Processes}
@@ -42,7 +42,7 @@ use Rattle.controller_moves.specs.Laws.{WorksStandOnSteps}
 use Rattle.controller_moves.proofs.Letters.{to_switches_flat}
 
 -- letters go to switches, or nothing is told
-telling : (w : Work) (ls : List (Letter ControllerSays)) → AreToSwitches ls → TellsSwitches w (posting w ls)
+telling : (w : Work) (ls : List (Letter ControllerSays)) → AreToSwitches ls → TellsSwitches w (posting_work w ls)
 telling w ls to = record { vr = refl; save = refl; more = ls; letters = refl; to_switches = to }
 
 noting : (w : Work) (c : ControllerState) → c.vr ≡ w.state.vr → TellsSwitches w (leaving w c)
@@ -123,7 +123,7 @@ module _ (kinds : List ℕ) (setup : Setup) where
         cond_both (has_started c.vr step.state) _ _ (Continues kinds setup x w)
         (λ starts.
         let lead = (and_parts (leads step.state) (not (leads c.vr && nat_eq c.vr.view step.state.view)) starts).0 in
-        let asked = posting (leaving w anew) (map (role_letter anew.vr.view) (switches setup)) in
+        let asked = posting_work (leaving w anew) (map (role_letter anew.vr.view) (switches setup)) in
         let p = told w (leaving w anew) asked (telling (leaving w anew) _ (roles_go anew.vr.view (switches setup))) (told w w (leaving w anew) (noting w anew refl) (Begins, lead)) in
         (settles w anew.vr.commit asked p).0)
         (λ _. cond_both (leads step.state && nat_lt c.vr.commit step.state.commit) _ _ (Continues kinds setup x w)
@@ -138,7 +138,7 @@ module _ (kinds : List ℕ) (setup : Setup) where
       rests : (d : ControllerState) → d.vr ≡ c.vr → Works (resting d)
       rests d same = Rests d same Begins
 
-      tells : (d : ControllerState) → d.vr ≡ c.vr → (ls : List (Letter ControllerSays)) → AreToSwitches ls → Works (posting (resting d) ls)
+      tells : (d : ControllerState) → d.vr ≡ c.vr → (ls : List (Letter ControllerSays)) → AreToSwitches ls → Works (posting_work (resting d) ls)
       tells d same ls to = Rests d same (Tells Begins (telling (resting d) ls to))
 
       module _ (lead : leads c.vr ≡ true) where
@@ -152,7 +152,7 @@ module _ (kinds : List ℕ) (setup : Setup) where
 
         result_works : (switch life number : ℕ) → Works (on_result kinds setup c switch life number)
         result_works switch life number =
-            let d : ControllerState = record c { marks = with_result kinds setup (committed c) c.marks switch life number } in
+            let d : ControllerState = record c { marks = with_marked_result kinds setup (committed c) c.marks switch life number } in
             cond_both (is_pending kinds setup (committed c) switch life number) _ _ Works
             (λ _. Rests d refl (finished (resting d) _ (resting d) (Begins, lead)).0)
             (λ _. rests c refl)

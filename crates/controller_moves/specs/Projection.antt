@@ -7,7 +7,7 @@ use Rattle.journal.specs.declared.journal.Actor.TheVariants.{Controller, Switch}
 use Rattle.journal.specs.declared.journal.Letter.{Letter}
 use Rattle.journal.specs.declared.journal.Local.{Local}
 use Rattle.agreement.specs.History as core
-use Rattle.agreement.specs.History.{Answer, Message, letter}
+use Rattle.agreement.specs.History.{Answer, Message, abstract_letter}
 use Rattle.agreement.specs.Journals as journal
 use Rattle.agreement.specs.Journals.{Input}
 use Rattle.vr_log.specs.declared.entry.Entry.{Entry}
@@ -54,11 +54,11 @@ input_of (journal.Local (Unread from)) = controller_input.Malformed from
 input_of (journal.Heard l) = controller_input.Vr l.sender (vr_message_of l.message)
 
 -- what controller c says in one letter, where that is to a member
-abbrev pub letters_to : ℕ → Actor → ControllerSays → List (core.Letter Entry)
-letters_to c (Controller j) (controller_says.Vr said) = letter c j (message_of said) ∷ []
-letters_to c (Controller j) (controller_says.Of xid said) = []
-letters_to c (Switch s) said = []
+abbrev pub projected_letters_to : ℕ → Actor → ControllerSays → List (core.Letter Entry)
+projected_letters_to c (Controller j) (controller_says.Vr said) = abstract_letter c j (message_of said) ∷ []
+projected_letters_to c (Controller j) (controller_says.Of xid said) = []
+projected_letters_to c (Switch s) said = []
 
 -- the letters of controller c to members
 abbrev pub letters_to_members : ℕ → List (Letter ControllerSays) → List (core.Letter Entry)
-letters_to_members c letters = flat_map (λ l. letters_to c l.to l.body) letters
+letters_to_members c letters = flat_map (λ l. projected_letters_to c l.to l.body) letters

@@ -8,11 +8,11 @@ use Rattle.agreement.specs.History as core
 use Rattle.agreement.specs.History.{size}
 use Rattle.agreement.specs.Journals.{Input, Rules}
 use Rattle.vr_log.specs.declared.entry.Entry.{Entry}
-use Rattle.member_moves.specs.Projection.{group_of, state_of, is_member}
+use Rattle.member_moves.specs.Projection.{group_of, member_state_of, is_member}
 use Rattle.group_controller.specs.declared.messages.ControllerSays.{ControllerSays}
 use Rattle.group_controller.specs.State.{ControllerState, Work, starting_controller, down}
 use Rattle.group_controller.specs.Rules.{controller_work}
-use Rattle.group_controller.specs.Turns.{left_by, posted_by}
+use Rattle.group_controller.specs.Turns.{left_by, letters_posted_by}
 use Rattle.controller_moves.specs.Projection.{OwnInput, input_of, letters_to_members}
 
 -- a controller, and how many saves it has made
@@ -22,7 +22,7 @@ pub record SavingController : Type 0 where
 
 -- a save came to this: where it failed, the controller is down, and posts nothing
 abbrev pub saved : SavingController → Work → ℕ × ℕ → SaveResult → SavingController × List (Letter ControllerSays)
-saved c work pair result = (record { state = left_by result c.state work pair; saves = c.saves + 1 }, posted_by result work)
+saved c work pair result = (record { state = left_by result c.state work pair; saves = c.saves + 1 }, letters_posted_by result work)
 
 -- A turn is done: what it wants to be saved is saved before anything is posted (Viewstamped Replication Revisited, 4.3, needs
 -- no disk; that promise and life are stable is our own rule). The next of these results is that of its save.
@@ -44,7 +44,7 @@ rules kinds setup most_failures results =
       start = λ c. record { state = starting_controller c (size (group_of most_failures)); saves = 0 };
       turn = turn kinds setup results;
       refused = λ c a. record a { state = down a.state a.state.vr.promise a.state.vr.life };
-      state = λ a. state_of a.state.vr;
+      state = λ a. member_state_of a.state.vr;
       promise = λ a. a.state.vr.promise;
       life = λ a. a.state.vr.life;
       is_valid = λ c a. is_member (group_of most_failures) c a.state.vr;

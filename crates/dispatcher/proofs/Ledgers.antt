@@ -24,7 +24,7 @@ use Rattle.dispatcher.specs.declared.answers.Handled.{Handled}
 use Rattle.dispatcher.specs.declared.counts.Counts.{Counts}
 use Rattle.dispatcher.specs.declared.ledger.Ledger.{Ledger}
 use Rattle.dispatcher.specs.Counted.{Counted, counts_of}
-use Rattle.dispatcher.specs.Ledger.{IsCountedAs, AreCounts, AreLives, IsLedger, IsLedgerOf, most_count, most_commands, one_processed, one_issued, one_settled, handled_of, handled_by}
+use Rattle.dispatcher.specs.Ledger.{IsCountedAs, AreCounts, AreLives, IsLedgerOfLog, IsLedgerOf, most_count, most_commands, one_processed, one_issued, one_settled, handled_of, handled_by}
 
 eqb_comm : (a b : ℕ) → nat_eq a b ≡ nat_eq b a
 eqb_comm a b = elim (cases_eq a b) [ inl same ↦ eq-eqb a b same ∙ sym (eq-eqb b a (sym same)) | inr other ↦ ne_eqb a b other ∙ sym (ne_eqb b a (λ e. other (sym e))) ]
@@ -166,7 +166,7 @@ settling_goes_on start now new commands i x lt at so counted same =
 
 module _ (kinds : List ℕ) (setup : Setup) where
   -- the ledger of the empty log
-  pub none_is : (ledger : Ledger) → ledger.lives ≡ replicate 256 0 → ledger.counts ≡ [] → ledger.pending.items ≡ [] → ledger.processed ≡ 0 → ledger.unsettled ≡ 0 → IsLedger kinds setup [] ledger
+  pub none_is : (ledger : Ledger) → ledger.lives ≡ replicate 256 0 → ledger.counts ≡ [] → ledger.pending.items ≡ [] → ledger.processed ≡ 0 → ledger.unsettled ≡ 0 → IsLedgerOfLog kinds setup [] ledger
   unfolding issues reactions
   none_is ledger lives counts pending done none =
       record {
@@ -338,13 +338,13 @@ module _ (kinds : List ℕ) (setup : Setup) where
       omega (arith, hs, d, z, there)
 
   -- a log grows by an event
-  pub received_is : (log : List Entry) (e : Event) (old middle new : Ledger) (commands : List Command) (given : List Issued) → IsLedger kinds setup log old → fits log (Received e) ≡ true →
+  pub received_is : (log : List Entry) (e : Event) (old middle new : Ledger) (commands : List Command) (given : List Issued) → IsLedgerOfLog kinds setup log old → fits log (Received e) ≡ true →
       commands ≡ (chain_next kinds setup (chain_after kinds setup (starting_chain kinds) (received log)) e).commands → length commands ≤ most_commands →
       ((s : ℕ) → get_or middle.lives s 0 ≡ (if nat_eq s e.switch then e.life else get_or old.lives s 0)) → middle.counts ≡ old.counts →
       ((events done : List Event) (before settled : List Issued) → AreLives events middle.lives → AreCounts done before settled middle.counts → length before + length commands < 2 ^ 64 →
       (given ≡ issue_each events before commands) × AreCounts done (before ++ given) settled new.counts) →
       new.lives ≡ middle.lives → new.pending.items ≡ old.pending.items ++ record { switch = e.switch; life = e.life; commands = given } ∷ [] → new.processed ≡ old.processed →
-      new.unsettled ≡ min (old.unsettled + length given) most_count → IsLedger kinds setup (log ++ Received e ∷ []) new
+      new.unsettled ≡ min (old.unsettled + length given) most_count → IsLedgerOfLog kinds setup (log ++ Received e ∷ []) new
   received_is log e old middle new commands given kept fit reacts small lives same each lived pending count more =
       let es = received log in
       let f = fits_is log (Received e) fit in
@@ -384,14 +384,14 @@ module _ (kinds : List ℕ) (setup : Setup) where
       let l = length_is log in
       record { short = omega (arith, short, l); place = e; there = omega (arith, lt, e) }
 
-  pub stays_pending : (log : List Entry) (j : ℕ) (ledger : Ledger) → IsLedger kinds setup log ledger → fits log (Processed j) ≡ true → ledger.pending.items ≡ [] → ⊥
+  pub stays_pending : (log : List Entry) (j : ℕ) (ledger : Ledger) → IsLedgerOfLog kinds setup log ledger → fits log (Processed j) ≡ true → ledger.pending.items ≡ [] → ⊥
   stays_pending log j ledger kept fit none = none_pending (received log) (processed log) ledger kept none (next_done log j fit).there
 
-  pub processed_is : (log : List Entry) (j : ℕ) (h : Handled) (rest : List Handled) (old new : Ledger) (counted : Counted) → IsLedger kinds setup log old → fits log (Processed j) ≡ true →
+  pub processed_is : (log : List Entry) (j : ℕ) (h : Handled) (rest : List Handled) (old new : Ledger) (counted : Counted) → IsLedgerOfLog kinds setup log old → fits log (Processed j) ≡ true →
       old.pending.items ≡ h ∷ rest → IsCountedAs old.counts h.switch h.life (one_processed (counts_of old.counts h.switch h.life)) counted →
       ((events : List Event) (issued settled : List Issued) → AreCounts events issued settled counted → length settled + length h.commands < 2 ^ 64 → AreCounts events issued (settled ++ h.commands) new.counts) →
       new.pending.items ≡ rest → new.processed ≡ min (old.processed + 1) most_count → new.lives ≡ old.lives → new.unsettled ≡ old.unsettled - length h.commands →
-      (Some h ≡ handled_by kinds setup log (Processed j)) × IsLedger kinds setup (log ++ Processed j ∷ []) new
+      (Some h ≡ handled_by kinds setup log (Processed j)) × IsLedgerOfLog kinds setup (log ++ Processed j ∷ []) new
   processed_is log j h rest old new counted kept fit front here settles left count lives fewer =
       let n = next_done log j fit in
       let r = one_done (received log) (processed log) h rest old new counted kept n.short front here settles left count lives fewer in

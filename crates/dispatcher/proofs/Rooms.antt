@@ -15,8 +15,8 @@ use Rattle.app_core.specs.Chain.{concat, reactions}
 use Rattle.app_core.specs.Issued.{issues}
 use Rattle.app_core.specs.declared.issued.Issued.{Issued}
 use Rattle.dispatcher.specs.declared.ledger.Ledger.{Ledger}
-use Rattle.dispatcher.specs.Ledger.{HasRoom, IsLedger, lacks_result}
-use Rattle.dispatcher.specs.Marks.{Marks, no_marks, has_result, is_pending, unsettled, with_mark, with_result}
+use Rattle.dispatcher.specs.Ledger.{HasRoomForResults, IsLedgerOfLog, lacks_result}
+use Rattle.dispatcher.specs.Marks.{Marks, no_marks, has_result, is_pending, unsettled, with_mark, with_marked_result}
 use Rattle.dispatcher.proofs.Numbering.{is_of, is_unsettled}
 
 -- one for what passes a test, else nothing
@@ -95,18 +95,18 @@ front_of (suc n) [] = let e : suc (n + 1) ≡ suc n + 1 = omega arith in ([], ap
 front_of (suc n) (x ∷ xs) = let e : suc (n + 1) ≡ suc n + 1 = omega arith in let h = front_of n xs in (h.0, h.1 ∙ ap (λ (k : ℕ). h.0 ++ concat (drop k (x ∷ xs))) e)
 
 module _ (kinds : List ℕ) (setup : Setup) where
-  pub room_at_first : (marks : Marks) (room : ℕ) → marks ≡ no_marks → HasRoom (unsettled kinds setup []) marks room
+  pub room_at_first : (marks : Marks) (room : ℕ) → marks ≡ no_marks → HasRoomForResults (unsettled kinds setup []) marks room
   unfolding issues reactions
   room_at_first marks room none = let e = ap (λ (m : Marks). length m.acked) none in record { in_view = omega (arith, e); in_next = omega arith }
 
   -- an event is received, and room is made
-  pub room_received : (log : List Entry) (ledger : Ledger) (marks : Marks) (room : ℕ) → IsLedger kinds setup log ledger → length marks.acked + ledger.unsettled ≤ room → HasRoom (unsettled kinds setup log) marks room
+  pub room_received : (log : List Entry) (ledger : Ledger) (marks : Marks) (room : ℕ) → IsLedgerOfLog kinds setup log ledger → length marks.acked + ledger.unsettled ≤ room → HasRoomForResults (unsettled kinds setup log) marks room
   room_received log ledger marks room kept made =
       let are = kept.unsettled_are in
       let few = count_by-le-length (lacks_result marks) (unsettled kinds setup log) in
       record { in_view = omega (arith, are, few, made); in_next = omega (arith, are, made) }
 
-  pub room_processed : (log : List Entry) (j : ℕ) (marks : Marks) (room : ℕ) → HasRoom (unsettled kinds setup log) marks room → HasRoom (unsettled kinds setup (log ++ Processed j ∷ [])) marks room
+  pub room_processed : (log : List Entry) (j : ℕ) (marks : Marks) (room : ℕ) → HasRoomForResults (unsettled kinds setup log) marks room → HasRoomForResults (unsettled kinds setup (log ++ Processed j ∷ [])) marks room
   room_processed log j marks room has =
       let all = issues kinds setup (received log) in
       let events : received (log ++ Processed j ∷ []) ≡ received log = received-append log (Processed j ∷ []) ∙ append-nil (received log) in
@@ -118,10 +118,10 @@ module _ (kinds : List ℕ) (setup : Setup) where
       let lengths = ap (λ (l : List Issued). length l) front.1 ∙ length-append front.0 rest in
       let first = has.in_view in
       let again = has.in_next in
-      subst (λ (l : List Issued). HasRoom l marks room) (sym is) (record { in_view = omega (arith, counts, first); in_next = omega (arith, lengths, again) })
+      subst (λ (l : List Issued). HasRoomForResults l marks room) (sym is) (record { in_view = omega (arith, counts, first); in_next = omega (arith, lengths, again) })
 
   -- a result comes of a command that is pending: it is noted where it is the first
-  module _ (log : List Entry) (marks after : Marks) (room later s l n : ℕ) (has : HasRoom (unsettled kinds setup log) marks room) (pending : is_pending kinds setup log s l n ≡ true)
+  module _ (log : List Entry) (marks after : Marks) (room later s l n : ℕ) (has : HasRoomForResults (unsettled kinds setup log) marks room) (pending : is_pending kinds setup log s l n ≡ true)
       (first : has_result marks s l n ≡ false → length marks.acked < room → after ≡ with_mark marks s l n) (again : has_result marks s l n ≡ true → after ≡ marks) where
     marked_once : (has_result marks s l n ≡ false) → (after ≡ with_mark marks s l n) × (count_by (lacks_result after) (unsettled kinds setup log) + 1 ≤ count_by (lacks_result marks) (unsettled kinds setup log)) × (length after.acked ≡ length marks.acked + 1)
     marked_once new =
@@ -133,7 +133,7 @@ module _ (kinds : List ℕ) (setup : Setup) where
         let pushed = length-append marks.acked ((s, l, n) ∷ []) in
         (noted, subst (λ (m : Marks). count_by (lacks_result m) (unsettled kinds setup log) + 1 ≤ count_by (lacks_result marks) (unsettled kinds setup log)) (sym is) less, omega (arith, long, pushed))
 
-    pub noted_is : after ≡ with_result kinds setup log marks s l n
+    pub noted_is : after ≡ with_marked_result kinds setup log marks s l n
     noted_is =
         elim (cases_Bool (has_result marks s l n)) [
           | inl came ↦ again came ∙ sym (ap (λ (b : Bool). if b then marks else marked marks s l n) came) ∙ sym (counts (with_mark marks s l n))
@@ -143,11 +143,11 @@ module _ (kinds : List ℕ) (setup : Setup) where
         counts : (m : Marks) → (if is_pending kinds setup log s l n then m else marks) ≡ m
         counts m = ap (λ (b : Bool). if b then m else marks) pending
 
-    pub noted_room : room ≤ later → HasRoom (unsettled kinds setup log) after later
+    pub noted_room : room ≤ later → HasRoomForResults (unsettled kinds setup log) after later
     noted_room more =
         let there = has.in_view in
         let begun = has.in_next in
         elim (cases_Bool (has_result marks s l n)) [
-          | inl came ↦ subst (λ (m : Marks). HasRoom (unsettled kinds setup log) m later) (sym (again came)) (record { in_view = omega (arith, there, more); in_next = omega (arith, begun, more) })
+          | inl came ↦ subst (λ (m : Marks). HasRoomForResults (unsettled kinds setup log) m later) (sym (again came)) (record { in_view = omega (arith, there, more); in_next = omega (arith, begun, more) })
           | inr new ↦ let o = marked_once new in let less = o.1 in let long = o.2 in record { in_view = omega (arith, there, more, less, long); in_next = omega (arith, begun, more) }
         ]

@@ -26,7 +26,7 @@ use Rattle.dispatcher.specs.declared.counts.Counts.{Counts}
 use Rattle.dispatcher.specs.declared.ledger.Ledger.{Ledger}
 use Rattle.dispatcher.specs.Folding.{numbered, is_told, clears}
 use Rattle.dispatcher.specs.Counted.{counts_of}
-use Rattle.dispatcher.specs.Ledger.{Dispatching, HasRoom, IsLedger, StandsFor, as_numbered, cleared, first_commands, handled_of, has_pending, has_told, is_outstanding, wants, most_commands}
+use Rattle.dispatcher.specs.Ledger.{Dispatching, HasRoomForResults, IsLedgerOfLog, StandsFor, as_numbered, cleared_of_life, first_commands, handled_of, has_pending, has_told, is_outstanding, wants, most_commands}
 use Rattle.dispatcher.specs.Marks.{Marks, is_confirmed, is_finished, is_pending, is_wanted, outstanding, settled_commands, unsettled, wanted}
 use Rattle.dispatcher.proofs.Ledgers.{length-handled_of}
 use Rattle.dispatcher.proofs.Rooms.{room_received, room_processed}
@@ -66,7 +66,7 @@ any_same : {A : Type 0} (p q : A → Bool) (xs : List A) → ((x : A) → p x �
 any_same p q [] e = refl
 any_same p q (x ∷ xs) e = rw (e x, any_same p q xs e) refl
 
-module _ (kinds : List ℕ) (setup : Setup) (log : List Entry) (ledger : Ledger) (kept : IsLedger kinds setup log ledger) where
+module _ (kinds : List ℕ) (setup : Setup) (log : List Entry) (ledger : Ledger) (kept : IsLedgerOfLog kinds setup log ledger) where
   pub ended_is : (s l : ℕ) → nat_lt l (get_or ledger.lives s 0) ≡ has_ended s l (received log)
   ended_is s l = ap (λ (n : ℕ). nat_lt l n) (kept.lives s)
 
@@ -148,17 +148,17 @@ module _ (kinds : List ℕ) (setup : Setup) (log : List Entry) (ledger : Ledger)
   told_is commands switch = any_same _ _ commands (λ x. ap (λ (b : Bool). nat_eq x.switch switch && not b) (ended_is x.switch x.life))
 
   cleared_is : (switch : ℕ) →
-      cleared ledger switch ≡ record { switch = switch; life = life_in switch (received log); through = settled_commands kinds setup log switch (life_in switch (received log)) }
+      cleared_of_life ledger switch ≡ record { switch = switch; life = life_in switch (received log); through = settled_commands kinds setup log switch (life_in switch (received log)) }
   cleared_is switch =
       ap (λ (l : ℕ). record { switch = switch; life = l; through = (counts_of ledger.counts switch l).settled }) (kept.lives switch)
       ∙ ap (λ (n : ℕ). record { switch = switch; life = life_in switch (received log); through = n }) (settled_is switch (life_in switch (received log)))
 
   pub clears_are : (switches : ℕ) (commands : List Issued) → switches ≡ length setup.ports →
-      map (cleared ledger) (filter (has_told ledger commands) (range_with_len 0 switches)) ≡ clears kinds setup log commands
+      map (cleared_of_life ledger) (filter (has_told ledger commands) (range_with_len 0 switches)) ≡ clears kinds setup log commands
   clears_are switches commands e =
-      ap (λ (n : ℕ). map (cleared ledger) (filter (has_told ledger commands) (range_with_len 0 n))) e
-      ∙ ap (λ (l : List ℕ). map (cleared ledger) l) (filter_same (has_told ledger commands) (is_told log commands) (range_with_len 0 (length setup.ports)) (told_is commands))
-      ∙ map_same (cleared ledger) _ (filter (is_told log commands) (range_with_len 0 (length setup.ports))) cleared_is
+      ap (λ (n : ℕ). map (cleared_of_life ledger) (filter (has_told ledger commands) (range_with_len 0 n))) e
+      ∙ ap (λ (l : List ℕ). map (cleared_of_life ledger) l) (filter_same (has_told ledger commands) (is_told log commands) (range_with_len 0 (length setup.ports)) (told_is commands))
+      ∙ map_same (cleared_of_life ledger) _ (filter (is_told log commands) (range_with_len 0 (length setup.ports))) cleared_is
 
 -- a dispatcher after one entry more
 module _ {A : Type 0} (law : AppLaw A) (kinds : List ℕ) (setup : Setup) (log : List Entry) where
@@ -170,7 +170,7 @@ module _ {A : Type 0} (law : AppLaw A) (kinds : List ℕ) (setup : Setup) (log :
 
   pub with_received : (d : Dispatching A) (app : A) (ledger : Ledger) (marks : Marks) (room : ℕ) (entry : Entry) (e : Event) (commands : List Command) → entry ≡ Received e → StandsFor law d kinds setup log →
       law.kinds app ≡ law.kinds d.app → law.suits app setup → ChainSteps (chain_next (law.kinds d.app) setup (law.states d.app) e) (law.states app) [] commands →
-      IsLedger kinds setup (log ++ Received e ∷ []) ledger → length marks.acked + ledger.unsettled ≤ room →
+      IsLedgerOfLog kinds setup (log ++ Received e ∷ []) ledger → length marks.acked + ledger.unsettled ≤ room →
       StandsFor law (record d { app = app; ledger = ledger; marks = marks; room = room }) kinds setup (log ++ entry ∷ [])
   with_received d app ledger marks room entry e commands is stands same fit steps kept made =
       subst (λ (x : Entry). StandsFor law (record d { app = app; ledger = ledger; marks = marks; room = room }) kinds setup (log ++ x ∷ [])) (sym is)
@@ -189,7 +189,7 @@ module _ {A : Type 0} (law : AppLaw A) (kinds : List ℕ) (setup : Setup) (log :
       })
 
   pub with_processed : (d : Dispatching A) (ledger : Ledger) (entry : Entry) (j : ℕ) → entry ≡ Processed j → StandsFor law d kinds setup log →
-      IsLedger kinds setup (log ++ Processed j ∷ []) ledger → StandsFor law (record d { ledger = ledger }) kinds setup (log ++ entry ∷ [])
+      IsLedgerOfLog kinds setup (log ++ Processed j ∷ []) ledger → StandsFor law (record d { ledger = ledger }) kinds setup (log ++ entry ∷ [])
   with_processed d ledger entry j is stands kept =
       subst (λ (x : Entry). StandsFor law (record d { ledger = ledger }) kinds setup (log ++ x ∷ [])) (sym is)
       (record {
@@ -203,5 +203,5 @@ module _ {A : Type 0} (law : AppLaw A) (kinds : List ℕ) (setup : Setup) (log :
       })
 
   -- marks change nothing of what it stands for, where there is still room
-  pub with_marks : (d : Dispatching A) (marks : Marks) (room : ℕ) → StandsFor law d kinds setup log → HasRoom (unsettled kinds setup log) marks room → StandsFor law (record d { marks = marks; room = room }) kinds setup log
+  pub with_marks : (d : Dispatching A) (marks : Marks) (room : ℕ) → StandsFor law d kinds setup log → HasRoomForResults (unsettled kinds setup log) marks room → StandsFor law (record d { marks = marks; room = room }) kinds setup log
   with_marks d marks room stands has = record { kind = stands.kind; few = stands.few; suited = stands.suited; states = stands.states; size = stands.size; ledger = stands.ledger; room = has }

@@ -6,7 +6,7 @@ use Rattle.std.proofs.lemmas.List.{map-append}
 use Rattle.std.proofs.lemmas.List.FromFn.{map-range_with_len_more}
 use Rattle.app_core.specs.declared.issued.Issued.{Issued}
 use Rattle.dispatcher.specs.declared.ledger.Ledger.{Ledger}
-use Rattle.dispatcher.specs.Ledger.{cleared, has_told}
+use Rattle.dispatcher.specs.Ledger.{cleared_of_life, has_told}
 
 -- one number more of those from 0 on
 pub range_more : (n : ℕ) → range_with_len 0 (n + 1) ≡ range_with_len 0 n ++ n ∷ []
@@ -29,13 +29,13 @@ module _ (ledger : Ledger) (commands : List Issued) (n : ℕ) where
   grown = ap (λ (l : List ℕ). filter (has_told ledger commands) l) (range_more n) ∙ filter_more (has_told ledger commands) (range_with_len 0 n) n
 
   pub told_yes : has_told ledger commands n ≡ true →
-      map (cleared ledger) (filter (has_told ledger commands) (range_with_len 0 (n + 1))) ≡ map (cleared ledger) (filter (has_told ledger commands) (range_with_len 0 n)) ++ cleared ledger n ∷ []
+      map (cleared_of_life ledger) (filter (has_told ledger commands) (range_with_len 0 (n + 1))) ≡ map (cleared_of_life ledger) (filter (has_told ledger commands) (range_with_len 0 n)) ++ cleared_of_life ledger n ∷ []
   told_yes e =
-      ap (λ (l : List ℕ). map (cleared ledger) l) (grown ∙ ap (λ (b : Bool). filter (has_told ledger commands) (range_with_len 0 n) ++ (if b then n ∷ [] else [])) e)
-      ∙ map-append (cleared ledger) (filter (has_told ledger commands) (range_with_len 0 n)) (n ∷ [])
+      ap (λ (l : List ℕ). map (cleared_of_life ledger) l) (grown ∙ ap (λ (b : Bool). filter (has_told ledger commands) (range_with_len 0 n) ++ (if b then n ∷ [] else [])) e)
+      ∙ map-append (cleared_of_life ledger) (filter (has_told ledger commands) (range_with_len 0 n)) (n ∷ [])
 
   pub told_no : has_told ledger commands n ≡ false →
-      map (cleared ledger) (filter (has_told ledger commands) (range_with_len 0 (n + 1))) ≡ map (cleared ledger) (filter (has_told ledger commands) (range_with_len 0 n))
+      map (cleared_of_life ledger) (filter (has_told ledger commands) (range_with_len 0 (n + 1))) ≡ map (cleared_of_life ledger) (filter (has_told ledger commands) (range_with_len 0 n))
   told_no e =
-      ap (λ (l : List ℕ). map (cleared ledger) l)
+      ap (λ (l : List ℕ). map (cleared_of_life ledger) l)
       (grown ∙ ap (λ (b : Bool). filter (has_told ledger commands) (range_with_len 0 n) ++ (if b then n ∷ [] else [])) e ∙ append-nil (filter (has_told ledger commands) (range_with_len 0 n)))

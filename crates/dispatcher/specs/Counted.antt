@@ -16,9 +16,9 @@ counts_in [] life = no_counts
 counts_in (c ∷ row) life = if nat_eq c.life life then c.counts else counts_in row life
 
 -- the place of a life there, or how many there are
-abbrev pub place_of : List LifeCount → ℕ → ℕ
-place_of [] life = zero
-place_of (c ∷ row) life = if nat_eq c.life life then zero else suc (place_of row life)
+abbrev pub event_place_of : List LifeCount → ℕ → ℕ
+event_place_of [] life = zero
+event_place_of (c ∷ row) life = if nat_eq c.life life then zero else suc (event_place_of row life)
 
 -- the counts of a life of a switch
 abbrev pub counts_of : Counted → ℕ → ℕ → Counts

@@ -26,9 +26,9 @@ abbrev pub acknowledgement : List Entry → ℕ → ℕ → Through
 acknowledgement log switch life = record { switch = switch; life = life; through = processed_of log switch life }
 
 -- a processed event is acknowledged while its life goes on
-abbrev pub acknowledges : List Entry → Option Event → List Through
-acknowledges log None = []
-acknowledges log (Some event) =
+abbrev pub acknowledges_event : List Entry → Option Event → List Through
+acknowledges_event log None = []
+acknowledges_event log (Some event) =
     if has_ended event.switch event.life (received log) then [] else acknowledgement log event.switch event.life ∷ []
 
 -- the present life of a switch has one of these commands
@@ -44,7 +44,7 @@ clears kinds setup log commands =
 
 -- what is answered for the processed event at a place
 abbrev pub acknowledges_at : List Entry → ℕ → List Through
-acknowledges_at log j = acknowledges log (slice_get (received log) j)
+acknowledges_at log j = acknowledges_event log (slice_get (received log) j)
 
 abbrev pub clears_at : List ℕ → Setup → List Entry → ℕ → List Through
 clears_at kinds setup log j = clears kinds setup log (commands_of kinds setup (received log) j)

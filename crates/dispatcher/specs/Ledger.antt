@@ -73,8 +73,8 @@ pub record IsLedgerOf (kinds : List ℕ) (setup : Setup) (events : List Event) (
   pub ordered : done ≤ length events
   pub few : length (concat (issues kinds setup events)) ≤ most_commands * length events
 
-abbrev pub IsLedger : List ℕ → Setup → List Entry → Ledger → Type 0
-IsLedger kinds setup log ledger = IsLedgerOf kinds setup (received log) (processed log) ledger
+abbrev pub IsLedgerOfLog : List ℕ → Setup → List Entry → Ledger → Type 0
+IsLedgerOfLog kinds setup log ledger = IsLedgerOf kinds setup (received log) (processed log) ledger
 
 -- the commands of the first of these
 abbrev pub first_commands : List Handled → List Issued
@@ -95,7 +95,7 @@ abbrev pub lacks_result : Marks → Issued → Bool
 lacks_result marks x = not (has_result marks x.switch x.life x.number)
 
 -- there is room for the results of these commands
-pub record HasRoom (commands : List Issued) (marks : Marks) (room : ℕ) : Type 0 where
+pub record HasRoomForResults (commands : List Issued) (marks : Marks) (room : ℕ) : Type 0 where
   pub in_view : length marks.acked + count_by (lacks_result marks) commands ≤ room  -- beside those that came in this view
   pub in_next : length commands ≤ room  -- of each of them, in the next view
 
@@ -108,8 +108,8 @@ pub record StandsFor {A : Type 0} (law : AppLaw A)
   pub suited : law.suits d.app setup
   pub states : law.states d.app ≡ chain_after kinds setup (starting_chain kinds) (received log)
   pub size : d.switches ≡ length setup.ports
-  pub ledger : IsLedger kinds setup log d.ledger
-  pub room : HasRoom (unsettled kinds setup log) d.marks d.room
+  pub ledger : IsLedgerOfLog kinds setup log d.ledger
+  pub room : HasRoomForResults (unsettled kinds setup log) d.marks d.room
 
 -- a command of the log wants a result, by what is kept: none came, and its life goes on
 abbrev pub wants : Ledger → Marks → Issued → Bool
@@ -128,8 +128,8 @@ abbrev pub has_told : Ledger → List Issued → ℕ → Bool
 has_told ledger commands switch = list_any (λ x. nat_eq x.switch switch && not (nat_lt x.life (get_or ledger.lives x.switch 0))) commands
 
 -- what is settled of the present life of a switch
-abbrev pub cleared : Ledger → ℕ → Through
-cleared ledger switch =
+abbrev pub cleared_of_life : Ledger → ℕ → Through
+cleared_of_life ledger switch =
     let life = get_or ledger.lives switch 0 in
     record { switch = switch; life = life; through = (counts_of ledger.counts switch life).settled }
 

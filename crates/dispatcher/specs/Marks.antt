@@ -60,8 +60,8 @@ with_mark marks switch life number =
     if has_result marks switch life number then marks else record marks { acked = marks.acked ++ (switch, life, number) ∷ [] }
 
 -- the result of such a command counts
-abbrev pub with_result : List ℕ → Setup → List Entry → Marks → ℕ → ℕ → ℕ → Marks
-with_result kinds setup log marks switch life number =
+abbrev pub with_marked_result : List ℕ → Setup → List Entry → Marks → ℕ → ℕ → ℕ → Marks
+with_marked_result kinds setup log marks switch life number =
     if is_pending kinds setup log switch life number then with_mark marks switch life number else marks
 
 -- a command still wants a result: none came, and its life goes on

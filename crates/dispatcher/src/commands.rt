@@ -1,7 +1,7 @@
 //! The commands of the first event that is not processed.
 ghost use Rattle.std.specs.Prelude.{◌≡◌, ◌&&◌, map, filter, count_by, nat_eq, nat_lt, get_or, length, IfOk};
 ghost use Rattle.std.specs.List.{range_with_len};
-ghost use Rattle.dispatcher.specs.Ledger.{as_numbered, cleared, first_commands, has_told, is_outstanding, wants};
+ghost use Rattle.dispatcher.specs.Ledger.{as_numbered, cleared_of_life, first_commands, has_told, is_outstanding, wants};
 
 use crate::answers::Through;
 use crate::ledger::Ledger;
@@ -95,7 +95,7 @@ fn has_told(ledger: &Ledger, switch: u8, commands: &[Issued]) -> bool
 
 /// How many commands of the present life of a switch are settled.
 fn cleared(ledger: &Ledger, switch: u8) -> Through
-    ensures { result ≡ cleared ledger.now switch }
+    ensures { result ≡ cleared_of_life ledger.now switch }
 {
     let life = ledger.life_of(switch);
     Through {
@@ -112,7 +112,7 @@ pub(crate) fn clears(
     ledger: &Ledger,
     commands: &[Issued],
 ) -> Result<Vec<Through>, AllocError>
-    ensures { IfOk result (λ list. list.items ≡ map (cleared ledger.now) (filter (has_told ledger.now commands.now) (range_with_len 0 switches))) }
+    ensures { IfOk result (λ list. list.items ≡ map (cleared_of_life ledger.now) (filter (has_told ledger.now commands.now) (range_with_len 0 switches))) }
 {
     let mut list = Vec::new(alloc);
     for switch in 0..switches {

@@ -1,6 +1,6 @@
 //! What is counted of the lives of switches.
 ghost use Rattle.std.specs.Prelude.{◌≡◌, ◌<◌, ◌&&◌, ℕ, [], nat_eq, length, get_or, OnOk, if◌then◌else◌};
-ghost use Rattle.dispatcher.specs.Counted.{counts_in, counts_of, place_of};
+ghost use Rattle.dispatcher.specs.Counted.{counts_in, counts_of, event_place_of};
 ghost use Rattle.dispatcher.specs.Ledger.{IsCountedAs};
 
 use std::alloc::{AllocError, Global};
@@ -47,7 +47,7 @@ impl Model for Row {
 impl Row {
     /// The place of a life, or how many there are.
     fn place_of(&self, life: u32) -> usize
-        ensures { result ≡ place_of self.now life }
+        ensures { result ≡ event_place_of self.now life }
     {
         for (place, counted) in self.lives.iter().enumerate() {
             if counted.life == life {

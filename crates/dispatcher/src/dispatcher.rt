@@ -11,7 +11,7 @@ ghost use Rattle.dispatcher.specs.Folding as folding;
 ghost use Rattle.dispatcher.specs.Folding.{numbered, places_processed, wish};
 ghost use Rattle.dispatcher.specs.Ledger.{AreHandledAt, ForEachLog, StandsFor, handled_by, most_commands};
 ghost use Rattle.dispatcher.specs.Marks as marks;
-ghost use Rattle.dispatcher.specs.Marks.{confirmed_by, is_confirmed, is_finished, is_pending, no_marks, with_result};
+ghost use Rattle.dispatcher.specs.Marks.{confirmed_by, is_confirmed, is_finished, is_pending, no_marks, with_marked_result};
 
 use crate::answers::{Handled, Through, Wish};
 use crate::commands;
@@ -131,7 +131,7 @@ impl<A: App> Dispatcher<A> {
     /// whether it is. It takes no memory: `fold` made the room.
     pub fn on_result(&mut self, switch: u8, life: u32, number: u64) -> bool
         ensures pending { ForEachLog (StandsFor A.law self.old) (λ kinds setup log. result ≡ is_pending kinds setup log switch life number) }
-        ensures marks { ForEachLog (StandsFor A.law self.old) (λ kinds setup log. self.new.marks ≡ with_result kinds setup log self.old.marks switch life number) }
+        ensures marks { ForEachLog (StandsFor A.law self.old) (λ kinds setup log. self.new.marks ≡ with_marked_result kinds setup log self.old.marks switch life number) }
         ensures stands { ForEachLog (StandsFor A.law self.old) (StandsFor A.law self.new) }
         ensures same { self.new ≡ record self.old { marks = self.new.marks; room = self.new.room } }
     {

@@ -9,7 +9,7 @@ ghost use Rattle.app_core.specs.declared.issued.Issued.{Issued};
 ghost use Rattle.app_core.specs.Chain.{chain_next, chain_after, starting_chain};
 ghost use Rattle.app_core.specs.Issued.{issue_each};
 ghost use Rattle.dispatcher.specs.Counted.{counts_of};
-ghost use Rattle.dispatcher.specs.Ledger.{AreCounts, AreLives, IsCountedAs, IsLedger, first_commands, handled_by, has_pending, most_commands, one_issued, one_processed, one_settled};
+ghost use Rattle.dispatcher.specs.Ledger.{AreCounts, AreLives, IsCountedAs, IsLedgerOfLog, first_commands, handled_by, has_pending, most_commands, one_issued, one_processed, one_settled};
 
 use crate::answers::Handled;
 use crate::counts::{Counts, LifeCounts};
@@ -34,7 +34,7 @@ pub(crate) struct Ledger {
 impl Ledger {
     /// That of the empty log. It takes no memory.
     pub(crate) fn new(alloc: Global) -> Ledger
-        ensures { (kinds : List ℕ) (setup : Setup) → IsLedger kinds setup [] result }
+        ensures { (kinds : List ℕ) (setup : Setup) → IsLedgerOfLog kinds setup [] result }
     {
         Ledger {
             alloc,
@@ -140,9 +140,9 @@ impl Ledger {
 
     /// An event is committed as received, and these commands are issued for it.
     pub(crate) fn receive(&mut self, event: &Event, commands: Commands) -> Result<(), AllocError>
-        ensures { (kinds : List ℕ) (setup : Setup) (log : List Entry) → IsLedger kinds setup log self.old → fits log (Received event.now) ≡ true →
+        ensures { (kinds : List ℕ) (setup : Setup) (log : List Entry) → IsLedgerOfLog kinds setup log self.old → fits log (Received event.now) ≡ true →
             commands ≡ (chain_next kinds setup (chain_after kinds setup (starting_chain kinds) (received log)) event.now).commands → length commands ≤ most_commands →
-            OnOk result (IsLedger kinds setup (log ++ Received event.now ∷ []) self.new) }
+            OnOk result (IsLedgerOfLog kinds setup (log ++ Received event.now ∷ []) self.new) }
     {
         self.lives.begin(event.switch, event.life);
         let commands = self.issue_each(commands)?;
@@ -186,8 +186,8 @@ impl Ledger {
 
     /// The first event that is not processed is committed as processed, and its commands are settled.
     pub(crate) fn process(&mut self) -> Result<Option<Handled>, AllocError>
-        ensures { (kinds : List ℕ) (setup : Setup) (log : List Entry) (j : ℕ) → IsLedger kinds setup log self.old → fits log (Processed j) ≡ true →
-            IfOk result (λ handled. (handled ≡ handled_by kinds setup log (Processed j)) × IsLedger kinds setup (log ++ Processed j ∷ []) self.new) }
+        ensures { (kinds : List ℕ) (setup : Setup) (log : List Entry) (j : ℕ) → IsLedgerOfLog kinds setup log self.old → fits log (Processed j) ≡ true →
+            IfOk result (λ handled. (handled ≡ handled_by kinds setup log (Processed j)) × IsLedgerOfLog kinds setup (log ++ Processed j ∷ []) self.new) }
     {
         let Some(handled) = self.pending.pop_front() else {
             return Ok(None);

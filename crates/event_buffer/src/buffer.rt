@@ -1,7 +1,7 @@
 //! The event buffer (Ravana, 4.1).
 ghost use Rattle.std.specs.Prelude.{◌≡◌, ◌≤◌, ◌<◌, ◌-◌, ◌^◌, Ok, Err, [], ◌∷◌, ◌++◌, length, slice_get, option_copied, nat_eq, nat_lt, IfOk, drop, vec_capacity, if◌then◌else◌};
 ghost use Rattle.std.specs.List.{list_any};
-ghost use Rattle.event_buffer.specs.Buffer.{highest_port, empty_buffer, next_number, full, is_full, posted, cleared_to, without_events_below, with_dirty, without_dirty, IsBuffer};
+ghost use Rattle.event_buffer.specs.Buffer.{highest_port, empty_buffer, next_number, full, is_full, with_posted, cleared_to, without_events_below, with_dirty, without_dirty, IsBuffer};
 
 use of_types::{Event, Happening, SmallSet};
 use std::alloc::{AllocError, Global};
@@ -55,7 +55,7 @@ impl EventBuffer {
     pub fn post(&mut self, what: Happening) -> Result<u64, Full>
         requires { next_number self.old < 2 ^ 64 - 1 }
         ensures answer { result ≡ (if is_full self.old then Err full else Ok (next_number self.old)) }
-        ensures after { self.new ≡ (if is_full self.old then self.old else posted self.old what) }
+        ensures after { self.new ≡ (if is_full self.old then self.old else with_posted self.old what) }
     {
         if self.is_full() {
             return Err(Full);

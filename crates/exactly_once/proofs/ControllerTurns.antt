@@ -32,7 +32,7 @@ use Rattle.group_controller.specs.Rules.{controller_work}
 use Rattle.exactly_once.specs.Facts.{PastFacts, Later, executed_of}
 use Rattle.exactly_once.specs.Truths.{IsGoodHappening, IsGenuine, IsOver, IsDoneThrough, IsTrueEntry, IsAhead, IsTrueCommand, MayTell}
 use Rattle.exactly_once.specs.Invariant.{HoldsEntry, Logged, IsHonest, IsOrder, ToSwitch, ToMember, IsHeardByController}
-use Rattle.exactly_once.specs.Premises.{IsMarked, IsMoment, HasSource, Was, Came, Logs, Finishes, IsSent, Asks, Commands, Acknowledges, Clears, Echoes, IsPosting, Switches, Members, BoundBy, By_held, By_told, By_moment, OneBy, One_held, One_told, One_proposed, IsAheadBy, IsGoodTurn, IsValidLog}
+use Rattle.exactly_once.specs.Premises.{IsMarked, IsMoment, HasSource, Was, Came, Logs, Finishes, IsSent, Asks, Commands, Acknowledges, Clears, Echoes, IsPosting, Switches, Members, BoundBy, By_held, By_told, By_moment, OneBy, One_held, One_told, One_proposed, IsAheadBy, IsGoodTurn, IsProperLog}
 use Rattle.controller_laws.proofs.Issued.{issued_none, issued_prefix, IsBetween, command_between, done_unless}
 use Rattle.controller_laws.proofs.Letters.{settled_is}
 use Rattle.exactly_once.proofs.Marks.{marks_come}
@@ -65,7 +65,7 @@ ended_at log s life h =
     ]
 
 -- each number below the count of processed events stands in a valid log
-module _ (log : List Entry) (valid : IsValidLog log) (k : ℕ) where
+module _ (log : List Entry) (valid : IsProperLog log) (k : ℕ) where
   stands_behind : (front rest : List Entry) → log ≡ front ++ rest → processed front ≤ k → k < processed (front ++ rest) → (i : ℕ) × (slice_get rest i ≡ Some (Processed k))
   stands_behind front [] is few more = let none = ap (λ l. processed l) (append-nil front) in absurd (omega (arith, few, more, none))
   stands_behind front (Received e ∷ rest) is few more =
@@ -91,14 +91,14 @@ module _ (log : List Entry) (valid : IsValidLog log) (k : ℕ) where
   processed_stands more = stands_behind [] log refl (omega arith) more
 
 -- a front of a valid log is valid
-pub valid_prefix : (log whole : List Entry) → IsPrefix log whole → IsValidLog whole → IsValidLog log
+pub valid_prefix : (log whole : List Entry) → IsPrefix log whole → IsProperLog whole → IsProperLog log
 valid_prefix log whole p valid front back e is =
     valid front (back ++ p.rest) e (p.joined ∙ ap (λ (l : List Entry). l ++ p.rest) is ∙ append_assoc front (e ∷ back) p.rest)
 
 module _ (kinds : List ℕ) (setup : Setup) (within : IsSetup setup) (f g : PastFacts) (later : Later f g) (me : ℕ) (c : ControllerState) (x : ControllerInput)
     (heard : IsHeardByController kinds setup f x) (honest : IsHonest kinds setup f c) (turn : IsGoodTurn kinds setup me c x)
     (front : is_up (controller_work kinds setup c x).state.vr ≡ true → IsPrefix (committed (controller_work kinds setup c x).state) g.decided)
-    (valid : is_up (controller_work kinds setup c x).state.vr ≡ true → IsValidLog (committed (controller_work kinds setup c x).state)) where
+    (valid : is_up (controller_work kinds setup c x).state.vr ≡ true → IsProperLog (committed (controller_work kinds setup c x).state)) where
   hears : (y : ControllerInput) → x ≡ y → IsHeardByController kinds setup f y
   hears y is = subst (λ (z : ControllerInput). IsHeardByController kinds setup f z) is heard
 

@@ -22,10 +22,10 @@ use Rattle.run_spec.specs.States.{Scene, switch_at}
 use Rattle.run_spec.specs.Legal.{IsPossible}
 use Rattle.run_spec.specs.Committed.{controller_state, switch_state, kept, decided}
 use Rattle.run_spec.specs.Laws.{IsExactlyOnce}
-use Rattle.exactly_once.specs.Facts.{Later, firm, facts_of, events_of, executed_of}
+use Rattle.exactly_once.specs.Facts.{Later, firm_switch, facts_of, events_of, executed_of}
 use Rattle.exactly_once.specs.Truths.{IsGenuine, IsDoneThrough, IsTrueEntry}
 use Rattle.run_spec.specs.States.{IsFaithful}
-use Rattle.exactly_once.specs.Premises.{IsValidLog, AreControllers}
+use Rattle.exactly_once.specs.Premises.{IsProperLog, AreControllers}
 use Rattle.exactly_once.specs.Invariant.{IsSoundAt, Logged, HoldsOfRun}
 use Rattle.exactly_once.proofs.Growing.{entry_more}
 use Rattle.exactly_once.proofs.ControllerTurns.{received_at}
@@ -55,7 +55,7 @@ module _ {B : Type 0} (scene : Scene B) (results : List (List SaveResult)) (fait
   -- what is decided tells the truth, and is valid
   pub record IsTrueDecided (entries : List (JournalEntry B)) : Type 0 where
     pub entries_true : (i : ℕ) (e : Entry) → slice_get (decided scene results entries) i ≡ Some e → IsTrueEntry scene.kinds scene.setup (facts_of scene results entries) i e
-    pub valid : IsValidLog (decided scene results entries)
+    pub valid : IsProperLog (decided scene results entries)
 
   kept_true : (entries : List (JournalEntry B)) → IsPossible scene results entries → (c : ℕ) → c < scene.setup.controllers → (i : ℕ) (e : Entry) → slice_get (kept scene results c entries) i ≡ Some e →
       IsTrueEntry scene.kinds scene.setup (facts_of scene results entries) i e
@@ -80,21 +80,21 @@ module _ {B : Type 0} (scene : Scene B) (results : List (List SaveResult)) (fait
             let old = decided_true before (possible_before scene results e before legal) in
             record {
               entries_true = λ i x at. entry_more scene.kinds scene.setup (later_always e before legal) i x (old.entries_true i x (ap (λ (l : List Entry). slice_get l i) (sym same) ∙ at));
-              valid = subst (λ (l : List Entry). IsValidLog l) (sym same) old.valid;
+              valid = subst (λ (l : List Entry). IsProperLog l) (sym same) old.valid;
             }
         | inr new ↦
             record {
               entries_true = λ i x at. kept_true (e ∷ before) legal new.0 new.1 i x (ap (λ (l : List Entry). slice_get l i) (sym new.2) ∙ at);
-              valid = subst (λ (l : List Entry). IsValidLog l) (sym new.2) (sides.valid e before legal (trusted scene results sides holds_always e before legal) new.0 new.1);
+              valid = subst (λ (l : List Entry). IsProperLog l) (sym new.2) (sides.valid e before legal (trusted scene results sides holds_always e before legal) new.0 new.1);
             }
       ]
 
   events_now : (s : ℕ) (entries : List (JournalEntry B)) → IsSoundAt scene.kinds scene.setup (facts_of scene results entries) s (switch_at scene s (part (actor.Switch s) entries)) → (life : ℕ) →
-      IsPrefix (events_of life (firm (switch_at scene s (part (actor.Switch s) entries))).events) (events_in (switch_state scene s entries) life)
+      IsPrefix (events_of life (firm_switch (switch_at scene s (part (actor.Switch s) entries))).events) (events_in (switch_state scene s entries) life)
   events_now s entries h life = prefix_filter _ (firm_events (switch_at scene s (part (actor.Switch s) entries)) (switch_at scene s (part (actor.Switch s) entries)).fresh h.events)
 
   executed_now : (s : ℕ) (entries : List (JournalEntry B)) → IsSoundAt scene.kinds scene.setup (facts_of scene results entries) s (switch_at scene s (part (actor.Switch s) entries)) → (life : ℕ) →
-      IsPrefix (executed_of life (firm (switch_at scene s (part (actor.Switch s) entries))).executed) (executed_in (switch_state scene s entries) life)
+      IsPrefix (executed_of life (firm_switch (switch_at scene s (part (actor.Switch s) entries))).executed) (executed_in (switch_state scene s entries) life)
   executed_now s entries h life = prefix_filter _ (firm_executed (switch_at scene s (part (actor.Switch s) entries)) (switch_at scene s (part (actor.Switch s) entries)).fresh h.executed)
 
   pub once : (entries : List (JournalEntry B)) → IsPossible scene results entries → IsExactlyOnce scene results entries

@@ -21,8 +21,8 @@ use Rattle.journal.specs.declared.journal.Local.TheVariants as local
 use Rattle.role_fence.specs.Fence.{Fence, is_some_of, is_stale, may_execute, as_master}
 use Rattle.of_switch.specs.declared.says.SwitchInput.{SwitchInput}
 use Rattle.of_switch.specs.declared.says.SwitchInput.TheVariants as switch_input
-use Rattle.of_switch.specs.State.{SwitchState, SwitchTurn, quiet, posts, then_turn, greetings, life_of}
-use Rattle.of_switch.specs.Events.{raised, next_life, tells_ports, on_restart}
+use Rattle.of_switch.specs.State.{SwitchState, SwitchTurn, quiet_switch, posts, then_turn, greetings, life_of}
+use Rattle.of_switch.specs.Events.{raised, next_life, tells_ports, switch_on_restart}
 use Rattle.of_switch.specs.Rules.{switch_turn}
 use Rattle.exactly_once.proofs.SwitchMoves.{Move, Raises, Says, Notes, Changes, Ages, Clears, Executes, Masters, Fences, Restarts, fenced, turn_keeps}
 use Rattle.run_spec.specs.declared.messages.Message.TheVariants as message
@@ -316,14 +316,14 @@ pub record IsFenced (controllers : ℕ) (w : Heard) (s : SwitchState) : Type 0 w
   pub fence : IsFenceOf controllers w.masters s.fence
   pub life : w.life ≡ life_of s
 
-restart_turn : (controllers : ℕ) (w : Heard) (start : SwitchState) → IsFenced controllers w start → IsFenced controllers (heard_local w local.Restart) (on_restart start).state
+restart_turn : (controllers : ℕ) (w : Heard) (start : SwitchState) → IsFenced controllers w start → IsFenced controllers (heard_local w local.Restart) (switch_on_restart start).state
 restart_turn controllers w start h =
-    subst (λ (n : ℕ). IsFenced controllers (if nat_lt n last_life then record { life = w.life + 1; masters = [] } else w) (on_restart start).state) (sym h.life) (by_life (nat_lt (life_of start) last_life))
+    subst (λ (n : ℕ). IsFenced controllers (if nat_lt n last_life then record { life = w.life + 1; masters = [] } else w) (switch_on_restart start).state) (sym h.life) (by_life (nat_lt (life_of start) last_life))
   where
     up : SwitchTurn
     up = tells_ports start.down (raised switch_up (next_life start))
 
-    by_life : (b : Bool) → IsFenced controllers (if b then record { life = w.life + 1; masters = [] } else w) (if b then then_turn up (λ now. posts now (greetings now)) else quiet start).state
+    by_life : (b : Bool) → IsFenced controllers (if b then record { life = w.life + 1; masters = [] } else w) (if b then then_turn up (λ now. posts now (greetings now)) else quiet_switch start).state
     by_life true =
         let r = told_ports start.down (raised switch_up (next_life start)) in
         record { fence = subst (λ (f : Fence). IsFenceOf controllers [] f) (sym r.0) (Unasked refl refl refl); life = ap (λ (n : ℕ). n + 1) h.life ∙ sym r.1 }

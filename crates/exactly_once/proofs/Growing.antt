@@ -33,7 +33,7 @@ use Rattle.run_spec.specs.declared.messages.Unsealed.TheVariants as unsealed
 use Rattle.run_spec.specs.States.{SwitchAt, ControllerAt}
 use Rattle.exactly_once.specs.Facts.{PastFacts, Later, executed_of}
 use Rattle.exactly_once.specs.Truths.{IsGenuine, IsOver, IsDoneThrough, IsTrueEntry, IsAhead, IsTrueCommand, IsNumbered, MayTell, IsReported}
-use Rattle.exactly_once.specs.Invariant.{IsSound, IsReport, Reported, Forwarded, IsSoundAt, IsHonest, IsTrueVr, IsOrder, ToSwitch, ToMember, IsHonestAt, IsTrueBetween}
+use Rattle.exactly_once.specs.Invariant.{SwitchIsSound, IsReport, Reported, Forwarded, IsSoundAt, IsHonest, IsTrueVr, IsOrder, ToSwitch, ToMember, IsHonestAt, IsTrueBetween}
 use Rattle.controller_laws.proofs.Issued.{issued_prefix}
 
 pub received-append : (xs ys : List Entry) → received (xs ++ ys) ≡ received xs ++ received ys
@@ -170,7 +170,7 @@ module _ (kinds : List ℕ) (setup : Setup) {f g : PastFacts} (later : Later f g
   honest_more c h =
       record { entries = λ i e k. entry_more i e (h.entries i e k); marks = λ s life i k. le_trans (h.marks s life i k) (prefix_length (prefix_filter _ (later.executed s))); ahead = λ k entries has. ahead_more k entries (h.ahead k entries has); views = h.views }
 
-  pub sound_more : (s : ℕ) (state : SwitchState) → IsSound kinds setup f s state → IsSound kinds setup g s state
+  pub sound_more : (s : ℕ) (state : SwitchState) → SwitchIsSound kinds setup f s state → SwitchIsSound kinds setup g s state
   sound_more s state h =
       record {
         well = h.well;

@@ -29,16 +29,16 @@ use Rattle.vr_log.specs.Members.{is_up}
 use Rattle.group_controller.specs.State.{ControllerState, starting_controller, committed, down}
 use Rattle.group_controller.specs.Rules.{controller_work}
 use Rattle.run_spec.specs.States.{Scene, SwitchAt, ControllerAt, switch_at, switch_step, controller_at, sealed_letters, switch_message, controller_message, content}
-use Rattle.run_spec.specs.Legal.{Fits, AreTyped, IsTurn, IsSoundSwitch, IsSoundController, EntryFits, IsPossible, results_of}
+use Rattle.run_spec.specs.Legal.{FitsDebt, AreTyped, IsTurn, IsSoundSwitch, IsSoundController, EntryFits, IsPossible, results_of}
 use Rattle.run_spec.proofs.Pasts.{possible_before, from_some, self_switch, self_controller, legal_finds, turn_fresh}
 use Rattle.run_spec.specs.Committed.{controller_state, kept_of, kept, decided}
-use Rattle.exactly_once.specs.Facts.{PastFacts, Later, firm, facts_of}
+use Rattle.exactly_once.specs.Facts.{PastFacts, Later, firm_switch, facts_of}
 use Rattle.run_spec.specs.Inputs.{IsHeardAt, By_draw, By_local}
 use Rattle.run_spec.proofs.Entries.{ControllerGoes, Turns, Falls, Stays, Own, Other, controller_after, SwitchGoes, Takes, Rests, Posts, Refuses, switch_goes, Mine, Another, switch_after}
 use Rattle.run_spec.specs.States.{IsFaithful}
 use Rattle.run_spec.specs.Inputs.{IsHeard, By_draw, By_local}
-use Rattle.exactly_once.specs.Premises.{AreControllers, IsValidLog}
-use Rattle.exactly_once.specs.Invariant.{IsSound, IsSoundAt, IsReport, IsHonest, IsHonestAt, IsOrder, IsTrueBetween, IsHeardBySwitch, IsHeardByController, HoldsEntry, Logged, Gathered, Answered, Fetched, HoldsAhead, Own as Owns, Collects, Answers, Supplies, HoldsOfRun}
+use Rattle.exactly_once.specs.Premises.{AreControllers, IsProperLog}
+use Rattle.exactly_once.specs.Invariant.{SwitchIsSound, IsSoundAt, IsReport, IsHonest, IsHonestAt, IsOrder, IsTrueBetween, IsHeardBySwitch, IsHeardByController, HoldsEntry, Logged, Gathered, Answered, Fetched, HoldsAhead, Own as Owns, Collects, Answers, Supplies, HoldsOfRun}
 use Rattle.exactly_once.specs.Truths.{IsTrueEntry, IsAhead}
 use Rattle.exactly_once.proofs.Growing.{sound_more, order_more, sound_at_more, honest_at_more, between_more}
 use Rattle.exactly_once.proofs.Switches.{switch_keeps}
@@ -56,7 +56,7 @@ pub firm_executed : (w : SwitchAt) (b : Bool) → IsPrefix w.before.executed w.n
 firm_executed w true p = p
 firm_executed w false p = prefix_refl w.now.executed
 
-firm_before : (w : SwitchAt) → w.fresh ≡ true → firm w ≡ w.before
+firm_before : (w : SwitchAt) → w.fresh ≡ true → firm_switch w ≡ w.before
 firm_before w h = rw h refl
 
 -- no entries beside number 0
@@ -96,38 +96,38 @@ module _ {B : Type 0} (scene : Scene B) (results : List (List SaveResult)) (fait
     refused_fresh s a refuses there is =
         let sound = (subst (λ (p : List (JournalEntry B × Option (Packet B))). IsSoundSwitch scene s p) is (legal.switches s there)).0 in
         let turn : IsTurn (part (actor.Switch s) before) =
-        subst (λ (x : JournalEntry B). Fits switch_message scene.sealing (switch_at scene s (part (actor.Switch s) before)).owed (part (actor.Switch s) before) x) refuses sound in
+        subst (λ (x : JournalEntry B). FitsDebt switch_message scene.sealing (switch_at scene s (part (actor.Switch s) before)).owed (part (actor.Switch s) before) x) refuses sound in
         holds.turns s there turn
 
     -- what is firm grows
     firm_goes : (s : ℕ) (w' : SwitchAt) → s < length scene.setup.ports → part (actor.Switch s) (e ∷ before) ≡ (e, drawn e before) ∷ part (actor.Switch s) before →
         SwitchGoes scene e (drawn e before) (switch_at scene s (part (actor.Switch s) before)) w' →
-        IsPrefix (firm (switch_at scene s (part (actor.Switch s) before))).events (firm w').events × IsPrefix (firm (switch_at scene s (part (actor.Switch s) before))).executed (firm w').executed
+        IsPrefix (firm_switch (switch_at scene s (part (actor.Switch s) before))).events (firm_switch w').events × IsPrefix (firm_switch (switch_at scene s (part (actor.Switch s) before))).executed (firm_switch w').executed
     firm_goes s w' there is goes =
         let w : SwitchAt = switch_at scene s (part (actor.Switch s) before) in
         let h = holds.switches s there in
         let p = firm_events w w.fresh h.events in
         let q = firm_executed w w.fresh h.executed in
         elim goes [
-          | Takes x heard step ↦ subst (λ (v : SwitchAt). IsPrefix (firm w).events (firm v).events × IsPrefix (firm w).executed (firm v).executed) (sym step) (p, q)
-          | Rests step ↦ subst (λ (v : SwitchAt). IsPrefix (firm w).events (firm v).events × IsPrefix (firm w).executed (firm v).executed) (sym step) (p, q)
-          | Posts step ↦ subst (λ (v : SwitchAt). IsPrefix (firm w).events (firm v).events × IsPrefix (firm w).executed (firm v).executed) (sym step) (p, q)
+          | Takes x heard step ↦ subst (λ (v : SwitchAt). IsPrefix (firm_switch w).events (firm_switch v).events × IsPrefix (firm_switch w).executed (firm_switch v).executed) (sym step) (p, q)
+          | Rests step ↦ subst (λ (v : SwitchAt). IsPrefix (firm_switch w).events (firm_switch v).events × IsPrefix (firm_switch w).executed (firm_switch v).executed) (sym step) (p, q)
+          | Posts step ↦ subst (λ (v : SwitchAt). IsPrefix (firm_switch w).events (firm_switch v).events × IsPrefix (firm_switch w).executed (firm_switch v).executed) (sym step) (p, q)
           | Refuses a refuses step ↦
               let back = firm_before w (refused_fresh s a refuses there is) in
-              subst (λ (v : SwitchAt). IsPrefix (firm w).events (firm v).events × IsPrefix (firm w).executed (firm v).executed) (sym step)
+              subst (λ (v : SwitchAt). IsPrefix (firm_switch w).events (firm_switch v).events × IsPrefix (firm_switch w).executed (firm_switch v).executed) (sym step)
               (prefix_is _ _ (ap (λ (v : SwitchState). v.events) (sym back)), prefix_is _ _ (ap (λ (v : SwitchState). v.executed) (sym back)))
         ]
 
-    firm_grows : (s : ℕ) → IsPrefix (firm (switch_at scene s (part (actor.Switch s) before))).events (firm (switch_at scene s (part (actor.Switch s) (e ∷ before)))).events
-        × IsPrefix (firm (switch_at scene s (part (actor.Switch s) before))).executed (firm (switch_at scene s (part (actor.Switch s) (e ∷ before)))).executed
+    firm_grows : (s : ℕ) → IsPrefix (firm_switch (switch_at scene s (part (actor.Switch s) before))).events (firm_switch (switch_at scene s (part (actor.Switch s) (e ∷ before)))).events
+        × IsPrefix (firm_switch (switch_at scene s (part (actor.Switch s) before))).executed (firm_switch (switch_at scene s (part (actor.Switch s) (e ∷ before)))).executed
     firm_grows s =
         elim (switch_after scene s e before) [
           | Mine same is ↦
               let w' = switch_step scene (switch_at scene s (part (actor.Switch s) before)) e (drawn e before) in
               let r = firm_goes s w' (named_switch s same) is (switch_goes scene (switch_at scene s (part (actor.Switch s) before)) e (drawn e before)) in
-              subst (λ (v : SwitchAt). IsPrefix (firm (switch_at scene s (part (actor.Switch s) before))).events (firm v).events × IsPrefix (firm (switch_at scene s (part (actor.Switch s) before))).executed (firm v).executed) (sym (stepped s is)) r
+              subst (λ (v : SwitchAt). IsPrefix (firm_switch (switch_at scene s (part (actor.Switch s) before))).events (firm_switch v).events × IsPrefix (firm_switch (switch_at scene s (part (actor.Switch s) before))).executed (firm_switch v).executed) (sym (stepped s is)) r
           | Another other is ↦
-              subst (λ (v : SwitchAt). IsPrefix (firm (switch_at scene s (part (actor.Switch s) before))).events (firm v).events × IsPrefix (firm (switch_at scene s (part (actor.Switch s) before))).executed (firm v).executed) (sym (stayed s is))
+              subst (λ (v : SwitchAt). IsPrefix (firm_switch (switch_at scene s (part (actor.Switch s) before))).events (firm_switch v).events × IsPrefix (firm_switch (switch_at scene s (part (actor.Switch s) before))).executed (firm_switch v).executed) (sym (stayed s is))
               (prefix_refl _, prefix_refl _)
         ]
 
@@ -218,11 +218,11 @@ module _ {B : Type 0} (scene : Scene B) (results : List (List SaveResult)) (fait
 
     -- what a controller has committed after a turn is decided, and valid
     work_front : (c : ℕ) (w : ControllerState) → c < scene.setup.controllers → controller_state scene results c (e ∷ before) ≡ w → is_up w.vr ≡ true →
-        IsPrefix (committed w) (decided scene results (e ∷ before)) × IsValidLog (committed w)
+        IsPrefix (committed w) (decided scene results (e ∷ before)) × IsProperLog (committed w)
     work_front c w there now up =
         let on : kept scene results c (e ∷ before) ≡ committed w = ap (λ (y : ControllerState). kept_of y) now ∙ rw up refl in (
           subst (λ (l : List Entry). IsPrefix l (decided scene results (e ∷ before))) on (front e before legal trust c there),
-          subst (λ (l : List Entry). IsValidLog l) on (sides.valid e before legal trust c there),
+          subst (λ (l : List Entry). IsProperLog l) on (sides.valid e before legal trust c there),
         )
 
     honest_goes : (c : ℕ) → same_actor (actor_of e) (actor.Controller c) ≡ true →
@@ -276,13 +276,13 @@ module _ {B : Type 0} (scene : Scene B) (results : List (List SaveResult)) (fait
               let w : SwitchAt = switch_at scene s (part (actor.Switch s) before) in
               let sound = (subst (λ (q : List (JournalEntry B × Option (Packet B))). IsSoundSwitch scene s q) part_is (legal.switches s there)).0 in
               let fits : (letters ≡ sealed_letters switch_message scene.sealing w.owed) × (letters ≢ []) × AreTyped switch_message w.owed =
-              subst (λ (y : JournalEntry B). Fits switch_message scene.sealing w.owed (part (actor.Switch s) before) y) is sound in
+              subst (λ (y : JournalEntry B). FitsDebt switch_message scene.sealing w.owed (part (actor.Switch s) before) y) is sound in
               let stepped_to : switch_at scene s (part (actor.Switch s) (e ∷ before)) ≡ record w { owed = []; fresh = false } =
               stepped s part_is ∙ ap (λ (y : JournalEntry B). switch_step scene w y (drawn e before)) is in
-              let events_are : w.now.events ≡ (firm (switch_at scene s (part (actor.Switch s) (e ∷ before)))).events = ap (λ (v : SwitchAt). (firm v).events) (sym stepped_to) in
-              let executed_are : w.now.executed ≡ (firm (switch_at scene s (part (actor.Switch s) (e ∷ before)))).executed = ap (λ (v : SwitchAt). (firm v).executed) (sym stepped_to) in
+              let events_are : w.now.events ≡ (firm_switch (switch_at scene s (part (actor.Switch s) (e ∷ before)))).events = ap (λ (v : SwitchAt). (firm_switch v).events) (sym stepped_to) in
+              let executed_are : w.now.executed ≡ (firm_switch (switch_at scene s (part (actor.Switch s) (e ∷ before)))).executed = ap (λ (v : SwitchAt). (firm_switch v).executed) (sym stepped_to) in
               switch_packet scene.sealing faithful scene.kinds scene.setup (facts_of scene results (e ∷ before)) p s there w.owed fits.2
-              (λ l k. subst (λ (xs : List Executed). IsReport s (firm (switch_at scene s (part (actor.Switch s) (e ∷ before)))).events xs l) executed_are
+              (λ l k. subst (λ (xs : List Executed). IsReport s (firm_switch (switch_at scene s (part (actor.Switch s) (e ∷ before)))).events xs l) executed_are
               (subst (λ (xs : List Event). IsReport s xs w.now.executed l) events_are ((holds.switches s there).owed l k)))
               (subst (λ (ls : List (Letter B)). IsPosted (actor.Switch s) ls p) fits.0 posted)
           | Another other part_is ↦ let no : true ≡ false = sym mine ∙ other in absurd cc
@@ -295,7 +295,7 @@ module _ {B : Type 0} (scene : Scene B) (results : List (List SaveResult)) (fait
               let w : ControllerAt = controller_at scene (results_of results c) c (part (actor.Controller c) before) in
               let sound = (subst (λ (q : List (JournalEntry B × Option (Packet B))). IsSoundController scene (results_of results c) c q) part_is (legal.controllers c there)).0 in
               let fits : (letters ≡ sealed_letters controller_message scene.sealing w.owed) × (letters ≢ []) × AreTyped controller_message w.owed =
-              subst (λ (y : JournalEntry B). Fits controller_message scene.sealing w.owed (part (actor.Controller c) before) y) is sound in
+              subst (λ (y : JournalEntry B). FitsDebt controller_message scene.sealing w.owed (part (actor.Controller c) before) y) is sound in
               controller_packet scene.sealing faithful scene.kinds scene.setup (facts_of scene results (e ∷ before)) p c w.owed fits.2
               (λ l k. order_more scene.kinds scene.setup later c l ((holds.controllers c there).owed l k))
               (subst (λ (ls : List (Letter B)). IsPosted (actor.Controller c) ls p) fits.0 posted)
@@ -329,7 +329,7 @@ module _ {B : Type 0} (scene : Scene B) (results : List (List SaveResult)) (fait
     packets = λ p k. absurd k;
   }
     where
-      starts : (s : ℕ) → IsSound scene.kinds scene.setup (facts_of scene results []) s (starting_switch s scene.setup)
+      starts : (s : ℕ) → SwitchIsSound scene.kinds scene.setup (facts_of scene results []) s (starting_switch s scene.setup)
       starts s = record {
         well = record {
           number_is = refl;

@@ -20,7 +20,7 @@ use Rattle.vr_log.specs.Log.{received, may_be_received}
 use Rattle.run_spec.specs.Laws.{events_from, events_from_life}
 use Rattle.exactly_once.specs.Facts.{PastFacts, events_of}
 use Rattle.exactly_once.specs.Truths.{IsGenuine}
-use Rattle.exactly_once.specs.Premises.{IsValidLog}
+use Rattle.exactly_once.specs.Premises.{IsProperLog}
 
 -- events that came by lives and numbers
 abbrev pub AreOrdered : List Event → Type 0
@@ -44,7 +44,7 @@ split_received (Processed j ∷ log) front back e is =
     let r = split_received log front back e is in
     record { before = Processed j ∷ r.before; rest = r.rest; is = ap (λ (l : List Entry). Processed j ∷ l) r.is; events = r.events }
 
-pub ordered_events : (log : List Entry) → IsValidLog log → AreOrdered (received log)
+pub ordered_events : (log : List Entry) → IsProperLog log → AreOrdered (received log)
 ordered_events log valid front back e is =
     let r = split_received log front back e is in subst (λ (l : List Event). may_be_received e l ≡ true) r.events (valid r.before r.rest (Received e) r.is)
 
@@ -223,7 +223,7 @@ module _ (es : List Event) (ordered : AreOrdered es) where
       (subst (λ (k : ℕ). slice_get (events_of k (f.events s)) x.number ≡ Some x) r.life_is (subst (λ (k : ℕ). slice_get (events_of x.life (f.events k)) x.number ≡ Some x) r.switch_is g.stands)))
 
 -- what is over below a place of a valid log has ended there
-pub over_has_ended : (log before rest : List Entry) (s life place : ℕ) (e : Event) → IsValidLog log → log ≡ before ++ rest → slice_get before place ≡ Some (Received e) → e.switch ≡ s → life < e.life → has_ended s life (received before) ≡ true
+pub over_has_ended : (log before rest : List Entry) (s life place : ℕ) (e : Event) → IsProperLog log → log ≡ before ++ rest → slice_get before place ≡ Some (Received e) → e.switch ≡ s → life < e.life → has_ended s life (received before) ≡ true
 over_has_ended log before rest s life place e valid is at own less =
     let ordered : AreOrdered (received before) = ordered_events before (λ front back x split. valid front (back ++ rest) x (is ∙ ap (λ (l : List Entry). l ++ rest) split ∙ append_assoc front (x ∷ back) rest)) in
     let up = risen_is (received before) ordered (received before) [] (sym (append-nil (received before))) e (received_among before place at) in

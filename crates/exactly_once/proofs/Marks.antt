@@ -26,17 +26,17 @@ use Rattle.vr_recovery.specs.Recovering.{restarted}
 use Rattle.dispatcher.specs.declared.answers.Wish.{Wish}
 use Rattle.dispatcher.specs.declared.answers.Wish.TheVariants.{Propose, Acknowledge, Nothing}
 use Rattle.dispatcher.specs.Folding.{wish}
-use Rattle.dispatcher.specs.Marks.{Marks, no_marks, outstanding, has_result, is_pending, with_mark, with_result}
+use Rattle.dispatcher.specs.Marks.{Marks, no_marks, outstanding, has_result, is_pending, with_mark, with_marked_result}
 use Rattle.group_controller.specs.declared.messages.ControllerInput.{ControllerInput}
 use Rattle.group_controller.specs.declared.messages.ControllerInput.TheVariants as controller_input
-use Rattle.group_controller.specs.State.{ControllerState, Work, committed, fresh, met_limit, with_no_met_limit, resting, posting, leaving, to_switch, stepped}
+use Rattle.group_controller.specs.State.{ControllerState, Work, committed, fresh, met_limit, with_no_met_limit, resting, posting_work, leaving, to_switch, stepped}
 use Rattle.group_controller.specs.Settling.{role_letter, command_letters, with_answers, is_untold, with_commands, with_proposal, is_settled, is_alone, finishing, settling, after_finishing, after_proposal, goes_on, processing, proposing}
 use Rattle.group_controller.specs.Rules.{has_started, switches, starting_view, after_step, on_master, on_wish, on_event, on_result, on_plain, on_extension, on_spoken, on_switch, on_local, on_input, when_down, is_down, controller_work}
 use Rattle.exactly_once.specs.Premises.{IsMarked}
 
 module _ (kinds : List ℕ) (setup : Setup) where
   commands_marks : (w : Work) → (with_commands kinds setup w).state.marks ≡ w.state.marks
-  commands_marks w = cond_both (is_untold w.state) (leaving (posting w (command_letters kinds setup w.state (outstanding kinds setup (committed w.state) w.state.marks))) (record w.state { last_told = Some (processed (committed w.state)) })) w (λ (y : Work). y.state.marks ≡ w.state.marks) (λ _. refl) (λ _. refl)
+  commands_marks w = cond_both (is_untold w.state) (leaving (posting_work w (command_letters kinds setup w.state (outstanding kinds setup (committed w.state) w.state.marks))) (record w.state { last_told = Some (processed (committed w.state)) })) w (λ (y : Work). y.state.marks ≡ w.state.marks) (λ _. refl) (λ _. refl)
 
   proposal_marks : (w : Work) (entry : Entry) → (after_proposal kinds setup w entry).state.marks ≡ w.state.marks
   proposal_marks w entry =
@@ -77,7 +77,7 @@ module _ (kinds : List ℕ) (setup : Setup) where
   step_marks c step =
       let work = stepped c step in
       let fresh_one = record work.state { marks = no_marks; last_told = None } in
-      let asked = posting (leaving work fresh_one) (map (role_letter fresh_one.vr.view) (switches setup)) in
+      let asked = posting_work (leaving work fresh_one) (map (role_letter fresh_one.vr.view) (switches setup)) in
       let more = settling kinds setup c.vr.commit work in
       cond_both (has_started c.vr step.state) (starting_view kinds setup work) (if leads step.state && nat_lt c.vr.commit step.state.commit then more else work) (λ (y : Work). NoneNew c y)
       (λ _. inr (ap (λ (m : Marks). m.acked) (settling_marks fresh_one.vr.commit asked)))
@@ -107,9 +107,9 @@ module _ (kinds : List ℕ) (setup : Setup) where
 
     result_marks : (switch xid life number : ℕ) (outcome : Outcome) → x ≡ controller_input.Of switch xid (spoken.Ravana (extension.CmdAck life number outcome)) → Comes (on_result kinds setup c switch life number)
     result_marks switch xid life number outcome is =
-        cond_both (is_pending kinds setup (committed c) switch life number) (after_finishing kinds setup (resting (record c { marks = with_result kinds setup (committed c) c.marks switch life number }))) (resting c) Comes
+        cond_both (is_pending kinds setup (committed c) switch life number) (after_finishing kinds setup (resting (record c { marks = with_marked_result kinds setup (committed c) c.marks switch life number }))) (resting c) Comes
         (λ _ s l i h. by_pending (is_pending kinds setup (committed c) switch life number) s l i
-        (subst (λ (m : Marks). IsIn (s, l, i) m.acked) (finish_marks (length (received c.vr.log)) (resting (record c { marks = with_result kinds setup (committed c) c.marks switch life number }))) h))
+        (subst (λ (m : Marks). IsIn (s, l, i) m.acked) (finish_marks (length (received c.vr.log)) (resting (record c { marks = with_marked_result kinds setup (committed c) c.marks switch life number }))) h))
         (λ _. (λ s l i h. inl h))
       where
         by_new : (b : Bool) (s l i : ℕ) → IsIn (s, l, i) (if b then c.marks else record c.marks { acked = c.marks.acked ++ (switch, life, number) ∷ [] }).acked → IsMarked c x s l i
@@ -150,7 +150,7 @@ module _ (kinds : List ℕ) (setup : Setup) where
     leads_marks switch xid m is = cond_both (leads c.vr) (on_spoken kinds setup c switch m) (resting c) Comes (λ _. spoken_marks switch xid m is) (λ _. (λ s l i h. inl h))
 
     switch_marks : (switch xid : ℕ) (m : Spoken) → x ≡ controller_input.Of switch xid m → Comes (on_switch kinds setup c switch xid m)
-    switch_marks switch xid (spoken.Plain (plain.EchoRequest body)) is = cond_both (is_up c.vr) (posting (resting c) (to_switch switch xid (spoken.Plain (plain.EchoReply body)) ∷ [])) (resting c) Comes (λ _. (λ s l i h. inl h)) (λ _. (λ s l i h. inl h))
+    switch_marks switch xid (spoken.Plain (plain.EchoRequest body)) is = cond_both (is_up c.vr) (posting_work (resting c) (to_switch switch xid (spoken.Plain (plain.EchoReply body)) ∷ [])) (resting c) Comes (λ _. (λ s l i h. inl h)) (λ _. (λ s l i h. inl h))
     switch_marks switch xid (spoken.Plain m) is = leads_marks switch xid (spoken.Plain m) is
     switch_marks switch xid (spoken.Ravana m) is = leads_marks switch xid (spoken.Ravana m) is
 

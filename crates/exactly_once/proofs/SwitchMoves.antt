@@ -39,11 +39,11 @@ use Rattle.command_buffer.specs.Results.{most_kept, without_results_below, offer
 use Rattle.of_switch.specs.declared.says.SwitchInput.{SwitchInput}
 use Rattle.of_switch.specs.declared.says.SwitchInput.TheVariants as switch_input
 use Rattle.of_switch.specs.declared.says.SwitchSays.{SwitchSays}
-use Rattle.of_switch.specs.State.{SwitchState, SwitchTurn, quiet, posts, then_turn, to_controller, error_letter, refuses, answers, greetings, rows_of, life_of, number_of, ports_up}
-use Rattle.of_switch.specs.Events.{window, first_held, event_letter, event_letters, with_event, raised, packet_raised, is_down, port_status, with_port, is_port, on_port, remembers, coming, cleared, on_event_ack, tells_ports, next_life, on_restart, tick_letters, flow_removed, tells_left, aged, on_tick}
-use Rattle.of_switch.specs.Forwarding.{is_frame, targets, frame_letter, over_link, over_links, sends_to, puts_all, packet_in, through_row, fields_at, on_frame}
-use Rattle.of_switch.specs.Commands.{is_output, result_of, does, done_as, counted, result_letter, executes, on_offer, settled, on_command}
-use Rattle.of_switch.specs.Rules.{on_local, on_role, on_role_request, on_plain, on_own_life, life_said, on_extension, on_malformed, switch_turn}
+use Rattle.of_switch.specs.State.{SwitchState, SwitchTurn, quiet_switch, posts, then_turn, to_controller, error_letter, switch_refuses, answers, greetings, rows_of, life_of, own_number_of, ports_up}
+use Rattle.of_switch.specs.Events.{window, first_held, event_letter, event_letters, with_event, raised, packet_raised, is_port_down, port_status, with_port, is_port, on_port, remembers, coming, cleared, on_event_ack, tells_ports, next_life, switch_on_restart, switch_tick_letters, flow_removed, tells_left, aged, switch_on_tick}
+use Rattle.of_switch.specs.Forwarding.{is_frame, targets, frame_letter, over_link, over_links, sends_to, puts_all, packet_in_of, through_row, frame_fields_at, on_frame}
+use Rattle.of_switch.specs.Commands.{is_output, result_of, does, done_as, counted_command, result_letter, executes, on_offer, settled, on_command}
+use Rattle.of_switch.specs.Rules.{switch_on_local, on_role, on_role_request, switch_on_plain, on_own_life, life_said, switch_on_extension, on_malformed, switch_turn}
 use Rattle.of_switch.proofs.Leaving.{left_told}
 use Rattle.flow_table.specs.Table.{chosen_row}
 use Rattle.flow_clock.specs.declared.times.Expired.{Expired}
@@ -106,7 +106,7 @@ pub data Move (x : SwitchInput) (t t' : SwitchTurn) : Type 0 where
       t' ≡ record t { state = cleared t.state through } → Move x t t'
   Executes : (c xid life generation number through : ℕ) (what : Order) (result : Outcome) → x ≡ switch_input.Of c xid (spoken.Ravana (extension.Command life generation number through what)) →
       nat_eq life (life_of t.state) ≡ true → may_execute t.state.fence c generation ≡ true → nat_eq number t.state.results.executed ≡ true →
-      t' ≡ record t { state = counted c generation number what result t.state } → Move x t t'
+      t' ≡ record t { state = counted_command c generation number what result t.state } → Move x t t'
   Masters : (c xid role generation : ℕ) → x ≡ switch_input.Of c xid (spoken.Plain (plain.RoleRequest role generation)) → nat_eq role MASTER ≡ true →
       is_stale t.state.fence.generation generation ≡ false → t.letters ≡ [] → t' ≡ record t { state = fenced t.state (as_master t.state.fence c generation) } → Move x t t'
   Fences : (c xid role generation : ℕ) (fence : Fence) → x ≡ switch_input.Of c xid (spoken.Plain (plain.RoleRequest role generation)) → nat_eq role MASTER ≡ false → t.letters ≡ [] →
@@ -180,8 +180,8 @@ module _ (x : SwitchInput) (P : SwitchTurn → Type 0) (step : (t t' : SwitchTur
       said (record t { state = after.state }) (flat_map (over_links t.state frame) ports)
       (λ l m.
       let a = among_flat (over_links t.state frame) ports l m in
-      let b = among_flat (over_link frame (number_of t.state) a.0) t.state.links l a.1 in
-      let c = over_is frame (number_of t.state) a.0 b.0 l b.1 in
+      let b = among_flat (over_link frame (own_number_of t.state) a.0) t.state.links l a.1 in
+      let c = over_is frame (own_number_of t.state) a.0 b.0 l b.1 in
       Forwards c.0 c.1 frame brings fits c.2)
       (notes t t.state.down after.state.sent t.state.results.outcomes t.state.buffer.dirty h)
 
@@ -193,10 +193,10 @@ module _ (x : SwitchInput) (P : SwitchTurn → Type 0) (step : (t t' : SwitchTur
       outputs_keep Q tells port frame by_telling by_sending outputs _
       (either (λ (y : SwitchTurn). Q (then_turn t (λ _. y))) (nat_eq output TO_CONTROLLER) _ _ (λ _. by_telling t h) (λ _. by_sending (targets t.state port output) t h))
 
-  row_keeps : (port : ℕ) (frame : List ℕ) → BringsFrame x frame → is_frame frame ≡ true → (s : SwitchState) (found : Option Row) → P (quiet s) → P (through_row s port frame found)
+  row_keeps : (port : ℕ) (frame : List ℕ) → BringsFrame x frame → is_frame frame ≡ true → (s : SwitchState) (found : Option Row) → P (quiet_switch s) → P (through_row s port frame found)
   row_keeps port frame brings fits s None h = h
   row_keeps port frame brings fits s (Some row) h =
-      outputs_keep P (packet_raised (packet_in row port frame)) port frame (λ t. packet_keeps (packet_in row port frame) t (Packets _ refl brings fits)) (sends_keeps frame brings fits) row.actions (quiet s) h
+      outputs_keep P (packet_raised (packet_in_of row port frame)) port frame (λ t. packet_keeps (packet_in_of row port frame) t (Packets _ refl brings fits)) (sends_keeps frame brings fits) row.actions (quiet_switch s) h
 
   -- ports are told
   ports_keep : (ports : List ℕ) (t : SwitchTurn) → P t → P (tells_ports ports t)
@@ -211,32 +211,32 @@ module _ (x : SwitchInput) (P : SwitchTurn → Type 0) (step : (t t' : SwitchTur
       (raised_keeps (port_status t.state port) (record t { state = record t.state { buffer = without_dirty t.state.buffer port } }) (Ports _ refl)
       (notes t t.state.down t.state.sent t.state.results.outcomes (without_dirty t.state.buffer port).dirty h)))
 
-  module _ (s : SwitchState) (h : P (quiet s)) where
+  module _ (s : SwitchState) (h : P (quiet_switch s)) where
     frame_keeps : (port : ℕ) (frame : List ℕ) → BringsFrame x frame → P (on_frame s port frame)
     frame_keeps port frame brings =
         either P (list_any (λ p. nat_eq p port) (ports_up s) && is_frame frame) _ _
         (λ fits.
-        let met = through_row s port frame (chosen_row (rows_of s) (fields_at port frame)) in
-        let same = hit_rows met.state.table (fields_at port frame) (length frame) in
-        step met _ (Ages (clock_hit met.state.table (fields_at port frame) (length frame)) (λ r k. subst (λ (rows : List Row). IsIn r rows) same k) refl)
-        (row_keeps port frame brings (and_parts (list_any (λ p. nat_eq p port) (ports_up s)) (is_frame frame) fits).1 s (chosen_row (rows_of s) (fields_at port frame)) h))
+        let met = through_row s port frame (chosen_row (rows_of s) (frame_fields_at port frame)) in
+        let same = hit_rows met.state.table (frame_fields_at port frame) (length frame) in
+        step met _ (Ages (clock_hit met.state.table (frame_fields_at port frame) (length frame)) (λ r k. subst (λ (rows : List Row). IsIn r rows) same k) refl)
+        (row_keeps port frame brings (and_parts (list_any (λ p. nat_eq p port) (ports_up s)) (is_frame frame) fits).1 s (chosen_row (rows_of s) (frame_fields_at port frame)) h))
         (λ _. h)
 
     port_keeps : (port : ℕ) (up : Bool) → P (on_port s port up)
     port_keeps port up =
-        either P (is_port s port && (if up then is_down s port else not (is_down s port))) _ _
+        either P (is_port s port && (if up then is_port_down s port else not (is_port_down s port))) _ _
         (λ _. either P (is_full (with_port s port up).buffer) _ _
-        (λ _. notes (quiet s) (with_port s port up).down s.sent s.results.outcomes (with_dirty s.buffer port).dirty h)
-        (λ _. raised_keeps (port_status (with_port s port up) port) (quiet (with_port s port up)) (Ports _ refl) (notes (quiet s) (with_port s port up).down s.sent s.results.outcomes s.buffer.dirty h)))
+        (λ _. notes (quiet_switch s) (with_port s port up).down s.sent s.results.outcomes (with_dirty s.buffer port).dirty h)
+        (λ _. raised_keeps (port_status (with_port s port up) port) (quiet_switch (with_port s port up)) (Ports _ refl) (notes (quiet_switch s) (with_port s port up).down s.sent s.results.outcomes s.buffer.dirty h)))
         (λ _. h)
 
     greets : (t : SwitchTurn) → P t → P (record t { letters = t.letters ++ greetings t.state })
     greets t k = said t (greetings t.state) (λ l m. let r = in_map (λ c. to_controller c 0 (spoken.Plain plain.Hello)) (range_with_len 0 t.state.controllers) l m in Greets r.0 r.2) k
 
-    restart_keeps : x ≡ switch_input.Local local.Restart → P (on_restart s)
+    restart_keeps : x ≡ switch_input.Local local.Restart → P (switch_on_restart s)
     restart_keeps is =
         either P (nat_lt (life_of s) last_life) _ _
-        (λ more. greets _ (ports_keep s.down _ (raised_keeps switch_up (quiet (next_life s)) (Ports _ refl) (step (quiet s) _ (Restarts is more refl refl) h))))
+        (λ more. greets _ (ports_keep s.down _ (raised_keeps switch_up (quiet_switch (next_life s)) (Ports _ refl) (step (quiet_switch s) _ (Restarts is more refl refl) h))))
         (λ _. h)
 
     there : AllByRecursion (λ r. IsIn r (rows_of s)) (rows_of s)
@@ -244,7 +244,7 @@ module _ (x : SwitchInput) (P : SwitchTurn → Type 0) (step : (t t' : SwitchTur
 
     -- a switch that has told of some of the rows that left
     record HasTold (now : SwitchState) : Type 0 where
-      pub kept : P (quiet now)
+      pub kept : P (quiet_switch now)
       pub table : now.table ≡ s.table
       pub fence : now.fence ≡ s.fence
 
@@ -252,31 +252,31 @@ module _ (x : SwitchInput) (P : SwitchTurn → Type 0) (step : (t t' : SwitchTur
     left =
         left_told (λ (e : Expired). (e.reason ≤ 3) × IsIn e.row (rows_of s)) HasTold
         (λ e now told room k. record {
-          kept = step (quiet now) _ (Raises (flow_removed e) (Removed e refl told.0 (subst (λ (a : Clocked). IsIn e.row (rows_in a)) (sym k.table) told.1)) refl) k.kept;
+          kept = step (quiet_switch now) _ (Raises (flow_removed e) (Removed e refl told.0 (subst (λ (a : Clocked). IsIn e.row (rows_in a)) (sym k.table) told.1)) refl) k.kept;
           table = k.table;
           fence = k.fence;
         })
         (clock_told s.table) (told_rows (λ r. IsIn r (rows_of s)) s.table there) s
         (record { kept = h; table = refl; fence = refl })
 
-    aged_keeps : P (quiet (aged s))
+    aged_keeps : P (quiet_switch (aged s))
     aged_keeps =
-        step (quiet (tells_left (clock_told s.table) s)) _
+        step (quiet_switch (tells_left (clock_told s.table) s)) _
         (Ages (clock_tick s.table)
         (λ r k. subst (λ (a : Clocked). IsIn r (rows_in a)) (sym left.table)
         (all_of (λ r. IsIn r (rows_of s)) (rows_in (clock_tick s.table)) r (tick_rows (λ r. IsIn r (rows_of s)) s.table there) k)) refl)
         left.kept
 
-    ticks : (m : Option ℕ) → s.fence.master ≡ m → P (posts (aged s) (tick_letters (aged s) m))
-    ticks None is = either (λ (ls : List (Letter SwitchSays)). P (posts (aged s) ls)) (nat_lt 0 (life_of (aged s))) _ _ (λ _. greets (quiet (aged s)) aged_keeps) (λ _. aged_keeps)
+    ticks : (m : Option ℕ) → s.fence.master ≡ m → P (posts (aged s) (switch_tick_letters (aged s) m))
+    ticks None is = either (λ (ls : List (Letter SwitchSays)). P (posts (aged s) ls)) (nat_lt 0 (life_of (aged s))) _ _ (λ _. greets (quiet_switch (aged s)) aged_keeps) (λ _. aged_keeps)
     ticks (Some c) is =
-        said (quiet (aged s)) _
+        said (quiet_switch (aged s)) _
         (λ l m. let r = in_map (event_letter c) (first_held (aged s)) l m in Tells c r.0 (first_among (aged s) r.0 r.1) (ap (λ (f : Fence). f.master) left.fence ∙ is) r.2) aged_keeps
 
-    tick_keeps : P (on_tick s)
+    tick_keeps : P (switch_on_tick s)
     tick_keeps = ticks s.fence.master refl
 
-    local_keeps : (input : Local) → x ≡ switch_input.Local input → P (on_local s input)
+    local_keeps : (input : Local) → x ≡ switch_input.Local input → P (switch_on_local s input)
     local_keeps (local.Frame port frame) is = frame_keeps port frame (Wire port is)
     local_keeps local.Tick is = tick_keeps
     local_keeps (local.Port port up) is = port_keeps port up
@@ -284,22 +284,22 @@ module _ (x : SwitchInput) (P : SwitchTurn → Type 0) (step : (t t' : SwitchTur
     local_keeps local.Crash is = h
     local_keeps local.Restart is = restart_keeps is
 
-    refuses_keeps : (c xid : ℕ) (why : Refusal) (asked : Spoken) → x ≡ switch_input.Of c xid asked → P (refuses s c xid why)
-    refuses_keeps c xid why asked is = one_said (quiet s) _ (Refuses c xid why.kind why.code asked is refl) h
+    refuses_keeps : (c xid : ℕ) (why : Refusal) (asked : Spoken) → x ≡ switch_input.Of c xid asked → P (switch_refuses s c xid why)
+    refuses_keeps c xid why asked is = one_said (quiet_switch s) _ (Refuses c xid why.kind why.code asked is refl) h
 
     answers_keeps : (c xid : ℕ) (asked answer : OfMessage) → x ≡ switch_input.Of c xid (spoken.Plain asked) → is_question asked ≡ true → P (answers s c xid (spoken.Plain answer))
-    answers_keeps c xid asked answer is question = one_said (quiet s) _ (Answers c xid asked answer is question refl) h
+    answers_keeps c xid asked answer is question = one_said (quiet_switch s) _ (Answers c xid asked answer is question refl) h
 
     -- a role that is taken: the reply, and the first events where it is master
     takes_keeps : (c xid role generation : ℕ) (fence : Fence) → x ≡ switch_input.Of c xid (spoken.Plain (plain.RoleRequest role generation)) → (nat_eq role MASTER ≡ true → fence.master ≡ Some c) →
-        P (quiet (fenced s fence)) → P (on_role s c xid role (replies fence c) (replies fence c).answer)
+        P (quiet_switch (fenced s fence)) → P (on_role s c xid role (replies fence c) (replies fence c).answer)
     takes_keeps c xid role generation fence is own k =
         either (λ (ls : List (Letter SwitchSays)). P (posts (fenced s fence) (to_controller c xid (spoken.Plain (plain.RoleReply (role_of fence c) (told_generation fence))) ∷ ls))) (nat_eq role MASTER) _ _
         (λ master. said _ _ (λ l m. let r = in_map (event_letter c) (first_held s) l m in Tells c r.0 (first_among s r.0 r.1) (own master) r.2) replied)
         (λ _. replied)
       where
         replied : P (posts (fenced s fence) (to_controller c xid (spoken.Plain (plain.RoleReply (role_of fence c) (told_generation fence))) ∷ []))
-        replied = one_said (quiet (fenced s fence)) _ (Roles c xid role generation _ _ is refl) k
+        replied = one_said (quiet_switch (fenced s fence)) _ (Roles c xid role generation _ _ is refl) k
 
     unlike : (role other : ℕ) → nat_eq role other ≡ true → nat_eq other MASTER ≡ false → nat_eq role MASTER ≡ false
     unlike role other same differs = subst (λ (k : ℕ). nat_eq k MASTER ≡ false) (sym (eqb-true role other same)) differs
@@ -314,13 +314,13 @@ module _ (x : SwitchInput) (P : SwitchTurn → Type 0) (step : (t t' : SwitchTur
         (λ _. either (ByRole c xid role) (nat_eq role EQUAL) _ _ (λ e. other (as_equal s.fence c) (unlike role EQUAL e refl))
         (λ _. either (ByRole c xid role) (is_stale s.fence.generation generation) _ _ (λ _. refuses_keeps c xid STALE_ROLE _ is)
         (λ fresh. either (ByRole c xid role) (nat_eq role MASTER) _ _
-        (λ e. takes_keeps c xid role generation (as_master s.fence c generation) is (λ _. refl) (step (quiet s) _ (Masters c xid role generation is e fresh refl refl) h))
+        (λ e. takes_keeps c xid role generation (as_master s.fence c generation) is (λ _. refl) (step (quiet_switch s) _ (Masters c xid role generation is e fresh refl refl) h))
         (λ e. other (as_slave s.fence c generation) e)))))
       where
         other : (fence : Fence) → nat_eq role MASTER ≡ false → P (on_role s c xid role (replies fence c) (replies fence c).answer)
-        other fence differs = takes_keeps c xid role generation fence is (λ m. let no_way : false ≡ true = sym differs ∙ m in absurd cc) (step (quiet s) _ (Fences c xid role generation fence is differs refl refl) h)
+        other fence differs = takes_keeps c xid role generation fence is (λ m. let no_way : false ≡ true = sym differs ∙ m in absurd cc) (step (quiet_switch s) _ (Fences c xid role generation fence is differs refl refl) h)
 
-    plain_keeps : (c xid : ℕ) (asked : OfMessage) → x ≡ switch_input.Of c xid (spoken.Plain asked) → P (on_plain s c xid asked)
+    plain_keeps : (c xid : ℕ) (asked : OfMessage) → x ≡ switch_input.Of c xid (spoken.Plain asked) → P (switch_on_plain s c xid asked)
     plain_keeps c xid plain.Hello is = h
     plain_keeps c xid (plain.Error kind code head) is = h
     plain_keeps c xid (plain.EchoRequest body) is = answers_keeps c xid _ _ is refl
@@ -339,33 +339,33 @@ module _ (x : SwitchInput) (P : SwitchTurn → Type 0) (step : (t t' : SwitchTur
     plain_keeps c xid (plain.RoleReply role generation) is = refuses_keeps c xid BAD_TYPE _ is
 
     -- results are dropped at the front
-    settled_keeps : (through : ℕ) → P (quiet (settled s through))
-    settled_keeps through = notes (quiet s) s.down s.sent (without_results_below s.results through).outcomes s.buffer.dirty h
+    settled_keeps : (through : ℕ) → P (quiet_switch (settled s through))
+    settled_keeps through = notes (quiet_switch s) s.down s.sent (without_results_below s.results through).outcomes s.buffer.dirty h
 
     acked_keeps : (c xid life through : ℕ) → x ≡ switch_input.Of c xid (spoken.Ravana (extension.EventAck life through)) → nat_eq life (life_of s) ≡ true → P (on_event_ack s through)
     acked_keeps c xid life through is own =
         remembered_keep s.buffer.dirty _
         (said _ (event_letters s.fence.master (coming (cleared s through) (cleared_to s.buffer through - s.buffer.cleared)))
         (told x (cleared s through) s.fence.master refl _ (λ e m. in_take 8 (cleared s through).buffer.held e (in_drop _ _ e m)))
-        (step (quiet s) _ (Clears c xid life through is own refl) h))
+        (step (quiet_switch s) _ (Clears c xid life through is own refl) h))
 
   -- a command of the present life
   module _ (c xid life generation number through : ℕ) (what : Order) (is : x ≡ switch_input.Of c xid (spoken.Ravana (extension.Command life generation number through what))) where
     abbrev Kept : SwitchState → SwitchTurn → Type 0
     Kept s t = P t × Same s t
 
-    kept_silent : (s : SwitchState) (t : SwitchTurn) → Kept s t → Kept s (then_turn t quiet)
+    kept_silent : (s : SwitchState) (t : SwitchTurn) → Kept s t → Kept s (then_turn t quiet_switch)
     kept_silent s t k = (silent t k.0, record { life = k.1.life; fence = k.1.fence; count = k.1.count })
 
-    does_keeps : (s : SwitchState) (o : Order) → o ≡ what → P (quiet s) → result_of s o ≡ outcome.Done → Kept s (does o s)
+    does_keeps : (s : SwitchState) (o : Order) → o ≡ what → P (quiet_switch s) → result_of s o ≡ outcome.Done → Kept s (does o s)
     does_keeps s (order.FlowMod change) same h done = (
-      step (quiet s) _ (Changes c xid life generation number through change (is ∙ ap (λ (o : Order). switch_input.Of c xid (spoken.Ravana (extension.Command life generation number through o))) (sym same)) refl) h,
+      step (quiet_switch s) _ (Changes c xid life generation number through change (is ∙ ap (λ (o : Order). switch_input.Of c xid (spoken.Ravana (extension.Command life generation number through o))) (sym same)) refl) h,
       record { life = refl; fence = refl; count = refl },
     )
     does_keeps s (order.PacketOut out) same h done =
-        outputs_keep (Kept s) quiet out.in_port out.payload (kept_silent s)
+        outputs_keep (Kept s) quiet_switch out.in_port out.payload (kept_silent s)
         (λ ports t k. (sends_keeps out.payload brings fits ports t k.0, record { life = k.1.life; fence = k.1.fence; count = k.1.count }))
-        out.actions (quiet s) (h, record { life = refl; fence = refl; count = refl })
+        out.actions (quiet_switch s) (h, record { life = refl; fence = refl; count = refl })
       where
         brings : BringsFrame x out.payload
         brings = Output c xid life generation number through out (is ∙ ap (λ (o : Order). switch_input.Of c xid (spoken.Ravana (extension.Command life generation number through o))) (sym same)) refl
@@ -379,12 +379,12 @@ module _ (x : SwitchInput) (P : SwitchTurn → Type 0) (step : (t t' : SwitchTur
             by_tests true false false e = absurd cc
             by_tests true false true e = refl
 
-    done_keeps : (s : SwitchState) → P (quiet s) → (r : Outcome) → result_of s what ≡ r → Kept s (done_as r what s)
+    done_keeps : (s : SwitchState) → P (quiet_switch s) → (r : Outcome) → result_of s what ≡ r → Kept s (done_as r what s)
     done_keeps s h outcome.Done e = does_keeps s what refl h e
     done_keeps s h (outcome.Failed kind code) e = (h, record { life = refl; fence = refl; count = refl })
     done_keeps s h outcome.Cleared e = (h, record { life = refl; fence = refl; count = refl })
 
-    module _ (s : SwitchState) (own : nat_eq life (life_of s) ≡ true) (may : may_execute s.fence c generation ≡ true) (h : P (quiet s)) where
+    module _ (s : SwitchState) (own : nat_eq life (life_of s) ≡ true) (may : may_execute s.fence c generation ≡ true) (h : P (quiet_switch s)) where
       executes_keeps : nat_eq number s.results.executed ≡ true → P (executes s c generation number what)
       executes_keeps next =
           let r : Outcome = result_of s what in
@@ -392,7 +392,7 @@ module _ (x : SwitchInput) (P : SwitchTurn → Type 0) (step : (t t' : SwitchTur
           let k = done_keeps s h r refl in
           let count : number ≡ s.results.executed = eqb-true number s.results.executed next in
           let same = k.1.count in
-          one_said (record d { state = counted c generation number what r d.state }) (result_letter s c number r)
+          one_said (record d { state = counted_command c generation number what r d.state }) (result_letter s c number r)
           (Reports c xid life generation number through what r is (omega (arith, count, same)) (ap (λ (n : ℕ). to_controller c 0 (spoken.Ravana (extension.CmdAck n number r))) (sym k.1.life)))
           (step d _ (Executes c xid life generation number through what r is (ap (λ (n : ℕ). nat_eq life n) k.1.life ∙ own)
           (ap (λ (f : Fence). may_execute f c generation) k.1.fence ∙ may) (ap (λ (n : ℕ). nat_eq number n) k.1.count ∙ next) refl) k.0)
@@ -402,16 +402,16 @@ module _ (x : SwitchInput) (P : SwitchTurn → Type 0) (step : (t t' : SwitchTur
           either (λ (o : Offer). P (on_offer s c generation number what o)) (nat_eq number s.results.executed) _ _
           (λ next. either (λ (o : Offer). P (on_offer s c generation number what o)) (nat_lt (length s.results.outcomes) most_kept) _ _ (λ _. executes_keeps next) (λ _. h))
           (λ _. either (λ (o : Offer). P (on_offer s c generation number what o)) (nat_lt number s.results.executed) _ _
-          (λ old. one_said (quiet s) _ (Reports c xid life generation number through what _ is (ltb-true _ _ old) refl) h)
+          (λ old. one_said (quiet_switch s) _ (Reports c xid life generation number through what _ is (ltb-true _ _ old) refl) h)
           (λ _. h))
 
-    command_keeps : (s : SwitchState) → nat_eq life (life_of s) ≡ true → P (quiet s) → P (on_command s c xid generation number through what)
+    command_keeps : (s : SwitchState) → nat_eq life (life_of s) ≡ true → P (quiet_switch s) → P (on_command s c xid generation number through what)
     command_keeps s own h =
         either P (may_execute s.fence c generation) _ _
         (λ may. offer_keeps (settled s through) own may (settled_keeps s h through))
         (λ _. refuses_keeps s h c xid NOT_MASTER _ is)
 
-  module _ (s : SwitchState) (h : P (quiet s)) where
+  module _ (s : SwitchState) (h : P (quiet_switch s)) where
     own_keeps : (c xid : ℕ) (message : Extension) → x ≡ switch_input.Of c xid (spoken.Ravana message) → nat_eq (life_said message) (life_of s) ≡ true → P (on_own_life s c xid message)
     own_keeps c xid (extension.Event life number what) is own = refuses_keeps s h c xid BAD_TYPE _ is
     own_keeps c xid (extension.EventAck life through) is own = acked_keeps s h c xid life through is own
@@ -419,11 +419,11 @@ module _ (x : SwitchInput) (P : SwitchTurn → Type 0) (step : (t t' : SwitchTur
     own_keeps c xid (extension.CmdAck life number result) is own = refuses_keeps s h c xid BAD_TYPE _ is
     own_keeps c xid (extension.Clear life through) is own = settled_keeps s h through
 
-    extension_keeps : (c xid : ℕ) (message : Extension) → x ≡ switch_input.Of c xid (spoken.Ravana message) → P (on_extension s c xid message)
+    extension_keeps : (c xid : ℕ) (message : Extension) → x ≡ switch_input.Of c xid (spoken.Ravana message) → P (switch_on_extension s c xid message)
     extension_keeps c xid message is = either P (nat_eq (life_said message) (life_of s)) _ _ (λ own. own_keeps c xid message is own) (λ _. h)
 
     malformed_keeps : (from : Actor) (kind code xid : ℕ) (head : List ℕ) → x ≡ switch_input.Malformed from kind code xid head → P (on_malformed s from kind code xid head)
-    malformed_keeps (actor.Controller c) kind code xid head is = one_said (quiet s) _ (Explains c kind code xid head is refl) h
+    malformed_keeps (actor.Controller c) kind code xid head is = one_said (quiet_switch s) _ (Explains c kind code xid head is refl) h
     malformed_keeps (actor.Switch other) kind code xid head is = h
 
     input_keeps : (y : SwitchInput) → x ≡ y → P (switch_turn s y)

@@ -20,9 +20,9 @@ use Rattle.event_buffer.specs.Buffer.{is_full, next_event}
 use Rattle.of_switch.specs.declared.says.SwitchInput.{SwitchInput}
 use Rattle.of_switch.specs.declared.says.SwitchInput.TheVariants as switch_input
 use Rattle.of_switch.specs.declared.says.SwitchSays.{SwitchSays}
-use Rattle.of_switch.specs.State.{SwitchState, SwitchTurn, quiet, posts, then_turn, greetings, to_controller, life_of}
-use Rattle.of_switch.specs.Events.{raised, port_status, remembers, cleared, on_event_ack, tells_ports, next_life, on_restart}
-use Rattle.of_switch.specs.Rules.{on_role, on_role_request, on_extension, switch_turn}
+use Rattle.of_switch.specs.State.{SwitchState, SwitchTurn, quiet_switch, posts, then_turn, greetings, to_controller, life_of}
+use Rattle.of_switch.specs.Events.{raised, port_status, remembers, cleared, on_event_ack, tells_ports, next_life, switch_on_restart}
+use Rattle.of_switch.specs.Rules.{on_role, on_role_request, switch_on_extension, switch_turn}
 use Rattle.exactly_once.proofs.SwitchMoves.{IsSaid, Tells, Reports, Roles, Refuses, Answers, Explains, Greets, Forwards, Move, Raises, Says, Notes, Changes, Ages, Clears as Clearing, Executes, Masters, Fences as Fencing, Restarts, turn_keeps}
 use Rattle.exactly_once.specs.Facts.{events_of, executed_of}
 use Rattle.exactly_once.specs.Invariant.{IsWell}
@@ -76,23 +76,23 @@ dirty_account (port ∷ ports) t =
     cond_both (is_full t.state.buffer) t _ (λ (y : SwitchTurn). SameAccount t.state y) (λ _. record { cleared = refl; ended = refl; life = refl; fence = refl })
     (λ _. let r = dirty_account ports _ in record { cleared = r.cleared; ended = r.ended; life = r.life; fence = r.fence })
 
-acked_account : (s : SwitchState) (c xid life through : ℕ) (x : SwitchInput) → x ≡ switch_input.Of c xid (spoken.Ravana (extension.EventAck life through)) → Clears s x (on_extension s c xid (extension.EventAck life through))
+acked_account : (s : SwitchState) (c xid life through : ℕ) (x : SwitchInput) → x ≡ switch_input.Of c xid (spoken.Ravana (extension.EventAck life through)) → Clears s x (switch_on_extension s c xid (extension.EventAck life through))
 acked_account s c xid life through x is =
-    cond_both (nat_eq life (life_of s)) (on_event_ack s through) (quiet s) (λ (y : SwitchTurn). Clears s x y)
+    cond_both (nat_eq life (life_of s)) (on_event_ack s through) (quiet_switch s) (λ (y : SwitchTurn). Clears s x y)
     (λ own.
     let r = dirty_account s.buffer.dirty (posts (cleared s through) _) in
     Through c xid through (is ∙ ap (λ (n : ℕ). switch_input.Of c xid (spoken.Ravana (extension.EventAck n through))) (eqb-true life (life_of s) own)) r.cleared r.ended r.life)
     (λ _. Nothing refl refl refl)
 
-restart_account : (s : SwitchState) (x : SwitchInput) → x ≡ switch_input.Local local.Restart → Clears s x (on_restart s)
+restart_account : (s : SwitchState) (x : SwitchInput) → x ≡ switch_input.Local local.Restart → Clears s x (switch_on_restart s)
 restart_account s x is =
-    cond_both (nat_lt (life_of s) last_life) (then_turn (tells_ports s.down (raised switch_up (next_life s))) (λ now. posts now (greetings now))) (quiet s) (λ (y : SwitchTurn). Clears s x y)
+    cond_both (nat_lt (life_of s) last_life) (then_turn (tells_ports s.down (raised switch_up (next_life s))) (λ now. posts now (greetings now))) (quiet_switch s) (λ (y : SwitchTurn). Clears s x y)
     (λ more. let r = ports_account s.down (raised switch_up (next_life s)) in Life is more r.cleared r.ended r.life)
     (λ _. Nothing refl refl refl)
 
-restart_fence : (s : SwitchState) (x : SwitchInput) → x ≡ switch_input.Local local.Restart → Fences s x (on_restart s)
+restart_fence : (s : SwitchState) (x : SwitchInput) → x ≡ switch_input.Local local.Restart → Fences s x (switch_on_restart s)
 restart_fence s x is =
-    cond_both (nat_lt (life_of s) last_life) (then_turn (tells_ports s.down (raised switch_up (next_life s))) (λ now. posts now (greetings now))) (quiet s) (λ (y : SwitchTurn). Fences s x y)
+    cond_both (nat_lt (life_of s) last_life) (then_turn (tells_ports s.down (raised switch_up (next_life s))) (λ now. posts now (greetings now))) (quiet_switch s) (λ (y : SwitchTurn). Fences s x y)
     (λ _. let r = ports_account s.down (raised switch_up (next_life s)) in Anew is r.fence)
     (λ _. Stays refl)
 

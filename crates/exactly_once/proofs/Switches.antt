@@ -32,7 +32,7 @@ use Rattle.of_switch.specs.declared.says.SwitchInput.TheVariants as switch_input
 use Rattle.of_switch.specs.declared.says.SwitchSays.{SwitchSays}
 use Rattle.of_switch.specs.State.{SwitchState, SwitchTurn, rows_of, life_of}
 use Rattle.of_switch.specs.Events.{with_event, cleared, next_life}
-use Rattle.of_switch.specs.Commands.{counted}
+use Rattle.of_switch.specs.Commands.{counted_command}
 use Rattle.of_switch.specs.Rules.{switch_turn}
 use Rattle.exactly_once.specs.SwitchTurns.{BringsFrame, Wire, Peer, Output}
 use Rattle.exactly_once.proofs.TableRows.{all_changed, opening_valid}
@@ -40,12 +40,12 @@ use Rattle.exactly_once.proofs.SwitchMoves.{is_question, IsRaised, Ports, Packet
 use Rattle.exactly_once.specs.Facts.{PastFacts, events_of, executed_of}
 use Rattle.app_core.specs.Orders.{AreBytes}
 use Rattle.exactly_once.specs.Truths.{IsGoodHappening, IsMade, IsNumbered, MayTell}
-use Rattle.exactly_once.specs.Invariant.{IsWell, IsSound, IsReport, Reported, Forwarded, IsHeardBySwitch}
+use Rattle.exactly_once.specs.Invariant.{IsWell, SwitchIsSound, IsReport, Reported, Forwarded, IsHeardBySwitch}
 use Rattle.exactly_once.proofs.Growing.{report_more}
 
 -- a switch in the midst of a turn
 pub record SwitchKeeps (kinds : List ℕ) (setup : Setup) (f : PastFacts) (s : ℕ) (start : SwitchState) (t : SwitchTurn) : Type 0 where
-  pub sound : IsSound kinds setup f s t.state
+  pub sound : SwitchIsSound kinds setup f s t.state
   pub events : IsPrefix start.events t.state.events
   pub executed : IsPrefix start.executed t.state.executed
   pub said : (l : Letter SwitchSays) → IsIn l t.letters → IsReport s t.state.events t.state.executed l
@@ -134,7 +134,7 @@ module _ (s : ℕ) where
       }
 
   -- a command is carried out
-  well_executes : (state : SwitchState) (c generation number : ℕ) (what : Order) (result : Outcome) → number ≡ state.results.executed → IsWell s state → IsWell s (counted c generation number what result state)
+  well_executes : (state : SwitchState) (c generation number : ℕ) (what : Order) (result : Outcome) → number ≡ state.results.executed → IsWell s state → IsWell s (counted_command c generation number what result state)
   well_executes state c generation number what result place h =
       let new : Executed = record { life = life_of state; number = number; generation = generation; from = c; order = what } in
       let count = h.count in
@@ -207,14 +207,14 @@ module _ (kinds : List ℕ) (setup : Setup) (f : PastFacts) (s : ℕ) (x : Switc
       hears (switch_input.Of c xid (spoken.Ravana (extension.Command life generation number through (order.PacketOut out)))) is in
       subst (λ (l : List ℕ). AreBytes l) (sym same) told.1
 
-  raised_good : (state : SwitchState) (what : Happening) → IsSound kinds setup f s state → IsRaised x state what → IsGoodHappening what
+  raised_good : (state : SwitchState) (what : Happening) → SwitchIsSound kinds setup f s state → IsRaised x state what → IsGoodHappening what
   raised_good state what sound (Ports p is) = subst (λ (w : Happening). IsGoodHappening w) (sym is) tt
   raised_good state what sound (Packets p is brings fits) = subst (λ (w : Happening). IsGoodHappening w) (sym is) (fits, brought p.payload brings)
   raised_good state what sound (Removed e is known among) =
       subst (λ (w : Happening). IsGoodHappening w) (sym is) (known, all_of (λ r. IsValidMatch r.matching) (rows_of state) e.row sound.rows among)
 
   -- what it says is true
-  report : (state : SwitchState) (l : Letter SwitchSays) → IsSound kinds setup f s state → IsSaid x state l → IsReport s state.events state.executed l
+  report : (state : SwitchState) (l : Letter SwitchSays) → SwitchIsSound kinds setup f s state → IsSaid x state l → IsReport s state.events state.executed l
   report state l sound (Tells c e among master is) =
       let there_is = sound.well.held e among in
       let at = event_at state.events e there_is in
@@ -235,14 +235,14 @@ module _ (kinds : List ℕ) (setup : Setup) (f : PastFacts) (s : ℕ) (x : Switc
 
   module _ (start : SwitchState) where
     -- to another turn with the same letters, from lists that grew
-    to_state : (t t' : SwitchTurn) (state : SwitchState) → t' ≡ record t { state = state } → IsSound kinds setup f s state → IsPrefix t.state.events state.events →
+    to_state : (t t' : SwitchTurn) (state : SwitchState) → t' ≡ record t { state = state } → SwitchIsSound kinds setup f s state → IsPrefix t.state.events state.events →
         IsPrefix t.state.executed state.executed → SwitchKeeps kinds setup f s start t → SwitchKeeps kinds setup f s start t'
     to_state t t' state is sound p q h =
         subst (λ (y : SwitchTurn). SwitchKeeps kinds setup f s start y) (sym is)
         (record { sound = sound; events = prefix_trans h.events p; executed = prefix_trans h.executed q; said = λ l k. report_more s p q l (h.said l k) })
 
     -- one more event
-    sound_raises : (state : SwitchState) (what : Happening) → IsGoodHappening what → IsSound kinds setup f s state → IsSound kinds setup f s (with_event state what)
+    sound_raises : (state : SwitchState) (what : Happening) → IsGoodHappening what → SwitchIsSound kinds setup f s state → SwitchIsSound kinds setup f s (with_event state what)
     sound_raises state what good h =
         record {
           well = well_raises s state what h.well;
@@ -256,7 +256,7 @@ module _ (kinds : List ℕ) (setup : Setup) (f : PastFacts) (s : ℕ) (x : Switc
         }
 
     -- events leave
-    sound_clears : (state : SwitchState) (life through : ℕ) → life ≡ life_of state → through ≤ processed_of f.decided s life → IsSound kinds setup f s state → IsSound kinds setup f s (cleared state through)
+    sound_clears : (state : SwitchState) (life through : ℕ) → life ≡ life_of state → through ≤ processed_of f.decided s life → SwitchIsSound kinds setup f s state → SwitchIsSound kinds setup f s (cleared state through)
     sound_clears state life through same few h =
         record {
           well = well_clears s state through h.well;
@@ -277,7 +277,7 @@ module _ (kinds : List ℕ) (setup : Setup) (f : PastFacts) (s : ℕ) (x : Switc
 
     -- a command is carried out
     sound_executes : (state : SwitchState) (c life generation number : ℕ) (what : Order) (result : Outcome) → life ≡ life_of state → number ≡ state.results.executed →
-        IsNumbered kinds setup f s life number what → IsSound kinds setup f s state → IsSound kinds setup f s (counted c generation number what result state)
+        IsNumbered kinds setup f s life number what → SwitchIsSound kinds setup f s state → SwitchIsSound kinds setup f s (counted_command c generation number what result state)
     sound_executes state c life generation number what result same place numbered h =
         let new : Executed = record { life = life_of state; number = number; generation = generation; from = c; order = what } in
         record {
@@ -299,7 +299,7 @@ module _ (kinds : List ℕ) (setup : Setup) (f : PastFacts) (s : ℕ) (x : Switc
         }
 
     -- a life begins
-    sound_restarts : (state : SwitchState) → IsSound kinds setup f s state → IsSound kinds setup f s (next_life state)
+    sound_restarts : (state : SwitchState) → SwitchIsSound kinds setup f s state → SwitchIsSound kinds setup f s (next_life state)
     sound_restarts state h =
         record {
           well = well_restarts s state h.well;
@@ -368,6 +368,6 @@ module _ (kinds : List ℕ) (setup : Setup) (f : PastFacts) (s : ℕ) (x : Switc
     kept_by t t' (Restarts asks further first is) h =
         to_state t t' _ is (sound_restarts t.state h.sound) (prefix_refl t.state.events) (prefix_refl t.state.executed) h
 
-    pub switch_keeps : IsSound kinds setup f s start → SwitchKeeps kinds setup f s start (switch_turn start x)
+    pub switch_keeps : SwitchIsSound kinds setup f s start → SwitchKeeps kinds setup f s start (switch_turn start x)
     switch_keeps sound = turn_keeps x (SwitchKeeps kinds setup f s start) kept_by start
         (record { sound = sound; events = prefix_refl start.events; executed = prefix_refl start.executed; said = λ l k. absurd k })

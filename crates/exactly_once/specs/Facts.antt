@@ -27,16 +27,16 @@ abbrev pub executed_of : ℕ → List Executed → List Executed
 executed_of life executed = filter (λ x. nat_eq x.life life) executed
 
 -- what of a switch no later refusal takes back: its state before its newest entry, where that is an input
-abbrev pub firm : SwitchAt → SwitchState
-firm w = if w.fresh then w.before else w.now
+abbrev pub firm_switch : SwitchAt → SwitchState
+firm_switch w = if w.fresh then w.before else w.now
 
 -- the facts of a past
 abbrev pub facts_of : {B : Type 0} → Scene B → List (List SaveResult) → List (JournalEntry B) → PastFacts
 facts_of scene results entries =
     record {
       decided = decided scene results entries;
-      events = λ s. (firm (switch_at scene s (part (actor.Switch s) entries))).events;
-      executed = λ s. (firm (switch_at scene s (part (actor.Switch s) entries))).executed;
+      events = λ s. (firm_switch (switch_at scene s (part (actor.Switch s) entries))).events;
+      executed = λ s. (firm_switch (switch_at scene s (part (actor.Switch s) entries))).executed;
     }
 
 -- facts of a later moment

@@ -32,7 +32,7 @@ use Rattle.of_switch.specs.declared.says.SwitchInput.{SwitchInput}
 use Rattle.of_switch.specs.declared.says.SwitchInput.TheVariants as switch_input
 use Rattle.of_switch.specs.declared.says.SwitchSays.{SwitchSays}
 use Rattle.of_switch.specs.declared.says.SwitchSays.TheVariants as switch_says
-use Rattle.of_switch.specs.State.{SwitchState, number_of, rows_of, life_of, cleared_in}
+use Rattle.of_switch.specs.State.{SwitchState, own_number_of, rows_of, life_of, cleared_in}
 use Rattle.group_controller.specs.declared.messages.ControllerInput.{ControllerInput}
 use Rattle.group_controller.specs.declared.messages.ControllerInput.TheVariants as controller_input
 use Rattle.group_controller.specs.declared.messages.ControllerSays.{ControllerSays}
@@ -88,7 +88,7 @@ pub data HoldsAhead (s : VrState) (k : ℕ) (entries : List Entry) : Type 0 wher
 
 -- a switch's lists, counts and lives fit one another: each event and each command has its place of its life as number
 pub record IsWell (s : ℕ) (state : SwitchState) : Type 0 where
-  pub number_is : number_of state ≡ s
+  pub number_is : own_number_of state ≡ s
   pub lives : length state.ended ≡ life_of state
   pub made : (life i : ℕ) (e : Event) → slice_get (events_of life state.events) i ≡ Some e → (life ≤ life_of state) × IsMade s life i e
   pub held : (e : Event) → IsIn e state.buffer.held → IsIn e state.events
@@ -98,7 +98,7 @@ pub record IsWell (s : ℕ) (state : SwitchState) : Type 0 where
 
 -- a switch holds the events that it made, life after life and in order; it carried out the commands that were issued
 -- to each of its lives, in order; only processed events have left its buffer; and the matches of its rows can be spelled
-pub record IsSound (kinds : List ℕ) (setup : Setup) (f : PastFacts) (s : ℕ) (state : SwitchState) : Type 0 where
+pub record SwitchIsSound (kinds : List ℕ) (setup : Setup) (f : PastFacts) (s : ℕ) (state : SwitchState) : Type 0 where
   pub well : IsWell s state
   pub good : (e : Event) → IsIn e state.events → IsGoodHappening e.what
   pub issued : (life i : ℕ) (x : Executed) → slice_get (executed_of life state.executed) i ≡ Some x → IsNumbered kinds setup f s life i x.order
@@ -114,8 +114,8 @@ pub data IsReport (s : ℕ) (events : List Event) (executed : List Executed) (l 
 
 -- a switch, before and after what may be its open input
 pub record IsSoundAt (kinds : List ℕ) (setup : Setup) (f : PastFacts) (s : ℕ) (w : SwitchAt) : Type 0 where
-  pub now : IsSound kinds setup f s w.now
-  pub before : IsSound kinds setup f s w.before
+  pub now : SwitchIsSound kinds setup f s w.now
+  pub before : SwitchIsSound kinds setup f s w.before
   pub events : IsPrefix w.before.events w.now.events
   pub executed : IsPrefix w.before.executed w.now.executed
   pub owed : (l : Letter SwitchSays) → IsIn l w.owed → IsReport s w.now.events w.now.executed l

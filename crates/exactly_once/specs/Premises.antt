@@ -100,8 +100,8 @@ pub record IsGoodTurn (kinds : List ℕ) (setup : Setup) (me : ℕ) (c : Control
   pub letters : (l : Letter ControllerSays) → IsIn l (controller_work kinds setup c x).letters → IsPosting kinds setup me c x l
 
 -- the entry may follow each of those before it
-abbrev pub IsValidLog : List Entry → Type 0
-IsValidLog log = (front back : List Entry) (e : Entry) → log ≡ front ++ e ∷ back → may_follow front e ≡ true
+abbrev pub IsProperLog : List Entry → Type 0
+IsProperLog log = (front back : List Entry) (e : Entry) → log ≡ front ++ e ∷ back → may_follow front e ≡ true
 
 -- the controllers' side of a world, whose setup is within the limits. Each of its facts may use that the invariant holds after every earlier past
 pub record AreControllers {B : Type 0} (scene : Scene B) (results : List (List SaveResult)) : Type 0 where
@@ -109,7 +109,7 @@ pub record AreControllers {B : Type 0} (scene : Scene B) (results : List (List S
   pub agree : (e : JournalEntry B) (before : List (JournalEntry B)) → IsPossible scene results (e ∷ before) → ((i : ℕ) → HoldsOfRun scene results (drop i before)) →
       (c d i j : ℕ) → c < scene.setup.controllers → d < scene.setup.controllers → AreOne (kept scene results c (drop i (e ∷ before))) (kept scene results d (drop j (e ∷ before)))
   pub valid : (e : JournalEntry B) (before : List (JournalEntry B)) → IsPossible scene results (e ∷ before) → ((i : ℕ) → HoldsOfRun scene results (drop i before)) →
-      (c : ℕ) → c < scene.setup.controllers → IsValidLog (kept scene results c (e ∷ before))
+      (c : ℕ) → c < scene.setup.controllers → IsProperLog (kept scene results c (e ∷ before))
   pub turns : (e : JournalEntry B) (before : List (JournalEntry B)) → IsPossible scene results (e ∷ before) → ((i : ℕ) → HoldsOfRun scene results (drop i before)) →
       (c : ℕ) → c < scene.setup.controllers → same_actor (actor_of e) (actor.Controller c) ≡ true → (x : ControllerInput) → IsHeard scene e (drawn e before) x →
       IsHonest scene.kinds scene.setup (facts_of scene results before) (controller_state scene results c before) → IsHeardByController scene.kinds scene.setup (facts_of scene results before) x →

@@ -13,7 +13,7 @@ use Rattle.of_types.specs.declared.setup.Rule.{Rule}
 use Rattle.of_types.specs.Header.{fields_of, has_ipv4, has_ports, number_within, transport_place}
 use Rattle.of_types.specs.Matching.{matches, has_value, has_address32}
 use Rattle.of_types.specs.Setups.{IsRule}
-use Rattle.app_core.specs.Firewall.{is_within, prefix_mask, matched_prefix, asked_protocol, asked_port, destination_port, denied_match, denies}
+use Rattle.app_core.specs.Firewall.{is_prefix_within, prefix_mask, matched_prefix, asked_protocol, asked_port, destination_port, denied_match, denies}
 
 mask_again : (n bits : ℕ) → bit_and (bit_and n (prefix_mask bits)) (prefix_mask bits) ≡ bit_and n (prefix_mask bits)
 mask_again n bits = and_high_mask_twice 32 (32 - bits) (omega arith) n (32 - bits) (omega arith)
@@ -22,16 +22,16 @@ no_mask : (n : ℕ) → bit_and n 0 ≡ 0
 no_mask n = let few = and_le_r n 0 in omega (arith, few)
 
 -- a prefix, as a match has it, asks what the rule asks
-any_asks : (p : Prefix) (found : Option ℕ) → p.length ≡ 0 → is_within p found ≡ true
+any_asks : (p : Prefix) (found : Option ℕ) → p.length ≡ 0 → is_prefix_within p found ≡ true
 any_asks p None e = rw e refl
 any_asks p (Some address) e = rw (e, no_mask address, no_mask p.address) refl
 
 some_asks : (p : Prefix) (found : Option ℕ) → nat_eq p.length 0 ≡ false →
-    has_address32 (Some (record { value = bit_and p.address (prefix_mask p.length); mask = prefix_mask p.length })) found ≡ is_within p found
+    has_address32 (Some (record { value = bit_and p.address (prefix_mask p.length); mask = prefix_mask p.length })) found ≡ is_prefix_within p found
 some_asks p None e = sym e
 some_asks p (Some address) e = ap (λ n. nat_eq (bit_and address (prefix_mask p.length)) n) (mask_again p.address p.length)
 
-prefix_asks : (p : Prefix) (found : Option ℕ) → has_address32 (matched_prefix p) found ≡ is_within p found
+prefix_asks : (p : Prefix) (found : Option ℕ) → has_address32 (matched_prefix p) found ≡ is_prefix_within p found
 prefix_asks p found =
     elim (cases_Bool (nat_eq p.length 0)) [
       | inl any ↦ rw any (sym (any_asks p found (eqb-true p.length 0 any)))
@@ -116,5 +116,5 @@ row_meets rule frame is =
     let udp = has_value (asked_port UDP rule) f.udp_dst in
     in_order type_is protocol (has_address32 (matched_prefix rule.src) f.ipv4_src) (has_address32 (matched_prefix rule.dst) f.ipv4_dst) tcp udp
     ∙ ap (λ b. type_is && protocol && b && has_address32 (matched_prefix rule.dst) f.ipv4_dst && (tcp && udp)) (prefix_asks rule.src f.ipv4_src)
-    ∙ ap (λ b. type_is && protocol && is_within rule.src f.ipv4_src && b && (tcp && udp)) (prefix_asks rule.dst f.ipv4_dst)
-    ∙ last_if type_is protocol (is_within rule.src f.ipv4_src) (is_within rule.dst f.ipv4_dst) (tcp && udp) (has_value rule.port (destination_port f)) (port_asks rule frame is)
+    ∙ ap (λ b. type_is && protocol && is_prefix_within rule.src f.ipv4_src && b && (tcp && udp)) (prefix_asks rule.dst f.ipv4_dst)
+    ∙ last_if type_is protocol (is_prefix_within rule.src f.ipv4_src) (is_prefix_within rule.dst f.ipv4_dst) (tcp && udp) (has_value rule.port (destination_port f)) (port_asks rule frame is)

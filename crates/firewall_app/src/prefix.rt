@@ -1,6 +1,6 @@
 //! Prefixes of addresses.
 ghost use Rattle.std.specs.Prelude.{◌≡◌};
-ghost use Rattle.app_core.specs.Firewall.{prefix_mask, is_within, matched_prefix};
+ghost use Rattle.app_core.specs.Firewall.{prefix_mask, is_prefix_within, matched_prefix};
 
 use of_types::{Masked32, Prefix};
 
@@ -14,7 +14,7 @@ fn prefix_mask(bits: u8) -> u32
 
 /// Whether an address lies in a prefix. One that a frame does not have lies in the prefix of no bits alone.
 pub fn is_within(prefix: &Prefix, address: Option<u32>) -> bool
-    ensures { result ≡ is_within prefix.now address }
+    ensures { result ≡ is_prefix_within prefix.now address }
 {
     match address {
         None => prefix.length == 0,

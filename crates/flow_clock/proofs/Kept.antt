@@ -16,7 +16,7 @@ use Rattle.flow_clock.specs.declared.times.Expired.{Expired}
 use Rattle.flow_clock.specs.declared.times.Key.{Key}
 use Rattle.flow_clock.specs.declared.times.Times.{Times}
 use Rattle.flow_clock.specs.History.{is_same}
-use Rattle.flow_clock.specs.Clocked.{Kept, Clocked, key_of, kept_row, rows_in, with_kept, kept_modified, kept_by, kept_hit, new_times, counted, clock_hit, clock_risen, leaves, told_at, is_over_at, expired_at, expired_by, AreApart, leaves_times, removal, staying}
+use Rattle.flow_clock.specs.Clocked.{Kept, Clocked, key_of, kept_row, rows_in, with_kept, kept_modified, kept_by, kept_hit, new_times, counted_hit, clock_hit, clock_risen, leaves, expired_row, is_over_at, expired_at, expired_by, AreKeysApart, leaves_times, removal, staying}
 use Rattle.flow_table.proofs.Keys.{key_is, key_from, key_both, key_back, unlike}
 
 -- ---- rows and their times
@@ -126,7 +126,7 @@ apart_from x row same (r ∷ rows) a = (by_test (same_key row r) refl, apart_fro
     by_test false is = is
     by_test true is = absurd (unlike (sym a.0 ∙ key_both x r row same (key_back row r is)))
 
-pub kept_added : (at : Key → Key → Bool) → TellsKeys at → (old new : TimesOf) (times : Option Times) (row : Row) → IsSetAt at (key_of row) times old new → (rows : List Row) → AreApart rows
+pub kept_added : (at : Key → Key → Bool) → TellsKeys at → (old new : TimesOf) (times : Option Times) (row : Row) → IsSetAt at (key_of row) times old new → (rows : List Row) → AreKeysApart rows
     → map (kept_row new) (with_row rows row) ≡ with_kept (map (kept_row old) rows) (record { row = row; times = times })
 kept_added at tells old new times row set [] a =
     let here : new (key_of row) ≡ times = set (key_of row) ∙ rw (tells row row, itself row) refl in
@@ -153,11 +153,11 @@ apart_with x row (r ∷ rows) differ a = by_test (same_key r row) (apart_with x 
     by_test true rest = (differ, a.1)
     by_test false rest = (a.0, rest)
 
-pub apart_added : (row : Row) (rows : List Row) → AreApart rows → AreApart (with_row rows row)
+pub apart_added : (row : Row) (rows : List Row) → AreKeysApart rows → AreKeysApart (with_row rows row)
 apart_added row [] a = (tt, tt)
 apart_added row (x ∷ rows) a = by_test (same_key x row) refl (apart_added row rows a.1)
   where
-    by_test : (b : Bool) → same_key x row ≡ b → AreApart (with_row rows row) → AreApart (if b then row ∷ rows else x ∷ with_row rows row)
+    by_test : (b : Bool) → same_key x row ≡ b → AreKeysApart (with_row rows row) → AreKeysApart (if b then row ∷ rows else x ∷ with_row rows row)
     by_test true is rest = (apart_from x row is rows a.0, a.1)
     by_test false is rest = (apart_with x row rows is a.0, rest)
 
@@ -169,11 +169,11 @@ apart_some x p (r ∷ rows) a = by_test (p r) (apart_some x p rows a.1)
     by_test true rest = (a.0, rest)
     by_test false rest = rest
 
-pub apart_that : (p : Row → Bool) (rows : List Row) → AreApart rows → AreApart (filter p rows)
+pub apart_that : (p : Row → Bool) (rows : List Row) → AreKeysApart rows → AreKeysApart (filter p rows)
 apart_that p [] a = tt
 apart_that p (r ∷ rows) a = by_test (p r) (apart_that p rows a.1)
   where
-    by_test : (b : Bool) → AreApart (filter p rows) → AreApart (if b then r ∷ filter p rows else filter p rows)
+    by_test : (b : Bool) → AreKeysApart (filter p rows) → AreKeysApart (if b then r ∷ filter p rows else filter p rows)
     by_test true rest = (apart_some r p rows a.0, rest)
     by_test false rest = rest
 
@@ -190,30 +190,30 @@ apart_each : (change : FlowMod) (x : Row) (rows : List Row) → AllByRecursion (
 apart_each change x [] a = tt
 apart_each change x (r ∷ rows) a = (keys_stay change x r ∙ a.0, apart_each change x rows a.1)
 
-apart_modified : (change : FlowMod) (rows : List Row) → AreApart rows → AreApart (map (modified change) rows)
+apart_modified : (change : FlowMod) (rows : List Row) → AreKeysApart rows → AreKeysApart (map (modified change) rows)
 apart_modified change [] a = tt
 apart_modified change (x ∷ rows) a = (apart_each change x rows a.0, apart_modified change rows a.1)
 
-pub apart_step : (change : FlowMod) (rows : List Row) → AreApart rows → AreApart (table_step rows change)
+pub apart_step : (change : FlowMod) (rows : List Row) → AreKeysApart rows → AreKeysApart (table_step rows change)
 apart_step change rows a = by_command change.command refl
   where
-    by_command : (command : FlowCommand) → change.command ≡ command → AreApart (table_step rows change)
-    by_command Add is = subst AreApart (sym (step_add change rows is)) (apart_added (row_of change) rows a)
-    by_command Modify is = subst AreApart (sym (step_modify change rows is)) (apart_modified change rows a)
-    by_command ModifyStrict is = subst AreApart (sym (step_modify_strict change rows is)) (apart_modified change rows a)
-    by_command Delete is = subst AreApart (sym (step_delete change rows is)) (apart_that (λ row. not (is_deleted change row)) rows a)
-    by_command DeleteStrict is = subst AreApart (sym (step_delete_strict change rows is)) (apart_that (λ row. not (is_deleted change row)) rows a)
+    by_command : (command : FlowCommand) → change.command ≡ command → AreKeysApart (table_step rows change)
+    by_command Add is = subst AreKeysApart (sym (step_add change rows is)) (apart_added (row_of change) rows a)
+    by_command Modify is = subst AreKeysApart (sym (step_modify change rows is)) (apart_modified change rows a)
+    by_command ModifyStrict is = subst AreKeysApart (sym (step_modify_strict change rows is)) (apart_modified change rows a)
+    by_command Delete is = subst AreKeysApart (sym (step_delete change rows is)) (apart_that (λ row. not (is_deleted change row)) rows a)
+    by_command DeleteStrict is = subst AreKeysApart (sym (step_delete_strict change rows is)) (apart_that (λ row. not (is_deleted change row)) rows a)
 
 -- ---- a frame
 
-pub kept_counted : (at : Key → Key → Bool) → TellsKeys at → (old new : TimesOf) (clock octets : ℕ) (chosen : Row) → IsSetAt at (key_of chosen) (option_map (counted clock octets) (old (key_of chosen))) old new → (rows : List Row)
+pub kept_counted : (at : Key → Key → Bool) → TellsKeys at → (old new : TimesOf) (clock octets : ℕ) (chosen : Row) → IsSetAt at (key_of chosen) (option_map (counted_hit clock octets) (old (key_of chosen))) old new → (rows : List Row)
     → map (kept_row new) rows ≡ map (kept_hit clock (Some chosen) octets) (map (kept_row old) rows)
 kept_counted at tells old new clock octets chosen set [] = refl
 kept_counted at tells old new clock octets chosen set (row ∷ rows) =
     rw here (ap (λ ks. kept_hit clock (Some chosen) octets (kept_row old row) ∷ ks) (kept_counted at tells old new clock octets chosen set rows))
   where
-    by_test : (b : Bool) → same_key row chosen ≡ b → (if b then option_map (counted clock octets) (old (key_of chosen)) else old (key_of row)) ≡ (if b then option_map (counted clock octets) (old (key_of row)) else old (key_of row))
-    by_test true is = ap (λ (k : Key). option_map (counted clock octets) (old k)) (sym (one_key row chosen is))
+    by_test : (b : Bool) → same_key row chosen ≡ b → (if b then option_map (counted_hit clock octets) (old (key_of chosen)) else old (key_of row)) ≡ (if b then option_map (counted_hit clock octets) (old (key_of row)) else old (key_of row))
+    by_test true is = ap (λ (k : Key). option_map (counted_hit clock octets) (old k)) (sym (one_key row chosen is))
     by_test false is = refl
 
     turned : same_key chosen row ≡ same_key row chosen
@@ -223,7 +223,7 @@ kept_counted at tells old new clock octets chosen set (row ∷ rows) =
         by_both true is = key_back row chosen is
         by_both false is = back_false row chosen is
 
-    here : new (key_of row) ≡ (if same_key row chosen then option_map (counted clock octets) (old (key_of row)) else old (key_of row))
+    here : new (key_of row) ≡ (if same_key row chosen then option_map (counted_hit clock octets) (old (key_of row)) else old (key_of row))
     here = set (key_of row) ∙ rw (tells chosen row, turned) (by_test (same_key row chosen) refl)
 
 -- where no row has times there is nothing to count
@@ -235,7 +235,7 @@ kept_untimed times clock octets chosen none (row ∷ rows) =
     (ap (λ (t : Option Times). record { row = row; times = t }) (by_test (is_same row chosen) (times (key_of row)) (none (key_of row))))
     (kept_untimed times clock octets chosen none rows)
   where
-    by_test : (b : Bool) (t : Option Times) → t ≡ None → (if b then option_map (counted clock octets) t else t) ≡ t
+    by_test : (b : Bool) (t : Option Times) → t ≡ None → (if b then option_map (counted_hit clock octets) t else t) ≡ t
     by_test true None e = refl
     by_test true (Some t) e = absurd cc
     by_test false t e = refl
@@ -277,7 +277,7 @@ has_leaver times now r (q ∷ rows) = by_times (times (key_of q)) refl (has_leav
         none false = refl
     step (Some t) = some (is_over_at now t) (same_key r q) refl
       where
-        some : (over b : Bool) → same_key r q ≡ b → list_any (λ (e : Expired). same_key r e.row) (cons_option (if over then Some (told_at now q t) else None) (filter_map (expired_at now) (map (kept_row times) rows)))
+        some : (over b : Bool) → same_key r q ≡ b → list_any (λ (e : Expired). same_key r e.row) (cons_option (if over then Some (expired_row now q t) else None) (filter_map (expired_at now) (map (kept_row times) rows)))
             ≡ ((b && over) || list_any (λ (e : Expired). same_key r e.row) (filter_map (expired_at now) (map (kept_row times) rows)))
         some true true is = rw is refl
         some true false is = rw is refl
@@ -350,7 +350,7 @@ live_kept old new now same (r ∷ rows) = by_test (leaves now (old (key_of r))) 
     by_test true is rest = rest
     by_test false is rest = rw (same (key_of r) is) (ap (λ ks. kept_row old r ∷ ks) rest)
 
-pub apart_staying : (left : List Expired) (rows : List Row) → AreApart rows → AreApart (staying left rows)
+pub apart_staying : (left : List Expired) (rows : List Row) → AreKeysApart rows → AreKeysApart (staying left rows)
 apart_staying [] rows a = a
 apart_staying (e ∷ left) rows a = apart_staying left (filter (λ row. not (same_key row e.row)) rows) (apart_that (λ row. not (same_key row e.row)) rows a)
 
@@ -381,7 +381,7 @@ is_add ModifyStrict e = absurd cc
 is_add Delete e = absurd cc
 is_add DeleteStrict e = absurd cc
 
-pub add_kept : (at : Key → Key → Bool) → TellsKeys at → (old new : TimesOf) (clock : ℕ) (change : FlowMod) → IsSetAt at (key_of (row_of change)) (new_times clock change) old new → (rows : List Row) → AreApart rows → leaves_times change.command ≡ false
+pub add_kept : (at : Key → Key → Bool) → TellsKeys at → (old new : TimesOf) (clock : ℕ) (change : FlowMod) → IsSetAt at (key_of (row_of change)) (new_times clock change) old new → (rows : List Row) → AreKeysApart rows → leaves_times change.command ≡ false
     → map (kept_row new) (table_step rows change) ≡ kept_by change.command clock change (map (kept_row old) rows)
 add_kept at tells old new clock change set rows apart add =
     let is = is_add change.command (sym add) in
@@ -389,7 +389,7 @@ add_kept at tells old new clock change set rows apart add =
     ∙ kept_added at tells old new (new_times clock change) (row_of change) set rows apart
     ∙ sym (kept_by_is clock change (map (kept_row old) rows) Add is)
 
-pub hit_kept : (at : Key → Key → Bool) → TellsKeys at → (old new : TimesOf) (clock octets : ℕ) (chosen : Row) → IsSetAt at (key_of chosen) (option_map (counted clock octets) (old (key_of chosen))) old new → (rows : List Row) (fields : Fields)
+pub hit_kept : (at : Key → Key → Bool) → TellsKeys at → (old new : TimesOf) (clock octets : ℕ) (chosen : Row) → IsSetAt at (key_of chosen) (option_map (counted_hit clock octets) (old (key_of chosen))) old new → (rows : List Row) (fields : Fields)
     → Some chosen ≡ chosen_row rows fields → record { clock = clock; rows = map (kept_row new) rows } ≡ clock_hit (record { clock = clock; rows = map (kept_row old) rows }) fields octets
 hit_kept at tells old new clock octets chosen set rows fields found =
     ap (λ (ks : List Kept). record { clock = clock; rows = ks })

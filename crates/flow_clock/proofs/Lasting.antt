@@ -10,20 +10,20 @@ use Rattle.of_types.specs.declared.message.FlowCommand.TheVariants.{Add, Modify,
 use Rattle.of_types.specs.declared.message.FlowMod.{FlowMod}
 use Rattle.of_types.specs.declared.message.Row.{Row}
 use Rattle.flow_table.specs.Table.{row_of, is_named}
-use Rattle.flow_clock.specs.History.{Deed, Changed, Ticked, Met, Standing, since, ticks, is_hit, is_tick, is_over, added_by, standing_modified, standing_by, standing_after}
-use Rattle.flow_clock.specs.Stands.{at_number, left_of, takes_out, altered, row_with, is_spared, Stands}
+use Rattle.flow_clock.specs.History.{TableDeed, Changed, Ticked, Met, Standing, since, ticks, is_hit, is_tick, is_time_over, added_by, standing_modified, standing_by, standing_after}
+use Rattle.flow_clock.specs.Stands.{at_number, left_of, takes_out, altered, row_with, is_spared, RowStands}
 use Rattle.flow_clock.proofs.Ageing.{ticks_more, is_miss, while_more, while_hit}
 use Rattle.flow_clock.proofs.Held.{early}
 use Rattle.flow_table.proofs.Keys.{HaveOneKey, same_some, unlike}
 use Rattle.flow_clock.proofs.Standing.{AreDistinct, distinct, at_filter, at_modified, at_with, at_new}
 
 -- its time is over at the end of these deeds
-abbrev pub over_in : List Deed → FlowMod → Bool
+abbrev pub over_in : List TableDeed → FlowMod → Bool
 over_in later change =
     (not (nat_eq change.hard 0) && nat_le change.hard (ticks later))
     || (not (nat_eq change.idle 0) && nat_le change.idle (ticks (take_while (is_miss (row_of change)) later)))
 
-abbrev pub never_over : List Deed → FlowMod → Bool
+abbrev pub never_over : List TableDeed → FlowMod → Bool
 never_over [] change = true
 never_over (Changed d ∷ later) change = never_over later change
 never_over (Ticked ∷ later) change = never_over later change && not (over_in (Ticked ∷ later) change)
@@ -46,7 +46,7 @@ altered_key ModifyStrict d row = by_test (is_named d row)
 altered_key Delete d row = record { priority = refl; matching = refl }
 altered_key DeleteStrict d row = record { priority = refl; matching = refl }
 
-pub key_stays : (later : List Deed) (row : Row) → HaveOneKey (row_with later row) row
+pub key_stays : (later : List TableDeed) (row : Row) → HaveOneKey (row_with later row) row
 key_stays [] row = record { priority = refl; matching = refl }
 key_stays (Changed d ∷ later) row =
     let a = altered_key d.command d (row_with later row) in
@@ -55,23 +55,23 @@ key_stays (Changed d ∷ later) row =
 key_stays (Ticked ∷ later) row = key_stays later row
 key_stays (Met chosen octets ∷ later) row = key_stays later row
 
-hit_same : (a b : Row) → HaveOneKey a b → (deed : Deed) → is_hit a deed ≡ is_hit b deed
+hit_same : (a b : Row) → HaveOneKey a b → (deed : TableDeed) → is_hit a deed ≡ is_hit b deed
 hit_same a b k (Changed d) = refl
 hit_same a b k Ticked = refl
 hit_same a b k (Met None octets) = refl
 hit_same a b k (Met (Some chosen) octets) = rw (k.priority, k.matching) refl
 
-quiet_same : (a b : Row) → HaveOneKey a b → (deeds : List Deed) → take_while (is_miss a) deeds ≡ take_while (is_miss b) deeds
-quiet_same a b k deeds = ap (λ (p : Deed → Bool). take_while p deeds) (λ i deed. ap not (hit_same a b k deed) i)
+quiet_same : (a b : Row) → HaveOneKey a b → (deeds : List TableDeed) → take_while (is_miss a) deeds ≡ take_while (is_miss b) deeds
+quiet_same a b k deeds = ap (λ (p : TableDeed → Bool). take_while p deeds) (λ i deed. ap not (hit_same a b k deed) i)
 
 -- ---- where it stands
 
-take_front : (xs ys : List Deed) → take (length xs) (xs ++ ys) ≡ xs
+take_front : (xs ys : List TableDeed) → take (length xs) (xs ++ ys) ≡ xs
 take_front [] [] = refl
 take_front [] (y ∷ ys) = refl
 take_front (x ∷ xs) ys = ap (λ zs. x ∷ zs) (take_front xs ys)
 
-since_is : (s : Standing) (later rest : List Deed) → s.added ≡ length rest → since s (later ++ rest) ≡ later
+since_is : (s : Standing) (later rest : List TableDeed) → s.added ≡ length rest → since s (later ++ rest) ≡ later
 since_is s later rest is =
     let count : length (later ++ rest) - s.added ≡ length later = omega (arith, length-append later rest, is) in
     ap (λ (n : ℕ). take n (later ++ rest)) count ∙ take_front later rest
@@ -114,22 +114,22 @@ ticked x p false true false test = refl
 ticked x p true false v test = refl
 ticked x p false false v test = refl
 
-module _ (change : FlowMod) (past : List Deed) (add : change.command ≡ Add) where
+module _ (change : FlowMod) (past : List TableDeed) (add : change.command ≡ Add) where
   abbrev number : ℕ
   number = suc (length past)
 
-  abbrev whole : List Deed → List Deed
+  abbrev whole : List TableDeed → List TableDeed
   whole later = later ++ Changed change ∷ past
 
-  abbrev as_is : List Deed → Standing
+  abbrev as_is : List TableDeed → Standing
   as_is later = record (added_by (suc (length past)) change) { row = row_with later (row_of change) }
 
-  over_is : (later : List Deed) → is_over (Ticked ∷ whole later) (as_is later) ≡ over_in (Ticked ∷ later) change
+  over_is : (later : List TableDeed) → is_time_over (Ticked ∷ whole later) (as_is later) ≡ over_in (Ticked ∷ later) change
   over_is later =
       let all : since (as_is later) (Ticked ∷ whole later) ≡ Ticked ∷ later = since_is (as_is later) (Ticked ∷ later) (Changed change ∷ past) refl in
       rw (all, quiet_same (row_with later (row_of change)) (row_of change) (key_stays later (row_of change)) (Ticked ∷ later)) refl
 
-  pub where_is : (later : List Deed) → at_number (suc (length past)) (standing_after (later ++ Changed change ∷ past)) ≡ (if is_spared later (row_of change) && never_over later change then Some (as_is later) else None)
+  pub where_is : (later : List TableDeed) → at_number (suc (length past)) (standing_after (later ++ Changed change ∷ past)) ≡ (if is_spared later (row_of change) && never_over later change then Some (as_is later) else None)
   where_is [] =
       ap (λ (c : FlowCommand). at_number (suc (length past)) (standing_by c (suc (length past)) change (standing_after past))) add
       ∙ at_new (length past) (added_by (suc (length past)) change) (standing_after past) refl (early past)
@@ -140,8 +140,8 @@ module _ (change : FlowMod) (past : List Deed) (add : change.command ≡ Add) wh
       ∙ settled (as_is later) (as_is (Changed d ∷ later)) (alter d.command d) (λ (s : Standing). not (takes_out d.command d s.row)) (takes_out d.command d (row_with later (row_of change))) (is_spared later (row_of change)) (never_over later change) refl refl
   where_is (Ticked ∷ later) =
       at_filter (suc (length past)) _ (standing_after (whole later)) (distinct (whole later))
-      ∙ ap (λ (o : Option Standing). option_filter (λ s. not (is_over (Ticked ∷ whole later) s)) o) (where_is later)
-      ∙ ticked (as_is later) (λ s. not (is_over (Ticked ∷ whole later) s)) (over_in (Ticked ∷ later) change) (is_spared later (row_of change)) (never_over later change) (ap not (over_is later))
+      ∙ ap (λ (o : Option Standing). option_filter (λ s. not (is_time_over (Ticked ∷ whole later) s)) o) (where_is later)
+      ∙ ticked (as_is later) (λ s. not (is_time_over (Ticked ∷ whole later) s)) (over_in (Ticked ∷ later) change) (is_spared later (row_of change)) (never_over later change) (ap not (over_is later))
   where_is (Met chosen octets ∷ later) = where_is later
 
 -- ---- its time was never over
@@ -171,26 +171,26 @@ in_limit limit count below = by_zero (nat_eq limit 0) refl
     by_zero false is = by_le (nat_le limit count) refl (λ same. unlike (sym is ∙ ap (λ (n : ℕ). nat_eq n 0) same))
 
 -- a stretch without a hit is no longer than the one at the end
-quiet_front : (row : Row) (stretch older : List Deed) → list_any (is_hit row) stretch ≡ false → ticks stretch ≤ ticks (take_while (is_miss row) (stretch ++ older))
+quiet_front : (row : Row) (stretch older : List TableDeed) → list_any (is_hit row) stretch ≡ false → ticks stretch ≤ ticks (take_while (is_miss row) (stretch ++ older))
 quiet_front row [] older quiet = omega arith
 quiet_front row (d ∷ stretch) older quiet =
     let p = or_false (is_hit row d) (list_any (is_hit row) stretch) quiet in
     let rest = quiet_front row stretch older p.1 in
-    let more = ap (λ (ds : List Deed). ticks ds) (while_more row d (stretch ++ older) p.0) in
+    let more = ap (λ (ds : List TableDeed). ticks ds) (while_more row d (stretch ++ older) p.0) in
     omega (arith, rest, more, sum_by-cons tick_of d stretch, sum_by-cons tick_of d (take_while (is_miss row) (stretch ++ older)))
   where
-    tick_of : Deed → ℕ
+    tick_of : TableDeed → ℕ
     tick_of d = if is_tick d then 1 else 0
 
-none_hit : (row : Row) (deeds : List Deed) → list_any (is_hit row) (take_while (is_miss row) deeds) ≡ false
+none_hit : (row : Row) (deeds : List TableDeed) → list_any (is_hit row) (take_while (is_miss row) deeds) ≡ false
 none_hit row [] = refl
 none_hit row (d ∷ deeds) = by_hit (is_hit row d) refl (none_hit row deeds)
   where
     by_hit : (b : Bool) → is_hit row d ≡ b → list_any (is_hit row) (take_while (is_miss row) deeds) ≡ false → list_any (is_hit row) (take_while (is_miss row) (d ∷ deeds)) ≡ false
-    by_hit true is rest = ap (λ (ds : List Deed). list_any (is_hit row) ds) (while_hit row d deeds is)
-    by_hit false is rest = ap (λ (ds : List Deed). list_any (is_hit row) ds) (while_more row d deeds is) ∙ rw is rest
+    by_hit true is rest = ap (λ (ds : List TableDeed). list_any (is_hit row) ds) (while_hit row d deeds is)
+    by_hit false is rest = ap (λ (ds : List TableDeed). list_any (is_hit row) ds) (while_more row d deeds is) ∙ rw is rest
 
-young_from : (later : List Deed) (c : FlowMod) → never_over later c ≡ true → c.hard ≢ 0 → ticks later < c.hard
+young_from : (later : List TableDeed) (c : FlowMod) → never_over later c ≡ true → c.hard ≢ 0 → ticks later < c.hard
 young_from [] c never some = omega (arith, some)
 young_from (Changed d ∷ later) c never some = young_from later c never some
 young_from (Ticked ∷ later) c never some =
@@ -198,16 +198,16 @@ young_from (Ticked ∷ later) c never some =
     below_limit c.hard (ticks (Ticked ∷ later)) some (or_false _ _ (not_true _ p.1)).0
 young_from (Met chosen octets ∷ later) c never some = young_from later c never some
 
-never_rest : (d : Deed) (later : List Deed) (c : FlowMod) → never_over (d ∷ later) c ≡ true → never_over later c ≡ true
+never_rest : (d : TableDeed) (later : List TableDeed) (c : FlowMod) → never_over (d ∷ later) c ≡ true → never_over later c ≡ true
 never_rest (Changed e) later c never = never
 never_rest Ticked later c never = (and_parts (never_over later c) (not (over_in (Ticked ∷ later) c)) never).0
 never_rest (Met chosen octets) later c never = never
 
-abbrev head_or : Deed → List Deed → Deed
+abbrev head_or : TableDeed → List TableDeed → TableDeed
 head_or d [] = d
 head_or d (x ∷ xs) = x
 
-abbrev tail_of : List Deed → List Deed
+abbrev tail_of : List TableDeed → List TableDeed
 tail_of [] = []
 tail_of (x ∷ xs) = xs
 
@@ -216,7 +216,7 @@ or_true true b e = refl
 or_true false b e = e
 
 -- a stretch that begins at the last of some deeds
-met_first : (d : Deed) (later : List Deed) (c : FlowMod) → never_over (d ∷ later) c ≡ true → c.idle ≢ 0 → (stretch older : List Deed) → later ≡ stretch ++ older → c.idle ≤ ticks (d ∷ stretch)
+met_first : (d : TableDeed) (later : List TableDeed) (c : FlowMod) → never_over (d ∷ later) c ≡ true → c.idle ≢ 0 → (stretch older : List TableDeed) → later ≡ stretch ++ older → c.idle ≤ ticks (d ∷ stretch)
     → (c.idle ≤ ticks stretch → list_any (is_hit (row_of c)) stretch ≡ true) → list_any (is_hit (row_of c)) (d ∷ stretch) ≡ true
 met_first (Changed e) later c never some stretch older is long rest = rest long
 met_first (Met chosen octets) later c never some stretch older is long rest = or_true _ _ (rest long)
@@ -228,28 +228,28 @@ met_first Ticked later c never some stretch older is long rest = by_quiet (list_
         let p = and_parts (never_over later c) (not (over_in (Ticked ∷ later) c)) never in
         let below = below_limit c.idle (ticks (take_while (is_miss (row_of c)) (Ticked ∷ later))) some (or_false _ _ (not_true _ p.1)).1 in
         let front = quiet_front (row_of c) (Ticked ∷ stretch) older quiet in
-        let same = ap (λ (ds : List Deed). ticks (take_while (is_miss (row_of c)) (Ticked ∷ ds))) is in
+        let same = ap (λ (ds : List TableDeed). ticks (take_while (is_miss (row_of c)) (Ticked ∷ ds))) is in
         absurd (omega (arith, below, front, same, long))
 
-met_from : (later : List Deed) (c : FlowMod) → never_over later c ≡ true → c.idle ≢ 0 → (newer stretch older : List Deed) → later ≡ newer ++ (stretch ++ older) → c.idle ≤ ticks stretch → list_any (is_hit (row_of c)) stretch ≡ true
+met_from : (later : List TableDeed) (c : FlowMod) → never_over later c ≡ true → c.idle ≢ 0 → (newer stretch older : List TableDeed) → later ≡ newer ++ (stretch ++ older) → c.idle ≤ ticks stretch → list_any (is_hit (row_of c)) stretch ≡ true
 met_from [] c never some newer [] older is long = absurd (omega (arith, some, long))
 met_from [] c never some [] (x ∷ stretch) older is long = absurd cc
 met_from [] c never some (y ∷ newer) (x ∷ stretch) older is long = absurd cc
 met_from (d ∷ later) c never some newer [] older is long = absurd (omega (arith, some, long))
 met_from (d ∷ later) c never some (y ∷ newer) (x ∷ stretch) older is long = met_from later c (never_rest d later c never) some newer (x ∷ stretch) older (ap tail_of is) long
 met_from (d ∷ later) c never some [] (x ∷ stretch) older is long =
-    let same : d ≡ x = ap (λ (ds : List Deed). head_or d ds) is in
-    subst (λ (y : Deed). list_any (is_hit (row_of c)) (y ∷ stretch) ≡ true) same
-    (met_first d later c never some stretch older (ap tail_of is) (subst (λ (y : Deed). c.idle ≤ ticks (y ∷ stretch)) (sym same) long)
+    let same : d ≡ x = ap (λ (ds : List TableDeed). head_or d ds) is in
+    subst (λ (y : TableDeed). list_any (is_hit (row_of c)) (y ∷ stretch) ≡ true) same
+    (met_first d later c never some stretch older (ap tail_of is) (subst (λ (y : TableDeed). c.idle ≤ ticks (y ∷ stretch)) (sym same) long)
     (λ longer. met_from later c (never_rest d later c never) some [] stretch older (ap tail_of is) longer))
 
-abbrev IsMet : List Deed → FlowMod → Type 0
-IsMet later c = c.idle ≢ 0 → (newer stretch older : List Deed) → later ≡ newer ++ (stretch ++ older) → c.idle ≤ ticks stretch → list_any (is_hit (row_of c)) stretch ≡ true
+abbrev IsMet : List TableDeed → FlowMod → Type 0
+IsMet later c = c.idle ≢ 0 → (newer stretch older : List TableDeed) → later ≡ newer ++ (stretch ++ older) → c.idle ≤ ticks stretch → list_any (is_hit (row_of c)) stretch ≡ true
 
-met_rest : (d : Deed) (later : List Deed) (c : FlowMod) → IsMet (d ∷ later) c → IsMet later c
-met_rest d later c met = λ some newer stretch older is long. met some (d ∷ newer) stretch older (ap (λ (ds : List Deed). d ∷ ds) is) long
+met_rest : (d : TableDeed) (later : List TableDeed) (c : FlowMod) → IsMet (d ∷ later) c → IsMet later c
+met_rest d later c met = λ some newer stretch older is long. met some (d ∷ newer) stretch older (ap (λ (ds : List TableDeed). d ∷ ds) is) long
 
-idle_below : (later : List Deed) (c : FlowMod) → IsMet later c → c.idle ≢ 0 → ticks (take_while (is_miss (row_of c)) later) < c.idle
+idle_below : (later : List TableDeed) (c : FlowMod) → IsMet later c → c.idle ≢ 0 → ticks (take_while (is_miss (row_of c)) later) < c.idle
 idle_below later c met some = by_le (nat_le c.idle (ticks (take_while (is_miss (row_of c)) later))) refl
   where
     by_le : (b : Bool) → nat_le c.idle (ticks (take_while (is_miss (row_of c)) later)) ≡ b → ticks (take_while (is_miss (row_of c)) later) < c.idle
@@ -259,7 +259,7 @@ idle_below later c met some = by_le (nat_le c.idle (ticks (take_while (is_miss (
         absurd (unlike (sym (none_hit (row_of c) later) ∙ hit))
     by_le false is = leb-false c.idle _ is
 
-never_from : (later : List Deed) (c : FlowMod) → (c.hard ≢ 0 → ticks later < c.hard) → IsMet later c → never_over later c ≡ true
+never_from : (later : List TableDeed) (c : FlowMod) → (c.hard ≢ 0 → ticks later < c.hard) → IsMet later c → never_over later c ≡ true
 never_from [] c young met = refl
 never_from (Changed d ∷ later) c young met = never_from later c young (met_rest (Changed d) later c met)
 never_from (Met chosen octets ∷ later) c young met = never_from later c young (met_rest (Met chosen octets) later c met)
@@ -273,16 +273,16 @@ never_from (Ticked ∷ later) c young met =
 none_some : (s : Standing) → None ≡ Some s → ⊥
 none_some s e = cc
 
-pub stands_exactly : (change : FlowMod) (past later : List Deed) (s : Standing) → change.command ≡ Add
-    → (at_number (suc (length past)) (standing_after (later ++ Changed change ∷ past)) ≡ Some s) ↔ (Stands later change × (s ≡ left_of (suc (length past)) change later))
+pub stands_exactly : (change : FlowMod) (past later : List TableDeed) (s : Standing) → change.command ≡ Add
+    → (at_number (suc (length past)) (standing_after (later ++ Changed change ∷ past)) ≡ Some s) ↔ (RowStands later change × (s ≡ left_of (suc (length past)) change later))
 stands_exactly change past later s add = (by_tests (is_spared later (row_of change)) (never_over later change) refl refl (where_is change past add later), from)
   where
     by_tests : (sp nv : Bool) → is_spared later (row_of change) ≡ sp → never_over later change ≡ nv
         → at_number (suc (length past)) (standing_after (later ++ Changed change ∷ past)) ≡ (if sp && nv then Some (left_of (suc (length past)) change later) else None)
-        → at_number (suc (length past)) (standing_after (later ++ Changed change ∷ past)) ≡ Some s → Stands later change × (s ≡ left_of (suc (length past)) change later)
+        → at_number (suc (length past)) (standing_after (later ++ Changed change ∷ past)) ≡ Some s → RowStands later change × (s ≡ left_of (suc (length past)) change later)
     by_tests true true spared never here found = (record { spared = spared; young = young_from later change never; met = met_from later change never }, sym (same_some _ s (sym here ∙ found)))
     by_tests true false spared never here found = absurd (none_some s (sym here ∙ found))
     by_tests false nv spared never here found = absurd (none_some s (sym here ∙ found))
 
-    from : Stands later change × (s ≡ left_of (suc (length past)) change later) → at_number (suc (length past)) (standing_after (later ++ Changed change ∷ past)) ≡ Some s
+    from : RowStands later change × (s ≡ left_of (suc (length past)) change later) → at_number (suc (length past)) (standing_after (later ++ Changed change ∷ past)) ≡ Some s
     from p = where_is change past add later ∙ rw (p.0.spared, never_from later change p.0.young p.0.met) (ap (λ (x : Standing). Some x) (sym p.1))

@@ -13,7 +13,7 @@ use Rattle.of_types.specs.declared.numbers.TheConstants.{REASON_HARD, REASON_IDL
 use Rattle.flow_table.specs.Table.{chosen_row, row_of, same_key, with_row, modified, is_deleted, table_step}
 use Rattle.flow_clock.specs.declared.times.Expired.{Expired}
 use Rattle.flow_clock.specs.declared.times.Times.{Times}
-use Rattle.flow_clock.specs.Clocked.{Kept, Clocked, rows_in, with_kept, kept_new, kept_modified, kept_by, kept_hit, clock_change, clock_hit, clock_risen, clock_left, clock_tick, clock_told, is_last, is_over_at, has_aged_at, leaves, told_at, expired_at, expired_by}
+use Rattle.flow_clock.specs.Clocked.{Kept, Clocked, rows_in, with_kept, kept_new, kept_modified, kept_by, kept_hit, clock_change, clock_hit, clock_risen, clock_left, clock_tick, clock_told, is_last, is_over_at, has_aged_at, leaves, expired_row, expired_at, expired_by}
 use Rattle.flow_clock.proofs.Kept.{step_add, step_modify, step_modify_strict, step_delete, step_delete_strict}
 
 abbrev rows_of : List Kept → List Row
@@ -80,13 +80,13 @@ module _ (P : Row → Type 0) where
   all_told now [] h = tt
   all_told now (k ∷ kept) h = by_times k.times (all_told now kept h.1)
     where
-      here : (t : Times) → IsTold (told_at now k.row t)
+      here : (t : Times) → IsTold (expired_row now k.row t)
       here t = (cond_both (has_aged_at now t) REASON_HARD REASON_IDLE (λ (n : ℕ). n ≤ 3) (λ _. omega arith) (λ _. omega arith), h.0)
 
       by_times : (o : Option Times) → AllByRecursion IsTold (filter_map (expired_at now) kept) → AllByRecursion IsTold (cons_option (expired_by now k.row o) (filter_map (expired_at now) kept))
       by_times None rest = rest
       by_times (Some t) rest =
-          cond_both (is_over_at now t) (Some (told_at now k.row t)) None (λ (o : Option Expired). AllByRecursion IsTold (cons_option o (filter_map (expired_at now) kept))) (λ _. (here t, rest)) (λ _. rest)
+          cond_both (is_over_at now t) (Some (expired_row now k.row t)) None (λ (o : Option Expired). AllByRecursion IsTold (cons_option o (filter_map (expired_at now) kept))) (λ _. (here t, rest)) (λ _. rest)
 
   -- and of those that leave, each of which is told with one of the reasons that there are
   pub told_rows : (a : Clocked) → AllByRecursion P (rows_in a) → AllByRecursion (λ (e : Expired). (e.reason ≤ 3) × P e.row) (clock_told a)

@@ -9,7 +9,7 @@ use Rattle.of_types.specs.declared.message.FlowCommand.TheVariants.{Add, Modify,
 use Rattle.of_types.specs.declared.message.FlowMod.{FlowMod}
 use Rattle.of_types.specs.declared.message.Row.{Row}
 use Rattle.flow_table.specs.Table.{same_key, is_named}
-use Rattle.flow_clock.specs.History.{Deed, Changed, Ticked, Met, Standing, with_standing, added_by, standing_modified, standing_by, standing_after}
+use Rattle.flow_clock.specs.History.{TableDeed, Changed, Ticked, Met, Standing, with_standing, added_by, standing_modified, standing_by, standing_after}
 use Rattle.flow_clock.specs.Stands.{at_number}
 use Rattle.flow_clock.proofs.Held.{AreEarly, early}
 use Rattle.flow_table.proofs.Keys.{key_both, key_back, unlike}
@@ -109,7 +109,7 @@ distinct_by n change xs a d ModifyStrict = distinct_modified change xs d
 distinct_by n change xs a d Delete = distinct_filter _ xs d
 distinct_by n change xs a d DeleteStrict = distinct_filter _ xs d
 
-pub distinct : (deeds : List Deed) → AreDistinct (standing_after deeds)
+pub distinct : (deeds : List TableDeed) → AreDistinct (standing_after deeds)
 distinct [] = (tt, tt)
 distinct (Changed change ∷ deeds) = distinct_by (length deeds) change (standing_after deeds) (early deeds) (distinct deeds) change.command
 distinct (Ticked ∷ deeds) = distinct_filter _ (standing_after deeds) (distinct deeds)

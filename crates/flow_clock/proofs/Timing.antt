@@ -19,7 +19,7 @@ use Rattle.flow_table.specs.Table.{same_key}
 use Rattle.flow_clock.specs.declared.times.Key.{Key}
 use Rattle.flow_clock.specs.declared.times.Times.{Times}
 use Rattle.flow_clock.specs.contracts.times.KeyOrd.TheImpl.{ghosts}
-use Rattle.flow_clock.specs.Clocked.{key_of, counted, leaves, is_over_at}
+use Rattle.flow_clock.specs.Clocked.{key_of, counted_hit, leaves, is_over_at}
 use Rattle.flow_clock.proofs.Kept.{TimesOf, IsSetAt, one_key, itself}
 
 -- what a map has
@@ -103,11 +103,11 @@ key_itself a = tells_keys (row_at a) (row_at a) ∙ itself (row_at a)
 -- ---- changes of the times of a key
 
 -- nothing is counted at a key that has no times
-pub none_counted : (times : TimesOf) (key : Key) (now octets : ℕ) → times key ≡ None → IsSetAt is_key key (option_map (counted now octets) (times key)) times times
+pub none_counted : (times : TimesOf) (key : Key) (now octets : ℕ) → times key ≡ None → IsSetAt is_key key (option_map (counted_hit now octets) (times key)) times times
 none_counted times key now octets none q = by_test (is_key key q) refl
   where
-    by_test : (b : Bool) → is_key key q ≡ b → times q ≡ (if b then option_map (counted now octets) (times key) else times q)
-    by_test true is = ap times (sym (one_key_at key q is)) ∙ none ∙ sym (ap (option_map (counted now octets)) none)
+    by_test : (b : Bool) → is_key key q ≡ b → times q ≡ (if b then option_map (counted_hit now octets) (times key) else times q)
+    by_test true is = ap times (sym (one_key_at key q is)) ∙ none ∙ sym (ap (option_map (counted_hit now octets)) none)
     by_test false is = refl
 
 -- what is put back is as it was

@@ -2,7 +2,7 @@
 ghost use Rattle.std.specs.Prelude.{◌≡◌, ◌<◌, ◌+◌, ◌-◌, ◌^◌, ℕ, None, List, [], ◌∷◌, true, false, option_copied, IfOk, OnOk, OnErr, IfErr};
 ghost use Rattle.flow_table.specs.Table.{opening_rows, chosen_row, table_fault};
 ghost use Rattle.flow_clock.specs.History.{Act, Change, Tick, Frame, deeds_of, leaving_after, table_of};
-ghost use Rattle.flow_clock.specs.Clocked.{Clocked, rows_in, clock_change, clock_hit, clock_tick, clock_told, IsRefusal, clock_left, clock_risen, leaves_times};
+ghost use Rattle.flow_clock.specs.Clocked.{Clocked, rows_in, clock_change, clock_hit, clock_tick, clock_told, IsTableRefusal, clock_left, clock_risen, leaves_times};
 ghost use Rattle.flow_clock.specs.Holding.{clocked_of};
 
 use crate::adding::add;
@@ -28,13 +28,13 @@ pub struct TimedRows<R: Rows> {
 impl<R: Rows> Model for TimedRows<R> {
     ghost use Rattle.std.specs.Prelude.{◌<◌, ◌^◌, map};
     ghost use Rattle.std.specs.BTreeMap.{get};
-    ghost use Rattle.flow_clock.specs.Clocked.{Clocked, kept_row, AreApart};
+    ghost use Rattle.flow_clock.specs.Clocked.{Clocked, kept_row, AreKeysApart};
 
     ghost Value = { Clocked };
 
     ghost view = { λ a. record { clock = a.clock; rows = map (kept_row (get ⟦<Key as Ord>⟧.cmp a.times)) (R.rows_of a.rows) } };
 
-    ghost invariant = { λ a. AreApart (R.rows_of a.rows) };
+    ghost invariant = { λ a. AreKeysApart (R.rows_of a.rows) };
 }
 
 impl<R: Rows> TimedRows<R> {
@@ -57,7 +57,7 @@ impl<R: Rows> TimedRows<R> {
         ensures accepted { OnOk result (table_fault (rows_in self.old) ports change.now ≡ None) }
         ensures changed { OnOk result (self.new ≡ clock_change self.old change.now) }
         ensures table { OnOk result ((acts : List Act) → self.old ≡ clocked_of acts → self.new ≡ clocked_of (Change change.now ∷ acts)) }
-        ensures refused { IfErr result (λ fault. IsRefusal (table_fault (rows_in self.old) ports change.now) change.now.command fault) }
+        ensures refused { IfErr result (λ fault. IsTableRefusal (table_fault (rows_in self.old) ports change.now) change.now.command fault) }
         ensures unchanged { OnErr result (self.new ≡ self.old) }
     {
         self.change_by_command(change, ports)?;
@@ -68,7 +68,7 @@ impl<R: Rows> TimedRows<R> {
     fn change_by_command(&mut self, change: &FlowMod, ports: u32) -> Result<(), TableFault>
         ensures accepted { OnOk result (table_fault (rows_in self.old) ports change.now ≡ None) }
         ensures changed { OnOk result (self.new ≡ clock_change self.old change.now) }
-        ensures refused { IfErr result (λ fault. IsRefusal (table_fault (rows_in self.old) ports change.now) change.now.command fault) }
+        ensures refused { IfErr result (λ fault. IsTableRefusal (table_fault (rows_in self.old) ports change.now) change.now.command fault) }
         ensures unchanged { OnErr result (self.new ≡ self.old) }
     {
         match change.command {
@@ -85,7 +85,7 @@ impl<R: Rows> TimedRows<R> {
         requires { leaves_times change.now.command ≡ false }
         ensures accepted { OnOk result (table_fault (rows_in self.old) ports change.now ≡ None) }
         ensures changed { OnOk result (self.new ≡ clock_change self.old change.now) }
-        ensures refused { IfErr result (λ fault. IsRefusal (table_fault (rows_in self.old) ports change.now) change.now.command fault) }
+        ensures refused { IfErr result (λ fault. IsTableRefusal (table_fault (rows_in self.old) ports change.now) change.now.command fault) }
         ensures unchanged { OnErr result (self.new ≡ self.old) }
     {
         add(&mut self.rows, &mut self.times, self.clock, change, ports)?;
@@ -97,7 +97,7 @@ impl<R: Rows> TimedRows<R> {
         requires { leaves_times change.now.command ≡ true }
         ensures accepted { OnOk result (table_fault (rows_in self.old) ports change.now ≡ None) }
         ensures changed { OnOk result (self.new ≡ clock_change self.old change.now) }
-        ensures refused { IfErr result (λ fault. IsRefusal (table_fault (rows_in self.old) ports change.now) change.now.command fault) }
+        ensures refused { IfErr result (λ fault. IsTableRefusal (table_fault (rows_in self.old) ports change.now) change.now.command fault) }
         ensures unchanged { OnErr result (self.new ≡ self.old) }
     {
         self.rows.apply(change, ports)?;

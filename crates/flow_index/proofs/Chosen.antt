@@ -18,7 +18,7 @@ use Rattle.flow_table.specs.Table.{better, chosen_row}
 use Rattle.flow_index.specs.declared.place.Place.{Place}
 use Rattle.flow_index.specs.Places.{place_of, exact_destination, whole_address}
 use Rattle.flow_index.specs.Entries.{by_place, place_at, entries_of, exact_match, is_before, preferred}
-use Rattle.flow_index.specs.Index.{numbered, rows_below, AreIndexed}
+use Rattle.flow_index.specs.Index.{numbered_rows, rows_below, AreIndexed}
 use Rattle.flow_table.proofs.Keys.{same_some, unlike}
 use Rattle.flow_index.proofs.Order.{in_range, range_destination, place_before}
 use Rattle.flow_index.proofs.Indexed.{Entry, IsIn, placed, numbered_in, in_numbered, find_in, find_none, find_least}
@@ -158,10 +158,10 @@ not_before_is p q e = by_ranks (nat_lt p.rank q.rank) refl (nat_eq p.rank q.rank
     ]
 
 -- the row that stands before all that match is the one that is met
-pub best_is_chosen : (next : ℕ) (es : List Entry) (fields : Fields) (w : Entry) → AreIndexed next es → IsIn w es → matches w.1.matching fields ≡ true → ((e : Entry) → IsIn e es → matches e.1.matching fields ≡ true → IsNotAfter w.0 e.0) → chosen_row (rows_below (numbered es) next) fields ≡ Some w.1
+pub best_is_chosen : (next : ℕ) (es : List Entry) (fields : Fields) (w : Entry) → AreIndexed next es → IsIn w es → matches w.1.matching fields ≡ true → ((e : Entry) → IsIn e es → matches e.1.matching fields ≡ true → IsNotAfter w.0 e.0) → chosen_row (rows_below (numbered_rows es) next) fields ≡ Some w.1
 best_is_chosen next es fields w a i passes first =
     let at = placed next es w a i in
-    chosen_best (numbered es) fields w.0.number w.1 next at.below (record {
+    chosen_best (numbered_rows es) fields w.0.number w.1 next at.below (record {
       here = in_numbered next es w.0 w.1 a i;
       passes = passes;
       best = λ m s here hit.
@@ -269,19 +269,19 @@ nothing o w none some = absurd (no_row (sym none ∙ some))
     no_row h = cc
 
 -- the better of the two is the row that the frame meets
-best_of : (next : ℕ) (es : List Entry) (fields : Fields) (exact any : Option Entry) → AreIndexed next es → AreFirst es fields exact any → preferred exact any ≡ chosen_row (rows_below (numbered es) next) fields
+best_of : (next : ℕ) (es : List Entry) (fields : Fields) (exact any : Option Entry) → AreIndexed next es → AreFirst es fields exact any → preferred exact any ≡ chosen_row (rows_below (numbered_rows es) next) fields
 best_of next es fields exact any a firsts = by_found exact any refl refl
   where
     wins : (w : Entry) → IsIn w es × (matches w.1.matching fields ≡ true)
         → ((x : Entry) (e : Entry) → exact ≡ Some x → IsNotAfter x.0 e.0 → IsNotAfter w.0 e.0)
         → ((y : Entry) (e : Entry) → any ≡ Some y → IsNotAfter y.0 e.0 → IsNotAfter w.0 e.0)
-        → Some w.1 ≡ chosen_row (rows_below (numbered es) next) fields
+        → Some w.1 ≡ chosen_row (rows_below (numbered_rows es) next) fields
     wins w one left right =
         sym (best_is_chosen next es fields w a one.0 one.1 (λ e i hit. elim (firsts.others e i hit) [ inl v ↦ left v.0 e v.1 v.2 | inr v ↦ right v.0 e v.1 v.2 ]))
 
-    by_found : (x y : Option Entry) → exact ≡ x → any ≡ y → preferred x y ≡ chosen_row (rows_below (numbered es) next) fields
+    by_found : (x y : Option Entry) → exact ≡ x → any ≡ y → preferred x y ≡ chosen_row (rows_below (numbered_rows es) next) fields
     by_found None None none none' =
-        sym (chosen_none (numbered es) next fields (λ m s here. by_test m s (matches s.matching fields) refl (numbered_in next es m s a here)))
+        sym (chosen_none (numbered_rows es) next fields (λ m s here. by_test m s (matches s.matching fields) refl (numbered_in next es m s a here)))
       where
         by_test : (m : ℕ) (s : Row) (b : Bool) → matches s.matching fields ≡ b → IsIn (place_of s m, s) es → b ≡ false
         by_test m s false is i = refl
@@ -292,7 +292,7 @@ best_of next es fields exact any a firsts = by_found exact any refl refl
         wins y (firsts.any_one y is) (λ v e seen before. nothing exact v none seen) (λ v e seen before. of_found any y e is v seen before)
     by_found (Some x) (Some y) is is' = by_order (is_before y.0 x.0) refl
       where
-        by_order : (b : Bool) → is_before y.0 x.0 ≡ b → (if b then Some y.1 else Some x.1) ≡ chosen_row (rows_below (numbered es) next) fields
+        by_order : (b : Bool) → is_before y.0 x.0 ≡ b → (if b then Some y.1 else Some x.1) ≡ chosen_row (rows_below (numbered_rows es) next) fields
         by_order true first =
             wins y (firsts.any_one y is')
             (λ v e seen before. not_after y.0 x.0 e.0 (before_is y.0 x.0 first) (of_found exact x e is v seen before))
@@ -302,5 +302,5 @@ best_of next es fields exact any a firsts = by_found exact any refl refl
             (λ v e seen before. of_found exact x e is v seen before)
             (λ v e seen before. not_after x.0 y.0 e.0 (not_before_is y.0 x.0 first) (of_found any y e is' v seen before))
 
-pub found_is_chosen : (next : ℕ) (es : List Entry) (fields : Fields) → next < 2 ^ 64 → AreIndexed next es → IsStrictlySortedBy by_place (keys_of es) → preferred (exact_match fields.eth_dst fields es) (find (λ e. matches e.1.matching fields) (entries_of None es)) ≡ chosen_row (rows_below (numbered es) next) fields
+pub found_is_chosen : (next : ℕ) (es : List Entry) (fields : Fields) → next < 2 ^ 64 → AreIndexed next es → IsStrictlySortedBy by_place (keys_of es) → preferred (exact_match fields.eth_dst fields es) (find (λ e. matches e.1.matching fields) (entries_of None es)) ≡ chosen_row (rows_below (numbered_rows es) next) fields
 found_is_chosen next es fields small a sorted = best_of next es fields _ _ a (found_first next es fields small a sorted)

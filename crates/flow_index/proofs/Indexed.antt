@@ -17,7 +17,7 @@ use Rattle.flow_table.specs.Table.{same_key}
 use Rattle.flow_index.specs.declared.place.Place.{Place}
 use Rattle.flow_index.specs.Places.{place_of}
 use Rattle.flow_index.specs.Entries.{by_place}
-use Rattle.flow_index.specs.Index.{each_row, rows_that, numbered, IsPlaced, AreSeparate, AreIndexed}
+use Rattle.flow_index.specs.Index.{each_row, rows_that, numbered_rows, IsPlaced, AreSeparate, AreIndexed}
 use Rattle.flow_table.proofs.Keys.{HaveOneKey, key_back, same_some, unlike}
 use Rattle.flow_index.proofs.Order.{equal_numbers, at_itself}
 
@@ -45,21 +45,21 @@ placed n (x ∷ xs) e a (inr i) = placed n xs e a.2 i
 
 -- ---- numbers
 
-pub numbered_absent : (es : List Entry) (n : ℕ) → AllByRecursion (λ e. nat_eq e.0.number n ≡ false) es → numbered es n ≡ None
+pub numbered_absent : (es : List Entry) (n : ℕ) → AllByRecursion (λ e. nat_eq e.0.number n ≡ false) es → numbered_rows es n ≡ None
 numbered_absent [] n a = refl
 numbered_absent (x ∷ xs) n a = rw a.0 (numbered_absent xs n a.1)
 
 -- no row has a number that was not given yet
-pub numbered_later : (next : ℕ) (es : List Entry) (n : ℕ) → AreIndexed next es → next ≤ n → numbered es n ≡ None
+pub numbered_later : (next : ℕ) (es : List Entry) (n : ℕ) → AreIndexed next es → next ≤ n → numbered_rows es n ≡ None
 numbered_later next es n a le =
     numbered_absent es n (all_from _ es (λ e i. let p = placed next es e a i in ne_eqb e.0.number n (λ same. absurd (omega (arith, p.below, le, same)))))
 
 -- the row of a number is at its place
-pub numbered_in : (next : ℕ) (es : List Entry) (n : ℕ) (r : Row) → AreIndexed next es → numbered es n ≡ Some r → IsIn (place_of r n, r) es
+pub numbered_in : (next : ℕ) (es : List Entry) (n : ℕ) (r : Row) → AreIndexed next es → numbered_rows es n ≡ Some r → IsIn (place_of r n, r) es
 numbered_in next [] n r a e = absurd cc
 numbered_in next (x ∷ xs) n r a e = by_test (nat_eq x.0.number n) refl (numbered_in next xs n r a.2) e
   where
-    by_test : (b : Bool) → nat_eq x.0.number n ≡ b → (numbered xs n ≡ Some r → IsIn (place_of r n, r) xs) → (if b then Some x.1 else numbered xs n) ≡ Some r → IsIn (place_of r n, r) (x ∷ xs)
+    by_test : (b : Bool) → nat_eq x.0.number n ≡ b → (numbered_rows xs n ≡ Some r → IsIn (place_of r n, r) xs) → (if b then Some x.1 else numbered_rows xs n) ≡ Some r → IsIn (place_of r n, r) (x ∷ xs)
     by_test true is rest found =
         let row : x.1 ≡ r = same_some x.1 r found in
         let at : x.0 ≡ place_of r n = a.0.place ∙ ap (λ (m : ℕ). place_of x.1 m) (eqb-true x.0.number n is) ∙ ap (λ (s : Row). place_of s n) row in
@@ -67,7 +67,7 @@ numbered_in next (x ∷ xs) n r a e = by_test (nat_eq x.0.number n) refl (number
     by_test false is rest found = inr (rest found)
 
 -- and the row at a place has its number
-pub in_numbered : (next : ℕ) (es : List Entry) (p : Place) (r : Row) → AreIndexed next es → IsIn (p, r) es → numbered es p.number ≡ Some r
+pub in_numbered : (next : ℕ) (es : List Entry) (p : Place) (r : Row) → AreIndexed next es → IsIn (p, r) es → numbered_rows es p.number ≡ Some r
 in_numbered next [] p r a i = absurd i
 in_numbered next (x ∷ xs) p r a (inl same) =
     rw (eq-eqb x.0.number p.number (ap (λ (e : Entry). e.0.number) same)) (ap (λ (e : Entry). Some e.1) same)
@@ -186,38 +186,38 @@ remove_is_filter n (x ∷ xs) p r q a (inr i) here others =
     let stays : q x.1 ≡ true = others x (inl refl) (λ is. not_equal x (p, r) apart (sym is)) in
     rw (elsewhere x (p, r) apart, stays) (ap (λ (ys : List Entry). x ∷ ys) (remove_is_filter n xs p r q a.2 i here (λ e j. others e (inr j))))
 
-pub numbered_each : (f : Row → Row) (es : List Entry) (n : ℕ) → numbered (each_row f es) n ≡ option_map f (numbered es n)
+pub numbered_each : (f : Row → Row) (es : List Entry) (n : ℕ) → numbered_rows (each_row f es) n ≡ option_map f (numbered_rows es n)
 numbered_each f [] n = refl
 numbered_each f (x ∷ xs) n = by_test (nat_eq x.0.number n) (numbered_each f xs n)
   where
-    by_test : (b : Bool) → numbered (each_row f xs) n ≡ option_map f (numbered xs n) → (if b then Some (f x.1) else numbered (each_row f xs) n) ≡ option_map f (if b then Some x.1 else numbered xs n)
+    by_test : (b : Bool) → numbered_rows (each_row f xs) n ≡ option_map f (numbered_rows xs n) → (if b then Some (f x.1) else numbered_rows (each_row f xs) n) ≡ option_map f (if b then Some x.1 else numbered_rows xs n)
     by_test true rest = refl
     by_test false rest = rest
 
-pub numbered_that : (q : Row → Bool) (next : ℕ) (es : List Entry) (n : ℕ) → AreIndexed next es → numbered (rows_that q es) n ≡ option_filter q (numbered es n)
+pub numbered_that : (q : Row → Bool) (next : ℕ) (es : List Entry) (n : ℕ) → AreIndexed next es → numbered_rows (rows_that q es) n ≡ option_filter q (numbered_rows es n)
 numbered_that q next [] n a = refl
 numbered_that q next (x ∷ xs) n a = by_row (q x.1) refl (nat_eq x.0.number n) refl (numbered_that q next xs n a.2)
   where
-    by_row : (k : Bool) → q x.1 ≡ k → (b : Bool) → nat_eq x.0.number n ≡ b → numbered (rows_that q xs) n ≡ option_filter q (numbered xs n)
-        → numbered (if k then x ∷ rows_that q xs else rows_that q xs) n ≡ option_filter q (if b then Some x.1 else numbered xs n)
+    by_row : (k : Bool) → q x.1 ≡ k → (b : Bool) → nat_eq x.0.number n ≡ b → numbered_rows (rows_that q xs) n ≡ option_filter q (numbered_rows xs n)
+        → numbered_rows (if k then x ∷ rows_that q xs else rows_that q xs) n ≡ option_filter q (if b then Some x.1 else numbered_rows xs n)
     by_row true stays true is rest = rw (is, stays) refl
     by_row true stays false is rest = rw is rest
     by_row false goes true is rest =
-        let none : numbered xs n ≡ None = numbered_absent xs n (all_from _ xs (λ e i. subst (λ (m : ℕ). nat_eq e.0.number m ≡ false) (eqb-true x.0.number n is) (ne_eqb e.0.number x.0.number (λ same. eqb-false x.0.number e.0.number (all_in (AreSeparate x) xs e a.1 i).numbers (sym same))))) in
+        let none : numbered_rows xs n ≡ None = numbered_absent xs n (all_from _ xs (λ e i. subst (λ (m : ℕ). nat_eq e.0.number m ≡ false) (eqb-true x.0.number n is) (ne_eqb e.0.number x.0.number (λ same. eqb-false x.0.number e.0.number (all_in (AreSeparate x) xs e a.1 i).numbers (sym same))))) in
         rest ∙ rw (none, goes) refl
     by_row false goes false is rest = rest
 
-pub numbered_insert : (es : List Entry) (p : Place) (r : Row) (n : ℕ) → AllByRecursion (λ e. nat_eq e.0.number p.number ≡ false) es → numbered (insert_entry by_place es p r) n ≡ (if nat_eq p.number n then Some r else numbered es n)
+pub numbered_insert : (es : List Entry) (p : Place) (r : Row) (n : ℕ) → AllByRecursion (λ e. nat_eq e.0.number p.number ≡ false) es → numbered_rows (insert_entry by_place es p r) n ≡ (if nat_eq p.number n then Some r else numbered_rows es n)
 numbered_insert [] p r n a = refl
 numbered_insert (x ∷ xs) p r n a = by_order (by_place p x.0) refl (numbered_insert xs p r n a.1)
   where
-    by_order : (o : Ordering) → by_place p x.0 ≡ o → numbered (insert_entry by_place xs p r) n ≡ (if nat_eq p.number n then Some r else numbered xs n)
-        → numbered (match_ordering o ((p, r) ∷ x ∷ xs) ((x.0, r) ∷ xs) (x ∷ insert_entry by_place xs p r)) n ≡ (if nat_eq p.number n then Some r else if nat_eq x.0.number n then Some x.1 else numbered xs n)
+    by_order : (o : Ordering) → by_place p x.0 ≡ o → numbered_rows (insert_entry by_place xs p r) n ≡ (if nat_eq p.number n then Some r else numbered_rows xs n)
+        → numbered_rows (match_ordering o ((p, r) ∷ x ∷ xs) ((x.0, r) ∷ xs) (x ∷ insert_entry by_place xs p r)) n ≡ (if nat_eq p.number n then Some r else if nat_eq x.0.number n then Some x.1 else numbered_rows xs n)
     by_order Less is rest = refl
     by_order Equal is rest = absurd (eqb-false x.0.number p.number a.0 (sym (equal_numbers p x.0 (ap is_eq is))))
     by_order Greater is rest = rw rest (swap (nat_eq x.0.number n) refl (nat_eq p.number n) refl)
       where
-        swap : (b : Bool) → nat_eq x.0.number n ≡ b → (c : Bool) → nat_eq p.number n ≡ c → (if b then Some x.1 else if c then Some r else numbered xs n) ≡ (if c then Some r else if b then Some x.1 else numbered xs n)
+        swap : (b : Bool) → nat_eq x.0.number n ≡ b → (c : Bool) → nat_eq p.number n ≡ c → (if b then Some x.1 else if c then Some r else numbered_rows xs n) ≡ (if c then Some r else if b then Some x.1 else numbered_rows xs n)
         swap true b true c = absurd (eqb-false x.0.number p.number a.0 (eqb-true x.0.number n b ∙ sym (eqb-true p.number n c)))
         swap true b false c = refl
         swap false b c d = refl

@@ -14,7 +14,7 @@ use Rattle.std.proofs.lemmas.Cmp.{ranked}
 use Rattle.std.proofs.lemmas.List.{append_assoc, append-nil}
 use Rattle.std.proofs.lemmas.Map.Keys.{sorted_head, sorted_tail}
 use Rattle.of_types.specs.declared.message.Row.{Row}
-use Rattle.flow_index.specs.Index.{numbered, rows_below, AreSeparate, AreIndexed}
+use Rattle.flow_index.specs.Index.{numbered_rows, rows_below, AreSeparate, AreIndexed}
 use Rattle.flow_index.proofs.Indexed.{Entry, all_in, all_from, numbered_absent}
 use Rattle.flow_index.proofs.Listed.{listed_same}
 
@@ -66,15 +66,15 @@ first_of None later = later
 first_of (Some r) later = Some r
 
 -- a number's row is the same, in whatever order rows stand
-row_of_number : (next : ℕ) (es : List Entry) (rows : List Numbered) (n : ℕ) → AreIndexed next es → row_at (fold put rows es) n ≡ first_of (numbered es n) (row_at rows n)
+row_of_number : (next : ℕ) (es : List Entry) (rows : List Numbered) (n : ℕ) → AreIndexed next es → row_at (fold put rows es) n ≡ first_of (numbered_rows es n) (row_at rows n)
 row_of_number next [] rows n a = refl
 row_of_number next (x ∷ xs) rows n a =
     row_of_number next xs (put rows x) n a.2 ∙ rw (row_put rows x.0.number x.1 n) (by_test (nat_eq x.0.number n) refl)
   where
-    by_test : (b : Bool) → nat_eq x.0.number n ≡ b → first_of (numbered xs n) (if b then Some x.1 else row_at rows n) ≡ first_of (if b then Some x.1 else numbered xs n) (row_at rows n)
+    by_test : (b : Bool) → nat_eq x.0.number n ≡ b → first_of (numbered_rows xs n) (if b then Some x.1 else row_at rows n) ≡ first_of (if b then Some x.1 else numbered_rows xs n) (row_at rows n)
     by_test false is = refl
     by_test true is =
-        let none : numbered xs n ≡ None = numbered_absent xs n (all_from _ xs (λ e i. subst (λ (m : ℕ). nat_eq e.0.number m ≡ false) (eqb-true x.0.number n is) (ne_eqb e.0.number x.0.number (λ same. eqb-false x.0.number e.0.number (all_in (AreSeparate x) xs e a.1 i).numbers (sym same))))) in
+        let none : numbered_rows xs n ≡ None = numbered_absent xs n (all_from _ xs (λ e i. subst (λ (m : ℕ). nat_eq e.0.number m ≡ false) (eqb-true x.0.number n is) (ne_eqb e.0.number x.0.number (λ same. eqb-false x.0.number e.0.number (all_in (AreSeparate x) xs e a.1 i).numbers (sym same))))) in
         rw none refl
 
 all_put : (P : Numbered → Type 0) (rows : List Numbered) (k : ℕ) (r : Row) → ((m : ℕ) (s : Row) → P (m, s) → P (m, r)) → AllByRecursion P rows → P (k, r) → AllByRecursion P (insert_entry nat_cmp rows k r)
@@ -162,13 +162,13 @@ between_all : (n : ℕ) (rows : List Numbered) → AllByRecursion (λ e. e.0 < n
 between_all n [] a = tt
 between_all n (x ∷ xs) a = let below = a.0 in ((omega arith, omega (arith, below)), between_all n xs a.1)
 
-pub ordered_rows : (next : ℕ) (es : List Entry) (rows : List Numbered) → AreIndexed next es → rows ≡ by_number es → IsStrictlySortedBy nat_cmp (keys_of rows) → values_of rows ≡ rows_below (numbered es) next
+pub ordered_rows : (next : ℕ) (es : List Entry) (rows : List Numbered) → AreIndexed next es → rows ≡ by_number es → IsStrictlySortedBy nat_cmp (keys_of rows) → values_of rows ≡ rows_below (numbered_rows es) next
 ordered_rows next es rows a is sorted =
     let below = subst (λ (xs : List Numbered). AllByRecursion (λ e. e.0 < next) xs) (sym is) (below_next next es [] a tt) in
-    let one = λ (n : ℕ) (lt : n < next). ap (λ (xs : List Numbered). row_at xs n) is ∙ row_of_number next es [] n a ∙ first_none (numbered es n) in
+    let one = λ (n : ℕ) (lt : n < next). ap (λ (xs : List Numbered). row_at xs n) is ∙ row_of_number next es [] n a ∙ first_none (numbered_rows es n) in
     listed_from next 0 rows sorted (between_all next rows below)
     ∙ sym (below_is_from (row_at rows) next)
-    ∙ listed_same (row_at rows) (numbered es) next one
+    ∙ listed_same (row_at rows) (numbered_rows es) next one
   where
     first_none : (o : Option Row) → first_of o None ≡ o
     first_none None = refl

@@ -9,8 +9,8 @@ use Rattle.flow_index.specs.declared.place.Place.{Place}
 use Rattle.flow_index.specs.Places.{place_of}
 
 -- the row of a number
-abbrev pub numbered : List (Place × Row) → ℕ → Option Row
-numbered entries number = lookup (λ place. nat_eq place.number number) entries
+abbrev pub numbered_rows : List (Place × Row) → ℕ → Option Row
+numbered_rows entries number = lookup (λ place. nat_eq place.number number) entries
 
 -- the rows of the numbers below one, in the order of the numbers
 abbrev pub rows_below : (ℕ → Option Row) → ℕ → List Row

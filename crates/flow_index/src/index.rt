@@ -22,11 +22,11 @@ pub struct FlowIndex {
 impl Model for FlowIndex {
     ghost use Rattle.std.specs.Prelude.{◌<◌, ◌^◌, List};
     ghost use Rattle.of_types.specs.declared.message.Row.{Row};
-    ghost use Rattle.flow_index.specs.Index.{AreIndexed, numbered, rows_below};
+    ghost use Rattle.flow_index.specs.Index.{AreIndexed, numbered_rows, rows_below};
 
     ghost Value = { List Row };
 
-    ghost view = { λ a. rows_below (numbered a.rows.entries) a.next };
+    ghost view = { λ a. rows_below (numbered_rows a.rows.entries) a.next };
 
     ghost invariant = { λ a. AreIndexed a.next a.rows.entries × (a.next < 2 ^ 64) };
 }

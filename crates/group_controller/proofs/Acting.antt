@@ -15,7 +15,7 @@ use Rattle.vr_log.specs.declared.state.VrOut.{VrOut}
 use Rattle.vr_log.specs.declared.entry.LogFull.{LogFull}
 use Rattle.vr_log.specs.Log.{full_at, processed}
 use Rattle.vr_log.specs.Members.{is_normal, is_primary, leads}
-use Rattle.vr_log.specs.Valid.{IsValid}
+use Rattle.vr_log.specs.Valid.{IsValidState}
 use Rattle.vr_log.specs.Steps.{VrStep, later_of}
 use Rattle.vr_normal.specs.Proposing.{proposed}
 use Rattle.vr_core.specs.declared.input.VrInput.{VrInput}
@@ -32,14 +32,14 @@ use Rattle.dispatcher.specs.Folding.{numbered}
 use Rattle.dispatcher.specs.Ledger.{Dispatching, ForEachLog, StandsFor}
 use Rattle.dispatcher.specs.Marks.{Marks, confirmed_by, is_confirmed, outstanding}
 use Rattle.group_controller.specs.declared.messages.ControllerSays.{ControllerSays}
-use Rattle.group_controller.specs.Acting.{Acting, Acts, ActsUpTo, Begins, pair_with, posts, with_out, with_state, Works}
+use Rattle.group_controller.specs.Acting.{Acting, Acts, ActsUpTo, BeginsTurn, pair_with, posts_letters, with_out, with_state, Works}
 use Rattle.group_controller.specs.Rules.{commands_for, on_master, on_role_reply, on_tick, tick_letters, unconfirmed}
 use Rattle.group_controller.specs.Settling.{role_letter, command_letter, command_letters, is_some_of, is_untold, with_commands, with_proposal}
-use Rattle.group_controller.specs.State.{ControllerState, Work, committed, posting, leaving, resting, stepped, to_members}
+use Rattle.group_controller.specs.State.{ControllerState, Work, committed, posting_work, leaving, resting, stepped, to_members}
 use Rattle.group_controller.proofs.Answering.{asked_more, letters_are, parts_join}
 
 module _ {A : Type 0} where
-  pub posts_twice : (a : Acting A) (xs ys : List (Letter ControllerSays)) → posts (posts a xs) ys ≡ posts a (xs ++ ys)
+  pub posts_twice : (a : Acting A) (xs ys : List (Letter ControllerSays)) → posts_letters (posts_letters a xs) ys ≡ posts_letters a (xs ++ ys)
   posts_twice a xs ys = ap (λ (l : List (Letter ControllerSays)). record a { work = record a.work { letters = l } }) (append_assoc a.work.letters xs ys)
 
   abbrev turn_of : VrState → Marks → Option ℕ → LogFull → Option ℕ → List (Letter ControllerSays) → Dispatching A → Acting A
@@ -51,19 +51,19 @@ module _ {A : Type 0} where
   with_full marks told full promise letters d r s entry full_is state_is =
       ap (λ (v : VrState). turn_of v marks told full promise letters d) state_is ∙ ap (λ (f : LogFull). turn_of s marks told f promise letters d) full_is
 
-  pub asked_yes : (p : ℕ → Bool) (start now new : Acting A) (view n : ℕ) → p n ≡ true → now ≡ posts start (map (role_letter view) (filter p (range_with_len 0 n))) → new ≡ posts now (role_letter view n ∷ []) →
-      new ≡ posts start (map (role_letter view) (filter p (range_with_len 0 (n + 1))))
+  pub asked_yes : (p : ℕ → Bool) (start now new : Acting A) (view n : ℕ) → p n ≡ true → now ≡ posts_letters start (map (role_letter view) (filter p (range_with_len 0 n))) → new ≡ posts_letters now (role_letter view n ∷ []) →
+      new ≡ posts_letters start (map (role_letter view) (filter p (range_with_len 0 (n + 1))))
   asked_yes p start now new view n yes_n before this =
       let asked = map (role_letter view) (filter p (range_with_len 0 n)) in
       let more = asked_more p view n ∙ ap (λ (b : Bool). asked ++ map (role_letter view) (if b then n ∷ [] else [])) yes_n in
-      this ∙ ap (λ (x : Acting A). posts x (role_letter view n ∷ [])) before ∙ posts_twice start asked (role_letter view n ∷ []) ∙ ap (λ (l : List (Letter ControllerSays)). posts start l) (sym more)
+      this ∙ ap (λ (x : Acting A). posts_letters x (role_letter view n ∷ [])) before ∙ posts_twice start asked (role_letter view n ∷ []) ∙ ap (λ (l : List (Letter ControllerSays)). posts_letters start l) (sym more)
 
-  pub asked_no : (p : ℕ → Bool) (start now : Acting A) (view n : ℕ) → p n ≡ false → now ≡ posts start (map (role_letter view) (filter p (range_with_len 0 n))) →
-      now ≡ posts start (map (role_letter view) (filter p (range_with_len 0 (n + 1))))
+  pub asked_no : (p : ℕ → Bool) (start now : Acting A) (view n : ℕ) → p n ≡ false → now ≡ posts_letters start (map (role_letter view) (filter p (range_with_len 0 n))) →
+      now ≡ posts_letters start (map (role_letter view) (filter p (range_with_len 0 (n + 1))))
   asked_no p start now view n no_n before =
       let asked = map (role_letter view) (filter p (range_with_len 0 n)) in
       let more = asked_more p view n ∙ ap (λ (b : Bool). asked ++ map (role_letter view) (if b then n ∷ [] else [])) no_n ∙ append-nil asked in
-      before ∙ ap (λ (l : List (Letter ControllerSays)). posts start l) (sym more)
+      before ∙ ap (λ (l : List (Letter ControllerSays)). posts_letters start l) (sym more)
 
 module _ {A : Type 0} (law : AppLaw A) (kinds : List ℕ) (setup : Setup) where
   abbrev IsActing : Acting A → Type 0
@@ -87,9 +87,9 @@ module _ {A : Type 0} (law : AppLaw A) (kinds : List ℕ) (setup : Setup) where
   pub stays : (a : Acting A) → IsActing a → Does a a.work a
   stays a h = record { acts = h; work_is = refl; saved = None; lasts = lasts_same a.work.state.vr; promise_is = refl }
 
-  pub posts_does : (a b : Acting A) (letters : List (Letter ControllerSays)) → IsActing a → b ≡ posts a letters → Does a (posting a.work letters) b
+  pub posts_does : (a b : Acting A) (letters : List (Letter ControllerSays)) → IsActing a → b ≡ posts_letters a letters → Does a (posting_work a.work letters) b
   posts_does a b letters h is =
-      subst (λ (x : Acting A). Does a (posting a.work letters) x) (sym is)
+      subst (λ (x : Acting A). Does a (posting_work a.work letters) x) (sym is)
       (record {
         acts = record { valid = h.valid; own = h.own; reach = h.reach; stands = h.stands; marks = h.marks; saves = h.saves };
         work_is = refl;
@@ -112,20 +112,20 @@ module _ {A : Type 0} (law : AppLaw A) (kinds : List ℕ) (setup : Setup) where
   pub does_as : (a b : Acting A) (work next : Work) → work ≡ next → Does a work b → Does a next b
   does_as a b work next is f = subst (λ (w : Work). Does a w b) is f
 
-  pub posts_none : (a : Acting A) → a ≡ posts a []
+  pub posts_none : (a : Acting A) → a ≡ posts_letters a []
   posts_none a = ap (λ (l : List (Letter ControllerSays)). record a { work = record a.work { letters = l } }) (sym (append-nil a.work.letters))
 
-  pub posts_acts : (a b : Acting A) (letters : List (Letter ControllerSays)) → IsActing a → b ≡ posts a letters → IsActing b
+  pub posts_acts : (a b : Acting A) (letters : List (Letter ControllerSays)) → IsActing a → b ≡ posts_letters a letters → IsActing b
   posts_acts a b letters h is = (posts_does a b letters h is).acts
 
   -- one event more was answered
   pub answered : (f : Handled → List (Letter ControllerSays)) (start now new : Acting A) (list : List Handled) (i : ℕ) (h : Handled) → i < length list → h ≡ get_or list i h →
-      now ≡ posts start (flat_map f (take i list)) → new ≡ posts now (f h) → new ≡ posts start (flat_map f (take (i + 1) list))
+      now ≡ posts_letters start (flat_map f (take i list)) → new ≡ posts_letters now (f h) → new ≡ posts_letters start (flat_map f (take (i + 1) list))
   answered f start now new list i h low at before this =
       let more : take (i + 1) list ≡ take i list ++ h ∷ [] = take_more list i h low ∙ ap (λ (y : Handled). take i list ++ y ∷ []) (sym at) in
       let grown : flat_map f (take (i + 1) list) ≡ flat_map f (take i list) ++ f h =
       ap (λ (l : List Handled). flat_map f l) more ∙ flat_map-append f (take i list) (h ∷ []) ∙ ap (λ (l : List (Letter ControllerSays)). flat_map f (take i list) ++ l) (append-nil (f h)) in
-      this ∙ ap (λ (x : Acting A). posts x (f h)) before ∙ posts_twice start (flat_map f (take i list)) (f h) ∙ ap (λ (l : List (Letter ControllerSays)). posts start l) (sym grown)
+      this ∙ ap (λ (x : Acting A). posts_letters x (f h)) before ∙ posts_twice start (flat_map f (take i list)) (f h) ∙ ap (λ (l : List (Letter ControllerSays)). posts_letters start l) (sym grown)
 
   -- the commands of the first unprocessed event went out
   pub untold : (c : ControllerState) (has told : Bool) (place : ℕ) → has ≡ has_unprocessed (committed c) → has ≡ true → told ≡ is_some_of place c.last_told → told ≡ false → place ≡ processed (committed c) →
@@ -136,17 +136,17 @@ module _ {A : Type 0} (law : AppLaw A) (kinds : List ℕ) (setup : Setup) where
       rw (x, y) refl
 
   pub untold_does : (a b : Acting A) (place : ℕ) (commands : List Numbered) → IsActing a → is_untold a.work.state ≡ true → place ≡ processed (committed a.work.state) →
-      commands ≡ map (numbered kinds setup (committed a.work.state)) (outstanding kinds setup (committed a.work.state) a.work.state.marks) → b ≡ posts a (map (command_letter a.work.state.vr.view) commands) →
+      commands ≡ map (numbered kinds setup (committed a.work.state)) (outstanding kinds setup (committed a.work.state) a.work.state.marks) → b ≡ posts_letters a (map (command_letter a.work.state.vr.view) commands) →
       Does a (with_commands kinds setup a.work) (record b { work = record b.work { state = record b.work.state { last_told = Some place } } })
   untold_does a b place commands h is at are posted =
       let c = a.work.state in
       let letters = command_letters kinds setup c (outstanding kinds setup (committed c) c.marks) in
-      let sent = posted ∙ ap (λ (l : List (Letter ControllerSays)). posts a l) (ap (λ (l : List Numbered). map (command_letter c.vr.view) l) are ∙ letters_are kinds setup c (outstanding kinds setup (committed c) c.marks)) in
-      let work : Work = leaving (posting a.work letters) (record c { last_told = Some (processed (committed c)) }) in
+      let sent = posted ∙ ap (λ (l : List (Letter ControllerSays)). posts_letters a l) (ap (λ (l : List Numbered). map (command_letter c.vr.view) l) are ∙ letters_are kinds setup c (outstanding kinds setup (committed c) c.marks)) in
+      let work : Work = leaving (posting_work a.work letters) (record c { last_told = Some (processed (committed c)) }) in
       let rule : with_commands kinds setup a.work ≡ work = ap (λ (b : Bool). if b then work else a.work) is in
       subst (λ (x : Acting A). Does a (with_commands kinds setup a.work) (record x { work = record x.work { state = record x.work.state { last_told = Some place } } })) (sym sent)
-      (does_as a (record a { work = record (posting a.work letters) { state = record c { last_told = Some place } } }) (record (posting a.work letters) { state = record c { last_told = Some place } }) (with_commands kinds setup a.work)
-      (ap (λ (n : ℕ). leaving (posting a.work letters) (record c { last_told = Some n })) at ∙ sym rule)
+      (does_as a (record a { work = record (posting_work a.work letters) { state = record c { last_told = Some place } } }) (record (posting_work a.work letters) { state = record c { last_told = Some place } }) (with_commands kinds setup a.work)
+      (ap (λ (n : ℕ). leaving (posting_work a.work letters) (record c { last_told = Some n })) at ∙ sym rule)
       (record {
         acts = record { valid = h.valid; own = h.own; reach = h.reach; stands = h.stands; marks = h.marks; saves = h.saves };
         work_is = refl;
@@ -157,7 +157,7 @@ module _ {A : Type 0} (law : AppLaw A) (kinds : List ℕ) (setup : Setup) where
 
   pub told_does : (a : Acting A) → IsActing a → is_untold a.work.state ≡ false → Does a (with_commands kinds setup a.work) a
   told_does a h off =
-      let work : Work = leaving (posting a.work (command_letters kinds setup a.work.state (outstanding kinds setup (committed a.work.state) a.work.state.marks))) (record a.work.state { last_told = Some (processed (committed a.work.state)) }) in
+      let work : Work = leaving (posting_work a.work (command_letters kinds setup a.work.state (outstanding kinds setup (committed a.work.state) a.work.state.marks))) (record a.work.state { last_told = Some (processed (committed a.work.state)) }) in
       does_as a a a.work (with_commands kinds setup a.work) (sym (ap (λ (b : Bool). if b then work else a.work) off)) (stays a h)
 
   -- a step of the member
@@ -167,7 +167,7 @@ module _ {A : Type 0} (law : AppLaw A) (kinds : List ℕ) (setup : Setup) where
     pub lasts : Lasts a.work.state.vr step.promise b.work.state.vr
     pub promise_is : b.promise ≡ later_of a.promise step.promise
 
-  pub steps : (a b : Acting A) (x : VrInput) (r : VrState) (out : VrOut) → Begins law a kinds setup → IsValid r → Stepped (vr_step a.work.state.vr x) r out →
+  pub steps : (a b : Acting A) (x : VrInput) (r : VrState) (out : VrOut) → BeginsTurn law a kinds setup → IsValidState r → Stepped (vr_step a.work.state.vr x) r out →
       b ≡ with_out (with_state a (record a.work.state { vr = r })) out → Stepping a b (vr_step a.work.state.vr x)
   steps a b x r out h valid did is =
       let c = a.work.state in
@@ -218,7 +218,7 @@ module _ {A : Type 0} (law : AppLaw A) (kinds : List ℕ) (setup : Setup) where
     pub lasts : Lasts a.work.state.vr None b.work.state.vr
     pub promise_is : b.promise ≡ a.promise
 
-  pub proposes : (a b : Acting A) (entry : Entry) (r : VrState) (out : VrOut) → IsActing a → leads a.work.state.vr ≡ true → IsValid r → Stepped (proposed a.work.state.vr entry) r out →
+  pub proposes : (a b : Acting A) (entry : Entry) (r : VrState) (out : VrOut) → IsActing a → leads a.work.state.vr ≡ true → IsValidState r → Stepped (proposed a.work.state.vr entry) r out →
       b ≡ with_out (with_state a (record a.work.state { vr = r })) out → Proposing a b entry
   proposes a b entry r out h leading valid did is =
       let c = a.work.state in
@@ -244,18 +244,18 @@ module _ {A : Type 0} (law : AppLaw A) (kinds : List ℕ) (setup : Setup) where
         promise_is = promise;
       })
 
-  pub asked_all : (start now : Acting A) (n : ℕ) → IsActing start → n ≡ start.dispatcher.switches → now ≡ posts start (map (role_letter start.work.state.vr.view) (filter (λ s. not (is_confirmed start.dispatcher.marks s)) (range_with_len 0 n))) →
-      now ≡ posts start (map (role_letter start.work.state.vr.view) (unconfirmed setup start.work.state))
+  pub asked_all : (start now : Acting A) (n : ℕ) → IsActing start → n ≡ start.dispatcher.switches → now ≡ posts_letters start (map (role_letter start.work.state.vr.view) (filter (λ s. not (is_confirmed start.dispatcher.marks s)) (range_with_len 0 n))) →
+      now ≡ posts_letters start (map (role_letter start.work.state.vr.view) (unconfirmed setup start.work.state))
   asked_all start now n h size is =
-      is ∙ ap (λ (k : ℕ). posts start (map (role_letter start.work.state.vr.view) (filter (λ s. not (is_confirmed start.dispatcher.marks s)) (range_with_len 0 k)))) (size ∙ h.stands.size)
-      ∙ ap (λ (m : Marks). posts start (map (role_letter start.work.state.vr.view) (filter (λ s. not (is_confirmed m s)) (range_with_len 0 (length setup.ports))))) (sym h.marks)
+      is ∙ ap (λ (k : ℕ). posts_letters start (map (role_letter start.work.state.vr.view) (filter (λ s. not (is_confirmed start.dispatcher.marks s)) (range_with_len 0 k)))) (size ∙ h.stands.size)
+      ∙ ap (λ (m : Marks). posts_letters start (map (role_letter start.work.state.vr.view) (filter (λ s. not (is_confirmed m s)) (range_with_len 0 (length setup.ports))))) (sym h.marks)
 
   -- a switch takes this controller as master
-  pub master_does : (a b : Acting A) (d : Dispatching A) (switch role generation : ℕ) (commands : List Numbered) → Begins law a kinds setup →
+  pub master_does : (a b : Acting A) (d : Dispatching A) (switch role generation : ℕ) (commands : List Numbered) → BeginsTurn law a kinds setup →
       role ≡ MASTER → generation ≡ a.work.state.vr.view → d ≡ record a.dispatcher { marks = confirmed_by a.dispatcher.marks switch } →
       ForEachLog (StandsFor law a.dispatcher) (StandsFor law d) →
       commands ≡ map (numbered kinds setup (committed a.work.state)) (filter (λ x. nat_eq x.switch switch) (outstanding kinds setup (committed a.work.state) d.marks)) →
-      b ≡ posts (record a { work = record a.work { state = record a.work.state { marks = d.marks } }; dispatcher = d }) (map (command_letter a.work.state.vr.view) commands) →
+      b ≡ posts_letters (record a { work = record a.work { state = record a.work.state { marks = d.marks } }; dispatcher = d }) (map (command_letter a.work.state.vr.view) commands) →
       Does a (on_role_reply kinds setup a.work.state switch role generation) b
   master_does a b d switch role generation commands h role_is view_is marked still are is =
       let c = a.work.state in
@@ -276,7 +276,7 @@ module _ {A : Type 0} (law : AppLaw A) (kinds : List ℕ) (setup : Setup) where
         saves = h.acts.saves;
       } in
       let done = posts_does base b (map (command_letter c.vr.view) commands) acts is in
-      does_as a b (posting base.work (map (command_letter c.vr.view) commands)) (on_role_reply kinds setup c switch role generation)
+      does_as a b (posting_work base.work (map (command_letter c.vr.view) commands)) (on_role_reply kinds setup c switch role generation)
       (ap (λ (w : Work). record { state = record c { marks = d.marks }; save = w.save; letters = w.letters ++ map (command_letter c.vr.view) commands }) h.rests
       ∙ ap (λ (m : Marks). record { state = record c { marks = m }; save = None; letters = map (command_letter c.vr.view) commands }) marks
       ∙ ap (λ (l : List (Letter ControllerSays)). record { state = now; save = None; letters = l }) sent
@@ -285,9 +285,9 @@ module _ {A : Type 0} (law : AppLaw A) (kinds : List ℕ) (setup : Setup) where
 
   -- time passes
   pub tick_does : (a b n1 n2 : Acting A) (commands : List Numbered) → Stepping a b (vr_step a.work.state.vr vr_input.Tick) → leads b.work.state.vr ≡ true →
-      n1 ≡ posts b (map (role_letter b.work.state.vr.view) (unconfirmed setup b.work.state)) →
+      n1 ≡ posts_letters b (map (role_letter b.work.state.vr.view) (unconfirmed setup b.work.state)) →
       commands ≡ map (numbered kinds setup (committed b.work.state)) (outstanding kinds setup (committed b.work.state) b.work.state.marks) →
-      n2 ≡ posts n1 (map (command_letter b.work.state.vr.view) commands) → Does a (on_tick kinds setup a.work.state) n2
+      n2 ≡ posts_letters n1 (map (command_letter b.work.state.vr.view) commands) → Does a (on_tick kinds setup a.work.state) n2
   tick_does a b n1 n2 commands s leading asked are sent =
       let c = a.work.state in
       let step = vr_step c.vr vr_input.Tick in
@@ -296,14 +296,14 @@ module _ {A : Type 0} (law : AppLaw A) (kinds : List ℕ) (setup : Setup) where
       let first = folded_does a b b step s acts refl refl in
       let d = b.work.state in
       let letters = tick_letters kinds setup d in
-      let all : n2 ≡ posts b letters =
-      sent ∙ ap (λ (x : Acting A). posts x (map (command_letter d.vr.view) commands)) asked ∙ posts_twice b (map (role_letter d.vr.view) (unconfirmed setup d)) (map (command_letter d.vr.view) commands)
-      ∙ ap (λ (l : List (Letter ControllerSays)). posts b (map (role_letter d.vr.view) (unconfirmed setup d) ++ l))
+      let all : n2 ≡ posts_letters b letters =
+      sent ∙ ap (λ (x : Acting A). posts_letters x (map (command_letter d.vr.view) commands)) asked ∙ posts_twice b (map (role_letter d.vr.view) (unconfirmed setup d)) (map (command_letter d.vr.view) commands)
+      ∙ ap (λ (l : List (Letter ControllerSays)). posts_letters b (map (role_letter d.vr.view) (unconfirmed setup d) ++ l))
       (ap (λ (l : List Numbered). map (command_letter d.vr.view) l) are ∙ letters_are kinds setup d (outstanding kinds setup (committed d) d.marks)) in
-      does_as a n2 (posting b.work letters) (on_tick kinds setup c)
-      (ap (λ (w : Work). posting w letters) s.work_is ∙ ap (λ (x : ControllerState). posting (stepped c step) (tick_letters kinds setup x)) state
-      ∙ ap (λ (b : Bool). posting (stepped c step) (if b then tick_letters kinds setup c else [])) (sym leading ∙ ap (λ (x : ControllerState). leads x.vr) state))
-      (then_does a b n2 (stepped c step) (posting b.work letters) first (posts_does b n2 letters acts all))
+      does_as a n2 (posting_work b.work letters) (on_tick kinds setup c)
+      (ap (λ (w : Work). posting_work w letters) s.work_is ∙ ap (λ (x : ControllerState). posting_work (stepped c step) (tick_letters kinds setup x)) state
+      ∙ ap (λ (b : Bool). posting_work (stepped c step) (if b then tick_letters kinds setup c else [])) (sym leading ∙ ap (λ (x : ControllerState). leads x.vr) state))
+      (then_does a b n2 (stepped c step) (posting_work b.work letters) first (posts_does b n2 letters acts all))
 
   pub tick_rests : (a b : Acting A) → Stepping a b (vr_step a.work.state.vr vr_input.Tick) → leads b.work.state.vr ≡ false → Does a (on_tick kinds setup a.work.state) b
   tick_rests a b s off =
@@ -313,5 +313,5 @@ module _ {A : Type 0} (law : AppLaw A) (kinds : List ℕ) (setup : Setup) where
       let none : leads c.vr ≡ false = ap (λ (x : ControllerState). leads x.vr) (sym state) ∙ off in
       does_as a b (stepped c step) (on_tick kinds setup c)
       (ap (λ (l : List (Letter ControllerSays)). record (stepped c step) { letters = l }) (sym (append-nil (stepped c step).letters))
-      ∙ sym (ap (λ (b : Bool). posting (stepped c step) (if b then tick_letters kinds setup c else [])) none))
+      ∙ sym (ap (λ (b : Bool). posting_work (stepped c step) (if b then tick_letters kinds setup c else [])) none))
       (folded_does a b b step s (still_acts a b step s (tick_same c.vr)) refl refl)

@@ -12,7 +12,7 @@ use Rattle.vr_log.specs.Log.{received}
 use Rattle.vr_log.proofs.Logs.{follows-append, follows_take}
 use Rattle.dispatcher.specs.declared.answers.Handled.{Handled}
 use Rattle.dispatcher.specs.declared.answers.Through.{Through}
-use Rattle.dispatcher.specs.Folding.{acknowledgement, acknowledges, acknowledges_at, clears, clears_at, numbered, places_processed}
+use Rattle.dispatcher.specs.Folding.{acknowledgement, acknowledges_event, acknowledges_at, clears, clears_at, numbered, places_processed}
 use Rattle.dispatcher.specs.Ledger.{AreHandledAt, handled_at}
 use Rattle.dispatcher.proofs.Ledgers.{is_handled}
 use Rattle.of_types.specs.declared.message.Event.{Event}
@@ -22,7 +22,7 @@ use Rattle.std.proofs.lemmas.Option.{get_or_from_slice_get}
 use Rattle.dispatcher.proofs.Telling.{filter_more, range_more}
 use Rattle.app_core.specs.declared.issued.Issued.{Issued}
 use Rattle.group_controller.specs.declared.messages.ControllerSays.{ControllerSays}
-use Rattle.group_controller.specs.Acting.{acknowledges_of, answers_to, AreNew}
+use Rattle.group_controller.specs.Acting.{acknowledges_of, answers_to, AreNewlyHandled}
 use Rattle.group_controller.specs.Settling.{ack_letter, answers_at, clear_letter, role_letter, command_letter, command_letters}
 use Rattle.group_controller.specs.State.{ControllerState, committed}
 
@@ -71,7 +71,7 @@ module _ (kinds : List ℕ) (setup : Setup) (c : ControllerState) where
       let r = is_handled kinds setup (received log) all j h at in
       let acks : acknowledges_of c h ≡ acknowledges_at log j =
       ap (λ (s : ℕ). if has_ended s h.life (received log) then [] else acknowledgement log s h.life ∷ []) (sym r.switch_is)
-      ∙ ap (λ (l : ℕ). if has_ended r.event.switch l (received log) then [] else acknowledgement log r.event.switch l ∷ []) (sym r.life_is) ∙ ap (λ (o : Option Event). acknowledges log o) (sym r.stands) in
+      ∙ ap (λ (l : ℕ). if has_ended r.event.switch l (received log) then [] else acknowledgement log r.event.switch l ∷ []) (sym r.life_is) ∙ ap (λ (o : Option Event). acknowledges_event log o) (sym r.stands) in
       let told : clears kinds setup log h.commands ≡ clears_at kinds setup log j = ap (λ (l : List Issued). clears kinds setup log l) (sym (get_or_from_slice_get all j h.commands [] r.commands)) in
       ap (λ (l : List Through). map ack_letter l ++ map clear_letter (clears kinds setup log h.commands)) acks ∙ ap (λ (l : List Through). map ack_letter (acknowledges_at log j) ++ map clear_letter l) told
 
@@ -84,5 +84,5 @@ module _ (kinds : List ℕ) (setup : Setup) (c : ControllerState) where
       let rest : map (handled_at kinds setup (committed c)) places ≡ map Some list = cc in
       ap (λ (l : List (Letter ControllerSays)). l ++ flat_map (answers_to kinds setup c) list) (answers_one j x first) ∙ ap (λ (l : List (Letter ControllerSays)). answers_at kinds setup c j ++ l) (answers_each places list rest)
 
-  pub answers_new : (before : ℕ) (list : List Handled) → AreNew kinds setup c before list → flat_map (answers_to kinds setup c) list ≡ flat_map (answers_at kinds setup c) (places_processed (drop before (committed c)))
+  pub answers_new : (before : ℕ) (list : List Handled) → AreNewlyHandled kinds setup c before list → flat_map (answers_to kinds setup c) list ≡ flat_map (answers_at kinds setup c) (places_processed (drop before (committed c)))
   answers_new before list h = answers_each (places_processed (drop before (committed c))) list h

@@ -30,8 +30,8 @@ use Rattle.vr_core.specs.Lasting.{Lasts, promised}
 use Rattle.app_core.specs.Law.{AppLaw}
 use Rattle.group_controller.specs.declared.messages.ControllerInput.{ControllerInput}
 use Rattle.group_controller.specs.declared.messages.ControllerInput.TheVariants as controller_input
-use Rattle.group_controller.specs.Acting.{Acting, Acts, Begins, pair_with, with_out, with_state, Works}
-use Rattle.group_controller.specs.Rules.{controller_work, is_crash, is_down, is_restart, on_crash, on_input, on_local, on_restart, when_down}
+use Rattle.group_controller.specs.Acting.{Acting, Acts, BeginsTurn, pair_with, with_out, with_state, Works}
+use Rattle.group_controller.specs.Rules.{controller_work, is_crash_input, is_down, is_restart_input, on_crash, on_input, on_local, on_restart, when_down}
 use Rattle.group_controller.specs.State.{ControllerState, Work, down, fresh, resting, stepped, to_members, with_no_met_limit}
 use Rattle.group_controller.specs.Turns.{acting_by, begins_life, Done, SavesAndKeeps, KnowsPair, left_by, MayTake, pair_in, PutsBack, Restarts, Saves, LeavesShelf, Turns, AreAlike, Born, Controlling, Controls, Stands, state_of, state_or, TakesBy, TakesOne, TakesOneAtMost}
 use Rattle.vr_core.proofs.Keeping.{later_than_none}
@@ -51,7 +51,7 @@ module _ (kinds : List ℕ) (setup : Setup) where
   unfolding controller_work
   awake_work c input awake = ap (λ (b : Bool). if b then when_down c input else on_input kinds setup (with_no_met_limit c) input) (awake_is c awake)
 
-  crash_is : (c : ControllerState) (what : Local) → is_crash (controller_input.Local what) ≡ true → on_local kinds setup c what ≡ on_crash c
+  crash_is : (c : ControllerState) (what : Local) → is_crash_input (controller_input.Local what) ≡ true → on_local kinds setup c what ≡ on_crash c
   crash_is c (local.Frame port bytes) h = absurd cc h
   crash_is c (local.Port port up) h = absurd cc h
   crash_is c local.Tick h = absurd cc h
@@ -59,13 +59,13 @@ module _ (kinds : List ℕ) (setup : Setup) where
   crash_is c local.Crash h = refl
   crash_is c local.Restart h = absurd cc h
 
-  pub crash_work : (c : ControllerState) (input : ControllerInput) → is_crash input ≡ true → on_input kinds setup c input ≡ on_crash c
+  pub crash_work : (c : ControllerState) (input : ControllerInput) → is_crash_input input ≡ true → on_input kinds setup c input ≡ on_crash c
   crash_work c (controller_input.Local what) h = crash_is c what h
   crash_work c (controller_input.Of switch xid said) h = absurd cc h
   crash_work c (controller_input.Malformed sender) h = absurd cc h
   crash_work c (controller_input.Vr from message) h = absurd cc h
 
-restart_local : (c : ControllerState) (what : Local) → is_restart (controller_input.Local what) ≡ true → when_down c (controller_input.Local what) ≡ on_restart c
+restart_local : (c : ControllerState) (what : Local) → is_restart_input (controller_input.Local what) ≡ true → when_down c (controller_input.Local what) ≡ on_restart c
 restart_local c (local.Frame port bytes) h = absurd cc h
 restart_local c (local.Port port up) h = absurd cc h
 restart_local c local.Tick h = absurd cc h
@@ -74,13 +74,13 @@ restart_local c local.Crash h = absurd cc h
 restart_local c local.Restart h = refl
 
 -- one that is down and is told to restart does so
-restart_rule : (c : ControllerState) (input : ControllerInput) → is_restart input ≡ true → when_down c input ≡ on_restart c
+restart_rule : (c : ControllerState) (input : ControllerInput) → is_restart_input input ≡ true → when_down c input ≡ on_restart c
 restart_rule c (controller_input.Local what) h = restart_local c what h
 restart_rule c (controller_input.Of switch xid said) h = absurd cc h
 restart_rule c (controller_input.Malformed sender) h = absurd cc h
 restart_rule c (controller_input.Vr from message) h = absurd cc h
 
-drop_local : (c : ControllerState) (what : Local) → is_restart (controller_input.Local what) ≡ false → when_down c (controller_input.Local what) ≡ resting c
+drop_local : (c : ControllerState) (what : Local) → is_restart_input (controller_input.Local what) ≡ false → when_down c (controller_input.Local what) ≡ resting c
 drop_local c (local.Frame port bytes) h = refl
 drop_local c (local.Port port up) h = refl
 drop_local c local.Tick h = refl
@@ -89,7 +89,7 @@ drop_local c local.Crash h = refl
 drop_local c local.Restart h = absurd cc h
 
 -- one that is down and is told all else does nothing
-drop_rule : (c : ControllerState) (input : ControllerInput) → is_restart input ≡ false → when_down c input ≡ resting c
+drop_rule : (c : ControllerState) (input : ControllerInput) → is_restart_input input ≡ false → when_down c input ≡ resting c
 drop_rule c (controller_input.Local what) h = drop_local c what h
 drop_rule c (controller_input.Of switch xid said) h = refl
 drop_rule c (controller_input.Malformed sender) h = refl
@@ -140,7 +140,7 @@ module _ {A : Type 0} (law : AppLaw A) (kinds : List ℕ) where
       front_of (λ x. (law.kinds x ≡ kinds) × (given_by (law.kinds x) ≤ most_commands)) rest (option_to_list last) (subst (λ (l : List A). AreAlike law kinds l) items h)
 
   -- the member of a life that begins
-  pub born_is : (c : Controlling A) (life : ℕ) (a b : Acting A) (r : VrState) (out : VrOut) → Begins law a kinds c.setup → a.work.state ≡ fresh r →
+  pub born_is : (c : Controlling A) (life : ℕ) (a b : Acting A) (r : VrState) (out : VrOut) → BeginsTurn law a kinds c.setup → a.work.state ≡ fresh r →
       Stepped (restarted c.me c.setup.controllers c.promise life) r out → b ≡ with_out a out → Born law c kinds life b
   born_is c life a b r out h state did is =
       let step = restarted c.me c.setup.controllers c.promise life in
@@ -193,7 +193,7 @@ module _ {A : Type 0} (law : AppLaw A) (kinds : List ℕ) where
       (record { kept = ap (λ (x : Controlling A). x.results) new_is; pair_is = refl; faults_are = refl; state_is = ap (λ (x : Controlling A). state_of x) new_is; letters_are = letters_is }))
 
   pub act_crashed : (c : Controlling A) (a : Acting A) (input : ControllerInput) (letters : List (Letter ControllerSays)) (pair : ℕ × ℕ) (faults : ℕ) →
-      Stands law c kinds a → c.acting ≡ None → is_crash input ≡ true → letters ≡ [] →
+      Stands law c kinds a → c.acting ≡ None → is_crash_input input ≡ true → letters ≡ [] →
       Turns kinds (record c { acting = Some a }) input letters c pair pair faults faults
   act_crashed c a input letters pair faults h off crash none =
       let work = resting (down a.work.state a.work.state.vr.promise a.work.state.vr.life) in
@@ -203,10 +203,10 @@ module _ {A : Type 0} (law : AppLaw A) (kinds : List ℕ) where
       subst (λ (w : Work). Done a.work.state w w.save (state_of c) letters c.results c.results pair pair faults faults) rule
       (record { kept = refl; pair_is = refl; faults_are = refl; state_is = state; letters_are = none })
 
-  pub began_begins : (c : Controlling A) (a b : Acting A) → Stands law c kinds a → b ≡ with_state a (with_no_met_limit a.work.state) → Begins law b kinds c.setup
+  pub began_begins : (c : Controlling A) (a b : Acting A) → Stands law c kinds a → b ≡ with_state a (with_no_met_limit a.work.state) → BeginsTurn law b kinds c.setup
   began_begins c a b h is =
       let s = h.begins in
-      subst (λ (x : Acting A). Begins law x kinds c.setup) (sym is)
+      subst (λ (x : Acting A). BeginsTurn law x kinds c.setup) (sym is)
       (record {
         acts = record { valid = s.acts.valid; own = s.acts.own; reach = s.acts.reach; stands = s.acts.stands; marks = s.acts.marks; saves = s.acts.saves };
         rests = ap (λ (w : Work). record w { state = with_no_met_limit a.work.state }) s.rests;
@@ -300,7 +300,7 @@ module _ {A : Type 0} (law : AppLaw A) (kinds : List ℕ) where
 
   -- a controller as its group starts
   pub starts_controlled : (me : ℕ) (setup copied : Setup) (a : Acting A) (r : VrState) (shelf : List A) (results : List SaveResult) → copied ≡ setup → IsSetup setup → me < setup.controllers →
-      Begins law a kinds setup → a.work.state ≡ fresh r → r ≡ starting_state me setup.controllers → AreAlike law kinds shelf →
+      BeginsTurn law a kinds setup → a.work.state ≡ fresh r → r ≡ starting_state me setup.controllers → AreAlike law kinds shelf →
       Controls law (record { setup = copied; me = me; promise = 0; life = 0; acting = Some a; shelf = shelf; results = results }) kinds
   starts_controlled me setup copied a r shelf results copied_is right member begins state is alike =
       let starts : a.work.state ≡ fresh (starting_state me setup.controllers) = state ∙ ap (λ (v : VrState). fresh v) is in
@@ -359,14 +359,14 @@ module _ {A : Type 0} (law : AppLaw A) (kinds : List ℕ) where
   unfolding controller_work
   down_work c input = refl
 
-  pub turn_restarts : (c : Controlling A) (input : ControllerInput) (letters : List (Letter ControllerSays)) (new : Controlling A) (pb pa : ℕ × ℕ) (fb fa : ℕ) → c.acting ≡ None → is_restart input ≡ true →
+  pub turn_restarts : (c : Controlling A) (input : ControllerInput) (letters : List (Letter ControllerSays)) (new : Controlling A) (pb pa : ℕ × ℕ) (fb fa : ℕ) → c.acting ≡ None → is_restart_input input ≡ true →
       Restarts (record c { acting = None }) letters new pb pa fb fa → Turns kinds c input letters new pb pa fb fa
   turn_restarts c input letters new pb pa fb fa off is h =
       subst (λ (o : Option (Acting A)). Turns kinds (record c { acting = o }) input letters new pb pa fb fa) (sym off)
       (subst (λ (w : Work). Done (state_of (record c { acting = None })) w w.save (state_of new) letters c.results new.results pb pa fb fa)
       (sym (down_work c input ∙ restart_rule (state_of (record c { acting = None })) input is)) h)
 
-  pub turn_drops : (c new : Controlling A) (input : ControllerInput) (letters : List (Letter ControllerSays)) (pair : ℕ × ℕ) (faults : ℕ) → c.acting ≡ None → is_restart input ≡ false → letters ≡ [] →
+  pub turn_drops : (c new : Controlling A) (input : ControllerInput) (letters : List (Letter ControllerSays)) (pair : ℕ × ℕ) (faults : ℕ) → c.acting ≡ None → is_restart_input input ≡ false → letters ≡ [] →
       new ≡ record c { acting = None } → Turns kinds c input letters new pair pair faults faults
   turn_drops c new input letters pair faults off is none new_is =
       subst (λ (o : Option (Acting A)). Turns kinds (record c { acting = o }) input letters new pair pair faults faults) (sym off)
@@ -394,7 +394,7 @@ pub on_any_err : {X E : Type 0} (r : Result X E) (P : Type 0) → P → OnErr r 
 on_any_err (Ok x) P h = tt
 on_any_err (Err e) P h = h
 
-not_both_local : (what : Local) → is_restart (controller_input.Local what) ≡ true → is_crash (controller_input.Local what) ≡ false
+not_both_local : (what : Local) → is_restart_input (controller_input.Local what) ≡ true → is_crash_input (controller_input.Local what) ≡ false
 not_both_local (local.Frame port bytes) h = absurd cc h
 not_both_local (local.Port port up) h = absurd cc h
 not_both_local local.Tick h = absurd cc h
@@ -403,7 +403,7 @@ not_both_local local.Crash h = absurd cc h
 not_both_local local.Restart h = refl
 
 -- a restart is no crash
-pub not_both : (input : ControllerInput) → is_restart input ≡ true → is_crash input ≡ false
+pub not_both : (input : ControllerInput) → is_restart_input input ≡ true → is_crash_input input ≡ false
 not_both (controller_input.Local what) h = not_both_local what h
 not_both (controller_input.Of switch xid said) h = absurd cc h
 not_both (controller_input.Malformed sender) h = absurd cc h
@@ -412,17 +412,17 @@ not_both (controller_input.Vr from message) h = absurd cc h
 module _ {A : Type 0} (c : Controlling A) (input : ControllerInput) where
   -- no life begins where one is not down
   pub awake_begins : (a : Acting A) → c.acting ≡ Some a → begins_life c input ≡ false
-  awake_begins a is = ap (λ (o : Option (Acting A)). is_none o && is_restart input && nat_lt c.life last_life) is
+  awake_begins a is = ap (λ (o : Option (Acting A)). is_none o && is_restart_input input && nat_lt c.life last_life) is
 
   -- nor at another input
-  pub dropped_begins : c.acting ≡ None → is_restart input ≡ false → begins_life c input ≡ false
+  pub dropped_begins : c.acting ≡ None → is_restart_input input ≡ false → begins_life c input ≡ false
   dropped_begins off told =
-      ap (λ (o : Option (Acting A)). is_none o && is_restart input && nat_lt c.life last_life) off ∙ ap (λ (b : Bool). b && nat_lt c.life last_life) told
+      ap (λ (o : Option (Acting A)). is_none o && is_restart_input input && nat_lt c.life last_life) off ∙ ap (λ (b : Bool). b && nat_lt c.life last_life) told
 
   -- one does at a restart, where there is one
-  pub restart_begins : c.acting ≡ None → is_restart input ≡ true → begins_life c input ≡ nat_lt c.life last_life
+  pub restart_begins : c.acting ≡ None → is_restart_input input ≡ true → begins_life c input ≡ nat_lt c.life last_life
   restart_begins off told =
-      ap (λ (o : Option (Acting A)). is_none o && is_restart input && nat_lt c.life last_life) off ∙ ap (λ (b : Bool). b && nat_lt c.life last_life) told
+      ap (λ (o : Option (Acting A)). is_none o && is_restart_input input && nat_lt c.life last_life) off ∙ ap (λ (b : Bool). b && nat_lt c.life last_life) told
 
 module _ {A : Type 0} (law : AppLaw A) where
   -- the shelf of one that was told to restart

@@ -10,10 +10,10 @@ use Rattle.of_types.specs.declared.message.Event.{Event}
 use Rattle.app_core.specs.Law.{AppLaw}
 use Rattle.dispatcher.specs.declared.answers.Wish.{Wish}
 use Rattle.dispatcher.specs.declared.answers.Wish.TheVariants.{Propose, Acknowledge, Nothing}
-use Rattle.group_controller.specs.Acting.{Acting, Acts, Begins, posts, Works}
+use Rattle.group_controller.specs.Acting.{Acting, Acts, BeginsTurn, posts_letters, Works}
 use Rattle.group_controller.specs.Rules.{after_step, has_started, on_event, on_wish, starting_view}
 use Rattle.group_controller.specs.Settling.{after_finishing, settling, ack_letter, after_proposal, goes_on}
-use Rattle.group_controller.specs.State.{Work, committed, posting, resting, stepped}
+use Rattle.group_controller.specs.State.{Work, committed, posting_work, resting, stepped}
 use Rattle.group_controller.proofs.Acting.{does_as, posts_does, stays, then_does}
 
 module _ {A : Type 0} (law : AppLaw A) (kinds : List ℕ) (setup : Setup) where
@@ -27,7 +27,7 @@ module _ {A : Type 0} (law : AppLaw A) (kinds : List ℕ) (setup : Setup) where
   event_rule : (a : Acting A) (event : Event) (w : Wish) → wish a.work.state.vr.log (committed a.work.state) event ≡ w → on_event kinds setup a.work.state event ≡ on_wish kinds setup a.work.state event w
   event_rule a event w is = ap (λ (x : Wish). on_wish kinds setup a.work.state event x) is
 
-  pub event_more : (a b n : Acting A) (event : Event) → Begins law a kinds setup → wish a.work.state.vr.log (committed a.work.state) event ≡ Propose → goes_on a.work.state (Received event) ≡ true →
+  pub event_more : (a b n : Acting A) (event : Event) → BeginsTurn law a kinds setup → wish a.work.state.vr.log (committed a.work.state) event ≡ Propose → goes_on a.work.state (Received event) ≡ true →
       Does a (after_proposal kinds setup a.work (Received event)) b → Does b (after_finishing kinds setup b.work) n → Does a (on_event kinds setup a.work.state event) n
   event_more a b n event h is again first rest =
       let c = a.work.state in
@@ -37,7 +37,7 @@ module _ {A : Type 0} (law : AppLaw A) (kinds : List ℕ) (setup : Setup) where
       (ap (λ (w : Work). after_finishing kinds setup w) left ∙ sym (event_rule a event Propose is ∙ ap (λ (b : Bool). if b then after_finishing kinds setup next else next) again))
       (then_does law kinds setup a b n (after_proposal kinds setup a.work (Received event)) (after_finishing kinds setup b.work) first rest)
 
-  pub event_last : (a b : Acting A) (event : Event) → Begins law a kinds setup → wish a.work.state.vr.log (committed a.work.state) event ≡ Propose → goes_on a.work.state (Received event) ≡ false →
+  pub event_last : (a b : Acting A) (event : Event) → BeginsTurn law a kinds setup → wish a.work.state.vr.log (committed a.work.state) event ≡ Propose → goes_on a.work.state (Received event) ≡ false →
       Does a (after_proposal kinds setup a.work (Received event)) b → Does a (on_event kinds setup a.work.state event) b
   event_last a b event h is again first =
       let c = a.work.state in
@@ -45,13 +45,13 @@ module _ {A : Type 0} (law : AppLaw A) (kinds : List ℕ) (setup : Setup) where
       does_as law kinds setup a b (after_proposal kinds setup a.work (Received event)) (on_event kinds setup c event)
       (ap (λ (w : Work). after_proposal kinds setup w (Received event)) h.rests ∙ sym (event_rule a event Propose is ∙ ap (λ (b : Bool). if b then after_finishing kinds setup next else next) again)) first
 
-  pub event_acknowledged : (a b : Acting A) (event : Event) (through : ℕ) → Begins law a kinds setup → wish a.work.state.vr.log (committed a.work.state) event ≡ Acknowledge through →
-      b ≡ posts a (ack_letter (record { switch = event.switch; life = event.life; through = through }) ∷ []) → Does a (on_event kinds setup a.work.state event) b
+  pub event_acknowledged : (a b : Acting A) (event : Event) (through : ℕ) → BeginsTurn law a kinds setup → wish a.work.state.vr.log (committed a.work.state) event ≡ Acknowledge through →
+      b ≡ posts_letters a (ack_letter (record { switch = event.switch; life = event.life; through = through }) ∷ []) → Does a (on_event kinds setup a.work.state event) b
   event_acknowledged a b event through h is sent =
       let letters = ack_letter (record { switch = event.switch; life = event.life; through = through }) ∷ [] in
-      does_as law kinds setup a b (posting a.work letters) (on_event kinds setup a.work.state event) (ap (λ (w : Work). posting w letters) h.rests ∙ sym (event_rule a event (Acknowledge through) is)) (posts_does law kinds setup a b letters h.acts sent)
+      does_as law kinds setup a b (posting_work a.work letters) (on_event kinds setup a.work.state event) (ap (λ (w : Work). posting_work w letters) h.rests ∙ sym (event_rule a event (Acknowledge through) is)) (posts_does law kinds setup a b letters h.acts sent)
 
-  pub event_nothing : (a : Acting A) (event : Event) → Begins law a kinds setup → wish a.work.state.vr.log (committed a.work.state) event ≡ Nothing → Does a (on_event kinds setup a.work.state event) a
+  pub event_nothing : (a : Acting A) (event : Event) → BeginsTurn law a kinds setup → wish a.work.state.vr.log (committed a.work.state) event ≡ Nothing → Does a (on_event kinds setup a.work.state event) a
   event_nothing a event h is = does_as law kinds setup a a a.work (on_event kinds setup a.work.state event) (h.rests ∙ sym (event_rule a event Nothing is)) (stays law kinds setup a h.acts)
 
   -- a step of the member, whether it leads or not

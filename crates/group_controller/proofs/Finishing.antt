@@ -13,10 +13,10 @@ use Rattle.dispatcher.specs.Folding.{places_processed}
 use Rattle.dispatcher.specs.Ledger.{handled_at}
 use Rattle.of_types.specs.declared.message.Event.{Event}
 use Rattle.dispatcher.specs.Marks.{is_finished, no_marks, wanted, is_confirmed, outstanding}
-use Rattle.group_controller.specs.Acting.{AreNew}
+use Rattle.group_controller.specs.Acting.{AreNewlyHandled}
 use Rattle.group_controller.specs.Rules.{has_started}
 use Rattle.group_controller.specs.Settling.{finishing, is_settled, processing, after_proposal, goes_on, is_alone, with_answers, command_letters, is_untold, with_commands, with_proposal}
-use Rattle.group_controller.specs.State.{ControllerState, Work, committed, met_limit, posting, leaving}
+use Rattle.group_controller.specs.State.{ControllerState, Work, committed, met_limit, posting_work, leaving}
 
 -- a choice has what both sides have
 either : {A : Type 0} (P : A → Type 0) (b : Bool) (x y : A) → (b ≡ true → P x) → (b ≡ false → P y) → P (if b then x else y)
@@ -76,7 +76,7 @@ module _ (kinds : List ℕ) (setup : Setup) where
   vr_with_commands : (w : Work) → (with_commands kinds setup w).state.vr ≡ w.state.vr
   vr_with_commands w =
       either (λ (x : Work). x.state.vr ≡ w.state.vr) (is_untold w.state)
-      (leaving (posting w (command_letters kinds setup w.state (outstanding kinds setup (committed w.state) w.state.marks))) (record w.state { last_told = Some (processed (committed w.state)) })) w (λ _. refl) (λ _. refl)
+      (leaving (posting_work w (command_letters kinds setup w.state (outstanding kinds setup (committed w.state) w.state.marks))) (record w.state { last_told = Some (processed (committed w.state)) })) w (λ _. refl) (λ _. refl)
 
   pub leads_with_commands : (w : Work) → leads (with_commands kinds setup w).state.vr ≡ leads w.state.vr
   leads_with_commands w = ap (λ (s : VrState). leads s) (vr_with_commands w)
@@ -119,7 +119,7 @@ module _ (kinds : List ℕ) (setup : Setup) where
       ap (λ (b : Bool). if not b then w else if goes_on w.state (processing w.state) then finishing more kinds setup next else next) on
       ∙ ap (λ (b : Bool). if b then finishing more kinds setup next else next) again
 
-  pub none_new : (c : ControllerState) → AreNew kinds setup c c.vr.commit []
+  pub none_new : (c : ControllerState) → AreNewlyHandled kinds setup c c.vr.commit []
   none_new c = ap (λ (l : List Entry). map (handled_at kinds setup (committed c)) (places_processed l)) (drop_taken c.vr.commit c.vr.log)
 
 pub filter_all : (xs : List ℕ) → filter (λ s. not (is_confirmed no_marks s)) xs ≡ xs

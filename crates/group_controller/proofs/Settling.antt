@@ -17,10 +17,10 @@ use Rattle.dispatcher.specs.Folding.{places_processed}
 use Rattle.dispatcher.specs.Ledger.{Dispatching, ForEachLog, StandsFor}
 use Rattle.dispatcher.specs.Marks.{Marks, no_marks}
 use Rattle.group_controller.specs.declared.messages.ControllerSays.{ControllerSays}
-use Rattle.group_controller.specs.Acting.{Acting, Acts, ActsUpTo, answers_to, AreNew, posts, with_state, Works}
+use Rattle.group_controller.specs.Acting.{Acting, Acts, ActsUpTo, answers_to, AreNewlyHandled, posts_letters, with_state, Works}
 use Rattle.group_controller.specs.Rules.{starting_view, switches, unconfirmed}
 use Rattle.group_controller.specs.Settling.{after_finishing, finishing, is_settled, processing, settling, after_proposal, answers_at, goes_on, is_alone, with_answers, role_letter, with_commands, with_proposal}
-use Rattle.group_controller.specs.State.{ControllerState, Work, committed, met_limit, posting, leaving}
+use Rattle.group_controller.specs.State.{ControllerState, Work, committed, met_limit, posting_work, leaving}
 use Rattle.group_controller.proofs.Acting.{Proposing, does_as, posts_does, stays, then_does}
 use Rattle.group_controller.proofs.Answering.{answers_new}
 use Rattle.group_controller.proofs.Finishing.{filter_all, finishing_last, finishing_more, finishing_none, finishing_rests}
@@ -38,11 +38,11 @@ module _ {A : Type 0} (law : AppLaw A) (kinds : List ℕ) (setup : Setup) where
       record { acts = h; work_is = work; saved = None; lasts = subst (λ (w : Work). Lasts a.work.state.vr None w.state.vr) (sym work) (lasts_same a.work.state.vr); promise_is = promise }
 
   -- events that are newly processed were answered
-  pub answers_do : (f b : Acting A) (before : ℕ) (list : List Handled) → IsActing f → AreNew kinds setup f.work.state before list → b ≡ posts f (flat_map (answers_to kinds setup f.work.state) list) →
+  pub answers_do : (f b : Acting A) (before : ℕ) (list : List Handled) → IsActing f → AreNewlyHandled kinds setup f.work.state before list → b ≡ posts_letters f (flat_map (answers_to kinds setup f.work.state) list) →
       Does f (with_answers kinds setup before f.work) b
   answers_do f b before list h new is =
       posts_does law kinds setup f b (flat_map (answers_at kinds setup f.work.state) (places_processed (drop before (committed f.work.state)))) h
-      (is ∙ ap (λ (l : List (Letter ControllerSays)). posts f l) (answers_new kinds setup f.work.state before list new))
+      (is ∙ ap (λ (l : List (Letter ControllerSays)). posts_letters f l) (answers_new kinds setup f.work.state before list new))
 
   pub follow_does : (a f b n : Acting A) (before : ℕ) → Does a a.work f → Does f (with_answers kinds setup before f.work) b → Does b (with_commands kinds setup b.work) n →
       Does a (with_commands kinds setup (with_answers kinds setup before a.work)) n
@@ -163,21 +163,21 @@ module _ {A : Type 0} (law : AppLaw A) (kinds : List ℕ) (setup : Setup) where
   -- a view starts
   pub begin_does : (a b c n : Acting A) (d : Dispatching A) → IsActing a → d.marks ≡ no_marks → ForEachLog (StandsFor law a.dispatcher) (StandsFor law d) →
       b ≡ record a { work = record a.work { state = record a.work.state { marks = d.marks; last_told = None } }; dispatcher = d } →
-      c ≡ posts b (map (role_letter b.work.state.vr.view) (unconfirmed setup b.work.state)) → Does c (settling kinds setup c.work.state.vr.commit c.work) n → Does a (starting_view kinds setup a.work) n
+      c ≡ posts_letters b (map (role_letter b.work.state.vr.view) (unconfirmed setup b.work.state)) → Does c (settling kinds setup c.work.state.vr.commit c.work) n → Does a (starting_view kinds setup a.work) n
   begin_does a b c n d h marks still is asked settled =
       let s : ControllerState = record a.work.state { marks = no_marks; last_told = None } in
       let first : Acting A = record a { work = leaving a.work s; dispatcher = d } in
       let begins : b ≡ first = is ∙ ap (λ (m : Marks). record a { work = leaving a.work (record a.work.state { marks = m; last_told = None }); dispatcher = d }) marks in
       let acts : IsActing first = record { valid = h.valid; own = h.own; reach = h.reach; stands = still kinds setup (committed a.work.state) h.stands; marks = sym marks; saves = h.saves } in
       let letters = map (role_letter a.work.state.vr.view) (switches setup) in
-      let all : c ≡ posts first letters =
-      asked ∙ ap (λ (x : Acting A). posts x (map (role_letter x.work.state.vr.view) (unconfirmed setup x.work.state))) begins
-      ∙ ap (λ (l : List ℕ). posts first (map (role_letter a.work.state.vr.view) l)) (filter_all (switches setup)) in
+      let all : c ≡ posts_letters first letters =
+      asked ∙ ap (λ (x : Acting A). posts_letters x (map (role_letter x.work.state.vr.view) (unconfirmed setup x.work.state))) begins
+      ∙ ap (λ (l : List ℕ). posts_letters first (map (role_letter a.work.state.vr.view) l)) (filter_all (switches setup)) in
       let second = posts_does law kinds setup first c letters acts all in
       let left : Does a (leaving a.work s) first = record { acts = acts; work_is = refl; saved = None; lasts = lasts_same a.work.state.vr; promise_is = refl } in
       does_as law kinds setup a n (settling kinds setup c.work.state.vr.commit c.work) (starting_view kinds setup a.work)
       (ap (λ (w : Work). settling kinds setup w.state.vr.commit w) second.work_is)
-      (then_does law kinds setup a first n (leaving a.work s) (settling kinds setup c.work.state.vr.commit c.work) left (then_does law kinds setup first c n (posting first.work letters) (settling kinds setup c.work.state.vr.commit c.work) second settled))
+      (then_does law kinds setup a first n (leaving a.work s) (settling kinds setup c.work.state.vr.commit c.work) left (then_does law kinds setup first c n (posting_work first.work letters) (settling kinds setup c.work.state.vr.commit c.work) second settled))
 
   pub begun_acts : (a b : Acting A) (d : Dispatching A) → IsActing a → ForEachLog (StandsFor law a.dispatcher) (StandsFor law d) →
       b ≡ record a { work = record a.work { state = record a.work.state { marks = d.marks; last_told = None } }; dispatcher = d } → IsActing b

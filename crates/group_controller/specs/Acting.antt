@@ -6,7 +6,7 @@ use Rattle.journal.specs.declared.journal.Letter.{Letter}
 use Rattle.vr_log.specs.declared.state.VrOut.{VrOut}
 use Rattle.vr_log.specs.Log.{received}
 use Rattle.vr_log.specs.Steps.{later_of}
-use Rattle.vr_log.specs.Valid.{IsValid}
+use Rattle.vr_log.specs.Valid.{IsValidState}
 use Rattle.vr_core.specs.Lasting.{CollectsItsOwn, Lasts}
 use Rattle.app_core.specs.Law.{AppLaw}
 use Rattle.dispatcher.specs.declared.answers.Handled.{Handled}
@@ -15,7 +15,7 @@ use Rattle.dispatcher.specs.Folding.{acknowledgement, clears, places_processed}
 use Rattle.dispatcher.specs.Ledger.{AreHandledAt, Dispatching, StandsFor}
 use Rattle.group_controller.specs.declared.messages.ControllerSays.{ControllerSays}
 use Rattle.group_controller.specs.Settling.{ack_letter, clear_letter}
-use Rattle.group_controller.specs.State.{ControllerState, Work, committed, posting, resting, to_members}
+use Rattle.group_controller.specs.State.{ControllerState, Work, committed, posting_work, resting, to_members}
 
 -- the turn as far as it was done, the promise that is to be saved, and the dispatcher
 pub record Acting (A : Type 0) : Type 0 where
@@ -28,8 +28,8 @@ abbrev pub pair_with : ℕ → Option ℕ → Option (ℕ × ℕ)
 pair_with life promise = option_map (λ p. (p, life)) promise
 
 -- letters go behind those that are there
-abbrev pub posts : {A : Type 0} → Acting A → List (Letter ControllerSays) → Acting A
-posts a letters = record a { work = posting a.work letters }
+abbrev pub posts_letters : {A : Type 0} → Acting A → List (Letter ControllerSays) → Acting A
+posts_letters a letters = record a { work = posting_work a.work letters }
 
 abbrev pub with_state : {A : Type 0} → Acting A → ControllerState → Acting A
 with_state a state = record a { work = record a.work { state = state } }
@@ -50,13 +50,13 @@ abbrev pub answers_to : List ℕ → Setup → ControllerState → Handled → L
 answers_to kinds setup c h = map ack_letter (acknowledges_of c h) ++ map clear_letter (clears kinds setup (committed c) h.commands)
 
 -- these were newly committed as processed, behind so many entries
-abbrev pub AreNew : List ℕ → Setup → ControllerState → ℕ → List Handled → Type 0
-AreNew kinds setup c before handled = AreHandledAt kinds setup (committed c) (places_processed (drop before (committed c))) handled
+abbrev pub AreNewlyHandled : List ℕ → Setup → ControllerState → ℕ → List Handled → Type 0
+AreNewlyHandled kinds setup c before handled = AreHandledAt kinds setup (committed c) (places_processed (drop before (committed c))) handled
 
 -- The member is valid, and the dispatcher stands for its log up to a place.
 pub record ActsUpTo {A : Type 0} (law : AppLaw A)
     (place : ℕ) (a : Acting A) (kinds : List ℕ) (setup : Setup) : Type 0 where
-  pub valid : IsValid a.work.state.vr
+  pub valid : IsValidState a.work.state.vr
   pub own : CollectsItsOwn a.work.state.vr
   pub reach : place ≤ a.work.state.vr.commit
   pub stands : StandsFor law a.dispatcher kinds setup (take place a.work.state.vr.log)
@@ -68,7 +68,7 @@ abbrev pub Acts : {A : Type 0} → AppLaw A → Acting A → List ℕ → Setup 
 Acts law a kinds setup = ActsUpTo law a.work.state.vr.commit a kinds setup
 
 -- the turn begins: nothing is saved or posted
-pub record Begins {A : Type 0} (law : AppLaw A)
+pub record BeginsTurn {A : Type 0} (law : AppLaw A)
     (a : Acting A) (kinds : List ℕ) (setup : Setup) : Type 0 where
   pub acts : Acts law a kinds setup
   pub rests : a.work ≡ resting a.work.state

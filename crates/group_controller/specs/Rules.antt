@@ -25,12 +25,12 @@ use Rattle.vr_core.specs.declared.input.VrInput.TheVariants as vr_input
 use Rattle.vr_core.specs.Step.{vr_step}
 use Rattle.dispatcher.specs.declared.answers.Wish.{Wish}
 use Rattle.dispatcher.specs.declared.answers.Wish.TheVariants.{Propose, Acknowledge, Nothing}
-use Rattle.dispatcher.specs.Marks.{no_marks, is_confirmed, confirmed_by, off_role, is_pending, with_result, outstanding}
+use Rattle.dispatcher.specs.Marks.{no_marks, is_confirmed, confirmed_by, off_role, is_pending, with_marked_result, outstanding}
 use Rattle.dispatcher.specs.Folding.{wish}
 use Rattle.group_controller.specs.declared.messages.ControllerInput.{ControllerInput}
 use Rattle.group_controller.specs.declared.messages.ControllerInput.TheVariants as controller_input
 use Rattle.group_controller.specs.declared.messages.ControllerSays.{ControllerSays}
-use Rattle.group_controller.specs.State.{ControllerState, Work, committed, with_no_met_limit, down, fresh, resting, posting, leaving, stepped, to_switch}
+use Rattle.group_controller.specs.State.{ControllerState, Work, committed, with_no_met_limit, down, fresh, resting, posting_work, leaving, stepped, to_switch}
 use Rattle.group_controller.specs.Settling.{role_letter, command_letters, ack_letter, settling, after_finishing, proposing}
 
 -- the numbers of the switches
@@ -46,7 +46,7 @@ has_started old new = leads new && not (leads old && nat_eq old.view new.view)
 abbrev pub starting_view : List ℕ → Setup → Work → Work
 starting_view kinds setup work =
     let c = record work.state { marks = no_marks; last_told = None } in
-    settling kinds setup c.vr.commit (posting (leaving work c) (map (role_letter c.vr.view) (switches setup)))
+    settling kinds setup c.vr.commit (posting_work (leaving work c) (map (role_letter c.vr.view) (switches setup)))
 
 -- a step of the member: a primary settles where it started a view, and where more is committed
 unfoldable pub after_step : List ℕ → Setup → ControllerState → VrStep → Work
@@ -66,13 +66,13 @@ tick_letters kinds setup c =
 
 abbrev pub on_tick : List ℕ → Setup → ControllerState → Work
 on_tick kinds setup c =
-    posting (stepped c (vr_step c.vr vr_input.Tick)) (if leads c.vr then tick_letters kinds setup c else [])
+    posting_work (stepped c (vr_step c.vr vr_input.Tick)) (if leads c.vr then tick_letters kinds setup c else [])
 
 -- an event comes: one that may follow is proposed, and one that was processed is acknowledged
 abbrev pub on_wish : List ℕ → Setup → ControllerState → Event → Wish → Work
 on_wish kinds setup c event Propose = proposing kinds setup c (Received event)
 on_wish kinds setup c event (Acknowledge through) =
-    posting (resting c) (ack_letter (record { switch = event.switch; life = event.life; through = through }) ∷ [])
+    posting_work (resting c) (ack_letter (record { switch = event.switch; life = event.life; through = through }) ∷ [])
 on_wish kinds setup c event Nothing = resting c
 
 abbrev pub on_event : List ℕ → Setup → ControllerState → Event → Work
@@ -82,7 +82,7 @@ on_event kinds setup c event = on_wish kinds setup c event (wish c.vr.log (commi
 abbrev pub on_result : List ℕ → Setup → ControllerState → ℕ → ℕ → ℕ → Work
 on_result kinds setup c switch life number =
     if is_pending kinds setup (committed c) switch life number
-    then after_finishing kinds setup (resting (record c { marks = with_result kinds setup (committed c) c.marks switch life number }))
+    then after_finishing kinds setup (resting (record c { marks = with_marked_result kinds setup (committed c) c.marks switch life number }))
     else resting c
 
 -- a switch takes this controller as master: it gets its commands
@@ -92,7 +92,7 @@ commands_for kinds setup c switch =
 
 abbrev pub on_master : List ℕ → Setup → ControllerState → ℕ → Work
 on_master kinds setup c switch =
-    let now = record c { marks = confirmed_by c.marks switch } in posting (resting now) (commands_for kinds setup now switch)
+    let now = record c { marks = confirmed_by c.marks switch } in posting_work (resting now) (commands_for kinds setup now switch)
 
 abbrev pub on_role_reply : List ℕ → Setup → ControllerState → ℕ → ℕ → ℕ → Work
 on_role_reply kinds setup c switch role generation =
@@ -100,7 +100,7 @@ on_role_reply kinds setup c switch role generation =
 
 -- a switch greets: it may have lost its state, and is asked again
 abbrev pub on_hello : ControllerState → ℕ → Work
-on_hello c switch = posting (resting (record c { marks = off_role c.marks switch })) (role_letter c.vr.view switch ∷ [])
+on_hello c switch = posting_work (resting (record c { marks = off_role c.marks switch })) (role_letter c.vr.view switch ∷ [])
 
 -- a message of OpenFlow to a primary
 abbrev pub on_plain : List ℕ → Setup → ControllerState → ℕ → OfMessage → Work
@@ -121,7 +121,7 @@ on_spoken kinds setup c switch (spoken.Ravana message) = on_extension kinds setu
 
 abbrev pub on_echo : ControllerState → ℕ → ℕ → List ℕ → Work
 on_echo c switch xid body =
-    if is_up c.vr then posting (resting c) (to_switch switch xid (spoken.Plain (plain.EchoReply body)) ∷ []) else resting c
+    if is_up c.vr then posting_work (resting c) (to_switch switch xid (spoken.Plain (plain.EchoReply body)) ∷ []) else resting c
 
 -- each controller that is up answers an ECHO_REQUEST. All else from a switch is for a primary
 abbrev pub on_switch : List ℕ → Setup → ControllerState → ℕ → ℕ → Spoken → Work
@@ -157,13 +157,13 @@ on_input kinds setup c (controller_input.Of switch xid said) = on_switch kinds s
 on_input kinds setup c (controller_input.Malformed sender) = resting c
 on_input kinds setup c (controller_input.Vr from message) = after_step kinds setup c (vr_step c.vr (vr_input.From from message))
 
-abbrev pub is_crash : ControllerInput → Bool
-is_crash (controller_input.Local what) = life.is_crash what
-is_crash _ = false
+abbrev pub is_crash_input : ControllerInput → Bool
+is_crash_input (controller_input.Local what) = life.is_crash what
+is_crash_input _ = false
 
-abbrev pub is_restart : ControllerInput → Bool
-is_restart (controller_input.Local what) = life.is_restart what
-is_restart _ = false
+abbrev pub is_restart_input : ControllerInput → Bool
+is_restart_input (controller_input.Local what) = life.is_restart what
+is_restart_input _ = false
 
 -- one that is down drops all but a restart
 abbrev pub when_down : ControllerState → ControllerInput → Work

@@ -20,7 +20,7 @@ use Rattle.dispatcher.specs.declared.answers.Through.{Through}
 use Rattle.dispatcher.specs.Marks.{outstanding, is_finished}
 use Rattle.dispatcher.specs.Folding.{numbered, acknowledges_at, clears_at, places_processed}
 use Rattle.group_controller.specs.declared.messages.ControllerSays.{ControllerSays}
-use Rattle.group_controller.specs.State.{ControllerState, Work, committed, met_limit, resting, posting, leaving, to_switch, to_members}
+use Rattle.group_controller.specs.State.{ControllerState, Work, committed, met_limit, resting, posting_work, leaving, to_switch, to_members}
 
 -- a switch is asked to take this controller as master
 abbrev pub role_letter : ℕ → ℕ → Letter ControllerSays
@@ -48,7 +48,7 @@ answers_at kinds setup c j =
 -- Settle, first step: what was newly committed as processed, behind so many entries, is answered
 abbrev pub with_answers : List ℕ → Setup → ℕ → Work → Work
 with_answers kinds setup before work =
-    posting work (flat_map (answers_at kinds setup work.state) (places_processed (drop before (committed work.state))))
+    posting_work work (flat_map (answers_at kinds setup work.state) (places_processed (drop before (committed work.state))))
 
 -- Settle, second step: the commands of the first unprocessed event go out, where they were not the last that did in
 -- this view
@@ -59,7 +59,7 @@ abbrev pub with_commands : List ℕ → Setup → Work → Work
 with_commands kinds setup work =
     let c = work.state in
     if is_untold c
-    then leaving (posting work (command_letters kinds setup c (outstanding kinds setup (committed c) c.marks)))
+    then leaving (posting_work work (command_letters kinds setup c (outstanding kinds setup (committed c) c.marks)))
     (record c { last_told = Some (processed (committed c)) })
     else work
 
@@ -67,7 +67,7 @@ with_commands kinds setup work =
 abbrev pub with_proposal : Work → Entry → Work
 with_proposal work entry =
     let step = proposed work.state.vr entry in
-    posting (leaving work (record work.state { vr = step.state })) (to_members step.letters)
+    posting_work (leaving work (record work.state { vr = step.state })) (to_members step.letters)
 
 -- the first unprocessed event is finished, and not yet proposed as processed
 abbrev pub is_settled : List ℕ → Setup → ControllerState → Bool

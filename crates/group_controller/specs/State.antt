@@ -55,8 +55,8 @@ abbrev pub resting : ControllerState → Work
 resting c = record { state = c; save = None; letters = [] }
 
 -- letters go behind those that are there
-abbrev pub posting : Work → List (Letter ControllerSays) → Work
-posting work letters = record work { letters = work.letters ++ letters }
+abbrev pub posting_work : Work → List (Letter ControllerSays) → Work
+posting_work work letters = record work { letters = work.letters ++ letters }
 
 abbrev pub leaving : Work → ControllerState → Work
 leaving work state = record work { state = state }

@@ -17,8 +17,8 @@ use Rattle.app_core.specs.Law.{AppLaw}
 use Rattle.dispatcher.specs.Ledger.{most_commands}
 use Rattle.group_controller.specs.declared.messages.ControllerInput.{ControllerInput}
 use Rattle.group_controller.specs.declared.messages.ControllerSays.{ControllerSays}
-use Rattle.group_controller.specs.Acting.{Acting, Acts, Begins}
-use Rattle.group_controller.specs.Rules.{controller_work, is_restart, on_restart}
+use Rattle.group_controller.specs.Acting.{Acting, Acts, BeginsTurn}
+use Rattle.group_controller.specs.Rules.{controller_work, is_restart_input, on_restart}
 use Rattle.group_controller.specs.State.{ControllerState, Work, down, fresh, resting, stepped}
 
 -- what contracts see of a controller: its setup and its number, its stable pair, its turn where it is not down, the
@@ -51,7 +51,7 @@ KnowsPair old new pair_before pair_after = pair_before ≡ (old.promise, old.lif
 -- A member between two turns: its stable pair is the controller's.
 pub record Stands {A : Type 0} (law : AppLaw A)
     (c : Controlling A) (kinds : List ℕ) (a : Acting A) : Type 0 where
-  pub begins : Begins law a kinds c.setup
+  pub begins : BeginsTurn law a kinds c.setup
   pub me : a.work.state.vr.me ≡ c.me
   pub controllers : a.work.state.vr.controllers ≡ c.setup.controllers
   pub promise : a.work.state.vr.promise ≡ c.promise
@@ -88,10 +88,10 @@ left_by Saved c work saved = work.state
 left_by KeptOld c work saved = down c c.vr.promise c.vr.life
 left_by KeptNew c work saved = down c saved.0 saved.1
 
-abbrev pub posted_by : SaveResult → Work → List (Letter ControllerSays)
-posted_by Saved work = work.letters
-posted_by KeptOld work = []
-posted_by KeptNew work = []
+abbrev pub letters_posted_by : SaveResult → Work → List (Letter ControllerSays)
+letters_posted_by Saved work = work.letters
+letters_posted_by KeptOld work = []
+letters_posted_by KeptNew work = []
 
 -- The work of a rule was done: what it wants to be saved was saved first, once, and the result is kept.
 pub record SavedFirst (c : ControllerState) (work : Work) (saved : ℕ × ℕ) (state : ControllerState) (letters : List (Letter ControllerSays))
@@ -100,7 +100,7 @@ pub record SavedFirst (c : ControllerState) (work : Work) (saved : ℕ × ℕ) (
   pub kept : new ≡ old ++ result ∷ []
   pub saves : Saves result saved pair_before pair_after before after
   pub state_is : state ≡ left_by result c work saved
-  pub letters_are : letters ≡ posted_by result work
+  pub letters_are : letters ≡ letters_posted_by result work
 
 -- nothing was saved
 pub record Unsaved (work : Work) (state : ControllerState) (letters : List (Letter ControllerSays))
@@ -143,7 +143,7 @@ pub record SavesAndKeeps {A : Type 0} (a : Acting A) (saved : ℕ × ℕ) (lette
     results = old.results ++ result ∷ [];
     acting = acting_by result a;
   }
-  pub letters_are : letters ≡ posted_by result a.work
+  pub letters_are : letters ≡ letters_posted_by result a.work
 
 -- the member of a life that begins: nothing is committed, and it asks the others
 pub record Born {A : Type 0} (law : AppLaw A)
@@ -159,7 +159,7 @@ Restarts old letters new pair_before pair_after before after =
 
 -- one that is down is told to restart, and a life is left to it
 abbrev pub begins_life : {A : Type 0} → Controlling A → ControllerInput → Bool
-begins_life c input = is_none c.acting && is_restart input && nat_lt c.life last_life
+begins_life c input = is_none c.acting && is_restart_input input && nat_lt c.life last_life
 
 -- the next application was taken from the shelf of later lives, where it stood last
 abbrev pub TakesOne : {A : Type 0} → List A → List A → Type 0

@@ -4,11 +4,11 @@ ghost use Rattle.of_types.specs.declared.setup.Setup.{Setup};
 ghost use Rattle.of_types.specs.Setups.{IsSetup};
 ghost use Rattle.vr_log.specs.Log.{may_follow};
 ghost use Rattle.vr_log.specs.Members as members;
-ghost use Rattle.vr_log.specs.Valid.{IsValid};
+ghost use Rattle.vr_log.specs.Valid.{IsValidState};
 ghost use Rattle.vr_core.specs.Lasting.{CollectsItsOwn};
 ghost use Rattle.vr_core.specs.Step.{vr_step};
 ghost use Rattle.dispatcher.specs.Ledger.{most_commands};
-ghost use Rattle.group_controller.specs.Acting.{Acts, ActsUpTo, answers_to, AreNew, Begins, ForEachGroup, InSomeGroup, posts, with_out, with_state, Works};
+ghost use Rattle.group_controller.specs.Acting.{Acts, ActsUpTo, answers_to, AreNewlyHandled, BeginsTurn, ForEachGroup, InSomeGroup, posts_letters, with_out, with_state, Works};
 ghost use Rattle.group_controller.specs.Rules as rules;
 ghost use Rattle.group_controller.specs.Rules.{after_step, starting_view, unconfirmed};
 ghost use Rattle.group_controller.specs.Settling as settling;
@@ -90,10 +90,10 @@ impl<A: App> Active<A> {
     ) -> Result<Active<A>, AllocError>
         requires setup { IsSetup setup.now }
         requires few { given_by (A.law.kinds app) ≤ most_commands }
-        requires valid { IsValid replica }
+        requires valid { IsValidState replica }
         requires own { CollectsItsOwn replica }
         requires none { replica.commit ≡ 0 }
-        ensures begins { IfOk result (λ a. Begins A.law a (A.law.kinds app) setup.now) }
+        ensures begins { IfOk result (λ a. BeginsTurn A.law a (A.law.kinds app) setup.now) }
         ensures state { IfOk result (λ a. a.work.state ≡ fresh replica) }
     {
         let mut app = app;
@@ -109,7 +109,7 @@ impl<A: App> Active<A> {
     }
 
     fn post(&mut self, letter: Letter<ControllerSays>) -> Result<(), AllocError>
-        ensures { OnOk result (self.new ≡ posts self.old (letter ∷ [])) }
+        ensures { OnOk result (self.new ≡ posts_letters self.old (letter ∷ [])) }
     {
         self.letters.push(letter)?;
         Ok(())
@@ -127,10 +127,10 @@ impl<A: App> Active<A> {
 
     /// The application takes what was committed behind so many entries. What is processed of it comes back.
     fn fold_behind(&mut self, before: u64) -> Result<Vec<Handled>, AllocError>
-        requires valid { IsValid self.old.work.state.vr }
+        requires valid { IsValidState self.old.work.state.vr }
         requires reach { before ≤ self.old.work.state.vr.commit }
         ensures folds { ForEachGroup (ActsUpTo A.law before self.old) (λ kinds setup.
-            IfOk result (λ handled. AreNew kinds setup self.new.work.state before handled.items × Acts A.law self.new kinds setup)) }
+            IfOk result (λ handled. AreNewlyHandled kinds setup self.new.work.state before handled.items × Acts A.law self.new kinds setup)) }
         ensures work { self.new.work ≡ self.old.work }
         ensures promise { self.new.promise ≡ self.old.promise }
     {
@@ -141,7 +141,7 @@ impl<A: App> Active<A> {
 
     /// An event that is processed is answered.
     fn answer(&mut self, handled: &Handled) -> Result<(), AllocError>
-        ensures { ForEachGroup (Acts A.law self.old) (λ kinds setup. OnOk result (self.new ≡ posts self.old (answers_to kinds setup self.old.work.state handled.now))) }
+        ensures { ForEachGroup (Acts A.law self.old) (λ kinds setup. OnOk result (self.new ≡ posts_letters self.old (answers_to kinds setup self.old.work.state handled.now))) }
     {
         if let Some(told) = self.dispatcher.acknowledgement(handled) {
             self.post(ack_letter(told))?;
@@ -152,7 +152,7 @@ impl<A: App> Active<A> {
 
     /// Settle, first step: events that are processed are answered.
     fn answer_each(&mut self, processed: &[Handled]) -> Result<(), AllocError>
-        ensures { ForEachGroup (Acts A.law self.old) (λ kinds setup. OnOk result (self.new ≡ posts self.old (flat_map (answers_to kinds setup self.old.work.state) processed.now))) }
+        ensures { ForEachGroup (Acts A.law self.old) (λ kinds setup. OnOk result (self.new ≡ posts_letters self.old (flat_map (answers_to kinds setup self.old.work.state) processed.now))) }
     {
         'processed: for handled in processed {
             self.answer(handled)?;
@@ -161,7 +161,7 @@ impl<A: App> Active<A> {
     }
 
     fn send(&mut self, commands: Vec<Numbered>) -> Result<(), AllocError>
-        ensures { OnOk result (self.new ≡ posts self.old (map (command_letter self.old.work.state.vr.view) commands.items)) }
+        ensures { OnOk result (self.new ≡ posts_letters self.old (map (command_letter self.old.work.state.vr.view) commands.items)) }
     {
         add_commands(&mut self.letters, self.replica.view(), commands)
     }
@@ -199,7 +199,7 @@ impl<A: App> Active<A> {
 
     /// What a controller alone in its group commits at once is answered, and its next commands go out.
     fn follow(&mut self, before: u64) -> Result<(), AllocError>
-        requires valid { IsValid self.old.work.state.vr }
+        requires valid { IsValidState self.old.work.state.vr }
         requires reach { before ≤ self.old.work.state.vr.commit }
         ensures { ForEachGroup (ActsUpTo A.law before self.old) (λ kinds setup.
             OnOk result (Works A.law kinds setup self.old (with_commands kinds setup (settling.with_answers kinds setup before self.old.work)) self.new)) }
@@ -263,7 +263,7 @@ impl<A: App> Active<A> {
     fn settle(&mut self, processed: &[Handled]) -> Result<(), AllocError>
         requires acts { InSomeGroup (Acts A.law self.old) }
         requires leads { members.leads self.old.work.state.vr ≡ true }
-        ensures { ForEachGroup (Acts A.law self.old) (λ kinds setup. (before : ℕ) → AreNew kinds setup self.old.work.state before processed.now →
+        ensures { ForEachGroup (Acts A.law self.old) (λ kinds setup. (before : ℕ) → AreNewlyHandled kinds setup self.old.work.state before processed.now →
             OnOk result (Works A.law kinds setup self.old (settling.settling kinds setup before self.old.work) self.new)) }
     {
         self.answer_each(processed)?;
@@ -273,7 +273,7 @@ impl<A: App> Active<A> {
 
     /// Each switch that did not take this controller as master in this view is asked for its role.
     fn ask_unconfirmed(&mut self) -> Result<(), AllocError>
-        ensures { ForEachGroup (Acts A.law self.old) (λ kinds setup. OnOk result (self.new ≡ posts self.old (map (role_letter self.old.work.state.vr.view) (unconfirmed setup self.old.work.state)))) }
+        ensures { ForEachGroup (Acts A.law self.old) (λ kinds setup. OnOk result (self.new ≡ posts_letters self.old (map (role_letter self.old.work.state.vr.view) (unconfirmed setup self.old.work.state)))) }
     {
         'switches: for switch in 0..self.dispatcher.switches() {
             if !self.dispatcher.confirmed(switch) {
@@ -299,8 +299,8 @@ impl<A: App> Active<A> {
 
     /// A step of the member: a primary settles where it started a view, and where more is committed.
     fn step(&mut self, input: &VrInput) -> Result<(), AllocError>
-        requires begins { InSomeGroup (Begins A.law self.old) }
-        ensures { ForEachGroup (Begins A.law self.old) (λ kinds setup.
+        requires begins { InSomeGroup (BeginsTurn A.law self.old) }
+        ensures { ForEachGroup (BeginsTurn A.law self.old) (λ kinds setup.
             OnOk result (Works A.law kinds setup self.old (after_step kinds setup self.old.work.state (vr_step self.old.work.state.vr input.now)) self.new)) }
     {
         let led = self.replica.leads();
@@ -326,8 +326,8 @@ impl<A: App> Active<A> {
 
     /// Time passes: what switches have not answered is sent again.
     fn tick(&mut self) -> Result<(), AllocError>
-        requires begins { InSomeGroup (Begins A.law self.old) }
-        ensures { ForEachGroup (Begins A.law self.old) (λ kinds setup. OnOk result (Works A.law kinds setup self.old (rules.on_tick kinds setup self.old.work.state) self.new)) }
+        requires begins { InSomeGroup (BeginsTurn A.law self.old) }
+        ensures { ForEachGroup (BeginsTurn A.law self.old) (λ kinds setup. OnOk result (Works A.law kinds setup self.old (rules.on_tick kinds setup self.old.work.state) self.new)) }
     {
         let out = self.replica.step(&VrInput::Tick)?;
         self.take(out)?;
@@ -341,9 +341,9 @@ impl<A: App> Active<A> {
 
     /// An event comes: one that may follow is proposed, and one that was processed is acknowledged.
     fn on_event(&mut self, event: Event) -> Result<(), AllocError>
-        requires begins { InSomeGroup (Begins A.law self.old) }
+        requires begins { InSomeGroup (BeginsTurn A.law self.old) }
         requires leads { members.leads self.old.work.state.vr ≡ true }
-        ensures { ForEachGroup (Begins A.law self.old) (λ kinds setup. OnOk result (Works A.law kinds setup self.old (rules.on_event kinds setup self.old.work.state event) self.new)) }
+        ensures { ForEachGroup (BeginsTurn A.law self.old) (λ kinds setup. OnOk result (Works A.law kinds setup self.old (rules.on_event kinds setup self.old.work.state event) self.new)) }
     {
         match self.dispatcher.on_event(&event, self.replica.log()) {
             Wish::Propose => {
@@ -364,9 +364,9 @@ impl<A: App> Active<A> {
 
     /// A result comes: where its command waits for one, the event may be finished.
     fn on_result(&mut self, switch: u8, life: u32, number: u64) -> Result<(), AllocError>
-        requires begins { InSomeGroup (Begins A.law self.old) }
+        requires begins { InSomeGroup (BeginsTurn A.law self.old) }
         requires leads { members.leads self.old.work.state.vr ≡ true }
-        ensures { ForEachGroup (Begins A.law self.old) (λ kinds setup. OnOk result (Works A.law kinds setup self.old (rules.on_result kinds setup self.old.work.state switch life number) self.new)) }
+        ensures { ForEachGroup (BeginsTurn A.law self.old) (λ kinds setup. OnOk result (Works A.law kinds setup self.old (rules.on_result kinds setup self.old.work.state switch life number) self.new)) }
     {
         if self.dispatcher.on_result(switch, life, number) {
             self.finish_all()
@@ -377,7 +377,7 @@ impl<A: App> Active<A> {
 
     /// A switch takes this controller as master: it gets its commands.
     fn on_role_reply(&mut self, switch: u8, role: u32, generation: u64) -> Result<(), AllocError>
-        ensures { ForEachGroup (Begins A.law self.old) (λ kinds setup. OnOk result (Works A.law kinds setup self.old (rules.on_role_reply kinds setup self.old.work.state switch role generation) self.new)) }
+        ensures { ForEachGroup (BeginsTurn A.law self.old) (λ kinds setup. OnOk result (Works A.law kinds setup self.old (rules.on_role_reply kinds setup self.old.work.state switch role generation) self.new)) }
     {
         if role != MASTER || generation != u64::from(self.replica.view()) {
             return Ok(());
@@ -389,7 +389,7 @@ impl<A: App> Active<A> {
 
     /// A switch greets: it may have lost its state, and is asked again.
     fn on_hello(&mut self, switch: u8) -> Result<(), AllocError>
-        ensures { ForEachGroup (Begins A.law self.old) (λ kinds setup. OnOk result (Works A.law kinds setup self.old (rules.on_hello self.old.work.state switch) self.new)) }
+        ensures { ForEachGroup (BeginsTurn A.law self.old) (λ kinds setup. OnOk result (Works A.law kinds setup self.old (rules.on_hello self.old.work.state switch) self.new)) }
     {
         self.dispatcher.off_role(switch);
         let view = self.replica.view();
@@ -398,9 +398,9 @@ impl<A: App> Active<A> {
 
     /// What a switch says to a primary.
     fn on_spoken(&mut self, switch: u8, message: Spoken) -> Result<(), AllocError>
-        requires begins { InSomeGroup (Begins A.law self.old) }
+        requires begins { InSomeGroup (BeginsTurn A.law self.old) }
         requires leads { members.leads self.old.work.state.vr ≡ true }
-        ensures { ForEachGroup (Begins A.law self.old) (λ kinds setup. OnOk result (Works A.law kinds setup self.old (rules.on_spoken kinds setup self.old.work.state switch message) self.new)) }
+        ensures { ForEachGroup (BeginsTurn A.law self.old) (λ kinds setup. OnOk result (Works A.law kinds setup self.old (rules.on_spoken kinds setup self.old.work.state switch message) self.new)) }
     {
         match message {
             Spoken::Plain(message) => {
@@ -414,7 +414,7 @@ impl<A: App> Active<A> {
 
     /// A message of OpenFlow itself.
     fn on_plain(&mut self, switch: u8, message: &OfMessage) -> Result<(), AllocError>
-        ensures { ForEachGroup (Begins A.law self.old) (λ kinds setup. OnOk result (Works A.law kinds setup self.old (rules.on_plain kinds setup self.old.work.state switch message.now) self.new)) }
+        ensures { ForEachGroup (BeginsTurn A.law self.old) (λ kinds setup. OnOk result (Works A.law kinds setup self.old (rules.on_plain kinds setup self.old.work.state switch message.now) self.new)) }
     {
         match message {
             OfMessage::RoleReply { role, generation } => {
@@ -427,9 +427,9 @@ impl<A: App> Active<A> {
 
     /// A message of the extension: events and results.
     fn on_extension(&mut self, switch: u8, message: Extension) -> Result<(), AllocError>
-        requires begins { InSomeGroup (Begins A.law self.old) }
+        requires begins { InSomeGroup (BeginsTurn A.law self.old) }
         requires leads { members.leads self.old.work.state.vr ≡ true }
-        ensures { ForEachGroup (Begins A.law self.old) (λ kinds setup. OnOk result (Works A.law kinds setup self.old (rules.on_extension kinds setup self.old.work.state switch message) self.new)) }
+        ensures { ForEachGroup (BeginsTurn A.law self.old) (λ kinds setup. OnOk result (Works A.law kinds setup self.old (rules.on_extension kinds setup self.old.work.state switch message) self.new)) }
     {
         match message {
             Extension::Event { life, number, what } => self.on_event(Event {
@@ -457,7 +457,7 @@ impl<A: App> Active<A> {
     }
 
     fn echo(&mut self, switch: u8, xid: u32, body: Octets) -> Result<(), AllocError>
-        ensures { ForEachGroup (Begins A.law self.old) (λ kinds setup. OnOk result (Works A.law kinds setup self.old (rules.on_echo self.old.work.state switch xid body) self.new)) }
+        ensures { ForEachGroup (BeginsTurn A.law self.old) (λ kinds setup. OnOk result (Works A.law kinds setup self.old (rules.on_echo self.old.work.state switch xid body) self.new)) }
     {
         if self.is_up() {
             let reply = OfMessage::EchoReply { body };
@@ -469,8 +469,8 @@ impl<A: App> Active<A> {
 
     /// What a switch says. Each controller that is up answers an ECHO_REQUEST; all else is for a primary.
     fn on_switch(&mut self, switch: u8, xid: u32, message: Spoken) -> Result<(), AllocError>
-        requires begins { InSomeGroup (Begins A.law self.old) }
-        ensures { ForEachGroup (Begins A.law self.old) (λ kinds setup. OnOk result (Works A.law kinds setup self.old (rules.on_switch kinds setup self.old.work.state switch xid message) self.new)) }
+        requires begins { InSomeGroup (BeginsTurn A.law self.old) }
+        ensures { ForEachGroup (BeginsTurn A.law self.old) (λ kinds setup. OnOk result (Works A.law kinds setup self.old (rules.on_switch kinds setup self.old.work.state switch xid message) self.new)) }
     {
         match message {
             Spoken::Plain(OfMessage::EchoRequest { body }) => self.echo(switch, xid, body),
@@ -519,10 +519,10 @@ impl<A: App> Active<A> {
 
     /// What it does with a local input. A crash takes no memory here.
     fn on_local(&mut self, local: &Local) -> Result<(), AllocError>
-        requires begins { InSomeGroup (Begins A.law self.old) }
-        ensures works { ForEachGroup (Begins A.law self.old) (λ kinds setup. rules.is_crash (controller_input.Local local.now) ≡ false →
+        requires begins { InSomeGroup (BeginsTurn A.law self.old) }
+        ensures works { ForEachGroup (BeginsTurn A.law self.old) (λ kinds setup. rules.is_crash_input (controller_input.Local local.now) ≡ false →
             OnOk result (Works A.law kinds setup self.old (rules.on_local kinds setup self.old.work.state local.now) self.new)) }
-        ensures crash { OnErr result (rules.is_crash (controller_input.Local local.now) ≡ false) }
+        ensures crash { OnErr result (rules.is_crash_input (controller_input.Local local.now) ≡ false) }
     {
         match local {
             Local::Tick => self.tick(),
@@ -538,10 +538,10 @@ impl<A: App> Active<A> {
 
     /// What it does with an input. A crash is told by the caller, and takes no memory here.
     pub(crate) fn on_input(&mut self, input: ControllerInput) -> Result<(), AllocError>
-        requires begins { InSomeGroup (Begins A.law self.old) }
-        ensures works { ForEachGroup (Begins A.law self.old) (λ kinds setup. rules.is_crash input ≡ false →
+        requires begins { InSomeGroup (BeginsTurn A.law self.old) }
+        ensures works { ForEachGroup (BeginsTurn A.law self.old) (λ kinds setup. rules.is_crash_input input ≡ false →
             OnOk result (Works A.law kinds setup self.old (rules.on_input kinds setup self.old.work.state input) self.new)) }
-        ensures crash { OnErr result (rules.is_crash input ≡ false) }
+        ensures crash { OnErr result (rules.is_crash_input input ≡ false) }
     {
         match input {
             ControllerInput::Local(local) => {

@@ -5,7 +5,7 @@ ghost use Rattle.of_types.specs.Lives.{last_life};
 ghost use Rattle.of_types.specs.Setups.{IsSetup};
 ghost use Rattle.journal.specs.Stables.{standing};
 ghost use Rattle.dispatcher.specs.Ledger.{most_commands};
-ghost use Rattle.group_controller.specs.Rules.{is_crash, is_restart};
+ghost use Rattle.group_controller.specs.Rules.{is_crash_input, is_restart_input};
 ghost use Rattle.group_controller.specs.State.{resting, starting_controller};
 ghost use Rattle.group_controller.specs.Turns.{AreAlike, begins_life, Born, Controls, ForEachKinds, SavesAndKeeps, KnowsPair, LeavesShelf, MayTake, pair_in, Restarts, Saves, Stands, state_of, TakesOne, TakesOneAtMost, Turns, Wants};
 ghost use Rattle.app_core.specs.Chain.{given_by};
@@ -67,7 +67,7 @@ fn is_pair(stands: (u64, u64), promise: u64, life: u64) -> bool
 }
 
 fn is_crash(input: &ControllerInput) -> bool
-    ensures { result ≡ is_crash input.now }
+    ensures { result ≡ is_crash_input input.now }
 {
     match input {
         ControllerInput::Local(local) => controller_life::is_crash(local),
@@ -77,7 +77,7 @@ fn is_crash(input: &ControllerInput) -> bool
 
 /// Whether this is what one that is down takes. All else is let go.
 fn is_restart(input: &ControllerInput) -> bool
-    ensures { result ≡ is_restart input.now }
+    ensures { result ≡ is_restart_input input.now }
 {
     match input {
         ControllerInput::Local(local) => controller_life::is_restart(local),
@@ -256,7 +256,7 @@ impl<A: App> Controller<A> {
         ensures controls { ForEachKinds (λ kinds. Controls A.law self.old kinds × Stands A.law self.old kinds active.value) (λ kinds. Controls A.law self.new kinds) }
         ensures pair { KnowsPair self.old self.new (W.saving.pair stable.old) (W.saving.pair stable.new) }
         ensures who { (self.new.setup ≡ self.old.setup) × (self.new.me ≡ self.old.me) }
-        ensures crash { OnErr result (is_crash input ≡ false) }
+        ensures crash { OnErr result (is_crash_input input ≡ false) }
         ensures shelf { self.new.shelf ≡ self.old.shelf }
     {
         // (`on_input` takes a crash too, and does nothing with it.)
@@ -345,7 +345,7 @@ impl<A: App> Controller<A> {
         ensures who { (self.new.setup ≡ self.old.setup) × (self.new.me ≡ self.old.me) }
 
         // A crash takes no memory.
-        ensures crash { OnErr result (is_crash input ≡ false) }
+        ensures crash { OnErr result (is_crash_input input ≡ false) }
 
         // The applications of later lives stay on their shelf, but a restart that begins a life takes its own.
         ensures shelf { IfOk result (λ _. LeavesShelf A.law (begins_life self.old input) self.old self.new) }

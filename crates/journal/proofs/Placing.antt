@@ -11,7 +11,7 @@ use Rattle.journal.specs.declared.journal.Packet.{Packet}
 use Rattle.journal.specs.declared.place.PacketPlace.{PacketPlace}
 use Rattle.journal.specs.Actors.{same_actor}
 use Rattle.journal.specs.Places.{packet_as, packet_in, IsPlaceOf, IsFound, ArePlacesOf, placed, sent_to, letters_to, picked}
-use Rattle.journal.specs.Pool.{numbered, waiting, chosen}
+use Rattle.journal.specs.Pool.{numbered_letters, waiting, chosen}
 use Rattle.journal.proofs.Lists.{numbered-take}
 
 -- what stands in a list stands there when it grows
@@ -31,7 +31,7 @@ slice_get-front (suc n) (y ∷ xs) zero x h = h
 slice_get-front (suc n) (y ∷ xs) (suc i) x h = slice_get-front n xs i x h
 
 -- a letter at a place, numbered
-numbered_at : {B : Type 0} (first : ℕ) (from : Actor) (letters : List (Letter B)) (k : ℕ) → option_map (λ letter. packet_as (first + k) from letter) (slice_get letters k) ≡ slice_get (numbered first from letters) k
+numbered_at : {B : Type 0} (first : ℕ) (from : Actor) (letters : List (Letter B)) (k : ℕ) → option_map (λ letter. packet_as (first + k) from letter) (slice_get letters k) ≡ slice_get (numbered_letters first from letters) k
 numbered_at first from [] k = refl
 numbered_at first from (l ∷ letters) zero = ap (λ (id : ℕ). Some (packet_as id from l)) (let plain : first + 0 ≡ first = omega arith in plain)
 numbered_at first from (l ∷ letters) (suc k) =
@@ -170,8 +170,8 @@ module _ {B : Type 0} where
 
   -- the letters of a post stand at their places
   letters_stand : (journal : List (JournalEntry B)) (entry k first : ℕ) (from : Actor) (letters : List (Letter B)) (packets : List (Packet B)) →
-      ((i : ℕ) → packet_in i (slice_get journal entry) ≡ slice_get packets i) → ((i : ℕ) (p : Packet B) → slice_get (numbered first from letters) i ≡ Some p → slice_get packets (k + i) ≡ Some p) →
-      ArePlacesOf journal (placed entry k first from letters) (numbered first from letters)
+      ((i : ℕ) → packet_in i (slice_get journal entry) ≡ slice_get packets i) → ((i : ℕ) (p : Packet B) → slice_get (numbered_letters first from letters) i ≡ Some p → slice_get packets (k + i) ≡ Some p) →
+      ArePlacesOf journal (placed entry k first from letters) (numbered_letters first from letters)
   letters_stand journal entry k first from [] packets post among = tt
   letters_stand journal entry k first from (l ∷ letters) packets post among =
       let here : k + 0 ≡ k = omega arith in (
@@ -186,9 +186,9 @@ module _ {B : Type 0} where
       )
 
   pub post_stands : (journal : List (JournalEntry B)) (first count lost : ℕ) (from : Actor) (letters : List (Letter B)) →
-      ArePlacesOf (journal ++ Post from first letters lost ∷ []) (placed (length journal) 0 first from (take count letters)) (numbered first from (take count letters))
+      ArePlacesOf (journal ++ Post from first letters lost ∷ []) (placed (length journal) 0 first from (take count letters)) (numbered_letters first from (take count letters))
   post_stands journal first count lost from letters =
-      letters_stand (journal ++ Post from first letters lost ∷ []) (length journal) 0 first from (take count letters) (numbered first from letters)
+      letters_stand (journal ++ Post from first letters lost ∷ []) (length journal) 0 first from (take count letters) (numbered_letters first from letters)
       (λ i. ap (packet_in i) (slice_get-last journal (Post from first letters lost)) ∙ numbered_at first from letters i)
       (λ i p h. let zero_plus : 0 + i ≡ i = omega arith in
-      ap (slice_get (numbered first from letters)) zero_plus ∙ slice_get-front count (numbered first from letters) i p (ap (λ ps. slice_get ps i) (sym (numbered-take count first from letters)) ∙ h))
+      ap (slice_get (numbered_letters first from letters)) zero_plus ∙ slice_get-front count (numbered_letters first from letters) i p (ap (λ ps. slice_get ps i) (sym (numbered-take count first from letters)) ∙ h))

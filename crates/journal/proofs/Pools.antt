@@ -7,7 +7,7 @@ use Rattle.journal.specs.declared.journal.JournalEntry.{JournalEntry}
 use Rattle.journal.specs.declared.journal.JournalEntry.TheVariants.{Post, Draw, Lose, Local, Idle, Refused}
 use Rattle.journal.specs.declared.journal.Letter.{Letter}
 use Rattle.journal.specs.declared.journal.Packet.{Packet}
-use Rattle.journal.specs.Pool.{pool, numbered, without, waiting, letters_posted}
+use Rattle.journal.specs.Pool.{pool, numbered_letters, without, waiting, letters_posted}
 use Rattle.journal.specs.Part.{packet_of}
 use Rattle.journal.specs.Orderly.{IsOrderly, IsWaiting}
 use Rattle.journal.specs.Actors.{same_actor}
@@ -57,9 +57,9 @@ Rising-take zero ps r = none (Rising-bound r)
 Rising-take (suc n) [] r = r
 Rising-take (suc n) (p ∷ ps) (next h r) = next h (Rising-take n ps r)
 
-Rising-numbered : {B : Type 0} (first : ℕ) (a : Actor) (letters : List (Letter B)) → Rising (first + length letters) first (numbered first a letters)
+Rising-numbered : {B : Type 0} (first : ℕ) (a : Actor) (letters : List (Letter B)) → Rising (first + length letters) first (numbered_letters first a letters)
 Rising-numbered first a [] = none (omega arith)
-Rising-numbered first a (l ∷ letters) = next (omega arith) (subst (λ n. Rising n (first + 1) (numbered (first + 1) a letters)) (omega arith) (Rising-numbered (first + 1) a letters))
+Rising-numbered first a (l ∷ letters) = next (omega arith) (subst (λ n. Rising n (first + 1) (numbered_letters (first + 1) a letters)) (omega arith) (Rising-numbered (first + 1) a letters))
 
 -- the pool of a journal
 pub Rising-pool : {B : Type 0} (size : B → ℕ) (entries : List (JournalEntry B)) → IsOrderly size entries → Rising (letters_posted entries) 0 (pool entries)

@@ -19,7 +19,7 @@ use Rattle.journal.specs.Actors.{same_actor}
 use Rattle.journal.specs.Ledger.{found_in, entry_by, IsReady, Waits, IsLedger}
 use Rattle.journal.specs.Orderly.{lost_of, pool_bytes, fitting_count}
 use Rattle.journal.specs.Places.{IsFound, packet_as, placed, queue_of, sent_to}
-use Rattle.journal.specs.Pool.{past, pool, numbered, fitting, waiting, letters_posted, letter_bytes}
+use Rattle.journal.specs.Pool.{past, pool, numbered_letters, fitting, waiting, letters_posted, letter_bytes}
 use Rattle.journal.specs.Refusals.{MayBeRefused}
 use Rattle.journal.specs.Turns.{posting, entry_of}
 use Rattle.journal.proofs.Kept.{IsKept-post, IsKept-input, IsKept-refused, entry_by-entry_of}
@@ -27,15 +27,15 @@ use Rattle.journal.proofs.Lists.{past-push, numbered-take}
 use Rattle.journal.proofs.Placing.{found_later, places_later, places_append, places_for, post_stands}
 
 module _ {B : Type 0} where
-  length-numbered : (first : ℕ) (a : Actor) (letters : List (Letter B)) → length (numbered first a letters) ≡ length letters
+  length-numbered : (first : ℕ) (a : Actor) (letters : List (Letter B)) → length (numbered_letters first a letters) ≡ length letters
   length-numbered first a [] = refl
   length-numbered first a (l ∷ letters) = let rest = length-numbered (first + 1) a letters in omega (arith, rest)
 
-  bytes-numbered : (size : B → ℕ) (first : ℕ) (a : Actor) (letters : List (Letter B)) → pool_bytes size (numbered first a letters) ≡ letter_bytes size letters
+  bytes-numbered : (size : B → ℕ) (first : ℕ) (a : Actor) (letters : List (Letter B)) → pool_bytes size (numbered_letters first a letters) ≡ letter_bytes size letters
   bytes-numbered size first a [] = refl
   bytes-numbered size first a (l ∷ letters) =
       let rest = bytes-numbered size (first + 1) a letters in
-      let packets = sum_by-append (λ p. size p.body) (packet_as first a l ∷ []) (numbered (first + 1) a letters) in
+      let packets = sum_by-append (λ p. size p.body) (packet_as first a l ∷ []) (numbered_letters (first + 1) a letters) in
       let posted = sum_by-append (λ x. size x.body) (l ∷ []) letters in
       omega (arith, rest, packets, posted)
 
@@ -44,9 +44,9 @@ module _ {B : Type 0} where
       Waits size journal packets queues waits → count ≤ length letters →
       ((receiver : Actor) → queue_of after receiver ≡ queue_of queues receiver ++ sent_to receiver (placed (length journal) 0 first a (take count letters))) →
       now.letters ≡ waits.letters + count → now.bytes ≡ waits.bytes + letter_bytes size (take count letters) →
-      Waits size (journal ++ Post a first letters lost ∷ []) (packets ++ numbered first a (take count letters)) after now
+      Waits size (journal ++ Post a first letters lost ∷ []) (packets ++ numbered_letters first a (take count letters)) after now
   Waits-more size journal packets queues after waits now first count lost a letters is within queues_are letters_are bytes_are =
-      let more = numbered first a (take count letters) in
+      let more = numbered_letters first a (take count letters) in
       let long = length-numbered first a (take count letters) in
       let taken = length-take-le count letters within in
       let bytes = bytes-numbered size first a (take count letters) in
@@ -95,8 +95,8 @@ module _ {B : Type 0} where
       ∙ ap (λ n. length letters - fitting_count size n start.waiting.bytes letters) kept.waits.letters_are
       ∙ ap (λ n. length letters - fitting_count size (length (pool before)) n letters) kept.waits.bytes_are in
       let fits : length letters - ready.lost ≡ is.count = omega (arith, is.lost_is, is.count_within) in
-      let come : fitting start.posted.letters a letters ready.lost ≡ numbered start.posted.letters a (take is.count letters) =
-      ap (λ n. take n (numbered start.posted.letters a letters)) fits ∙ sym (numbered-take is.count start.posted.letters a letters) in
+      let come : fitting start.posted.letters a letters ready.lost ≡ numbered_letters start.posted.letters a (take is.count letters) =
+      ap (λ n. take n (numbered_letters start.posted.letters a letters)) fits ∙ sym (numbered-take is.count start.posted.letters a letters) in
       let waits = Waits-more size start.entries.items (pool before) start.queues prepared.queues start.waiting ready.waiting start.posted.letters is.count ready.lost a letters kept.waits is.count_within is.queues_are is.waiting_letters is.waiting_bytes in
       record {
         kept = record {

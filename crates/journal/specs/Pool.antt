@@ -12,13 +12,13 @@ abbrev pub past : {B : Type 0} → List (JournalEntry B) → List (JournalEntry 
 past journal = reverse journal
 
 -- letters as packets, numbered from there on
-abbrev pub numbered : {B : Type 0} → ℕ → Actor → List (Letter B) → List (Packet B)
-numbered first from [] = []
-numbered first from (letter ∷ letters) = record { id = first; from = from; to = letter.to; body = letter.body } ∷ numbered (first + 1) from letters
+abbrev pub numbered_letters : {B : Type 0} → ℕ → Actor → List (Letter B) → List (Packet B)
+numbered_letters first from [] = []
+numbered_letters first from (letter ∷ letters) = record { id = first; from = from; to = letter.to; body = letter.body } ∷ numbered_letters (first + 1) from letters
 
 -- the packets of a post that were not lost
 abbrev pub fitting : {B : Type 0} → ℕ → Actor → List (Letter B) → ℕ → List (Packet B)
-fitting first actor letters lost = take (length letters - lost) (numbered first actor letters)
+fitting first actor letters lost = take (length letters - lost) (numbered_letters first actor letters)
 
 -- the packets of other numbers
 abbrev pub without : {B : Type 0} → ℕ → List (Packet B) → List (Packet B)

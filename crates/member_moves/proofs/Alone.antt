@@ -2,7 +2,7 @@
 use Rattle.std.proofs.Common.{◌≡◌, ℕ, ◌<◌, true, cond, not, nat_le, ◌&&◌, Option, None, List, [], ◌∷◌, ◌++◌, length, take, drop, refl, sym, ap, ◌∙◌, subst, arith, take-take, take-append-drop}
 use Rattle.std.proofs.lemmas.Bool.{cond_both}
 use Rattle.agreement.specs.History.{Group, size}
-use Rattle.agreement.specs.Invariant.{is_up}
+use Rattle.agreement.specs.Invariant.{is_up_status}
 use Rattle.agreement.specs.Journals.{GoesOn}
 use Rattle.list_facts.proofs.Prefixes.{prefix_refl}
 use Rattle.list_facts.specs.Lists.{IsPrefix}
@@ -24,12 +24,12 @@ use Rattle.view_change.specs.Cases as change
 use Rattle.vr_core.specs.declared.input.VrInput.{VrInput}
 use Rattle.vr_core.specs.declared.input.VrInput.TheVariants as vr_input
 use Rattle.vr_core.specs.Step.{on_vr, vr_step}
-use Rattle.member_moves.specs.Projection.{state_of}
+use Rattle.member_moves.specs.Projection.{member_state_of}
 use Rattle.member_moves.proofs.Members.{IsMemberOf, later_of, other_not_me, other_below}
 
 -- what a step leaves up was up before, and its log goes on
 abbrev pub GoesOnBy : VrState → VrStep → Type 0
-GoesOnBy s st = is_up (state_of st.state).status ≡ true → GoesOn (state_of s) (state_of st.state)
+GoesOnBy s st = is_up_status (member_state_of st.state).status ≡ true → GoesOn (member_state_of s) (member_state_of st.state)
 
 no_other : {g : Group Entry} {c : ℕ} {s : VrState} → IsMemberOf g c s → g.most_failures ≡ 0 → c < size g → (from : ℕ) → member.is_other s from ≡ true → ⊥
 unfolding size
@@ -57,7 +57,7 @@ chooses_own s none z = cond_both (choosing.may_choose s) _ _ (λ (q : VrStep). I
 
 checks_on : (s : VrState) (view : ℕ) → IsPrefix s.log (change.enters s view).state.log
 checks_on s view =
-    let t : VrState = entering.entered s view in
+    let t : VrState = entering.entered_view s view in
     cond_both (nat_le (member.most_failures t) (length t.votes) && not t.sent) (entering.sends_log t) (steps.quiet t) (λ (q : VrStep). IsPrefix s.log (entering.chooses q.state).state.log)
     (λ ok. cond_both (member.is_primary t) _ _ (λ (q : VrStep). IsPrefix s.log (entering.chooses q.state).state.log)
     (λ own. chooses_own (record (entering.collects t (entering.own_log t)) { sent = true }) refl refl)
@@ -65,7 +65,7 @@ checks_on s view =
     (λ ok. chooses_none t refl)
 
 same_on : (s : VrState) (st : VrStep) → st.state ≡ s → GoesOnBy s st
-same_on s st z u = record { up = subst (λ (t : VrState). is_up (state_of t).status ≡ true) z u; longer = subst (λ (t : VrState). IsPrefix s.log t.log) (sym z) (prefix_refl s.log) }
+same_on s st z u = record { up = subst (λ (t : VrState). is_up_status (member_state_of t).status ≡ true) z u; longer = subst (λ (t : VrState). IsPrefix s.log t.log) (sym z) (prefix_refl s.log) }
 
 pub suspect_on : (s : VrState) (view : ℕ) → GoesOnBy s (change.suspect s view)
 suspect_on s view = cond_both (member.is_later s view) _ _ (GoesOnBy s)

@@ -3,7 +3,7 @@ use Rattle.std.proofs.Common.{◌≡◌, ◌≢◌, ℕ, ◌+◌, ◌<◌, ◌�
 use Rattle.std.proofs.lemmas.Bool.{and_parts, cond_both, eqb-true, leb-true, ltb-true, false≢true}
 use Rattle.std.proofs.lemmas.List.{map-append}
 use Rattle.agreement.specs.Effects.{ack_if}
-use Rattle.agreement.specs.History.{Group, size, primary_of, State, Message, Letter, History, Vote, letter}
+use Rattle.agreement.specs.History.{Group, size, primary_in, State, Message, Letter, History, Vote, abstract_letter}
 use Rattle.agreement.specs.Invariant.{IsGoodMessage, IsGoodResponse, Invariant, IsGroup}
 use Rattle.list_facts.specs.Lists.{IsIn}
 use Rattle.agreement.specs.Moves.{Moved, Resembles, entered, adopted, fallen, StandsAt}
@@ -31,8 +31,8 @@ use Rattle.view_change.specs.Adopting as adopting
 use Rattle.view_change.specs.Entering as entering
 use Rattle.view_change.specs.Cases as change
 use Rattle.vr_recovery.specs.Recovering as recovering
-use Rattle.member_moves.specs.Projection.{status_of, vote_of, answer_of, response_of, message_of, letters_of, state_of}
-use Rattle.member_moves.specs.Laws.{IsTurn}
+use Rattle.member_moves.specs.Projection.{member_status_of, vote_of, answer_of, response_of, message_of, letters_of, member_state_of}
+use Rattle.member_moves.specs.Laws.{IsMemberTurn}
 use Rattle.member_moves.proofs.Members.{IsMemberOf, normal_of, changing_of, later_of, other_not_me, other_below, own_of, normal_like, primary_is, goes_quiet, goes_guarded, goes_tells, goes_other}
 use Rattle.member_moves.proofs.Messages.{acks_are}
 use Rattle.member_moves.proofs.Checking.{IsWalk, has_not, goes_check}
@@ -41,7 +41,7 @@ says_mapped : (c : ℕ) (x : VrMessage) (to : List ℕ) (y : Letter Entry) → I
 says_mapped c x [] y i = absurd i
 says_mapped c x (j ∷ js) y i = elim i [ inl z ↦ (ap (λ (q : Letter Entry). q.sender) z, ap (λ (q : Letter Entry). q.message) z) | inr q ↦ says_mapped c x js y q ]
 
-module _ {g : Group Entry} {h : History Entry} {c : ℕ} {s : VrState} (gr : IsGroup g) (i : Invariant g h) (b : c < size g) (at : StandsAt h c (state_of s) s.promise s.life) (fine : IsMemberOf g c s) where
+module _ {g : Group Entry} {h : History Entry} {c : ℕ} {s : VrState} (gr : IsGroup g) (i : Invariant g h) (b : c < size g) (at : StandsAt h c (member_state_of s) s.promise s.life) (fine : IsMemberOf g c s) where
   -- a later view is entered
   walked_enter : (view : ℕ) → member.is_later s view ≡ true → IsWalk g c h (entering.enter s view)
   walked_enter view z =
@@ -50,11 +50,11 @@ module _ {g : Group Entry} {h : History Entry} {c : ℕ} {s : VrState} (gr : IsG
       let say = says_mapped c (message.StartViewChange view) (member.others s) in
       let w1 = walk_enter gr i b at view x.0 x.1 in
       let w2 = walk_says gr b w1 out (λ y j. (say y j).0) (λ y j a n. ap (λ (q : Message Entry). is_prepare_ok q a n) (say y j).1) (λ y j. subst (λ (q : Message Entry). IsGoodMessage g w1.at y.sender y.receiver q) (sym (say y j).1) tt) in
-      record { walk = subst (λ (ls : List (Letter Entry)). Walk g c h (entered (state_of s) view) view s.life ls) (append-nil out) w2; status = refl; me = fine.me; controllers = fine.controllers }
+      record { walk = subst (λ (ls : List (Letter Entry)). Walk g c h (entered (member_state_of s) view) view s.life ls) (append-nil out) w2; status = refl; me = fine.me; controllers = fine.controllers }
 
   -- a vote is collected, where it is the first of its sender
-  walked_collect : (st : VrStep) → IsWalk g c h st → (from normal commit : ℕ) (log : List Entry) → c ≡ primary_of g st.state.view → from < size g
-      → IsIn (letter from c (core.DoViewChange st.state.view normal commit log)) h.sent
+  walked_collect : (st : VrStep) → IsWalk g c h st → (from normal commit : ℕ) (log : List Entry) → c ≡ primary_in g st.state.view → from < size g
+      → IsIn (abstract_letter from c (core.DoViewChange st.state.view normal commit log)) h.sent
       → IsWalk g c h (record st { state = entering.collects st.state (record { from = from; normal = normal; commit = commit; log = log }) })
   walked_collect st w from normal commit log is small sent =
       let t : VrState = st.state in
@@ -64,7 +64,7 @@ module _ {g : Group Entry} {h : History Entry} {c : ℕ} {s : VrState} (gr : IsG
       (λ fresh.
       let w1 = walk_collect gr i b w.walk from normal commit log w.status is sent small (has_not from t.collected fresh) in
       record {
-        walk = subst (λ (cs : List (Vote Entry)). Walk g c h (record (state_of t) { collected = cs }) t.promise t.life (letters_of c st.letters)) (sym (map-append (λ (x : Collected). vote_of x) t.collected (one ∷ []))) w1;
+        walk = subst (λ (cs : List (Vote Entry)). Walk g c h (record (member_state_of t) { collected = cs }) t.promise t.life (letters_of c st.letters)) (sym (map-append (λ (x : Collected). vote_of x) t.collected (one ∷ []))) w1;
         status = w.status;
         me = w.me;
         controllers = w.controllers;
@@ -74,7 +74,7 @@ module _ {g : Group Entry} {h : History Entry} {c : ℕ} {s : VrState} (gr : IsG
   walked_voted : (st : VrStep) (from : ℕ) → IsWalk g c h st → IsWalk g c h (record st { state = entering.voted st.state from })
   walked_voted st from w = record { walk = w.walk; status = w.status; me = w.me; controllers = w.controllers }
 
-  walked_here : (state_of s).status ≡ core.ViewChange → IsWalk g c h (steps.quiet s)
+  walked_here : (member_state_of s).status ≡ core.ViewChange → IsWalk g c h (steps.quiet s)
   walked_here n = record { walk = walk_at i at; status = n; me = fine.me; controllers = fine.controllers }
 
 pub up_normal : (x : Status) → (elim x [ status.Normal ↦ true | status.ViewChange ↦ false | status.Recovering ↦ false | status.Down ↦ false ]) ≡ true
@@ -84,7 +84,7 @@ up_normal status.ViewChange z = refl
 up_normal status.Recovering z = z
 up_normal status.Down z = z
 
-recovering_of : (x : Status) → (elim x [ status.Normal ↦ false | status.ViewChange ↦ false | status.Recovering ↦ true | status.Down ↦ false ]) ≡ true → status_of x ≡ core.Recovering
+recovering_of : (x : Status) → (elim x [ status.Normal ↦ false | status.ViewChange ↦ false | status.Recovering ↦ true | status.Down ↦ false ]) ≡ true → member_status_of x ≡ core.Recovering
 recovering_of status.Recovering z = refl
 recovering_of status.Normal z = absurd (false≢true z)
 recovering_of status.ViewChange z = absurd (false≢true z)
@@ -135,51 +135,51 @@ told_by view None f z = absurd cc
 told_by view (Some r) f z = cond_both (nat_eq r.view view) r.filled None (λ (p : Option Filled). p ≡ Some f → (x : Response) × (Some r ≡ Some x) × (x.view ≡ view) × (x.filled ≡ Some f))
     (λ t y. (r, refl, eqb-true r.view view t, y)) (λ t y. absurd cc) z
 
-module _ {g : Group Entry} {h h' : History Entry} {c : ℕ} {s : VrState} (gr : IsGroup g) (o : 1 ≤ g.most_failures) (i : Invariant g h) (b : c < size g) (at : StandsAt h c (state_of s) s.promise s.life) (fine : IsMemberOf g c s) where
-  goes_enters : (view : ℕ) → member.is_later s view ≡ true → IsTurn g h h' c (steps.guarded s (change.enters s view))
+module _ {g : Group Entry} {h h' : History Entry} {c : ℕ} {s : VrState} (gr : IsGroup g) (o : 1 ≤ g.most_failures) (i : Invariant g h) (b : c < size g) (at : StandsAt h c (member_state_of s) s.promise s.life) (fine : IsMemberOf g c s) where
+  goes_enters : (view : ℕ) → member.is_later s view ≡ true → IsMemberTurn g h h' c (steps.guarded s (change.enters s view))
   goes_enters view ok = goes_guarded gr i b at fine (change.enters s view) (goes_check gr o i b (walked_enter gr i b at fine view ok))
 
-  pub goes_suspect : (view : ℕ) → IsTurn g h h' c (change.suspect s view)
-  goes_suspect view = cond_both (member.is_later s view) _ _ (IsTurn g h h' c) (λ ok. goes_enters view ok) (λ ok. goes_quiet gr i b at fine)
+  pub goes_suspect : (view : ℕ) → IsMemberTurn g h h' c (change.suspect s view)
+  goes_suspect view = cond_both (member.is_later s view) _ _ (IsMemberTurn g h h' c) (λ ok. goes_enters view ok) (λ ok. goes_quiet gr i b at fine)
 
-  goes_vote_here : (from : ℕ) → IsTurn g h h' c (change.vote_here s from)
-  goes_vote_here from = cond_both (member.is_changing s) _ _ (IsTurn g h h' c)
+  goes_vote_here : (from : ℕ) → IsMemberTurn g h h' c (change.vote_here s from)
+  goes_vote_here from = cond_both (member.is_changing s) _ _ (IsMemberTurn g h h' c)
       (λ ok. goes_guarded gr i b at fine (entering.check (entering.voted s from)) (goes_check gr o i b (walked_voted gr i b at fine (steps.quiet s) from (walked_here gr i b at fine (changing_of s.status ok)))))
-      (λ no. cond_both (member.leads s) _ _ (IsTurn g h h' c)
+      (λ no. cond_both (member.leads s) _ _ (IsMemberTurn g h h' c)
       (λ ok. goes_tells gr i b at fine from (message.StartView s.view s.base s.commit (drop s.base s.log)) (λ a q. refl) (own_news (good_at i b at) s.base (normal_of s.status (and_parts (member.is_normal s) (member.is_primary s) ok).0)))
       (λ ok. goes_quiet gr i b at fine))
 
-  pub goes_start_view_change : (from view : ℕ) → IsTurn g h h' c (change.start_view_change s from (message.StartViewChange view))
-  goes_start_view_change from view = goes_other gr i b at fine from _ (λ other. cond_both (member.is_later s view) _ _ (IsTurn g h h' c)
+  pub goes_start_view_change : (from view : ℕ) → IsMemberTurn g h h' c (change.start_view_change s from (message.StartViewChange view))
+  goes_start_view_change from view = goes_other gr i b at fine from _ (λ other. cond_both (member.is_later s view) _ _ (IsMemberTurn g h h' c)
       (λ ok. goes_guarded gr i b at fine (steps.then_step (entering.enter s view) (λ next. entering.check (entering.voted next from))) (goes_check gr o i b (walked_voted gr i b at fine (entering.enter s view) from (walked_enter gr i b at fine view ok))))
-      (λ ok. cond_both (nat_eq view s.view) _ _ (IsTurn g h h' c) (λ same. goes_vote_here from) (λ same. goes_quiet gr i b at fine)))
+      (λ ok. cond_both (nat_eq view s.view) _ _ (IsMemberTurn g h h' c) (λ same. goes_vote_here from) (λ same. goes_quiet gr i b at fine)))
 
-  goes_collect : (from view normal commit : ℕ) (log : List Entry) → c ≡ primary_of g view → from < size g → IsIn (letter from c (core.DoViewChange view normal commit log)) h.sent
-      → IsTurn g h h' c (change.collect s view (record { from = from; normal = normal; commit = commit; log = log }))
+  goes_collect : (from view normal commit : ℕ) (log : List Entry) → c ≡ primary_in g view → from < size g → IsIn (abstract_letter from c (core.DoViewChange view normal commit log)) h.sent
+      → IsMemberTurn g h h' c (change.collect s view (record { from = from; normal = normal; commit = commit; log = log }))
   goes_collect from view normal commit log is small sent =
       let one : Collected = record { from = from; normal = normal; commit = commit; log = log } in
-      cond_both (member.is_later s view) _ _ (IsTurn g h h' c)
+      cond_both (member.is_later s view) _ _ (IsMemberTurn g h h' c)
       (λ later. goes_guarded gr i b at fine (steps.then_step (entering.enter s view) (λ next. entering.check (entering.collects next one)))
       (goes_check gr o i b (walked_collect gr i b at fine (entering.enter s view) (walked_enter gr i b at fine view later) from normal commit log is small sent)))
-      (λ later. cond_both (nat_eq view s.view && member.is_changing s) _ _ (IsTurn g h h' c)
+      (λ later. cond_both (nat_eq view s.view && member.is_changing s) _ _ (IsMemberTurn g h h' c)
       (λ ok.
       let y = and_parts (nat_eq view s.view) (member.is_changing s) ok in
       let same = eqb-true view s.view y.0 in
-      goes_guarded gr i b at fine (entering.check (entering.collects s one)) (goes_check gr o i b (walked_collect gr i b at fine (steps.quiet s) (walked_here gr i b at fine (changing_of s.status y.1)) from normal commit log (is ∙ ap (primary_of g) same) small
-      (subst (λ (q : ℕ). IsIn (letter from c (core.DoViewChange q normal commit log)) h.sent) same sent))))
+      goes_guarded gr i b at fine (entering.check (entering.collects s one)) (goes_check gr o i b (walked_collect gr i b at fine (steps.quiet s) (walked_here gr i b at fine (changing_of s.status y.1)) from normal commit log (is ∙ ap (primary_in g) same) small
+      (subst (λ (q : ℕ). IsIn (abstract_letter from c (core.DoViewChange q normal commit log)) h.sent) same sent))))
       (λ ok. goes_quiet gr i b at fine))
 
-  pub goes_do_view_change : (from view normal commit : ℕ) (log : List Entry) → IsIn (letter from c (core.DoViewChange view normal commit log)) h.sent
-      → IsTurn g h h' c (change.do_view_change s from (message.DoViewChange view normal commit log))
+  pub goes_do_view_change : (from view normal commit : ℕ) (log : List Entry) → IsIn (abstract_letter from c (core.DoViewChange view normal commit log)) h.sent
+      → IsMemberTurn g h h' c (change.do_view_change s from (message.DoViewChange view normal commit log))
   goes_do_view_change from view normal commit log sent = goes_other gr i b at fine from _ (λ other.
       let l = other_below s from other in
       let small : from < size g = omega (arith, fine.controllers) in
-      cond_both (member.is_primary_of s s.me view) _ _ (IsTurn g h h' c)
+      cond_both (member.is_primary_of s s.me view) _ _ (IsMemberTurn g h h' c)
       (λ primary. goes_collect from view normal commit log (primary_is fine view primary) small sent)
       (λ primary. goes_quiet gr i b at fine))
 
-  pub goes_supply : (from view first : ℕ) (log : List Entry) → IsIn (letter from c (core.Supply view first log)) h.sent → IsTurn g h h' c (change.supply s from (message.Supply view first log))
-  goes_supply from view first log sent = goes_other gr i b at fine from _ (λ other. cond_both (change.is_wanted s view first log) _ _ (IsTurn g h h' c)
+  pub goes_supply : (from view first : ℕ) (log : List Entry) → IsIn (abstract_letter from c (core.Supply view first log)) h.sent → IsMemberTurn g h h' c (change.supply s from (message.Supply view first log))
+  goes_supply from view first log sent = goes_other gr i b at fine from _ (λ other. cond_both (change.is_message_wanted s view first log) _ _ (IsMemberTurn g h h' c)
       (λ ok.
       let x = and_parts (change.is_change s view && member.is_primary s && nat_le first s.commit) (nat_lt (length (choosing.front s)) (first + length log)) ok in
       let y = and_parts (change.is_change s view && member.is_primary s) (nat_le first s.commit) x.0 in
@@ -190,13 +190,13 @@ module _ {g : Group Entry} {h h' : History Entry} {c : ℕ} {s : VrState} (gr : 
       goes_guarded gr i b at fine (entering.check kept) (goes_check gr o i b {st = steps.quiet kept} (record { walk = walk_stock gr i b (walk_at i at) from view first log n l sent; status = n; me = fine.me; controllers = fine.controllers })))
       (λ ok. goes_quiet gr i b at fine))
 
-  pub goes_recovery : (from nonce promise : ℕ) → IsIn (letter from c (core.Recovery nonce promise)) h.sent → IsTurn g h h' c (recovering.recovery s from (message.Recovery nonce promise))
-  goes_recovery from nonce promise sent = goes_other gr i b at fine from _ (λ other. cond_both (member.is_normal s) _ _ (IsTurn g h h' c)
+  pub goes_recovery : (from nonce promise : ℕ) → IsIn (abstract_letter from c (core.Recovery nonce promise)) h.sent → IsMemberTurn g h h' c (recovering.recovery s from (message.Recovery nonce promise))
+  goes_recovery from nonce promise sent = goes_other gr i b at fine from _ (λ other. cond_both (member.is_normal s) _ _ (IsMemberTurn g h h' c)
       (λ ok.
       let n = normal_of s.status ok in
       let l = other_below s from other in
       let small : from < size g = omega (arith, fine.controllers) in
-      cond_both (nat_lt s.view promise) _ _ (IsTurn g h h' c)
+      cond_both (nat_lt s.view promise) _ _ (IsMemberTurn g h h' c)
       (λ later. goes_enters promise (ap (λ (t : Bool). t && nat_lt s.view promise) (up_normal s.status ok) ∙ later))
       (λ no_later.
       let known : nonce ≤ h.life from = i.letters _ sent in
@@ -206,9 +206,9 @@ module _ {g : Group Entry} {h h' : History Entry} {c : ℕ} {s : VrState} (gr : 
       (λ ok. goes_quiet gr i b at fine))
 
   -- RECOVERYRESPONSE that may end a recovery
-  goes_ends : (rs : List Response) → Walk g c h (state_of (record s { responses = rs })) s.promise s.life [] → (state_of s).status ≡ core.Recovering → (view j : ℕ) → s.promise ≤ view → (q : Option Filled) → recovering.told_log view (find (λ r. nat_eq r.from j) rs) ≡ q
-      → IsTurn g h h' c (recovering.ends_with (record s { responses = rs }) view q)
-  goes_ends rs w n view j above None z = λ u tr. turn_keep gr i b w n (resembles_self (state_of (record s { responses = rs }))) u tr
+  goes_ends : (rs : List Response) → Walk g c h (member_state_of (record s { responses = rs })) s.promise s.life [] → (member_state_of s).status ≡ core.Recovering → (view j : ℕ) → s.promise ≤ view → (q : Option Filled) → recovering.told_log view (find (λ r. nat_eq r.from j) rs) ≡ q
+      → IsMemberTurn g h h' c (recovering.ends_with (record s { responses = rs }) view q)
+  goes_ends rs w n view j above None z = λ u tr. turn_keep gr i b w n (resembles_self (member_state_of (record s { responses = rs }))) u tr
   goes_ends rs w n view j above (Some f) z =
       let t : VrState = record s { responses = rs } in
       let t0 : VrState = record s { responses = [] } in
@@ -216,33 +216,33 @@ module _ {g : Group Entry} {h h' : History Entry} {c : ℕ} {s : VrState} (gr : 
       let x = told_by view (find (λ r. nat_eq r.from j) rs) f z in
       let x_view : x.0.view ≡ view = x.2 in
       let in' = found_in j rs x.0 x.1 in
-      let a : State Entry = adopted (state_of t) x.0.view f.log f.commit in
-      let new : VrState = adopting.adopted t0 view 0 f.commit f.log in
-      let like : Resembles a (state_of new) = normal_like a (state_of new) refl refl (sym x_view) (sym x_view) refl (omega (arith, blank.1)) (λ q. refl) in
+      let a : State Entry = adopted (member_state_of t) x.0.view f.log f.commit in
+      let new : VrState = adopting.adopted_log t0 view 0 f.commit f.log in
+      let like : Resembles a (member_state_of new) = normal_like a (member_state_of new) refl refl (sym x_view) (sym x_view) refl (omega (arith, blank.1)) (λ q. refl) in
       let promised : max s.promise view ≡ x.0.view = omega (arith, x_view) in
-      cond_both (nat_lt s.commit 0) _ _ (IsTurn g h h' c)
+      cond_both (nat_lt s.commit 0) _ _ (IsMemberTurn g h h' c)
       (λ gap. absurd (let l = ltb-true s.commit 0 gap in omega arith))
       (λ ok u tr.
       turn_recover gr i b at w (response_of x.0) f.commit (member.primary_of t x.0.view) f.log (nat_lt f.commit (length f.log)) n (mapped x.0 rs in') (ap answer_of x.3) (omega (arith, x_view)) like
-      (subst₂ (λ p ls. Moved h h' c (state_of new) p s.life ls) promised (acks_are c new f.commit ∙ ap (λ (q : ℕ). ack_if (nat_lt f.commit (length f.log)) c (member.primary_of s q) q (length f.log)) (sym x_view)) u) tr)
+      (subst₂ (λ p ls. Moved h h' c (member_state_of new) p s.life ls) promised (acks_are c new f.commit ∙ ap (λ (q : ℕ). ack_if (nat_lt f.commit (length f.log)) c (member.primary_of s q) q (length f.log)) (sym x_view)) u) tr)
 
-  goes_recovers : (rs : List Response) → Walk g c h (state_of (record s { responses = rs })) s.promise s.life [] → (state_of s).status ≡ core.Recovering → IsTurn g h h' c (recovering.recovers (record s { responses = rs }))
+  goes_recovers : (rs : List Response) → Walk g c h (member_state_of (record s { responses = rs })) s.promise s.life [] → (member_state_of s).status ≡ core.Recovering → IsMemberTurn g h h' c (recovering.recovers (record s { responses = rs }))
   goes_recovers rs w n =
       let t : VrState = record s { responses = rs } in
-      let top : ℕ = recovering.greatest_view rs in
-      cond_both (recovering.is_enough t) _ _ (λ q. IsTurn g h h' c (recovering.ends_with t top q))
+      let top : ℕ = recovering.greatest_view_told rs in
+      cond_both (recovering.are_responses_enough t) _ _ (λ q. IsMemberTurn g h h' c (recovering.ends_with t top q))
       (λ many. goes_ends rs w n top (member.primary_of t top) (leb-true s.promise top (and_parts (nat_lt (member.most_failures t) (length rs)) (nat_le s.promise top) many).1) (recovering.primary_log t top) refl)
-      (λ few u tr. turn_keep gr i b w n (resembles_self (state_of t)) u tr)
+      (λ few u tr. turn_keep gr i b w n (resembles_self (member_state_of t)) u tr)
 
-  pub goes_response : (from view nonce : ℕ) (filled : Option Filled) → IsIn (letter from c (core.RecoveryResponse view nonce (answer_of filled))) h.sent → IsTurn g h h' c (recovering.response s from (message.RecoveryResponse view nonce filled))
-  goes_response from view nonce filled sent = goes_other gr i b at fine from _ (λ other. cond_both (member.is_recovering s && nat_eq nonce s.life) _ _ (IsTurn g h h' c)
+  pub goes_response : (from view nonce : ℕ) (filled : Option Filled) → IsIn (abstract_letter from c (core.RecoveryResponse view nonce (answer_of filled))) h.sent → IsMemberTurn g h h' c (recovering.response s from (message.RecoveryResponse view nonce filled))
+  goes_response from view nonce filled sent = goes_other gr i b at fine from _ (λ other. cond_both (member.is_recovering s && nat_eq nonce s.life) _ _ (IsMemberTurn g h h' c)
       (λ ok.
       let x = and_parts (member.is_recovering s) (nat_eq nonce s.life) ok in
       let n = recovering_of s.status x.0 in
       let ne : from ≢ c = λ z. other_not_me s from other (z ∙ sym fine.me) in
       let one : Response = record { from = from; view = view; filled = filled } in
       let rs : List Response = recovering.with_response s.responses one in
-      let w = walk_keep gr i b at (response_of one) (map response_of rs) n ne (subst (λ (q : ℕ). IsIn (letter from c (core.RecoveryResponse view q (answer_of filled))) h.sent) (eqb-true nonce s.life x.1) sent)
+      let w = walk_keep gr i b at (response_of one) (map response_of rs) n ne (subst (λ (q : ℕ). IsIn (abstract_letter from c (core.RecoveryResponse view q (answer_of filled))) h.sent) (eqb-true nonce s.life x.1) sent)
       (λ q j. let z = unmapped q rs j in elim (keeping_in one s.responses z.0 z.1) [
         | inl p ↦ inl (z.2 ∙ ap (λ (r : Response). response_of r) p)
         | inr d ↦ inr (subst (λ (p : core.Response Entry). IsIn p (map response_of s.responses)) (sym z.2) (mapped z.0 s.responses d))
@@ -250,13 +250,13 @@ module _ {g : Group Entry} {h h' : History Entry} {c : ℕ} {s : VrState} (gr : 
       goes_guarded gr i b at fine (recovering.recovers (recovering.responded s one)) (goes_recovers rs w n))
       (λ ok. goes_quiet gr i b at fine))
 
-module _ {g : Group Entry} {h h' : History Entry} {c : ℕ} (s : VrState) (gr : IsGroup g) (i : Invariant g h) (b : c < size g) (at : StandsAt h c (state_of s) s.promise s.life) where
+module _ {g : Group Entry} {h h' : History Entry} {c : ℕ} (s : VrState) (gr : IsGroup g) (i : Invariant g h) (b : c < size g) (at : StandsAt h c (member_state_of s) s.promise s.life) where
   -- a crash, and a save that failed
-  pub goes_down : (promise life : ℕ) → s.promise ≤ promise → s.life ≤ life → IsTurn g h h' c (steps.quiet (down_state s.me s.controllers promise life))
-  goes_down promise life up older t tr = turn_fall gr i b at promise life up older (fallen_like (state_of s) (state_of (down_state s.me s.controllers promise life)) refl) t tr
+  pub goes_down : (promise life : ℕ) → s.promise ≤ promise → s.life ≤ life → IsMemberTurn g h h' c (steps.quiet (down_state s.me s.controllers promise life))
+  goes_down promise life up older t tr = turn_fall gr i b at promise life up older (fallen_like (member_state_of s) (member_state_of (down_state s.me s.controllers promise life)) refl) t tr
 
   -- a restart
-  pub goes_restart : (state_of s).status ≡ core.Down → IsTurn g h h' c (recovering.restarted s.me s.controllers s.promise (s.life + 1))
+  pub goes_restart : (member_state_of s).status ≡ core.Down → IsMemberTurn g h h' c (recovering.restarted s.me s.controllers s.promise (s.life + 1))
   goes_restart down t tr =
       let new : VrState = recovering.recovering_state s.me s.controllers s.promise (s.life + 1) in
       turn_rise gr i b at (letters_of c (steps.to_others new (message.Recovery (s.life + 1) s.promise))) down (says_mapped c (message.Recovery (s.life + 1) s.promise) (member.others new))

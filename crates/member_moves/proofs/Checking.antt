@@ -3,7 +3,7 @@ use Rattle.std.proofs.Common.{◌≡◌, ℕ, zero, suc, ◌+◌, ◌<◌, ◌�
 use Rattle.std.specs.List.{list_any}
 use Rattle.std.proofs.lemmas.Bool.{cases_lt, and_parts, or_parts, cond_both, cond-false, eqb-true, eqb-false, leb-true, ltb-true, ltb-false, ne_eqb}
 use Rattle.std.proofs.lemmas.List.{map-append, length-map}
-use Rattle.agreement.specs.History.{Group, size, primary_of, State, Message, Letter, History, Vote, letter}
+use Rattle.agreement.specs.History.{Group, size, primary_in, State, Message, Letter, History, Vote, abstract_letter}
 use Rattle.agreement.specs.Invariant.{IsGoodMessage, IsGoodLetter, Invariant, IsGroup}
 use Rattle.agreement.specs.Lists.{IsAtMost}
 use Rattle.list_facts.proofs.Elements.{in_append, in_left, in_right}
@@ -30,24 +30,24 @@ use Rattle.vr_log.specs.Choosing as choosing
 use Rattle.vr_log.specs.Steps as steps
 use Rattle.vr_log.specs.Steps.{VrStep}
 use Rattle.view_change.specs.Entering as entering
-use Rattle.member_moves.specs.Projection.{vote_of, supply_of, message_of, letters_of, state_of}
-use Rattle.member_moves.specs.Laws.{IsTurn}
+use Rattle.member_moves.specs.Projection.{vote_of, supply_of, message_of, letters_of, member_state_of}
+use Rattle.member_moves.specs.Laws.{IsMemberTurn}
 use Rattle.member_moves.proofs.Members.{same_primary, same_half, normal_like}
 
 pub letters_append : (c : ℕ) (xs ys : List VrLetter) → letters_of c (xs ++ ys) ≡ letters_of c xs ++ letters_of c ys
-letters_append c xs ys = map-append (λ (x : VrLetter). (letter c x.to (message_of x.message))) xs ys
+letters_append c xs ys = map-append (λ (x : VrLetter). (abstract_letter c x.to (message_of x.message))) xs ys
 
 -- letters to each
-pub each_same : (c : ℕ) (x : VrMessage) (to : List ℕ) → letters_of c (map (steps.letter x) to) ≡ map (λ j. (letter c j (message_of x))) to
+pub each_same : (c : ℕ) (x : VrMessage) (to : List ℕ) → letters_of c (map (steps.letter x) to) ≡ map (λ j. (abstract_letter c j (message_of x))) to
 each_same c x [] = refl
-each_same c x (j ∷ js) = ap (λ (ls : List (Letter Entry)). (letter c j (message_of x)) ∷ ls) (each_same c x js)
+each_same c x (j ∷ js) = ap (λ (ls : List (Letter Entry)). (abstract_letter c j (message_of x)) ∷ ls) (each_same c x js)
 
 pub zeros : (n j : ℕ) → slice_index (replicate n 0) j ≡ 0
 zeros zero j = refl
 zeros (suc n) zero = refl
 zeros (suc n) (suc j) = zeros n j
 
-front_is : (s : VrState) (q : Option Supplied) → effect.front_with (state_of s) (supply_of q) ≡ choosing.front_with s q
+front_is : (s : VrState) (q : Option Supplied) → effect.history_front_with (member_state_of s) (supply_of q) ≡ choosing.front_with s q
 front_is s None = refl
 front_is s (Some x) = refl
 
@@ -132,19 +132,19 @@ swapped xs ys x i = elim (in_append x ys xs i) [ inl z ↦ in_right x xs ys z | 
 
 -- a walk makes the step, and a view changes after it
 pub record IsWalk (g : Group Entry) (c : ℕ) (h : History Entry) (st : VrStep) : Type 0 where
-  pub walk : Walk g c h (state_of st.state) st.state.promise st.state.life (letters_of c st.letters)
-  pub status : (state_of st.state).status ≡ core.ViewChange
+  pub walk : Walk g c h (member_state_of st.state) st.state.promise st.state.life (letters_of c st.letters)
+  pub status : (member_state_of st.state).status ≡ core.ViewChange
   pub me : st.state.me ≡ c
   pub controllers : st.state.controllers ≡ size g
 
 module _ {g : Group Entry} {h : History Entry} {c : ℕ} (gr : IsGroup g) (b : c < size g) where
-  pub own_primary : {st : VrStep} → IsWalk g c h st → member.is_primary st.state ≡ true → c ≡ primary_of g st.state.view
+  pub own_primary : {st : VrStep} → IsWalk g c h st → member.is_primary st.state ≡ true → c ≡ primary_in g st.state.view
   own_primary {st} w z = sym (sym (same_primary g st.state w.controllers st.state.view) ∙ eqb-true (member.primary_of st.state st.state.view) st.state.me z ∙ w.me)
 
   -- no more letters
   walked_quiet : (st : VrStep) (t : VrState) → IsWalk g c h (record st { state = t }) → IsWalk g c h (steps.then_step st (λ q. steps.quiet t))
   walked_quiet st t w = record {
-    walk = subst (λ (ls : List VrLetter). Walk g c h (state_of t) t.promise t.life (letters_of c ls)) (sym (append-nil st.letters)) w.walk;
+    walk = subst (λ (ls : List VrLetter). Walk g c h (member_state_of t) t.promise t.life (letters_of c ls)) (sym (append-nil st.letters)) w.walk;
     status = w.status;
     me = w.me;
     controllers = w.controllers;
@@ -153,13 +153,13 @@ module _ {g : Group Entry} {h : History Entry} {c : ℕ} (gr : IsGroup g) (b : c
   -- one more letter
   walked_tells : {st : VrStep} (w : IsWalk g c h st) (to : ℕ) (x : VrMessage) → ((a q : ℕ) → is_prepare_ok (message_of x) a q ≡ false) → IsGoodMessage g w.walk.at c to (message_of x) → IsWalk g c h (record st { letters = st.letters ++ steps.letter x to ∷ [] })
   walked_tells {st} w to x unlike good =
-      let one : List (Letter Entry) = letter c to (message_of x) ∷ [] in
+      let one : List (Letter Entry) = abstract_letter c to (message_of x) ∷ [] in
       let old : List (Letter Entry) = letters_of c st.letters in
       let w1 = walk_says gr b w.walk one (λ z j. elim j [ inl q ↦ ap (λ (p : Letter Entry). p.sender) q | inr q ↦ absurd q ]) (λ z j a n. elim j [ inl q ↦ ap (λ (p : Letter Entry). is_prepare_ok p.message a n) q ∙ unlike a n | inr q ↦ absurd q ])
       (λ z j. elim j [ inl q ↦ subst (λ (p : Letter Entry). IsGoodLetter g w.walk.at p) (sym q) good | inr q ↦ absurd q ]) in
       let same = letters_append c st.letters (steps.letter x to ∷ []) in
       record {
-        walk = subst (λ (ls : List (Letter Entry)). Walk g c h (state_of st.state) st.state.promise st.state.life ls) (sym same) (walk_same gr b w1 (λ q j. swapped old one q j) (λ q j. swapped one old q j));
+        walk = subst (λ (ls : List (Letter Entry)). Walk g c h (member_state_of st.state) st.state.promise st.state.life ls) (sym same) (walk_same gr b w1 (λ q j. swapped old one q j) (λ q j. swapped one old q j));
         status = w.status;
         me = w.me;
         controllers = w.controllers;
@@ -178,7 +178,7 @@ module _ {g : Group Entry} {h : History Entry} {c : ℕ} (gr : IsGroup g) (b : c
       let vote : ℕ → Vote Entry = λ j. record { from = j; normal = s.normal; commit = s.commit; rest = drop s.commit s.log } in
       let more : map vote_of s.collected ++ vote c ∷ [] ≡ map vote_of (s.collected ++ entering.own_log s ∷ []) =
       ap (λ (j : ℕ). map vote_of s.collected ++ vote j ∷ []) (sym w.me) ∙ sym (map-append (λ (x : Collected). vote_of x) s.collected (entering.own_log s ∷ [])) in
-      walked_quiet st (record s { collected = s.collected ++ entering.own_log s ∷ []; sent = true }) (record { walk = subst (λ (cs : List (Vote Entry)). Walk g c h (record (state_of s) { collected = cs }) s.promise s.life (letters_of c st.letters)) more w1; status = w.status; me = w.me; controllers = w.controllers })))
+      walked_quiet st (record s { collected = s.collected ++ entering.own_log s ∷ []; sent = true }) (record { walk = subst (λ (cs : List (Vote Entry)). Walk g c h (record (member_state_of s) { collected = cs }) s.promise s.life (letters_of c st.letters)) more w1; status = w.status; me = w.me; controllers = w.controllers })))
       (λ own.
       let told = own_good_vote (walk_good gr b w.walk) w.status in
       let w1 = walked_tells w (member.primary_of s s.view) (message.DoViewChange s.view s.normal s.commit (drop s.commit s.log)) (λ a q. refl) told in
@@ -186,12 +186,12 @@ module _ {g : Group Entry} {h : History Entry} {c : ℕ} (gr : IsGroup g) (b : c
       (λ no. walked_quiet st s (record { walk = w.walk; status = w.status; me = w.me; controllers = w.controllers }))
 
 module _ {g : Group Entry} {h h' : History Entry} {c : ℕ} (gr : IsGroup g) (o : 1 ≤ g.most_failures) (i : Invariant g h) (b : c < size g) where
-  goes_changing : (st : VrStep) → IsWalk g c h st → IsTurn g h h' c st
-  goes_changing st w t tr = end_changing gr i b w.walk w.status (resembles_self (state_of st.state)) t (λ y j. j) (λ y j. j) tr
+  goes_changing : (st : VrStep) → IsWalk g c h st → IsMemberTurn g h h' c st
+  goes_changing st w t tr = end_changing gr i b w.walk w.status (resembles_self (member_state_of st.state)) t (λ y j. j) (λ y j. j) tr
 
   -- the view starts
   goes_starts : {st : VrStep} → IsWalk g c h st → member.is_primary st.state ≡ true → (x : Collected) (xs : List Collected) → st.state.collected ≡ x ∷ xs → g.most_failures < length st.state.collected → (choosing.best_of x xs).commit ≤ length (choosing.front st.state)
-      → IsTurn g h h' c (steps.then_step st (λ s. entering.starts s x xs))
+      → IsMemberTurn g h h' c (steps.then_step st (λ s. entering.starts s x xs))
   goes_starts {st} w own x xs z many long t tr =
       let s : VrState = st.state in
       let star : Collected = choosing.best_of x xs in
@@ -200,43 +200,43 @@ module _ {g : Group Entry} {h h' : History Entry} {c : ℕ} (gr : IsGroup g) (o 
       let base : ℕ = choosing.least_commit x.commit xs in
       let most : ℕ = choosing.greatest_commit x.commit xs in
       let log : List Entry = take star.commit (choosing.front s) ++ star.log in
-      let new : VrState = entering.started s log base most in
+      let new : VrState = entering.started_view s log base most in
       let good = best_good x xs in
       let is = own_primary gr b w own in
       let half : member.most_failures s ≡ g.most_failures = same_half g s w.controllers in
-      let front : effect.front_of (state_of s) ≡ choosing.front s = front_is s s.supply in
-      let made : log ≡ take star.commit (effect.front_of (state_of s)) ++ star.log = ap (λ (l : List Entry). take star.commit l ++ star.log) (sym front) in
-      let long' : star.commit ≤ length (effect.front_of (state_of s)) = omega (arith, ap length front) in
+      let front : effect.front_of (member_state_of s) ≡ choosing.front s = front_is s s.supply in
+      let made : log ≡ take star.commit (effect.front_of (member_state_of s)) ++ star.log = ap (λ (l : List Entry). take star.commit l ++ star.log) (sym front) in
+      let long' : star.commit ≤ length (effect.front_of (member_state_of s)) = omega (arith, ap length front) in
       let all_in : (y : Collected) → IsIn y (x ∷ xs) → IsIn (vote_of y) (map vote_of s.collected) = λ y j. member_map y s.collected (subst (λ (cs : List Collected). IsIn y cs) (sym z) j) in
       let in_star = all_in star good.0 in
       let below : (y : Vote Entry) → IsIn y (map vote_of s.collected) → IsAtMost y.normal (y.commit + length y.rest) star.normal (star.commit + length star.log) = λ y j.
       let q = map_member y s.collected j in
       subst (λ (p : Vote Entry). IsAtMost p.normal (p.commit + length p.rest) star.normal (star.commit + length star.log)) (sym q.2) (good.1 q.0 (subst (λ (cs : List Collected). IsIn q.0 cs) z q.1)) in
-      let a : State Entry = move.started (state_of s) log top.commit in
+      let a : State Entry = move.started (member_state_of s) log top.commit in
       let commit_is : new.commit ≡ top.commit = cond-false (eqb (member.most_failures s) 0) (length log) most (ne_eqb (member.most_failures s) 0 (λ q. absurd (omega arith))) ∙ some.2 in
-      let like : Resembles a (state_of new) = normal_like a (state_of new) refl refl refl refl refl commit_is (λ j. zeros s.controllers j) in
+      let like : Resembles a (member_state_of new) = normal_like a (member_state_of new) refl refl refl refl refl commit_is (λ j. zeros s.controllers j) in
       let said : List (Letter Entry) = letters_of c st.letters in
       let told : List VrLetter = steps.to_others new (entering.view_start new) in
-      let told_is : letters_of c told ≡ effect.tells c (member.others s) base a =
-      each_same c (entering.view_start new) (member.others s) ∙ ap (λ (k : ℕ). map (λ (j : ℕ). (letter c j (core.StartView s.view base k (drop base log)))) (member.others s)) commit_is in
-      let whole : letters_of c (st.letters ++ told) ≡ said ++ effect.tells c (member.others s) base a = letters_append c st.letters told ∙ ap (λ (ls : List (Letter Entry)). said ++ ls) told_is in
+      let told_is : letters_of c told ≡ effect.tells_view c (member.others s) base a =
+      each_same c (entering.view_start new) (member.others s) ∙ ap (λ (k : ℕ). map (λ (j : ℕ). (abstract_letter c j (core.StartView s.view base k (drop base log)))) (member.others s)) commit_is in
+      let whole : letters_of c (st.letters ++ told) ≡ said ++ effect.tells_view c (member.others s) base a = letters_append c st.letters told ∙ ap (λ (ls : List (Letter Entry)). said ++ ls) told_is in
       end_start gr i b w.walk (member.others s) base [] (vote_of star) (vote_of top) log w.status is (omega (arith, length-map s.collected (λ (y : Collected). vote_of y))) in_star below (all_in top some.1) long' made tt (
         like,
         t,
-        (λ q j. subst (λ (ls : List (Letter Entry)). IsIn q ls) (sym whole) (swapped said (effect.tells c (member.others s) base a) q j)),
-        (λ q j. swapped (effect.tells c (member.others s) base a) said q (subst (λ (ls : List (Letter Entry)). IsIn q ls) whole j)),
+        (λ q j. subst (λ (ls : List (Letter Entry)). IsIn q ls) (sym whole) (swapped said (effect.tells_view c (member.others s) base a) q j)),
+        (λ q j. swapped (effect.tells_view c (member.others s) base a) said q (subst (λ (ls : List (Letter Entry)). IsIn q ls) whole j)),
       ) tr
 
-  goes_chooses_from : {st : VrStep} → IsWalk g c h st → member.is_primary st.state ≡ true → (all : List Collected) → st.state.collected ≡ all → g.most_failures < length st.state.collected → IsTurn g h h' c (steps.then_step st (λ s. entering.chooses_from s all))
+  goes_chooses_from : {st : VrStep} → IsWalk g c h st → member.is_primary st.state ≡ true → (all : List Collected) → st.state.collected ≡ all → g.most_failures < length st.state.collected → IsMemberTurn g h h' c (steps.then_step st (λ s. entering.chooses_from s all))
   goes_chooses_from w own [] z many = let q = ap length z in absurd (omega arith)
-  goes_chooses_from {st} w own (x ∷ xs) z many = cond_both (choosing.reaches st.state (choosing.best_of x xs)) _ _ (λ q. IsTurn g h h' c (steps.then_step st (λ s. q)))
+  goes_chooses_from {st} w own (x ∷ xs) z many = cond_both (choosing.reaches st.state (choosing.best_of x xs)) _ _ (λ q. IsMemberTurn g h h' c (steps.then_step st (λ s. q)))
       (λ long. goes_starts w own x xs z many (leb-true (choosing.best_of x xs).commit (length (choosing.front st.state)) long))
       (λ short. goes_changing (steps.then_step st (λ s. steps.sends st.state (choosing.fetch_letter st.state (choosing.best_of x xs) ∷ []))) (let w1 = walked_tells gr b w (choosing.best_of x xs).from (message.Fetch st.state.view st.state.commit) (λ a q. refl) tt in record { walk = w1.walk; status = w1.status; me = w1.me; controllers = w1.controllers }))
 
-  goes_chooses : {st : VrStep} → IsWalk g c h st → IsTurn g h h' c (steps.then_step st entering.chooses)
+  goes_chooses : {st : VrStep} → IsWalk g c h st → IsMemberTurn g h h' c (steps.then_step st entering.chooses)
   goes_chooses {st} w =
       let s : VrState = st.state in
-      cond_both (choosing.may_choose s) _ _ (λ q. IsTurn g h h' c (steps.then_step st (λ s. q)))
+      cond_both (choosing.may_choose s) _ _ (λ q. IsMemberTurn g h h' c (steps.then_step st (λ s. q)))
       (λ ok.
       let x = and_parts (member.is_changing s && member.is_primary s && choosing.has_collected s s.me) (nat_lt (member.most_failures s) (length s.collected)) ok in
       let y = and_parts (member.is_changing s && member.is_primary s) (choosing.has_collected s s.me) x.0 in
@@ -245,9 +245,9 @@ module _ {g : Group Entry} {h h' : History Entry} {c : ℕ} (gr : IsGroup g) (o 
       goes_chooses_from w (and_parts (member.is_changing s) (member.is_primary s) y.0).1 s.collected refl (omega arith))
       (λ ok. goes_changing (steps.then_step st (λ q. steps.quiet s)) (walked_quiet gr b st s (record { walk = w.walk; status = w.status; me = w.me; controllers = w.controllers })))
 
-  pub goes_check : {st : VrStep} → IsWalk g c h st → IsTurn g h h' c (steps.then_step st entering.check)
+  pub goes_check : {st : VrStep} → IsWalk g c h st → IsMemberTurn g h h' c (steps.then_step st entering.check)
   goes_check {st} w0 t tr =
       let w = walked_votes gr b w0 in
       let voted : VrStep = entering.votes st.state in
       let last : VrStep = entering.chooses voted.state in
-      goes_chooses w (subst (λ (ls : List VrLetter). Moved h h' c (state_of last.state) last.state.promise last.state.life (letters_of c ls)) (sym (append_assoc st.letters voted.letters last.letters)) t) tr
+      goes_chooses w (subst (λ (ls : List VrLetter). Moved h h' c (member_state_of last.state) last.state.promise last.state.life (letters_of c ls)) (sym (append_assoc st.letters voted.letters last.letters)) t) tr

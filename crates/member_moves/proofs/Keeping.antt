@@ -189,7 +189,7 @@ module _ (s : VrState) where
       record { me = refl; controllers = refl; life = refl; acked = λ q. q; rises = λ u. let p = u x.0 in omega arith }
 
   enters_keeps : (view : ℕ) → member.is_later s view ≡ true → KeepsMember s (steps.guarded s (change.enters s view))
-  enters_keeps view z = guarded_keeps (change.enters s view) (then_keeps s (entering.enter s view) entering.check (enter_keeps view z) (check_nothing (entering.entered s view)))
+  enters_keeps view z = guarded_keeps (change.enters s view) (then_keeps s (entering.enter s view) entering.check (enter_keeps view z) (check_nothing (entering.entered_view s view)))
 
   pub suspect_keeps : (view : ℕ) → KeepsMember s (change.suspect s view)
   suspect_keeps view = cond_both (member.is_later s view) _ _ (KeepsMember s) (λ a. enters_keeps view a) (λ a. quiet_keeps s)
@@ -202,7 +202,7 @@ module _ (s : VrState) where
   start_view_change_keeps : (from view : ℕ) → KeepsMember s (change.start_view_change s from (message.StartViewChange view))
   start_view_change_keeps from view = other_keeps from _ (cond_both (member.is_later s view) _ _ (KeepsMember s)
       (λ later.
-      let t : VrState = entering.entered s view in
+      let t : VrState = entering.entered_view s view in
       guarded_keeps (steps.then_step (entering.enter s view) (λ next. entering.check (entering.voted next from)))
       (then_keeps s (entering.enter s view) (λ next. entering.check (entering.voted next from)) (enter_keeps view later) (nothing_trans t (entering.voted t from) _ (record { me = refl; controllers = refl; life = refl; acked = λ z. z }) (check_nothing (entering.voted t from)))))
       (λ later. cond_both (nat_eq view s.view) _ _ (KeepsMember s) (λ b. vote_here_keeps from) (λ b. quiet_keeps s)))
@@ -210,7 +210,7 @@ module _ (s : VrState) where
   collect_keeps : (view : ℕ) (c : Collected) → KeepsMember s (change.collect s view c)
   collect_keeps view c = cond_both (member.is_later s view) _ _ (KeepsMember s)
       (λ later.
-      let t : VrState = entering.entered s view in
+      let t : VrState = entering.entered_view s view in
       guarded_keeps (steps.then_step (entering.enter s view) (λ next. entering.check (entering.collects next c)))
       (then_keeps s (entering.enter s view) (λ next. entering.check (entering.collects next c)) (enter_keeps view later) (nothing_trans t (entering.collects t c) _ (collects_same t c) (check_nothing (entering.collects t c)))))
       (λ later. cond_both (nat_eq view s.view && member.is_changing s) _ _ (KeepsMember s)
@@ -223,7 +223,7 @@ module _ (s : VrState) where
   supply_keeps : (from view first : ℕ) (log : List Entry) → KeepsMember s (change.supply s from (message.Supply view first log))
   supply_keeps from view first log =
       let t : VrState = change.supplied s first log in
-      other_keeps from _ (cond_both (change.is_wanted s view first log) _ _ (KeepsMember s)
+      other_keeps from _ (cond_both (change.is_message_wanted s view first log) _ _ (KeepsMember s)
       (λ a. guarded_keeps (entering.check t) (nothing_keeps s t _ (record { me = refl; controllers = refl; life = refl; acked = λ z. z }) (check_nothing t))) (λ a. quiet_keeps s))
 
   recovery_keeps : (from nonce promise : ℕ) → KeepsMember s (recovering.recovery s from (message.Recovery nonce promise))
@@ -243,7 +243,7 @@ module _ (s : VrState) where
       let t : VrState = recovering.responded s (record { from = from; view = view; filled = filled }) in
       let l : SameMember s t = record { me = refl; controllers = refl; life = refl; acked = λ z. z } in
       other_keeps from _ (cond_both (member.is_recovering s && nat_eq nonce s.life) _ _ (KeepsMember s)
-      (λ a. guarded_keeps (recovering.recovers t) (ends_keeps t l refl (recovering.greatest_view t.responses) (recovering.ending t)))
+      (λ a. guarded_keeps (recovering.recovers t) (ends_keeps t l refl (recovering.greatest_view_told t.responses) (recovering.ending t)))
       (λ a. quiet_keeps s))
 
   pub on_vr_keeps : (from : ℕ) (x : VrMessage) → KeepsMember s (on_vr s from x)

@@ -161,14 +161,14 @@ check_valid : (s : VrState) → CanBeSpelled s → IsValidWhereShort (entering.c
 check_valid s p l = let a = votes_valid s p in then_valid (entering.votes s) entering.chooses a (chooses_valid (entering.votes s).state a.state l)
 
 module _ (s : VrState) (p : CanBeSpelled s) where
-  entered_spelled : (view : ℕ) → CanBeSpelled (entering.entered s view)
+  entered_spelled : (view : ℕ) → CanBeSpelled (entering.entered_view s view)
   entered_spelled view = record { log = p.log; collected = tt; supply = tt; responses = p.responses }
 
   enter_valid : (view : ℕ) → IsValidStep (entering.enter s view)
   enter_valid view = record { state = entered_spelled view; letters = others_valid s (message.StartViewChange view) tt }
 
   enters_valid : (view : ℕ) → IsValidStep (steps.guarded s (change.enters s view))
-  enters_valid view = guarded_valid s (change.enters s view) p (λ l. then_valid (entering.enter s view) entering.check (enter_valid view) (check_valid (entering.entered s view) (entered_spelled view) l))
+  enters_valid view = guarded_valid s (change.enters s view) p (λ l. then_valid (entering.enter s view) entering.check (enter_valid view) (check_valid (entering.entered_view s view) (entered_spelled view) l))
 
   pub suspect_valid : (view : ℕ) → IsValidStep (change.suspect s view)
   suspect_valid view = cond_both (member.is_later s view) _ _ IsValidStep (λ a. enters_valid view) (λ a. quiet_valid s p)
@@ -242,7 +242,7 @@ module _ (s : VrState) (p : CanBeSpelled s) where
   start_view_change_valid : (from view : ℕ) → IsValidStep (change.start_view_change s from (message.StartViewChange view))
   start_view_change_valid from view = other_valid s p from _ (cond_both (member.is_later s view) _ _ IsValidStep
       (λ b.
-      let t : VrState = entering.entered s view in
+      let t : VrState = entering.entered_view s view in
       guarded_valid s (steps.then_step (entering.enter s view) (λ next. entering.check (entering.voted next from))) p
       (later_granted (entering.enter s view) (λ next. entering.check (entering.voted next from)) (enter_valid s p view) (check_valid (entering.voted t from) (voted_spelled t (entered_spelled s p view) from))))
       (λ b. cond_both (nat_eq view s.view) _ _ IsValidStep
@@ -253,7 +253,7 @@ module _ (s : VrState) (p : CanBeSpelled s) where
   do_view_change_valid : (from view normal commit : ℕ) (log : List Entry) → IsValidLog log → IsValidStep (change.do_view_change s from (message.DoViewChange view normal commit log))
   do_view_change_valid from view normal commit log q =
       let c : Collected = record { from = from; normal = normal; commit = commit; log = log } in
-      let t : VrState = entering.entered s view in
+      let t : VrState = entering.entered_view s view in
       other_valid s p from _ (cond_both (member.is_primary_of s s.me view) _ _ IsValidStep
       (λ a. cond_both (member.is_later s view) _ _ IsValidStep
       (λ b. guarded_valid s (steps.then_step (entering.enter s view) (λ next. entering.check (entering.collects next c))) p
@@ -264,7 +264,7 @@ module _ (s : VrState) (p : CanBeSpelled s) where
   supply_valid : (from view first : ℕ) (log : List Entry) → IsValidLog log → IsValidStep (change.supply s from (message.Supply view first log))
   supply_valid from view first log q =
       let t : VrState = change.supplied s first log in
-      other_valid s p from _ (cond_both (change.is_wanted s view first log) _ _ IsValidStep
+      other_valid s p from _ (cond_both (change.is_message_wanted s view first log) _ _ IsValidStep
       (λ a. guarded_valid s (entering.check t) p (check_valid t (record { log = p.log; collected = p.collected; supply = q; responses = p.responses }))) (λ a. quiet_valid s p))
 
   filled_valid : IsValidFilled (recovering.filled s)
@@ -289,8 +289,8 @@ module _ (s : VrState) (p : CanBeSpelled s) where
   ends_valid t u view (Some f) w = adopt_valid (record t { responses = [] }) (record { log = u.log; collected = u.collected; supply = u.supply; responses = tt }) view 0 f.commit f.log w
 
   ending_valid : (t : VrState) → CanBeSpelled t → IsValidFilled (recovering.ending t)
-  ending_valid t u = cond_both (recovering.is_enough t) _ _ IsValidFilled
-      (λ b. found_valid (recovering.greatest_view t.responses) (member.primary_of t (recovering.greatest_view t.responses)) t.responses u.responses) (λ b. tt)
+  ending_valid t u = cond_both (recovering.are_responses_enough t) _ _ IsValidFilled
+      (λ b. found_valid (recovering.greatest_view_told t.responses) (member.primary_of t (recovering.greatest_view_told t.responses)) t.responses u.responses) (λ b. tt)
 
   response_valid : (from view nonce : ℕ) (filled : Option Filled) → IsValidFilled filled → IsValidStep (recovering.response s from (message.RecoveryResponse view nonce filled))
   response_valid from view nonce filled q =
@@ -298,7 +298,7 @@ module _ (s : VrState) (p : CanBeSpelled s) where
       let t : VrState = recovering.responded s r in
       let u : CanBeSpelled t = record { log = p.log; collected = p.collected; supply = p.supply; responses = with_valid r q s.responses p.responses } in
       other_valid s p from _ (cond_both (member.is_recovering s && nat_eq nonce s.life) _ _ IsValidStep
-      (λ a. guarded_valid s (recovering.recovers t) p (ends_valid t u (recovering.greatest_view t.responses) (recovering.ending t) (ending_valid t u)))
+      (λ a. guarded_valid s (recovering.recovers t) p (ends_valid t u (recovering.greatest_view_told t.responses) (recovering.ending t) (ending_valid t u)))
       (λ a. quiet_valid s p))
 
   pub on_vr_valid : (from : ℕ) (x : VrMessage) → IsValidVr x → IsValidStep (on_vr s from x)

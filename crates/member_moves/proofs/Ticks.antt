@@ -2,7 +2,7 @@
 use Rattle.std.proofs.Common.{◌≡◌, ℕ, ◌+◌, ◌<◌, ◌≤◌, inl, inr, false, cond, not, nat_eq, ◌&&◌, List, [], ◌∷◌, ◌++◌, length, take, drop, map, refl, sym, ap, ◌∙◌, subst, le_refl, take-append-drop, length-append, append_assoc}
 use Rattle.std.specs.Prelude.{flat_map}
 use Rattle.std.proofs.lemmas.Bool.{cond_both}
-use Rattle.agreement.specs.History.{Group, size, State, Message, Letter, History, letter}
+use Rattle.agreement.specs.History.{Group, size, State, Message, Letter, History, abstract_letter}
 use Rattle.agreement.specs.Invariant.{IsGoodPrepare, IsGoodMessage, IsGoodLetter, Invariant, IsGroup}
 use Rattle.list_facts.proofs.Elements.{in_append}
 use Rattle.list_facts.proofs.Prefixes.{take_within}
@@ -27,8 +27,8 @@ use Rattle.vr_log.specs.Choosing as choosing
 use Rattle.vr_log.specs.Steps as steps
 use Rattle.vr_log.specs.Steps.{VrStep}
 use Rattle.vr_normal.specs.Ticks as tick
-use Rattle.member_moves.specs.Projection.{status_of, message_of, letters_of, state_of}
-use Rattle.member_moves.specs.Laws.{IsTurn}
+use Rattle.member_moves.specs.Projection.{member_status_of, message_of, letters_of, member_state_of}
+use Rattle.member_moves.specs.Laws.{IsMemberTurn}
 use Rattle.member_moves.proofs.Members.{IsMemberOf, goes_quiet}
 use Rattle.member_moves.proofs.Checking.{letters_append}
 
@@ -66,15 +66,15 @@ module _ {g : Group Entry} {h : History Entry} {c : ℕ} where
   good_front s [] = good_none
   good_front s (x ∷ xs) = cond_both (choosing.reaches s (choosing.best_of x xs)) _ _ (λ ls. AreGood g h c ls) (λ a. good_none) (λ a. good_one (message.Fetch s.view s.commit) (choosing.best_of x xs).from (λ p q. refl) (λ j. tt))
 
-module _ {g : Group Entry} {h : History Entry} {c : ℕ} (s : VrState) (i : Invariant g h) (b : c < size g) (at : StandsAt h c (state_of s) s.promise s.life) where
-  good_prepares : (state_of s).status ≡ core.Normal → (to : ℕ) (before es rest : List Entry) (place : ℕ) → place ≡ length before + 1 → s.log ≡ before ++ (es ++ rest) → AreGood g h c (tick.prepares_from s.view s.commit place es to)
+module _ {g : Group Entry} {h : History Entry} {c : ℕ} (s : VrState) (i : Invariant g h) (b : c < size g) (at : StandsAt h c (member_state_of s) s.promise s.life) where
+  good_prepares : (member_state_of s).status ≡ core.Normal → (to : ℕ) (before es rest : List Entry) (place : ℕ) → place ≡ length before + 1 → s.log ≡ before ++ (es ++ rest) → AreGood g h c (tick.prepares_from s.view s.commit place es to)
   good_prepares n to before [] rest place e is = good_none
   good_prepares n to before (x ∷ es) rest place e is =
       let good : IsGoodPrepare g h s.view place s.commit x = subst (λ (q : ℕ). IsGoodPrepare g h s.view q s.commit x) (sym e) (own_prepare (good_at i b at) before x (es ++ rest) n is) in
       good_both (steps.letter (message.Prepare s.view place s.commit x) to ∷ []) (tick.prepares_from s.view s.commit (place + 1) es to) (good_one (message.Prepare s.view place s.commit x) to (λ p q. refl) (λ j. good))
       (good_prepares n to (before ++ x ∷ []) es rest (place + 1) (ap (λ (q : ℕ). q + 1) (e ∙ sym (length-append before (x ∷ [])))) (is ∙ sym (append_assoc before (x ∷ []) (es ++ rest))))
 
-  good_repeats : (state_of s).status ≡ core.Normal → (to : List ℕ) → AreGood g h c (flat_map (tick.repeats_to s) to)
+  good_repeats : (member_state_of s).status ≡ core.Normal → (to : List ℕ) → AreGood g h c (flat_map (tick.repeats_to s) to)
   good_repeats n [] = good_none
   good_repeats n (j ∷ js) =
       let own = own_of_view (good_at i b at) n in
@@ -85,11 +85,11 @@ module _ {g : Group Entry} {h : History Entry} {c : ℕ} (s : VrState) (i : Inva
       (sym (take-append-drop s.commit s.log) ∙ ap (λ (l : List Entry). take s.commit s.log ++ l) (sym (take-append-drop tick.most_repeated rest)))))
       (good_repeats n js)
 
-module _ {g : Group Entry} {h h' : History Entry} {c : ℕ} {s : VrState} (gr : IsGroup g) (i : Invariant g h) (b : c < size g) (at : StandsAt h c (state_of s) s.promise s.life) (fine : IsMemberOf g c s) where
-  goes_sends : (ls : List VrLetter) → AreGood g h c ls → IsTurn g h h' c (steps.sends s ls)
-  goes_sends ls f t tr = turn_speak gr i b at (letters_of c ls) f.from_c f.unlike f.good (resembles_self (state_of s)) t (quiet_by t tr (λ n is. sym (own_log (good_at i b at) n is)))
+module _ {g : Group Entry} {h h' : History Entry} {c : ℕ} {s : VrState} (gr : IsGroup g) (i : Invariant g h) (b : c < size g) (at : StandsAt h c (member_state_of s) s.promise s.life) (fine : IsMemberOf g c s) where
+  goes_sends : (ls : List VrLetter) → AreGood g h c ls → IsMemberTurn g h h' c (steps.sends s ls)
+  goes_sends ls f t tr = turn_speak gr i b at (letters_of c ls) f.from_c f.unlike f.good (resembles_self (member_state_of s)) t (quiet_by t tr (λ n is. sym (own_log (good_at i b at) n is)))
 
-  goes_changing : (state_of s).status ≡ core.ViewChange → IsTurn g h h' c (tick.tick_changing s)
+  goes_changing : (member_state_of s).status ≡ core.ViewChange → IsMemberTurn g h h' c (tick.tick_changing s)
   goes_changing n =
       let told = own_good_vote (good_at i b at) n in
       let ask : AreGood g h c (steps.to_others s (message.StartViewChange s.view)) = good_each (message.StartViewChange s.view) (member.others s) (λ p q. refl) (λ j. tt) in
@@ -98,22 +98,22 @@ module _ {g : Group Entry} {h h' : History Entry} {c : ℕ} {s : VrState} (gr : 
       let front : AreGood g h c (choosing.fetches s) = cond_both (choosing.may_choose s) _ _ (λ ls. AreGood g h c ls) (λ z. good_front s s.collected) (λ z. good_none) in
       goes_sends (steps.to_others s (message.StartViewChange s.view) ++ tick.sent_log s ++ choosing.fetches s) (good_both (steps.to_others s (message.StartViewChange s.view) ++ tick.sent_log s) (choosing.fetches s) (good_both (steps.to_others s (message.StartViewChange s.view)) (tick.sent_log s) ask log) front)
 
-  goes_recovering : IsTurn g h h' c (tick.tick_recovering s)
+  goes_recovering : IsMemberTurn g h h' c (tick.tick_recovering s)
   goes_recovering = goes_sends (steps.to_others s (message.Recovery s.life s.promise)) (good_each (message.Recovery s.life s.promise) (member.others s) (λ p q. refl) (λ j. subst (λ (q : ℕ). s.life ≤ q) (sym at.life_is) (le_refl s.life)))
 
-  goes_primary : (state_of s).status ≡ core.Normal → IsTurn g h h' c (tick.tick_primary s)
+  goes_primary : (member_state_of s).status ≡ core.Normal → IsMemberTurn g h h' c (tick.tick_primary s)
   goes_primary n = goes_sends (flat_map (tick.repeats_to s) (member.others s)) (good_repeats s i b at n (member.others s))
 
-  pub goes_tick : IsTurn g h h' c (tick.ticked s)
+  pub goes_tick : IsMemberTurn g h h' c (tick.ticked s)
   goes_tick = by s.status refl
     where
-      by : (x : Status) → s.status ≡ x → IsTurn g h h' c (elim x [
+      by : (x : Status) → s.status ≡ x → IsMemberTurn g h h' c (elim x [
         | status.Normal ↦ cond (member.is_primary s) (tick.tick_primary s) (steps.quiet s)
         | status.ViewChange ↦ tick.tick_changing s
         | status.Recovering ↦ tick.tick_recovering s
         | status.Down ↦ steps.quiet s
       ])
-      by status.Normal e = cond_both (member.is_primary s) _ _ (IsTurn g h h' c) (λ own. goes_primary (ap status_of e)) (λ own. goes_quiet gr i b at fine)
-      by status.ViewChange e = goes_changing (ap status_of e)
+      by status.Normal e = cond_both (member.is_primary s) _ _ (IsMemberTurn g h h' c) (λ own. goes_primary (ap member_status_of e)) (λ own. goes_quiet gr i b at fine)
+      by status.ViewChange e = goes_changing (ap member_status_of e)
       by status.Recovering e = goes_recovering
       by status.Down e = goes_quiet gr i b at fine

@@ -1,7 +1,7 @@
 -- Each step of a member is a turn of moves.
 use Rattle.std.proofs.Common.{◌≡◌, ℕ, ◌<◌, ◌≤◌, nat_eq, length, sym, ap, ◌∙◌}
 use Rattle.std.proofs.lemmas.Bool.{and_from, eq-eqb}
-use Rattle.agreement.specs.History.{Group, size, History, letter}
+use Rattle.agreement.specs.History.{Group, size, History, abstract_letter}
 use Rattle.agreement.specs.Invariant.{Invariant, IsGroup}
 use Rattle.list_facts.specs.Lists.{IsIn}
 use Rattle.agreement.specs.Moves.{StandsAt}
@@ -10,8 +10,8 @@ use Rattle.vr_log.specs.declared.message.VrMessage.{VrMessage}
 use Rattle.vr_log.specs.declared.message.VrMessage.TheVariants as message
 use Rattle.vr_log.specs.declared.state.VrState.{VrState}
 use Rattle.vr_core.specs.Step.{on_vr, vr_step}
-use Rattle.member_moves.specs.Projection.{message_of, state_of, status_of}
-use Rattle.member_moves.specs.Laws.{MessagesTurn, SuspicionsTurn, ProposalsTurn, TicksTurn, FallsTurn, RestartsTurn, StepsKeepMembers, AloneGoesOn, IsTurn}
+use Rattle.member_moves.specs.Projection.{message_of, member_state_of, member_status_of}
+use Rattle.member_moves.specs.Laws.{MessagesTurn, SuspicionsTurn, ProposalsTurn, TicksTurn, FallsTurn, RestartsTurn, StepsKeepMembers, AloneGoesOn, IsMemberTurn}
 use Rattle.member_moves.proofs.Members.{IsMemberOf, member_of, goes_fetch, goes_prepare}
 use Rattle.member_moves.proofs.Messages.{goes_commit, goes_get_state, goes_start_view, goes_new_state, goes_prepare_ok, goes_proposal}
 use Rattle.member_moves.proofs.Changing.{goes_suspect, goes_start_view_change, goes_do_view_change, goes_supply, goes_recovery, goes_response, goes_down, goes_restart}
@@ -19,8 +19,8 @@ use Rattle.member_moves.proofs.Ticks.{goes_tick}
 use Rattle.member_moves.proofs.Keeping.{step_keeps}
 use Rattle.member_moves.proofs.Alone.{step_on}
 
-module _ {g : Group Entry} {h h' : History Entry} {c : ℕ} {s : VrState} (gr : IsGroup g) (o : 1 ≤ g.most_failures) (i : Invariant g h) (b : c < size g) (at : StandsAt h c (state_of s) s.promise s.life) (fine : IsMemberOf g c s) where
-  pub goes_on_vr : (from : ℕ) (x : VrMessage) → IsIn (letter from c (message_of x)) h.sent → IsTurn g h h' c (on_vr s from x)
+module _ {g : Group Entry} {h h' : History Entry} {c : ℕ} {s : VrState} (gr : IsGroup g) (o : 1 ≤ g.most_failures) (i : Invariant g h) (b : c < size g) (at : StandsAt h c (member_state_of s) s.promise s.life) (fine : IsMemberOf g c s) where
+  pub goes_on_vr : (from : ℕ) (x : VrMessage) → IsIn (abstract_letter from c (message_of x)) h.sent → IsMemberTurn g h h' c (on_vr s from x)
   unfolding on_vr
   goes_on_vr from (message.Prepare view op commit entry) j = goes_prepare gr i b at fine from view op commit entry (i.letters _ j)
   goes_on_vr from (message.PrepareOk view op) j = goes_prepare_ok gr i b at fine o from view op j
@@ -51,7 +51,7 @@ pub falls_law : FallsTurn
 falls_law g h h' c s promise life gr i b w up older = goes_down s gr i b w.stands promise life up older
 
 pub restarts_law : RestartsTurn
-restarts_law g h h' c s gr i b w down = goes_restart s gr i b w.stands (ap status_of down)
+restarts_law g h h' c s gr i b w down = goes_restart s gr i b w.stands (ap member_status_of down)
 
 pub keeps_law : StepsKeepMembers
 keeps_law g c s x z =

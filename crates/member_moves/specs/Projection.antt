@@ -1,7 +1,7 @@
 -- What of a member's state, messages and letters counts for agreement.
 use Rattle.std.specs.Prelude.{ℕ, Bool, nat_eq, ◌&&◌, Option, Some, None, List, length, map, slice_index}
 use Rattle.agreement.specs.History as core
-use Rattle.agreement.specs.History.{Group, size, State, Message, Letter, letter, Vote, Answer}
+use Rattle.agreement.specs.History.{Group, size, State, Message, Letter, abstract_letter, Vote, Answer}
 use Rattle.vr_log.specs.declared.entry.Entry.{Entry}
 use Rattle.vr_log.specs.declared.message.Filled.{Filled}
 use Rattle.vr_log.specs.declared.message.VrLetter.{VrLetter}
@@ -19,11 +19,11 @@ use Rattle.vr_log.specs.Log.{is_log}
 abbrev pub group_of : ℕ → Group Entry
 group_of most_failures = record { most_failures = most_failures; is_log = λ log. is_log log }
 
-abbrev pub status_of : Status → core.Status
-status_of status.Normal = core.Normal
-status_of status.ViewChange = core.ViewChange
-status_of status.Recovering = core.Recovering
-status_of status.Down = core.Down
+abbrev pub member_status_of : Status → core.Status
+member_status_of status.Normal = core.Normal
+member_status_of status.ViewChange = core.ViewChange
+member_status_of status.Recovering = core.Recovering
+member_status_of status.Down = core.Down
 
 abbrev pub vote_of : Collected → Vote Entry
 vote_of c = record { from = c.from; normal = c.normal; commit = c.commit; rest = c.log }
@@ -55,12 +55,12 @@ message_of (message.Supply view first log) = core.Supply view first log
 
 -- the letters of member c
 abbrev pub letters_of : ℕ → List VrLetter → List (Letter Entry)
-letters_of c letters = map (λ x. letter c x.to (message_of x.message)) letters
+letters_of c letters = map (λ x. abstract_letter c x.to (message_of x.message)) letters
 
-abbrev pub state_of : VrState → State Entry
-state_of s =
+abbrev pub member_state_of : VrState → State Entry
+member_state_of s =
     record {
-      status = status_of s.status;
+      status = member_status_of s.status;
       view = s.view;
       normal = s.normal;
       log = s.log;

@@ -7,7 +7,7 @@ use Rattle.of_bytes.proofs.Bytes.{number-append}
 use Rattle.of_bytes.proofs.Steps.{not_false}
 use Rattle.of_frame.specs.declared.fault.FrameFault.{FrameFault}
 use Rattle.of_frame.specs.declared.fault.FrameFault.TheVariants.{BadVersion, BadLength}
-use Rattle.of_frame.specs.Framing.{Deed, Fed, Asked, joined, lent_by, messages, behind_messages, IsOfJoined, frame_length, length_at, front_of, next_of, rest_of}
+use Rattle.of_frame.specs.Framing.{Deed, Fed, Asked, joined_pieces, lent_by, messages, behind_messages, IsOfJoined, frame_length, length_at, front_of_message, next_of, rest_of}
 
 -- What the front of a stream tells is not changed by what follows.
 frame_length-append : (bytes more : List ℕ) → 8 ≤ length bytes → frame_length (bytes ++ more) ≡ frame_length bytes
@@ -85,10 +85,10 @@ length_at-append bytes more len e =
 -- One message more: it stands at the front of the joined bytes too.
 lent_one : (deeds : List Deed) (held : List ℕ) (len count : ℕ) → length_at held ≡ Ok (Some len) → IsOfJoined deeds (drop len held) count → IsOfJoined (Asked ∷ deeds) held (suc count)
 lent_one deeds held len count e more =
-    let whole = length_at-append held (joined deeds) len e in
+    let whole = length_at-append held (joined_pieces deeds) len e in
     let room = (length_whole held len e).room in
-    let front = take-append-le len held (joined deeds) room in
-    let rest = drop-append-le len held (joined deeds) room in
+    let front = take-append-le len held (joined_pieces deeds) room in
+    let rest = drop-append-le len held (joined_pieces deeds) room in
     record {
       lent = rw e (ap suc more.lent);
       frames = rw (e, whole, front, rest, more.frames) refl;
@@ -103,7 +103,7 @@ refused_one deeds held count fault e more = record { lent = rw e more.lent; fram
 
 fed_piece : (deeds : List Deed) (held piece : List ℕ) (count : ℕ) → IsOfJoined deeds (held ++ piece) count → IsOfJoined (Fed piece ∷ deeds) held count
 fed_piece deeds held piece count more =
-    let e = append_assoc held piece (joined deeds) in
+    let e = append_assoc held piece (joined_pieces deeds) in
     record { lent = more.lent; frames = more.frames ∙ ap (messages count) e; left = more.left ∙ ap (behind_messages count) e }
 
 pub of_joined : (deeds : List Deed) (held : List ℕ) → (count : ℕ) × IsOfJoined deeds held count
@@ -162,7 +162,7 @@ length_at-refused bytes more fault e =
 
 -- ---- the same, of the message itself
 
-front_err : (r : Found) (bytes : List ℕ) (fault : FrameFault) → front_of r bytes ≡ Err fault → r ≡ Err fault
+front_err : (r : Found) (bytes : List ℕ) (fault : FrameFault) → front_of_message r bytes ≡ Err fault → r ≡ Err fault
 front_err (Ok (Some len)) bytes fault e = absurd cc
 front_err (Ok None) bytes fault e = absurd cc
 front_err (Err d) bytes fault e = cc

@@ -17,10 +17,10 @@ length_at bytes =
     else (if nat_lt (frame_length bytes) 8 then Err BadLength
     else (if nat_lt (length bytes) (frame_length bytes) then Ok None else Ok (Some (frame_length bytes)))))
 
-abbrev pub front_of : Result (Option ℕ) FrameFault → List ℕ → Result (Option (List ℕ)) FrameFault
-front_of (Ok (Some len)) bytes = Ok (Some (take len bytes))
-front_of (Ok None) bytes = Ok None
-front_of (Err fault) bytes = Err fault
+abbrev pub front_of_message : Result (Option ℕ) FrameFault → List ℕ → Result (Option (List ℕ)) FrameFault
+front_of_message (Ok (Some len)) bytes = Ok (Some (take len bytes))
+front_of_message (Ok None) bytes = Ok None
+front_of_message (Err fault) bytes = Err fault
 
 abbrev pub behind : Result (Option ℕ) FrameFault → List ℕ → List ℕ
 behind (Ok (Some len)) bytes = drop len bytes
@@ -29,7 +29,7 @@ behind (Err fault) bytes = bytes
 
 -- the message at the front of the bytes
 abbrev pub next_of : List ℕ → Result (Option (List ℕ)) FrameFault
-next_of bytes = front_of (length_at bytes) bytes
+next_of bytes = front_of_message (length_at bytes) bytes
 
 -- the bytes behind it, or all of them where there is none
 abbrev pub rest_of : List ℕ → List ℕ
@@ -49,10 +49,10 @@ pub data Deed : Type 0 where
   Asked : Deed
 
 -- the bytes that were fed, whatever the pieces
-abbrev pub joined : List Deed → List ℕ
-joined [] = []
-joined (Fed piece ∷ deeds) = piece ++ joined deeds
-joined (Asked ∷ deeds) = joined deeds
+abbrev pub joined_pieces : List Deed → List ℕ
+joined_pieces [] = []
+joined_pieces (Fed piece ∷ deeds) = piece ++ joined_pieces deeds
+joined_pieces (Asked ∷ deeds) = joined_pieces deeds
 
 -- what a framer that held these bytes holds after that
 abbrev pub held_after : List Deed → List ℕ → List ℕ
@@ -86,5 +86,5 @@ behind_messages (suc count) bytes = behind_messages count (rest_of bytes)
 -- them.
 pub record IsOfJoined (deeds : List Deed) (held : List ℕ) (count : ℕ) : Type 0 where
   pub lent : length (lent_by deeds held) ≡ count
-  pub frames : lent_by deeds held ≡ messages count (held ++ joined deeds)
-  pub left : held_after deeds held ≡ behind_messages count (held ++ joined deeds)
+  pub frames : lent_by deeds held ≡ messages count (held ++ joined_pieces deeds)
+  pub left : held_after deeds held ≡ behind_messages count (held ++ joined_pieces deeds)

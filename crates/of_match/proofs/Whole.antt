@@ -11,7 +11,7 @@ use Rattle.of_match.specs.declared.fault.MatchFault.TheVariants.{BadType, BadLen
 use Rattle.of_match.specs.Field.{Field}
 use Rattle.of_bytes.specs.Reading.{◌>>=◌}
 use Rattle.of_types.specs.Sizes.{padded}
-use Rattle.of_match.specs.Reading.{said_at, body_at, has_prerequisites, match_at}
+use Rattle.of_match.specs.Reading.{said_at, match_body_at, has_prerequisites, match_at}
 use Rattle.of_match.specs.Writing.{spelled}
 use Rattle.of_match.specs.Spelling.{SpelledBy, IsSpelled}
 use Rattle.of_bytes.proofs.Bytes.{big_from-lt, IsBytes, IsBytes-drop, IsBytes-take, bytes_number, number_bytes}
@@ -30,8 +30,8 @@ and_false : (a b : Bool) → b ≡ false → (a && b) ≡ false
 and_false true b e = e
 and_false false b e = refl
 
-pub body_again : (bytes : List ℕ) (len : ℕ) → HasHeader bytes len → body_at bytes ≡ Ok (take (len - 4) (drop 4 bytes), padded len)
-unfolding body_at
+pub body_again : (bytes : List ℕ) (len : ℕ) → HasHeader bytes len → match_body_at bytes ≡ Ok (take (len - 4) (drop 4 bytes), padded len)
+unfolding match_body_at
 body_again bytes len h =
     let typed : not (eqb (big_number 2 bytes) 1) ≡ false = ap not (eq-eqb (big_number 2 bytes) 1 h.type_is) in
     let a : ltb (length bytes) 4 ≡ false = le-ltb (length bytes) 4 h.there in
@@ -43,8 +43,8 @@ is_one : (there wrong : Bool) → (there && wrong) ≡ false → there ≡ true 
 is_one true wrong e h = e
 is_one false wrong e h = absurd cc
 
-pub body_takes : (bytes body : List ℕ) (taken : ℕ) → body_at bytes ≡ Ok (body, taken) → (len : ℕ) × HasHeader bytes len × (body ≡ take (len - 4) (drop 4 bytes)) × (taken ≡ padded len)
-unfolding body_at
+pub body_takes : (bytes body : List ℕ) (taken : ℕ) → match_body_at bytes ≡ Ok (body, taken) → (len : ℕ) × HasHeader bytes len × (body ≡ take (len - 4) (drop 4 bytes)) × (taken ≡ padded len)
+unfolding match_body_at
 body_takes bytes body taken e =
     let len = big_number 2 (drop 2 bytes) in
     let wrong = not (eqb (big_number 2 bytes) 1) in
@@ -68,7 +68,7 @@ chosen_ok : (b : Bool) (x : Match × ℕ) → b ≡ true → cond b (Ok x) (Err 
 chosen_ok true x e = refl
 chosen_ok false x e = absurd cc
 
-match_from_body : (bytes body : List ℕ) (taken : ℕ) (m : Match) → body_at bytes ≡ Ok (body, taken) → said_at body ≡ Ok m → has_prerequisites m ≡ true → match_at bytes ≡ Ok (m, taken)
+match_from_body : (bytes body : List ℕ) (taken : ℕ) (m : Match) → match_body_at bytes ≡ Ok (body, taken) → said_at body ≡ Ok m → has_prerequisites m ≡ true → match_at bytes ≡ Ok (m, taken)
 unfolding match_at
 match_from_body bytes body taken m b s p = rw (b, s) (chosen_ok (has_prerequisites m) (m, taken) p)
 
@@ -83,7 +83,7 @@ header_spelled body tail short room = record {
 }
 
 body_spelled : (body tail : List ℕ) → 4 + length body < 2 ^ 16 → padded (4 + length body) ≤ 4 + length (body ++ tail)
-    → body_at (big_bytes 2 1 ++ (big_bytes 2 (4 + length body) ++ (body ++ tail))) ≡ Ok (body, padded (4 + length body))
+    → match_body_at (big_bytes 2 1 ++ (big_bytes 2 (4 + length body) ++ (body ++ tail))) ≡ Ok (body, padded (4 + length body))
 body_spelled body tail short room =
     let whole : List ℕ = big_bytes 2 1 ++ (big_bytes 2 (4 + length body) ++ (body ++ tail)) in
     let again = body_again whole (4 + length body) (header_spelled body tail short room) in
@@ -98,7 +98,7 @@ match_again bytes text rest m fields padding e s =
     let regrouped : bytes ≡ big_bytes 2 1 ++ (big_bytes 2 (4 + length body) ++ (body ++ (padding ++ rest))) =
     e ∙ ap (λ (t : List ℕ). t ++ rest) s.whole ∙ append_assoc (front ++ body) padding rest ∙ append_assoc front body (padding ++ rest) in
     let room : padded (4 + length body) ≤ 4 + length (body ++ (padding ++ rest)) = omega (arith, s.filled, length-append body (padding ++ rest), length-append padding rest) in
-    let b : body_at bytes ≡ Ok (body, padded (4 + length body)) = ap body_at regrouped ∙ body_spelled body (padding ++ rest) s.short room in
+    let b : match_body_at bytes ≡ Ok (body, padded (4 + length body)) = ap match_body_at regrouped ∙ body_spelled body (padding ++ rest) s.short room in
     let said : said_at body ≡ Ok m = said_again fields s.each s.once ∙ ap (λ (x : Match). Ok x) s.said in
     match_from_body bytes body (padded (4 + length body)) m b said s.prerequisites ∙ ap (λ n. Ok (m, n)) (sym size)
 
@@ -166,7 +166,7 @@ taken_from bytes body size m taken said fits h read needed same =
 pub match_takes : (bytes : List ℕ) (m : Match) (taken : ℕ) → IsBytes bytes → match_at bytes ≡ Ok (m, taken) → (taken ≤ length bytes) × IsSpelled (take taken bytes) m
 unfolding match_at
 match_takes bytes m taken fits e =
-    let a = bind_ok (body_at bytes) (λ body. said_at body.0 >>= λ said. cond (has_prerequisites said) (Ok (said, body.1)) (Err Prerequisite)) (m, taken) e in
+    let a = bind_ok (match_body_at bytes) (λ body. said_at body.0 >>= λ said. cond (has_prerequisites said) (Ok (said, body.1)) (Err Prerequisite)) (m, taken) e in
     let b = bind_ok (said_at a.0.0) (λ said. cond (has_prerequisites said) (Ok (said, a.0.1)) (Err Prerequisite)) (m, taken) a.2 in
     let c = ended (has_prerequisites b.0) Prerequisite (b.0, a.0.1) (m, taken) b.2 in
     let h = body_takes bytes a.0.0 a.0.1 a.1 in

@@ -8,7 +8,7 @@ ghost use Rattle.of_types.specs.Valid.{IsValidMatch};
 ghost use Rattle.of_types.specs.Sizes.{match_size};
 ghost use Rattle.of_bytes.specs.Reading.{Gives};
 ghost use Rattle.of_match.specs.Field.{width_of, can_mask};
-ghost use Rattle.of_match.specs.Reading.{header_at, payload_length, masked48_at, masked32_at, put_at, said_at, body_at, match_at, needs, is_ipv4, has_protocol, has_prerequisites};
+ghost use Rattle.of_match.specs.Reading.{header_at, payload_length, masked48_at, masked32_at, put_at, said_at, match_body_at, match_at, needs, is_ipv4, has_protocol, has_prerequisites};
 
 use crate::fault::MatchFault;
 use crate::kind::{FieldHeader, FieldKind};
@@ -118,9 +118,9 @@ fn put_field(matching: &mut Match, header: FieldHeader, payload: &[u8]) -> Resul
 }
 
 /// The bytes of the fields, and how many bytes the match takes with its padding.
-#[tactic(auto, unfolding(crate::specs::Reading::body_at))]
+#[tactic(auto, unfolding(crate::specs::Reading::match_body_at))]
 fn body_of(bytes: &[u8]) -> Result<(&[u8], usize), MatchFault>
-    ensures { Gives (λ x. (x.0.now, x.1)) result (body_at bytes.now) }
+    ensures { Gives (λ x. (x.0.now, x.1)) result (match_body_at bytes.now) }
 {
     if bytes.len() >= 2 && u16_at(bytes, 0) != MATCH_OF_FIELDS {
         return Err(MatchFault::BadType);

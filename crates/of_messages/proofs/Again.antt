@@ -19,7 +19,7 @@ use Rattle.of_types.specs.declared.message.PacketOut.{PacketOut}
 use Rattle.of_types.specs.declared.message.PortStatus.{PortStatus}
 use Rattle.of_messages.specs.Canonical.{plain_type, command_number}
 use Rattle.of_messages.specs.Grammar.{IsOutput, SpellsActions, IsApply, SpellsInstructions, IsError, IsExperimenter, IsFeaturesReply, IsPacketIn, IsFlowRemovedFront, IsFlowRemoved, IsPortStatus, IsPacketOut, IsFlowModFront, IsFlowMod, IsRole, SpellsBody, Spells}
-use Rattle.of_messages.specs.Reading.{output_at, outputs_at, actions_at, instruction_length_at, instruction_at, second_at, instructions_at, error_at, experimenter_at, empty_at, features_at, port_and_frame_at, packet_in_at, only_match_at, flow_removed_of, flow_removed_at, port_status_at, packet_out_at, command_of, command_at, match_and_actions_at, flow_mod_of, flow_mod_behind, flow_mod_at, role_at, body_at, message_at, xid_of}
+use Rattle.of_messages.specs.Reading.{output_at, outputs_at, actions_at, instruction_length_at, instruction_at, second_at, instructions_at, error_at, experimenter_at, empty_at, features_at, port_and_frame_at, packet_in_at, only_match_at, flow_removed_of, flow_removed_at, port_status_at, packet_out_at, flow_command_of, command_at, match_and_actions_at, flow_mod_of, flow_mod_behind, flow_mod_at, role_at, body_at, message_at, xid_of}
 use Rattle.of_messages.proofs.Ports.{turn, no_more}
 
 -- ---- actions and instructions
@@ -119,8 +119,8 @@ packet_out_again body p s =
     let read = actions_again s.text p.actions s.actions in
     rw (le-ltb (length body) 16 s.there, s.rest_is, s.length_is, long, take_at s.text p.payload (length s.text) refl, drop_at s.text p.payload (length s.text) refl, read, s.buffer_is, s.in_port_is) refl
 
-command_again : (command : FlowCommand) → command_of (command_number command) ≡ Ok command
-unfolding command_number command_of
+command_again : (command : FlowCommand) → flow_command_of (command_number command) ≡ Ok command
+unfolding command_number flow_command_of
 command_again Add = refl
 command_again Modify = refl
 command_again ModifyStrict = refl
@@ -142,7 +142,7 @@ front_again body c f =
 flow_mod_again : (body : List ℕ) (c : FlowMod) → IsFlowMod body c → flow_mod_at body ≡ Ok c
 unfolding flow_mod_at flow_mod_behind command_at
 flow_mod_again body c s =
-    let command : command_at body ≡ Ok c.command = ap command_of s.front.command_is ∙ command_again c.command in
+    let command : command_at body ≡ Ok c.command = ap flow_command_of s.front.command_is ∙ command_again c.command in
     let behind = match_and_actions_again (drop 40 body) s.text s.instructions c.actions c.matching s.rest_is s.spelled s.applies in
     rw (le-ltb (length body) 40 s.front.there, command, behind) (ap (λ (x : FlowMod). Ok x) (front_again body c s.front))
 

@@ -7,7 +7,7 @@ use Rattle.of_types.specs.declared.message.OfMessage.{OfMessage}
 use Rattle.of_messages.specs.declared.fault.OfFault.{OfFault}
 use Rattle.of_messages.specs.declared.fault.OfFault.TheVariants as fault
 use Rattle.of_types.specs.declared.refusal.Refusal.{Refusal}
-use Rattle.of_messages.specs.Answers.{IsFirst, IsRead}
+use Rattle.of_messages.specs.Answers.{IsFirstMessage, IsRead}
 use Rattle.of_messages.specs.Errors.{refusal}
 use Rattle.of_messages.specs.Grammar.{Spells}
 use Rattle.of_messages.specs.Reading.{message_at, xid_of}
@@ -17,16 +17,16 @@ use Rattle.of_types.specs.Valid.{IsValidPlain}
 use Rattle.of_messages.proofs.Forms.{message_valid, message_long, length_fits}
 use Rattle.of_messages.proofs.Takes.{message_takes}
 
-pub is_found : (bytes : List ℕ) (r : Result (ℕ × OfMessage) OfFault) → IsBytes bytes → IsFirst bytes r → IfOk r (λ x. Spells bytes x.0 x.1)
+pub is_found : (bytes : List ℕ) (r : Result (ℕ × OfMessage) OfFault) → IsBytes bytes → IsFirstMessage bytes r → IfOk r (λ x. Spells bytes x.0 x.1)
 is_found bytes (Ok x) fits e = subst (λ (n : ℕ). Spells bytes n x.1) (sym e.0) (message_takes bytes x.1 fits e.1)
 is_found bytes (Err d) fits e = tt
 
 -- what is read is valid, and is written in no more bytes
-pub is_valid : (bytes : List ℕ) (r : Result (ℕ × OfMessage) OfFault) → IsBytes bytes → IsFirst bytes r → IfOk r (λ x. IsValidPlain x.1)
+pub is_valid : (bytes : List ℕ) (r : Result (ℕ × OfMessage) OfFault) → IsBytes bytes → IsFirstMessage bytes r → IfOk r (λ x. IsValidPlain x.1)
 is_valid bytes (Ok x) fits e = message_valid bytes (xid_of bytes) x.1 (message_takes bytes x.1 fits e.1)
 is_valid bytes (Err d) fits e = tt
 
-pub is_short : (bytes : List ℕ) (r : Result (ℕ × OfMessage) OfFault) → IsBytes bytes → IsFirst bytes r → IfOk r (λ x. (plain_size x.1 ≤ length bytes) × (length bytes ≤ 65535))
+pub is_short : (bytes : List ℕ) (r : Result (ℕ × OfMessage) OfFault) → IsBytes bytes → IsFirstMessage bytes r → IfOk r (λ x. (plain_size x.1 ≤ length bytes) × (length bytes ≤ 65535))
 is_short bytes (Ok x) fits e =
     let s = message_takes bytes x.1 fits e.1 in
     (message_long bytes (xid_of bytes) x.1 s, length_fits bytes (xid_of bytes) x.1 fits s)
@@ -41,7 +41,7 @@ pair_is a b m n p q = rw (p, q) refl
 not_both : (bytes : List ℕ) (m : OfMessage) (e : Refusal) → message_at bytes ≡ Ok m → message_at bytes ≡ Err e → ⊥
 not_both bytes m e p q = cc
 
-pub is_read : (bytes : List ℕ) (xid : ℕ) (m : OfMessage) (r : Result (ℕ × OfMessage) OfFault) → Spells bytes xid m → IsFirst bytes r → IsRead (xid, m) r
+pub is_read : (bytes : List ℕ) (xid : ℕ) (m : OfMessage) (r : Result (ℕ × OfMessage) OfFault) → Spells bytes xid m → IsFirstMessage bytes r → IsRead (xid, m) r
 is_read bytes xid m (Ok x) s e =
     pair_is x.0 xid x.1 m (e.0 ∙ xid_again bytes xid m s) (ok_is Refusal x.1 m (sym e.1 ∙ message_again bytes xid m s))
 is_read bytes xid m (Err (fault.Wire kind code n)) s e = not_both bytes m (refusal kind code) (message_again bytes xid m s) e.1

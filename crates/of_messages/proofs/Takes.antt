@@ -25,7 +25,7 @@ use Rattle.of_types.specs.declared.refusal.Refusal.{Refusal}
 use Rattle.of_types.specs.declared.refusal.TheConstants.{BAD_COMMAND, BAD_LENGTH, BAD_VERSION}
 use Rattle.of_messages.specs.Canonical.{plain_type, command_number}
 use Rattle.of_messages.specs.Grammar.{SpellsInstructions, IsPacketIn, IsFlowRemovedFront, IsFlowRemoved, IsPortStatus, IsPacketOut, IsFlowModFront, IsFlowMod, IsRole, SpellsBody, Spells}
-use Rattle.of_messages.specs.Reading.{actions_at, instructions_at, error_at, experimenter_at, empty_at, features_at, as_refusal, port_in, port_and_frame_at, packet_in_at, only_match_at, flow_removed_of, flow_removed_at, port_status_at, packet_out_at, command_of, command_at, match_and_actions_at, flow_mod_of, flow_mod_behind, flow_mod_at, role_at, beside, bodies_at, body_at, message_at, xid_of}
+use Rattle.of_messages.specs.Reading.{actions_at, instructions_at, error_at, experimenter_at, empty_at, features_at, as_refusal, port_in, port_and_frame_at, packet_in_at, only_match_at, flow_removed_of, flow_removed_at, port_status_at, packet_out_at, flow_command_of, command_at, match_and_actions_at, flow_mod_of, flow_mod_behind, flow_mod_at, role_at, beside, bodies_at, body_at, message_at, xid_of}
 use Rattle.of_messages.proofs.ActionsTaken.{same, after_one, actions_take, instructions_take}
 
 -- ---- bodies
@@ -210,8 +210,8 @@ is_command n k x y number h = eqb-true n k h.0 ∙ sym number ∙ ap command_num
 abbrev refused_command : Result FlowCommand Refusal
 refused_command = Err BAD_COMMAND
 
-command_takes : (n : ℕ) (command : FlowCommand) → command_of n ≡ Ok command → n ≡ command_number command
-unfolding command_number command_of
+command_takes : (n : ℕ) (command : FlowCommand) → flow_command_of n ≡ Ok command → n ≡ command_number command
+unfolding command_number flow_command_of
 command_takes n command e =
     let r4 = cond (eqb n 4) (Ok DeleteStrict) refused_command in
     let r3 = cond (eqb n 3) (Ok Delete) r4 in

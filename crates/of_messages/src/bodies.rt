@@ -1,7 +1,7 @@
 //! Reading what stands behind the header of a message.
 ghost use Rattle.std.specs.Prelude.{◌≡◌, ◌≤◌, length};
 ghost use Rattle.of_messages.specs.Answers.{GivesBody};
-ghost use Rattle.of_messages.specs.Reading.{error_at, experimenter_at, empty_at, features_at, port_in, port_and_frame_at, packet_in_at, only_match_at, flow_removed_of, flow_removed_at, port_status_at, packet_out_at, command_of, command_at, match_and_actions_at, flow_mod_of, flow_mod_behind, flow_mod_at};
+ghost use Rattle.of_messages.specs.Reading.{error_at, experimenter_at, empty_at, features_at, port_in, port_and_frame_at, packet_in_at, only_match_at, flow_removed_of, flow_removed_at, port_status_at, packet_out_at, flow_command_of, command_at, match_and_actions_at, flow_mod_of, flow_mod_behind, flow_mod_at};
 
 use crate::actions::{read_actions, read_instructions};
 use crate::fault::BodyFault;
@@ -182,9 +182,9 @@ pub fn read_packet_out(alloc: Global, body: &[u8]) -> Result<PacketOut, BodyFaul
     })
 }
 
-#[tactic(auto, unfolding(crate::specs::Reading::command_of))]
+#[tactic(auto, unfolding(crate::specs::Reading::flow_command_of))]
 fn command_of(number: u8) -> Result<FlowCommand, Refusal>
-    ensures { result ≡ command_of number }
+    ensures { result ≡ flow_command_of number }
 {
     match number {
         flow_command::ADD => Ok(FlowCommand::Add),

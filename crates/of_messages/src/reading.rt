@@ -2,7 +2,7 @@
 ghost use Rattle.std.specs.Prelude.{◌≡◌, ◌≤◌, ◌<◌, ◌^◌, ℕ, List, Ok, length, IfOk};
 ghost use Rattle.of_types.specs.declared.message.OfMessage.{OfMessage};
 ghost use Rattle.of_bytes.specs.Reading.{Gives};
-ghost use Rattle.of_messages.specs.Answers.{GivesBody, IsFirst, IsRead};
+ghost use Rattle.of_messages.specs.Answers.{GivesBody, IsFirstMessage, IsRead};
 ghost use Rattle.of_types.specs.Sizes.{plain_size};
 ghost use Rattle.of_types.specs.Valid.{IsValidPlain};
 ghost use Rattle.of_messages.specs.Canonical.{canonical};
@@ -97,7 +97,7 @@ pub fn xid_of(bytes: &[u8]) -> u32
 }
 
 fn first_answer(alloc: Global, frame: &[u8]) -> Result<(u32, OfMessage), OfFault>
-    ensures { IsFirst frame.now result }
+    ensures { IsFirstMessage frame.now result }
 {
     let xid = xid_of(frame);
     match read_message(alloc, frame) {
@@ -117,7 +117,7 @@ pub fn decode(alloc: Global, frame: &[u8]) -> Result<(u32, OfMessage), OfFault>
     // What is spelled so is read, unless memory runs out.
     ensures only { (xid : ℕ) (m : OfMessage) → Spells frame.now xid m → IsRead (xid, m) result }
     // Which answer it is.
-    ensures exact { IsFirst frame.now result }
+    ensures exact { IsFirstMessage frame.now result }
     // What is read is valid.
     ensures valid { IfOk result (λ x. IsValidPlain x.1) }
     // It is written in no more bytes than it was read from, and so its length fits the header.

@@ -18,7 +18,7 @@ use Rattle.of_types.specs.declared.message.Outcome.{Outcome}
 use Rattle.of_types.specs.declared.message.Outcome.TheVariants as outcome
 use Rattle.of_ravana.specs.Canonical.{happening_message, order_message}
 use Rattle.of_ravana.specs.Grammar.{SpellsInner, IsFront, IsEvent, IsThrough, IsCommand, SpellsOutcome, IsCmdAck, SpellsExtension}
-use Rattle.of_ravana.specs.Reading.{inner_at, told_types, held_types, happening_at, order_at, event_at, through_at, command_at, outcome_at, cmd_ack_at, body_at, extension_at}
+use Rattle.of_ravana.specs.Reading.{inner_at, told_types, held_types, happening_at, order_at, extension_event_at, through_at, extension_command_at, outcome_at, cmd_ack_at, extension_body_at, extension_at}
 
 inner_again : (types : List ℕ) (wrong : Refusal) (bytes : List ℕ) (m : OfMessage) → SpellsInner bytes m → list_any (λ kind. eqb kind (plain_type m)) types ≡ true
     → inner_at types wrong bytes ≡ Ok m
@@ -38,8 +38,8 @@ unfolding order_at
 order_again bytes (order.FlowMod c) s = rw (inner_again held_types NOT_PERMITTED bytes (plain.FlowMod c) s refl) refl
 order_again bytes (order.PacketOut p) s = rw (inner_again held_types NOT_PERMITTED bytes (plain.PacketOut p) s refl) refl
 
-event_again : (body : List ℕ) (life event : ℕ) (what : Happening) → IsEvent body life event what → event_at body ≡ Ok (extension.Event life event what)
-unfolding event_at
+event_again : (body : List ℕ) (life event : ℕ) (what : Happening) → IsEvent body life event what → extension_event_at body ≡ Ok (extension.Event life event what)
+unfolding extension_event_at
 event_again body life event what s =
     rw (le-ltb (length body) 24 s.there, happening_again (drop 24 body) what s.inner, s.front.life_is, s.event_is) refl
 
@@ -48,8 +48,8 @@ unfolding through_at
 through_again body kind life through s = rw (s.whole, s.front.life_is, s.through_is) refl
 
 command_again : (body : List ℕ) (life generation command settled : ℕ) (what : Order) → IsCommand body life generation command settled what
-    → command_at body ≡ Ok (extension.Command life generation command settled what)
-unfolding command_at
+    → extension_command_at body ≡ Ok (extension.Command life generation command settled what)
+unfolding extension_command_at
 command_again body life generation command settled what s =
     rw (le-ltb (length body) 40 s.there, order_again (drop 40 body) what s.inner, s.front.life_is, s.generation_is, s.command_is, s.settled_is) refl
 
@@ -63,14 +63,14 @@ cmd_ack_again : (body : List ℕ) (life command : ℕ) (result : Outcome) → Is
 unfolding cmd_ack_at
 cmd_ack_again body life command result s = rw (s.whole, outcome_again body result s.outcome, s.front.life_is, s.command_is) refl
 
-front_again : (body : List ℕ) (kind life : ℕ) (said : Extension) → IsFront body kind life → body_at kind body ≡ Ok said → extension_at body ≡ Ok said
+front_again : (body : List ℕ) (kind life : ℕ) (said : Extension) → IsFront body kind life → extension_body_at kind body ≡ Ok said → extension_at body ≡ Ok said
 unfolding extension_at
 front_again body kind life said f e =
     let there = f.there in
     rw (le-ltb (length body) 8 (omega arith), f.experimenter_is, f.kind_is) e
 
 pub extension_again : (body : List ℕ) (said : Extension) → SpellsExtension body said → extension_at body ≡ Ok said
-unfolding body_at
+unfolding extension_body_at
 extension_again body (extension.Event life event what) s =
     front_again body 1 life (extension.Event life event what) s.front (event_again body life event what s)
 extension_again body (extension.EventAck life through) s =

@@ -25,7 +25,7 @@ use Rattle.of_types.specs.declared.message.Outcome.TheVariants as outcome
 use Rattle.of_ravana.specs.Canonical.{happening_message, order_message}
 use Rattle.of_types.specs.declared.numbers.TheConstants.{RAVANA}
 use Rattle.of_ravana.specs.Grammar.{SpellsInner, IsFront, IsEvent, IsThrough, IsCommand, SpellsOutcome, IsCmdAck, SpellsExtension}
-use Rattle.of_ravana.specs.Reading.{inner_at, told_types, held_types, as_happening, as_order, happening_at, order_at, event_at, through_at, command_at, outcome_at, cmd_ack_at, beside, bodies_at, body_at, extension_at}
+use Rattle.of_ravana.specs.Reading.{inner_at, told_types, held_types, as_happening, as_order, happening_at, order_at, extension_event_at, through_at, extension_command_at, outcome_at, cmd_ack_at, beside_extension, extension_bodies_at, extension_body_at, extension_at}
 
 inner_takes : (types : List ℕ) (wrong : Refusal) (bytes : List ℕ) (m : OfMessage) → IsBytes bytes → inner_at types wrong bytes ≡ Ok m → SpellsInner bytes m
 unfolding inner_at
@@ -92,8 +92,8 @@ IsBody kind body said = number 4 0 body ≡ RAVANA → number 4 4 body ≡ kind 
 front : (body : List ℕ) (kind : ℕ) → number 4 0 body ≡ RAVANA → number 4 4 body ≡ kind → 16 ≤ length body → IsFront body kind (number 4 8 body)
 front body kind r k there = record { there = there; experimenter_is = r; kind_is = k; life_is = refl }
 
-event_takes : (body : List ℕ) (said : Extension) → IsBytes body → event_at body ≡ Ok said → IsBody 1 body said
-unfolding event_at
+event_takes : (body : List ℕ) (said : Extension) → IsBytes body → extension_event_at body ≡ Ok said → IsBody 1 body said
+unfolding extension_event_at
 event_takes body said fits e r k =
     let make : Happening → Extension = λ what. extension.Event (number 4 8 body) (number 8 16 body) what in
     let a = passed (ltb (length body) 24) BAD_LENGTH (happening_at (drop 24 body) >>= λ what. Ok (make what)) said e in
@@ -118,8 +118,8 @@ through_takes body kind x r k e =
     let made : IsThrough body kind (number 4 8 body) (number 8 16 body) = record { front = front body kind r k (omega arith); whole = whole; through_is = refl } in
     subst (λ (y : ℕ × ℕ). IsThrough body kind y.0 y.1) p.1 made
 
-command_takes : (body : List ℕ) (said : Extension) → IsBytes body → command_at body ≡ Ok said → IsBody 3 body said
-unfolding command_at
+command_takes : (body : List ℕ) (said : Extension) → IsBytes body → extension_command_at body ≡ Ok said → IsBody 3 body said
+unfolding extension_command_at
 command_takes body said fits e r k =
     let make : Order → Extension = λ what. extension.Command (number 4 8 body) (number 8 16 body) (number 8 24 body) (number 8 32 body) what in
     let a = passed (ltb (length body) 40) BAD_LENGTH (order_at (drop 40 body) >>= λ what. Ok (make what)) said e in
@@ -179,9 +179,9 @@ beside_step : (kind : ℕ) (row : ℕ × Result Extension Refusal) (rest : Resul
 beside_step kind row rest body said true e this more h = subst (λ (n : ℕ). IsBody n body said) (sym (eqb-true kind row.0 e)) (this h)
 beside_step kind row rest body said false e this more h = more h
 
-beside_takes : (kind : ℕ) (rows : List (ℕ × Result Extension Refusal)) (body : List ℕ) (said : Extension) → AreBodies rows body said → beside kind rows ≡ Ok said → IsBody kind body said
+beside_takes : (kind : ℕ) (rows : List (ℕ × Result Extension Refusal)) (body : List ℕ) (said : Extension) → AreBodies rows body said → beside_extension kind rows ≡ Ok said → IsBody kind body said
 beside_takes kind [] body said all e = absurd cc
-beside_takes kind (row ∷ rows) body said all e = beside_step kind row (beside kind rows) body said (eqb kind row.0) refl all.0 (beside_takes kind rows body said all.1) e
+beside_takes kind (row ∷ rows) body said all e = beside_step kind row (beside_extension kind rows) body said (eqb kind row.0) refl all.0 (beside_takes kind rows body said all.1) e
 
 event_ack_takes : (body : List ℕ) (said : Extension) → (through_at body >>= λ x. Ok (extension.EventAck x.0 x.1)) ≡ Ok said → IsBody 2 body said
 event_ack_takes body said e r k =
@@ -193,7 +193,7 @@ clear_takes body said e r k =
     let a = bind_ok (through_at body) (λ x. Ok (extension.Clear x.0 x.1)) said e in
     subst (λ (x : Extension). SpellsExtension body x) (ok_is Refusal (extension.Clear a.0.0 a.0.1) said a.2) (through_takes body 5 a.0 r k a.1)
 
-rows_take : (body : List ℕ) (said : Extension) → IsBytes body → AreBodies (bodies_at body) body said
+rows_take : (body : List ℕ) (said : Extension) → IsBytes body → AreBodies (extension_bodies_at body) body said
 rows_take body said fits = (
   event_takes body said fits,
   (
@@ -211,15 +211,15 @@ rows_take body said fits = (
   ),
 )
 
-body_takes : (kind : ℕ) (body : List ℕ) (said : Extension) → IsBytes body → body_at kind body ≡ Ok said → IsBody kind body said
-unfolding body_at
-body_takes kind body said fits e = beside_takes kind (bodies_at body) body said (rows_take body said fits) e
+body_takes : (kind : ℕ) (body : List ℕ) (said : Extension) → IsBytes body → extension_body_at kind body ≡ Ok said → IsBody kind body said
+unfolding extension_body_at
+body_takes kind body said fits e = beside_takes kind (extension_bodies_at body) body said (rows_take body said fits) e
 
 pub extension_takes : (body : List ℕ) (said : Extension) → IsBytes body → extension_at body ≡ Ok said → SpellsExtension body said
 unfolding extension_at
 extension_takes body said fits e =
     let stranger = not (eqb (number 4 0 body) RAVANA) in
-    let read = body_at (number 4 4 body) body in
+    let read = extension_body_at (number 4 4 body) body in
     let p = passed (ltb (length body) 8) BAD_LENGTH (cond stranger (Err BAD_EXPERIMENTER) read) said e in
     let q = passed stranger BAD_EXPERIMENTER read said p.1 in
     body_takes (number 4 4 body) body said fits q.1 (same (number 4 0 body) RAVANA q.0) refl

@@ -8,11 +8,11 @@ ghost use Rattle.of_types.specs.declared.message.Spoken.{Spoken};
 ghost use Rattle.of_types.specs.declared.message.Spoken.TheVariants as spoken;
 ghost use Rattle.of_types.specs.Sizes.{extension_size};
 ghost use Rattle.of_types.specs.Valid.{IsValidExtension};
-ghost use Rattle.of_ravana.specs.Answers.{IsFirst};
+ghost use Rattle.of_ravana.specs.Answers.{IsFirstExtension};
 ghost use Rattle.of_ravana.specs.Canonical.{canonical_extension};
 ghost use Rattle.of_ravana.specs.Fits.{FitsExtension};
 ghost use Rattle.of_ravana.specs.Grammar.{SpellsExtension, SpellsSpoken};
-ghost use Rattle.of_ravana.specs.Reading.{inner_at, as_happening, as_order, happening_at, order_at, event_at, through_at, command_at, outcome_at, cmd_ack_at, body_at, extension_at};
+ghost use Rattle.of_ravana.specs.Reading.{inner_at, as_happening, as_order, happening_at, order_at, extension_event_at, through_at, extension_command_at, outcome_at, cmd_ack_at, extension_body_at, extension_at};
 
 use of_bytes::{u8_at, u16_at, u32_at, u64_at};
 use of_messages::{BodyFault, OfFault, read_message};
@@ -95,9 +95,9 @@ fn read_order(alloc: Global, bytes: &[u8]) -> Result<Order, BodyFault>
     Ok(what)
 }
 
-#[tactic(auto, unfolding(crate::specs::Reading::event_at))]
+#[tactic(auto, unfolding(crate::specs::Reading::extension_event_at))]
 fn read_event(alloc: Global, body: &[u8]) -> Result<Extension, BodyFault>
-    ensures { GivesBody (λ said. said) result (event_at body.now) }
+    ensures { GivesBody (λ said. said) result (extension_event_at body.now) }
 {
     if body.len() < 24 {
         return Err(BodyFault::Wire(BAD_LENGTH));
@@ -122,9 +122,9 @@ fn read_through(body: &[u8]) -> Result<(u32, u64), Refusal>
     Ok((u32_at(body, 8), u64_at(body, 16)))
 }
 
-#[tactic(auto, unfolding(crate::specs::Reading::command_at))]
+#[tactic(auto, unfolding(crate::specs::Reading::extension_command_at))]
 fn read_command(alloc: Global, body: &[u8]) -> Result<Extension, BodyFault>
-    ensures { GivesBody (λ said. said) result (command_at body.now) }
+    ensures { GivesBody (λ said. said) result (extension_command_at body.now) }
 {
     if body.len() < 40 {
         return Err(BodyFault::Wire(BAD_LENGTH));
@@ -172,9 +172,9 @@ fn read_cmd_ack(body: &[u8]) -> Result<Extension, Refusal>
 }
 
 /// The body of a message of this type.
-#[tactic(auto, unfolding(crate::specs::Reading::body_at))]
+#[tactic(auto, unfolding(crate::specs::Reading::extension_body_at))]
 fn read_body(alloc: Global, kind: u32, body: &[u8]) -> Result<Extension, BodyFault>
-    ensures { GivesBody (λ said. said) result (body_at kind body.now) }
+    ensures { GivesBody (λ said. said) result (extension_body_at kind body.now) }
 {
     match kind {
         extension_type::EVENT => read_event(alloc, body),
@@ -209,7 +209,7 @@ fn read_extension(alloc: Global, body: &[u8]) -> Result<Extension, BodyFault>
 }
 
 fn first_answer(alloc: Global, body: &[u8]) -> Result<Extension, OfFault>
-    ensures { IsFirst body.now result }
+    ensures { IsFirstExtension body.now result }
 {
     match read_extension(alloc, body) {
         Ok(said) => Ok(said),
@@ -227,7 +227,7 @@ pub fn decode_extension(alloc: Global, body: &[u8]) -> Result<Extension, OfFault
     // What is spelled so is read, unless memory runs out.
     ensures only { (said : Extension) → SpellsExtension body.now said → IsRead said result }
     // Which answer it is.
-    ensures exact { IsFirst body.now result }
+    ensures exact { IsFirstExtension body.now result }
     // What is read is valid.
     ensures valid { IfOk result (λ said. IsValidExtension said) }
     // With a header it is written in no more bytes than it was read from.

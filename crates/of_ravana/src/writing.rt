@@ -5,7 +5,7 @@ ghost use Rattle.of_types.specs.Valid.{IsValidExtension};
 ghost use Rattle.of_types.specs.declared.message.OfMessage.TheVariants as plain;
 ghost use Rattle.of_types.specs.declared.message.Spoken.TheVariants as spoken;
 ghost use Rattle.of_messages.specs.Canonical as messages;
-ghost use Rattle.of_ravana.specs.Canonical.{canonical_happening, canonical_order, result_bytes, outcome_bytes, command_front, extension_type, extension_life, extension_front, extension_numbers, extension_inner, canonical_extension, canonical};
+ghost use Rattle.of_ravana.specs.Canonical.{canonical_happening, canonical_order, result_bytes, outcome_bytes, command_front, extension_type, extension_life, extension_front, extension_numbers, extension_inner, canonical_extension, canonical_spoken};
 ghost use Rattle.of_ravana.specs.Grammar.{SpellsExtension, SpellsSpoken, IsValidSpoken, spoken_size};
 
 use crate::fitting::extension_fits;
@@ -256,9 +256,9 @@ fn experimenter(alloc: Global, xid: u32, said: &Extension) -> Result<Octets, All
 }
 
 /// The bytes of what a controller and a switch say to each other, with the number of the request.
-#[tactic(auto, unfolding(crate::specs::Canonical::canonical))]
+#[tactic(auto, unfolding(crate::specs::Canonical::canonical_spoken))]
 pub fn canonical(alloc: Global, xid: u32, said: &Spoken) -> Result<Octets, AllocError>
-    ensures bytes { IfOk result (λ bytes. bytes ≡ canonical xid said.now) }
+    ensures bytes { IfOk result (λ bytes. bytes ≡ canonical_spoken xid said.now) }
     // Those of what is valid spell it.
     ensures spelled { IfOk result (λ bytes. IsValidSpoken said.now → SpellsSpoken bytes xid said.now) }
     // They are as many as its size tells.

@@ -11,8 +11,8 @@ use Rattle.of_types.proofs.Places.{places-insert, places-remove}
 use Rattle.journal.specs.declared.journal.Letter.{Letter}
 use Rattle.of_switch.specs.declared.says.SwitchSays.{SwitchSays}
 use Rattle.of_switch.specs.State.{SwitchState, ports_up}
-use Rattle.of_switch.specs.Events.{is_port, is_down, with_port}
-use Rattle.of_switch.specs.Forwarding.{is_up, over_links}
+use Rattle.of_switch.specs.Events.{is_port, is_port_down, with_port}
+use Rattle.of_switch.specs.Forwarding.{is_port_up, over_links}
 use Rattle.of_switch.specs.Drafts.{Draft, with_letters, other_port}
 
 -- one outside is not among them
@@ -118,11 +118,11 @@ port-outside s port there = by_test (nat_le 1 port) refl there
     by_test false low high = let h = leb-false 1 port low in inl (omega (arith, h))
 
 -- whether a port is up, by whether it is there and down
-pub up-there : (s : SwitchState) (port : ℕ) (there down : Bool) → is_port s port ≡ there → is_down s port ≡ down → (there && not down) ≡ is_up s port
+pub up-there : (s : SwitchState) (port : ℕ) (there down : Bool) → is_port s port ≡ there → is_port_down s port ≡ down → (there && not down) ≡ is_port_up s port
 up-there s port true down there is =
     let p = port-inside s port there in
-    ap not (sym is) ∙ sym (up-inside (λ k. not (is_down s k)) s.ports port p.0 p.1)
-up-there s port false down there is = sym (up-outside (λ k. not (is_down s k)) s.ports port (port-outside s port there))
+    ap not (sym is) ∙ sym (up-inside (λ k. not (is_port_down s k)) s.ports port p.0 p.1)
+up-there s port false down there is = sym (up-outside (λ k. not (is_port_down s k)) s.ports port (port-outside s port there))
 
 -- one more port of those that are down
 pub down-taken : (n : ℕ) (ports more : List ℕ) (flags : List Bool) → n < length flags → get_or flags n false ≡ true → more ≡ ports ++ (n + 1) ∷ [] →
@@ -150,7 +150,7 @@ flags-none n m start flags made empty none =
 
 -- the ports from a place on that are up, but one
 abbrev pub others_from : SwitchState → ℕ → ℕ → List ℕ
-others_from s in_port place = filter (λ p. not (nat_eq p in_port)) (filter (λ p. not (is_down s p)) (range_with_len (place + 1) (s.ports - place)))
+others_from s in_port place = filter (λ p. not (nat_eq p in_port)) (filter (λ p. not (is_port_down s p)) (range_with_len (place + 1) (s.ports - place)))
 
 -- a frame has gone to those before a place
 pub record Flooding (s : SwitchState) (in_port : ℕ) (frame : List ℕ) (start : Draft) (place count : ℕ) (d : Draft) : Type 0 where
@@ -162,7 +162,7 @@ pub record Flooding (s : SwitchState) (in_port : ℕ) (frame : List ℕ) (start 
 others-first : (s : SwitchState) (in_port place : ℕ) → place < s.ports → others_from s in_port place ≡ other_port s in_port (place + 1) ++ others_from s in_port (place + 1)
 others-first s in_port place within =
     let more : s.ports - place ≡ suc (s.ports - (place + 1)) = omega arith in
-    rw more (by_tests (not (is_down s (place + 1))) (not (nat_eq (place + 1) in_port)) (filter (λ p. not (is_down s p)) (range_with_len (place + 1 + 1) (s.ports - (place + 1)))) refl)
+    rw more (by_tests (not (is_port_down s (place + 1))) (not (nat_eq (place + 1) in_port)) (filter (λ p. not (is_port_down s p)) (range_with_len (place + 1 + 1) (s.ports - (place + 1)))) refl)
   where
     by_tests : (up other : Bool) (rest : List ℕ) → not (nat_eq (place + 1) in_port) ≡ other →
         filter (λ p. not (nat_eq p in_port)) (if up then (place + 1) ∷ rest else rest)
@@ -172,7 +172,7 @@ others-first s in_port place within =
     by_tests false other rest e = refl
 
 other-few : (s : SwitchState) (in_port port : ℕ) → length (other_port s in_port port) ≤ 1
-other-few s in_port port = by_tests (not (is_down s port)) (not (nat_eq port in_port)) refl
+other-few s in_port port = by_tests (not (is_port_down s port)) (not (nat_eq port in_port)) refl
   where
     by_tests : (up other : Bool) → not (nat_eq port in_port) ≡ other → length (filter (λ p. not (nat_eq p in_port)) (if up then port ∷ [] else [])) ≤ 1
     by_tests true true e = rw e (omega arith)
@@ -219,7 +219,7 @@ flood-ends s in_port frame start place count d so past =
     let counts : length (others_from s in_port place) ≡ 0 = ap (λ (ps : List ℕ). length ps) none in
     let whole : s.ports - 0 ≡ s.ports = omega arith in
     let all : others_from s in_port 0 ≡ filter (λ p. not (nat_eq p in_port)) (ports_up s) =
-    ap (λ (n : ℕ). filter (λ p. not (nat_eq p in_port)) (filter (λ p. not (is_down s p)) (range_with_len 1 n))) whole in
+    ap (λ (n : ℕ). filter (λ p. not (nat_eq p in_port)) (filter (λ p. not (is_port_down s p)) (range_with_len 1 n))) whole in
     let total : count ≡ length (others_from s in_port 0) = omega (arith, so.counted, counts) in (
       total ∙ ap (λ (ps : List ℕ). length ps) all,
       no-letters d
@@ -229,16 +229,16 @@ flood-ends s in_port frame start place count d so past =
     )
 
 -- the one port, where it is up
-one-port : (s : SwitchState) (port : ℕ) (there down : Bool) → is_port s port ≡ there → is_down s port ≡ down → filter (λ p. nat_eq p port) (ports_up s) ≡ (if there && not down then port ∷ [] else [])
+one-port : (s : SwitchState) (port : ℕ) (there down : Bool) → is_port s port ≡ there → is_port_down s port ≡ down → filter (λ p. nat_eq p port) (ports_up s) ≡ (if there && not down then port ∷ [] else [])
 one-port s port true false there up =
-    let p = port-inside s port there in only-passing (λ k. not (is_down s k)) 1 s.ports port p.0 (omega (arith, p.1)) (ap not up)
-one-port s port true true there down = only-failing (λ k. not (is_down s k)) 1 s.ports port (ap not down)
-one-port s port false down there is = only-outside (λ k. not (is_down s k)) 1 s.ports port (port-outside s port there)
+    let p = port-inside s port there in only-passing (λ k. not (is_port_down s k)) 1 s.ports port p.0 (omega (arith, p.1)) (ap not up)
+one-port s port true true there down = only-failing (λ k. not (is_port_down s k)) 1 s.ports port (ap not down)
+one-port s port false down there is = only-outside (λ k. not (is_port_down s k)) 1 s.ports port (port-outside s port there)
 
-pub only-up : (s : SwitchState) (port : ℕ) (up : Bool) → is_up s port ≡ up → filter (λ p. nat_eq p port) (ports_up s) ≡ (if up then port ∷ [] else [])
+pub only-up : (s : SwitchState) (port : ℕ) (up : Bool) → is_port_up s port ≡ up → filter (λ p. nat_eq p port) (ports_up s) ≡ (if up then port ∷ [] else [])
 only-up s port up is =
-    one-port s port (is_port s port) (is_down s port) refl refl
-    ∙ ap (λ (b : Bool). if b then port ∷ [] else []) (up-there s port (is_port s port) (is_down s port) refl refl ∙ is)
+    one-port s port (is_port s port) (is_port_down s port) refl refl
+    ∙ ap (λ (b : Bool). if b then port ∷ [] else []) (up-there s port (is_port s port) (is_port_down s port) refl refl ∙ is)
 
 -- the letters of one port
 pub one-list : (s : SwitchState) (frame : List ℕ) (port : ℕ) (d : Draft) → with_letters d (over_links s frame port) ≡ with_letters d (flat_map (over_links s frame) (port ∷ []))
@@ -263,7 +263,7 @@ any-without n (m ∷ ns) = by_test (nat_eq m n) refl (any-without n ns)
     by_test false other later = rw other later
 
 -- a port that went down is down, and one that came up is not
-pub down-then : (s : SwitchState) (port : ℕ) (up : Bool) → not (is_down (with_port s port up) port) ≡ up
+pub down-then : (s : SwitchState) (port : ℕ) (up : Bool) → not (is_port_down (with_port s port up) port) ≡ up
 down-then s port true = ap not (any-without port s.down)
 down-then s port false = ap not (any-middle port (filter (λ m. nat_lt m port) s.down) (filter (λ m. nat_lt port m) s.down))
 

@@ -11,7 +11,7 @@ use Rattle.flow_clock.specs.declared.times.Expired.{Expired}
 use Rattle.flow_clock.specs.Clocked.{clock_tick, clock_told}
 use Rattle.of_switch.specs.declared.says.SwitchSays.{SwitchSays}
 use Rattle.of_switch.specs.State.{SwitchState, SwitchTurn, posts, greetings, life_of}
-use Rattle.of_switch.specs.Events.{window, event_letter, event_letters, noted, flow_removed, tells_left, tick_letters, on_tick}
+use Rattle.of_switch.specs.Events.{window, event_letter, event_letters, noted_event, flow_removed, tells_left, switch_tick_letters, switch_on_tick}
 use Rattle.of_switch.specs.Drafts.{Draft, IsDraft, draft_of, drafted, drafted_event, with_letters, with_told, with_noted, with_removed, with_greetings, with_first}
 use Rattle.of_switch.proofs.Turns.{starts, start-is, held-then}
 
@@ -30,11 +30,11 @@ noted-is s d what is = by_test (nat_le most_held d.held)
           held_is = let more = length-append d.raised (drafted_event d what ∷ []) in omega (arith, more, is.held_is);
         }
 
-noted-drafted : (s : SwitchState) (d : Draft) (what : Happening) → IsDraft s d → noted what (drafted s d).state ≡ (drafted s (with_noted what d)).state
+noted-drafted : (s : SwitchState) (d : Draft) (what : Happening) → IsDraft s d → noted_event what (drafted s d).state ≡ (drafted s (with_noted what d)).state
 noted-drafted s d what is = by_test (nat_le most_held d.held) (ap (λ (n : ℕ). nat_le most_held n) (held-then s d is))
   where
     by_test : (b : Bool) → is_full (drafted s d).state.buffer ≡ b →
-        noted what (drafted s d).state ≡ (drafted s (if b then d else record d { held = d.held + 1; raised = d.raised ++ drafted_event d what ∷ [] })).state
+        noted_event what (drafted s d).state ≡ (drafted s (if b then d else record d { held = d.held + 1; raised = d.raised ++ drafted_event d what ∷ [] })).state
     by_test true full = rw full refl
     by_test false room =
         rw (
@@ -64,7 +64,7 @@ removed-drafted s [] d is = refl
 removed-drafted s (e ∷ left) d is = by_test (nat_eq e.flags SEND_REMOVED) (λ x k. removed-drafted s left x k)
   where
     by_test : (b : Bool) → ((x : Draft) → IsDraft s x → tells_left left (drafted s x).state ≡ (drafted s (with_removed left x)).state) →
-        tells_left left (if b then noted (flow_removed e) (drafted s d).state else (drafted s d).state) ≡ (drafted s (with_removed left (if b then with_noted (flow_removed e) d else d))).state
+        tells_left left (if b then noted_event (flow_removed e) (drafted s d).state else (drafted s d).state) ≡ (drafted s (with_removed left (if b then with_noted (flow_removed e) d else d))).state
     by_test true rest = ap (λ (x : SwitchState). tells_left left x) (noted-drafted s d (flow_removed e) is) ∙ rest (with_noted (flow_removed e) d) (noted-is s d (flow_removed e) is)
     by_test false rest = rest d is
 
@@ -130,7 +130,7 @@ abbrev noted_so_far : SwitchState → Option ℕ → ℕ → List Event → Draf
 noted_so_far s o held raised = record (draft_of s) { master = o; held = held; raised = raised }
 
 told-are : (s : SwitchState) (held : ℕ) (raised : List Event) (o : Option ℕ) →
-    (with_first s.buffer.held (with_greetings s (noted_so_far s o held raised))).letters ≡ tick_letters (drafted s (noted_so_far s o held raised)).state o
+    (with_first s.buffer.held (with_greetings s (noted_so_far s o held raised))).letters ≡ switch_tick_letters (drafted s (noted_so_far s o held raised)).state o
 told-are s held raised None = by_test (nat_lt 0 (life_of s))
   where
     by_test : (b : Bool) →
@@ -147,7 +147,7 @@ ticked-is s left =
 -- the switch takes it, and then its clock rises
 pub ticked-drafted : (s : SwitchState) (left : List Expired) → left ≡ clock_told s.table →
     (let t : SwitchTurn = drafted s (with_first s.buffer.held (with_greetings s (with_removed left (draft_of s)))) in
-    posts (record t.state { table = clock_tick s.table }) t.letters) ≡ on_tick s
+    posts (record t.state { table = clock_tick s.table }) t.letters) ≡ switch_on_tick s
 ticked-drafted s left e =
     let r : Draft = with_removed left (draft_of s) in
     let state : (drafted s r).state ≡ tells_left left s = sym (ap (λ (t : SwitchTurn). tells_left left t.state) (starts s) ∙ removed-drafted s left (draft_of s) (start-is s)) in
@@ -155,8 +155,8 @@ ticked-drafted s left e =
     let letters =
     ap (λ (d : Draft). (with_first s.buffer.held (with_greetings s d)).letters) keeps
     ∙ told-are s r.held r.raised s.fence.master
-    ∙ ap (λ (d : Draft). tick_letters (drafted s d).state s.fence.master) (sym keeps) in
+    ∙ ap (λ (d : Draft). switch_tick_letters (drafted s d).state s.fence.master) (sym keeps) in
     ap (λ (x : SwitchState). posts (record x { table = clock_tick s.table }) (with_first s.buffer.held (with_greetings s r)).letters) (greeted-state s r)
     ∙ ap (λ (ls : List (Letter SwitchSays)). posts (record (drafted s r).state { table = clock_tick s.table }) ls) letters
-    ∙ ap (λ (x : SwitchState). posts (record x { table = clock_tick s.table }) (tick_letters x s.fence.master)) state
-    ∙ ap (λ (l : List Expired). posts (record (tells_left l s) { table = clock_tick s.table }) (tick_letters (tells_left l s) s.fence.master)) e
+    ∙ ap (λ (x : SwitchState). posts (record x { table = clock_tick s.table }) (switch_tick_letters x s.fence.master)) state
+    ∙ ap (λ (l : List Expired). posts (record (tells_left l s) { table = clock_tick s.table }) (switch_tick_letters (tells_left l s) s.fence.master)) e

@@ -20,16 +20,16 @@ use Rattle.flow_clock.specs.Clocked.{Clocked}
 use Rattle.flow_clock.specs.Holding.{clocked_of}
 use Rattle.role_fence.specs.Fence.{starting_fence}
 use Rattle.of_switch.specs.declared.says.SwitchSays.{SwitchSays}
-use Rattle.of_switch.specs.State.{SwitchState, IsSwitch, SwitchTurn, quiet, posts, then_turn, greetings, life_of}
-use Rattle.of_switch.specs.Events.{event_letters, raised, packet_raised, port_status, with_port, coming, cleared, remembers, tells_ports, next_life, on_event_ack, on_restart}
-use Rattle.of_switch.specs.Commands.{result_of, done_as, counted, result_letter, executes, settled}
-use Rattle.of_switch.specs.Forwarding.{targets, sends_to, puts_out, puts_all, packet_in, through_row}
+use Rattle.of_switch.specs.State.{SwitchState, IsSwitch, SwitchTurn, quiet_switch, posts, then_turn, greetings, life_of}
+use Rattle.of_switch.specs.Events.{event_letters, raised, packet_raised, port_status, with_port, coming, cleared, remembers, tells_ports, next_life, on_event_ack, switch_on_restart}
+use Rattle.of_switch.specs.Commands.{result_of, done_as, counted_command, result_letter, executes, settled}
+use Rattle.of_switch.specs.Forwarding.{targets, sends_to, puts_out, puts_all, packet_in_of, through_row}
 use Rattle.of_switch.proofs.Drafts.{posted-all, whats-length}
 use Rattle.of_switch.proofs.Ports.{down-then}
-use Rattle.of_switch.specs.Drafts.{Draft, IsDraft, IsKept, all_posted, draft_of, drafted, drafted_event, with_raised, with_packet, with_sent, with_output, with_outputs, untold, with_row, with_ports, forgets, forgetting, changed_to, with_told, life_begun, sent_as}
+use Rattle.of_switch.specs.Drafts.{Draft, IsDraft, KeepsToRoom, all_posted, draft_of, drafted, drafted_event, with_raised, with_packet, with_sent, with_output, with_outputs, untold, with_draft_row, with_ports, forgets, forgetting, changed_to, with_told, life_begun, sent_as}
 
 -- a draft with nothing new leaves all as it is
-pub starts : (s : SwitchState) → quiet s ≡ drafted s (draft_of s)
+pub starts : (s : SwitchState) → quiet_switch s ≡ drafted s (draft_of s)
 starts s = rw (append-nil s.buffer.held, append-nil s.events) refl
 
 pub start-is : (s : SwitchState) → IsDraft s (draft_of s)
@@ -123,19 +123,19 @@ packets-told : (s : SwitchState) (what : Happening) → Tells s (packet_raised w
 packets-told s what = record { is = λ d is. packet-is s d what is; turn = λ d is. packet-drafted s d what is }
 
 -- and a PACKET_OUT none
-pub nothing-told : (s : SwitchState) → Tells s quiet untold
+pub nothing-told : (s : SwitchState) → Tells s quiet_switch untold
 nothing-told s = record { is = λ d is. is; turn = λ d is. rw (append-nil d.letters) refl }
 
 -- a frame meets a row, or none
-pub row-is : (s : SwitchState) (port : ℕ) (frame : List ℕ) (found : Option Row) → IsDraft s (with_row s port frame found (draft_of s))
+pub row-is : (s : SwitchState) (port : ℕ) (frame : List ℕ) (found : Option Row) → IsDraft s (with_draft_row s port frame found (draft_of s))
 row-is s port frame None = start-is s
-row-is s port frame (Some row) = outputs-is s _ _ port frame row.actions (draft_of s) (packets-told s (packet_in row port frame)) (start-is s)
+row-is s port frame (Some row) = outputs-is s _ _ port frame row.actions (draft_of s) (packets-told s (packet_in_of row port frame)) (start-is s)
 
-pub row-drafted : (s : SwitchState) (port : ℕ) (frame : List ℕ) (found : Option Row) → drafted s (with_row s port frame found (draft_of s)) ≡ through_row s port frame found
+pub row-drafted : (s : SwitchState) (port : ℕ) (frame : List ℕ) (found : Option Row) → drafted s (with_draft_row s port frame found (draft_of s)) ≡ through_row s port frame found
 row-drafted s port frame None = sym (starts s)
 row-drafted s port frame (Some row) =
-    sym (ap (λ (t : SwitchTurn). puts_all (packet_raised (packet_in row port frame)) port frame row.actions t) (starts s)
-    ∙ outputs-drafted s _ _ port frame row.actions (draft_of s) (packets-told s (packet_in row port frame)) (start-is s))
+    sym (ap (λ (t : SwitchTurn). puts_all (packet_raised (packet_in_of row port frame)) port frame row.actions t) (starts s)
+    ∙ outputs-drafted s _ _ port frame row.actions (draft_of s) (packets-told s (packet_in_of row port frame)) (start-is s))
 
 -- ports are told as they are
 pub ports-is : (s b : SwitchState) (ports : List ℕ) (d : Draft) → IsDraft b d → IsDraft b (with_ports s ports d)
@@ -174,24 +174,24 @@ remembers-drafted s b (port ∷ ports) (suc room) d down is e =
 -- ---- what a switch takes of a draft
 
 -- its events are numbered on from those of the buffer
-numbered-on : (s : SwitchState) (d : Draft) (joining : List Happening) → IsDraft s d → IsKept d joining → AreNumbered s.buffer.switch s.buffer.life (next_number s.buffer) d.raised
+numbered-on : (s : SwitchState) (d : Draft) (joining : List Happening) → IsDraft s d → KeepsToRoom d joining → AreNumbered s.buffer.switch s.buffer.life (next_number s.buffer) d.raised
 numbered-on s d joining is kept =
     let from : d.cleared + (d.held - length d.raised) ≡ next_number s.buffer = omega (arith, is.cleared_is, is.held_is) in
     subst (λ (n : ℕ). AreNumbered s.buffer.switch s.buffer.life n d.raised) from
     (subst (λ (l : ℕ). AreNumbered s.buffer.switch l (d.cleared + (d.held - length d.raised)) d.raised) is.life_is
     (subst (λ (w : ℕ). AreNumbered w d.life (d.cleared + (d.held - length d.raised)) d.raised) is.switch_is kept.numbered))
 
-pub joined-is : (s : SwitchState) (d : Draft) (joining : List Happening) → IsDraft s d → IsKept d joining → all_posted joining s.buffer ≡ record s.buffer { held = s.buffer.held ++ d.raised }
+pub joined-is : (s : SwitchState) (d : Draft) (joining : List Happening) → IsDraft s d → KeepsToRoom d joining → all_posted joining s.buffer ≡ record s.buffer { held = s.buffer.held ++ d.raised }
 joined-is s d joining is kept =
     ap (λ (ws : List Happening). all_posted ws s.buffer) kept.joins ∙ posted-all d.raised s.buffer (numbered-on s d joining is kept)
 
 -- and there is room for them
-pub joins-room : (s : SwitchState) (d : Draft) (joining : List Happening) → IsDraft s d → IsKept d joining → length s.buffer.held + length joining ≤ most_held
+pub joins-room : (s : SwitchState) (d : Draft) (joining : List Happening) → IsDraft s d → KeepsToRoom d joining → length s.buffer.held + length joining ≤ most_held
 joins-room s d joining is kept =
     let counts : length joining ≡ length d.raised = ap (λ (ws : List Happening). length ws) kept.joins ∙ whats-length d.raised in
     omega (arith, counts, is.held_is, kept.room)
 
-pub joins-countable : (s : SwitchState) (d : Draft) (joining : List Happening) → IsDraft s d → IsKept d joining → next_number s.buffer + length joining < 2 ^ 64 - 1
+pub joins-countable : (s : SwitchState) (d : Draft) (joining : List Happening) → IsDraft s d → KeepsToRoom d joining → next_number s.buffer + length joining < 2 ^ 64 - 1
 joins-countable s d joining is kept =
     let counts : length joining ≡ length d.raised = ap (λ (ws : List Happening). length ws) kept.joins ∙ whats-length d.raised in
     omega (arith, counts, is.held_is, is.cleared_is, kept.room, kept.countable)
@@ -272,7 +272,7 @@ forgotten-switch ports s through known =
 pub life-switch : (s : SwitchState) → IsSwitch s → IsSwitch (next_life s)
 life-switch s known = record { ports = known.ports; events = omega arith; executed = omega arith }
 
-pub restart-drafted : (s : SwitchState) → nat_lt (life_of s) last_life ≡ true → on_restart s ≡ drafted (next_life s) (life_begun s)
+pub restart-drafted : (s : SwitchState) → nat_lt (life_of s) last_life ≡ true → switch_on_restart s ≡ drafted (next_life s) (life_begun s)
 restart-drafted s more =
     let b : SwitchState = next_life s in
     let first : raised switch_up b ≡ drafted b (with_raised switch_up (draft_of b)) =
@@ -328,8 +328,8 @@ packet-does : (s : SwitchState) (results : Results) (out : PacketOut) (result : 
 packet-does s results out outcome.Done =
     let s' : SwitchState = (record s { results = results }) in
     let same = outputs-same s results out.in_port out.payload out.actions (draft_of s) in
-    ap (λ (t : SwitchTurn). puts_all quiet out.in_port out.payload out.actions t) (starts s')
-    ∙ outputs-drafted s' quiet untold out.in_port out.payload out.actions (draft_of s') (nothing-told s') (start-is s')
+    ap (λ (t : SwitchTurn). puts_all quiet_switch out.in_port out.payload out.actions t) (starts s')
+    ∙ outputs-drafted s' quiet_switch untold out.in_port out.payload out.actions (draft_of s') (nothing-told s') (start-is s')
     ∙ ap (λ (d : Draft). drafted s' d) same
     ∙ drafted-quietly s' (with_outputs s untold out.in_port out.payload out.actions (draft_of s)) (untold-raised s out.in_port out.payload out.actions (draft_of s))
 packet-does s results out (outcome.Failed kind code) = refl
@@ -344,5 +344,5 @@ pub packet-executed : (s : SwitchState) (through from generation number : ℕ) (
 packet-executed s through from generation number out result sent results executed letters is e r x l =
     let what : Order = order.PacketOut out in
     rw (e, r, x, l)
-    (sym (ap (λ (t : SwitchTurn). then_turn t (λ now. posts (counted from generation number what result now) (result_letter s from number result ∷ []))) (packet-does s (without_results_below s.results through) out result))
-    ∙ ap (λ (o : Outcome). then_turn (done_as o what (settled s through)) (λ now. posts (counted from generation number what o now) (result_letter s from number o ∷ []))) is)
+    (sym (ap (λ (t : SwitchTurn). then_turn t (λ now. posts (counted_command from generation number what result now) (result_letter s from number result ∷ []))) (packet-does s (without_results_below s.results through) out result))
+    ∙ ap (λ (o : Outcome). then_turn (done_as o what (settled s through)) (λ now. posts (counted_command from generation number what o now) (result_letter s from number o ∷ []))) is)

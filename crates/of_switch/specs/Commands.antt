@@ -21,7 +21,7 @@ use Rattle.flow_table.specs.declared.rows.TableFault.TheVariants as table
 use Rattle.flow_table.specs.Table.{table_fault}
 use Rattle.flow_clock.specs.Clocked.{clock_change}
 use Rattle.of_switch.specs.declared.says.SwitchSays.{SwitchSays}
-use Rattle.of_switch.specs.State.{SwitchState, SwitchTurn, quiet, posts, then_turn, to_controller, refuses, rows_of, life_of}
+use Rattle.of_switch.specs.State.{SwitchState, SwitchTurn, quiet_switch, posts, then_turn, to_controller, switch_refuses, rows_of, life_of}
 use Rattle.of_switch.specs.Events.{is_port}
 use Rattle.of_switch.specs.Forwarding.{is_frame, puts_all}
 
@@ -57,18 +57,18 @@ result_of s (order.FlowMod change) = table_result (table_fault (rows_of s) s.por
 
 -- what an order does that has no fault
 abbrev pub does : Order → SwitchState → SwitchTurn
-does (order.PacketOut out) s = puts_all quiet out.in_port out.payload out.actions (quiet s)
-does (order.FlowMod change) s = quiet (record s { table = clock_change s.table change })
+does (order.PacketOut out) s = puts_all quiet_switch out.in_port out.payload out.actions (quiet_switch s)
+does (order.FlowMod change) s = quiet_switch (record s { table = clock_change s.table change })
 
 -- an order with a fault changes nothing (OpenFlow 1.3, 6.4)
 abbrev pub done_as : Outcome → Order → SwitchState → SwitchTurn
 done_as outcome.Done what s = does what s
-done_as (outcome.Failed kind code) what s = quiet s
-done_as outcome.Cleared what s = quiet s
+done_as (outcome.Failed kind code) what s = quiet_switch s
+done_as outcome.Cleared what s = quiet_switch s
 
 -- a command is counted beside its result, also where that is a fault (Ravana, 4.2)
-abbrev pub counted : ℕ → ℕ → ℕ → Order → Outcome → SwitchState → SwitchState
-counted from generation number what result s =
+abbrev pub counted_command : ℕ → ℕ → ℕ → Order → Outcome → SwitchState → SwitchState
+counted_command from generation number what result s =
     record s {
       executed = s.executed ++ record { life = life_of s; number = number; generation = generation; from = from; order = what } ∷ [];
       results = with_result s.results result;
@@ -85,15 +85,15 @@ result_letter s from number result = letter_of_result from (life_of s) number re
 abbrev pub executes : SwitchState → ℕ → ℕ → ℕ → Order → SwitchTurn
 executes s from generation number what =
     then_turn (done_as (result_of s what) what s)
-    (λ now. posts (counted from generation number what (result_of s what) now) (result_letter s from number (result_of s what) ∷ []))
+    (λ now. posts (counted_command from generation number what (result_of s what) now) (result_letter s from number (result_of s what) ∷ []))
 
 -- a command that the fence lets pass, by what the command buffer says of its number: each number is carried out
 -- once, and in order (Ravana, 4.2)
 abbrev pub on_offer : SwitchState → ℕ → ℕ → ℕ → Order → Offer → SwitchTurn
 on_offer s from generation number what Execute = executes s from generation number what
 on_offer s from generation number what (Repeat result) = posts s (result_letter s from number result ∷ [])
-on_offer s from generation number what Ahead = quiet s
-on_offer s from generation number what Full = quiet s
+on_offer s from generation number what Ahead = quiet_switch s
+on_offer s from generation number what Full = quiet_switch s
 
 -- the results of commands below a number go
 abbrev pub settled : SwitchState → ℕ → SwitchState
@@ -105,4 +105,4 @@ abbrev pub on_command : SwitchState → ℕ → ℕ → ℕ → ℕ → ℕ → 
 on_command s from xid generation number through what =
     if may_execute s.fence from generation
     then on_offer (settled s through) from generation number what (offer_of (settled s through).results number)
-    else refuses s from xid NOT_MASTER
+    else switch_refuses s from xid NOT_MASTER

@@ -14,7 +14,7 @@ use Rattle.of_types.specs.declared.numbers.TheConstants.{MASTER, TO_CONTROLLER, 
 use Rattle.of_types.specs.declared.refusal.TheConstants.{BAD_ROLE, STALE_ROLE}
 use Rattle.of_types.specs.Lives.{switch_up}
 use Rattle.journal.specs.declared.journal.Letter.{Letter}
-use Rattle.event_buffer.specs.Buffer.{Buffer, AreNumbered, most_held, posted, without_dirty}
+use Rattle.event_buffer.specs.Buffer.{Buffer, AreNumbered, most_held, with_posted, without_dirty}
 use Rattle.command_buffer.specs.declared.buffer.Offer.{Offer}
 use Rattle.command_buffer.specs.declared.buffer.Offer.TheVariants as offer
 use Rattle.role_fence.specs.declared.fence.RoleAnswer.{RoleAnswer}
@@ -22,10 +22,10 @@ use Rattle.role_fence.specs.declared.fence.RoleAnswer.TheVariants.{Reply, Stale,
 use Rattle.flow_clock.specs.declared.times.Expired.{Expired}
 use Rattle.flow_clock.specs.Clocked.{Clocked, clock_change}
 use Rattle.of_switch.specs.declared.says.SwitchSays.{SwitchSays}
-use Rattle.of_switch.specs.State.{SwitchState, SwitchTurn, greetings, quiet, posts, to_controller, error_letter}
-use Rattle.of_switch.specs.Events.{window, first_held, event_letter, event_letters, flow_removed, is_down, port_status, next_life}
+use Rattle.of_switch.specs.State.{SwitchState, SwitchTurn, greetings, quiet_switch, posts, to_controller, error_letter}
+use Rattle.of_switch.specs.Events.{window, first_held, event_letter, event_letters, flow_removed, is_port_down, port_status, next_life}
 use Rattle.of_switch.specs.Commands.{result_letter}
-use Rattle.of_switch.specs.Forwarding.{targets, over_links, packet_in}
+use Rattle.of_switch.specs.Forwarding.{targets, over_links, packet_in_of}
 
 pub record Draft : Type 0 where
   pub switch : ℕ
@@ -110,7 +110,7 @@ with_sent s frame ports d =
 
 -- a port, where it is up and not the one that a frame came in by
 abbrev pub other_port : SwitchState → ℕ → ℕ → List ℕ
-other_port s in_port port = filter (λ p. not (nat_eq p in_port)) (filter (λ p. not (is_down s p)) (port ∷ []))
+other_port s in_port port = filter (λ p. not (nat_eq p in_port)) (filter (λ p. not (is_port_down s p)) (port ∷ []))
 
 -- a frame is put out, by what becomes of one to the controller
 abbrev pub with_output : SwitchState → (Draft → Draft) → ℕ → List ℕ → ℕ → Draft → Draft
@@ -122,9 +122,9 @@ with_outputs s tells port frame [] d = d
 with_outputs s tells port frame (output ∷ outputs) d = with_outputs s tells port frame outputs (with_output s tells port frame output d)
 
 -- a frame meets a row, or none
-abbrev pub with_row : SwitchState → ℕ → List ℕ → Option Row → Draft → Draft
-with_row s port frame None d = d
-with_row s port frame (Some row) d = with_outputs s (with_packet (packet_in row port frame)) port frame row.actions d
+abbrev pub with_draft_row : SwitchState → ℕ → List ℕ → Option Row → Draft → Draft
+with_draft_row s port frame None d = d
+with_draft_row s port frame (Some row) d = with_outputs s (with_packet (packet_in_of row port frame)) port frame row.actions d
 
 -- no packet-in comes of a PACKET_OUT
 abbrev pub untold : Draft → Draft
@@ -154,7 +154,7 @@ forgetting ports s = record s { buffer = forgets ports s.buffer }
 -- what happened joins a buffer, in order
 abbrev pub all_posted : List Happening → Buffer → Buffer
 all_posted [] b = b
-all_posted (what ∷ whats) b = all_posted whats (posted b what)
+all_posted (what ∷ whats) b = all_posted whats (with_posted b what)
 
 -- what each of some events tells of
 abbrev pub whats_of : List Event → List Happening
@@ -162,7 +162,7 @@ whats_of [] = []
 whats_of (e ∷ events) = e.what ∷ whats_of events
 
 -- a draft that keeps to its room, beside what is to join the buffer
-pub record IsKept (d : Draft) (joining : List Happening) : Type 0 where
+pub record KeepsToRoom (d : Draft) (joining : List Happening) : Type 0 where
   pub joins : joining ≡ whats_of d.raised
   pub enough : length d.raised ≤ d.held
   pub room : d.held ≤ most_held
@@ -191,9 +191,9 @@ sent_as s outcome.Cleared out d = d
 -- what is told of a command that isn't carried out
 abbrev pub reported : SwitchState → ℕ → ℕ → Offer → SwitchTurn
 reported s from number (offer.Repeat result) = posts s (result_letter s from number result ∷ [])
-reported s from number offer.Execute = quiet s
-reported s from number offer.Ahead = quiet s
-reported s from number offer.Full = quiet s
+reported s from number offer.Execute = quiet_switch s
+reported s from number offer.Ahead = quiet_switch s
+reported s from number offer.Full = quiet_switch s
 
 -- the letters for what the fence answers, and for the events that a master is told
 abbrev pub role_letters : ℕ → ℕ → RoleAnswer → List (Letter SwitchSays) → List (Letter SwitchSays)

@@ -15,7 +15,7 @@ use Rattle.flow_table.specs.Table.{chosen_row}
 use Rattle.flow_clock.specs.Clocked.{clock_hit}
 use Rattle.of_switch.specs.declared.says.SwitchSays.{SwitchSays}
 use Rattle.of_switch.specs.declared.says.SwitchSays.TheVariants as switch_says
-use Rattle.of_switch.specs.State.{SwitchState, SwitchTurn, quiet, posts, then_turn, ports_up, rows_of, number_of}
+use Rattle.of_switch.specs.State.{SwitchState, SwitchTurn, quiet_switch, posts, then_turn, ports_up, rows_of, own_number_of}
 use Rattle.of_switch.specs.Events.{packet_raised}
 
 -- a frame that may be taken and sent
@@ -23,8 +23,8 @@ abbrev pub is_frame : List ℕ → Bool
 is_frame frame = nat_le SHORTEST_FRAME (length frame) && nat_le (length frame) LONGEST_FRAME
 
 -- a port of the switch that is up
-abbrev pub is_up : SwitchState → ℕ → Bool
-is_up s port = list_any (λ p. nat_eq p port) (ports_up s)
+abbrev pub is_port_up : SwitchState → ℕ → Bool
+is_port_up s port = list_any (λ p. nat_eq p port) (ports_up s)
 
 -- the ports to which an output sends a frame that came in by a port: those of them that are up. A frame leaves by
 -- the port that it came in by only where IN_PORT says so (OpenFlow 1.3, 4.5 and 7.2.1)
@@ -47,7 +47,7 @@ over_link frame switch port l =
     else []
 
 abbrev pub over_links : SwitchState → List ℕ → ℕ → List (Letter SwitchSays)
-over_links s frame port = flat_map (over_link frame (number_of s) port) s.links
+over_links s frame port = flat_map (over_link frame (own_number_of s) port) s.links
 
 -- a frame is sent to ports that are up. The count of frames sent stops at the greatest number of 64 bits
 abbrev pub sends_to : List ℕ → List ℕ → SwitchState → SwitchTurn
@@ -69,26 +69,26 @@ abbrev pub is_table_miss : Row → Bool
 is_table_miss row = nat_eq row.priority 0 && is_any row.matching
 
 -- a frame as a packet-in: reason NO_MATCH at a table-miss row, ACTION at any other (OpenFlow 1.3, 7.4.1)
-abbrev pub packet_in : Row → ℕ → List ℕ → Happening
-packet_in row port frame =
+abbrev pub packet_in_of : Row → ℕ → List ℕ → Happening
+packet_in_of row port frame =
     happening.PacketIn (record { reason = if is_table_miss row then REASON_NO_MATCH else REASON_ACTION; cookie = row.cookie; in_port = port; payload = frame })
 
 -- a frame that no row matches is dropped (OpenFlow 1.3, 5.4)
 abbrev pub through_row : SwitchState → ℕ → List ℕ → Option Row → SwitchTurn
-through_row s port frame None = quiet s
-through_row s port frame (Some row) = puts_all (packet_raised (packet_in row port frame)) port frame row.actions (quiet s)
+through_row s port frame None = quiet_switch s
+through_row s port frame (Some row) = puts_all (packet_raised (packet_in_of row port frame)) port frame row.actions (quiet_switch s)
 
 -- the fields of a frame that came in by a port
-abbrev pub fields_at : ℕ → List ℕ → Fields
-fields_at port frame = record (fields_of frame) { in_port = Some port }
+abbrev pub frame_fields_at : ℕ → List ℕ → Fields
+frame_fields_at port frame = record (fields_of frame) { in_port = Some port }
 
 -- the frame is counted, with its length, at the row that was chosen for it (OpenFlow 1.3, 5.2)
-abbrev pub counting : ℕ → List ℕ → SwitchTurn → SwitchTurn
-counting port frame turn =
-    record turn { state = record turn.state { table = clock_hit turn.state.table (fields_at port frame) (length frame) } }
+abbrev pub counting_ports : ℕ → List ℕ → SwitchTurn → SwitchTurn
+counting_ports port frame turn =
+    record turn { state = record turn.state { table = clock_hit turn.state.table (frame_fields_at port frame) (length frame) } }
 
 -- a frame at a port that is up meets the table (OpenFlow 1.3, 5.3). Any other is dropped
 abbrev pub on_frame : SwitchState → ℕ → List ℕ → SwitchTurn
 on_frame s port frame =
-    if is_up s port && is_frame frame
-    then counting port frame (through_row s port frame (chosen_row (rows_of s) (fields_at port frame))) else quiet s
+    if is_port_up s port && is_frame frame
+    then counting_ports port frame (through_row s port frame (chosen_row (rows_of s) (frame_fields_at port frame))) else quiet_switch s

@@ -59,8 +59,8 @@ starting_switch number setup =
       ended = [];
     }
 
-abbrev pub number_of : SwitchState → ℕ
-number_of s = s.buffer.switch
+abbrev pub own_number_of : SwitchState → ℕ
+own_number_of s = s.buffer.switch
 
 -- the rows of its table, in the order of adding
 abbrev pub rows_of : SwitchState → List Row
@@ -96,8 +96,8 @@ pub record SwitchTurn : Type 0 where
   pub letters : List (Letter SwitchSays)
 
 -- nothing is posted
-abbrev pub quiet : SwitchState → SwitchTurn
-quiet s = record { state = s; letters = [] }
+abbrev pub quiet_switch : SwitchState → SwitchTurn
+quiet_switch s = record { state = s; letters = [] }
 
 abbrev pub posts : SwitchState → List (Letter SwitchSays) → SwitchTurn
 posts s letters = record { state = s; letters = letters }
@@ -119,8 +119,8 @@ answers s c xid message = posts s (to_controller c xid message ∷ [])
 abbrev pub error_letter : ℕ → ℕ → ℕ → ℕ → List ℕ → Letter SwitchSays
 error_letter c xid kind code head = to_controller c xid (spoken.Plain (plain.Error kind code head))
 
-abbrev pub refuses : SwitchState → ℕ → ℕ → Refusal → SwitchTurn
-refuses s c xid why = posts s (error_letter c xid why.kind why.code [] ∷ [])
+abbrev pub switch_refuses : SwitchState → ℕ → ℕ → Refusal → SwitchTurn
+switch_refuses s c xid why = posts s (error_letter c xid why.kind why.code [] ∷ [])
 
 -- a switch that began a life greets every controller with a HELLO (OpenFlow 1.3, 6.3.1)
 abbrev pub greetings : SwitchState → List (Letter SwitchSays)

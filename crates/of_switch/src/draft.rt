@@ -6,7 +6,7 @@ ghost use Rattle.of_types.specs.declared.message.Spoken.TheVariants as spoken;
 ghost use Rattle.event_buffer.specs.Buffer.{most_held};
 ghost use Rattle.of_switch.specs.State.{to_controller};
 ghost use Rattle.of_switch.specs.Events.{window, event_letters};
-ghost use Rattle.of_switch.specs.Drafts.{draft_from, with_letters, with_told, with_raised, with_noted, with_first, drafted_event, IsKept};
+ghost use Rattle.of_switch.specs.Drafts.{draft_from, with_letters, with_told, with_raised, with_noted, with_first, drafted_event, KeepsToRoom};
 
 use crate::letters::{push_events, push_greetings};
 use crate::says::SwitchSays;
@@ -35,7 +35,7 @@ pub struct Draft {
 }
 
 impl Model for Draft {
-    ghost use Rattle.of_switch.specs.Drafts.{Draft as Drafted, IsKept};
+    ghost use Rattle.of_switch.specs.Drafts.{Draft as Drafted, KeepsToRoom};
 
     ghost Value = { Drafted };
 
@@ -50,7 +50,7 @@ impl Model for Draft {
       letters = a.letters.items;
     } };
 
-    ghost invariant = { λ a. IsKept (record {
+    ghost invariant = { λ a. KeepsToRoom (record {
       switch = a.switch;
       life = a.life;
       master = a.master;
@@ -217,7 +217,7 @@ impl Draft {
     /// Its parts.
     pub fn into_parts(self) -> Parts
         ensures events { result.events.items ≡ self.raised }
-        ensures kept { IsKept self result.joining.items }
+        ensures kept { KeepsToRoom self result.joining.items }
         ensures sent { result.sent ≡ self.sent }
         ensures letters { result.letters.items ≡ self.letters }
     {

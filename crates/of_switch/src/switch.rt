@@ -2,8 +2,8 @@
 ghost use Rattle.std.specs.Prelude.{◌≡◌, ◌≤◌, [], true, length, filter, slice_index_or, IfOk, OnErr};
 ghost use Rattle.of_types.specs.SmallSets.{places_from};
 ghost use Rattle.event_buffer.specs.Buffer.{highest_port};
-ghost use Rattle.of_switch.specs.Rules.{switch_turn, on_local, takes_memory};
-ghost use Rattle.of_switch.specs.State.{Turned, IsSwitch, starting_switch, is_at as is_link_at, rows_of, life_of, number_of};
+ghost use Rattle.of_switch.specs.Rules.{switch_turn, switch_on_local, takes_memory};
+ghost use Rattle.of_switch.specs.State.{Turned, IsSwitch, starting_switch, is_at as is_link_at, rows_of, life_of, own_number_of};
 ghost use Rattle.flow_clock.specs.Holding.{clocked_of};
 
 mod commands;
@@ -193,7 +193,7 @@ impl Switch {
 
     /// What comes from outside. A switch neither suspects nor stops.
     fn on_local(&mut self, input: Local) -> Result<Letters<SwitchSays>, AllocError>
-        ensures ok { IfOk result (λ letters. Turned (on_local self.old input) self.new letters) }
+        ensures ok { IfOk result (λ letters. Turned (switch_on_local self.old input) self.new letters) }
         ensures err { OnErr result (self.new ≡ self.old) }
     {
         match input {
@@ -207,7 +207,7 @@ impl Switch {
 
     /// Its number.
     fn number(&self) -> u8
-        ensures { result ≡ number_of self.now }
+        ensures { result ≡ own_number_of self.now }
     {
         self.buffer.switch()
     }

@@ -1,7 +1,7 @@
 //! What a member of a group of three does in the normal case.
 ghost use Rattle.std.specs.Prelude.{◌<◌, IfOk};
 ghost use Rattle.vr_log.specs.Log.{IsLog};
-ghost use Rattle.vr_log.specs.Valid.{IsValid};
+ghost use Rattle.vr_log.specs.Valid.{IsValidState};
 
 use crate::entries::{Short, append, entry_of};
 use std::alloc::{AllocError, Global};
@@ -25,7 +25,7 @@ fn log_of(alloc: Global, entries: u64) -> Result<Log, AllocError>
 /// A member with so many entries.
 fn member(alloc: Global, me: u8, entries: u64) -> Result<VrState, AllocError>
     requires { me < 3 }
-    ensures { IfOk result (λ s. IsValid s) }
+    ensures { IfOk result (λ s. IsValidState s) }
 {
     let log = log_of(alloc, entries)?;
     let mut state = VrState::new(alloc, me, 3)?;
@@ -72,7 +72,7 @@ fn a_tick_repeats_eight_entries(rt: HostRuntime) {
 
 /// Whether a member may not propose its first entry, tells nothing, and has no entry after it.
 fn may_not_propose(state: &mut VrState, out: &mut VrOut) -> bool
-    requires { IsValid state.old }
+    requires { IsValidState state.old }
 {
     let entry = entry_of(Short::Down(0, 0, 0));
     if !state.log.may_follow(&entry) {

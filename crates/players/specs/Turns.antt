@@ -17,7 +17,7 @@ pub record SwitchTurned (old : SwitchState) (input : SwitchInput) (new : SwitchS
   pub says : letters ≡ (switch_turn old input).letters
 
 -- a controller that keeps to its invariant knows the stable pair beside it
-pub record IsReady {A W : Type 0} (law : AppLaw A) (saving : Saving W) (x : Controlling A) (stable : W) : Type 0 where
+pub record IsReadyBeside {A W : Type 0} (law : AppLaw A) (saving : Saving W) (x : Controlling A) (stable : W) : Type 0 where
   pub kept : (kinds : List ℕ) × Controls law x kinds
   pub stands : saving.pair stable ≡ pair_in (state_of x)
 

@@ -3,7 +3,7 @@ ghost use Rattle.std.specs.Prelude.{◌≡◌, ◌⊎◌, List, IfOk, OnErr};
 ghost use Rattle.journal.specs.declared.journal.Letter.{Letter};
 ghost use Rattle.run_spec.specs.Legal.{AreTyped};
 ghost use Rattle.run_spec.specs.States.{sealed_letters};
-ghost use Rattle.players.specs.Turns.{ControllerTurned, ControllerWanted, IsReady, SwitchTurned};
+ghost use Rattle.players.specs.Turns.{ControllerTurned, ControllerWanted, IsReadyBeside, SwitchTurned};
 
 use crate::player::Player;
 use crate::sealing::{letters_fit, sealed};
@@ -51,7 +51,7 @@ impl TakesTurns<()> for Switch {
 }
 
 impl<A: App, W: Stable> TakesTurns<W> for Controller<A> {
-    ghost ready = { IsReady A.law W.saving };
+    ghost ready = { IsReadyBeside A.law W.saving };
 
     ghost turned = { ControllerTurned A.law W.saving };
 

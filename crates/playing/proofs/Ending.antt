@@ -14,7 +14,7 @@ use Rattle.world.specs.World.{AreMore, Holds, Keeps, Worlding, results_in, scene
 use Rattle.world.proofs.Growing.{more_then, no_more}
 use Rattle.world.proofs.Turning.{keeps_then}
 use Rattle.closing.specs.declared.closed.Closed.{Closed}
-use Rattle.closing.specs.Closing.{ClosingStops, HasEnded, HasReason, IsBounded, IsCutAt, answer_of}
+use Rattle.closing.specs.Closing.{ClosingStops, HasEnded, HasReason, IsBounded, IsCutAt, closing_answer_of}
 use Rattle.closing.proofs.Leading.{runs_again}
 use Rattle.closing.proofs.Turned.{more_told, past_joined}
 use Rattle.journal.specs.declared.journal.JournalEntry.{JournalEntry}
@@ -22,14 +22,14 @@ use Rattle.journal.specs.Turns.{IsWithinLimits}
 use Rattle.running.specs.declared.run.Played.{Played}
 use Rattle.running.specs.Apart as apart
 use Rattle.running.specs.Threads.{IsLeftPaired}
-use Rattle.playing.specs.Manners.{Manner, In_order, Apart, Begins, Follows}
+use Rattle.playing.specs.Manners.{Manner, In_order, Apart, Begins, FollowsManner}
 use Rattle.playing.specs.Played.{HaltsAs, HasFollowed, HasPlayed, Lastingly, RunStops}
 use Rattle.playing.specs.Played as halted
 use Rattle.playing.proofs.Stopping.{stuck_full}
 
 -- a closing behind a script that was done in this manner is cut short
 begun : {B : Type 0} (manner : Manner) (scene : Scene B) (results : List (List SaveResult)) (steps : List Turn) (bytes letters : ℕ) (script entries : List (JournalEntry B)) (last : Phase) →
-    Follows manner scene results steps script → ClosesTo scene results Losing script entries last → IsJournalFull scene results (reverse entries ++ script) bytes letters →
+    FollowsManner manner scene results steps script → ClosesTo scene results Losing script entries last → IsJournalFull scene results (reverse entries ++ script) bytes letters →
     Begins manner scene results steps bytes letters (reverse entries ++ script)
 begun In_order scene results steps bytes letters script entries last follows closes full = In_the_closing script entries last follows closes full
 begun Apart scene results steps bytes letters script entries last follows closes full = apart.In_the_closing script entries last follows closes full
@@ -41,7 +41,7 @@ module _ {B A W : Type 0} (law : AppLaw A) (saving : Saving W) (sealing : Sealin
   later_scene kinds = ap (λ s. record { setup = s; kinds = kinds; sealing = sealing }) keeps.setup
 
   module _ (manner : Manner) (kinds : List ℕ) (holds : Holds law sealing first kinds)
-      (follows : Lastingly now (λ later. Follows manner (scene_in sealing first kinds) later steps (past now.journal)))
+      (follows : Lastingly now (λ later. FollowsManner manner (scene_in sealing first kinds) later steps (past now.journal)))
       (goes_on : Keeps law saving sealing now stables_now last stables_last) where
     -- what becomes of saves behind the closing becomes of them behind the script
     more_now : (later : List (List SaveResult)) → AreMore now.setup.controllers (results_in last.controllers) later → AreMore now.setup.controllers (results_in now.controllers) later
@@ -55,7 +55,7 @@ module _ {B A W : Type 0} (law : AppLaw A) (saving : Saving W) (sealing : Sealin
       joined = h.closed.joined;
       counted = counted;
       follows = λ later more. follows later (more_now later (subst (λ s. AreMore s.controllers (results_in last.controllers) later) goes_on.setup more));
-      closes = λ later more. subst (λ (scene : Scene B). Closes scene later (past now.journal) h.closed.entries (answer_of ended)) (later_scene kinds)
+      closes = λ later more. subst (λ (scene : Scene B). Closes scene later (past now.journal) h.closed.entries (closing_answer_of ended)) (later_scene kinds)
           (h.closed.closes later (subst (λ s. AreMore s.controllers (results_in last.controllers) later) goes_on.setup more));
       reason = subst (λ (scene : Scene B). HasReason ended scene (results_in last.controllers) (past now.journal) (past last.journal)) (later_scene kinds) h.reason;
       bounded = subst (λ (scene : Scene B). IsBounded scene (results_in last.controllers) (past now.journal) h.closed.entries) (later_scene kinds) h.bounded;

@@ -22,7 +22,7 @@ use Rattle.app_core.specs.Law.{AppLaw}
 use Rattle.run_laws.specs.Laws.{EntrySuspectsUpTo, IsSuspectedUpTo}
 use Rattle.run_spec.specs.Schedule.{FollowsInOrder, IsBegun, In_the_script, IsPosted, IsStepOf, TakesInOrder, inputs}
 use Rattle.run_spec.specs.States.{Scene, Sealing}
-use Rattle.world.specs.Refusals.{IsHalted, IsRefusal, None_stands, One_stands, Posted, Turned_down, TurnStops, Unchanged, Unposted}
+use Rattle.world.specs.Refusals.{IsHalted, IsRefusalBehind, None_stands, One_stands, Posted, Turned_down, TurnStops, Unchanged, Unposted}
 use Rattle.world.specs.World.{AreMore, Applies, Holds, IsStuck, Keeps, PairsStand, Worlding, results_in, scene_in, taken, with_posts}
 use Rattle.world.specs.Debts.{Debt}
 use Rattle.world.proofs.Growing.{more_then, no_more}
@@ -210,7 +210,7 @@ module _ {B A W : Type 0} (law : AppLaw A) (saving : Saving W) (sealing : Sealin
     halts_next k (Turned_down r) kinds h =
         let its = of_step step (past old.journal) in
         halted.In_the_script (old.journal ++ e ∷ []) (Refused (turn_actor step) ∷ []) (r.journal ∙ ap (λ l. l ++ Refused (turn_actor step) ∷ []) taken_is)
-        (subst (λ (l : List (JournalEntry B)). IsRefusal l (Refused (turn_actor step) ∷ [])) (sym (past-push old.journal e))
+        (subst (λ (l : List (JournalEntry B)). IsRefusalBehind l (Refused (turn_actor step) ∷ [])) (sym (past-push old.journal e))
         (One_stands (turn_actor step) (subst (λ (l : List (JournalEntry B)). MayBeRefused l) (ap past taken_is ∙ past-push old.journal e) r.input)
         (its.1, ap (λ a. same_actor a (turn_actor step)) its.0 ∙ same_self (turn_actor step))))
         (taken_entry k kinds h)

@@ -12,9 +12,9 @@ pub data Manner : Type 0 where
   Apart : Manner
 
 -- the script's part of a journal, done in this manner
-abbrev pub Follows : {B : Type 0} → Manner → Scene B → List (List SaveResult) → List Turn → List (JournalEntry B) → Type 0
-Follows In_order = FollowsInOrder
-Follows Apart = FollowsApart
+abbrev pub FollowsManner : {B : Type 0} → Manner → Scene B → List (List SaveResult) → List Turn → List (JournalEntry B) → Type 0
+FollowsManner In_order = FollowsInOrder
+FollowsManner Apart = FollowsApart
 
 -- a run that is cut short where an outbox met the limits of the journal
 abbrev pub Begins : {B : Type 0} → Manner → Scene B → List (List SaveResult) → List Turn → ℕ → ℕ → List (JournalEntry B) → Type 0

@@ -12,13 +12,13 @@ use Rattle.run_spec.specs.Schedule.{Losing, Phase, Closes, ClosesTo, FollowsInOr
 use Rattle.run_spec.specs.States.{Scene, Sealing}
 use Rattle.journal.specs.Stables.{Saving}
 use Rattle.app_core.specs.Law.{AppLaw}
-use Rattle.world.specs.Refusals.{IsRefusal}
+use Rattle.world.specs.Refusals.{IsRefusalBehind}
 use Rattle.world.specs.World.{AreMore, Worlding, results_in, scene_in}
 use Rattle.running.specs.declared.run.Played.{Played}
 use Rattle.running.specs.Threads.{IsLeftLegal, IsLeftPaired}
 use Rattle.closing.specs.declared.closed.Closed.{Closed}
-use Rattle.closing.specs.Closing.{HasReason, IsBounded, answer_of}
-use Rattle.playing.specs.Manners.{Manner, In_order, Apart, Begins, Follows}
+use Rattle.closing.specs.Closing.{HasReason, IsBounded, closing_answer_of}
+use Rattle.playing.specs.Manners.{Manner, In_order, Apart, Begins, FollowsManner}
 
 -- a step suspects a view up to this one, or none
 abbrev pub StepSuspectsUpTo : ℕ → Turn → Type 0
@@ -31,7 +31,7 @@ Lastingly w claim = (later : List (List SaveResult)) → AreMore w.setup.control
 
 -- a script was followed in this manner
 abbrev pub HasFollowed : {B A : Type 0} → Manner → Scene B → List Turn → Worlding B A → Type 0
-HasFollowed manner scene steps w = Lastingly w (λ later. Follows manner scene later steps (past w.journal))
+HasFollowed manner scene steps w = Lastingly w (λ later. FollowsManner manner scene later steps (past w.journal))
 
 -- a script was followed in this manner, and a closing has ended as a call tells: by its schedule, for a reason, within its bounds
 pub record HasPlayed {B A : Type 0} (manner : Manner) (scene : Scene B) (steps : List Turn) (script : ℕ) (ended : Closed) (w : Worlding B A) : Type 0 where
@@ -39,8 +39,8 @@ pub record HasPlayed {B A : Type 0} (manner : Manner) (scene : Scene B) (steps :
   pub rest : List (JournalEntry B)
   pub joined : w.journal ≡ front ++ rest
   pub counted : script ≡ length front
-  pub follows : Lastingly w (λ later. Follows manner scene later steps (past front))
-  pub closes : Lastingly w (λ later. Closes scene later (past front) rest (answer_of ended))
+  pub follows : Lastingly w (λ later. FollowsManner manner scene later steps (past front))
+  pub closes : Lastingly w (λ later. Closes scene later (past front) rest (closing_answer_of ended))
   pub reason : HasReason ended scene (results_in w.controllers) (past front) (past w.journal)
   pub bounded : IsBounded scene (results_in w.controllers) (past front) rest
 
@@ -51,9 +51,9 @@ HasPlayedTo scene steps w played = HasPlayed In_order scene steps played.1 playe
 -- Playing that found no memory: the first steps of the script were taken in order, or all of them and the first entries of a closing.
 -- Behind these stands a refusal, or none
 pub data IsHaltedIn {B A : Type 0} (scene : Scene B) (steps : List Turn) (w : Worlding B A) : Type 0 where
-  In_the_script : (entries refusal : List (JournalEntry B)) → w.journal ≡ entries ++ refusal → IsRefusal (past entries) refusal →
+  In_the_script : (entries refusal : List (JournalEntry B)) → w.journal ≡ entries ++ refusal → IsRefusalBehind (past entries) refusal →
       Lastingly w (λ later. TakesInOrder scene later steps (past entries)) → IsHaltedIn scene steps w
-  In_the_closing : (script entries refusal : List (JournalEntry B)) → w.journal ≡ script ++ entries ++ refusal → IsRefusal (past (script ++ entries)) refusal →
+  In_the_closing : (script entries refusal : List (JournalEntry B)) → w.journal ≡ script ++ entries ++ refusal → IsRefusalBehind (past (script ++ entries)) refusal →
       Lastingly w (λ later. FollowsInOrder scene later steps (past script) × ((last : Phase) × ClosesTo scene later Losing (past script) entries last)) → IsHaltedIn scene steps w
 
 -- why playing stopped, and what stands then: at a full journal the run is cut short where an outbox met the limit

@@ -17,9 +17,9 @@ use Rattle.vr_log.specs.declared.entry.Entry.{Entry}
 use Rattle.vr_log.specs.declared.entry.Entry.TheVariants.{Received, Processed}
 use Rattle.report.specs.declared.journal_lines.PostLine.{PostLine}
 use Rattle.report.specs.declared.record.Shown.{Shown}
-use Rattle.report.specs.OneLine.{begins, letter_at, post_line_at, draw_at, lose_at, idle_at, local_at, input_at, frame_at, port_at, suspect_at, bare_at, short_entry_at, event_words_at, received_at, processed_at, log_entry_at, event_at, executed_words_at, executed_at, row_at, of_at}
+use Rattle.report.specs.OneLine.{begins, letter_at, post_line_at, draw_at, lose_at, idle_at, local_at, input_at, frame_in_text, port_at, suspect_at, bare_at, short_entry_at, event_words_at, received_in_text, processed_in_text, log_entry_at, event_in_text, executed_words_at, executed_at, row_at, of_at}
 use Rattle.report.specs.Records.{FitsLetter, FitsInput, IsToldEntry, IsToldEvent, IsLogEntry, IsToldExecuted, IsShown, IsEventOf}
-use Rattle.report.specs.Report.{word, newline, line, number, actor_word, flag, hex, letter_line, input_words, entry_lines, event_words, log_line, event_line, executed_line, row_line}
+use Rattle.report.specs.Report.{word, newline, line, number_text, actor_word, flag, hex, letter_line, input_words, entry_lines, event_words, log_line, event_line, executed_line, row_line}
 use Rattle.report.specs.Spelled.{◌>>=◌}
 use Rattle.report.proofs.LinesAgain.{FitsPost, post_words}
 use Rattle.report.proofs.MessagesTaken.{happening_takes, order_takes, matching_takes, actions_takes}
@@ -51,7 +51,7 @@ post_is bytes p rest e =
     took number64_takes b2 _ _ e (λ count b3 e3 f3 e.
     took number64_takes b3 _ _ e (λ lost b4 e4 f4 e.
     closes (Spelt (λ p. line (codes "post") (post_words p)) FitsPost bytes) (record { actor = actor; first = first; count = count; lost = lost }) b4 p rest e (λ end e5.
-    (rw (e0, e1, e2, e3, e4, e5) (sym (line_is (codes "post") (actor_word actor ∷ number first ∷ number count ∷ number lost ∷ []) end)), record { actor = f1; first = f2; count = f3; lost = f4 })))))))
+    (rw (e0, e1, e2, e3, e4, e5) (sym (line_is (codes "post") (actor_word actor ∷ number_text first ∷ number_text count ∷ number_text lost ∷ []) end)), record { actor = f1; first = f2; count = f3; lost = f4 })))))))
 
 pub post_takes : Takes post_line_at (λ p. line (codes "post") (post_words p)) FitsPost
 post_takes = record { takes = post_is }
@@ -67,7 +67,7 @@ draw_is bytes x rest e =
     took number64_takes b1 _ _ e (λ id b2 e2 f2 e.
     took flag_takes b2 _ _ e (λ keep b3 e3 f3 e.
     closes (SpeltEntry bytes) (entry.Draw a id keep) b3 x rest e (λ end e4.
-    (rw (e0, e1, e2, e3, e4) (sym (line_is (codes "draw") (actor_word a ∷ number id ∷ flag keep ∷ []) end)), (f1, f2)))))))
+    (rw (e0, e1, e2, e3, e4) (sym (line_is (codes "draw") (actor_word a ∷ number_text id ∷ flag keep ∷ []) end)), (f1, f2)))))))
 
 lose_is : (bytes : List ℕ) (x : JournalEntry (List ℕ)) (rest : List ℕ) → lose_at bytes ≡ Some (x, rest) → SpeltEntry bytes x rest
 unfolding lose_at
@@ -76,7 +76,7 @@ lose_is bytes x rest e =
     took actor_takes b0 _ _ e (λ a b1 e1 f1 e.
     took number64_takes b1 _ _ e (λ id b2 e2 f2 e.
     closes (SpeltEntry bytes) (entry.Lose a id) b2 x rest e (λ end e3.
-    (rw (e0, e1, e2, e3) (sym (line_is (codes "lose") (actor_word a ∷ number id ∷ []) end)), (f1, f2))))))
+    (rw (e0, e1, e2, e3) (sym (line_is (codes "lose") (actor_word a ∷ number_text id ∷ []) end)), (f1, f2))))))
 
 idle_is : (bytes : List ℕ) (x : JournalEntry (List ℕ)) (rest : List ℕ) → idle_at bytes ≡ Some (x, rest) → SpeltEntry bytes x rest
 unfolding idle_at
@@ -94,8 +94,8 @@ words_before (text ∷ words) rest = word text ++ words_before words rest
 abbrev SpeltInput : List ℕ → Local → List ℕ → Type 0
 SpeltInput bytes input rest = (bytes ≡ words_before (input_words input) rest) × FitsInput input
 
-frame_is : (bytes : List ℕ) (input : Local) (rest : List ℕ) → frame_at bytes ≡ Some (input, rest) → SpeltInput bytes input rest
-unfolding frame_at
+frame_is : (bytes : List ℕ) (input : Local) (rest : List ℕ) → frame_in_text bytes ≡ Some (input, rest) → SpeltInput bytes input rest
+unfolding frame_in_text
 frame_is bytes input rest e =
     took_known (codes "frame") bytes _ _ e (λ b0 e0 e.
     took number32_takes b0 _ _ e (λ port b1 e1 f1 e.
@@ -164,13 +164,13 @@ unfolding event_words_at
 event_words_is bytes x rest e =
     took number8_takes bytes _ _ e (λ switch b1 e1 f1 e.
     took number32_takes b1 _ _ e (λ life b2 e2 f2 e.
-    took number64_takes b2 _ _ e (λ number b3 e3 f3 e.
+    took number64_takes b2 _ _ e (λ number_text b3 e3 f3 e.
     took happening_takes b3 _ _ e (λ what b4 e4 f4 e.
-    closes (λ x rest. (bytes ≡ chain (event_words x) rest) × IsToldEvent x) (record { switch = switch; life = life; number = number; what = what }) b4 x rest e (λ end e5.
+    closes (λ x rest. (bytes ≡ chain (event_words x) rest) × IsToldEvent x) (record { switch = switch; life = life; number = number_text; what = what }) b4 x rest e (λ end e5.
     (rw (e1, e2, e3, e4, e5) refl, record { switch = f1; life = f2; number = f3; what = f4 }))))))
 
-received_is : (bytes : List ℕ) (x : Entry) (rest : List ℕ) → received_at bytes ≡ Some (x, rest) → Spelt log_line IsLogEntry bytes x rest
-unfolding received_at
+received_is : (bytes : List ℕ) (x : Entry) (rest : List ℕ) → received_in_text bytes ≡ Some (x, rest) → Spelt log_line IsLogEntry bytes x rest
+unfolding received_in_text
 received_is bytes x rest e =
     took_text (codes "received") bytes _ _ e (λ b0 e0 e.
     then (event_words_at b0) _ _ e (λ event read e.
@@ -178,13 +178,13 @@ received_is bytes x rest e =
     both_found (Spelt log_line IsLogEntry bytes) (Received event.0) x event.1 rest e
     (e0 ∙ ap (λ l. codes "received" ++ l) t.0 ∙ sym (line_is (codes "received") (event_words event.0) event.1), t.1)))
 
-processed_is : (bytes : List ℕ) (x : Entry) (rest : List ℕ) → processed_at bytes ≡ Some (x, rest) → Spelt log_line IsLogEntry bytes x rest
-unfolding processed_at
+processed_is : (bytes : List ℕ) (x : Entry) (rest : List ℕ) → processed_in_text bytes ≡ Some (x, rest) → Spelt log_line IsLogEntry bytes x rest
+unfolding processed_in_text
 processed_is bytes x rest e =
     took_text (codes "processed") bytes _ _ e (λ b0 e0 e.
     took number64_takes b0 _ _ e (λ place b1 e1 f1 e.
     closes (Spelt log_line IsLogEntry bytes) (Processed place) b1 x rest e (λ end e2.
-    (rw (e0, e1, e2) (sym (line_is (codes "processed") (number place ∷ []) end)), f1))))
+    (rw (e0, e1, e2) (sym (line_is (codes "processed") (number_text place ∷ []) end)), f1))))
 
 log_entry_is : (bytes : List ℕ) (x : Entry) (rest : List ℕ) → log_entry_at bytes ≡ Some (x, rest) → Spelt log_line IsLogEntry bytes x rest
 unfolding log_entry_at
@@ -195,19 +195,19 @@ log_entry_takes = record { takes = log_entry_is }
 
 -- ---- the switches
 
-of_is : (s : ℕ) (bytes rest : List ℕ) → of_at s bytes ≡ Some rest → bytes ≡ word (number s) ++ rest
+of_is : (s : ℕ) (bytes rest : List ℕ) → of_at s bytes ≡ Some rest → bytes ≡ word (number_text s) ++ rest
 unfolding of_at
 of_is s bytes rest e =
     took number8_takes bytes _ _ e (λ named behind is fits e.
     branches (named == s) _ _ _ e
-    (λ same e. is ∙ ap (λ n. word (number n) ++ behind) (eqb-true named s same) ∙ ap (λ l. word (number s) ++ l) (some_is behind rest e))
+    (λ same e. is ∙ ap (λ n. word (number_text n) ++ behind) (eqb-true named s same) ∙ ap (λ l. word (number_text s) ++ l) (some_is behind rest e))
     (λ _ e. absurd cc))
 
-pub took_of : {R G : Type 0} (s : ℕ) (bytes : List ℕ) (more : List ℕ → Option R) (r : R) → (of_at s bytes >>= more) ≡ Some r → ((rest : List ℕ) → bytes ≡ word (number s) ++ rest → more rest ≡ Some r → G) → G
+pub took_of : {R G : Type 0} (s : ℕ) (bytes : List ℕ) (more : List ℕ → Option R) (r : R) → (of_at s bytes >>= more) ≡ Some r → ((rest : List ℕ) → bytes ≡ word (number_text s) ++ rest → more rest ≡ Some r → G) → G
 took_of s bytes more r e goal = then (of_at s bytes) more r e (λ rest is e. goal rest (of_is s bytes rest is) e)
 
-event_is : (s : ℕ) (bytes : List ℕ) (x : Event) (rest : List ℕ) → event_at s bytes ≡ Some (x, rest) → Spelt event_line (IsEventOf s) bytes x rest
-unfolding event_at
+event_is : (s : ℕ) (bytes : List ℕ) (x : Event) (rest : List ℕ) → event_in_text s bytes ≡ Some (x, rest) → Spelt event_line (IsEventOf s) bytes x rest
+unfolding event_in_text
 event_is s bytes x rest e =
     took_text (codes "event") bytes _ _ e (λ b0 e0 e.
     then (event_words_at b0) _ _ e (λ event read e.
@@ -215,7 +215,7 @@ event_is s bytes x rest e =
     tested (Spelt event_line (IsEventOf s) bytes) (event.0.switch == s) event.0 event.1 x rest e (λ same.
     (e0 ∙ ap (λ l. codes "event" ++ l) t.0 ∙ sym (line_is (codes "event") (event_words event.0) event.1), record { told = t.1; of = eqb-true event.0.switch s same }))))
 
-pub event_takes : (s : ℕ) → Takes (event_at s) event_line (IsEventOf s)
+pub event_takes : (s : ℕ) → Takes (event_in_text s) event_line (IsEventOf s)
 event_takes s = record { takes = event_is s }
 
 executed_is : (s : ℕ) (bytes : List ℕ) (x : Executed) (rest : List ℕ) → executed_at s bytes ≡ Some (x, rest) → Spelt (executed_line s) IsToldExecuted bytes x rest
@@ -230,7 +230,7 @@ executed_is s bytes x rest e =
     took order_takes b5 _ _ e (λ order b6 e6 f6 e.
     closes (Spelt (executed_line s) IsToldExecuted bytes) (record { life = life; number = n; generation = generation; from = from; order = order }) b6 x rest e (λ end e7. (
       rw (e0, e1, e2, e3, e4, e5, e6, e7)
-          (sym (line_is (codes "executed") (number s ∷ number life ∷ number n ∷ number generation ∷ actor_word (Controller from) ∷ hex (canonical_order order) ∷ []) end)),
+          (sym (line_is (codes "executed") (number_text s ∷ number_text life ∷ number_text n ∷ number_text generation ∷ actor_word (Controller from) ∷ hex (canonical_order order) ∷ []) end)),
       record { life = f2; number = f3; generation = f4; from = f5; order = f6 },
     )))))))))
 
@@ -246,7 +246,7 @@ row_is s bytes x rest e =
     took matching_takes b2 _ _ e (λ matching b3 e3 f3 e.
     took actions_takes b3 _ _ e (λ actions b4 e4 f4 e.
     closes (Spelt (row_line s) IsShown bytes) (record { priority = priority; matching = matching; actions = actions }) b4 x rest e (λ end e5. (
-      rw (e0, e1, e2, e3, e4, e5) (sym (line_is (codes "row") (number s ∷ number priority ∷ hex (canonical_bare_match matching) ∷ hex (actions_of actions) ∷ []) end)),
+      rw (e0, e1, e2, e3, e4, e5) (sym (line_is (codes "row") (number_text s ∷ number_text priority ∷ hex (canonical_bare_match matching) ∷ hex (actions_of actions) ∷ []) end)),
       record { priority = f2; matching = f3; actions = f4 },
     )))))))
 

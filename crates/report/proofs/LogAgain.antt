@@ -22,9 +22,9 @@ use Rattle.of_types.specs.declared.message.OfMessage.{OfMessage}
 use Rattle.of_types.specs.Sizes.{happening_size, plain_size}
 use Rattle.of_ravana.specs.Canonical.{happening_message}
 use Rattle.report.specs.OneLine.{log_line_at, log_entry_at}
-use Rattle.report.specs.Reading.{log_at}
+use Rattle.report.specs.Reading.{log_in_text}
 use Rattle.report.specs.Records.{IsTellable, IsLogEntry}
-use Rattle.report.specs.Report.{word, newline, line, number, log_line, log_lines, lines_of}
+use Rattle.report.specs.Report.{word, newline, line, number_text, log_line, log_lines, lines_of}
 use Rattle.report.specs.Spelled.{◌>>=◌, word_at}
 use Rattle.report.proofs.LinesAgain.{log_entry_is}
 use Rattle.report.proofs.ListsAgain.{lines_then, line_then, each_again}
@@ -98,29 +98,29 @@ small_log (e ∷ log) are = omega (arith, sum_by-cons entry_size e log, small_en
 size_written : (log : List Entry) → length log < 2 ^ 64 → AllByRecursion IsLogEntry log → IsWritten (log_size log) (decimal (log_size log))
 size_written log few are = written (log_size log) (let small = small_log log are in omega (arith, small, few))
 
-is_size : (size : ℕ) → IsWritten size (decimal size) → is_numeral (number size) ≡ true
-unfolding number
+is_size : (size : ℕ) → IsWritten size (decimal size) → is_numeral (number_text size) ≡ true
+unfolding number_text
 is_size size is = is.numeral
 
-size_then : {R : Type 0} (size : ℕ) (rest : List ℕ) (more : List ℕ × List ℕ → Option R) (y : Option R) → IsWritten size (decimal size) → more (number size, newline ++ rest) ≡ y → (word_at (word (number size) ++ (newline ++ rest)) >>= more) ≡ y
-unfolding number
+size_then : {R : Type 0} (size : ℕ) (rest : List ℕ) (more : List ℕ × List ℕ → Option R) (y : Option R) → IsWritten size (decimal size) → more (number_text size, newline ++ rest) ≡ y → (word_at (word (number_text size) ++ (newline ++ rest)) >>= more) ≡ y
+unfolding number_text
 size_then size rest more y is e = rw (word_again (decimal size) (newline ++ rest) (digits_word (decimal size) (numeral_digits (decimal size) is.numeral)) refl) e
 
 -- ---- the line of the log, and those that it counts
 
-log_line_is : (count size : ℕ) (rest : List ℕ) → count < 2 ^ 64 → IsWritten size (decimal size) → log_line_at (line (codes "log") (number count ∷ number size ∷ []) ++ rest) ≡ Some ((count, number size), rest)
+log_line_is : (count size : ℕ) (rest : List ℕ) → count < 2 ^ 64 → IsWritten size (decimal size) → log_line_at (line (codes "log") (number_text count ∷ number_text size ∷ []) ++ rest) ≡ Some ((count, number_text size), rest)
 unfolding log_line_at
 log_line_is count size rest few is =
-    ap log_line_at (line_is (codes "log") (number count ∷ number size ∷ []) rest)
+    ap log_line_at (line_is (codes "log") (number_text count ∷ number_text size ∷ []) rest)
     ∙ after_then (codes "log") _ _ _
-    (again_then number64 count _ _ _ few (parted (number size) _)
+    (again_then number64 count _ _ _ few (parted (number_text size) _)
     (size_then size rest _ _ is
     (end_then rest _ _ (test_then _ _ _ (is_size size is) refl))))
 
-pub log_again : (log : List Entry) (rest : List ℕ) → length log < 2 ^ 64 → AllByRecursion IsLogEntry log → log_at (log_lines log ++ rest) ≡ Ok (log, rest)
-unfolding log_at log_lines
+pub log_again : (log : List Entry) (rest : List ℕ) → length log < 2 ^ 64 → AllByRecursion IsLogEntry log → log_in_text (log_lines log ++ rest) ≡ Ok (log, rest)
+unfolding log_in_text log_lines
 log_again log rest few are =
-    ap log_at (append_assoc (line (codes "log") (number (length log) ∷ number (log_size log) ∷ [])) (lines_of log_line log) rest)
+    ap log_in_text (append_assoc (line (codes "log") (number_text (length log) ∷ number_text (log_size log) ∷ [])) (lines_of log_line log) rest)
     ∙ line_then _ _ _ _ _ (log_line_is (length log) (log_size log) _ few (size_written log few are))
     (lines_then _ _ _ _ (each_again log_entry_at log_line IsLogEntry log_entry_is log rest are)
-    (rw (numbers_same (number (log_size log))) refl))
+    (rw (numbers_same (number_text (log_size log))) refl))

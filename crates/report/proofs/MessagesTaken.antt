@@ -27,8 +27,8 @@ use Rattle.of_types.specs.Sizes as sizes
 use Rattle.of_types.proofs.SmallMatches.{small_match}
 use Rattle.vr_log.specs.Same.{same_numbers}
 use Rattle.vr_log.proofs.Equal.{numbers_equal}
-use Rattle.report.specs.Canonical.{if_written, happening_in, happening_of, happening_at, order_in, order_of, order_at, padded, matching_of, matching_at, ports_of, most_actions, actions_in, actions_at}
-use Rattle.report.specs.Records.{AreBytes, IsTellable, IsMatch, AreOutputs}
+use Rattle.report.specs.Canonical.{if_written, happening_in, happening_of, happening_in_text, canonical_order_in, order_of, order_in_text, padded_text, matching_of, matching_at, output_ports_of, most_actions, actions_in, actions_told}
+use Rattle.report.specs.Records.{AreOctets, IsTellable, IsMatch, AreOutputs}
 use Rattle.report.specs.Report.{word, hex}
 use Rattle.report.specs.Spelled.{◌>>=◌, hex_at}
 use Rattle.report.proofs.Bytes.{joined_bytes, zero_bytes}
@@ -52,7 +52,7 @@ no_xid : (m : OfMessage) → number 4 4 (messages.canonical 0 m) ≡ 0
 unfolding messages.canonical messages.framed one two four
 no_xid m = refl
 
-tellable : (m : OfMessage) → AreBytes (messages.canonical 0 m) → message_at (messages.canonical 0 m) ≡ Ok m → IsTellable m
+tellable : (m : OfMessage) → AreOctets (messages.canonical 0 m) → message_at (messages.canonical 0 m) ≡ Ok m → IsTellable m
 tellable m are e =
     let s = message_takes (messages.canonical 0 m) m are e in
     record {
@@ -61,8 +61,8 @@ tellable m are e =
     }
 
 -- a message that was read, and is written so
-told_message : (m : OfMessage) (bytes : List ℕ) → AreBytes bytes → message_at bytes ≡ Ok m → messages.canonical 0 m ≡ bytes → IsTellable m
-told_message m bytes are read same = tellable m (subst AreBytes (sym same) are) (ap message_at same ∙ read)
+told_message : (m : OfMessage) (bytes : List ℕ) → AreOctets bytes → message_at bytes ≡ Ok m → messages.canonical 0 m ≡ bytes → IsTellable m
+told_message m bytes are read same = tellable m (subst AreOctets (sym same) are) (ap message_at same ∙ read)
 
 happening_told : (m : OfMessage) (what : Happening) → happening_in m ≡ Some what → m ≡ happening_message what
 happening_told plain.Hello what e = absurd cc
@@ -82,7 +82,7 @@ happening_told plain.BarrierReply what e = absurd cc
 happening_told (plain.RoleRequest role generation) what e = absurd cc
 happening_told (plain.RoleReply role generation) what e = absurd cc
 
-order_told : (m : OfMessage) (what : Order) → order_in m ≡ Some what → m ≡ order_message what
+order_told : (m : OfMessage) (what : Order) → canonical_order_in m ≡ Some what → m ≡ order_message what
 order_told plain.Hello what e = absurd cc
 order_told (plain.Error kind code head) what e = absurd cc
 order_told (plain.EchoRequest body) what e = absurd cc
@@ -100,7 +100,7 @@ order_told plain.BarrierReply what e = absurd cc
 order_told (plain.RoleRequest role generation) what e = absurd cc
 order_told (plain.RoleReply role generation) what e = absurd cc
 
-happening_text : (bytes : List ℕ) (what : Happening) → AreBytes bytes → happening_of bytes ≡ Some what → (bytes ≡ canonical_happening what) × IsTellable (happening_message what)
+happening_text : (bytes : List ℕ) (what : Happening) → AreOctets bytes → happening_of bytes ≡ Some what → (bytes ≡ canonical_happening what) × IsTellable (happening_message what)
 unfolding happening_of canonical_happening
 happening_text bytes what are e =
     then (result_ok (message_at bytes)) _ _ e (λ m read e.
@@ -109,17 +109,17 @@ happening_text bytes what are e =
     let m_is : m ≡ happening_message what = happening_told m told is ∙ ap happening_message w.0 in
     (sym w.1, told_message (happening_message what) bytes are (ok_some (message_at bytes) m read ∙ ap (λ m. Ok m) m_is) w.1)))
 
-order_text : (bytes : List ℕ) (what : Order) → AreBytes bytes → order_of bytes ≡ Some what → (bytes ≡ canonical_order what) × IsTellable (order_message what)
+order_text : (bytes : List ℕ) (what : Order) → AreOctets bytes → order_of bytes ≡ Some what → (bytes ≡ canonical_order what) × IsTellable (order_message what)
 unfolding order_of canonical_order
 order_text bytes what are e =
     then (result_ok (message_at bytes)) _ _ e (λ m read e.
-    then (order_in m) _ _ e (λ told is e.
+    then (canonical_order_in m) _ _ e (λ told is e.
     let w = as_written canonical_order bytes told what e in
     let m_is : m ≡ order_message what = order_told m told is ∙ ap order_message w.0 in
     (sym w.1, told_message (order_message what) bytes are (ok_some (message_at bytes) m read ∙ ap (λ m. Ok m) m_is) w.1)))
 
 -- a value in base sixteen
-by_hex : {A : Type 0} (of : List ℕ → Option A) (text : A → List ℕ) (IsFit : A → Type 0) → ((t : List ℕ) (x : A) → AreBytes t → of t ≡ Some x → (t ≡ text x) × IsFit x) →
+by_hex : {A : Type 0} (of : List ℕ → Option A) (text : A → List ℕ) (IsFit : A → Type 0) → ((t : List ℕ) (x : A) → AreOctets t → of t ≡ Some x → (t ≡ text x) × IsFit x) →
     (bytes : List ℕ) (x : A) (rest : List ℕ) → (hex_at bytes >>= λ w. of w.0 >>= λ v. found_as v w.1) ≡ found_as x rest → Spelt (λ x. word (hex (text x))) IsFit bytes x rest
 by_hex of text IsFit laws bytes x rest e =
     took hex_takes bytes _ _ e (λ t end is are e.
@@ -127,18 +127,18 @@ by_hex of text IsFit laws bytes x rest e =
     let v_is = laws t v are found in
     both_found (Spelt (λ x. word (hex (text x))) IsFit bytes) v x end rest e (is ∙ ap (λ t. word (hex t) ++ end) v_is.0, v_is.1)))
 
-happening_is : (bytes : List ℕ) (what : Happening) (rest : List ℕ) → happening_at bytes ≡ Some (what, rest) → Spelt (λ what. word (hex (canonical_happening what))) (λ what. IsTellable (happening_message what)) bytes what rest
-unfolding happening_at
+happening_is : (bytes : List ℕ) (what : Happening) (rest : List ℕ) → happening_in_text bytes ≡ Some (what, rest) → Spelt (λ what. word (hex (canonical_happening what))) (λ what. IsTellable (happening_message what)) bytes what rest
+unfolding happening_in_text
 happening_is bytes what rest e = by_hex happening_of canonical_happening (λ what. IsTellable (happening_message what)) happening_text bytes what rest e
 
-pub happening_takes : Takes happening_at (λ what. word (hex (canonical_happening what))) (λ what. IsTellable (happening_message what))
+pub happening_takes : Takes happening_in_text (λ what. word (hex (canonical_happening what))) (λ what. IsTellable (happening_message what))
 happening_takes = record { takes = happening_is }
 
-order_is : (bytes : List ℕ) (what : Order) (rest : List ℕ) → order_at bytes ≡ Some (what, rest) → Spelt (λ what. word (hex (canonical_order what))) (λ what. IsTellable (order_message what)) bytes what rest
-unfolding order_at
+order_is : (bytes : List ℕ) (what : Order) (rest : List ℕ) → order_in_text bytes ≡ Some (what, rest) → Spelt (λ what. word (hex (canonical_order what))) (λ what. IsTellable (order_message what)) bytes what rest
+unfolding order_in_text
 order_is bytes what rest e = by_hex order_of canonical_order (λ what. IsTellable (order_message what)) order_text bytes what rest e
 
-pub order_takes : Takes order_at (λ what. word (hex (canonical_order what))) (λ what. IsTellable (order_message what))
+pub order_takes : Takes order_in_text (λ what. word (hex (canonical_order what))) (λ what. IsTellable (order_message what))
 order_takes = record { takes = order_is }
 
 -- ---- matches
@@ -181,18 +181,18 @@ whole_match m bytes taken len within s told size =
     let all : length bytes ≤ taken = omega (arith, length-take taken bytes, long, filled, front, told, size) in
     subst (λ l. IsSpelled l m) (take_all taken bytes all) s
 
-padded_bytes : (bare : List ℕ) → AreBytes bare → AreBytes (padded bare)
-unfolding padded
+padded_bytes : (bare : List ℕ) → AreOctets bare → AreOctets (padded_text bare)
+unfolding padded_text
 padded_bytes bare are = joined_bytes bare (replicate ((8 - length bare % 8) % 8) 0) are (zero_bytes ((8 - length bare % 8) % 8))
 
-matching_text : (bare : List ℕ) (m : Match) → AreBytes bare → matching_of bare ≡ Some m → (bare ≡ canonical_bare_match m) × IsMatch m
+matching_text : (bare : List ℕ) (m : Match) → AreOctets bare → matching_of bare ≡ Some m → (bare ≡ canonical_bare_match m) × IsMatch m
 unfolding matching_of
 matching_text bare m are e =
-    then (result_ok (match_at (padded bare))) _ _ e (λ found read e.
+    then (result_ok (match_at (padded_text bare))) _ _ e (λ found read e.
     let w = as_written canonical_bare_match bare found.0 m e in
-    let bytes : padded bare ≡ canonical_match m = ap padded (sym w.1) ∙ padded_is m in
-    let read_is : match_at (canonical_match m) ≡ Ok (m, found.1) = ap match_at (sym bytes) ∙ ok_some (match_at (padded bare)) found read ∙ ap (λ x. Ok (x, found.1)) w.0 in
-    let t = match_takes (canonical_match m) m found.1 (subst AreBytes bytes (padded_bytes bare are)) read_is in
+    let bytes : padded_text bare ≡ canonical_match m = ap padded_text (sym w.1) ∙ padded_is m in
+    let read_is : match_at (canonical_match m) ≡ Ok (m, found.1) = ap match_at (sym bytes) ∙ ok_some (match_at (padded_text bare)) found read ∙ ap (λ x. Ok (x, found.1)) w.0 in
+    let t = match_takes (canonical_match m) m found.1 (subst AreOctets bytes (padded_bytes bare are)) read_is in
     let size = has_size m in
     let bound = small_match m in
     let long = canonical_length m in
@@ -200,7 +200,7 @@ matching_text bare m are e =
       sym w.1,
       record {
         spelled = whole_match m (canonical_match m) found.1 (length (canonical_bare_match m)) t.0 t.1 (canonical_front m (omega (arith, size, bound, long, fields)) ∙ sym fields) long;
-        bytes = subst AreBytes (sym w.1) are;
+        bytes = subst AreOctets (sym w.1) are;
       },
     ))
 
@@ -213,33 +213,33 @@ matching_takes = record { takes = matching_is }
 
 -- ---- actions
 
-ports_fit : (n : ℕ) (bytes : List ℕ) → AreBytes bytes → FitPorts (ports_of n bytes)
+ports_fit : (n : ℕ) (bytes : List ℕ) → AreOctets bytes → FitPorts (output_ports_of n bytes)
 ports_fit zero bytes are i = omega arith
 ports_fit (suc n) bytes are zero = big_from-lt 0 4 (drop 4 bytes) (IsBytes-drop 4 bytes are)
 ports_fit (suc n) bytes are (suc i) = ports_fit n (drop 16 bytes) (IsBytes-drop 16 bytes are) i
 
-ports_many : (n : ℕ) (bytes : List ℕ) → length (ports_of n bytes) ≡ n
+ports_many : (n : ℕ) (bytes : List ℕ) → length (output_ports_of n bytes) ≡ n
 ports_many zero bytes = refl
 ports_many (suc n) bytes = ap suc (ports_many n (drop 16 bytes))
 
-actions_text : (bytes ports : List ℕ) → AreBytes bytes → actions_in bytes ≡ Some ports → (bytes ≡ messages.actions_of ports) × AreOutputs ports
+actions_text : (bytes ports : List ℕ) → AreOctets bytes → actions_in bytes ≡ Some ports → (bytes ≡ messages.actions_of ports) × AreOutputs ports
 unfolding actions_in most_actions
 actions_text bytes ports are e =
-    let p = passed (nat_le (length bytes) 65520) (if_written messages.actions_of bytes (ports_of (length bytes / 16) bytes)) ports e in
-    let w = as_written messages.actions_of bytes (ports_of (length bytes / 16) bytes) ports p.1 in
+    let p = passed (nat_le (length bytes) 65520) (if_written messages.actions_of bytes (output_ports_of (length bytes / 16) bytes)) ports e in
+    let w = as_written messages.actions_of bytes (output_ports_of (length bytes / 16) bytes) ports p.1 in
     let few = leb-true (length bytes) 65520 p.0 in
     let many = ports_many (length bytes / 16) bytes in (
       sym w.1,
       subst AreOutputs w.0 (record {
         few = omega (arith, many, few);
         ports = ports_fit (length bytes / 16) bytes are;
-        bytes = subst AreBytes (sym (ap messages.actions_of w.0 ∙ w.1)) are;
+        bytes = subst AreOctets (sym (ap messages.actions_of w.0 ∙ w.1)) are;
       }),
     )
 
-actions_are : (bytes ports rest : List ℕ) → actions_at bytes ≡ Some (ports, rest) → Spelt (λ ports. word (hex (messages.actions_of ports))) AreOutputs bytes ports rest
-unfolding actions_at
+actions_are : (bytes ports rest : List ℕ) → actions_told bytes ≡ Some (ports, rest) → Spelt (λ ports. word (hex (messages.actions_of ports))) AreOutputs bytes ports rest
+unfolding actions_told
 actions_are bytes ports rest e = by_hex actions_in messages.actions_of AreOutputs actions_text bytes ports rest e
 
-pub actions_takes : Takes actions_at (λ ports. word (hex (messages.actions_of ports))) AreOutputs
+pub actions_takes : Takes actions_told (λ ports. word (hex (messages.actions_of ports))) AreOutputs
 actions_takes = record { takes = actions_are }

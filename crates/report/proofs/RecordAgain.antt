@@ -10,11 +10,11 @@ use Rattle.vr_log.specs.declared.entry.Entry.{Entry}
 use Rattle.report.specs.declared.record.Record.{Record}
 use Rattle.report.specs.declared.record.Told.{Told}
 use Rattle.report.specs.declared.switch_lines.SwitchLine.{SwitchLine}
-use Rattle.report.specs.OneLine.{begins, letter_at, short_entry_at, role_words_at, switch_counts_at, switch_line_at, event_at, executed_at, row_at, first_line_at, last_line_at}
-use Rattle.report.specs.Reading.{post_at, entry_at, journal_at, told_at, switches_at, history_at, outcome_at, record_at, report_at}
-use Rattle.report.specs.Records.{IsToldEntry, FitsLetter, IsEventOf, IsToldExecuted, IsShown, IsToldSwitch, AreTold, IsRecord}
-use Rattle.report.specs.Report.{word, newline, line, number, actor_word, number_or_dash, master_word, labelled, role_words, count_words, switch_line, told_lines, switch_lines, event_line, executed_line, row_line, letter_line, entry_lines, log_lines, lines_of, sum_words, end_line, text}
-use Rattle.report.specs.Spelled.{◌>>=◌, dash_or, number64_at, controller_at}
+use Rattle.report.specs.OneLine.{begins, letter_at, short_entry_at, role_words_at, switch_counts_at, switch_line_at, event_in_text, executed_at, row_at, first_line_at, last_line_at}
+use Rattle.report.specs.Reading.{post_at, journal_entry_at, journal_at, told_in_text, switches_at, history_at, outcome_in_text, record_at, report_at}
+use Rattle.report.specs.Records.{IsToldEntry, FitsLetter, IsEventOf, IsToldExecuted, IsShown, IsToldSwitch, AreToldSwitches, IsRecord}
+use Rattle.report.specs.Report.{word, newline, line, number_text, actor_word, number_or_dash, master_word, labelled, role_words, count_words, switch_line, told_lines, switch_lines, event_line, executed_line, row_line, letter_line, entry_lines, log_lines, lines_of, sum_words, end_line, text}
+use Rattle.report.specs.Spelled.{◌>>=◌, dash_or, number64_at, controller_in_text}
 use Rattle.report.proofs.LinesAgain as again
 use Rattle.report.proofs.ListsAgain.{lines_then, line_then, fits_line, no_lines, more_lines, each_again, while_again, all_behind}
 use Rattle.report.proofs.Readers.{after_then, again_then, known_then, end_then, parted, parted_end}
@@ -42,12 +42,12 @@ post_is : (a : _) (first : ℕ) (letters : List (Letter (List ℕ))) (lost : ℕ
     post_at (entry_lines (entry.Post a first letters lost) ++ rest) ≡ Ok (entry.Post a first letters lost, rest)
 unfolding post_at
 post_is a first letters lost rest told =
-    ap post_at (append_assoc (line (codes "post") (actor_word a ∷ number first ∷ number (length letters) ∷ number lost ∷ [])) (lines_of letter_line letters) rest)
+    ap post_at (append_assoc (line (codes "post") (actor_word a ∷ number_text first ∷ number_text (length letters) ∷ number_text lost ∷ [])) (lines_of letter_line letters) rest)
     ∙ line_then _ _ _ _ _ (again.post_is (record { actor = a; first = first; count = length letters; lost = lost }) _ (record { actor = told.0; first = told.1; count = told.2; lost = told.3 }))
     (lines_then _ _ _ _ (each_again letter_at letter_line FitsLetter again.letter_is letters rest told.4) refl)
 
-entry_is : (e : JournalEntry (List ℕ)) (rest : List ℕ) → IsToldEntry e → entry_at (entry_lines e ++ rest) ≡ Ok (e, rest)
-unfolding entry_at line
+entry_is : (e : JournalEntry (List ℕ)) (rest : List ℕ) → IsToldEntry e → journal_entry_at (entry_lines e ++ rest) ≡ Ok (e, rest)
+unfolding journal_entry_at line
 entry_is (entry.Post a first letters lost) rest told = post_is a first letters lost rest told
 entry_is (entry.Draw a id keep) rest told = fits_line (entry_lines (entry.Draw a id keep) ++ rest) _ _ (short_is (entry.Draw a id keep) rest told refl)
 entry_is (entry.Lose a id) rest told = fits_line (entry_lines (entry.Lose a id) ++ rest) _ _ (short_is (entry.Lose a id) rest told refl)
@@ -82,7 +82,7 @@ many (e ∷ journal) rest told =
 journal_again : (journal : List (JournalEntry (List ℕ))) (rest : List ℕ) → AllByRecursion IsToldEntry journal → begins (codes "log") rest ≡ true → journal_at (lines_of entry_lines journal ++ rest) ≡ Ok (journal, rest)
 unfolding journal_at
 journal_again journal rest told ends =
-    while_again (λ rest. not (begins (codes "log") rest)) (λ _ rest. entry_at rest) entry_lines (λ before e. IsToldEntry e)
+    while_again (λ rest. not (begins (codes "log") rest)) (λ _ rest. journal_entry_at rest) entry_lines (λ before e. IsToldEntry e)
     (λ before e rest told. ap not (entry_begins e rest told).log)
     (λ before e rest told. entry_is e rest told)
     (length (lines_of entry_lines journal ++ rest)) [] journal rest (many journal rest told) (all_behind IsToldEntry [] journal told) (ap not ends)
@@ -101,12 +101,12 @@ no_deny (x ∷ journal) rest told e = ap (begins (codes "deny")) (more_lines ent
 three_labels : (a b c d e f rest : List ℕ) → ((a ++ b) ++ ((c ++ d) ++ (e ++ f))) ++ rest ≡ a ++ (b ++ (c ++ (d ++ (e ++ (f ++ rest)))))
 three_labels a b c d e f rest = simp append_assoc refl
 
-pub role_parts : (t : Told) (rest : List ℕ) → role_words t ++ rest ≡ word (codes "generation") ++ (word (number_or_dash t.generation) ++ (word (codes "master") ++ (word (master_word t.master) ++ (word (codes "life") ++ (word (number t.life) ++ rest)))))
+pub role_parts : (t : Told) (rest : List ℕ) → role_words t ++ rest ≡ word (codes "generation") ++ (word (number_or_dash t.generation) ++ (word (codes "master") ++ (word (master_word t.master) ++ (word (codes "life") ++ (word (number_text t.life) ++ rest)))))
 unfolding role_words labelled
-role_parts t rest = three_labels (word (codes "generation")) (word (number_or_dash t.generation)) (word (codes "master")) (word (master_word t.master)) (word (codes "life")) (word (number t.life)) rest
+role_parts t rest = three_labels (word (codes "generation")) (word (number_or_dash t.generation)) (word (codes "master")) (word (master_word t.master)) (word (codes "life")) (word (number_text t.life)) rest
 
-pub generation_word : (g : Option ℕ) → number_or_dash g ≡ or_dash number g
-unfolding number_or_dash number
+pub generation_word : (g : Option ℕ) → number_or_dash g ≡ or_dash number_text g
+unfolding number_or_dash number_text
 generation_word None = refl
 generation_word (Some g) = refl
 
@@ -121,9 +121,9 @@ master_is None = refl
 master_is (Some c) = refl
 
 master_then : {R : Type 0} (c : Option ℕ) (rest : List ℕ) (more : Option ℕ × List ℕ → Option R) (y : Option R) → IfSome c (λ n. n < 2 ^ 8) → IsParted rest → more (c, rest) ≡ y →
-    (dash_or controller_at (word (master_word c) ++ rest) >>= more) ≡ y
+    (dash_or controller_in_text (word (master_word c) ++ rest) >>= more) ≡ y
 master_then c rest more y fits follows e =
-    subst (λ t. (dash_or controller_at (word t ++ rest) >>= more) ≡ y) (sym (master_is c)) (again_then controller_or_dash c rest more y fits follows e)
+    subst (λ t. (dash_or controller_in_text (word t ++ rest) >>= more) ≡ y) (sym (master_is c)) (again_then controller_or_dash c rest more y fits follows e)
 
 role_is : (s : ℕ) (t : Told) (rest : List ℕ) → IsToldSwitch s t → IsParted rest → role_words_at (role_words t ++ rest) ≡ Some ((t.generation, t.master, t.life), rest)
 unfolding role_words_at
@@ -149,12 +149,12 @@ five_parts : (first of role a b c d e end rest : List ℕ) → (first ++ (of ++ 
 five_parts first of role a b c d e end rest = simp append_assoc refl
 
 pub switch_parts : (s : ℕ) (t : Told) (rest : List ℕ) → switch_line s t ++ rest ≡
-    codes "switch" ++ (word (number s) ++ (role_words t ++ (labelled (codes "events") (number (length t.events)) ++ (labelled (codes "held") (number t.held) ++ (labelled (codes "executed") (number (length t.executed))
-    ++ (labelled (codes "rows") (number (length t.rows)) ++ (labelled (codes "sent") (number t.sent) ++ (newline ++ rest))))))))
+    codes "switch" ++ (word (number_text s) ++ (role_words t ++ (labelled (codes "events") (number_text (length t.events)) ++ (labelled (codes "held") (number_text t.held) ++ (labelled (codes "executed") (number_text (length t.executed))
+    ++ (labelled (codes "rows") (number_text (length t.rows)) ++ (labelled (codes "sent") (number_text t.sent) ++ (newline ++ rest))))))))
 unfolding switch_line count_words
 switch_parts s t rest =
-    five_parts (codes "switch") (word (number s)) (role_words t) (labelled (codes "events") (number (length t.events))) (labelled (codes "held") (number t.held)) (labelled (codes "executed") (number (length t.executed)))
-    (labelled (codes "rows") (number (length t.rows))) (labelled (codes "sent") (number t.sent)) newline rest
+    five_parts (codes "switch") (word (number_text s)) (role_words t) (labelled (codes "events") (number_text (length t.events))) (labelled (codes "held") (number_text t.held)) (labelled (codes "executed") (number_text (length t.executed)))
+    (labelled (codes "rows") (number_text (length t.rows))) (labelled (codes "sent") (number_text t.sent)) newline rest
 
 abbrev pub line_of : Told → SwitchLine
 line_of t = record { generation = t.generation; master = t.master; life = t.life; events = length t.events; held = t.held; executed = length t.executed; rows = length t.rows; sent = t.sent }
@@ -180,12 +180,12 @@ pub told_parts : (s : ℕ) (t : Told) (rest : List ℕ) → told_lines s t ++ re
 unfolding told_lines
 told_parts s t rest = four_parts (switch_line s t) (lines_of event_line t.events) (lines_of (executed_line s) t.executed) (lines_of (row_line s) t.rows) rest
 
-told_is : (s : ℕ) (t : Told) (rest : List ℕ) → s < 2 ^ 8 → IsToldSwitch s t → told_at s (told_lines s t ++ rest) ≡ Ok (t, rest)
-unfolding told_at
+told_is : (s : ℕ) (t : Told) (rest : List ℕ) → s < 2 ^ 8 → IsToldSwitch s t → told_in_text s (told_lines s t ++ rest) ≡ Ok (t, rest)
+unfolding told_in_text
 told_is s t rest small told =
-    ap (told_at s) (told_parts s t rest)
+    ap (told_in_text s) (told_parts s t rest)
     ∙ line_then _ _ _ _ _ (switch_line_is s t _ small told)
-    (lines_then _ _ _ _ (each_again (event_at s) event_line (IsEventOf s) (again.event_is s) t.events _ told.events)
+    (lines_then _ _ _ _ (each_again (event_in_text s) event_line (IsEventOf s) (again.event_is s) t.events _ told.events)
     (lines_then _ _ _ _ (each_again (executed_at s) (executed_line s) IsToldExecuted (λ x rest is. again.executed_is s x rest small is) t.executed _ told.executed)
     (lines_then _ _ _ _ (each_again (row_at s) (row_line s) IsShown (λ r rest is. again.row_is s r rest small is) t.rows _ told.rows) refl)))
 
@@ -197,7 +197,7 @@ pub no_switches : (s : ℕ) (rest : List ℕ) → switch_lines s [] ++ rest ≡ 
 unfolding switch_lines
 no_switches s rest = refl
 
-switches_again : (switches : List Told) (s : ℕ) (rest : List ℕ) → s + length switches ≤ 2 ^ 8 → AreTold s switches → switches_at (length switches) s (switch_lines s switches ++ rest) ≡ Ok (switches, rest)
+switches_again : (switches : List Told) (s : ℕ) (rest : List ℕ) → s + length switches ≤ 2 ^ 8 → AreToldSwitches s switches → switches_at (length switches) s (switch_lines s switches ++ rest) ≡ Ok (switches, rest)
 unfolding switches_at
 switches_again [] s rest small told = ap (λ (l : List ℕ). Ok ([], l)) (no_switches s rest)
 switches_again (t ∷ switches) s rest small told =
@@ -205,7 +205,7 @@ switches_again (t ∷ switches) s rest small told =
     ∙ lines_then _ _ _ _ (told_is s t _ (omega (arith, small)) told.0)
     (lines_then _ _ _ _ (switches_again switches (s + 1) rest (omega (arith, small)) told.1) refl)
 
-all_switches : (ports : List ℕ) (switches : List Told) (rest : List ℕ) → length switches ≡ length ports → length ports ≤ 64 → AreTold 0 switches → switches_at (length ports) 0 (switch_lines 0 switches ++ rest) ≡ Ok (switches, rest)
+all_switches : (ports : List ℕ) (switches : List Told) (rest : List ℕ) → length switches ≡ length ports → length ports ≤ 64 → AreToldSwitches 0 switches → switches_at (length ports) 0 (switch_lines 0 switches ++ rest) ≡ Ok (switches, rest)
 all_switches ports switches rest same few told = ap (λ n. switches_at n 0 (switch_lines 0 switches ++ rest)) (sym same) ∙ switches_again switches 0 rest (omega (arith, same, few)) told
 
 -- ---- the report
@@ -218,7 +218,7 @@ last_is : (r : Record) → r.script < 2 ^ 64 → r.closing < 2 ^ 64 → last_lin
 unfolding last_line_at end_line
 last_is r script closing =
     after_then (codes "end") _ _ _
-    (labelled_then (codes "script") r.script _ _ _ script (parted_label (codes "closing") (number r.closing) _)
+    (labelled_then (codes "script") r.script _ _ _ script (parted_label (codes "closing") (number_text r.closing) _)
     (labelled_then (codes "closing") r.closing _ _ _ closing (sums_parted (length r.log) r.switches newline)
     (after_then (sum_words (length r.log) r.switches) newline _ _
     (end_then [] _ _ refl))))
@@ -237,8 +237,8 @@ history_is r rest is =
     let opens = log_begins r.log rest in
     lines_then _ _ _ _ (journal_again r.journal _ is.journal_is opens.0) (lines_then _ _ _ _ (log_again r.log _ is.few_entries is.log) refl)
 
-outcome_is : (r : Record) → IsRecord r → outcome_at (length r.setup.ports) (length r.log) (switch_lines 0 r.switches ++ end_line r) ≡ Ok ((r.switches, (r.script, r.closing)), [])
-unfolding outcome_at
+outcome_is : (r : Record) → IsRecord r → outcome_in_text (length r.setup.ports) (length r.log) (switch_lines 0 r.switches ++ end_line r) ≡ Ok ((r.switches, (r.script, r.closing)), [])
+unfolding outcome_in_text
 outcome_is r is =
     let few = is.setup.few in
     let same = is.switches in

@@ -16,10 +16,10 @@ use Rattle.report.specs.declared.record.Record.{Record}
 use Rattle.report.specs.declared.record.Told.{Told}
 use Rattle.report.specs.declared.switch_lines.SwitchLine.{SwitchLine}
 use Rattle.report.specs.Lines.{line_at, each_at}
-use Rattle.report.specs.OneLine.{begins, letter_at, post_line_at, short_entry_at, log_line_at, log_entry_at, role_words_at, switch_counts_at, switch_line_at, event_at, executed_at, row_at, first_line_at, last_line_at}
-use Rattle.report.specs.Reading.{post_at, entry_at, journal_at, log_at, told_at, switches_at, setup_at, history_at, outcome_at, record_at, report_at, all_of, line_number, IsReadAs}
-use Rattle.report.specs.Records.{IsToldEntry, IsLogEntry, IsToldSwitch, AreTold, IsRecord}
-use Rattle.report.specs.Report.{word, newline, line, number, actor_word, number_or_dash, master_word, labelled, switch_line, told_lines, switch_lines, event_line, executed_line, letter_line, entry_lines, log_line, log_lines, lines_of, sum_words, end_line, setup_lines, text}
+use Rattle.report.specs.OneLine.{begins, letter_at, post_line_at, short_entry_at, log_line_at, log_entry_at, role_words_at, switch_counts_at, switch_line_at, event_in_text, executed_at, row_at, first_line_at, last_line_at}
+use Rattle.report.specs.Reading.{post_at, journal_entry_at, journal_at, log_in_text, told_in_text, switches_at, setup_at, history_at, outcome_in_text, record_at, report_at, all_of, line_number, IsReadAs}
+use Rattle.report.specs.Records.{IsToldEntry, IsLogEntry, IsToldSwitch, AreToldSwitches, IsRecord}
+use Rattle.report.specs.Report.{word, newline, line, number_text, actor_word, number_or_dash, master_word, labelled, switch_line, told_lines, switch_lines, event_line, executed_line, letter_line, entry_lines, log_line, log_lines, lines_of, sum_words, end_line, setup_lines, text}
 use Rattle.report.specs.Spelled.{word_at}
 use Rattle.report.proofs.LinesAgain.{post_words}
 use Rattle.report.proofs.LinesTaken.{letter_takes, post_takes, short_takes, log_entry_takes, event_takes, executed_takes, row_takes, took_of}
@@ -47,13 +47,13 @@ post_is bytes x rest e =
     (head.0 ∙ ap first all.spelled ∙ counted p.0.actor p.0.first p.0.count p.0.lost letters.0 letters.1 many, (head.1.actor, head.1.first, omega (arith, many, few), head.1.lost, all.each))))
   where
     counted : (a : _) (first count lost : ℕ) (letters : List _) (rest : List ℕ) → length letters ≡ count →
-        line (codes "post") (actor_word a ∷ number first ∷ number count ∷ number lost ∷ []) ++ (lines_of letter_line letters ++ rest) ≡ entry_lines (entry.Post a first letters lost) ++ rest
+        line (codes "post") (actor_word a ∷ number_text first ∷ number_text count ∷ number_text lost ∷ []) ++ (lines_of letter_line letters ++ rest) ≡ entry_lines (entry.Post a first letters lost) ++ rest
     counted a first count lost letters rest many =
-        ap (λ n. line (codes "post") (actor_word a ∷ number first ∷ number n ∷ number lost ∷ []) ++ (lines_of letter_line letters ++ rest)) (sym many)
-        ∙ sym (append_assoc (line (codes "post") (actor_word a ∷ number first ∷ number (length letters) ∷ number lost ∷ [])) (lines_of letter_line letters) rest)
+        ap (λ n. line (codes "post") (actor_word a ∷ number_text first ∷ number_text n ∷ number_text lost ∷ []) ++ (lines_of letter_line letters ++ rest)) (sym many)
+        ∙ sym (append_assoc (line (codes "post") (actor_word a ∷ number_text first ∷ number_text (length letters) ∷ number_text lost ∷ [])) (lines_of letter_line letters) rest)
 
-entry_is : (bytes : List ℕ) (x : JournalEntry (List ℕ)) (rest : List ℕ) → entry_at bytes ≡ Ok (x, rest) → Spelt entry_lines IsToldEntry bytes x rest
-unfolding entry_at
+entry_is : (bytes : List ℕ) (x : JournalEntry (List ℕ)) (rest : List ℕ) → journal_entry_at bytes ≡ Ok (x, rest) → Spelt entry_lines IsToldEntry bytes x rest
+unfolding journal_entry_at
 entry_is bytes x rest e =
     branches (begins (codes "post") bytes) _ _ _ e (λ _ e. post_is bytes x rest e)
     (λ _ e. short_takes.takes bytes x rest (fits bytes (short_entry_at bytes) (x, rest) e))
@@ -61,14 +61,14 @@ entry_is bytes x rest e =
 journal_is : (bytes : List ℕ) (journal : List (JournalEntry (List ℕ))) (rest : List ℕ) → journal_at bytes ≡ Ok (journal, rest) → Kept entry_lines (AllByRecursion IsToldEntry) (length bytes) [] bytes journal rest
 unfolding journal_at
 journal_is bytes journal rest e =
-    while_takes (λ rest. not (begins (codes "log") rest)) (λ _ rest. entry_at rest) entry_lines (AllByRecursion IsToldEntry)
+    while_takes (λ rest. not (begins (codes "log") rest)) (λ _ rest. journal_entry_at rest) entry_lines (AllByRecursion IsToldEntry)
     (λ before bytes x rest so_far e. let is = entry_is bytes x rest e in (is.0, all_append IsToldEntry before (x ∷ []) so_far (is.1, tt)))
     (length bytes) [] bytes journal rest tt e
 
 -- ---- the log
 
 abbrev log_text : ℕ → List ℕ → List ℕ → List ℕ
-log_text count size rest = codes "log" ++ (word (number count) ++ (word size ++ (newline ++ rest)))
+log_text count size rest = codes "log" ++ (word (number_text count) ++ (word size ++ (newline ++ rest)))
 
 log_line_is : (bytes : List ℕ) (x : ℕ × List ℕ) (rest : List ℕ) → log_line_at bytes ≡ Some (x, rest) → (bytes ≡ log_text x.0 x.1 rest) × (x.0 < 2 ^ 64)
 unfolding log_line_at
@@ -78,7 +78,7 @@ log_line_is bytes x rest e =
     then (word_at b1) _ _ e (λ size is e.
     took_end size.1 _ _ e (λ end e3 e.
     tested (λ (x : ℕ × List ℕ) rest. (bytes ≡ log_text x.0 x.1 rest) × (x.0 < 2 ^ 64)) (is_numeral size.0) (count, size.0) end x rest e (λ _.
-    (e0 ∙ ap (λ l. codes "log" ++ l) (e1 ∙ ap (λ l. word (number count) ++ l) (word_takes b1 size.0 size.1 is ∙ ap (λ l. word size.0 ++ l) e3)), f1))))))
+    (e0 ∙ ap (λ l. codes "log" ++ l) (e1 ∙ ap (λ l. word (number_text count) ++ l) (word_takes b1 size.0 size.1 is ∙ ap (λ l. word size.0 ++ l) e3)), f1))))))
 
 -- a log that is written in these bytes
 record IsLogText (bytes : List ℕ) (log : List Entry) (rest : List ℕ) : Type 0 where
@@ -86,14 +86,14 @@ record IsLogText (bytes : List ℕ) (log : List Entry) (rest : List ℕ) : Type 
   pub few : length log < 2 ^ 64
   pub each : AllByRecursion IsLogEntry log
 
-log_parts : (log : List Entry) (rest : List ℕ) → log_lines log ++ rest ≡ log_text (length log) (number (log_size log)) (lines_of log_line log ++ rest)
+log_parts : (log : List Entry) (rest : List ℕ) → log_lines log ++ rest ≡ log_text (length log) (number_text (log_size log)) (lines_of log_line log ++ rest)
 unfolding log_lines
 log_parts log rest =
-    append_assoc (line (codes "log") (number (length log) ∷ number (log_size log) ∷ [])) (lines_of log_line log) rest
-    ∙ line_is (codes "log") (number (length log) ∷ number (log_size log) ∷ []) (lines_of log_line log ++ rest)
+    append_assoc (line (codes "log") (number_text (length log) ∷ number_text (log_size log) ∷ [])) (lines_of log_line log) rest
+    ∙ line_is (codes "log") (number_text (length log) ∷ number_text (log_size log) ∷ []) (lines_of log_line log ++ rest)
 
-log_is : (bytes : List ℕ) (log : List Entry) (rest : List ℕ) → log_at bytes ≡ Ok (log, rest) → IsLogText bytes log rest
-unfolding log_at
+log_is : (bytes : List ℕ) (log : List Entry) (rest : List ℕ) → log_in_text bytes ≡ Ok (log, rest) → IsLogText bytes log rest
+unfolding log_in_text
 log_is bytes log rest e =
     then_lines (line_at bytes (log_line_at bytes)) _ _ e (λ l here e.
     then_lines (each_at log_entry_at l.0.0 l.1) _ _ e (λ entries there e.
@@ -101,11 +101,11 @@ log_is bytes log rest e =
     let all = each_takes log_entry_takes l.0.0 l.1 entries.0 entries.1 there in
     let many = all.many in
     let few = head.1 in
-    branches (same_numbers (number (log_size entries.0)) l.0.1) _ _ _ e
+    branches (same_numbers (number_text (log_size entries.0)) l.0.1) _ _ _ e
     (λ same e. both_are (IsLogText bytes) entries.0 log entries.1 rest e (record {
       spelled =
-          head.0 ∙ ap (λ size. log_text l.0.0 size l.1) (sym (numbers_equal (number (log_size entries.0)) l.0.1 same)) ∙ ap (λ n. log_text n (number (log_size entries.0)) l.1) (sym many)
-          ∙ ap (log_text (length entries.0) (number (log_size entries.0))) all.spelled ∙ sym (log_parts entries.0 entries.1);
+          head.0 ∙ ap (λ size. log_text l.0.0 size l.1) (sym (numbers_equal (number_text (log_size entries.0)) l.0.1 same)) ∙ ap (λ n. log_text n (number_text (log_size entries.0)) l.1) (sym many)
+          ∙ ap (log_text (length entries.0) (number_text (log_size entries.0))) all.spelled ∙ sym (log_parts entries.0 entries.1);
       few = omega (arith, many, few);
       each = all.each;
     }))
@@ -115,7 +115,7 @@ log_is bytes log rest e =
 
 abbrev role_text : Option ℕ → Option ℕ → ℕ → List ℕ → List ℕ
 role_text g m life rest =
-    word (codes "generation") ++ (word (number_or_dash g) ++ (word (codes "master") ++ (word (master_word m) ++ (word (codes "life") ++ (word (number life) ++ rest)))))
+    word (codes "generation") ++ (word (number_or_dash g) ++ (word (codes "master") ++ (word (master_word m) ++ (word (codes "life") ++ (word (number_text life) ++ rest)))))
 
 record IsRole (bytes : List ℕ) (x : Option ℕ × Option ℕ × ℕ) (rest : List ℕ) : Type 0 where
   pub spelled : bytes ≡ role_text x.0 x.1 x.2 rest
@@ -137,8 +137,8 @@ role_is bytes x rest e =
 
 abbrev switch_text : ℕ → SwitchLine → List ℕ → List ℕ
 switch_text s l rest =
-    codes "switch" ++ (word (number s) ++ role_text l.generation l.master l.life (labelled (codes "events") (number l.events) ++ (labelled (codes "held") (number l.held)
-    ++ (labelled (codes "executed") (number l.executed) ++ (labelled (codes "rows") (number l.rows) ++ (labelled (codes "sent") (number l.sent) ++ (newline ++ rest)))))))
+    codes "switch" ++ (word (number_text s) ++ role_text l.generation l.master l.life (labelled (codes "events") (number_text l.events) ++ (labelled (codes "held") (number_text l.held)
+    ++ (labelled (codes "executed") (number_text l.executed) ++ (labelled (codes "rows") (number_text l.rows) ++ (labelled (codes "sent") (number_text l.sent) ++ (newline ++ rest)))))))
 
 record IsSwitchText (s : ℕ) (bytes : List ℕ) (l : SwitchLine) (rest : List ℕ) : Type 0 where
   pub spelled : bytes ≡ switch_text s l rest
@@ -166,7 +166,7 @@ switch_line_is s bytes x rest e =
     closes (IsSwitchText s bytes) (record { generation = role.0.0; master = role.0.1; life = role.0.2; events = events; held = held; executed = executed; rows = rows; sent = sent }) b7 x rest e (λ end e8.
     record {
       spelled =
-          e0 ∙ ap (λ l. codes "switch" ++ l) (e1 ∙ ap (λ l. word (number s) ++ l) (r.spelled ∙ ap (role_text role.0.0 role.0.1 role.0.2) (e3 ∙ rw (e4, e5, e6, e7, e8) refl)));
+          e0 ∙ ap (λ l. codes "switch" ++ l) (e1 ∙ ap (λ l. word (number_text s) ++ l) (r.spelled ∙ ap (role_text role.0.0 role.0.1 role.0.2) (e3 ∙ rw (e4, e5, e6, e7, e8) refl)));
       generation_is = r.generation;
       master_is = r.master;
       life_is = r.life;
@@ -178,7 +178,7 @@ switch_line_is s bytes x rest e =
     })))))))))
 
 switch_again : (s : ℕ) (t : Told) (rest : List ℕ) → switch_line s t ++ rest ≡ switch_text s (line_of t) rest
-switch_again s t rest = switch_parts s t rest ∙ ap (λ l. codes "switch" ++ (word (number s) ++ l)) (role_parts t _)
+switch_again s t rest = switch_parts s t rest ∙ ap (λ l. codes "switch" ++ (word (number_text s) ++ l)) (role_parts t _)
 
 record IsToldText (s : ℕ) (bytes : List ℕ) (t : Told) (rest : List ℕ) : Type 0 where
   pub spelled : bytes ≡ told_lines s t ++ rest
@@ -188,11 +188,11 @@ counts_same : (l : SwitchLine) (events executed rows : ℕ) → events ≡ l.eve
     l ≡ (record { generation = l.generation; master = l.master; life = l.life; events = events; held = l.held; executed = executed; rows = rows; sent = l.sent })
 counts_same l events executed rows a b c = rw (a, b, c) refl
 
-told_is : (s : ℕ) (bytes : List ℕ) (x : Told) (rest : List ℕ) → told_at s bytes ≡ Ok (x, rest) → IsToldText s bytes x rest
-unfolding told_at
+told_is : (s : ℕ) (bytes : List ℕ) (x : Told) (rest : List ℕ) → told_in_text s bytes ≡ Ok (x, rest) → IsToldText s bytes x rest
+unfolding told_in_text
 told_is s bytes x rest e =
     then_lines (line_at bytes (switch_line_at s bytes)) _ _ e (λ l here e.
-    then_lines (each_at (event_at s) l.0.events l.1) _ _ e (λ events events_e e.
+    then_lines (each_at (event_in_text s) l.0.events l.1) _ _ e (λ events events_e e.
     then_lines (each_at (executed_at s) l.0.executed events.1) _ _ e (λ executed executed_e e.
     then_lines (each_at (row_at s) l.0.rows executed.1) _ _ e (λ rows rows_e e.
     let head = switch_line_is s bytes l.0 l.1 (fits bytes (switch_line_at s bytes) l here) in
@@ -230,14 +230,14 @@ told_is s bytes x rest e =
 record AreSwitches (count s : ℕ) (bytes : List ℕ) (switches : List Told) (rest : List ℕ) : Type 0 where
   pub spelled : bytes ≡ switch_lines s switches ++ rest
   pub many : length switches ≡ count
-  pub told : AreTold s switches
+  pub told : AreToldSwitches s switches
 
 switches_are : (count s : ℕ) (bytes : List ℕ) (switches : List Told) (rest : List ℕ) → switches_at count s bytes ≡ Ok (switches, rest) → AreSwitches count s bytes switches rest
 unfolding switches_at
 switches_are zero s bytes switches rest e =
     both_are (AreSwitches 0 s bytes) [] switches bytes rest e (record { spelled = sym (no_switches s bytes); many = refl; told = tt })
 switches_are (suc n) s bytes switches rest e =
-    then_lines (told_at s bytes) _ _ e (λ first here e.
+    then_lines (told_in_text s bytes) _ _ e (λ first here e.
     then_lines (switches_at n (s + 1) first.1) _ _ e (λ others there e.
     let one = told_is s bytes first.0 first.1 here in
     let more = switches_are n (s + 1) first.1 others.0 others.1 there in
@@ -251,7 +251,7 @@ switches_are (suc n) s bytes switches rest e =
 
 abbrev end_text : List ℕ → ℕ → ℕ → List ℕ → List ℕ
 end_text sums script closing rest =
-    codes "end" ++ (labelled (codes "script") (number script) ++ (labelled (codes "closing") (number closing) ++ (sums ++ (newline ++ rest))))
+    codes "end" ++ (labelled (codes "script") (number_text script) ++ (labelled (codes "closing") (number_text closing) ++ (sums ++ (newline ++ rest))))
 
 record IsEnd (sums bytes : List ℕ) (x : ℕ × ℕ) (rest : List ℕ) : Type 0 where
   pub spelled : bytes ≡ end_text sums x.0 x.1 rest
@@ -284,7 +284,7 @@ history_is : (bytes : List ℕ) (x : List (JournalEntry (List ℕ)) × List Entr
 unfolding history_at
 history_is bytes x rest e =
     then_lines (journal_at bytes) _ _ e (λ journal journal_e e.
-    then_lines (log_at journal.1) _ _ e (λ log log_e e.
+    then_lines (log_in_text journal.1) _ _ e (λ log log_e e.
     let one = journal_is bytes journal.0 journal.1 journal_e in
     let two = log_is journal.1 log.0 log.1 log_e in
     let all : one.further ≡ journal.0 = sym one.all_is in
@@ -298,12 +298,12 @@ history_is bytes x rest e =
 record IsOutcome (count entries : ℕ) (bytes : List ℕ) (x : List Told × (ℕ × ℕ)) (rest : List ℕ) : Type 0 where
   pub spelled : bytes ≡ switch_lines 0 x.0 ++ end_text (sum_words entries x.0) x.1.0 x.1.1 rest
   pub many : length x.0 ≡ count
-  pub told : AreTold 0 x.0
+  pub told : AreToldSwitches 0 x.0
   pub script : x.1.0 < 2 ^ 64
   pub closing_is : x.1.1 < 2 ^ 64
 
-outcome_is : (count entries : ℕ) (bytes : List ℕ) (x : List Told × (ℕ × ℕ)) (rest : List ℕ) → outcome_at count entries bytes ≡ Ok (x, rest) → IsOutcome count entries bytes x rest
-unfolding outcome_at
+outcome_is : (count entries : ℕ) (bytes : List ℕ) (x : List Told × (ℕ × ℕ)) (rest : List ℕ) → outcome_in_text count entries bytes ≡ Ok (x, rest) → IsOutcome count entries bytes x rest
+unfolding outcome_in_text
 outcome_is count entries bytes x rest e =
     then_lines (switches_at count 0 bytes) _ _ e (λ switches switches_e e.
     let sums : List ℕ = sum_words entries switches.0 in
@@ -333,7 +333,7 @@ record_takes bytes r rest e =
     then_lines (line_at bytes (first_line_at bytes)) _ _ e (λ b0 here e.
     then_lines (setup_at b0) _ _ e (λ setup setup_e e.
     then_lines (history_at setup.1) _ _ e (λ history history_e e.
-    then_lines (outcome_at (length setup.0.ports) (length history.0.1) history.1) _ _ e (λ outcome outcome_e e.
+    then_lines (outcome_in_text (length setup.0.ports) (length history.0.1) history.1) _ _ e (λ outcome outcome_e e.
     let one = first_is bytes b0 (fits bytes (first_line_at bytes) b0 here) in
     let two = setup_takes b0 setup.0 setup.1 setup_e in
     let three = history_is setup.1 history.0 history.1 history_e in

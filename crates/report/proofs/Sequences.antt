@@ -6,10 +6,10 @@ use Rattle.report.specs.declared.fault.Misfit.{Misfit}
 use Rattle.report.specs.declared.fault.Broken.{Broken}
 use Rattle.report.specs.declared.fault.Broken.TheVariants as broken
 use Rattle.report.specs.declared.record.Told.{Told}
-use Rattle.report.specs.Lines.{StopsAt, line_at, each_at, while_at}
-use Rattle.report.specs.OneLine.{ports_at}
-use Rattle.report.specs.Reading.{port_counts_at, told_at, switches_at}
-use Rattle.report.specs.Spelled.{Gives}
+use Rattle.report.specs.Lines.{LineStopsAt, line_at, each_at, while_at}
+use Rattle.report.specs.OneLine.{ports_in_text}
+use Rattle.report.specs.Reading.{port_counts_at, told_in_text, switches_at}
+use Rattle.report.specs.Spelled.{GivesText}
 
 -- values behind those that were read before
 abbrev pub with_front : {A : Type 0} → List A → Result (List A × List ℕ) ℕ → Result (List A × List ℕ) ℕ
@@ -24,8 +24,8 @@ front_more front x (Ok y) = ap (λ l. Ok (l, y.1)) (append_assoc front (x ∷ []
 front_more front x (Err left) = refl
 
 -- what was read where the reader answered Ok
-pub ok_gives : {X Y : Type 0} (view : X → Y) (r : Result X Misfit) (read : Option Y) (x : X) → Gives view r read → r ≡ Ok x → read ≡ Some (view x)
-ok_gives view r read x g e = subst (λ r. Gives view r read) e g
+pub ok_gives : {X Y : Type 0} (view : X → Y) (r : Result X Misfit) (read : Option Y) (x : X) → GivesText view r read → r ≡ Ok x → read ≡ Some (view x)
+ok_gives view r read x g e = subst (λ r. GivesText view r read) e g
 
 -- what was read of a line
 pub line_ok : {A : Type 0} (bytes : List ℕ) (read : Option A) (x : A) → read ≡ Some x → line_at bytes read ≡ Ok x
@@ -40,7 +40,7 @@ each_more read count place front x rest after whole less e so_far =
     front_more front x (each_at read (count - (place + 1)) after) ∙ rw e at now
 
 pub ports_more : (count place : ℕ) (front : List ℕ) (x : ℕ) (rest after : List ℕ) (whole : Result (List ℕ × List ℕ) ℕ) →
-    place < count → ports_at place rest ≡ Some (x, after) → with_front front (port_counts_at (count - place) place rest) ≡ whole →
+    place < count → ports_in_text place rest ≡ Some (x, after) → with_front front (port_counts_at (count - place) place rest) ≡ whole →
     with_front (front ++ x ∷ []) (port_counts_at (count - (place + 1)) (place + 1) after) ≡ whole
 unfolding port_counts_at
 ports_more count place front x rest after whole less e so_far =
@@ -49,7 +49,7 @@ ports_more count place front x rest after whole less e so_far =
     front_more front x (port_counts_at (count - (place + 1)) (place + 1) after) ∙ rw e at now
 
 pub told_more : (count place : ℕ) (front : List Told) (x : Told) (rest after : List ℕ) (whole : Result (List Told × List ℕ) ℕ) →
-    place < count → told_at place rest ≡ Ok (x, after) → with_front front (switches_at (count - place) place rest) ≡ whole →
+    place < count → told_in_text place rest ≡ Ok (x, after) → with_front front (switches_at (count - place) place rest) ≡ whole →
     with_front (front ++ x ∷ []) (switches_at (count - (place + 1)) (place + 1) after) ≡ whole
 unfolding switches_at
 told_more count place front x rest after whole less e so_far =
@@ -75,7 +75,7 @@ module _ {A : Type 0} (test : List ℕ → Bool) (read : List A → List ℕ →
       sym (rw (holds, e) at now)
 
   pub while_stops : (count place : ℕ) (before : List A) (rest : List ℕ) (e : Broken) (whole : Result (List A × List ℕ) ℕ) → place < count → test rest ≡ true →
-      while_at test read (count - place) before rest ≡ whole → StopsAt e (read before rest) → StopsAt e whole
+      while_at test read (count - place) before rest ≡ whole → LineStopsAt e (read before rest) → LineStopsAt e whole
   while_stops count place before rest (broken.Line left) whole less holds so_far stop = while_err count place before rest left whole less holds so_far stop
   while_stops count place before rest broken.OutOfMemory whole less holds so_far stop = tt
 

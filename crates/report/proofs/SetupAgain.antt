@@ -10,10 +10,10 @@ use Rattle.of_types.specs.declared.setup.Rule.{Rule}
 use Rattle.of_types.specs.declared.setup.Setup.{Setup}
 use Rattle.of_types.specs.Setups.{is_group, IsPort, IsAddressPrefix, IsRule, IsSetup, AreApart, ends_of}
 use Rattle.report.specs.Lines.{line_at}
-use Rattle.report.specs.OneLine.{begins, is_port, may_join, is_asked, counts_at, ports_at, link_at, link_words_at, prefix_at, rule_words_at, rule_at}
+use Rattle.report.specs.OneLine.{begins, is_port_number, may_join_line, is_asked, counts_at, ports_in_text, link_in_text, link_words_at, prefix_in_text, rule_words_at, rule_at}
 use Rattle.report.specs.Reading.{port_counts_at, links_at, rules_at, setup_at}
 use Rattle.report.specs.Records.{FitsRule}
-use Rattle.report.specs.Report.{word, newline, line, number, address_word, number_or_dash, port_line, port_lines, link_line, deny_line, lines_of, setup_line, setup_lines}
+use Rattle.report.specs.Report.{word, newline, line, number_text, address_word, number_or_dash, port_line, port_lines, link_line, deny_line, lines_of, setup_line, setup_lines}
 use Rattle.report.specs.Spelled.{◌>>=◌, dash_or, number16_at}
 use Rattle.wires.specs.Wires.{is_taken}
 use Rattle.wires.proofs.Apart.{same_end, ends_any, IsFree, free_link}
@@ -31,24 +31,24 @@ group_again n (suc (suc zero), less, e) = rw (sym e) (refl, omega arith)
 group_again n (suc (suc (suc zero)), less, e) = rw (sym e) (refl, omega arith)
 group_again n (suc (suc (suc (suc k))), less, e) = absurd (omega (arith, less))
 
-counts_is : (c n : ℕ) (rest : List ℕ) → Contains (1 ∷ 3 ∷ 5 ∷ 7 ∷ []) c → 1 ≤ n → n ≤ 64 → counts_at (line (codes "setup") (number c ∷ number n ∷ []) ++ rest) ≡ Some ((c, n), rest)
+counts_is : (c n : ℕ) (rest : List ℕ) → Contains (1 ∷ 3 ∷ 5 ∷ 7 ∷ []) c → 1 ≤ n → n ≤ 64 → counts_at (line (codes "setup") (number_text c ∷ number_text n ∷ []) ++ rest) ≡ Some ((c, n), rest)
 unfolding counts_at
 counts_is c n rest group some few =
     let is = group_again c group in
     let within : (is_group c && nat_le 1 n && nat_le n 64) ≡ true = rw (is.0, le-leb 1 n some, le-leb n 64 few) refl in
-    ap counts_at (line_is (codes "setup") (number c ∷ number n ∷ []) rest)
+    ap counts_at (line_is (codes "setup") (number_text c ∷ number_text n ∷ []) rest)
     ∙ after_then (codes "setup") _ _ _
-    (again_then number8 c _ _ _ is.1 (parted (number n) _)
+    (again_then number8 c _ _ _ is.1 (parted (number_text n) _)
     (again_then number64 n _ _ _ (omega (arith, few)) (parted_end rest)
     (end_then rest _ _ (test_then _ _ _ within refl))))
 
-port_count_is : (s n : ℕ) (rest : List ℕ) → s < 2 ^ 64 → 1 ≤ n → n ≤ 48 → ports_at s (port_line s n ++ rest) ≡ Some (n, rest)
-unfolding ports_at port_line
+port_count_is : (s n : ℕ) (rest : List ℕ) → s < 2 ^ 64 → 1 ≤ n → n ≤ 48 → ports_in_text s (port_line s n ++ rest) ≡ Some (n, rest)
+unfolding ports_in_text port_line
 port_count_is s n rest small some few =
     let within : (s == s && nat_le 1 n && nat_le n 48) ≡ true = rw (eq-eqb s s refl, le-leb 1 n some, le-leb n 48 few) refl in
-    ap (ports_at s) (line_is (codes "ports") (number s ∷ number n ∷ []) rest)
+    ap (ports_in_text s) (line_is (codes "ports") (number_text s ∷ number_text n ∷ []) rest)
     ∙ after_then (codes "ports") _ _ _
-    (again_then number64 s _ _ _ small (parted (number n) _)
+    (again_then number64 s _ _ _ small (parted (number_text n) _)
     (again_then number32 n _ _ _ (omega (arith, few)) (parted_end rest)
     (end_then rest _ _ (test_then _ _ _ within refl))))
 
@@ -71,7 +71,7 @@ ports_again (n ∷ counts) s rest small are =
 
 -- ---- wires
 
-port_again : (setup : Setup) (s p : ℕ) → IsPort setup s p → is_port setup.ports s p ≡ true
+port_again : (setup : Setup) (s p : ℕ) → IsPort setup s p → is_port_number setup.ports s p ≡ true
 port_again setup s p is =
     let index : slice_index setup.ports s ≡ is.1.0 = get_or_from_slice_get setup.ports s is.1.0 0 is.1.1 in
     rw (lt-ltb s (length setup.ports) (slice_get_within setup.ports s is.1.0 is.1.1), le-leb 1 p is.0, index, le-leb p is.1.0 is.1.2) refl
@@ -79,7 +79,7 @@ port_again setup s p is =
 free_again : (s p : ℕ) (links : List Link) → list_any (same_end (s, p)) (ends_of links) ≡ false → is_taken s p links ≡ false
 free_again s p links e = sym (ends_any (same_end (s, p)) links) ∙ e
 
-joins_again : (setup : Setup) (before : List Link) (l : Link) → IsPort setup l.switch l.port → IsPort setup l.peer l.peer_port → IsFree before l → may_join setup.ports before l ≡ true
+joins_again : (setup : Setup) (before : List Link) (l : Link) → IsPort setup l.switch l.port → IsPort setup l.peer l.peer_port → IsFree before l → may_join_line setup.ports before l ≡ true
 joins_again setup before l one other free =
     let apart : (l.switch == l.peer && l.port == l.peer_port) ≡ false = free.two in
     rw (
@@ -99,21 +99,21 @@ record FitsLink (l : Link) : Type 0 where
 link_words_is : (l : Link) (rest : List ℕ) → FitsLink l → link_words_at (link_line l ++ rest) ≡ Some (l, rest)
 unfolding link_words_at
 link_words_is l rest fits =
-    ap link_words_at (line_is (codes "link") (number l.switch ∷ number l.port ∷ number l.peer ∷ number l.peer_port ∷ []) rest)
+    ap link_words_at (line_is (codes "link") (number_text l.switch ∷ number_text l.port ∷ number_text l.peer ∷ number_text l.peer_port ∷ []) rest)
     ∙ after_then (codes "link") _ _ _
-    (again_then number8 l.switch _ _ _ fits.switch (parted (number l.port) _)
-    (again_then number32 l.port _ _ _ fits.port (parted (number l.peer) _)
-    (again_then number8 l.peer _ _ _ fits.peer (parted (number l.peer_port) _)
+    (again_then number8 l.switch _ _ _ fits.switch (parted (number_text l.port) _)
+    (again_then number32 l.port _ _ _ fits.port (parted (number_text l.peer) _)
+    (again_then number8 l.peer _ _ _ fits.peer (parted (number_text l.peer_port) _)
     (again_then number32 l.peer_port _ _ _ fits.peer_port (parted_end rest)
     (end_then rest _ _ refl)))))
 
 -- a wire that may stand behind these
 record MayStand (ports : List ℕ) (before : List Link) (l : Link) : Type 0 where
   pub fits : FitsLink l
-  pub joins : may_join ports before l ≡ true
+  pub joins : may_join_line ports before l ≡ true
 
-link_is : (ports : List ℕ) (before : List Link) (l : Link) (rest : List ℕ) → MayStand ports before l → link_at ports before (link_line l ++ rest) ≡ Some (l, rest)
-unfolding link_at
+link_is : (ports : List ℕ) (before : List Link) (l : Link) (rest : List ℕ) → MayStand ports before l → link_in_text ports before (link_line l ++ rest) ≡ Some (l, rest)
+unfolding link_in_text
 link_is ports before l rest may = rw (link_words_is l rest may.fits, may.joins) refl
 
 begins_link : (l : Link) (rest : List ℕ) → begins (codes "link") (link_line l ++ rest) ≡ true
@@ -146,7 +146,7 @@ stand setup is before (l ∷ links) ports apart =
 links_again : (setup : Setup) (rest : List ℕ) → IsSetup setup → begins (codes "link") rest ≡ false → links_at setup.ports (lines_of link_line setup.links ++ rest) ≡ Ok (setup.links, rest)
 unfolding links_at
 links_again setup rest is ends =
-    while_again (begins (codes "link")) (λ before rest. line_at rest (link_at setup.ports before rest)) link_line (MayStand setup.ports)
+    while_again (begins (codes "link")) (λ before rest. line_at rest (link_in_text setup.ports before rest)) link_line (MayStand setup.ports)
     (λ before l rest may. begins_link l rest)
     (λ before l rest may. fits_line (link_line l ++ rest) _ _ (link_is setup.ports before l rest may))
     1024 [] setup.links rest is.few_links (stand setup is [] setup.links is.links is.apart) ends
@@ -154,19 +154,19 @@ links_again setup rest is ends =
 -- ---- rules
 
 prefix_then : {R : Type 0} (p : Prefix) (rest : List ℕ) (more : Prefix × List ℕ → Option R) (y : Option R) → p.address < 2 ^ 32 → IsAddressPrefix p → IsParted rest → more (p, rest) ≡ y →
-    (prefix_at (word (address_word p.address) ++ (word (number p.length) ++ rest)) >>= more) ≡ y
-unfolding prefix_at
+    (prefix_in_text (word (address_word p.address) ++ (word (number_text p.length) ++ rest)) >>= more) ≡ y
+unfolding prefix_in_text
 prefix_then p rest more y fits is follows e =
     let short = is.short in
     let within : (nat_le p.length 32 && p.address % 2 ^ (32 - p.length) == 0) ≡ true = rw (le-leb p.length 32 short, is.clean) refl in
-    let read : prefix_at (word (address_word p.address) ++ (word (number p.length) ++ rest)) ≡ Some (p, rest) =
-    again_then address p.address _ _ _ fits (parted (number p.length) _)
+    let read : prefix_in_text (word (address_word p.address) ++ (word (number_text p.length) ++ rest)) ≡ Some (p, rest) =
+    again_then address p.address _ _ _ fits (parted (number_text p.length) _)
     (again_then number8 p.length _ _ _ (omega (arith, short)) follows
     (test_then _ _ _ within refl)) in
     rw read e
 
-pub port_word : (port : Option ℕ) → number_or_dash port ≡ or_dash number port
-unfolding number_or_dash number
+pub port_word : (port : Option ℕ) → number_or_dash port ≡ or_dash number_text port
+unfolding number_or_dash number_text
 port_word None = refl
 port_word (Some p) = refl
 
@@ -185,7 +185,7 @@ small_proto n (suc (suc (suc k)), less, e) = absurd (omega (arith, less))
 rule_words_is : (r : Rule) (rest : List ℕ) → IsRule r → FitsRule r → rule_words_at (deny_line r ++ rest) ≡ Some (r, rest)
 unfolding rule_words_at
 rule_words_is r rest is fits =
-    ap rule_words_at (line_is (codes "deny") (number r.proto ∷ address_word r.src.address ∷ number r.src.length ∷ address_word r.dst.address ∷ number r.dst.length ∷ number_or_dash r.port ∷ []) rest)
+    ap rule_words_at (line_is (codes "deny") (number_text r.proto ∷ address_word r.src.address ∷ number_text r.src.length ∷ address_word r.dst.address ∷ number_text r.dst.length ∷ number_or_dash r.port ∷ []) rest)
     ∙ after_then (codes "deny") _ _ _
     (again_then number8 r.proto _ _ _ (small_proto r.proto is.proto) (parted (address_word r.src.address) _)
     (prefix_then r.src _ _ _ fits.source is.source (parted (address_word r.dst.address) _)

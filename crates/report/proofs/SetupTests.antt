@@ -9,7 +9,7 @@ use Rattle.of_types.specs.declared.setup.Prefix.{Prefix}
 use Rattle.of_types.specs.declared.setup.Setup.{Setup}
 use Rattle.of_types.specs.Setups.{is_group, IsPort, IsAddressPrefix, AreApart, ends_of}
 use Rattle.journal.proofs.All.{all_append}
-use Rattle.report.specs.OneLine.{is_port, may_join, is_asked}
+use Rattle.report.specs.OneLine.{is_port_number, may_join_line, is_asked}
 use Rattle.wires.specs.Wires.{is_taken}
 use Rattle.wires.proofs.Apart.{same_end_sym, apart_link, free_is, not_true}
 
@@ -37,18 +37,18 @@ pub record AreLinks (setup : Setup) (links : List Link) : Type 0 where
   pub between : AllByRecursion (λ l. IsPort setup l.switch l.port × IsPort setup l.peer l.peer_port) links
   pub apart : AreApart (ends_of links)
 
-port_is : (setup : Setup) (switch port : ℕ) → is_port setup.ports switch port ≡ true → IsPort setup switch port
+port_is : (setup : Setup) (switch port : ℕ) → is_port_number setup.ports switch port ≡ true → IsPort setup switch port
 port_is setup switch port e =
     let there : switch < length setup.ports = search (rules, e) in
     let within : (1 ≤ port) × (port ≤ slice_index setup.ports switch) = search (rules, e) in
     (within.0, (slice_index setup.ports switch, slice_get-get_or setup.ports switch 0 there, within.1))
 
-pub joined_link : (setup : Setup) (before : List Link) (l : Link) → AreLinks setup before → may_join setup.ports before l ≡ true → AreLinks setup (before ++ l ∷ [])
+pub joined_link : (setup : Setup) (before : List Link) (l : Link) → AreLinks setup before → may_join_line setup.ports before l ≡ true → AreLinks setup (before ++ l ∷ [])
 joined_link setup before l h e =
-    let four = and_parts (is_port setup.ports l.switch l.port && is_port setup.ports l.peer l.peer_port && not (l.switch == l.peer && l.port == l.peer_port) && not (is_taken l.switch l.port before)) (not (is_taken l.peer l.peer_port before)) e in
-    let three = and_parts (is_port setup.ports l.switch l.port && is_port setup.ports l.peer l.peer_port && not (l.switch == l.peer && l.port == l.peer_port)) (not (is_taken l.switch l.port before)) four.0 in
-    let two = and_parts (is_port setup.ports l.switch l.port && is_port setup.ports l.peer l.peer_port) (not (l.switch == l.peer && l.port == l.peer_port)) three.0 in
-    let one = and_parts (is_port setup.ports l.switch l.port) (is_port setup.ports l.peer l.peer_port) two.0 in
+    let four = and_parts (is_port_number setup.ports l.switch l.port && is_port_number setup.ports l.peer l.peer_port && not (l.switch == l.peer && l.port == l.peer_port) && not (is_taken l.switch l.port before)) (not (is_taken l.peer l.peer_port before)) e in
+    let three = and_parts (is_port_number setup.ports l.switch l.port && is_port_number setup.ports l.peer l.peer_port && not (l.switch == l.peer && l.port == l.peer_port)) (not (is_taken l.switch l.port before)) four.0 in
+    let two = and_parts (is_port_number setup.ports l.switch l.port && is_port_number setup.ports l.peer l.peer_port) (not (l.switch == l.peer && l.port == l.peer_port)) three.0 in
+    let one = and_parts (is_port_number setup.ports l.switch l.port) (is_port_number setup.ports l.peer l.peer_port) two.0 in
     record {
       between = all_append (λ l. IsPort setup l.switch l.port × IsPort setup l.peer l.peer_port) before (l ∷ []) h.between
           ((port_is setup l.switch l.port one.0, port_is setup l.peer l.peer_port one.1), tt);

@@ -5,7 +5,7 @@ use Rattle.std.specs.List.{list_all}
 use Rattle.std.proofs.Math.Seq.{take-suc-set}
 use Rattle.std.proofs.lemmas.Bool.{and_parts}
 use Rattle.std.proofs.lemmas.List.{append-nil, append_assoc, take_all}
-use Rattle.report.specs.Spelled.{◌>>=◌, byte_of, digit_of, digits_of, is_digit}
+use Rattle.report.specs.Spelled.{◌>>=◌, byte_of, digit_of, digits_of, is_text_digit}
 
 -- an odd number of digits tells no bytes
 none_after : (o : Option ℕ) → (o >>= λ b. None >>= λ bytes. Some (b ∷ bytes)) ≡ None
@@ -28,11 +28,11 @@ pair_none None l more others e none = refl
 pair_none (Some x) None more others e none = refl
 pair_none (Some x) (Some y) more others e none = rw (none e) refl
 
-pub other_digits : (digits : List ℕ) → list_all is_digit digits ≡ false → digits_of digits ≡ None
+pub other_digits : (digits : List ℕ) → list_all is_text_digit digits ≡ false → digits_of digits ≡ None
 unfolding digits_of byte_of
 other_digits [] e = absurd cc
 other_digits (d ∷ []) e = refl
-other_digits (high ∷ low ∷ digits) e = pair_none (digit_of high) (digit_of low) (list_all is_digit digits) (digits_of digits) e (other_digits digits)
+other_digits (high ∷ low ∷ digits) e = pair_none (digit_of high) (digit_of low) (list_all is_text_digit digits) (digits_of digits) e (other_digits digits)
 
 -- bytes behind those that were read before
 abbrev pub behind : List ℕ → Option (List ℕ) → Option (List ℕ)
@@ -63,10 +63,10 @@ byte_read digits bytes rest i h l two room high low read =
     ap (λ f. behind f (digits_of (drop 2 rest))) taken ∙ pair_more (take i bytes) rest b two (byte_is _ _ h l high low) ∙ read
 
 -- what is behind digits is digits
-pub digits_behind : (rest : List ℕ) → list_all is_digit rest ≡ true → list_all is_digit (drop 2 rest) ≡ true
+pub digits_behind : (rest : List ℕ) → list_all is_text_digit rest ≡ true → list_all is_text_digit (drop 2 rest) ≡ true
 digits_behind [] all = refl
 digits_behind (d ∷ []) all = refl
-digits_behind (high ∷ low ∷ rest) all = (and_parts (is_digit low) (list_all is_digit rest) (and_parts (is_digit high) (is_digit low && list_all is_digit rest) all).1).1
+digits_behind (high ∷ low ∷ rest) all = (and_parts (is_text_digit low) (list_all is_text_digit rest) (and_parts (is_text_digit high) (is_text_digit low && list_all is_text_digit rest) all).1).1
 
 -- all bytes are read
 none_left : (rest : List ℕ) → length rest ≡ 0 → digits_of rest ≡ Some []

@@ -11,8 +11,8 @@ use Rattle.std.proofs.lemmas.Slice.Eq.{starts_is}
 use Rattle.std.proofs.Math.Seq.{drop-append_seam, take-append_seam}
 use Rattle.numerals.specs.Numerals.{is_digit, are_digits, is_numeral, numeral, numeral_within}
 use Rattle.numerals.proofs.Decimal.{decimal_is, numeral_again, numeral_spells}
-use Rattle.report.specs.Report.{word, newline, number}
-use Rattle.report.specs.Spelled.{◌>>=◌, after_at, end_at, known_at, word_at, cut_at, length_before, ends_word, number_at}
+use Rattle.report.specs.Report.{word, newline, number_text}
+use Rattle.report.specs.Spelled.{◌>>=◌, after_at, end_at, known_at, word_at, cut_at, length_before, ends_word, number_in_text}
 
 -- ---- steps
 
@@ -128,8 +128,8 @@ within_takes most n text e = held (numeral text) e
     held (Some m) e = let p = passed (nat_le m most) (Some m) n e in let same = some_is m n p.1 in (ap some same, omega (arith, leb-true m most p.0, same))
 
 -- a number of at most this is read as it is written
-pub number_takes : (most : ℕ) (bytes : List ℕ) (n : ℕ) (rest : List ℕ) → most < 2 ^ 64 → number_at most bytes ≡ Some (n, rest) → (bytes ≡ word (number n) ++ rest) × (n ≤ most)
-unfolding number_at number
+pub number_takes : (most : ℕ) (bytes : List ℕ) (n : ℕ) (rest : List ℕ) → most < 2 ^ 64 → number_in_text most bytes ≡ Some (n, rest) → (bytes ≡ word (number_text n) ++ rest) × (n ≤ most)
+unfolding number_in_text number_text
 number_takes most bytes n rest small e =
     let a = bind_some (word_at bytes) (λ w. numeral_within most w.0 >>= λ m. Some (m, w.1)) (n, rest) e in
     let b = bind_some (numeral_within most a.0.0) (λ m. Some (m, a.0.1)) (n, rest) a.2 in
@@ -169,7 +169,7 @@ pub within_again : (most n : ℕ) (text : List ℕ) → numeral text ≡ Some n 
 unfolding numeral_within
 within_again most n text e le = rw (numeral_within, e, le-leb n most le) refl
 
-pub number_again : (most n : ℕ) (rest : List ℕ) → most < 2 ^ 64 → n ≤ most → IsParted rest → number_at most (word (number n) ++ rest) ≡ Some (n, rest)
-unfolding number_at number
+pub number_again : (most n : ℕ) (rest : List ℕ) → most < 2 ^ 64 → n ≤ most → IsParted rest → number_in_text most (word (number_text n) ++ rest) ≡ Some (n, rest)
+unfolding number_in_text number_text
 number_again most n rest small le parted =
     rw (word_again (decimal n) rest (decimal_word n (omega (arith, le, small))) parted, within_again most n (decimal n) (numeral_again n (omega (arith, le, small))) le) refl

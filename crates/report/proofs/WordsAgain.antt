@@ -9,24 +9,24 @@ use Rattle.numerals.specs.Numerals.{is_digit, are_digits, numeral_within}
 use Rattle.numerals.proofs.Decimal.{numeral_again}
 use Rattle.journal.specs.declared.journal.Actor.{Actor}
 use Rattle.journal.specs.declared.journal.Actor.TheVariants.{Controller, Switch}
-use Rattle.report.specs.Records.{AreBytes, FitsActor}
-use Rattle.report.specs.Report.{word, number, labelled, actor_word, flag, address_word, hex, hex_of, hex_digit}
-use Rattle.report.specs.Spelled.{◌>>=◌, after_at, ends_word, number8_at, number16_at, number32_at, number64_at, labelled_at, actor_at, controller_at, dash_or, flag_at, is_dot, dotted_at, address_of, address_at, digit_of, byte_of, digits_of, hex_bytes, hex_at}
+use Rattle.report.specs.Records.{AreOctets, FitsActor}
+use Rattle.report.specs.Report.{word, number_text, labelled, actor_word, flag, address_word, hex, hex_of, hex_digit}
+use Rattle.report.specs.Spelled.{◌>>=◌, after_at, ends_word, number8_at, number16_at, number32_at, number64_at, labelled_at, actor_in_text, controller_in_text, dash_or, flag_in_text, is_dot, dotted_at, address_of, address_at, digit_of, byte_of, digits_of, hex_bytes, hex_at}
 use Rattle.report.proofs.Texts.{IsWord, IsParted, word_again, number_again, decimal_word, decimal_digits, known_again, within_again, after_again, begins_is, not_same, cut_again}
 use Rattle.report.proofs.Readers.{Again, Any}
 
 -- ---- numbers
 
-pub number8 : Again number8_at (λ n. word (number n)) (λ n. n < 2 ^ 8) IsParted
+pub number8 : Again number8_at (λ n. word (number_text n)) (λ n. n < 2 ^ 8) IsParted
 number8 = record { again = λ n rest fits parted. number_again 255 n rest (omega arith) (omega (arith, fits)) parted }
 
-pub number16 : Again number16_at (λ n. word (number n)) (λ n. n < 2 ^ 16) IsParted
+pub number16 : Again number16_at (λ n. word (number_text n)) (λ n. n < 2 ^ 16) IsParted
 number16 = record { again = λ n rest fits parted. number_again 65535 n rest (omega arith) (omega (arith, fits)) parted }
 
-pub number32 : Again number32_at (λ n. word (number n)) (λ n. n < 2 ^ 32) IsParted
+pub number32 : Again number32_at (λ n. word (number_text n)) (λ n. n < 2 ^ 32) IsParted
 number32 = record { again = λ n rest fits parted. number_again 4294967295 n rest (omega arith) (omega (arith, fits)) parted }
 
-pub number64 : Again number64_at (λ n. word (number n)) (λ n. n < 2 ^ 64) IsParted
+pub number64 : Again number64_at (λ n. word (number_text n)) (λ n. n < 2 ^ 64) IsParted
 number64 = record { again = λ n rest fits parted. number_again 18446744073709551615 n rest (omega arith) (omega (arith, fits)) parted }
 
 -- ---- actors
@@ -38,19 +38,19 @@ behind_letter letter n is small (suc i) less = decimal_word n (omega (arith, sma
 numeral8 : (n : ℕ) → n < 2 ^ 8 → numeral_within 255 (decimal n) ≡ Some n
 numeral8 n small = within_again 255 n (decimal n) (numeral_again n (omega (arith, small))) (omega (arith, small))
 
-actor_is : (a : Actor) (rest : List ℕ) → FitsActor a → IsParted rest → actor_at (word (actor_word a) ++ rest) ≡ Some (a, rest)
-unfolding actor_at actor_word
+actor_is : (a : Actor) (rest : List ℕ) → FitsActor a → IsParted rest → actor_in_text (word (actor_word a) ++ rest) ≡ Some (a, rest)
+unfolding actor_in_text actor_word
 actor_is (Controller c) rest fits parted = rw (word_again (99 ∷ decimal c) rest (behind_letter 99 c refl fits) parted, numeral8 c fits) refl
 actor_is (Switch s) rest fits parted = rw (word_again (115 ∷ decimal s) rest (behind_letter 115 s refl fits) parted, numeral8 s fits) refl
 
-pub actor : Again actor_at (λ a. word (actor_word a)) FitsActor IsParted
+pub actor : Again actor_in_text (λ a. word (actor_word a)) FitsActor IsParted
 actor = record { again = actor_is }
 
-controller_is : (c : ℕ) (rest : List ℕ) → c < 2 ^ 8 → IsParted rest → controller_at (word (actor_word (Controller c)) ++ rest) ≡ Some (c, rest)
-unfolding controller_at
+controller_is : (c : ℕ) (rest : List ℕ) → c < 2 ^ 8 → IsParted rest → controller_in_text (word (actor_word (Controller c)) ++ rest) ≡ Some (c, rest)
+unfolding controller_in_text
 controller_is c rest fits parted = rw (actor_is (Controller c) rest fits parted) refl
 
-pub controller : Again controller_at (λ c. word (actor_word (Controller c))) (λ c. c < 2 ^ 8) IsParted
+pub controller : Again controller_in_text (λ c. word (actor_word (Controller c))) (λ c. c < 2 ^ 8) IsParted
 controller = record { again = controller_is }
 
 -- ---- flags
@@ -59,12 +59,12 @@ one_word : (c : ℕ) → ends_word c ≡ false → IsWord (c ∷ [])
 one_word c is zero less = is
 one_word c is (suc i) less = absurd (omega (arith, less))
 
-flag_is : (b : Bool) (rest : List ℕ) → Any b → IsParted rest → flag_at (word (flag b) ++ rest) ≡ Some (b, rest)
-unfolding flag_at flag
+flag_is : (b : Bool) (rest : List ℕ) → Any b → IsParted rest → flag_in_text (word (flag b) ++ rest) ≡ Some (b, rest)
+unfolding flag_in_text flag
 flag_is true rest fits parted = rw (word_again (49 ∷ []) rest (one_word 49 refl) parted) refl
 flag_is false rest fits parted = rw (word_again (48 ∷ []) rest (one_word 48 refl) parted) refl
 
-pub is_flag : Again flag_at (λ b. word (flag b)) Any IsParted
+pub is_flag : Again flag_in_text (λ b. word (flag b)) Any IsParted
 is_flag = record { again = flag_is }
 
 -- ---- a dash
@@ -114,34 +114,34 @@ decimal_no_dash n small =
     let some = decimal_nonempty n small in
     (some, digit_is_not (get_or (decimal n) 0 0) 45 (first_digit (decimal n) (decimal_digits n small) some) (omega arith))
 
-number_no_dash : (n : ℕ) → n < 2 ^ 64 → NoDash (number n)
-unfolding number
+number_no_dash : (n : ℕ) → n < 2 ^ 64 → NoDash (number_text n)
+unfolding number_text
 number_no_dash n small = decimal_no_dash n small
 
 actor_no_dash : (c : ℕ) → NoDash (actor_word (Controller c))
 unfolding actor_word
 actor_no_dash c = (omega arith, refl)
 
-pub number64_or_dash : Again (dash_or number64_at) (λ x. word (or_dash number x)) (λ x. IfSome x (λ n. n < 2 ^ 64)) IsParted
-number64_or_dash = or_dashed number64_at number (λ n. n < 2 ^ 64) number64 (λ n small. number_no_dash n small)
+pub number64_or_dash : Again (dash_or number64_at) (λ x. word (or_dash number_text x)) (λ x. IfSome x (λ n. n < 2 ^ 64)) IsParted
+number64_or_dash = or_dashed number64_at number_text (λ n. n < 2 ^ 64) number64 (λ n small. number_no_dash n small)
 
-pub number16_or_dash : Again (dash_or number16_at) (λ x. word (or_dash number x)) (λ x. IfSome x (λ n. n < 2 ^ 16)) IsParted
-number16_or_dash = or_dashed number16_at number (λ n. n < 2 ^ 16) number16 (λ n small. number_no_dash n (omega (arith, small)))
+pub number16_or_dash : Again (dash_or number16_at) (λ x. word (or_dash number_text x)) (λ x. IfSome x (λ n. n < 2 ^ 16)) IsParted
+number16_or_dash = or_dashed number16_at number_text (λ n. n < 2 ^ 16) number16 (λ n small. number_no_dash n (omega (arith, small)))
 
-pub controller_or_dash : Again (dash_or controller_at) (λ x. word (or_dash (λ c. actor_word (Controller c)) x)) (λ x. IfSome x (λ c. c < 2 ^ 8)) IsParted
-controller_or_dash = or_dashed controller_at (λ c. actor_word (Controller c)) (λ c. c < 2 ^ 8) controller (λ c small. actor_no_dash c)
+pub controller_or_dash : Again (dash_or controller_in_text) (λ x. word (or_dash (λ c. actor_word (Controller c)) x)) (λ x. IfSome x (λ c. c < 2 ^ 8)) IsParted
+controller_or_dash = or_dashed controller_in_text (λ c. actor_word (Controller c)) (λ c. c < 2 ^ 8) controller (λ c small. actor_no_dash c)
 
 -- ---- a number behind its name
 
-labelled_is : (name : List ℕ) (n : ℕ) (rest : List ℕ) → n < 2 ^ 64 → IsParted rest → labelled_at name (labelled name (number n) ++ rest) ≡ Some (n, rest)
+labelled_is : (name : List ℕ) (n : ℕ) (rest : List ℕ) → n < 2 ^ 64 → IsParted rest → labelled_at name (labelled name (number_text n) ++ rest) ≡ Some (n, rest)
 unfolding labelled_at labelled
 labelled_is name n rest fits parted =
-    let regrouped : (word name ++ word (number n)) ++ rest ≡ word name ++ (word (number n) ++ rest) = append_assoc (word name) (word (number n)) rest in
-    rw (regrouped, known_again name (word (number n) ++ rest)) (number64.again n rest fits parted)
+    let regrouped : (word name ++ word (number_text n)) ++ rest ≡ word name ++ (word (number_text n) ++ rest) = append_assoc (word name) (word (number_text n)) rest in
+    rw (regrouped, known_again name (word (number_text n) ++ rest)) (number64.again n rest fits parted)
 
 -- a number behind its name, and what is read behind it
 pub labelled_then : {R : Type 0} (name : List ℕ) (n : ℕ) (rest : List ℕ) (more : ℕ × List ℕ → Option R) (y : Option R) → n < 2 ^ 64 → IsParted rest → more (n, rest) ≡ y →
-    (labelled_at name (labelled name (number n) ++ rest) >>= more) ≡ y
+    (labelled_at name (labelled name (number_text n) ++ rest) >>= more) ≡ y
 labelled_then name n rest more y fits parted e = rw (labelled_is name n rest fits parted) e
 
 pub parted_label : (name text rest : List ℕ) → IsParted (labelled name text ++ rest)
@@ -162,7 +162,7 @@ unfolding byte_of
 byte_again b small =
     rw (digit_again (b / 16) (omega arith), digit_again (b % 16) (omega arith)) (ap (λ (n : ℕ). Some n) (omega arith))
 
-digits_again : (bytes : List ℕ) → AreBytes bytes → digits_of (hex_of bytes) ≡ Some bytes
+digits_again : (bytes : List ℕ) → AreOctets bytes → digits_of (hex_of bytes) ≡ Some bytes
 unfolding digits_of
 digits_again [] are = refl
 digits_again (b ∷ bytes) are = rw (byte_again b (are 0), digits_again bytes (λ i. are (suc i))) refl
@@ -186,13 +186,13 @@ hex_word (b ∷ bytes) (suc (suc i)) less = hex_word bytes i (omega (arith, less
 not_dash : (d : ℕ) → 48 ≤ d → (d == 45) ≡ false
 not_dash d low = not_same d 45 (λ same. absurd (omega (arith, low, same)))
 
-hex_is : (bytes rest : List ℕ) → AreBytes bytes → IsParted rest → hex_at (word (hex bytes) ++ rest) ≡ Some (bytes, rest)
+hex_is : (bytes rest : List ℕ) → AreOctets bytes → IsParted rest → hex_at (word (hex bytes) ++ rest) ≡ Some (bytes, rest)
 unfolding hex_at hex hex_bytes
 hex_is [] rest are parted = rw (word_again (45 ∷ []) rest (one_word 45 refl) parted) refl
 hex_is (b ∷ bytes) rest are parted =
     rw (word_again (hex_of (b ∷ bytes)) rest (hex_word (b ∷ bytes)) parted, not_dash (hex_digit (b / 16)) (digit_above (b / 16)), digits_again (b ∷ bytes) are) refl
 
-pub hexed : Again hex_at (λ bytes. word (hex bytes)) AreBytes IsParted
+pub hexed : Again hex_at (λ bytes. word (hex bytes)) AreOctets IsParted
 hexed = record { again = hex_is }
 
 -- ---- addresses

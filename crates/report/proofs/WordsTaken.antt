@@ -9,9 +9,9 @@ use Rattle.numerals.specs.Numerals.{numeral_within}
 use Rattle.numerals.proofs.Decimal.{numeral_spells}
 use Rattle.journal.specs.declared.journal.Actor.{Actor}
 use Rattle.journal.specs.declared.journal.Actor.TheVariants.{Controller, Switch}
-use Rattle.report.specs.Records.{AreBytes, FitsActor}
-use Rattle.report.specs.Report.{word, number, labelled, actor_word, flag, address_word, hex, hex_of, hex_digit}
-use Rattle.report.specs.Spelled.{◌>>=◌, after_at, word_at, number8_at, number16_at, number32_at, number64_at, labelled_at, actor_of, actor_at, controller_of, controller_at, dash_or, flag_of, flag_at, is_dot, cut_at, length_before, dotted_at, address_of, address_at, digit_of, byte_of, digits_of, hex_bytes, hex_at}
+use Rattle.report.specs.Records.{AreOctets, FitsActor}
+use Rattle.report.specs.Report.{word, number_text, labelled, actor_word, flag, address_word, hex, hex_of, hex_digit}
+use Rattle.report.specs.Spelled.{◌>>=◌, after_at, word_at, number8_at, number16_at, number32_at, number64_at, labelled_at, actor_spelled, actor_in_text, controller_spelled, controller_in_text, dash_or, flag_of, flag_in_text, is_dot, cut_at, length_before, dotted_at, address_of, address_at, digit_of, byte_of, digits_of, hex_bytes, hex_at}
 use Rattle.report.proofs.Readers.{Any}
 use Rattle.report.proofs.WordsAgain.{or_dash, four_dotted, address_parts}
 use Rattle.report.proofs.Takers.{then, branches, both_found, found_as, Takes, Spelt, took, took_known}
@@ -27,16 +27,16 @@ spelt P of bytes x rest e holds =
 
 -- ---- numbers
 
-pub number8_takes : Takes number8_at (λ n. word (number n)) (λ n. n < 2 ^ 8)
+pub number8_takes : Takes number8_at (λ n. word (number_text n)) (λ n. n < 2 ^ 8)
 number8_takes = record { takes = λ bytes n rest e. let t = number_takes 255 bytes n rest (omega arith) e in (t.0, omega (arith, t.1)) }
 
-pub number16_takes : Takes number16_at (λ n. word (number n)) (λ n. n < 2 ^ 16)
+pub number16_takes : Takes number16_at (λ n. word (number_text n)) (λ n. n < 2 ^ 16)
 number16_takes = record { takes = λ bytes n rest e. let t = number_takes 65535 bytes n rest (omega arith) e in (t.0, omega (arith, t.1)) }
 
-pub number32_takes : Takes number32_at (λ n. word (number n)) (λ n. n < 2 ^ 32)
+pub number32_takes : Takes number32_at (λ n. word (number_text n)) (λ n. n < 2 ^ 32)
 number32_takes = record { takes = λ bytes n rest e. let t = number_takes 4294967295 bytes n rest (omega arith) e in (t.0, omega (arith, t.1)) }
 
-pub number64_takes : Takes number64_at (λ n. word (number n)) (λ n. n < 2 ^ 64)
+pub number64_takes : Takes number64_at (λ n. word (number_text n)) (λ n. n < 2 ^ 64)
 number64_takes = record { takes = λ bytes n rest e. let t = number_takes 18446744073709551615 bytes n rest (omega arith) e in (t.0, omega (arith, t.1)) }
 
 -- a numeral of one byte
@@ -58,7 +58,7 @@ lettered letter n digits a is e =
     (λ s e. subst (λ a. (letter ∷ digits ≡ actor_word a) × FitsActor a) (some_is (Switch n) a e) (rw (eqb-true letter 115 s, t.0) refl, t.1))
     (λ _ e. absurd cc))
 
-actor_text : (text : List ℕ) (a : Actor) → actor_of text ≡ Some a → (text ≡ actor_word a) × FitsActor a
+actor_text : (text : List ℕ) (a : Actor) → actor_spelled text ≡ Some a → (text ≡ actor_word a) × FitsActor a
 actor_text [] a e = absurd cc
 actor_text (letter ∷ digits) a e = then (numeral_within 255 digits) _ _ e (λ n is e. lettered letter n digits a is e)
 
@@ -70,27 +70,27 @@ by_word of text IsFit laws bytes x rest e =
     let v_is = laws t v found in
     (is ∙ ap (λ t. word t ++ end) v_is.0, v_is.1))
 
-actor_is : (bytes : List ℕ) (a : Actor) (rest : List ℕ) → actor_at bytes ≡ Some (a, rest) → Spelt (λ a. word (actor_word a)) FitsActor bytes a rest
-unfolding actor_at
-actor_is bytes a rest e = by_word actor_of actor_word FitsActor actor_text bytes a rest e
+actor_is : (bytes : List ℕ) (a : Actor) (rest : List ℕ) → actor_in_text bytes ≡ Some (a, rest) → Spelt (λ a. word (actor_word a)) FitsActor bytes a rest
+unfolding actor_in_text
+actor_is bytes a rest e = by_word actor_spelled actor_word FitsActor actor_text bytes a rest e
 
-pub actor_takes : Takes actor_at (λ a. word (actor_word a)) FitsActor
+pub actor_takes : Takes actor_in_text (λ a. word (actor_word a)) FitsActor
 actor_takes = record { takes = actor_is }
 
 -- a controller
-as_controller : (a : Actor) (c : ℕ) → controller_of a ≡ Some c → a ≡ Controller c
+as_controller : (a : Actor) (c : ℕ) → controller_spelled a ≡ Some c → a ≡ Controller c
 as_controller (Controller d) c e = ap (λ n. Controller n) (some_is d c e)
 as_controller (Switch s) c e = absurd cc
 
-controller_is : (bytes : List ℕ) (c : ℕ) (rest : List ℕ) → controller_at bytes ≡ Some (c, rest) → Spelt (λ c. word (actor_word (Controller c))) (λ c. c < 2 ^ 8) bytes c rest
-unfolding controller_at
+controller_is : (bytes : List ℕ) (c : ℕ) (rest : List ℕ) → controller_in_text bytes ≡ Some (c, rest) → Spelt (λ c. word (actor_word (Controller c))) (λ c. c < 2 ^ 8) bytes c rest
+unfolding controller_in_text
 controller_is bytes c rest e =
     took actor_takes bytes _ _ e (λ a end is fits e.
-    then (controller_of a) _ _ e (λ d named e.
+    then (controller_spelled a) _ _ e (λ d named e.
     let same = as_controller a d named in
     both_found (Spelt (λ c. word (actor_word (Controller c))) (λ c. c < 2 ^ 8) bytes) d c end rest e (is ∙ ap (λ a. word (actor_word a) ++ end) same, subst FitsActor same fits)))
 
-pub controller_takes : Takes controller_at (λ c. word (actor_word (Controller c))) (λ c. c < 2 ^ 8)
+pub controller_takes : Takes controller_in_text (λ c. word (actor_word (Controller c))) (λ c. c < 2 ^ 8)
 controller_takes = record { takes = controller_is }
 
 -- ---- flags
@@ -109,11 +109,11 @@ flag_text (d ∷ []) b e =
     set_is a b e = ap flag e
 flag_text (d ∷ c ∷ text) b e = absurd cc
 
-flag_is : (bytes : List ℕ) (b : Bool) (rest : List ℕ) → flag_at bytes ≡ Some (b, rest) → Spelt (λ b. word (flag b)) Any bytes b rest
-unfolding flag_at
+flag_is : (bytes : List ℕ) (b : Bool) (rest : List ℕ) → flag_in_text bytes ≡ Some (b, rest) → Spelt (λ b. word (flag b)) Any bytes b rest
+unfolding flag_in_text
 flag_is bytes b rest e = by_word flag_of flag Any flag_text bytes b rest e
 
-pub flag_takes : Takes flag_at (λ b. word (flag b)) Any
+pub flag_takes : Takes flag_in_text (λ b. word (flag b)) Any
 flag_takes = record { takes = flag_is }
 
 -- ---- a dash
@@ -126,25 +126,25 @@ dash_takes {read = read} text IsFit laws bytes x rest e =
     (λ dashed e. both_found (Spelt (λ x. word (or_dash text x)) (λ x. IfSome x IsFit) bytes) None x (drop 2 bytes) rest e (begins_is (codes " -") bytes dashed, tt))
     (λ _ e. took laws bytes _ _ e (λ v end is fits e. both_found (Spelt (λ x. word (or_dash text x)) (λ x. IfSome x IsFit) bytes) (Some v) x end rest e (is, fits)))
 
-pub number64_or_dash_takes : Takes (dash_or number64_at) (λ x. word (or_dash number x)) (λ x. IfSome x (λ n. n < 2 ^ 64))
-number64_or_dash_takes = record { takes = dash_takes number (λ n. n < 2 ^ 64) number64_takes }
+pub number64_or_dash_takes : Takes (dash_or number64_at) (λ x. word (or_dash number_text x)) (λ x. IfSome x (λ n. n < 2 ^ 64))
+number64_or_dash_takes = record { takes = dash_takes number_text (λ n. n < 2 ^ 64) number64_takes }
 
-pub number16_or_dash_takes : Takes (dash_or number16_at) (λ x. word (or_dash number x)) (λ x. IfSome x (λ n. n < 2 ^ 16))
-number16_or_dash_takes = record { takes = dash_takes number (λ n. n < 2 ^ 16) number16_takes }
+pub number16_or_dash_takes : Takes (dash_or number16_at) (λ x. word (or_dash number_text x)) (λ x. IfSome x (λ n. n < 2 ^ 16))
+number16_or_dash_takes = record { takes = dash_takes number_text (λ n. n < 2 ^ 16) number16_takes }
 
-pub controller_or_dash_takes : Takes (dash_or controller_at) (λ x. word (or_dash (λ c. actor_word (Controller c)) x)) (λ x. IfSome x (λ c. c < 2 ^ 8))
+pub controller_or_dash_takes : Takes (dash_or controller_in_text) (λ x. word (or_dash (λ c. actor_word (Controller c)) x)) (λ x. IfSome x (λ c. c < 2 ^ 8))
 controller_or_dash_takes = record { takes = dash_takes (λ c. actor_word (Controller c)) (λ c. c < 2 ^ 8) controller_takes }
 
 -- ---- a number behind its name
 
-labelled_is : (name bytes : List ℕ) (n : ℕ) (rest : List ℕ) → labelled_at name bytes ≡ Some (n, rest) → Spelt (λ n. labelled name (number n)) (λ n. n < 2 ^ 64) bytes n rest
+labelled_is : (name bytes : List ℕ) (n : ℕ) (rest : List ℕ) → labelled_at name bytes ≡ Some (n, rest) → Spelt (λ n. labelled name (number_text n)) (λ n. n < 2 ^ 64) bytes n rest
 unfolding labelled_at labelled
 labelled_is name bytes n rest e =
     took_known name bytes _ _ e (λ behind is e.
     let t = number64_takes.takes behind n rest e in
-    (is ∙ ap (λ l. word name ++ l) t.0 ∙ sym (append_assoc (word name) (word (number n)) rest), t.1))
+    (is ∙ ap (λ l. word name ++ l) t.0 ∙ sym (append_assoc (word name) (word (number_text n)) rest), t.1))
 
-pub labelled_takes : (name : List ℕ) → Takes (labelled_at name) (λ n. labelled name (number n)) (λ n. n < 2 ^ 64)
+pub labelled_takes : (name : List ℕ) → Takes (labelled_at name) (λ n. labelled name (number_text n)) (λ n. n < 2 ^ 64)
 labelled_takes name = record { takes = labelled_is name }
 
 -- ---- bytes in base sixteen
@@ -185,33 +185,33 @@ byte_text high low b e =
     let rest : l ≡ b % 16 = omega (arith, same, l_small) in
     (high_is.0 ∙ ap (λ (n : ℕ). hex_digit n) quotient, low_is.0 ∙ ap (λ (n : ℕ). hex_digit n) rest, omega (arith, same, h_small, l_small))))
 
-one_byte : (b : ℕ) (bytes : List ℕ) → b < 256 → AreBytes bytes → AreBytes (b ∷ bytes)
+one_byte : (b : ℕ) (bytes : List ℕ) → b < 256 → AreOctets bytes → AreOctets (b ∷ bytes)
 one_byte b bytes small are zero = small
 one_byte b bytes small are (suc i) = are i
 
-digits_text : (text bytes : List ℕ) → digits_of text ≡ Some bytes → (text ≡ hex_of bytes) × AreBytes bytes
+digits_text : (text bytes : List ℕ) → digits_of text ≡ Some bytes → (text ≡ hex_of bytes) × AreOctets bytes
 unfolding digits_of
-digits_text [] bytes e = subst (λ bytes. ([] ≡ hex_of bytes) × AreBytes bytes) (some_is [] bytes e) (refl, λ i. omega arith)
+digits_text [] bytes e = subst (λ bytes. ([] ≡ hex_of bytes) × AreOctets bytes) (some_is [] bytes e) (refl, λ i. omega arith)
 digits_text (d ∷ []) bytes e = absurd cc
 digits_text (high ∷ low ∷ digits) bytes e =
     then (byte_of high low) _ _ e (λ b is_b e.
     then (digits_of digits) _ _ e (λ others is_others e.
     let one = byte_text high low b is_b in
     let more = digits_text digits others is_others in
-    subst (λ bytes. (high ∷ low ∷ digits ≡ hex_of bytes) × AreBytes bytes) (some_is (b ∷ others) bytes e) (rw (one.0, one.1, more.0) refl, one_byte b others one.2 more.1)))
+    subst (λ bytes. (high ∷ low ∷ digits ≡ hex_of bytes) × AreOctets bytes) (some_is (b ∷ others) bytes e) (rw (one.0, one.1, more.0) refl, one_byte b others one.2 more.1)))
 
 same_hex : (d : ℕ) (digits bytes : List ℕ) → d ∷ digits ≡ hex_of bytes → d ∷ digits ≡ hex bytes
 unfolding hex
 same_hex d digits [] e = absurd cc
 same_hex d digits (b ∷ bytes) e = e
 
-hex_text : (text bytes : List ℕ) → hex_bytes text ≡ Some bytes → (text ≡ hex bytes) × AreBytes bytes
+hex_text : (text bytes : List ℕ) → hex_bytes text ≡ Some bytes → (text ≡ hex bytes) × AreOctets bytes
 unfolding hex_bytes hex
 hex_text [] bytes e = absurd cc
 hex_text (d ∷ digits) bytes e =
     branches (d == 45) _ _ _ e
     (λ dash e. branches (length digits == 0) _ _ _ e
-    (λ none e. subst (λ bytes. (d ∷ digits ≡ hex bytes) × AreBytes bytes) (some_is [] bytes e) (no_bytes digits (eqb-true d 45 dash) (eqb-true (length digits) 0 none), λ i. omega arith))
+    (λ none e. subst (λ bytes. (d ∷ digits ≡ hex bytes) × AreOctets bytes) (some_is [] bytes e) (no_bytes digits (eqb-true d 45 dash) (eqb-true (length digits) 0 none), λ i. omega arith))
     (λ _ e. absurd cc))
     (λ _ e. let t = digits_text (d ∷ digits) bytes e in (same_hex d digits bytes t.0, t.1))
   where
@@ -219,11 +219,11 @@ hex_text (d ∷ digits) bytes e =
     no_bytes [] dash none = rw (hex, dash) refl
     no_bytes (c ∷ digits) dash none = absurd (omega (arith, none))
 
-hex_is : (bytes told rest : List ℕ) → hex_at bytes ≡ Some (told, rest) → Spelt (λ told. word (hex told)) AreBytes bytes told rest
+hex_is : (bytes told rest : List ℕ) → hex_at bytes ≡ Some (told, rest) → Spelt (λ told. word (hex told)) AreOctets bytes told rest
 unfolding hex_at
-hex_is bytes told rest e = by_word hex_bytes hex AreBytes hex_text bytes told rest e
+hex_is bytes told rest e = by_word hex_bytes hex AreOctets hex_text bytes told rest e
 
-pub hex_takes : Takes hex_at (λ told. word (hex told)) AreBytes
+pub hex_takes : Takes hex_at (λ told. word (hex told)) AreOctets
 hex_takes = record { takes = hex_is }
 
 -- ---- addresses

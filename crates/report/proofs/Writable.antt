@@ -21,8 +21,8 @@ use Rattle.vr_log.specs.Sizes.{IsValidEntry}
 use Rattle.report.specs.declared.record.Record.{Record}
 use Rattle.report.specs.declared.record.Shown.{Shown}
 use Rattle.report.specs.declared.record.Told.{Told}
-use Rattle.report.specs.Fits.{FitsEntry, FitsMessage, FitsEvent, FitsLogEntry, FitsExecuted, FitsShown, FitsTold, FitsRecord}
-use Rattle.report.specs.Records.{IsToldEntry, IsTellable, IsToldEvent, IsLogEntry, IsToldExecuted, IsShown, IsEventOf, IsToldSwitch, AreTold, IsRecord}
+use Rattle.report.specs.Fits.{FitsEntry, FitsOfMessage, FitsEvent, FitsLogEntry, FitsExecuted, FitsShown, FitsTold, FitsRecord}
+use Rattle.report.specs.Records.{IsToldEntry, IsTellable, IsToldEvent, IsLogEntry, IsToldExecuted, IsShown, IsEventOf, IsToldSwitch, AreToldSwitches, IsRecord}
 use Rattle.report.specs.Writable.{HasLine, IsWritableEvent, IsWritableExecuted, IsWritableRow, IsWritableTold, AreWritable, IsWritable}
 use Rattle.report.proofs.Bytes.{bare_match_bytes, actions_bytes, message_bytes}
 
@@ -43,15 +43,15 @@ told_entry (entry.Refused a) f line = line
 
 -- ---- messages
 
-tellable : (m : OfMessage) → IsValidPlain m → plain_size m ≤ 65535 → FitsMessage m → IsTellable m
+tellable : (m : OfMessage) → IsValidPlain m → plain_size m ≤ 65535 → FitsOfMessage m → IsTellable m
 tellable m v short f = record { spelled = message_spelled 0 m v f.numbers short (lit< tt); bytes = message_bytes 0 m f.bytes }
 
-happening_tellable : (what : Happening) → IsValidHappening what → happening_size what ≤ 65535 → FitsMessage (happening_message what) → IsTellable (happening_message what)
+happening_tellable : (what : Happening) → IsValidHappening what → happening_size what ≤ 65535 → FitsOfMessage (happening_message what) → IsTellable (happening_message what)
 happening_tellable (happening.PacketIn p) v short f = tellable (happening_message (happening.PacketIn p)) tt short f
 happening_tellable (happening.FlowRemoved r) v short f = tellable (happening_message (happening.FlowRemoved r)) v short f
 happening_tellable (happening.PortStatus p) v short f = tellable (happening_message (happening.PortStatus p)) tt short f
 
-order_tellable : (what : Order) → IsValidOrder what → order_size what ≤ 65535 → FitsMessage (order_message what) → IsTellable (order_message what)
+order_tellable : (what : Order) → IsValidOrder what → order_size what ≤ 65535 → FitsOfMessage (order_message what) → IsTellable (order_message what)
 order_tellable (order.FlowMod c) v short f = tellable (order_message (order.FlowMod c)) v short f
 order_tellable (order.PacketOut p) v short f = tellable (order_message (order.PacketOut p)) tt short f
 
@@ -92,7 +92,7 @@ told switch t f s = record {
   rows = both_all FitsShown IsWritableRow IsShown shown t.rows f.rows s.rows;
 }
 
-all_told : (switch : ℕ) (switches : List Told) → AllByRecursion FitsTold switches → AreWritable switch switches → AreTold switch switches
+all_told : (switch : ℕ) (switches : List Told) → AllByRecursion FitsTold switches → AreWritable switch switches → AreToldSwitches switch switches
 all_told switch [] f s = tt
 all_told switch (t ∷ switches) (f, fs) (s, ss) = (told switch t f s, all_told (switch + 1) switches fs ss)
 

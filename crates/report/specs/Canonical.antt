@@ -33,36 +33,36 @@ happening_of bytes = do
   what ← happening_in message
   if_written canonical_happening bytes what
 
-unfoldable pub happening_at : List ℕ → Option (Happening × List ℕ)
-happening_at bytes = do
+unfoldable pub happening_in_text : List ℕ → Option (Happening × List ℕ)
+happening_in_text bytes = do
   told ← hex_at bytes
   what ← happening_of told.0
   Some (what, told.1)
 
-abbrev pub order_in : OfMessage → Option Order
-order_in (plain.FlowMod change) = Some (order.FlowMod change)
-order_in (plain.PacketOut packet) = Some (order.PacketOut packet)
-order_in _ = None
+abbrev pub canonical_order_in : OfMessage → Option Order
+canonical_order_in (plain.FlowMod change) = Some (order.FlowMod change)
+canonical_order_in (plain.PacketOut packet) = Some (order.PacketOut packet)
+canonical_order_in _ = None
 
 unfoldable pub order_of : List ℕ → Option Order
 order_of bytes = do
   message ← result_ok (message_at bytes)
-  what ← order_in message
+  what ← canonical_order_in message
   if_written canonical_order bytes what
 
-unfoldable pub order_at : List ℕ → Option (Order × List ℕ)
-order_at bytes = do
+unfoldable pub order_in_text : List ℕ → Option (Order × List ℕ)
+order_in_text bytes = do
   told ← hex_at bytes
   what ← order_of told.0
   Some (what, told.1)
 
 -- bytes with zeros up to a multiple of eight
-unfoldable pub padded : List ℕ → List ℕ
-padded bare = bare ++ replicate ((8 - length bare % 8) % 8) 0
+unfoldable pub padded_text : List ℕ → List ℕ
+padded_text bare = bare ++ replicate ((8 - length bare % 8) % 8) 0
 
 unfoldable pub matching_of : List ℕ → Option Match
 matching_of bare = do
-  found ← result_ok (match_at (padded bare))
+  found ← result_ok (match_at (padded_text bare))
   if_written canonical_bare_match bare found.0
 
 -- a match without its padding
@@ -73,19 +73,19 @@ matching_at bytes = do
   Some (m, told.1)
 
 -- the ports of so many outputs of sixteen bytes
-abbrev pub ports_of : ℕ → List ℕ → List ℕ
-ports_of zero bytes = []
-ports_of (suc n) bytes = number 4 4 bytes ∷ ports_of n (drop 16 bytes)
+abbrev pub output_ports_of : ℕ → List ℕ → List ℕ
+output_ports_of zero bytes = []
+output_ports_of (suc n) bytes = number 4 4 bytes ∷ output_ports_of n (drop 16 bytes)
 
 unfoldable pub most_actions : ℕ
 most_actions = 4095
 
 unfoldable pub actions_in : List ℕ → Option (List ℕ)
 actions_in bytes =
-    if nat_le (length bytes) (16 * most_actions) then if_written actions_of bytes (ports_of (length bytes / 16) bytes) else None
+    if nat_le (length bytes) (16 * most_actions) then if_written actions_of bytes (output_ports_of (length bytes / 16) bytes) else None
 
-unfoldable pub actions_at : List ℕ → Option (List ℕ × List ℕ)
-actions_at bytes = do
+unfoldable pub actions_told : List ℕ → Option (List ℕ × List ℕ)
+actions_told bytes = do
   told ← hex_at bytes
   ports ← actions_in told.0
   Some (ports, told.1)

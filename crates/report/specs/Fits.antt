@@ -12,7 +12,7 @@ use Rattle.journal.specs.declared.journal.JournalEntry.{JournalEntry}
 use Rattle.journal.specs.declared.journal.JournalEntry.TheVariants as entry
 use Rattle.vr_log.specs.declared.entry.Entry.{Entry}
 use Rattle.vr_log.specs.declared.entry.Entry.TheVariants.{Received, Processed}
-use Rattle.report.specs.Records.{AreBytes, FitsRule, FitsActor, FitsLetter, FitsInput}
+use Rattle.report.specs.Records.{AreOctets, FitsRule, FitsActor, FitsLetter, FitsInput}
 use Rattle.report.specs.declared.record.Record.{Record}
 use Rattle.report.specs.declared.record.Shown.{Shown}
 use Rattle.report.specs.declared.record.Told.{Told}
@@ -36,15 +36,15 @@ carried (plain.PacketIn p) = p.payload
 carried (plain.PacketOut p) = p.payload
 carried _ = []
 
-pub record FitsMessage (m : OfMessage) : Type 0 where
+pub record FitsOfMessage (m : OfMessage) : Type 0 where
   pub numbers : FitsPlain m
-  pub bytes : AreBytes (carried m)
+  pub bytes : AreOctets (carried m)
 
 pub record FitsEvent (e : Event) : Type 0 where
   pub switch : e.switch < 2 ^ 8
   pub life : e.life < 2 ^ 32
   pub number : e.number < 2 ^ 64
-  pub what : FitsMessage (happening_message e.what)
+  pub what : FitsOfMessage (happening_message e.what)
 
 abbrev pub FitsLogEntry : Entry → Type 0
 FitsLogEntry (Received e) = FitsEvent e
@@ -55,7 +55,7 @@ pub record FitsExecuted (x : Executed) : Type 0 where
   pub number : x.number < 2 ^ 64
   pub generation : x.generation < 2 ^ 64
   pub from : x.from < 2 ^ 8
-  pub order : FitsMessage (order_message x.order)
+  pub order : FitsOfMessage (order_message x.order)
 
 pub record FitsShown (r : Shown) : Type 0 where
   pub priority : r.priority < 2 ^ 16

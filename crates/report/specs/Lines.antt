@@ -8,14 +8,14 @@ use Rattle.report.specs.declared.fault.Broken.{Broken}
 use Rattle.report.specs.declared.fault.Broken.TheVariants as broken
 
 -- what is read is this error; want of memory says nothing
-abbrev pub StopsAt : {Y : Type 0} → Broken → Result Y ℕ → Type 0
-StopsAt (broken.Line left) read = read ≡ Err left
-StopsAt broken.OutOfMemory read = Unit {0}
+abbrev pub LineStopsAt : {Y : Type 0} → Broken → Result Y ℕ → Type 0
+LineStopsAt (broken.Line left) read = read ≡ Err left
+LineStopsAt broken.OutOfMemory read = Unit {0}
 
 -- what a reader answered, seen by view, is what is read
 abbrev pub GivesLines : {X Y : Type 0} → (X → Y) → Result X Broken → Result Y ℕ → Type 0
 GivesLines view (Ok x) read = read ≡ Ok (view x)
-GivesLines view (Err e) read = StopsAt e read
+GivesLines view (Err e) read = LineStopsAt e read
 
 -- what a reader of one line answered, as a reader of lines from these bytes on answers it
 abbrev pub IsOnLine : {X : Type 0} → List ℕ → Result X Misfit → Result X Broken → Type 0

@@ -18,8 +18,8 @@ use Rattle.vr_log.specs.declared.entry.Entry.TheVariants.{Received, Processed}
 use Rattle.report.specs.declared.journal_lines.PostLine.{PostLine}
 use Rattle.report.specs.declared.record.Shown.{Shown}
 use Rattle.report.specs.declared.switch_lines.SwitchLine.{SwitchLine}
-use Rattle.report.specs.Canonical.{happening_at, order_at, matching_at, actions_at}
-use Rattle.report.specs.Spelled.{◌>>=◌, after_at, end_at, known_at, word_at, number8_at, number16_at, number32_at, number64_at, labelled_at, actor_at, controller_at, dash_or, flag_at, address_at, hex_at}
+use Rattle.report.specs.Canonical.{happening_in_text, order_in_text, matching_at, actions_told}
+use Rattle.report.specs.Spelled.{◌>>=◌, after_at, end_at, known_at, word_at, number8_at, number16_at, number32_at, number64_at, labelled_at, actor_in_text, controller_in_text, dash_or, flag_in_text, address_at, hex_at}
 use Rattle.wires.specs.Wires.{is_taken}
 
 -- bytes begin with a text
@@ -38,21 +38,21 @@ counts_at bytes = do
   if is_group controllers.0 && nat_le 1 switches.0 && nat_le switches.0 64 then Some ((controllers.0, switches.0), rest) else None
 
 -- how many ports a switch has
-unfoldable pub ports_at : ℕ → List ℕ → Option (ℕ × List ℕ)
-ports_at switch bytes = do
+unfoldable pub ports_in_text : ℕ → List ℕ → Option (ℕ × List ℕ)
+ports_in_text switch bytes = do
   rest ← after_at (codes "ports") bytes
   named ← number64_at rest
   count ← number32_at named.1
   rest ← end_at count.1
   if named.0 == switch && nat_le 1 count.0 && nat_le count.0 48 then Some (count.0, rest) else None
 
-abbrev pub is_port : List ℕ → ℕ → ℕ → Bool
-is_port ports switch port = nat_lt switch (length ports) && nat_le 1 port && nat_le port (slice_index ports switch)
+abbrev pub is_port_number : List ℕ → ℕ → ℕ → Bool
+is_port_number ports switch port = nat_lt switch (length ports) && nat_le 1 port && nat_le port (slice_index ports switch)
 
 -- a wire may stand behind these
-abbrev pub may_join : List ℕ → List Link → Link → Bool
-may_join ports before l =
-    is_port ports l.switch l.port && is_port ports l.peer l.peer_port
+abbrev pub may_join_line : List ℕ → List Link → Link → Bool
+may_join_line ports before l =
+    is_port_number ports l.switch l.port && is_port_number ports l.peer l.peer_port
     && not (l.switch == l.peer && l.port == l.peer_port) && not (is_taken l.switch l.port before) && not (is_taken l.peer l.peer_port before)
 
 unfoldable pub link_words_at : List ℕ → Option (Link × List ℕ)
@@ -65,14 +65,14 @@ link_words_at bytes = do
   rest ← end_at peer_port.1
   Some (record { switch = switch.0; port = port.0; peer = peer.0; peer_port = peer_port.0 }, rest)
 
-unfoldable pub link_at : List ℕ → List Link → List ℕ → Option (Link × List ℕ)
-link_at ports before bytes = do
+unfoldable pub link_in_text : List ℕ → List Link → List ℕ → Option (Link × List ℕ)
+link_in_text ports before bytes = do
   link ← link_words_at bytes
-  if may_join ports before link.0 then Some link else None
+  if may_join_line ports before link.0 then Some link else None
 
 -- addresses and their length, with no one bit past it
-unfoldable pub prefix_at : List ℕ → Option (Prefix × List ℕ)
-prefix_at bytes = do
+unfoldable pub prefix_in_text : List ℕ → Option (Prefix × List ℕ)
+prefix_in_text bytes = do
   address ← address_at bytes
   len ← number8_at address.1
   if nat_le len.0 32 && address.0 % 2 ^ (32 - len.0) == 0 then Some (record { address = address.0; length = len.0 }, len.1) else None
@@ -81,8 +81,8 @@ unfoldable pub rule_words_at : List ℕ → Option (Rule × List ℕ)
 rule_words_at bytes = do
   rest ← after_at (codes "deny") bytes
   proto ← number8_at rest
-  src ← prefix_at proto.1
-  dst ← prefix_at src.1
+  src ← prefix_in_text proto.1
+  dst ← prefix_in_text src.1
   port ← dash_or number16_at dst.1
   rest ← end_at port.1
   Some (record { proto = proto.0; src = src.0; dst = dst.0; port = port.0 }, rest)
@@ -102,7 +102,7 @@ rule_at bytes = do
 unfoldable pub letter_at : List ℕ → Option (Letter (List ℕ) × List ℕ)
 letter_at bytes = do
   rest ← after_at (codes "letter") bytes
-  to ← actor_at rest
+  to ← actor_in_text rest
   body ← hex_at to.1
   rest ← end_at body.1
   Some (record { to = to.0; body = body.0 }, rest)
@@ -111,7 +111,7 @@ letter_at bytes = do
 unfoldable pub post_line_at : List ℕ → Option (PostLine × List ℕ)
 post_line_at bytes = do
   rest ← after_at (codes "post") bytes
-  actor ← actor_at rest
+  actor ← actor_in_text rest
   first ← number64_at actor.1
   count ← number64_at first.1
   lost ← number64_at count.1
@@ -121,16 +121,16 @@ post_line_at bytes = do
 unfoldable pub draw_at : List ℕ → Option (JournalEntry (List ℕ) × List ℕ)
 draw_at bytes = do
   rest ← after_at (codes "draw") bytes
-  actor ← actor_at rest
+  actor ← actor_in_text rest
   id ← number64_at actor.1
-  keep ← flag_at id.1
+  keep ← flag_in_text id.1
   rest ← end_at keep.1
   Some (entry.Draw actor.0 id.0 keep.0, rest)
 
 unfoldable pub lose_at : List ℕ → Option (JournalEntry (List ℕ) × List ℕ)
 lose_at bytes = do
   rest ← after_at (codes "lose") bytes
-  actor ← actor_at rest
+  actor ← actor_in_text rest
   id ← number64_at actor.1
   rest ← end_at id.1
   Some (entry.Lose actor.0 id.0, rest)
@@ -138,12 +138,12 @@ lose_at bytes = do
 unfoldable pub idle_at : List ℕ → Option (JournalEntry (List ℕ) × List ℕ)
 idle_at bytes = do
   rest ← after_at (codes "idle") bytes
-  actor ← actor_at rest
+  actor ← actor_in_text rest
   rest ← end_at actor.1
   Some (entry.Idle actor.0, rest)
 
-unfoldable pub frame_at : List ℕ → Option (Local × List ℕ)
-frame_at bytes = do
+unfoldable pub frame_in_text : List ℕ → Option (Local × List ℕ)
+frame_in_text bytes = do
   rest ← known_at (codes "frame") bytes
   port ← number32_at rest
   told ← hex_at port.1
@@ -153,7 +153,7 @@ unfoldable pub port_at : List ℕ → Option (Local × List ℕ)
 port_at bytes = do
   rest ← known_at (codes "port") bytes
   port ← number32_at rest
-  up ← flag_at port.1
+  up ← flag_in_text port.1
   Some (local.Port port.0 up.0, up.1)
 
 unfoldable pub suspect_at : List ℕ → Option (Local × List ℕ)
@@ -170,7 +170,7 @@ bare_at name input bytes = do
 
 unfoldable pub input_at : List ℕ → Option (Local × List ℕ)
 input_at bytes =
-    if begins (codes " frame") bytes then frame_at bytes
+    if begins (codes " frame") bytes then frame_in_text bytes
     else if begins (codes " port") bytes then port_at bytes
     else if begins (codes " suspect") bytes then suspect_at bytes
     else if begins (codes " tick") bytes then bare_at (codes "tick") local.Tick bytes
@@ -180,7 +180,7 @@ input_at bytes =
 unfoldable pub local_at : List ℕ → Option (JournalEntry (List ℕ) × List ℕ)
 local_at bytes = do
   rest ← after_at (codes "local") bytes
-  actor ← actor_at rest
+  actor ← actor_in_text rest
   input ← input_at actor.1
   rest ← end_at input.1
   Some (entry.Local actor.0 input.0, rest)
@@ -201,25 +201,25 @@ event_words_at bytes = do
   switch ← number8_at bytes
   life ← number32_at switch.1
   number ← number64_at life.1
-  what ← happening_at number.1
+  what ← happening_in_text number.1
   rest ← end_at what.1
   Some (record { switch = switch.0; life = life.0; number = number.0; what = what.0 }, rest)
 
-unfoldable pub received_at : List ℕ → Option (Entry × List ℕ)
-received_at bytes = do
+unfoldable pub received_in_text : List ℕ → Option (Entry × List ℕ)
+received_in_text bytes = do
   rest ← after_at (codes "received") bytes
   event ← event_words_at rest
   Some (Received event.0, event.1)
 
-unfoldable pub processed_at : List ℕ → Option (Entry × List ℕ)
-processed_at bytes = do
+unfoldable pub processed_in_text : List ℕ → Option (Entry × List ℕ)
+processed_in_text bytes = do
   rest ← after_at (codes "processed") bytes
   place ← number64_at rest
   rest ← end_at place.1
   Some (Processed place.0, rest)
 
 unfoldable pub log_entry_at : List ℕ → Option (Entry × List ℕ)
-log_entry_at bytes = if begins (codes "received") bytes then received_at bytes else processed_at bytes
+log_entry_at bytes = if begins (codes "received") bytes then received_in_text bytes else processed_in_text bytes
 
 -- how many entries there are, and the numeral of their bytes
 unfoldable pub log_line_at : List ℕ → Option ((ℕ × List ℕ) × List ℕ)
@@ -243,7 +243,7 @@ role_words_at bytes = do
   rest ← known_at (codes "generation") bytes
   generation ← dash_or number64_at rest
   rest ← known_at (codes "master") generation.1
-  master ← dash_or controller_at rest
+  master ← dash_or controller_in_text rest
   rest ← known_at (codes "life") master.1
   life ← number32_at rest
   Some ((generation.0, master.0, life.0), life.1)
@@ -267,8 +267,8 @@ switch_line_at switch bytes = do
   role ← role_words_at rest
   switch_counts_at role.0 role.1
 
-unfoldable pub event_at : ℕ → List ℕ → Option (Event × List ℕ)
-event_at switch bytes = do
+unfoldable pub event_in_text : ℕ → List ℕ → Option (Event × List ℕ)
+event_in_text switch bytes = do
   rest ← after_at (codes "event") bytes
   event ← event_words_at rest
   if event.0.switch == switch then Some event else None
@@ -279,8 +279,8 @@ executed_words_at bytes = do
   life ← number32_at bytes
   number ← number64_at life.1
   generation ← number64_at number.1
-  from ← controller_at generation.1
-  order ← order_at from.1
+  from ← controller_in_text generation.1
+  order ← order_in_text from.1
   rest ← end_at order.1
   Some (record { life = life.0; number = number.0; generation = generation.0; from = from.0; order = order.0 }, rest)
 
@@ -296,7 +296,7 @@ row_at switch bytes = do
   rest ← of_at switch rest
   priority ← number16_at rest
   matching ← matching_at priority.1
-  actions ← actions_at matching.1
+  actions ← actions_told matching.1
   rest ← end_at actions.1
   Some (record { priority = priority.0; matching = matching.0; actions = actions.0 }, rest)
 

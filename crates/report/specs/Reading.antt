@@ -14,20 +14,20 @@ use Rattle.report.specs.declared.fault.ReportFault.TheVariants as fault
 use Rattle.report.specs.declared.record.Record.{Record}
 use Rattle.report.specs.declared.record.Told.{Told}
 use Rattle.report.specs.Lines.{line_at, each_at, while_at}
-use Rattle.report.specs.OneLine.{begins, counts_at, ports_at, link_at, rule_at, letter_at, post_line_at, short_entry_at, log_line_at, log_entry_at, switch_line_at, event_at, executed_at, row_at, first_line_at, last_line_at}
-use Rattle.report.specs.Report.{number, sum_words}
+use Rattle.report.specs.OneLine.{begins, counts_at, ports_in_text, link_in_text, rule_at, letter_at, post_line_at, short_entry_at, log_line_at, log_entry_at, switch_line_at, event_in_text, executed_at, row_at, first_line_at, last_line_at}
+use Rattle.report.specs.Report.{number_text, sum_words}
 
 -- the ports of so many switches, from this one on
 unfoldable pub port_counts_at : ℕ → ℕ → List ℕ → Result (List ℕ × List ℕ) ℕ
 port_counts_at zero switch bytes = Ok ([], bytes)
 port_counts_at (suc n) switch bytes = do
-  first ← line_at bytes (ports_at switch bytes)
+  first ← line_at bytes (ports_in_text switch bytes)
   others ← port_counts_at n (switch + 1) first.1
   Ok (first.0 ∷ others.0, others.1)
 
 -- at most 1,024 wires
 unfoldable pub links_at : List ℕ → List ℕ → Result (List Link × List ℕ) ℕ
-links_at ports bytes = while_at (begins (codes "link")) (λ before rest. line_at rest (link_at ports before rest)) 1024 [] bytes
+links_at ports bytes = while_at (begins (codes "link")) (λ before rest. line_at rest (link_in_text ports before rest)) 1024 [] bytes
 
 -- at most 16 rules
 unfoldable pub rules_at : List ℕ → Result (List Rule × List ℕ) ℕ
@@ -47,24 +47,24 @@ post_at bytes = do
   letters ← each_at letter_at line.0.count line.1
   Ok (entry.Post line.0.actor line.0.first letters.0 line.0.lost, letters.1)
 
-unfoldable pub entry_at : List ℕ → Result (JournalEntry (List ℕ) × List ℕ) ℕ
-entry_at bytes = if begins (codes "post") bytes then post_at bytes else line_at bytes (short_entry_at bytes)
+unfoldable pub journal_entry_at : List ℕ → Result (JournalEntry (List ℕ) × List ℕ) ℕ
+journal_entry_at bytes = if begins (codes "post") bytes then post_at bytes else line_at bytes (short_entry_at bytes)
 
 -- the entries up to the line of the log
 unfoldable pub journal_at : List ℕ → Result (List (JournalEntry (List ℕ)) × List ℕ) ℕ
-journal_at bytes = while_at (λ rest. not (begins (codes "log") rest)) (λ _ rest. entry_at rest) (length bytes) [] bytes
+journal_at bytes = while_at (λ rest. not (begins (codes "log") rest)) (λ _ rest. journal_entry_at rest) (length bytes) [] bytes
 
 -- the log. Its own line fails where it tells another number of bytes
-unfoldable pub log_at : List ℕ → Result (List Entry × List ℕ) ℕ
-log_at bytes = do
+unfoldable pub log_in_text : List ℕ → Result (List Entry × List ℕ) ℕ
+log_in_text bytes = do
   line ← line_at bytes (log_line_at bytes)
   entries ← each_at log_entry_at line.0.0 line.1
-  if same_numbers (number (log_size entries.0)) line.0.1 then Ok entries else Err (length bytes)
+  if same_numbers (number_text (log_size entries.0)) line.0.1 then Ok entries else Err (length bytes)
 
-unfoldable pub told_at : ℕ → List ℕ → Result (Told × List ℕ) ℕ
-told_at switch bytes = do
+unfoldable pub told_in_text : ℕ → List ℕ → Result (Told × List ℕ) ℕ
+told_in_text switch bytes = do
   line ← line_at bytes (switch_line_at switch bytes)
-  events ← each_at (event_at switch) line.0.events line.1
+  events ← each_at (event_in_text switch) line.0.events line.1
   executed ← each_at (executed_at switch) line.0.executed events.1
   rows ← each_at (row_at switch) line.0.rows executed.1
   Ok (
@@ -85,7 +85,7 @@ told_at switch bytes = do
 unfoldable pub switches_at : ℕ → ℕ → List ℕ → Result (List Told × List ℕ) ℕ
 switches_at zero switch bytes = Ok ([], bytes)
 switches_at (suc n) switch bytes = do
-  first ← told_at switch bytes
+  first ← told_in_text switch bytes
   others ← switches_at n (switch + 1) first.1
   Ok (first.0 ∷ others.0, others.1)
 
@@ -93,12 +93,12 @@ switches_at (suc n) switch bytes = do
 unfoldable pub history_at : List ℕ → Result ((List (JournalEntry (List ℕ)) × List Entry) × List ℕ) ℕ
 history_at bytes = do
   journal ← journal_at bytes
-  log ← log_at journal.1
+  log ← log_in_text journal.1
   Ok ((journal.0, log.0), log.1)
 
 -- so many switches behind a log of so many entries, and the turns of the script and of the closing
-unfoldable pub outcome_at : ℕ → ℕ → List ℕ → Result ((List Told × (ℕ × ℕ)) × List ℕ) ℕ
-outcome_at count entries bytes = do
+unfoldable pub outcome_in_text : ℕ → ℕ → List ℕ → Result ((List Told × (ℕ × ℕ)) × List ℕ) ℕ
+outcome_in_text count entries bytes = do
   switches ← switches_at count 0 bytes
   turns ← line_at switches.1 (last_line_at (sum_words entries switches.0) switches.1)
   Ok ((switches.0, turns.0), turns.1)
@@ -108,7 +108,7 @@ record_at bytes = do
   rest ← line_at bytes (first_line_at bytes)
   setup ← setup_at rest
   history ← history_at setup.1
-  outcome ← outcome_at (length setup.0.ports) (length history.0.1) history.1
+  outcome ← outcome_in_text (length setup.0.ports) (length history.0.1) history.1
   Ok (record { setup = setup.0; journal = history.0.0; log = history.0.1; switches = outcome.0.0; script = outcome.0.1.0; closing = outcome.0.1.1 }, outcome.1)
 
 -- the number, from 1 on, of the line with which so many bytes are left

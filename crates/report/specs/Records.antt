@@ -26,8 +26,12 @@ use Rattle.report.specs.declared.record.Record.{Record}
 use Rattle.report.specs.declared.record.Shown.{Shown}
 use Rattle.report.specs.declared.record.Told.{Told}
 
-abbrev pub AreBytes : List ℕ → Type 0
-AreBytes bytes = (i : ℕ) → get_or bytes i 0 < 256
+-- an entry of a journal of bytes
+abbrev pub ByteEntry : Type 0
+ByteEntry = JournalEntry (List ℕ)
+
+abbrev pub AreOctets : List ℕ → Type 0
+AreOctets bytes = (i : ℕ) → get_or bytes i 0 < 256
 
 -- ---- the setup
 
@@ -45,10 +49,10 @@ FitsActor (Switch s) = s < 2 ^ 8
 
 pub record FitsLetter (l : Letter (List ℕ)) : Type 0 where
   pub to : FitsActor l.to
-  pub body : AreBytes l.body
+  pub body : AreOctets l.body
 
 abbrev pub FitsInput : Local → Type 0
-FitsInput (local.Frame port bytes) = (port < 2 ^ 32) × AreBytes bytes
+FitsInput (local.Frame port bytes) = (port < 2 ^ 32) × AreOctets bytes
 FitsInput (local.Port port up) = port < 2 ^ 32
 FitsInput (local.Suspect view) = view < 2 ^ 32
 FitsInput _ = Unit {0}
@@ -68,17 +72,17 @@ IsToldEntry (entry.Refused a) = ⊥
 -- a message that its written form spells
 pub record IsTellable (m : OfMessage) : Type 0 where
   pub spelled : Spells (canonical 0 m) 0 m
-  pub bytes : AreBytes (canonical 0 m)
+  pub bytes : AreOctets (canonical 0 m)
 
 pub record IsMatch (m : Match) : Type 0 where
   pub spelled : IsSpelled (canonical_match m) m
-  pub bytes : AreBytes (canonical_bare_match m)
+  pub bytes : AreOctets (canonical_bare_match m)
 
 -- the ports of actions that one message can hold
 pub record AreOutputs (actions : List ℕ) : Type 0 where
   pub few : length actions ≤ 4095
   pub ports : FitPorts actions
-  pub bytes : AreBytes (actions_of actions)
+  pub bytes : AreOctets (actions_of actions)
 
 -- ---- the log and the switches
 
@@ -124,9 +128,9 @@ pub record IsToldSwitch (switch : ℕ) (t : Told) : Type 0 where
   pub rows : AllByRecursion IsShown t.rows
 
 -- the switches from this one on
-abbrev pub AreTold : ℕ → List Told → Type 0
-AreTold switch [] = Unit {0}
-AreTold switch (t ∷ switches) = IsToldSwitch switch t × AreTold (switch + 1) switches
+abbrev pub AreToldSwitches : ℕ → List Told → Type 0
+AreToldSwitches switch [] = Unit {0}
+AreToldSwitches switch (t ∷ switches) = IsToldSwitch switch t × AreToldSwitches (switch + 1) switches
 
 pub record IsRecord (r : Record) : Type 0 where
   pub setup : IsSetup r.setup
@@ -135,6 +139,6 @@ pub record IsRecord (r : Record) : Type 0 where
   pub few_entries : length r.log < 2 ^ 64
   pub log : AllByRecursion IsLogEntry r.log
   pub switches : length r.switches ≡ length r.setup.ports
-  pub told : AreTold 0 r.switches
+  pub told : AreToldSwitches 0 r.switches
   pub script : r.script < 2 ^ 64
   pub closing_is : r.closing < 2 ^ 64

@@ -37,8 +37,8 @@ hex [] = codes "-"
 hex (b ∷ bytes) = hex_of (b ∷ bytes)
 
 -- a number as a word
-unfoldable pub number : ℕ → List ℕ
-number n = decimal n
+unfoldable pub number_text : ℕ → List ℕ
+number_text n = decimal n
 
 -- a word behind a space, and the end of a line
 unfoldable pub word : List ℕ → List ℕ
@@ -79,19 +79,19 @@ address_word a =
 
 -- the setup
 unfoldable pub port_line : ℕ → ℕ → List ℕ
-port_line s count = line (codes "ports") (number s ∷ number count ∷ [])
+port_line s count = line (codes "ports") (number_text s ∷ number_text count ∷ [])
 
 unfoldable pub port_lines : ℕ → List ℕ → List ℕ
 port_lines s [] = []
 port_lines s (count ∷ counts) = port_line s count ++ port_lines (s + 1) counts
 
 abbrev pub link_line : Link → List ℕ
-link_line l = line (codes "link") (number l.switch ∷ number l.port ∷ number l.peer ∷ number l.peer_port ∷ [])
+link_line l = line (codes "link") (number_text l.switch ∷ number_text l.port ∷ number_text l.peer ∷ number_text l.peer_port ∷ [])
 
 abbrev pub deny_line : Rule → List ℕ
 deny_line r =
-    line (codes "deny") (number r.proto ∷ address_word r.src.address ∷ number r.src.length ∷ address_word r.dst.address
-    ∷ number r.dst.length ∷ number_or_dash r.port ∷ [])
+    line (codes "deny") (number_text r.proto ∷ address_word r.src.address ∷ number_text r.src.length ∷ address_word r.dst.address
+    ∷ number_text r.dst.length ∷ number_or_dash r.port ∷ [])
 
 -- the lines of each, one after another
 unfoldable pub lines_of : {A : Type 0} → (A → List ℕ) → List A → List ℕ
@@ -99,7 +99,7 @@ lines_of text [] = []
 lines_of text (x ∷ xs) = text x ++ lines_of text xs
 
 unfoldable pub setup_line : Setup → List ℕ
-setup_line setup = line (codes "setup") (number setup.controllers ∷ number (length setup.ports) ∷ [])
+setup_line setup = line (codes "setup") (number_text setup.controllers ∷ number_text (length setup.ports) ∷ [])
 
 unfoldable pub setup_lines : Setup → List ℕ
 setup_lines setup =
@@ -110,33 +110,33 @@ abbrev pub letter_line : Letter (List ℕ) → List ℕ
 letter_line l = line (codes "letter") (actor_word l.to ∷ hex l.body ∷ [])
 
 abbrev pub input_words : Local → List (List ℕ)
-input_words (local.Frame port bytes) = codes "frame" ∷ number port ∷ hex bytes ∷ []
-input_words (local.Port port up) = codes "port" ∷ number port ∷ flag up ∷ []
+input_words (local.Frame port bytes) = codes "frame" ∷ number_text port ∷ hex bytes ∷ []
+input_words (local.Port port up) = codes "port" ∷ number_text port ∷ flag up ∷ []
 input_words local.Tick = codes "tick" ∷ []
-input_words (local.Suspect view) = codes "suspect" ∷ number view ∷ []
+input_words (local.Suspect view) = codes "suspect" ∷ number_text view ∷ []
 input_words local.Crash = codes "crash" ∷ []
 input_words local.Restart = codes "restart" ∷ []
 
 abbrev pub entry_lines : JournalEntry (List ℕ) → List ℕ
 entry_lines (entry.Post a first letters lost) =
-    line (codes "post") (actor_word a ∷ number first ∷ number (length letters) ∷ number lost ∷ []) ++ lines_of letter_line letters
-entry_lines (entry.Draw a id keep) = line (codes "draw") (actor_word a ∷ number id ∷ flag keep ∷ [])
-entry_lines (entry.Lose a id) = line (codes "lose") (actor_word a ∷ number id ∷ [])
+    line (codes "post") (actor_word a ∷ number_text first ∷ number_text (length letters) ∷ number_text lost ∷ []) ++ lines_of letter_line letters
+entry_lines (entry.Draw a id keep) = line (codes "draw") (actor_word a ∷ number_text id ∷ flag keep ∷ [])
+entry_lines (entry.Lose a id) = line (codes "lose") (actor_word a ∷ number_text id ∷ [])
 entry_lines (entry.Local a input) = line (codes "local") (actor_word a ∷ input_words input)
 entry_lines (entry.Idle a) = line (codes "idle") (actor_word a ∷ [])
 entry_lines (entry.Refused a) = []
 
 -- an event: who had it and when, and the message that it tells
 abbrev pub event_words : Event → List (List ℕ)
-event_words e = number e.switch ∷ number e.life ∷ number e.number ∷ hex (canonical_happening e.what) ∷ []
+event_words e = number_text e.switch ∷ number_text e.life ∷ number_text e.number ∷ hex (canonical_happening e.what) ∷ []
 
 -- the committed log
 abbrev pub log_line : Entry → List ℕ
 log_line (Received e) = line (codes "received") (event_words e)
-log_line (Processed j) = line (codes "processed") (number j ∷ [])
+log_line (Processed j) = line (codes "processed") (number_text j ∷ [])
 
 unfoldable pub log_lines : List Entry → List ℕ
-log_lines log = line (codes "log") (number (length log) ∷ number (log_size log) ∷ []) ++ lines_of log_line log
+log_lines log = line (codes "log") (number_text (length log) ∷ number_text (log_size log) ∷ []) ++ lines_of log_line log
 
 -- a switch
 abbrev pub event_line : Event → List ℕ
@@ -144,11 +144,11 @@ event_line e = line (codes "event") (event_words e)
 
 abbrev pub executed_line : ℕ → Executed → List ℕ
 executed_line s x =
-    line (codes "executed") (number s ∷ number x.life ∷ number x.number ∷ number x.generation ∷ actor_word (Controller x.from)
+    line (codes "executed") (number_text s ∷ number_text x.life ∷ number_text x.number ∷ number_text x.generation ∷ actor_word (Controller x.from)
     ∷ hex (canonical_order x.order) ∷ [])
 
 abbrev pub row_line : ℕ → Shown → List ℕ
-row_line s r = line (codes "row") (number s ∷ number r.priority ∷ hex (canonical_bare_match r.matching) ∷ hex (actions_of r.actions) ∷ [])
+row_line s r = line (codes "row") (number_text s ∷ number_text r.priority ∷ hex (canonical_bare_match r.matching) ∷ hex (actions_of r.actions) ∷ [])
 
 -- a name, and what stands behind it
 unfoldable pub labelled : List ℕ → List ℕ → List ℕ
@@ -157,16 +157,16 @@ labelled name text = word name ++ word text
 unfoldable pub role_words : Told → List ℕ
 role_words t =
     labelled (codes "generation") (number_or_dash t.generation)
-    ++ (labelled (codes "master") (master_word t.master) ++ labelled (codes "life") (number t.life))
+    ++ (labelled (codes "master") (master_word t.master) ++ labelled (codes "life") (number_text t.life))
 
 unfoldable pub count_words : Told → List ℕ
 count_words t =
-    labelled (codes "events") (number (length t.events)) ++ (labelled (codes "held") (number t.held)
-    ++ (labelled (codes "executed") (number (length t.executed)) ++ (labelled (codes "rows") (number (length t.rows))
-    ++ labelled (codes "sent") (number t.sent))))
+    labelled (codes "events") (number_text (length t.events)) ++ (labelled (codes "held") (number_text t.held)
+    ++ (labelled (codes "executed") (number_text (length t.executed)) ++ (labelled (codes "rows") (number_text (length t.rows))
+    ++ labelled (codes "sent") (number_text t.sent))))
 
 unfoldable pub switch_line : ℕ → Told → List ℕ
-switch_line s t = codes "switch" ++ (word (number s) ++ (role_words t ++ (count_words t ++ newline)))
+switch_line s t = codes "switch" ++ (word (number_text s) ++ (role_words t ++ (count_words t ++ newline)))
 
 unfoldable pub told_lines : ℕ → Told → List ℕ
 told_lines s t =
@@ -179,8 +179,8 @@ switch_lines s (t ∷ switches) = told_lines s t ++ switch_lines (s + 1) switche
 -- how many events, entries of the log, executed commands and rows there are
 abbrev pub sums_words : ℕ → ℕ → ℕ → ℕ → List ℕ
 sums_words events entries executed rows =
-    labelled (codes "events") (number events) ++ (labelled (codes "log") (number entries)
-    ++ (labelled (codes "commands") (number executed) ++ labelled (codes "rows") (number rows)))
+    labelled (codes "events") (number_text events) ++ (labelled (codes "log") (number_text entries)
+    ++ (labelled (codes "commands") (number_text executed) ++ labelled (codes "rows") (number_text rows)))
 
 -- the same of the log and the switches
 unfoldable pub sum_words : ℕ → List Told → List ℕ
@@ -190,7 +190,7 @@ sum_words entries switches =
 -- the last line: the turns, and the sums over all switches
 unfoldable pub end_line : Record → List ℕ
 end_line r =
-    codes "end" ++ (labelled (codes "script") (number r.script) ++ (labelled (codes "closing") (number r.closing) ++ (sum_words (length r.log) r.switches ++ newline)))
+    codes "end" ++ (labelled (codes "script") (number_text r.script) ++ (labelled (codes "closing") (number_text r.closing) ++ (sum_words (length r.log) r.switches ++ newline)))
 
 -- the report
 unfoldable pub text : Record → List ℕ

@@ -15,10 +15,10 @@ abbrev pub ◌>>=◌ : {A B : Type 0} → Option A → (A → Option B) → Opti
 None >>= f = None
 
 -- what a reader answered, seen by view, is what is read; want of memory says nothing
-abbrev pub Gives : {X Y : Type 0} → (X → Y) → Result X Misfit → Option Y → Type 0
-Gives view (Ok x) read = read ≡ Some (view x)
-Gives view (Err misfit.Text) read = read ≡ None
-Gives view (Err misfit.OutOfMemory) read = Unit {0}
+abbrev pub GivesText : {X Y : Type 0} → (X → Y) → Result X Misfit → Option Y → Type 0
+GivesText view (Ok x) read = read ≡ Some (view x)
+GivesText view (Err misfit.Text) read = read ≡ None
+GivesText view (Err misfit.OutOfMemory) read = Unit {0}
 
 -- what comes behind a text
 unfoldable pub after_at : List ℕ → List ℕ → Option (List ℕ)
@@ -50,23 +50,23 @@ word_at bytes = do
   Some (cut_at ends_word text)
 
 -- a number of at most this
-unfoldable pub number_at : ℕ → List ℕ → Option (ℕ × List ℕ)
-number_at most bytes = do
+unfoldable pub number_in_text : ℕ → List ℕ → Option (ℕ × List ℕ)
+number_in_text most bytes = do
   word ← word_at bytes
   n ← numeral_within most word.0
   Some (n, word.1)
 
 abbrev pub number8_at : List ℕ → Option (ℕ × List ℕ)
-number8_at bytes = number_at 255 bytes
+number8_at bytes = number_in_text 255 bytes
 
 abbrev pub number16_at : List ℕ → Option (ℕ × List ℕ)
-number16_at bytes = number_at 65535 bytes
+number16_at bytes = number_in_text 65535 bytes
 
 abbrev pub number32_at : List ℕ → Option (ℕ × List ℕ)
-number32_at bytes = number_at 4294967295 bytes
+number32_at bytes = number_in_text 4294967295 bytes
 
 abbrev pub number64_at : List ℕ → Option (ℕ × List ℕ)
-number64_at bytes = number_at 18446744073709551615 bytes
+number64_at bytes = number_in_text 18446744073709551615 bytes
 
 -- a number behind its name
 unfoldable pub labelled_at : List ℕ → List ℕ → Option (ℕ × List ℕ)
@@ -74,26 +74,26 @@ labelled_at name bytes = do
   rest ← known_at name bytes
   number64_at rest
 
-abbrev pub actor_of : List ℕ → Option Actor
-actor_of [] = None
-actor_of (letter ∷ digits) = do
+abbrev pub actor_spelled : List ℕ → Option Actor
+actor_spelled [] = None
+actor_spelled (letter ∷ digits) = do
   n ← numeral_within 255 digits
   if letter == 99 then Some (Controller n) else if letter == 115 then Some (Switch n) else None
 
-unfoldable pub actor_at : List ℕ → Option (Actor × List ℕ)
-actor_at bytes = do
+unfoldable pub actor_in_text : List ℕ → Option (Actor × List ℕ)
+actor_in_text bytes = do
   word ← word_at bytes
-  actor ← actor_of word.0
+  actor ← actor_spelled word.0
   Some (actor, word.1)
 
-abbrev pub controller_of : Actor → Option ℕ
-controller_of (Controller c) = Some c
-controller_of (Switch s) = None
+abbrev pub controller_spelled : Actor → Option ℕ
+controller_spelled (Controller c) = Some c
+controller_spelled (Switch s) = None
 
-unfoldable pub controller_at : List ℕ → Option (ℕ × List ℕ)
-controller_at bytes = do
-  actor ← actor_at bytes
-  c ← controller_of actor.0
+unfoldable pub controller_in_text : List ℕ → Option (ℕ × List ℕ)
+controller_in_text bytes = do
+  actor ← actor_in_text bytes
+  c ← controller_spelled actor.0
   Some (c, actor.1)
 
 -- a word that is a dash, or what is read otherwise
@@ -107,8 +107,8 @@ flag_of (digit ∷ []) = if digit == 49 then Some true else if digit == 48 then 
 flag_of _ = None
 
 -- 1 or 0, for what is so and what is not
-unfoldable pub flag_at : List ℕ → Option (Bool × List ℕ)
-flag_at bytes = do
+unfoldable pub flag_in_text : List ℕ → Option (Bool × List ℕ)
+flag_in_text bytes = do
   word ← word_at bytes
   flag ← flag_of word.0
   Some (flag, word.1)
@@ -143,8 +143,8 @@ abbrev pub digit_of : ℕ → Option ℕ
 digit_of d =
     if nat_le 48 d && nat_le d 57 then Some (d - 48) else if nat_le 97 d && nat_le d 102 then Some (d - 87) else None
 
-abbrev pub is_digit : ℕ → Bool
-is_digit d = is_some (digit_of d)
+abbrev pub is_text_digit : ℕ → Bool
+is_text_digit d = is_some (digit_of d)
 
 unfoldable pub byte_of : ℕ → ℕ → Option ℕ
 byte_of high low = do

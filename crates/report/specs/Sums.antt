@@ -2,7 +2,7 @@
 use Rattle.std.specs.Prelude.{ℕ, List, ◌++◌, length, sum_by, codes}
 use Rattle.report.specs.declared.record.Record.{Record}
 use Rattle.report.specs.declared.sums.Sums.{Sums}
-use Rattle.report.specs.Report.{labelled, newline, number, sums_words}
+use Rattle.report.specs.Report.{labelled, newline, number_text, sums_words}
 
 -- the sums of a record
 abbrev pub sums_in : Record → Sums
@@ -18,5 +18,5 @@ sums_in r = record {
 -- the last line of each report with these sums
 unfoldable pub sums_line : Sums → List ℕ
 sums_line s =
-    codes "end" ++ (labelled (codes "script") (number s.script) ++ (labelled (codes "closing") (number s.closing)
+    codes "end" ++ (labelled (codes "script") (number_text s.script) ++ (labelled (codes "closing") (number_text s.closing)
     ++ (sums_words s.events s.entries s.executed s.rows ++ newline)))

@@ -4,7 +4,7 @@ ghost use Rattle.std.specs.Result.{result_ok};
 ghost use Rattle.of_match.specs.Reading.{match_at};
 ghost use Rattle.of_messages.specs.Reading.{message_at};
 ghost use Rattle.vr_log.specs.Same.{same_numbers};
-ghost use Rattle.report.specs.Spelled.{Gives};
+ghost use Rattle.report.specs.Spelled.{GivesText};
 ghost use Rattle.report.specs.Canonical as canonical;
 
 use crate::fault::Misfit;
@@ -40,7 +40,7 @@ trait Written: Drop {
 
 /// A value whose written form is these bytes.
 fn if_written<W: Written>(alloc: Global, told: W, bytes: &[u8]) -> Result<W, Misfit>
-    ensures { Gives (λ x. x) result (canonical.if_written W.written bytes.now told) }
+    ensures { GivesText (λ x. x) result (canonical.if_written W.written bytes.now told) }
 {
     let written = told.write(alloc)?;
     if are_equal(written.as_slice(), bytes) {
@@ -51,7 +51,7 @@ fn if_written<W: Written>(alloc: Global, told: W, bytes: &[u8]) -> Result<W, Mis
 }
 
 fn message(alloc: Global, bytes: &[u8]) -> Result<OfMessage, Misfit>
-    ensures { Gives (λ m. m) result (result_ok (message_at bytes.now)) }
+    ensures { GivesText (λ m. m) result (result_ok (message_at bytes.now)) }
 {
     match read_message(alloc, bytes) {
         Ok(message) => Ok(message),
@@ -86,7 +86,7 @@ impl Written for Happening {
 
 #[tactic(auto, unfolding(crate::specs::Canonical::happening_of))]
 fn happening_of(alloc: Global, bytes: &[u8]) -> Result<Happening, Misfit>
-    ensures { Gives (λ x. x) result (canonical.happening_of bytes.now) }
+    ensures { GivesText (λ x. x) result (canonical.happening_of bytes.now) }
 {
     let message = message(alloc, bytes)?;
     let Some(what) = happening_in(message) else {
@@ -96,9 +96,9 @@ fn happening_of(alloc: Global, bytes: &[u8]) -> Result<Happening, Misfit>
 }
 
 /// What an event tells.
-#[tactic(auto, unfolding(crate::specs::Canonical::happening_at))]
+#[tactic(auto, unfolding(crate::specs::Canonical::happening_in_text))]
 pub fn happening(alloc: Global, bytes: &[u8]) -> Result<(Happening, &[u8]), Misfit>
-    ensures { Gives (λ x. (x.0, x.1.now)) result (canonical.happening_at bytes.now) }
+    ensures { GivesText (λ x. (x.0, x.1.now)) result (canonical.happening_in_text bytes.now) }
 {
     let (told, rest) = hex(alloc, bytes)?;
     let what = happening_of(alloc, told.as_slice())?;
@@ -106,7 +106,7 @@ pub fn happening(alloc: Global, bytes: &[u8]) -> Result<(Happening, &[u8]), Misf
 }
 
 fn order_in(message: OfMessage) -> Option<Order>
-    ensures { result ≡ canonical.order_in message }
+    ensures { result ≡ canonical.canonical_order_in message }
 {
     match message {
         OfMessage::FlowMod(change) => Some(Order::FlowMod(change)),
@@ -130,7 +130,7 @@ impl Written for Order {
 
 #[tactic(auto, unfolding(crate::specs::Canonical::order_of))]
 fn order_of(alloc: Global, bytes: &[u8]) -> Result<Order, Misfit>
-    ensures { Gives (λ x. x) result (canonical.order_of bytes.now) }
+    ensures { GivesText (λ x. x) result (canonical.order_of bytes.now) }
 {
     let message = message(alloc, bytes)?;
     let Some(order) = order_in(message) else {
@@ -140,9 +140,9 @@ fn order_of(alloc: Global, bytes: &[u8]) -> Result<Order, Misfit>
 }
 
 /// What a command asks for.
-#[tactic(auto, unfolding(crate::specs::Canonical::order_at))]
+#[tactic(auto, unfolding(crate::specs::Canonical::order_in_text))]
 pub fn order(alloc: Global, bytes: &[u8]) -> Result<(Order, &[u8]), Misfit>
-    ensures { Gives (λ x. (x.0, x.1.now)) result (canonical.order_at bytes.now) }
+    ensures { GivesText (λ x. (x.0, x.1.now)) result (canonical.order_in_text bytes.now) }
 {
     let (told, rest) = hex(alloc, bytes)?;
     let order = order_of(alloc, told.as_slice())?;
@@ -150,9 +150,9 @@ pub fn order(alloc: Global, bytes: &[u8]) -> Result<(Order, &[u8]), Misfit>
 }
 
 /// Bytes with zeros up to a multiple of eight.
-#[tactic(auto, unfolding(crate::specs::Canonical::padded))]
+#[tactic(auto, unfolding(crate::specs::Canonical::padded_text))]
 fn padded(bare: &Octets) -> Result<Octets, AllocError>
-    ensures { IfOk result (λ bytes. bytes ≡ canonical.padded bare.now) }
+    ensures { IfOk result (λ bytes. bytes ≡ canonical.padded_text bare.now) }
 {
     let missing = (8 - bare.len() % 8) % 8;
     let mut bytes = bare.copy()?;
@@ -181,7 +181,7 @@ impl Written for Match {
 
 #[tactic(auto, unfolding(crate::specs::Canonical::matching_of))]
 fn matching_of(alloc: Global, bare: &Octets) -> Result<Match, Misfit>
-    ensures { Gives (λ x. x) result (canonical.matching_of bare.now) }
+    ensures { GivesText (λ x. x) result (canonical.matching_of bare.now) }
 {
     let bytes = padded(bare)?;
     let Some((matching, _)) = first_match(bytes.as_slice()) else {
@@ -193,7 +193,7 @@ fn matching_of(alloc: Global, bare: &Octets) -> Result<Match, Misfit>
 /// What a row matches, without padding.
 #[tactic(auto, unfolding(crate::specs::Canonical::matching_at))]
 pub fn matching(alloc: Global, bytes: &[u8]) -> Result<(Match, &[u8]), Misfit>
-    ensures { Gives (λ x. (x.0, x.1.now)) result (canonical.matching_at bytes.now) }
+    ensures { GivesText (λ x. (x.0, x.1.now)) result (canonical.matching_at bytes.now) }
 {
     let (told, rest) = hex(alloc, bytes)?;
     let matching = matching_of(alloc, &told)?;
@@ -203,7 +203,7 @@ pub fn matching(alloc: Global, bytes: &[u8]) -> Result<(Match, &[u8]), Misfit>
 /// The ports of so many outputs.
 fn ports_of(alloc: Global, count: usize, bytes: &[u8]) -> Result<Actions, AllocError>
     requires { OUTPUT_SIZE * count ≤ length bytes.now }
-    ensures { IfOk result (λ ports. ports ≡ canonical.ports_of count bytes.now) }
+    ensures { IfOk result (λ ports. ports ≡ canonical.output_ports_of count bytes.now) }
 {
     let mut ports = Actions::new(alloc);
     let mut rest = bytes;
@@ -227,7 +227,7 @@ impl Written for Actions {
 
 #[tactic(auto, unfolding(crate::specs::Canonical::actions_in, crate::specs::Canonical::most_actions))]
 fn actions_in(alloc: Global, bytes: &[u8]) -> Result<Actions, Misfit>
-    ensures { Gives (λ x. x) result (canonical.actions_in bytes.now) }
+    ensures { GivesText (λ x. x) result (canonical.actions_in bytes.now) }
 {
     if bytes.len() > OUTPUT_SIZE * MOST_ACTIONS {
         return Err(Misfit::Text);
@@ -237,9 +237,9 @@ fn actions_in(alloc: Global, bytes: &[u8]) -> Result<Actions, Misfit>
 }
 
 /// The actions of a row.
-#[tactic(auto, unfolding(crate::specs::Canonical::actions_at))]
+#[tactic(auto, unfolding(crate::specs::Canonical::actions_told))]
 pub fn actions(alloc: Global, bytes: &[u8]) -> Result<(Actions, &[u8]), Misfit>
-    ensures { Gives (λ x. (x.0, x.1.now)) result (canonical.actions_at bytes.now) }
+    ensures { GivesText (λ x. (x.0, x.1.now)) result (canonical.actions_told bytes.now) }
 {
     let (told, rest) = hex(alloc, bytes)?;
     let ports = actions_in(alloc, told.as_slice())?;

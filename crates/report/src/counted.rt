@@ -1,7 +1,7 @@
 //! Lines of which it is told how many follow.
 ghost use Rattle.std.specs.Prelude.{ℕ, List, Option};
 ghost use Rattle.report.specs.Lines.{GivesLines, each_at};
-ghost use Rattle.report.specs.Spelled.{Gives};
+ghost use Rattle.report.specs.Spelled.{GivesText};
 
 use crate::fault::{Broken, Misfit, on_line};
 use of_types::Items;
@@ -13,7 +13,7 @@ pub trait CountedLine: Drop {
 
     /// Reads the line at the front, which is of this switch where it names one, and gives what comes behind it.
     fn read_line(alloc: Global, switch: usize, bytes: &[u8]) -> Result<(Self, &[u8]), Misfit>
-        ensures { Gives (λ x. (x.0, x.1.now)) result (line_at switch bytes.now) };
+        ensures { GivesText (λ x. (x.0, x.1.now)) result (line_at switch bytes.now) };
 }
 
 /// Reads so many lines.

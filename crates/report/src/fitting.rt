@@ -4,8 +4,8 @@ ghost use Rattle.std.specs.Prelude.{◌<◌, ◌^◌, IfSome};
 ghost use Rattle.of_match.specs.Spelling.{Fits};
 ghost use Rattle.of_messages.specs.Fits.{FitPorts};
 ghost use Rattle.of_ravana.specs.Canonical.{happening_message, order_message};
-ghost use Rattle.report.specs.Fits.{FitsEntry, FitsMessage, FitsEvent, FitsLogEntry, FitsExecuted, FitsShown, FitsTold, FitsRecord};
-ghost use Rattle.report.specs.Records.{AreBytes, FitsRule, FitsActor, FitsLetter, FitsInput};
+ghost use Rattle.report.specs.Fits.{FitsEntry, FitsOfMessage, FitsEvent, FitsLogEntry, FitsExecuted, FitsShown, FitsTold, FitsRecord};
+ghost use Rattle.report.specs.Records.{AreOctets, FitsRule, FitsActor, FitsLetter, FitsInput};
 
 use crate::record::{Record, Shown, Told};
 use of_bytes::{u8_fits, u16_fits, u32_fits, u64_fits};
@@ -35,7 +35,7 @@ fn each_fits<F: Fitting>(items: &[F])
 }
 
 fn bytes_fit(bytes: &[u8])
-    ensures { AreBytes bytes.now }
+    ensures { AreOctets bytes.now }
 {
     let _first = bytes.first().copied();
 }
@@ -132,7 +132,7 @@ impl Fitting for JournalEntry<Octets> {
 }
 
 fn happening_fits(what: &Happening)
-    ensures { FitsMessage (happening_message what.now) }
+    ensures { FitsOfMessage (happening_message what.now) }
 {
     match what {
         Happening::PacketIn(packet) => {
@@ -145,7 +145,7 @@ fn happening_fits(what: &Happening)
 }
 
 fn order_fits(what: &Order)
-    ensures { FitsMessage (order_message what.now) }
+    ensures { FitsOfMessage (order_message what.now) }
 {
     match what {
         Order::FlowMod(change) => flow_mod_fits(change),

@@ -1,9 +1,9 @@
 //! The lines of a journal as they are read.
 ghost use Rattle.std.specs.Prelude.{◌≡◌};
 ghost use Rattle.report.specs.Lines.{GivesLines};
-ghost use Rattle.report.specs.OneLine.{post_line_at, draw_at, lose_at, idle_at, frame_at, port_at, suspect_at, bare_at, input_at, local_at, short_entry_at};
-ghost use Rattle.report.specs.Reading.{post_at, entry_at, journal_at};
-ghost use Rattle.report.specs.Spelled.{Gives};
+ghost use Rattle.report.specs.OneLine.{post_line_at, draw_at, lose_at, idle_at, frame_in_text, port_at, suspect_at, bare_at, input_at, local_at, short_entry_at};
+ghost use Rattle.report.specs.Reading.{post_at, journal_entry_at, journal_at};
+ghost use Rattle.report.specs.Spelled.{GivesText};
 
 use crate::counted::{CountedLine, read_each};
 use crate::fault::{Broken, Misfit, on_line};
@@ -41,7 +41,7 @@ struct PostLine {
 
 #[tactic(auto, unfolding(crate::specs::OneLine::post_line_at))]
 fn post_line(bytes: &[u8]) -> Result<(PostLine, &[u8]), Misfit>
-    ensures { Gives (λ x. (x.0, x.1.now)) result (post_line_at bytes.now) }
+    ensures { GivesText (λ x. (x.0, x.1.now)) result (post_line_at bytes.now) }
 {
     let rest = after(b"post", bytes)?;
     let (actor, rest) = actor(rest)?;
@@ -84,7 +84,7 @@ fn post(alloc: Global, bytes: &[u8]) -> Result<(JournalEntry<Octets>, &[u8]), Br
 
 #[tactic(auto, unfolding(crate::specs::OneLine::draw_at))]
 fn draw(bytes: &[u8]) -> Result<(JournalEntry<Octets>, &[u8]), Misfit>
-    ensures { Gives (λ x. (x.0, x.1.now)) result (draw_at bytes.now) }
+    ensures { GivesText (λ x. (x.0, x.1.now)) result (draw_at bytes.now) }
 {
     let rest = after(b"draw", bytes)?;
     let (actor, rest) = actor(rest)?;
@@ -95,7 +95,7 @@ fn draw(bytes: &[u8]) -> Result<(JournalEntry<Octets>, &[u8]), Misfit>
 
 #[tactic(auto, unfolding(crate::specs::OneLine::lose_at))]
 fn lose(bytes: &[u8]) -> Result<(JournalEntry<Octets>, &[u8]), Misfit>
-    ensures { Gives (λ x. (x.0, x.1.now)) result (lose_at bytes.now) }
+    ensures { GivesText (λ x. (x.0, x.1.now)) result (lose_at bytes.now) }
 {
     let rest = after(b"lose", bytes)?;
     let (actor, rest) = actor(rest)?;
@@ -105,16 +105,16 @@ fn lose(bytes: &[u8]) -> Result<(JournalEntry<Octets>, &[u8]), Misfit>
 
 #[tactic(auto, unfolding(crate::specs::OneLine::idle_at))]
 fn idle(bytes: &[u8]) -> Result<(JournalEntry<Octets>, &[u8]), Misfit>
-    ensures { Gives (λ x. (x.0, x.1.now)) result (idle_at bytes.now) }
+    ensures { GivesText (λ x. (x.0, x.1.now)) result (idle_at bytes.now) }
 {
     let rest = after(b"idle", bytes)?;
     let (actor, rest) = actor(rest)?;
     ended(JournalEntry::Idle { actor }, rest)
 }
 
-#[tactic(auto, unfolding(crate::specs::OneLine::frame_at))]
+#[tactic(auto, unfolding(crate::specs::OneLine::frame_in_text))]
 fn frame(alloc: Global, bytes: &[u8]) -> Result<(Local, &[u8]), Misfit>
-    ensures { Gives (λ x. (x.0, x.1.now)) result (frame_at bytes.now) }
+    ensures { GivesText (λ x. (x.0, x.1.now)) result (frame_in_text bytes.now) }
 {
     let rest = known(b"frame", bytes)?;
     let (port, rest) = number32(rest)?;
@@ -124,7 +124,7 @@ fn frame(alloc: Global, bytes: &[u8]) -> Result<(Local, &[u8]), Misfit>
 
 #[tactic(auto, unfolding(crate::specs::OneLine::port_at))]
 fn port(bytes: &[u8]) -> Result<(Local, &[u8]), Misfit>
-    ensures { Gives (λ x. (x.0, x.1.now)) result (port_at bytes.now) }
+    ensures { GivesText (λ x. (x.0, x.1.now)) result (port_at bytes.now) }
 {
     let rest = known(b"port", bytes)?;
     let (port, rest) = number32(rest)?;
@@ -134,7 +134,7 @@ fn port(bytes: &[u8]) -> Result<(Local, &[u8]), Misfit>
 
 #[tactic(auto, unfolding(crate::specs::OneLine::suspect_at))]
 fn suspect(bytes: &[u8]) -> Result<(Local, &[u8]), Misfit>
-    ensures { Gives (λ x. (x.0, x.1.now)) result (suspect_at bytes.now) }
+    ensures { GivesText (λ x. (x.0, x.1.now)) result (suspect_at bytes.now) }
 {
     let rest = known(b"suspect", bytes)?;
     let (view, rest) = number32(rest)?;
@@ -144,7 +144,7 @@ fn suspect(bytes: &[u8]) -> Result<(Local, &[u8]), Misfit>
 /// An input of one word.
 #[tactic(auto, unfolding(crate::specs::OneLine::bare_at))]
 fn bare<'a>(name: &[u8], input: Local, bytes: &'a [u8]) -> Result<(Local, &'a [u8]), Misfit>
-    ensures { Gives (λ x. (x.0, x.1.now)) result (bare_at name.now input bytes.now) }
+    ensures { GivesText (λ x. (x.0, x.1.now)) result (bare_at name.now input bytes.now) }
 {
     let rest = known(name, bytes)?;
     Ok((input, rest))
@@ -152,7 +152,7 @@ fn bare<'a>(name: &[u8], input: Local, bytes: &'a [u8]) -> Result<(Local, &'a [u
 
 #[tactic(auto, unfolding(crate::specs::OneLine::input_at))]
 fn input(alloc: Global, bytes: &[u8]) -> Result<(Local, &[u8]), Misfit>
-    ensures { Gives (λ x. (x.0, x.1.now)) result (input_at bytes.now) }
+    ensures { GivesText (λ x. (x.0, x.1.now)) result (input_at bytes.now) }
 {
     if bytes.starts_with(b" frame") {
         frame(alloc, bytes)
@@ -171,7 +171,7 @@ fn input(alloc: Global, bytes: &[u8]) -> Result<(Local, &[u8]), Misfit>
 
 #[tactic(auto, unfolding(crate::specs::OneLine::local_at))]
 fn local(alloc: Global, bytes: &[u8]) -> Result<(JournalEntry<Octets>, &[u8]), Misfit>
-    ensures { Gives (λ x. (x.0, x.1.now)) result (local_at bytes.now) }
+    ensures { GivesText (λ x. (x.0, x.1.now)) result (local_at bytes.now) }
 {
     let rest = after(b"local", bytes)?;
     let (actor, rest) = actor(rest)?;
@@ -182,7 +182,7 @@ fn local(alloc: Global, bytes: &[u8]) -> Result<(JournalEntry<Octets>, &[u8]), M
 /// An entry of one line.
 #[tactic(auto, unfolding(crate::specs::OneLine::short_entry_at))]
 fn short_entry(alloc: Global, bytes: &[u8]) -> Result<(JournalEntry<Octets>, &[u8]), Misfit>
-    ensures { Gives (λ x. (x.0, x.1.now)) result (short_entry_at bytes.now) }
+    ensures { GivesText (λ x. (x.0, x.1.now)) result (short_entry_at bytes.now) }
 {
     if bytes.starts_with(b"draw") {
         draw(bytes)
@@ -195,9 +195,9 @@ fn short_entry(alloc: Global, bytes: &[u8]) -> Result<(JournalEntry<Octets>, &[u
     }
 }
 
-#[tactic(auto, unfolding(crate::specs::Reading::entry_at))]
+#[tactic(auto, unfolding(crate::specs::Reading::journal_entry_at))]
 fn entry(alloc: Global, bytes: &[u8]) -> Result<(JournalEntry<Octets>, &[u8]), Broken>
-    ensures { GivesLines (λ x. (x.0, x.1.now)) result (entry_at bytes.now) }
+    ensures { GivesLines (λ x. (x.0, x.1.now)) result (journal_entry_at bytes.now) }
 {
     if bytes.starts_with(b"post") {
         post(alloc, bytes)

@@ -2,11 +2,11 @@
 ghost use Rattle.std.specs.Prelude.{◌≡◌, IfOk};
 ghost use Rattle.report.specs.Lines.{GivesLines, line_at};
 ghost use Rattle.report.specs.OneLine.{first_line_at, last_line_at};
-ghost use Rattle.report.specs.Reading.{history_at, outcome_at, record_at, line_number, IsReadAs};
+ghost use Rattle.report.specs.Reading.{history_at, outcome_in_text, record_at, line_number, IsReadAs};
 ghost use Rattle.report.specs.Records.{IsRecord};
 ghost use Rattle.report.specs.Report as report;
 ghost use Rattle.report.specs.Report.{text};
-ghost use Rattle.report.specs.Spelled.{Gives};
+ghost use Rattle.report.specs.Spelled.{GivesText};
 
 use crate::fault::{Broken, Misfit, ReportFault, on_line};
 use crate::journal_lines::journal;
@@ -26,7 +26,7 @@ pub const REPORT_LIMIT: usize = 268_435_456;
 
 #[tactic(auto, unfolding(crate::specs::OneLine::first_line_at))]
 fn first_line(bytes: &[u8]) -> Result<&[u8], Misfit>
-    ensures { Gives (λ x. x.now) result (first_line_at bytes.now) }
+    ensures { GivesText (λ x. x.now) result (first_line_at bytes.now) }
 {
     let rest = after(b"ravana report 1", bytes)?;
     end_of_line(rest)
@@ -35,7 +35,7 @@ fn first_line(bytes: &[u8]) -> Result<&[u8], Misfit>
 /// The turns of the script and of the closing. The line ends with these words.
 #[tactic(auto, unfolding(crate::specs::OneLine::last_line_at))]
 fn last_line<'a>(sums: &[u8], bytes: &'a [u8]) -> Result<((u64, u64), &'a [u8]), Misfit>
-    ensures { Gives (λ x. (x.0, x.1.now)) result (last_line_at sums.now bytes.now) }
+    ensures { GivesText (λ x. (x.0, x.1.now)) result (last_line_at sums.now bytes.now) }
 {
     let rest = after(b"end", bytes)?;
     let (script, rest) = labelled(b"script", rest)?;
@@ -77,14 +77,14 @@ fn history(alloc: Global, bytes: &[u8]) -> Result<((Journal<Octets>, Entries), &
 }
 
 /// So many switches, and the turns. The log has so many entries.
-#[tactic(auto, unfolding(crate::specs::Reading::outcome_at))]
+#[tactic(auto, unfolding(crate::specs::Reading::outcome_in_text))]
 fn outcome(
     alloc: Global,
     count: usize,
     entries: usize,
     bytes: &[u8],
 ) -> Result<((Items<Told>, (u64, u64)), &[u8]), Broken>
-    ensures { GivesLines (λ x. (x.0, x.1.now)) result (outcome_at count entries bytes.now) }
+    ensures { GivesLines (λ x. (x.0, x.1.now)) result (outcome_in_text count entries bytes.now) }
 {
     let (switches, rest) = switches(alloc, count, bytes)?;
     let (turns, rest) = turns(alloc, entries, switches.as_slice(), rest)?;

@@ -1,9 +1,9 @@
 //! The lines of a setup as they are read. One that is past a limit does not fit.
 ghost use Rattle.std.specs.Prelude.{◌≡◌};
 ghost use Rattle.report.specs.Lines.{GivesLines, line_at};
-ghost use Rattle.report.specs.OneLine.{counts_at, ports_at, is_port, may_join, link_words_at, link_at, prefix_at, rule_words_at, is_asked, rule_at};
+ghost use Rattle.report.specs.OneLine.{counts_at, ports_in_text, is_port_number, may_join_line, link_words_at, link_in_text, prefix_in_text, rule_words_at, is_asked, rule_at};
 ghost use Rattle.report.specs.Reading.{port_counts_at, links_at, rules_at, setup_at};
-ghost use Rattle.report.specs.Spelled.{Gives};
+ghost use Rattle.report.specs.Spelled.{GivesText};
 
 use crate::fault::{Broken, Misfit, on_line};
 use crate::spelled::{
@@ -28,7 +28,7 @@ const MOST_RULES: usize = 16;
 /// How many controllers and switches there are.
 #[tactic(auto, unfolding(crate::specs::OneLine::counts_at))]
 fn counts(bytes: &[u8]) -> Result<((u8, u64), &[u8]), Misfit>
-    ensures { Gives (λ x. (x.0, x.1.now)) result (counts_at bytes.now) }
+    ensures { GivesText (λ x. (x.0, x.1.now)) result (counts_at bytes.now) }
 {
     let rest = after(b"setup", bytes)?;
     let (controllers, rest) = number8(rest)?;
@@ -42,9 +42,9 @@ fn counts(bytes: &[u8]) -> Result<((u8, u64), &[u8]), Misfit>
 }
 
 /// How many ports a switch has.
-#[tactic(auto, unfolding(crate::specs::OneLine::ports_at))]
+#[tactic(auto, unfolding(crate::specs::OneLine::ports_in_text))]
 fn port_count(switch: u64, bytes: &[u8]) -> Result<(u32, &[u8]), Misfit>
-    ensures { Gives (λ x. (x.0, x.1.now)) result (ports_at switch bytes.now) }
+    ensures { GivesText (λ x. (x.0, x.1.now)) result (ports_in_text switch bytes.now) }
 {
     let rest = after(b"ports", bytes)?;
     let (named, rest) = number64(rest)?;
@@ -73,7 +73,7 @@ fn port_counts(alloc: Global, switches: u64, bytes: &[u8]) -> Result<(PortCounts
 
 /// Whether a switch has a port.
 fn is_port(ports: &[u32], switch: u8, port: u32) -> bool
-    ensures { result ≡ is_port ports.now switch port }
+    ensures { result ≡ is_port_number ports.now switch port }
 {
     match ports.get(usize::from(switch)) {
         Some(count) => (1..=*count).contains(&port),
@@ -83,7 +83,7 @@ fn is_port(ports: &[u32], switch: u8, port: u32) -> bool
 
 /// Whether a wire may stand behind these.
 fn may_join(ports: &[u32], before: &[Link], link: &Link) -> bool
-    ensures { result ≡ may_join ports.now before.now link.now }
+    ensures { result ≡ may_join_line ports.now before.now link.now }
 {
     is_port(ports, link.switch, link.port)
         && is_port(ports, link.peer, link.peer_port)
@@ -94,7 +94,7 @@ fn may_join(ports: &[u32], before: &[Link], link: &Link) -> bool
 
 #[tactic(auto, unfolding(crate::specs::OneLine::link_words_at))]
 fn link_words(bytes: &[u8]) -> Result<(Link, &[u8]), Misfit>
-    ensures { Gives (λ x. (x.0, x.1.now)) result (link_words_at bytes.now) }
+    ensures { GivesText (λ x. (x.0, x.1.now)) result (link_words_at bytes.now) }
 {
     let rest = after(b"link", bytes)?;
     let (switch, rest) = number8(rest)?;
@@ -113,13 +113,13 @@ fn link_words(bytes: &[u8]) -> Result<(Link, &[u8]), Misfit>
 }
 
 /// A wire that may stand behind these.
-#[tactic(auto, unfolding(crate::specs::OneLine::link_at))]
+#[tactic(auto, unfolding(crate::specs::OneLine::link_in_text))]
 fn fitting_link<'a>(
     ports: &[u32],
     before: &[Link],
     bytes: &'a [u8],
 ) -> Result<(Link, &'a [u8]), Misfit>
-    ensures { Gives (λ x. (x.0, x.1.now)) result (link_at ports.now before.now bytes.now) }
+    ensures { GivesText (λ x. (x.0, x.1.now)) result (link_in_text ports.now before.now bytes.now) }
 {
     let (link, rest) = link_words(bytes)?;
     if may_join(ports, before, &link) {
@@ -131,7 +131,7 @@ fn fitting_link<'a>(
 
 /// A wire behind others.
 fn link<'a>(ports: &[u32], before: &[Link], bytes: &'a [u8]) -> Result<(Link, &'a [u8]), Broken>
-    ensures { GivesLines (λ x. (x.0, x.1.now)) result (line_at bytes.now (link_at ports.now before.now bytes.now)) }
+    ensures { GivesLines (λ x. (x.0, x.1.now)) result (line_at bytes.now (link_in_text ports.now before.now bytes.now)) }
 {
     on_line(bytes, fitting_link(ports, before, bytes))
 }
@@ -157,9 +157,9 @@ fn links<'a>(alloc: Global, ports: &[u32], bytes: &'a [u8]) -> Result<(Links, &'
 }
 
 /// Addresses with their length, past which there is no one bit.
-#[tactic(auto, unfolding(crate::specs::OneLine::prefix_at))]
+#[tactic(auto, unfolding(crate::specs::OneLine::prefix_in_text))]
 fn prefix(bytes: &[u8]) -> Result<(Prefix, &[u8]), Misfit>
-    ensures { Gives (λ x. (x.0, x.1.now)) result (prefix_at bytes.now) }
+    ensures { GivesText (λ x. (x.0, x.1.now)) result (prefix_in_text bytes.now) }
 {
     let (address, rest) = address(bytes)?;
     let (length, rest) = number8(rest)?;
@@ -172,7 +172,7 @@ fn prefix(bytes: &[u8]) -> Result<(Prefix, &[u8]), Misfit>
 
 #[tactic(auto, unfolding(crate::specs::OneLine::rule_words_at))]
 fn rule_words(bytes: &[u8]) -> Result<(Rule, &[u8]), Misfit>
-    ensures { Gives (λ x. (x.0, x.1.now)) result (rule_words_at bytes.now) }
+    ensures { GivesText (λ x. (x.0, x.1.now)) result (rule_words_at bytes.now) }
 {
     let rest = after(b"deny", bytes)?;
     let (proto, rest) = number8(rest)?;
@@ -203,7 +203,7 @@ fn is_asked(proto: u8, port: Option<u16>) -> bool
 /// A rule.
 #[tactic(auto, unfolding(crate::specs::OneLine::rule_at))]
 fn rule(bytes: &[u8]) -> Result<(Rule, &[u8]), Misfit>
-    ensures { Gives (λ x. (x.0, x.1.now)) result (rule_at bytes.now) }
+    ensures { GivesText (λ x. (x.0, x.1.now)) result (rule_at bytes.now) }
 {
     let (rule, rest) = rule_words(bytes)?;
     if is_asked(rule.proto, rule.port) {

@@ -3,7 +3,7 @@
 ghost use Rattle.std.specs.Prelude.{◌≡◌, ◌≤◌, ◌<◌, ◌*◌, ℕ, List, length, position, Some, true, IfOk, IfSome};
 ghost use Rattle.std.specs.List.{list_all, list_any};
 ghost use Rattle.report.specs.Spelled as spelled;
-ghost use Rattle.report.specs.Spelled.{◌>>=◌ as then_read, Gives, is_digit};
+ghost use Rattle.report.specs.Spelled.{◌>>=◌ as then_read, GivesText, is_text_digit};
 
 use crate::fault::Misfit;
 use numerals::numeral_within;
@@ -14,7 +14,7 @@ use std::alloc::Global;
 /// What comes behind a text.
 #[tactic(auto, unfolding(crate::specs::Spelled::after_at))]
 pub fn after<'a>(text: &[u8], bytes: &'a [u8]) -> Result<&'a [u8], Misfit>
-    ensures { Gives (λ x. x.now) result (spelled.after_at text.now bytes.now) }
+    ensures { GivesText (λ x. x.now) result (spelled.after_at text.now bytes.now) }
 {
     if bytes.starts_with(text) {
         Ok(&bytes[text.len()..])
@@ -26,14 +26,14 @@ pub fn after<'a>(text: &[u8], bytes: &'a [u8]) -> Result<&'a [u8], Misfit>
 /// What comes behind the end of a line.
 #[tactic(auto, unfolding(crate::specs::Spelled::end_at))]
 pub fn end_of_line(bytes: &[u8]) -> Result<&[u8], Misfit>
-    ensures { Gives (λ x. x.now) result (spelled.end_at bytes.now) }
+    ensures { GivesText (λ x. x.now) result (spelled.end_at bytes.now) }
 {
     after(b"\n", bytes)
 }
 
 /// What a line told, and what comes behind its end.
 pub fn ended<T: Drop>(told: T, bytes: &[u8]) -> Result<(T, &[u8]), Misfit>
-    ensures { Gives {Y = T × List ℕ} (λ x. (x.0, x.1.now)) result (then_read (spelled.end_at bytes.now) (λ rest. Some (told, rest))) }
+    ensures { GivesText {Y = T × List ℕ} (λ x. (x.0, x.1.now)) result (then_read (spelled.end_at bytes.now) (λ rest. Some (told, rest))) }
 {
     let rest = end_of_line(bytes)?;
     Ok((told, rest))
@@ -42,7 +42,7 @@ pub fn ended<T: Drop>(told: T, bytes: &[u8]) -> Result<(T, &[u8]), Misfit>
 /// What comes behind a word that is known.
 #[tactic(auto, unfolding(crate::specs::Spelled::known_at))]
 pub fn known<'a>(name: &[u8], bytes: &'a [u8]) -> Result<&'a [u8], Misfit>
-    ensures { Gives (λ x. x.now) result (spelled.known_at name.now bytes.now) }
+    ensures { GivesText (λ x. x.now) result (spelled.known_at name.now bytes.now) }
 {
     let rest = after(b" ", bytes)?;
     after(name, rest)
@@ -96,7 +96,7 @@ fn long_word_len(text: &[u8]) -> usize
 /// A word, and what comes behind it.
 #[tactic(auto, unfolding(crate::specs::Spelled::word_at))]
 pub fn word(bytes: &[u8]) -> Result<(&[u8], &[u8]), Misfit>
-    ensures { Gives (λ x. (x.0.now, x.1.now)) result (spelled.word_at bytes.now) }
+    ensures { GivesText (λ x. (x.0.now, x.1.now)) result (spelled.word_at bytes.now) }
 {
     let text = after(b" ", bytes)?;
     Ok(text.split_at(word_end(text).unwrap_or(text.len())))
@@ -105,16 +105,16 @@ pub fn word(bytes: &[u8]) -> Result<(&[u8], &[u8]), Misfit>
 /// The same, for a word that may be long.
 #[tactic(auto, unfolding(crate::specs::Spelled::word_at))]
 fn long_word(bytes: &[u8]) -> Result<(&[u8], &[u8]), Misfit>
-    ensures { Gives (λ x. (x.0.now, x.1.now)) result (spelled.word_at bytes.now) }
+    ensures { GivesText (λ x. (x.0.now, x.1.now)) result (spelled.word_at bytes.now) }
 {
     let text = after(b" ", bytes)?;
     Ok(text.split_at(long_word_len(text)))
 }
 
 /// A number up to a greatest one.
-#[tactic(auto, unfolding(crate::specs::Spelled::number_at))]
+#[tactic(auto, unfolding(crate::specs::Spelled::number_in_text))]
 pub fn number(most: u64, bytes: &[u8]) -> Result<(u64, &[u8]), Misfit>
-    ensures exact { Gives (λ x. (x.0, x.1.now)) result (spelled.number_at most bytes.now) }
+    ensures exact { GivesText (λ x. (x.0, x.1.now)) result (spelled.number_in_text most bytes.now) }
     ensures small { IfOk result (λ x. x.0 ≤ most) }
 {
     let (text, rest) = word(bytes)?;
@@ -126,7 +126,7 @@ pub fn number(most: u64, bytes: &[u8]) -> Result<(u64, &[u8]), Misfit>
 
 /// A number of one byte.
 pub fn number8(bytes: &[u8]) -> Result<(u8, &[u8]), Misfit>
-    ensures { Gives (λ x. (x.0, x.1.now)) result (spelled.number8_at bytes.now) }
+    ensures { GivesText (λ x. (x.0, x.1.now)) result (spelled.number8_at bytes.now) }
 {
     let (number, rest) = number(u64::from(u8::MAX), bytes)?;
     Ok((number as u8, rest))
@@ -134,7 +134,7 @@ pub fn number8(bytes: &[u8]) -> Result<(u8, &[u8]), Misfit>
 
 /// A number of two bytes.
 pub fn number16(bytes: &[u8]) -> Result<(u16, &[u8]), Misfit>
-    ensures { Gives (λ x. (x.0, x.1.now)) result (spelled.number16_at bytes.now) }
+    ensures { GivesText (λ x. (x.0, x.1.now)) result (spelled.number16_at bytes.now) }
 {
     let (number, rest) = number(u64::from(u16::MAX), bytes)?;
     Ok((number as u16, rest))
@@ -142,7 +142,7 @@ pub fn number16(bytes: &[u8]) -> Result<(u16, &[u8]), Misfit>
 
 /// A number of four bytes.
 pub fn number32(bytes: &[u8]) -> Result<(u32, &[u8]), Misfit>
-    ensures { Gives (λ x. (x.0, x.1.now)) result (spelled.number32_at bytes.now) }
+    ensures { GivesText (λ x. (x.0, x.1.now)) result (spelled.number32_at bytes.now) }
 {
     let (number, rest) = number(u64::from(u32::MAX), bytes)?;
     Ok((number as u32, rest))
@@ -150,7 +150,7 @@ pub fn number32(bytes: &[u8]) -> Result<(u32, &[u8]), Misfit>
 
 /// A number of eight bytes.
 pub fn number64(bytes: &[u8]) -> Result<(u64, &[u8]), Misfit>
-    ensures { Gives (λ x. (x.0, x.1.now)) result (spelled.number64_at bytes.now) }
+    ensures { GivesText (λ x. (x.0, x.1.now)) result (spelled.number64_at bytes.now) }
 {
     number(u64::MAX, bytes)
 }
@@ -158,14 +158,14 @@ pub fn number64(bytes: &[u8]) -> Result<(u64, &[u8]), Misfit>
 /// A number behind its name.
 #[tactic(auto, unfolding(crate::specs::Spelled::labelled_at))]
 pub fn labelled<'a>(name: &[u8], bytes: &'a [u8]) -> Result<(u64, &'a [u8]), Misfit>
-    ensures { Gives (λ x. (x.0, x.1.now)) result (spelled.labelled_at name.now bytes.now) }
+    ensures { GivesText (λ x. (x.0, x.1.now)) result (spelled.labelled_at name.now bytes.now) }
 {
     let rest = known(name, bytes)?;
     number64(rest)
 }
 
 fn actor_of(text: &[u8]) -> Option<Actor>
-    ensures { result ≡ spelled.actor_of text.now }
+    ensures { result ≡ spelled.actor_spelled text.now }
 {
     let [letter, digits @ ..] = text else {
         return None;
@@ -179,9 +179,9 @@ fn actor_of(text: &[u8]) -> Option<Actor>
 }
 
 /// A controller or a switch.
-#[tactic(auto, unfolding(crate::specs::Spelled::actor_at))]
+#[tactic(auto, unfolding(crate::specs::Spelled::actor_in_text))]
 pub fn actor(bytes: &[u8]) -> Result<(Actor, &[u8]), Misfit>
-    ensures { Gives (λ x. (x.0, x.1.now)) result (spelled.actor_at bytes.now) }
+    ensures { GivesText (λ x. (x.0, x.1.now)) result (spelled.actor_in_text bytes.now) }
 {
     let (text, rest) = word(bytes)?;
     let Some(actor) = actor_of(text) else {
@@ -191,9 +191,9 @@ pub fn actor(bytes: &[u8]) -> Result<(Actor, &[u8]), Misfit>
 }
 
 /// A controller.
-#[tactic(auto, unfolding(crate::specs::Spelled::controller_at))]
+#[tactic(auto, unfolding(crate::specs::Spelled::controller_in_text))]
 pub fn controller(bytes: &[u8]) -> Result<(u8, &[u8]), Misfit>
-    ensures { Gives (λ x. (x.0, x.1.now)) result (spelled.controller_at bytes.now) }
+    ensures { GivesText (λ x. (x.0, x.1.now)) result (spelled.controller_in_text bytes.now) }
 {
     let (actor, rest) = actor(bytes)?;
     let Actor::Controller(number) = actor else {
@@ -205,7 +205,7 @@ pub fn controller(bytes: &[u8]) -> Result<(u8, &[u8]), Misfit>
 /// A controller, or a dash for none.
 #[tactic(auto, unfolding(crate::specs::Spelled::dash_or))]
 pub fn master(bytes: &[u8]) -> Result<(Option<u8>, &[u8]), Misfit>
-    ensures { Gives (λ x. (x.0, x.1.now)) result (spelled.dash_or spelled.controller_at bytes.now) }
+    ensures { GivesText (λ x. (x.0, x.1.now)) result (spelled.dash_or spelled.controller_in_text bytes.now) }
 {
     if bytes.starts_with(b" -") {
         return Ok((None, &bytes[2..]));
@@ -217,7 +217,7 @@ pub fn master(bytes: &[u8]) -> Result<(Option<u8>, &[u8]), Misfit>
 /// A number of two bytes, or a dash for none.
 #[tactic(auto, unfolding(crate::specs::Spelled::dash_or))]
 pub fn number16_or_dash(bytes: &[u8]) -> Result<(Option<u16>, &[u8]), Misfit>
-    ensures { Gives (λ x. (x.0, x.1.now)) result (spelled.dash_or spelled.number16_at bytes.now) }
+    ensures { GivesText (λ x. (x.0, x.1.now)) result (spelled.dash_or spelled.number16_at bytes.now) }
 {
     if bytes.starts_with(b" -") {
         return Ok((None, &bytes[2..]));
@@ -229,7 +229,7 @@ pub fn number16_or_dash(bytes: &[u8]) -> Result<(Option<u16>, &[u8]), Misfit>
 /// A number of eight bytes, or a dash for none.
 #[tactic(auto, unfolding(crate::specs::Spelled::dash_or))]
 pub fn number64_or_dash(bytes: &[u8]) -> Result<(Option<u64>, &[u8]), Misfit>
-    ensures { Gives (λ x. (x.0, x.1.now)) result (spelled.dash_or spelled.number64_at bytes.now) }
+    ensures { GivesText (λ x. (x.0, x.1.now)) result (spelled.dash_or spelled.number64_at bytes.now) }
 {
     if bytes.starts_with(b" -") {
         return Ok((None, &bytes[2..]));
@@ -249,9 +249,9 @@ fn flag_of(text: &[u8]) -> Option<bool>
 }
 
 /// 1 or 0, for what is so and what is not.
-#[tactic(auto, unfolding(crate::specs::Spelled::flag_at))]
+#[tactic(auto, unfolding(crate::specs::Spelled::flag_in_text))]
 pub fn flag(bytes: &[u8]) -> Result<(bool, &[u8]), Misfit>
-    ensures { Gives (λ x. (x.0, x.1.now)) result (spelled.flag_at bytes.now) }
+    ensures { GivesText (λ x. (x.0, x.1.now)) result (spelled.flag_in_text bytes.now) }
 {
     let (text, rest) = word(bytes)?;
     let Some(flag) = flag_of(text) else {
@@ -277,7 +277,7 @@ fn dot_place(text: &[u8]) -> Option<usize>
 /// A number of one byte before a dot, and what comes behind the dot.
 #[tactic(auto, unfolding(crate::specs::Spelled::dotted_at))]
 fn dotted(text: &[u8]) -> Result<(u8, &[u8]), Misfit>
-    ensures { Gives (λ x. (x.0, x.1.now)) result (spelled.dotted_at text.now) }
+    ensures { GivesText (λ x. (x.0, x.1.now)) result (spelled.dotted_at text.now) }
 {
     let (digits, rest) = text.split_at(dot_place(text).unwrap_or(text.len()));
     let Some(number) = numeral_within(digits, u64::from(u8::MAX)) else {
@@ -289,7 +289,7 @@ fn dotted(text: &[u8]) -> Result<(u8, &[u8]), Misfit>
 
 #[tactic(auto, unfolding(crate::specs::Spelled::address_of))]
 fn address_of(text: &[u8]) -> Result<u32, Misfit>
-    ensures { Gives (λ x. x) result (spelled.address_of text.now) }
+    ensures { GivesText (λ x. x) result (spelled.address_of text.now) }
 {
     let (a, rest) = dotted(text)?;
     let (b, rest) = dotted(rest)?;
@@ -303,7 +303,7 @@ fn address_of(text: &[u8]) -> Result<u32, Misfit>
 /// An IPv4 address as its four bytes.
 #[tactic(auto, unfolding(crate::specs::Spelled::address_at))]
 pub fn address(bytes: &[u8]) -> Result<(u32, &[u8]), Misfit>
-    ensures { Gives (λ x. (x.0, x.1.now)) result (spelled.address_at bytes.now) }
+    ensures { GivesText (λ x. (x.0, x.1.now)) result (spelled.address_at bytes.now) }
 {
     let (text, rest) = word(bytes)?;
     let address = address_of(text)?;
@@ -312,14 +312,14 @@ pub fn address(bytes: &[u8]) -> Result<(u32, &[u8]), Misfit>
 
 /// Whether a byte is a digit of base sixteen, in lower case.
 fn is_digit(digit: u8) -> bool
-    ensures { result ≡ is_digit digit }
+    ensures { result ≡ is_text_digit digit }
 {
     digit.is_ascii_digit() || matches!(digit, b'a'..=b'f')
 }
 
 /// The number of such a digit.
 fn value_of(digit: u8) -> u8
-    requires { is_digit digit ≡ true }
+    requires { is_text_digit digit ≡ true }
     ensures value { spelled.digit_of digit ≡ Some result }
     ensures small { result < 16 }
 {
@@ -332,7 +332,7 @@ fn value_of(digit: u8) -> u8
 
 /// Whether each byte is such a digit. Each is tested, as in `has_end`.
 fn are_digits(digits: &[u8]) -> bool
-    ensures { result ≡ list_all is_digit digits.now }
+    ensures { result ≡ list_all is_text_digit digits.now }
 {
     let mut all = true;
     for digit in digits {
@@ -343,7 +343,7 @@ fn are_digits(digits: &[u8]) -> bool
 
 /// Reads two digits into each byte of a room.
 fn read_pairs(room: &mut [u8], digits: &[u8])
-    requires digits { list_all is_digit digits.now ≡ true }
+    requires digits { list_all is_text_digit digits.now ≡ true }
     requires pairs { length digits.now ≡ 2 * length room.old }
     ensures { spelled.digits_of digits.now ≡ Some room.new }
 {
@@ -356,7 +356,7 @@ fn read_pairs(room: &mut [u8], digits: &[u8])
 }
 
 fn digits_of(alloc: Global, digits: &[u8]) -> Result<Octets, Misfit>
-    ensures { Gives (λ x. x) result (spelled.digits_of digits.now) }
+    ensures { GivesText (λ x. x) result (spelled.digits_of digits.now) }
 {
     if digits.len() % 2 == 1 || !are_digits(digits) {
         return Err(Misfit::Text);
@@ -369,7 +369,7 @@ fn digits_of(alloc: Global, digits: &[u8]) -> Result<Octets, Misfit>
 /// The bytes of a text in base sixteen.
 #[tactic(auto, unfolding(crate::specs::Spelled::hex_bytes))]
 fn hex_bytes(alloc: Global, text: &[u8]) -> Result<Octets, Misfit>
-    ensures { Gives (λ x. x) result (spelled.hex_bytes text.now) }
+    ensures { GivesText (λ x. x) result (spelled.hex_bytes text.now) }
 {
     match text {
         [] => Err(Misfit::Text),
@@ -382,7 +382,7 @@ fn hex_bytes(alloc: Global, text: &[u8]) -> Result<Octets, Misfit>
 /// Bytes as digits of base sixteen in lower case, or a dash for none.
 #[tactic(auto, unfolding(crate::specs::Spelled::hex_at))]
 pub fn hex(alloc: Global, bytes: &[u8]) -> Result<(Octets, &[u8]), Misfit>
-    ensures { Gives (λ x. (x.0, x.1.now)) result (spelled.hex_at bytes.now) }
+    ensures { GivesText (λ x. (x.0, x.1.now)) result (spelled.hex_at bytes.now) }
 {
     let (text, rest) = long_word(bytes)?;
     let bytes = hex_bytes(alloc, text)?;

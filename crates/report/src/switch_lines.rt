@@ -2,8 +2,8 @@
 ghost use Rattle.std.specs.Prelude.{◌≡◌};
 ghost use Rattle.report.specs.Lines.{GivesLines};
 ghost use Rattle.report.specs.OneLine.{role_words_at, of_at, switch_counts_at, switch_line_at, executed_words_at};
-ghost use Rattle.report.specs.Reading.{told_at, switches_at};
-ghost use Rattle.report.specs.Spelled.{Gives};
+ghost use Rattle.report.specs.Reading.{told_in_text, switches_at};
+ghost use Rattle.report.specs.Spelled.{GivesText};
 
 use crate::canonical::{actions, matching, order};
 use crate::counted::{CountedLine, read_each};
@@ -33,7 +33,7 @@ struct SwitchLine {
 /// The generation, the master and the life.
 #[tactic(auto, unfolding(crate::specs::OneLine::role_words_at))]
 fn role_words(bytes: &[u8]) -> Result<((Option<u64>, Option<u8>, u32), &[u8]), Misfit>
-    ensures { Gives (λ x. (x.0, x.1.now)) result (role_words_at bytes.now) }
+    ensures { GivesText (λ x. (x.0, x.1.now)) result (role_words_at bytes.now) }
 {
     let rest = known(b"generation", bytes)?;
     let (generation, rest) = number64_or_dash(rest)?;
@@ -47,7 +47,7 @@ fn role_words(bytes: &[u8]) -> Result<((Option<u64>, Option<u8>, u32), &[u8]), M
 /// The number of the switch that a line is of.
 #[tactic(auto, unfolding(crate::specs::OneLine::of_at))]
 fn is_of(switch: usize, bytes: &[u8]) -> Result<&[u8], Misfit>
-    ensures { Gives (λ x. x.now) result (of_at switch bytes.now) }
+    ensures { GivesText (λ x. x.now) result (of_at switch bytes.now) }
 {
     let (named, rest) = number8(bytes)?;
     if usize::from(named) == switch {
@@ -63,7 +63,7 @@ fn switch_counts(
     role: (Option<u64>, Option<u8>, u32),
     bytes: &[u8],
 ) -> Result<(SwitchLine, &[u8]), Misfit>
-    ensures { Gives (λ x. (x.0, x.1.now)) result (switch_counts_at role bytes.now) }
+    ensures { GivesText (λ x. (x.0, x.1.now)) result (switch_counts_at role bytes.now) }
 {
     let (generation, master, life) = role;
     let (events, rest) = labelled(b"events", bytes)?;
@@ -88,7 +88,7 @@ fn switch_counts(
 
 #[tactic(auto, unfolding(crate::specs::OneLine::switch_line_at))]
 fn switch_line(switch: usize, bytes: &[u8]) -> Result<(SwitchLine, &[u8]), Misfit>
-    ensures { Gives (λ x. (x.0, x.1.now)) result (switch_line_at switch bytes.now) }
+    ensures { GivesText (λ x. (x.0, x.1.now)) result (switch_line_at switch bytes.now) }
 {
     let rest = after(b"switch", bytes)?;
     let rest = is_of(switch, rest)?;
@@ -97,11 +97,11 @@ fn switch_line(switch: usize, bytes: &[u8]) -> Result<(SwitchLine, &[u8]), Misfi
 }
 
 impl CountedLine for Event {
-    ghost use Rattle.report.specs.OneLine.{event_at};
+    ghost use Rattle.report.specs.OneLine.{event_in_text};
 
-    ghost line_at = { event_at };
+    ghost line_at = { event_in_text };
 
-    #[tactic(auto, unfolding(crate::specs::OneLine::event_at))]
+    #[tactic(auto, unfolding(crate::specs::OneLine::event_in_text))]
     fn read_line(alloc: Global, switch: usize, bytes: &[u8]) -> Result<(Event, &[u8]), Misfit> {
         let rest = after(b"event", bytes)?;
         let (event, rest) = event_words(alloc, rest)?;
@@ -117,7 +117,7 @@ impl CountedLine for Event {
 /// A command, behind the number of its switch.
 #[tactic(auto, unfolding(crate::specs::OneLine::executed_words_at))]
 fn executed_words(alloc: Global, bytes: &[u8]) -> Result<(Executed, &[u8]), Misfit>
-    ensures { Gives (λ x. (x.0, x.1.now)) result (executed_words_at bytes.now) }
+    ensures { GivesText (λ x. (x.0, x.1.now)) result (executed_words_at bytes.now) }
 {
     let (life, rest) = number32(bytes)?;
     let (number, rest) = number64(rest)?;
@@ -172,9 +172,9 @@ impl CountedLine for Shown {
     }
 }
 
-#[tactic(auto, unfolding(crate::specs::Reading::told_at))]
+#[tactic(auto, unfolding(crate::specs::Reading::told_in_text))]
 fn told(alloc: Global, switch: usize, bytes: &[u8]) -> Result<(Told, &[u8]), Broken>
-    ensures { GivesLines (λ x. (x.0, x.1.now)) result (told_at switch bytes.now) }
+    ensures { GivesLines (λ x. (x.0, x.1.now)) result (told_in_text switch bytes.now) }
 {
     let (line, rest) = on_line(bytes, switch_line(switch, bytes))?;
     let SwitchLine {

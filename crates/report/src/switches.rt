@@ -111,7 +111,7 @@ fn write_count_words(out: &mut Octets, told: &Told) -> Result<(), AllocError>
     write_words(out, &words)
 }
 
-#[tactic(auto, unfolding(crate::specs::Report::number, crate::specs::Report::switch_line))]
+#[tactic(auto, unfolding(crate::specs::Report::number_text, crate::specs::Report::switch_line))]
 fn write_switch_line(out: &mut Octets, switch: usize, told: &Told) -> Result<(), AllocError>
     ensures { OnOk result (out.new ≡ out.old ++ switch_line switch told.now) }
 {

@@ -1,7 +1,7 @@
 //! The words of a line as values, so that one call writes a line.
 ghost use Rattle.std.specs.Prelude.{◌≡◌, ◌++◌, map, OnOk};
 ghost use Rattle.report.specs.Report as report;
-ghost use Rattle.report.specs.Words.{told, spaced};
+ghost use Rattle.report.specs.Words.{word_text, spaced};
 
 use crate::words::{
     write_actor, write_address, write_flag, write_hex, write_master, write_newline, write_number,
@@ -31,9 +31,9 @@ pub enum Word<'a> {
 }
 
 /// Writes a space and a word.
-#[tactic(auto, unfolding(crate::specs::Report::number))]
+#[tactic(auto, unfolding(crate::specs::Report::number_text))]
 fn write_one(out: &mut Octets, word: &Word<'_>) -> Result<(), AllocError>
-    ensures { OnOk result (out.new ≡ out.old ++ report.word (told word.now)) }
+    ensures { OnOk result (out.new ≡ out.old ++ report.word (word_text word.now)) }
 {
     match word {
         Word::Text(text) => write_word(out, text),
@@ -50,7 +50,7 @@ fn write_one(out: &mut Octets, word: &Word<'_>) -> Result<(), AllocError>
 
 /// Writes words.
 pub fn write_words(out: &mut Octets, words: &[Word<'_>]) -> Result<(), AllocError>
-    ensures { OnOk result (out.new ≡ out.old ++ spaced (map told words.now)) }
+    ensures { OnOk result (out.new ≡ out.old ++ spaced (map word_text words.now)) }
 {
     for word in words {
         write_one(out, word)?;
@@ -61,7 +61,7 @@ pub fn write_words(out: &mut Octets, words: &[Word<'_>]) -> Result<(), AllocErro
 /// Writes a line: its first word, and further ones.
 #[tactic(auto, unfolding(crate::specs::Report::line))]
 pub fn write_line(out: &mut Octets, first: &[u8], words: &[Word<'_>]) -> Result<(), AllocError>
-    ensures { OnOk result (out.new ≡ out.old ++ report.line first.now (map told words.now)) }
+    ensures { OnOk result (out.new ≡ out.old ++ report.line first.now (map word_text words.now)) }
 {
     out.append(first)?;
     for word in words {

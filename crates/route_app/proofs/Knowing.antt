@@ -17,14 +17,14 @@ use Rattle.app_core.specs.declared.host.Host.{Host}
 use Rattle.app_core.specs.declared.switch_port.SwitchPort.{SwitchPort}
 use Rattle.app_core.specs.Chain.{flat_routing, most_given, part_next, routing}
 use Rattle.app_core.specs.Learning.{is_single}
-use Rattle.app_core.specs.Parts.{Steps}
+use Rattle.app_core.specs.Parts.{PartSteps}
 use Rattle.app_core.specs.Routes.{route, IsWalk}
-use Rattle.app_core.specs.Routing.{placed, with_place, place_of_destination, installed, routed, forgetting_ends, routing_commands}
+use Rattle.app_core.specs.Routing.{placed_host, with_place, place_of_destination, installed, routed, forgetting_ends, routing_commands}
 use Rattle.app_core.proofs.Paths.{routing_more, routing_steps}
 use Rattle.route_app.specs.declared.part.Known.{Known}
 use Rattle.route_app.specs.declared.wires.Wires.{Wires}
-use Rattle.route_app.specs.Knowing.{source_over, routing_in, changed, restarted, Reacts}
-use Rattle.route_app.specs.Places.{hosts_in}
+use Rattle.route_app.specs.Knowing.{source_over, routing_in, changed, restarted_routing, Reacts}
+use Rattle.route_app.specs.Places.{hosts_on}
 use Rattle.route_app.specs.Wired.{IsWires, end_over}
 use Rattle.app_core.proofs.Linked.{over_ports, port_bounds}
 use Rattle.app_core.proofs.Routes.{route_means}
@@ -46,7 +46,7 @@ no_far_route setup down is from to h far = by_route (route setup down from to) r
 module _ (setup : Setup) where
   pub source_is : (wires : Wires) → IsWires setup wires → (hosts : List Host) (at : SwitchPort) (o : Option ℕ) → source_over wires hosts at o ≡ with_place setup hosts at o
   source_is wires w hosts at None = refl
-  source_is wires w hosts at (Some address) = ap (λ b. if b && is_single address then placed hosts address at else hosts) (edge_is setup wires w at)
+  source_is wires w hosts at (Some address) = ap (λ b. if b && is_single address then placed_host hosts address at else hosts) (edge_is setup wires w at)
 
   -- nothing is sent to a switch that there is not
   pub far_silent : (down : List SwitchPort) (wires : Wires) → IsWires setup wires → (at : SwitchPort) (frame : List ℕ) (target : SwitchPort) → at.switch < length setup.ports → wires.switches ≤ target.switch → (before : List Command) →
@@ -57,14 +57,14 @@ module _ (setup : Setup) where
 
   -- a frame
   pub frame_reacts : (wires : Wires) → IsWires setup wires → (old new : Known) (switch : ℕ) (p : PacketIn) (seen : Option SwitchPort) (before after : List Command) →
-      hosts_in new.places.entries ≡ source_over wires (hosts_in old.places.entries) (record { switch = switch; port = p.in_port }) (number_at 6 6 p.payload) →
+      hosts_on new.places.entries ≡ source_over wires (hosts_on old.places.entries) (record { switch = switch; port = p.in_port }) (number_at 6 6 p.payload) →
       new.links.down.items ≡ old.links.down.items →
-      seen ≡ place_of_destination (hosts_in new.places.entries) (number_at 6 0 p.payload) →
+      seen ≡ place_of_destination (hosts_on new.places.entries) (number_at 6 0 p.payload) →
       after ≡ before ++ routed setup old.links.down.items (record { switch = switch; port = p.in_port }) p.payload seen →
       Reacts setup old new switch (happening.PacketIn p) before after
   frame_reacts wires w old new switch p seen before after hosts down is_seen out =
       record {
-        knows = rw (down, hosts ∙ source_is wires w (hosts_in old.places.entries) (record { switch = switch; port = p.in_port }) (number_at 6 6 p.payload)) refl;
+        knows = rw (down, hosts ∙ source_is wires w (hosts_on old.places.entries) (record { switch = switch; port = p.in_port }) (number_at 6 6 p.payload)) refl;
         asks = rw down (out ∙ ap (λ o. before ++ routed setup old.links.down.items (record { switch = switch; port = p.in_port }) p.payload o) is_seen);
       }
 
@@ -80,7 +80,7 @@ module _ (setup : Setup) where
       }
 
   -- a switch
-  pub switch_reacts : (old new : Known) (switch : ℕ) (p : PortStatus) (before : List Command) → is_switch_up (happening.PortStatus p) ≡ true → routing_in new ≡ restarted (routing_in old) switch →
+  pub switch_reacts : (old new : Known) (switch : ℕ) (p : PortStatus) (before : List Command) → is_switch_up (happening.PortStatus p) ≡ true → routing_in new ≡ restarted_routing (routing_in old) switch →
       Reacts setup old new switch (happening.PortStatus p) before before
   switch_reacts old new switch p before up knows =
       let parts = and_parts (nat_eq p.reason 0 && nat_eq p.port ANY_PORT) p.up up in
@@ -92,14 +92,14 @@ module _ (setup : Setup) where
     there_is b e = ap (λ n. nat_lt event.switch n) (sym w.switches) ∙ e
 
     pub reacts : (new : Known) (before after : List Command) → event.switch < wires.switches → Reacts setup old new event.switch event.what before after →
-        Steps (part_next routing setup (flat_routing (routing_in old)) event) (flat_routing (routing_in new)) before after false × (length after ≤ length before + most_given routing)
+        PartSteps (part_next routing setup (flat_routing (routing_in old)) event) (flat_routing (routing_in new)) before after false × (length after ≤ length before + most_given routing)
     reacts new before after low h =
         let in_setup = there_is true (lt-ltb event.switch wires.switches low) in
         let asks = h.asks ∙ ap (λ r. before ++ routing_commands setup r event.switch event.what) h.knows in
         (routing_steps setup (routing_in old) event (routing_in new) before after (rw in_setup h.knows) (rw in_setup asks), routing_more setup (routing_in old) event w.is before after asks)
 
     pub passes : (before : List Command) → wires.switches ≤ event.switch →
-        Steps (part_next routing setup (flat_routing (routing_in old)) event) (flat_routing (routing_in old)) before before false × (length before ≤ length before + most_given routing)
+        PartSteps (part_next routing setup (flat_routing (routing_in old)) event) (flat_routing (routing_in old)) before before false × (length before ≤ length before + most_given routing)
     passes before high =
         let out = there_is false (le-ltb event.switch wires.switches high) in
         (routing_steps setup (routing_in old) event (routing_in old) before before (rw out refl) (rw out (sym (append-nil before))), omega arith)

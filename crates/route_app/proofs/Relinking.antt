@@ -7,8 +7,8 @@ use Rattle.std.proofs.lemmas.Bool.Decides.{eqb_tells}
 use Rattle.std.proofs.lemmas.List.{get_or-set_same, get_or-set_other}
 use Rattle.of_types.specs.declared.setup.Setup.{Setup}
 use Rattle.app_core.specs.declared.switch_port.SwitchPort.{SwitchPort}
-use Rattle.app_core.specs.Routes.{is_same, other_end, is_down, if_up, over_link}
-use Rattle.app_core.specs.Routing.{is_before, with_port, without_port, without_switch}
+use Rattle.app_core.specs.Routes.{is_same_port, other_end, is_link_down, if_up, over_known_link}
+use Rattle.app_core.specs.Routing.{is_port_before, with_known_port, without_port, without_switch}
 use Rattle.app_core.proofs.Linked.{same_tells, other_back, are_ports, port_bounds}
 use Rattle.route_app.specs.declared.wires.Wires.{Wires}
 use Rattle.route_app.specs.Search.{row}
@@ -18,32 +18,32 @@ use Rattle.route_app.specs.Wired.{IsWires, end_over}
 use Rattle.route_app.proofs.Tables.{row-at, row-past, one_place, lt_tells}
 use Rattle.route_app.proofs.Wiring.{end_is}
 
-apart : (a b : SwitchPort) → a ≢ b → is_same a b ≡ false
+apart : (a b : SwitchPort) → a ≢ b → is_same_port a b ≡ false
 apart a b o = elim (same_tells a b) [ inl s ↦ absurd (o s.1) | inr n ↦ n.0 ]
 
 -- what joins those that are down changes no other port
-pub down_with : (down : List SwitchPort) (at x : SwitchPort) → at ≢ x → is_down (with_port down at) x ≡ is_down down x
+pub down_with : (down : List SwitchPort) (at x : SwitchPort) → at ≢ x → is_link_down (with_known_port down at) x ≡ is_link_down down x
 down_with [] at x o = rw (apart at x o) refl
-down_with (p ∷ down) at x o = by_order (is_before p at) (is_same p at) (down_with down at x o)
+down_with (p ∷ down) at x o = by_order (is_port_before p at) (is_same_port p at) (down_with down at x o)
   where
-    by_order : (c d : Bool) → is_down (with_port down at) x ≡ is_down down x → is_down (if c then p ∷ with_port down at else if d then p ∷ down else at ∷ p ∷ down) x ≡ is_down (p ∷ down) x
-    by_order true d h = ap (λ b. is_same p x || b) h
+    by_order : (c d : Bool) → is_link_down (with_known_port down at) x ≡ is_link_down down x → is_link_down (if c then p ∷ with_known_port down at else if d then p ∷ down else at ∷ p ∷ down) x ≡ is_link_down (p ∷ down) x
+    by_order true d h = ap (λ b. is_same_port p x || b) h
     by_order false true h = refl
     by_order false false h = rw (apart at x o) refl
 
 -- neither does what leaves them
-down_filter : (test : SwitchPort → Bool) (down : List SwitchPort) (x : SwitchPort) → test x ≡ true → is_down (filter test down) x ≡ is_down down x
+down_filter : (test : SwitchPort → Bool) (down : List SwitchPort) (x : SwitchPort) → test x ≡ true → is_link_down (filter test down) x ≡ is_link_down down x
 down_filter test [] x t = refl
 down_filter test (p ∷ down) x t = by_test (test p) refl (down_filter test down x t)
   where
-    by_test : (b : Bool) → test p ≡ b → is_down (filter test down) x ≡ is_down down x → is_down (if b then p ∷ filter test down else filter test down) x ≡ (is_same p x || is_down down x)
-    by_test true e h = ap (λ b. is_same p x || b) h
+    by_test : (b : Bool) → test p ≡ b → is_link_down (filter test down) x ≡ is_link_down down x → is_link_down (if b then p ∷ filter test down else filter test down) x ≡ (is_same_port p x || is_link_down down x)
+    by_test true e h = ap (λ b. is_same_port p x || b) h
     by_test false e h = elim (same_tells p x) [ inl s ↦ absurd (let f : test p ≡ test x = ap test s.1 in cc) | inr o ↦ rw o.0 h ]
 
-pub down_without : (down : List SwitchPort) (at x : SwitchPort) → at ≢ x → is_down (without_port down at) x ≡ is_down down x
-down_without down at x o = down_filter (λ p. not (is_same p at)) down x (rw (apart x at (λ e. o (sym e))) refl)
+pub down_without : (down : List SwitchPort) (at x : SwitchPort) → at ≢ x → is_link_down (without_port down at) x ≡ is_link_down down x
+down_without down at x o = down_filter (λ p. not (is_same_port p at)) down x (rw (apart x at (λ e. o (sym e))) refl)
 
-pub down_elsewhere : (down : List SwitchPort) (switch : ℕ) (x : SwitchPort) → x.switch ≢ switch → is_down (without_switch down switch) x ≡ is_down down x
+pub down_elsewhere : (down : List SwitchPort) (switch : ℕ) (x : SwitchPort) → x.switch ≢ switch → is_link_down (without_switch down switch) x ≡ is_link_down down x
 down_elsewhere down switch x o = down_filter (λ p. not (nat_eq p.switch switch)) down x (elim (eqb_tells x.switch switch) [ inl s ↦ absurd (o s.1) | inr n ↦ rw n.0 refl ])
 
 -- the links at the ports of a switch, and at one more
@@ -87,7 +87,7 @@ module _ (table : List (Option SwitchPort)) (at : SwitchPort) (end : Option Swit
 
 -- with no port down all links are up
 pub ends_up : (setup : Setup) (ends : List (Option SwitchPort)) → IsEnds setup ends → IsUpTable setup [] ends
-unfolding over_link
+unfolding over_known_link
 ends_up setup ends known = record { len = known.len; leads = λ at. known.leads at ∙ by_end at (other_end setup.links at) }
   where
     by_end : (at : SwitchPort) (o : Option SwitchPort) → o ≡ if_up [] at o
@@ -97,10 +97,10 @@ ends_up setup ends known = record { len = known.len; leads = λ at. known.leads 
 module _ (setup : Setup) (wires : Wires) (w : IsWires setup wires) (down : List SwitchPort) where
   -- a table says of a port where its link leads, if it is up
   abbrev IsRight : List (Option SwitchPort) → SwitchPort → Type 0
-  IsRight table x = get_or (row table x.switch) x.port None ≡ over_link setup down x
+  IsRight table x = get_or (row table x.switch) x.port None ≡ over_known_link setup down x
 
-  over_is : (at : SwitchPort) (o : Option SwitchPort) → other_end setup.links at ≡ o → over_link setup down at ≡ if_up down at o
-  unfolding over_link
+  over_is : (at : SwitchPort) (o : Option SwitchPort) → other_end setup.links at ≡ o → over_known_link setup down at ≡ if_up down at o
+  unfolding over_known_link
   over_is at o e = ap (λ x. if_up down at x) e
 
   module _ (table : List (Option SwitchPort)) (long : length table ≡ 49 * length setup.ports) where
@@ -189,12 +189,12 @@ module _ (setup : Setup) (wires : Wires) (w : IsWires setup wires) (down : List 
 
   module _ (old : List SwitchPort) (table : List (Option SwitchPort)) (up : IsUpTable setup old table) where
     -- a port is right where neither it nor its end changed
-    is_right : (x : SwitchPort) (o : Option SwitchPort) → other_end setup.links x ≡ o → ((end : SwitchPort) → o ≡ Some end → (is_down down x ≡ is_down old x) × (is_down down end ≡ is_down old end)) → IsRight table x
-    unfolding over_link
+    is_right : (x : SwitchPort) (o : Option SwitchPort) → other_end setup.links x ≡ o → ((end : SwitchPort) → o ≡ Some end → (is_link_down down x ≡ is_link_down old x) × (is_link_down down end ≡ is_link_down old end)) → IsRight table x
+    unfolding over_known_link
     is_right x None e same = up.leads x ∙ (rw e refl)
     is_right x (Some end) e same = let s = same end refl in up.leads x ∙ (rw (e, s.0, s.1) refl)
 
-    pub relinked_up : (at : SwitchPort) → ((x : SwitchPort) → at ≢ x → is_down down x ≡ is_down old x) → IsUpTable setup down (relinked wires down table at)
+    pub relinked_up : (at : SwitchPort) → ((x : SwitchPort) → at ≢ x → is_link_down down x ≡ is_link_down old x) → IsUpTable setup down (relinked wires down table at)
     relinked_up at others = record { len = relinked-len table up.len at ∙ up.len; leads = λ x. by_link x (other_end setup.links x) refl }
       where
         by_link : (x : SwitchPort) (o : Option SwitchPort) → other_end setup.links x ≡ o → IsRight (relinked wires down table at) x
@@ -203,11 +203,11 @@ module _ (setup : Setup) (wires : Wires) (w : IsWires setup wires) (down : List 
           | inl s ↦ subst (λ (z : SwitchPort). IsRight (relinked wires down table at) z) s.1 (makes table up.len at y (subst (λ (z : SwitchPort). other_end setup.links z ≡ Some y) (sym s.1) e)).0
           | inr o ↦ elim (same_tells at y) [
             | inl s ↦ (makes table up.len at x (subst (λ (z : SwitchPort). other_end setup.links z ≡ Some x) (sym s.1) (other_back setup.links w.is.apart x y e))).1
-            | inr p ↦ keeps table up.len at x (is_right x (Some y) e (λ end h. let same : y ≡ end = cc in (others x o.1, subst (λ (z : SwitchPort). is_down down z ≡ is_down old z) same (others y p.1))))
+            | inr p ↦ keeps table up.len at x (is_right x (Some y) e (λ end h. let same : y ≡ end = cc in (others x o.1, subst (λ (z : SwitchPort). is_link_down down z ≡ is_link_down old z) same (others y p.1))))
           ]
         ]
 
-    pub ports_up : (switch : ℕ) → ((x : SwitchPort) → x.switch ≢ switch → is_down down x ≡ is_down old x) → IsUpTable setup down (relinked_ports wires down table switch 49)
+    pub ports_up : (switch : ℕ) → ((x : SwitchPort) → x.switch ≢ switch → is_link_down down x ≡ is_link_down old x) → IsUpTable setup down (relinked_ports wires down table switch 49)
     ports_up switch others = record { len = ports-len table up.len switch 49; leads = λ x. by_link x (other_end setup.links x) refl }
       where
         -- both ends of a link at the switch
@@ -222,6 +222,6 @@ module _ (setup : Setup) (wires : Wires) (w : IsWires setup wires) (down : List 
           | inl s ↦ (made x y e s.1).0
           | inr o ↦ elim (eqb_tells y.switch switch) [
             | inl s ↦ (made y x (other_back setup.links w.is.apart x y e) s.1).1
-            | inr p ↦ ports_keep table up.len switch 49 x (is_right x (Some y) e (λ end h. let same : y ≡ end = cc in (others x o.1, subst (λ (z : SwitchPort). is_down down z ≡ is_down old z) same (others y p.1))))
+            | inr p ↦ ports_keep table up.len switch 49 x (is_right x (Some y) e (λ end h. let same : y ≡ end = cc in (others x o.1, subst (λ (z : SwitchPort). is_link_down down z ≡ is_link_down old z) same (others y p.1))))
           ]
         ]

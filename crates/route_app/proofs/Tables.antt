@@ -12,9 +12,9 @@ use Rattle.of_types.specs.declared.setup.Link.{Link}
 use Rattle.of_types.specs.declared.setup.Setup.{Setup}
 use Rattle.of_types.specs.Setups.{IsPort, IsSetup}
 use Rattle.app_core.specs.declared.switch_port.SwitchPort.{SwitchPort}
-use Rattle.app_core.specs.Routes.{is_same, near_end, far_end, other_end, is_down, if_up, over_link}
+use Rattle.app_core.specs.Routes.{is_same_port, near_end, far_end, other_end, is_link_down, if_up, over_known_link}
 use Rattle.route_app.specs.Search.{row, IsTable}
-use Rattle.route_app.specs.Tables.{place, joined, marked, kept_up, all_kept_up, IsEnds, IsDownTable, IsUpTable}
+use Rattle.route_app.specs.Tables.{place, joined_ends, marked, kept_up, all_kept_up, IsEnds, IsDownTable, IsUpTable}
 use Rattle.app_core.proofs.Linked.{one_port, same_tells, are_ports, port_bounds, over_ports, over_back}
 
 module _ (table : List (Option SwitchPort)) where
@@ -42,11 +42,11 @@ or_none None = refl
 or_none (Some x) = refl
 
 joined-leads : (ends : List (Option SwitchPort)) (at end x : SwitchPort) → at.port < 49 → x.port < 49 → place at < length ends →
-    get_or (joined ends at end) (place x) None ≡ option_or (get_or ends (place x) None) (if is_same at x then Some end else None)
+    get_or (joined_ends ends at end) (place x) None ≡ option_or (get_or ends (place x) None) (if is_same_port at x then Some end else None)
 joined-leads ends at end x l m there = by_known (get_or ends (place at) None) refl
   where
     by_known : (o : Option SwitchPort) → get_or ends (place at) None ≡ o →
-        get_or (if is_some o then ends else set ends (place at) (Some end)) (place x) None ≡ option_or (get_or ends (place x) None) (if is_same at x then Some end else None)
+        get_or (if is_some o then ends else set ends (place at) (Some end)) (place x) None ≡ option_or (get_or ends (place x) None) (if is_same_port at x then Some end else None)
     by_known (Some y) e = elim (same_tells at x) [
       | inl s ↦ (let f : get_or ends (place x) None ≡ Some y = subst (λ (z : SwitchPort). get_or ends (place z) None ≡ Some y) s.1 e in rw (s.0, f) refl)
       | inr o ↦ rw o.0 (sym (or_none (get_or ends (place x) None)))
@@ -59,7 +59,7 @@ joined-leads ends at end x l m there = by_known (get_or ends (place at) None) re
       | inr o ↦ rw o.0 (get_or-set_other ends (place at) (place x) (Some end) None (λ h. o.1 (one_place at x l m (sym h))) ∙ sym (or_none (get_or ends (place x) None)))
     ]
 
-joined-len : (ends : List (Option SwitchPort)) (at end : SwitchPort) → length (joined ends at end) ≡ length ends
+joined-len : (ends : List (Option SwitchPort)) (at end : SwitchPort) → length (joined_ends ends at end) ≡ length ends
 joined-len ends at end = by_known (is_some (get_or ends (place at) None))
   where
     by_known : (b : Bool) → length (if b then ends else set ends (place at) (Some end)) ≡ length ends
@@ -67,14 +67,14 @@ joined-len ends at end = by_known (is_some (get_or ends (place at) None))
     by_known false = length-set ends (place at) (Some end)
 
 other_push : (links : List Link) (l : Link) (at : SwitchPort) →
-    other_end (links ++ l ∷ []) at ≡ option_or (other_end links at) (if is_same (near_end l) at then Some (far_end l) else if is_same (far_end l) at then Some (near_end l) else None)
+    other_end (links ++ l ∷ []) at ≡ option_or (other_end links at) (if is_same_port (near_end l) at then Some (far_end l) else if is_same_port (far_end l) at then Some (near_end l) else None)
 other_push [] l at = refl
-other_push (x ∷ links) l at = by_first (is_same (near_end x) at) (is_same (far_end x) at) (other_push links l at)
+other_push (x ∷ links) l at = by_first (is_same_port (near_end x) at) (is_same_port (far_end x) at) (other_push links l at)
   where
     by_first : (a b : Bool) →
-        other_end (links ++ l ∷ []) at ≡ option_or (other_end links at) (if is_same (near_end l) at then Some (far_end l) else if is_same (far_end l) at then Some (near_end l) else None) →
+        other_end (links ++ l ∷ []) at ≡ option_or (other_end links at) (if is_same_port (near_end l) at then Some (far_end l) else if is_same_port (far_end l) at then Some (near_end l) else None) →
         (if a then Some (far_end x) else if b then Some (near_end x) else other_end (links ++ l ∷ []) at)
-        ≡ option_or (if a then Some (far_end x) else if b then Some (near_end x) else other_end links at) (if is_same (near_end l) at then Some (far_end l) else if is_same (far_end l) at then Some (near_end l) else None)
+        ≡ option_or (if a then Some (far_end x) else if b then Some (near_end x) else other_end links at) (if is_same_port (near_end l) at then Some (far_end l) else if is_same_port (far_end l) at then Some (near_end l) else None)
     by_first true b h = refl
     by_first false true h = refl
     by_first false false h = h
@@ -105,19 +105,19 @@ module _ (switches : ℕ) where
 
   pub more_ends : (links : List Link) (l : Link) (ends : List (Option SwitchPort)) → EndsSoFar switches links ends →
       l.switch < switches → l.port < 49 → l.peer < switches → l.peer_port < 49 →
-      EndsSoFar switches (links ++ l ∷ []) (joined (joined ends (near_end l) (far_end l)) (far_end l) (near_end l))
+      EndsSoFar switches (links ++ l ∷ []) (joined_ends (joined_ends ends (near_end l) (far_end l)) (far_end l) (near_end l))
   more_ends links l ends so s p t q =
       let near = near_end l in
       let far = far_end l in
       let long = so.len in
-      let one = joined ends near far in
-      let first_long : length (joined ends near far) ≡ 49 * switches = joined-len ends near far ∙ long in
+      let one = joined_ends ends near far in
+      let first_long : length (joined_ends ends near far) ≡ 49 * switches = joined-len ends near far ∙ long in
       record {
-        len = joined-len (joined ends near far) far near ∙ first_long;
+        len = joined-len (joined_ends ends near far) far near ∙ first_long;
         leads = λ x xs xp.
-            joined-leads (joined ends near far) far near x q xp (omega (arith, first_long))
-            ∙ ap (λ o. option_or o (if is_same far x then Some near else None)) (joined-leads ends near far x p xp (omega (arith, long)) ∙ ap (λ o. option_or o (if is_same near x then Some far else None)) (so.leads x xs xp))
-            ∙ twice (other_end links x) (is_same near x) (is_same far x) far near
+            joined-leads (joined_ends ends near far) far near x q xp (omega (arith, first_long))
+            ∙ ap (λ o. option_or o (if is_same_port far x then Some near else None)) (joined-leads ends near far x p xp (omega (arith, long)) ∙ ap (λ o. option_or o (if is_same_port near x then Some far else None)) (so.leads x xs xp))
+            ∙ twice (other_end links x) (is_same_port near x) (is_same_port far x) far near
             ∙ sym (other_push links l x);
       }
 
@@ -164,8 +164,8 @@ none_marked places flags e =
 pub more_marked : (places : ℕ) (down : List SwitchPort) (p : SwitchPort) (flags : List Bool) → IsDownTable places down flags → IsDownTable places (down ++ p ∷ []) (marked flags p)
 more_marked places down p flags so = by_room (nat_lt p.port 49) (nat_lt (place p) (length flags)) refl refl
   where
-    pushed : (at : SwitchPort) (b : Bool) → is_same p at ≡ b → is_down (down ++ p ∷ []) at ≡ (is_down down at || (b || false))
-    pushed at b e = list_any-append (λ x. is_same x at) down (p ∷ []) ∙ ap (λ c. is_down down at || (c || false)) e
+    pushed : (at : SwitchPort) (b : Bool) → is_same_port p at ≡ b → is_link_down (down ++ p ∷ []) at ≡ (is_link_down down at || (b || false))
+    pushed at b e = list_any-append (λ x. is_same_port x at) down (p ∷ []) ∙ ap (λ c. is_link_down down at || (c || false)) e
 
     or_false : (b : Bool) → (b || false) ≡ b
     or_false true = refl
@@ -175,11 +175,11 @@ more_marked places down p flags so = by_room (nat_lt p.port 49) (nat_lt (place p
     or_true true = refl
     or_true false = refl
 
-    other : (at : SwitchPort) → is_same p at ≡ false → is_down down at ≡ is_down (down ++ p ∷ []) at
-    other at e = sym (pushed at false e ∙ or_false (is_down down at))
+    other : (at : SwitchPort) → is_same_port p at ≡ false → is_link_down down at ≡ is_link_down (down ++ p ∷ []) at
+    other at e = sym (pushed at false e ∙ or_false (is_link_down down at))
 
     -- no place is marked
-    unmarked : ((at : SwitchPort) → at.port < 49 → place at < places → is_same p at ≡ true → ⊥) → IsDownTable places (down ++ p ∷ []) flags
+    unmarked : ((at : SwitchPort) → at.port < 49 → place at < places → is_same_port p at ≡ true → ⊥) → IsDownTable places (down ++ p ∷ []) flags
     unmarked none = record { len = so.len; tells = λ at l t. so.tells at l t ∙ elim (same_tells p at) [ inl s ↦ absurd (none at l t s.0) | inr o ↦ other at o.0 ] }
 
     by_room : (a b : Bool) → nat_lt p.port 49 ≡ a → nat_lt (place p) (length flags) ≡ b → IsDownTable places (down ++ p ∷ []) (if a && b then set flags (place p) true else flags)
@@ -192,7 +192,7 @@ more_marked places down p flags so = by_room (nat_lt p.port 49) (nat_lt (place p
           tells = λ at m u. elim (same_tells p at) [
             | inl s ↦
                 subst (λ (z : SwitchPort). get_or (set flags (place p) true) (place z) false ≡ true) s.1 (get_or-set_same flags (place p) true false t)
-                ∙ sym (pushed at true s.0 ∙ or_true (is_down down at))
+                ∙ sym (pushed at true s.0 ∙ or_true (is_link_down down at))
             | inr o ↦ get_or-set_other flags (place p) (place at) true false (λ h. o.1 (one_place p at l m (sym h))) ∙ so.tells at m u ∙ other at o.0
           ];
         }
@@ -229,18 +229,18 @@ module _ (setup : Setup) (down : List SwitchPort) (is : IsSetup setup) (ends : L
       let a_low = a.3 in
       let b_in = b.0 in
       let b_low = b.3 in
-      let here : get_or flags (place at) false ≡ is_down down at = told.tells at (omega (arith, a_low)) (omega (arith, long, a_in, a_low)) in
-      let there : get_or flags (place end) false ≡ is_down down end = told.tells end (omega (arith, b_low)) (omega (arith, long, b_in, b_low)) in
+      let here : get_or flags (place at) false ≡ is_link_down down at = told.tells at (omega (arith, a_low)) (omega (arith, long, a_in, a_low)) in
+      let there : get_or flags (place end) false ≡ is_link_down down end = told.tells end (omega (arith, b_low)) (omega (arith, long, b_in, b_low)) in
       rw (here, there) refl
 
   pub kept_up_is : IsUpTable setup down (all_kept_up flags 0 ends)
-  unfolding over_link
+  unfolding over_known_link
   kept_up_is = record { len = kept-len flags ends 0 ∙ known.len; leads = leads }
     where
-      none_kept : (at : SwitchPort) → other_end setup.links at ≡ None → None ≡ over_link setup down at
+      none_kept : (at : SwitchPort) → other_end setup.links at ≡ None → None ≡ over_known_link setup down at
       none_kept at e = rw e refl
 
-      leads : (at : SwitchPort) → get_or (row (all_kept_up flags 0 ends) at.switch) at.port None ≡ over_link setup down at
+      leads : (at : SwitchPort) → get_or (row (all_kept_up flags 0 ends) at.switch) at.port None ≡ over_known_link setup down at
       leads at = elim (cases_lt at.port 49) [
         | inl p ↦
             let zero_more : 0 + place at ≡ place at = omega arith in
@@ -279,12 +279,12 @@ whole_back n new old same e =
     let none : drop (length new) old ≡ [] = drop_all (length new) old (omega arith) in
     ap (λ l. take n (new ++ l)) none ∙ ap (λ l. take n l) (append-nil new) ∙ take_all n new (omega arith)
 
-pub joined_len : (ends : List (Option SwitchPort)) (near far : SwitchPort) → length (joined (joined ends near far) far near) ≡ length ends
-joined_len ends near far = joined-len (joined ends near far) far near ∙ joined-len ends near far
+pub joined_len : (ends : List (Option SwitchPort)) (near far : SwitchPort) → length (joined_ends (joined_ends ends near far) far near) ≡ length ends
+joined_len ends near far = joined-len (joined_ends ends near far) far near ∙ joined-len ends near far
 
 -- the table for one more link of a setup
 pub next_ends : (setup : Setup) → IsSetup setup → (links : List Link) → links ≡ setup.links → (i : ℕ) (d : Link) → i < length links → (old : List (Option SwitchPort)) → EndsSoFar (length setup.ports) (take i links) old →
-    EndsSoFar (length setup.ports) (take (i + 1) links) (joined (joined old (near_end (get_or links i d)) (far_end (get_or links i d))) (far_end (get_or links i d)) (near_end (get_or links i d)))
+    EndsSoFar (length setup.ports) (take (i + 1) links) (joined_ends (joined_ends old (near_end (get_or links i d)) (far_end (get_or links i d))) (far_end (get_or links i d)) (near_end (get_or links i d)))
 next_ends setup is links same i d h old so =
     let l = get_or links i d in
     let all = All-from_recursion (λ (x : Link). IsPort setup x.switch x.port × IsPort setup x.peer x.peer_port) links (subst (λ (ls : List Link). AllByRecursion (λ (x : Link). IsPort setup x.switch x.port × IsPort setup x.peer x.peer_port) ls) (sym same) is.links) in
@@ -293,5 +293,5 @@ next_ends setup is links same i d h old so =
     let b = port_bounds setup is (far_end (get_or links i d)) both.1 in
     let a_low = a.3 in
     let b_low = b.3 in
-    subst (λ (ls : List Link). EndsSoFar (length setup.ports) ls (joined (joined old (near_end (get_or links i d)) (far_end (get_or links i d))) (far_end (get_or links i d)) (near_end (get_or links i d)))) (sym (take_more links i d h))
+    subst (λ (ls : List Link). EndsSoFar (length setup.ports) ls (joined_ends (joined_ends old (near_end (get_or links i d)) (far_end (get_or links i d))) (far_end (get_or links i d)) (near_end (get_or links i d)))) (sym (take_more links i d h))
     (more_ends (length setup.ports) (take i links) (get_or links i d) old so a.0 (omega (arith, a_low)) b.0 (omega (arith, b_low)))

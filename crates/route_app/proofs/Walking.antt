@@ -9,10 +9,10 @@ use Rattle.std.proofs.lemmas.List.FromFn.{length-map-range_with_len, get_or-map-
 use Rattle.of_types.specs.declared.setup.Setup.{Setup}
 use Rattle.of_types.specs.Setups.{IsSetup}
 use Rattle.app_core.specs.declared.switch_port.SwitchPort.{SwitchPort}
-use Rattle.app_core.specs.Routes.{over_link, walks, route, unreached, hops_of, levels, IsWalk, FallsAlong, ShowRoutes}
+use Rattle.app_core.specs.Routes.{over_known_link, walks, route, unreached, hops_of, levels, IsWalk, FallsAlong, ShowRoutes}
 use Rattle.route_app.specs.Search.{row, level, FindsLevels, FindsUpTo}
 use Rattle.route_app.specs.Tables.{IsUpTable}
-use Rattle.route_app.specs.Hops.{HasNone, IsFirst, Answers}
+use Rattle.route_app.specs.Hops.{HasNone, IsFirstPort, AnswersRoute}
 use Rattle.app_core.proofs.Linked.{over_other, over_ports, port_bounds}
 use Rattle.route_app.proofs.Walks.{first_hop, last_hop, route_found, no_route}
 use Rattle.app_core.proofs.Routes.{In, in_first, walks_sound, walks_all, route_means}
@@ -23,18 +23,18 @@ pub record Walking (setup : Setup) (down : List SwitchPort) (to from : ℕ) (fou
   pub rest : (w : List SwitchPort) → slice_get (walks setup down to (level found here) here) 0 ≡ Some w → slice_get (walks setup down to (level found from) from) 0 ≡ Some (walk ++ w)
 
 module _ (setup : Setup) (down : List SwitchPort) (to : ℕ) (is : IsSetup setup) (table : List (Option SwitchPort)) (up : IsUpTable setup down table) (found : List ℕ) (f : FindsLevels table (length setup.ports) to found) where
-  near : (at end : SwitchPort) → over_link setup down at ≡ Some end → level found at.switch ≤ level found end.switch + 1
+  near : (at end : SwitchPort) → over_known_link setup down at ≡ Some end → level found at.switch ≤ level found end.switch + 1
   near at end e = f.near at.switch at.port end.switch (end, up.leads at ∙ e, refl)
 
   pub sets_out : (from : ℕ) → level found from ≢ unreached → Walking setup down to from found from []
   sets_out from h = record { reached = h; rest = λ w e. e }
 
   module _ (from here : ℕ) (walk : List SwitchPort) (so : Walking setup down to from found here walk) where
-    pub hop_goes_on : (hops port : ℕ) (end : SwitchPort) → level found here ≡ suc hops → IsFirst (row table here) found hops port end →
+    pub hop_goes_on : (hops port : ℕ) (end : SwitchPort) → level found here ≡ suc hops → IsFirstPort (row table here) found hops port end →
         Walking setup down to from found end.switch (walk ++ record { switch = here; port = port } ∷ [])
     hop_goes_on hops port end is_level first =
         let at : SwitchPort = record { switch = here; port = port } in
-        let link : over_link setup down (record { switch = here; port = port }) ≡ Some end = sym (up.leads (record { switch = here; port = port })) ∙ first.leads in
+        let link : over_known_link setup down (record { switch = here; port = port }) ≡ Some end = sym (up.leads (record { switch = here; port = port })) ∙ first.leads in
         let bounds = port_bounds setup is (record { switch = here; port = port }) (over_ports setup down is (record { switch = here; port = port }) end link).0 in
         let few = f.few here so.reached in
         let low = first.low in
@@ -179,10 +179,10 @@ module _ (setup : Setup) (down : List SwitchPort) (to : ℕ) (is : IsSetup setup
       }
 
   -- what the way down answers
-  pub answers_none : (from : ℕ) → level found from ≡ unreached → Answers setup down from to None
+  pub answers_none : (from : ℕ) → level found from ≡ unreached → AnswersRoute setup down from to None
   answers_none from e = record { is = no_way from e; none = λ w p. no_walk w from e p }
 
-  pub answers_some : (from here : ℕ) (walk : List SwitchPort) → Walking setup down to from found here walk → level found here ≡ 0 → level found from ≢ unreached → Answers setup down from to (Some walk)
+  pub answers_some : (from here : ℕ) (walk : List SwitchPort) → Walking setup down to from found here walk → level found here ≡ 0 → level found from ≢ unreached → AnswersRoute setup down from to (Some walk)
   answers_some from here walk so zero_level out = record { is = arrives from here walk so zero_level out; none = tt }
 
   -- a row by another name
@@ -190,8 +190,8 @@ module _ (setup : Setup) (down : List SwitchPort) (to : ℕ) (is : IsSetup setup
   stuck from here walk so r wanted e is_level none = not_stuck from here walk so wanted is_level (subst (λ (x : List (Option SwitchPort)). HasNone x found wanted (length x)) e none)
 
   pub goes_nearer : (from here : ℕ) (walk : List SwitchPort) → Walking setup down to from found here walk → (r : List (Option SwitchPort)) (wanted port : ℕ) (end : SwitchPort) → r ≡ row table here → level found here ≡ suc wanted →
-      IsFirst r found wanted port end → Walking setup down to from found end.switch (walk ++ record { switch = here; port = port } ∷ [])
-  goes_nearer from here walk so r wanted port end e is_level first = hop_goes_on from here walk so wanted port end is_level (subst (λ (x : List (Option SwitchPort)). IsFirst x found wanted port end) e first)
+      IsFirstPort r found wanted port end → Walking setup down to from found end.switch (walk ++ record { switch = here; port = port } ∷ [])
+  goes_nearer from here walk so r wanted port end e is_level first = hop_goes_on from here walk so wanted port end is_level (subst (λ (x : List (Option SwitchPort)). IsFirstPort x found wanted port end) e first)
 
 -- levels up to that of the first switch of the way
 module _ (setup : Setup) (table : List (Option SwitchPort)) (to from : ℕ) (levels : List ℕ) (f : FindsUpTo table (length setup.ports) to (Some from) levels) where
@@ -213,7 +213,7 @@ module _ (setup : Setup) (table : List (Option SwitchPort)) (to from : ℕ) (lev
   pub none_in_all : (row : List (Option SwitchPort)) (wanted below : ℕ) → wanted < level f.all from → HasNone row levels wanted below → HasNone row f.all wanted below
   none_in_all row wanted below low none = λ q end h e same. none q end h e (level_up_to end.switch (omega (arith, low, same)) ∙ same)
 
-  pub first_in_all : length setup.ports ≤ 64 → (row : List (Option SwitchPort)) (wanted port : ℕ) (end : SwitchPort) → wanted < level f.all from → IsFirst row levels wanted port end → IsFirst row f.all wanted port end
+  pub first_in_all : length setup.ports ≤ 64 → (row : List (Option SwitchPort)) (wanted port : ℕ) (end : SwitchPort) → wanted < level f.all from → IsFirstPort row levels wanted port end → IsFirstPort row f.all wanted port end
   first_in_all few row wanted port end low first =
       let at = first.low in
       record { leads = first.leads; low = level_low few end.switch (omega (arith, at, low)) ∙ first.low; none = none_in_all row wanted port low first.none }

@@ -3,11 +3,11 @@ ghost use Rattle.std.specs.Prelude.{◌≡◌, ◌≤◌, ◌<◌, ◌+◌, ◌+
 ghost use Rattle.of_types.specs.declared.message.Happening.TheVariants as happening;
 ghost use Rattle.of_types.specs.declared.setup.Setup.{Setup};
 ghost use Rattle.app_core.specs.Chain.{flat_routing, most_given, part_next, routing};
-ghost use Rattle.app_core.specs.Parts.{Steps};
+ghost use Rattle.app_core.specs.Parts.{PartSteps};
 ghost use Rattle.app_core.specs.Routes.{route};
 ghost use Rattle.app_core.specs.Routing.{place_of_destination, installed, routed, forgetting_ends};
-ghost use Rattle.route_app.specs.Places.{hosts_in};
-ghost use Rattle.route_app.specs.Knowing.{source_over, routing_in, changed, restarted, IsFit, Reacts};
+ghost use Rattle.route_app.specs.Places.{hosts_on};
+ghost use Rattle.route_app.specs.Knowing.{source_over, routing_in, changed, restarted_routing, IsFit, Reacts};
 ghost use Rattle.route_app.specs.UpLinks.{AreUp};
 ghost use Rattle.route_app.specs.Wired.{IsWires, end_over};
 
@@ -47,7 +47,7 @@ fn learn_source(
     at: SwitchPort,
     source: Option<u64>,
 ) -> Result<(), AllocError>
-    ensures { OnOk result (hosts_in places.new.entries ≡ source_over wires.now (hosts_in places.old.entries) at source) }
+    ensures { OnOk result (hosts_on places.new.entries ≡ source_over wires.now (hosts_on places.old.entries) at source) }
 {
     match source {
         Some(address) if edge_over(wires, at) && is_single(address) => {
@@ -59,7 +59,7 @@ fn learn_source(
 
 /// Where the destination was seen.
 fn place_of_destination(places: &Places, destination: Option<u64>) -> Option<SwitchPort>
-    ensures { result ≡ place_of_destination (hosts_in places.now.entries) destination }
+    ensures { result ≡ place_of_destination (hosts_on places.now.entries) destination }
 {
     match destination {
         Some(address) => place_of(places, address),
@@ -162,7 +162,7 @@ fn on_port_status(
 /// A switch is up again: all its ports count as up, and its addresses are forgotten.
 fn on_switch_up(wires: &Wires, known: &mut Known, switch: u8)
     ensures fit { (setup : Setup) → IsFit setup wires.now known.old → IsFit setup wires.now known.new }
-    ensures known { routing_in known.new ≡ restarted (routing_in known.old) switch }
+    ensures known { routing_in known.new ≡ restarted_routing (routing_in known.old) switch }
 {
     forget_switch(&mut known.places, switch);
     switch_up(wires, &mut known.links, switch);
@@ -202,7 +202,7 @@ fn on_event(
 ) -> Result<(), AllocError>
     ensures fit { (setup : Setup) → IsFit setup wires.now known.old → IsFit setup wires.now known.new }
     ensures step { (setup : Setup) → IsFit setup wires.now known.old →
-        OnOk result (Steps (part_next routing setup (flat_routing (routing_in known.old)) event.now) (flat_routing (routing_in known.new)) out.old out.new false × (length out.new ≤ length out.old + most_given routing)) }
+        OnOk result (PartSteps (part_next routing setup (flat_routing (routing_in known.old)) event.now) (flat_routing (routing_in known.new)) out.old out.new false × (length out.new ≤ length out.old + most_given routing)) }
 {
     if event.switch < wires.switches {
         on_happening(alloc, wires, known, event.switch, &event.what, out)?;

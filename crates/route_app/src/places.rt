@@ -1,10 +1,10 @@
 //! Where addresses were seen, and which ports are down.
 ghost use Rattle.std.specs.Prelude.{◌≡◌, ◌≤◌, not, nat_eq, ◌&&◌, length, slice_get, OnOk, OnErr};
 ghost use Rattle.app_core.specs.Learning.{forgotten, forgotten_at};
-ghost use Rattle.app_core.specs.Routes.{is_same};
-ghost use Rattle.app_core.specs.Routing.{place_of, placed, is_before, with_port, without_port, without_switch};
+ghost use Rattle.app_core.specs.Routes.{is_same_port};
+ghost use Rattle.app_core.specs.Routing.{host_place_of, placed_host, is_port_before, with_known_port, without_port, without_switch};
 ghost use Rattle.route_app.specs.Orderly.{StaysOrderly};
-ghost use Rattle.route_app.specs.Places.{hosts_in, rank, is_there};
+ghost use Rattle.route_app.specs.Places.{hosts_on, rank, is_there};
 
 use app_core::SwitchPort;
 use indexmap::IndexMap;
@@ -15,14 +15,14 @@ pub type Places = IndexMap<u64, SwitchPort>;
 
 /// Where an address was seen.
 pub fn place_of(places: &Places, address: u64) -> Option<SwitchPort>
-    ensures { result ≡ place_of (hosts_in places.now.entries) address }
+    ensures { result ≡ host_place_of (hosts_on places.now.entries) address }
 {
     places.get(&address).copied()
 }
 
 /// An address is set to a port.
 pub fn set_place(places: &mut Places, address: u64, at: SwitchPort) -> Result<(), AllocError>
-    ensures { OnOk result (hosts_in places.new.entries ≡ placed (hosts_in places.old.entries) address at) }
+    ensures { OnOk result (hosts_on places.new.entries ≡ placed_host (hosts_on places.old.entries) address at) }
 {
     places.insert(address, at)?;
     Ok(())
@@ -30,7 +30,7 @@ pub fn set_place(places: &mut Places, address: u64, at: SwitchPort) -> Result<()
 
 /// The addresses that were seen at a port are forgotten.
 pub fn forget_port(places: &mut Places, switch: u8, port: u32)
-    ensures { hosts_in places.new.entries ≡ forgotten (hosts_in places.old.entries) switch port }
+    ensures { hosts_on places.new.entries ≡ forgotten (hosts_on places.old.entries) switch port }
 {
     places.retain(
         |address: &u64, at: &mut SwitchPort| -> bool
@@ -41,7 +41,7 @@ pub fn forget_port(places: &mut Places, switch: u8, port: u32)
 
 /// The addresses that were seen at a switch are forgotten.
 pub fn forget_switch(places: &mut Places, switch: u8)
-    ensures { hosts_in places.new.entries ≡ forgotten_at (hosts_in places.old.entries) switch }
+    ensures { hosts_on places.new.entries ≡ forgotten_at (hosts_on places.old.entries) switch }
 {
     places.retain(
         |address: &u64, at: &mut SwitchPort| -> bool
@@ -52,14 +52,14 @@ pub fn forget_switch(places: &mut Places, switch: u8)
 
 /// Two are the same port.
 pub fn is_same(a: SwitchPort, b: SwitchPort) -> bool
-    ensures { result ≡ is_same a b }
+    ensures { result ≡ is_same_port a b }
 {
     a.switch == b.switch && a.port == b.port
 }
 
 /// One port comes before another.
 fn is_before(a: SwitchPort, b: SwitchPort) -> bool
-    ensures { result ≡ is_before a b }
+    ensures { result ≡ is_port_before a b }
 {
     a.switch < b.switch || (a.switch == b.switch && a.port < b.port)
 }
@@ -86,7 +86,7 @@ fn is_there(down: &[SwitchPort], place: usize, at: SwitchPort) -> bool
 
 /// A port joins those that are down, at its place. At want of memory nothing changes.
 pub fn take_down(down: &mut Vec<SwitchPort>, at: SwitchPort) -> Result<(), AllocError>
-    ensures joined { OnOk result (down.new.items ≡ with_port down.old.items at) }
+    ensures joined { OnOk result (down.new.items ≡ with_known_port down.old.items at) }
     ensures kept { OnErr result (down.new.items ≡ down.old.items) }
 {
     let place = rank(down.as_slice(), at);

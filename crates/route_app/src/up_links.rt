@@ -1,8 +1,8 @@
 //! Which ports are down, and where links lead that are up, as ports go down and come up.
 ghost use Rattle.std.specs.Prelude.{◌≡◌, [], Some, IfOk, OnOk};
 ghost use Rattle.of_types.specs.declared.setup.Setup.{Setup};
-ghost use Rattle.app_core.specs.Routes.{is_down, if_up};
-ghost use Rattle.app_core.specs.Routing.{with_port, without_port, without_switch};
+ghost use Rattle.app_core.specs.Routes.{is_link_down, if_up};
+ghost use Rattle.app_core.specs.Routing.{with_known_port, without_port, without_switch};
 ghost use Rattle.route_app.specs.Tables.{led};
 ghost use Rattle.route_app.specs.Wired.{IsWires};
 ghost use Rattle.route_app.specs.UpLinks.{AreUp, relinked, relinked_ports};
@@ -58,7 +58,7 @@ fn lead(table: &mut Vec<Option<SwitchPort>>, at: SwitchPort, end: Option<SwitchP
 
 /// Whether a port is among those that are down.
 fn is_down(down: &[SwitchPort], at: SwitchPort) -> bool
-    ensures { result ≡ is_down down.now at }
+    ensures { result ≡ is_link_down down.now at }
 {
     down.iter().any(|port| is_same(*port, at))
 }
@@ -96,7 +96,7 @@ fn relink_ports(wires: &Wires, down: &[SwitchPort], table: &mut Vec<Option<Switc
 /// A port goes down, and its link with it. At want of memory nothing changes.
 pub fn port_down(wires: &Wires, links: &mut UpLinks, at: SwitchPort) -> Result<(), AllocError>
     ensures up { (setup : Setup) → IsWires setup wires.now → AreUp setup links.old → AreUp setup links.new }
-    ensures down { OnOk result (links.new.down.items ≡ with_port links.old.down.items at) }
+    ensures down { OnOk result (links.new.down.items ≡ with_known_port links.old.down.items at) }
 {
     take_down(&mut links.down, at)?;
     relink(wires, links.down.as_slice(), &mut links.table, at);

@@ -13,7 +13,7 @@ use Rattle.agreement.proofs.Agreeing.{journals_law}
 use Rattle.vr_log.specs.declared.entry.Entry.{Entry}
 use Rattle.vr_log.specs.declared.state.Status.{Status}
 use Rattle.vr_log.specs.declared.state.Status.TheVariants as status
-use Rattle.member_moves.specs.Projection.{group_of, status_of, state_of}
+use Rattle.member_moves.specs.Projection.{group_of, member_status_of, member_state_of}
 use Rattle.group_controller.specs.State.{ControllerState, committed}
 use Rattle.controller_moves.specs.Projection.{OwnInput}
 use Rattle.controller_moves.specs.Rules.{SavingController}
@@ -21,7 +21,7 @@ use Rattle.controller_moves.proofs.Following.{follow_law}
 use Rattle.run_spec.specs.States.{Scene, controller_at}
 use Rattle.run_spec.specs.Legal.{results_of}
 use Rattle.run_spec.specs.Committed.{kept}
-use Rattle.run_agreement.specs.Projection.{entries_of, past_of, rules_of}
+use Rattle.run_agreement.specs.Projection.{journal_entries_of, past_of, rules_of}
 use Rattle.run_agreement.specs.Laws.{KeptLogsAgree}
 use Rattle.run_agreement.proofs.Journals.{in_group, past_legal}
 use Rattle.run_agreement.proofs.Reading.{IsReadPast, read_drop, read_past}
@@ -33,7 +33,7 @@ turned z = elim z [ inl p ↦ inr p | inr p ↦ inl p ]
 pub drops : {A : Type 0} (i j : ℕ) (xs : List A) → drop i (drop j xs) ≡ drop (i + j) xs
 drops i j xs = drop-drop i j xs ∙ ap (λ (k : ℕ). drop k xs) (omega arith)
 
-same_up : (x : Status) → invariant.is_up (status_of x) ≡ (elim x [ status.Normal ↦ true | status.ViewChange ↦ true | status.Recovering ↦ false | status.Down ↦ false ])
+same_up : (x : Status) → invariant.is_up_status (member_status_of x) ≡ (elim x [ status.Normal ↦ true | status.ViewChange ↦ true | status.Recovering ↦ false | status.Down ↦ false ])
 same_up status.Normal = refl
 same_up status.ViewChange = refl
 same_up status.Recovering = refl
@@ -45,16 +45,16 @@ module _ {B : Type 0} (scene : Scene B) (results : List (List SaveResult)) (most
   past_on [] past = ([], refl)
   past_on (e ∷ more) past =
       let x = past_on more past in
-      let y : List (journal.Entry OwnInput Entry) = entries_of scene e (drawn e (more ++ past)) in
+      let y : List (journal.Entry OwnInput Entry) = journal_entries_of scene e (drawn e (more ++ past)) in
       (y ++ x.0, ap (λ (l : List (journal.Entry OwnInput Entry)). y ++ l) x.1 ∙ sym (append_assoc y x.0 (past_of scene past)))
 
   -- what a controller has committed is what the moves show
-  pub kept_is : (c : ℕ) (past : List (JournalEntry B)) → IsReadPast scene results past → journal.kept (rules_of scene most_failures results) c (past_of scene past) ≡ kept scene results c past
+  pub kept_is : (c : ℕ) (past : List (JournalEntry B)) → IsReadPast scene results past → journal.kept_log (rules_of scene most_failures results) c (past_of scene past) ≡ kept scene results c past
   kept_is c past k =
       let same = stands_alike scene results most_failures c n past k.possible.orderly in
       let at = controller_at scene (results_of results c) c (part (actor.Controller c) past) in
       let now : ControllerState = at.now in
-      ap (λ (a : SavingController). cond (invariant.is_up (state_of a.state.vr).status) (committed_log (state_of a.state.vr)) []) same.now
+      ap (λ (a : SavingController). cond (invariant.is_up_status (member_state_of a.state.vr).status) (committed_log (member_state_of a.state.vr)) []) same.now
       ∙ ap (λ (t : Bool). cond t (committed now) []) (same_up now.vr.status)
 
   later_agree : (more past : List (JournalEntry B)) (c d : ℕ) → IsReadPast scene results (more ++ past) → IsReadPast scene results past → c < scene.setup.controllers → d < scene.setup.controllers
@@ -64,8 +64,8 @@ module _ {B : Type 0} (scene : Scene B) (results : List (List SaveResult)) (most
       let legal = (past_legal scene results most_failures n (more ++ past) k).legal in
       let x = past_on more past in
       let law = journals_law r (group_of most_failures) x.0 (past_of scene past) c d (follow_law scene.kinds scene.setup most_failures (λ c. results_of results c))
-      (subst (λ (es : List (journal.Entry OwnInput Entry)). journal.IsLegal r (group_of most_failures) es) x.1 legal) (in_group scene results most_failures n c b) (in_group scene results most_failures n d b') in
-      let new = ap (λ (es : List (journal.Entry OwnInput Entry)). journal.kept r d es) (sym x.1) ∙ kept_is d (more ++ past) k in
+      (subst (λ (es : List (journal.Entry OwnInput Entry)). journal.IsAllowed r (group_of most_failures) es) x.1 legal) (in_group scene results most_failures n c b) (in_group scene results most_failures n d b') in
+      let new = ap (λ (es : List (journal.Entry OwnInput Entry)). journal.kept_log r d es) (sym x.1) ∙ kept_is d (more ++ past) k in
       subst₂ (λ p q. IsPrefix p q ⊎ IsPrefix q p) (kept_is c past k') new law
 
   -- the one at an earlier time than the other

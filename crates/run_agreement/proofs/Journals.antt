@@ -12,15 +12,15 @@ use Rattle.journal.specs.Pool.{pool}
 use Rattle.list_facts.proofs.Elements.{all_of, in_left, in_right}
 use Rattle.list_facts.specs.Lists.{IsIn}
 use Rattle.agreement.specs.History as core
-use Rattle.agreement.specs.History.{size, letter}
+use Rattle.agreement.specs.History.{size, abstract_letter}
 use Rattle.agreement.specs.Journals as journal
-use Rattle.agreement.specs.Journals.{Rules, Comes, posted, left_by, stands}
+use Rattle.agreement.specs.Journals.{Rules, Comes, posted_in_history, rest_left_by, stands}
 use Rattle.vr_log.specs.declared.entry.Entry.{Entry}
 use Rattle.vr_log.specs.declared.message.VrMessage.{VrMessage}
 use Rattle.member_moves.specs.Projection.{group_of, message_of}
 use Rattle.group_controller.specs.declared.messages.ControllerSays.{ControllerSays}
 use Rattle.group_controller.specs.declared.messages.ControllerSays.TheVariants as controller_says
-use Rattle.controller_moves.specs.Projection.{OwnInput, letters_to, letters_to_members}
+use Rattle.controller_moves.specs.Projection.{OwnInput, projected_letters_to, letters_to_members}
 use Rattle.controller_moves.specs.Rules.{SavingController}
 use Rattle.run_spec.specs.declared.messages.Message.TheVariants as message
 use Rattle.run_spec.specs.declared.messages.Unsealed.{Unsealed}
@@ -30,22 +30,22 @@ use Rattle.run_spec.specs.States.{Scene, content, controller_hears, controller_m
 use Rattle.run_spec.specs.Legal.{results_of}
 use Rattle.run_spec.proofs.Pasts.{self_controller}
 use Rattle.run_spec.proofs.Pools.{drawn_found, IsPosted, Was, New, pool_after}
-use Rattle.run_agreement.specs.Projection.{taken_by, entries_of, past_of, rules_of}
+use Rattle.run_agreement.specs.Projection.{taken_by, journal_entries_of, past_of, rules_of}
 use Rattle.run_agreement.proofs.Invariants.{read_between}
 use Rattle.run_agreement.proofs.Pasts.{named, fits, was_owed}
 use Rattle.run_agreement.proofs.Reading.{IsRead, IsReadPast, read_before}
 use Rattle.run_agreement.proofs.Standing.{stands_alike}
 
 -- what is said in a letter is among what is said in all
-said_among : (c : ℕ) (ls : List (Letter ControllerSays)) (l : Letter ControllerSays) → IsIn l ls → (x : core.Letter Entry) → IsIn x (letters_to c l.to l.body) → IsIn x (letters_to_members c ls)
+said_among : (c : ℕ) (ls : List (Letter ControllerSays)) (l : Letter ControllerSays) → IsIn l ls → (x : core.Letter Entry) → IsIn x (projected_letters_to c l.to l.body) → IsIn x (letters_to_members c ls)
 said_among c [] l i x k = absurd i
 said_among c (m ∷ ls) l i x k = elim i [
-  | inl e ↦ in_left x (letters_to c m.to m.body) (letters_to_members c ls) (subst (λ (z : Letter ControllerSays). IsIn x (letters_to c z.to z.body)) e k)
-  | inr j ↦ in_right x (letters_to c m.to m.body) (letters_to_members c ls) (said_among c ls l j x k)
+  | inl e ↦ in_left x (projected_letters_to c m.to m.body) (letters_to_members c ls) (subst (λ (z : Letter ControllerSays). IsIn x (projected_letters_to c z.to z.body)) e k)
+  | inr j ↦ in_right x (projected_letters_to c m.to m.body) (letters_to_members c ls) (said_among c ls l j x k)
 ]
 
 -- what is no message of a member is of the controller's own
-comes : (c : ℕ) (sent : List (core.Letter Entry)) (from : Actor) (u : Unsealed) → ((j : ℕ) (m : VrMessage) → from ≡ actor.Controller j → u ≡ unsealed.Message (message.Vr m) → IsIn (letter j c (message_of m)) sent)
+comes : (c : ℕ) (sent : List (core.Letter Entry)) (from : Actor) (u : Unsealed) → ((j : ℕ) (m : VrMessage) → from ≡ actor.Controller j → u ≡ unsealed.Message (message.Vr m) → IsIn (abstract_letter j c (message_of m)) sent)
     → Comes c (taken_by c (controller_hears from u)) sent
 comes c sent (actor.Controller j) (unsealed.Message (message.Vr m)) k = (refl, k j m refl refl)
 comes c sent (actor.Controller j) (unsealed.Message (message.Of xid m)) k = tt
@@ -61,10 +61,10 @@ module _ {B : Type 0} (scene : Scene B) (results : List (List SaveResult)) (most
   r = rules_of scene most_failures results
 
   abbrev IsLegalForMoves : List (journal.Entry OwnInput Entry) → Type 0
-  IsLegalForMoves past = journal.IsLegal r (group_of most_failures) past
+  IsLegalForMoves past = journal.IsAllowed r (group_of most_failures) past
 
   abbrev posts : List (journal.Entry OwnInput Entry) → List (core.Letter Entry)
-  posts past = posted r past
+  posts past = posted_in_history r past
 
   abbrev owes : ℕ → List (JournalEntry B) → List (Letter ControllerSays)
   owes c past = (controller_at scene (results_of results c) c (part (actor.Controller c) past)).owed
@@ -78,7 +78,7 @@ module _ {B : Type 0} (scene : Scene B) (results : List (List SaveResult)) (most
     pub said : ControllerSays
     pub body : p.body ≡ scene.sealing.sealed (controller_message said)
     pub read : IsRead scene p.to said
-    pub sent : (x : core.Letter Entry) → IsIn x (letters_to j p.to said) → IsIn x (posts (past_of scene past))
+    pub sent : (x : core.Letter Entry) → IsIn x (projected_letters_to j p.to said) → IsIn x (posts (past_of scene past))
 
   -- a past is legal for agreement, and so was posted what waits of members
   pub record IsAgreementPast (past : List (JournalEntry B)) : Type 0 where
@@ -87,10 +87,10 @@ module _ {B : Type 0} (scene : Scene B) (results : List (List SaveResult)) (most
 
   posts_more : (ys past : List (journal.Entry OwnInput Entry)) (x : core.Letter Entry) → IsIn x (posts past) → IsIn x (posts (ys ++ past))
   posts_more [] past x i = i
-  posts_more (y ∷ ys) past x i = in_right x (left_by r y (ys ++ past)) (posts (ys ++ past)) (posts_more ys past x i)
+  posts_more (y ∷ ys) past x i = in_right x (rest_left_by r y (ys ++ past)) (posts (ys ++ past)) (posts_more ys past x i)
 
   posted_more : (e : JournalEntry B) (before : List (JournalEntry B)) (p : Packet B) (j : ℕ) → IsPostedBy before p j → IsPostedBy (e ∷ before) p j
-  posted_more e before p j k = record { said = k.said; body = k.body; read = k.read; sent = λ x i. posts_more (entries_of scene e (drawn e before)) (past_of scene before) x (k.sent x i) }
+  posted_more e before p j k = record { said = k.said; body = k.body; read = k.read; sent = λ x i. posts_more (journal_entries_of scene e (drawn e before)) (past_of scene before) x (k.sent x i) }
 
   -- a packet that is drawn was posted
   drawn_comes : (d : ℕ) (before : List (JournalEntry B)) → IsAgreementPast before → (p : Packet B) → IsIn p (pool before) → p.to ≡ actor.Controller d
@@ -99,9 +99,9 @@ module _ {B : Type 0} (scene : Scene B) (results : List (List SaveResult)) (most
       comes d (posts (past_of scene before)) p.from (content scene.sealing p) (λ j m from says.
       let s = k.packets p i j from in
       let is : s.said ≡ controller_says.Vr m = s.read d m to (read_between scene p j d s.said m from to s.body says) in
-      s.sent (letter j d (message_of m))
-      (subst (λ (a : Actor). IsIn (letter j d (message_of m)) (letters_to j a s.said)) (sym to)
-      (subst (λ (b : ControllerSays). IsIn (letter j d (message_of m)) (letters_to j (actor.Controller d) b)) (sym is) (inl refl))))
+      s.sent (abstract_letter j d (message_of m))
+      (subst (λ (a : Actor). IsIn (abstract_letter j d (message_of m)) (projected_letters_to j a s.said)) (sym to)
+      (subst (λ (b : ControllerSays). IsIn (abstract_letter j d (message_of m)) (projected_letters_to j (actor.Controller d) b)) (sym is) (inl refl))))
 
   nothing_owed : (d : ℕ) (before : List (JournalEntry B)) → IsReadPast scene results before → owes d before ≡ []
       → (stands r d (past_of scene before)).owed ≡ []
@@ -111,7 +111,7 @@ module _ {B : Type 0} (scene : Scene B) (results : List (List SaveResult)) (most
 
   drawing : (d id : ℕ) (keep : Bool) (before : List (JournalEntry B)) → IsAgreementPast before → d < size (group_of most_failures)
       → (stands r d (past_of scene before)).owed ≡ [] → (p : Packet B) → IsIn p (pool before) → p.to ≡ actor.Controller d → (q : Option (Packet B)) → q ≡ Some p
-      → IsLegalForMoves (entries_of scene (Draw (actor.Controller d) id keep) q ++ past_of scene before)
+      → IsLegalForMoves (journal_entries_of scene (Draw (actor.Controller d) id keep) q ++ past_of scene before)
   drawing d id keep before k b none p i to None e = absurd cc
   drawing d id keep before k b none p i to (Some q) e =
       let same : q ≡ p = cc in (
@@ -152,7 +152,7 @@ module _ {B : Type 0} (scene : Scene B) (results : List (List SaveResult)) (most
         body = w.body_is;
         read = subst (λ (a : Actor). IsRead scene a w.letter.body) (sym w.to_is) (all_of (λ (l : Letter ControllerSays). FitsMessage (controller_message l.body) → IsRead scene l.to l.body) (owes d before) w.letter (k.letters.0 d there) w.among w.typed);
         sent = λ x y.
-            let z : IsIn x (letters_to d w.letter.to w.letter.body) = subst (λ (a : Actor). IsIn x (letters_to d a w.letter.body)) w.to_is y in
+            let z : IsIn x (projected_letters_to d w.letter.to w.letter.body) = subst (λ (a : Actor). IsIn x (projected_letters_to d a w.letter.body)) w.to_is y in
             in_left x (stands r d (past_of scene before)).owed (posts (past_of scene before))
             (subst (λ (ls : List (core.Letter Entry)). IsIn x ls) (sym same.owed) (said_among d (owes d before) w.letter w.among x z));
       }

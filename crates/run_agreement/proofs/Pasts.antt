@@ -20,7 +20,7 @@ use Rattle.group_controller.specs.declared.messages.ControllerInput.TheVariants 
 use Rattle.group_controller.specs.declared.messages.ControllerSays.{ControllerSays}
 use Rattle.run_spec.specs.Messages.{FitsMessage}
 use Rattle.run_spec.specs.States.{Scene, content, controller_hears, controller_message, controller_at}
-use Rattle.run_spec.specs.Legal.{Fits, IsSoundController, IsPossible, results_of}
+use Rattle.run_spec.specs.Legal.{FitsDebt, IsSoundController, IsPossible, results_of}
 use Rattle.run_spec.specs.Inputs.{IsHeard, By_draw, By_local}
 use Rattle.run_spec.proofs.Entries.{Own, Other, controller_after}
 use Rattle.run_spec.proofs.Pasts.{from_some, self_controller}
@@ -47,7 +47,7 @@ module _ {B : Type 0} (scene : Scene B) (results : List (List SaveResult)) (e : 
   named c same = subst (λ (a : Actor). IsActor scene.setup a) (one_actor (actor_of e) (actor.Controller c) same) legal.named.0
 
   pub fits : (c : ℕ) → same_actor (actor_of e) (actor.Controller c) ≡ true
-      → Fits controller_message scene.sealing (controller_at scene (results_of results c) c (part (actor.Controller c) before)).owed (part (actor.Controller c) before) e
+      → FitsDebt controller_message scene.sealing (controller_at scene (results_of results c) c (part (actor.Controller c) before)).owed (part (actor.Controller c) before) e
   fits c same =
       elim (controller_after scene (results_of results c) c e before) [
         | Own own is goes ↦ (subst (λ (ps : List (JournalEntry B × Option (Packet B))). IsSoundController scene (results_of results c) c ps) is (legal.controllers c (named c same))).0
@@ -60,7 +60,7 @@ module _ {B : Type 0} (scene : Scene B) (results : List (List SaveResult)) (e : 
   was_owed c first letters lost p is posted =
       let owed = (controller_at scene (results_of results c) c (part (actor.Controller c) before)).owed in
       let same : same_actor (actor_of e) (actor.Controller c) ≡ true = ap (λ (y : JournalEntry B). same_actor (actor_of y) (actor.Controller c)) is ∙ self_controller c in
-      let may = subst (λ (y : JournalEntry B). Fits controller_message scene.sealing owed (part (actor.Controller c) before) y) is (fits c same) in
+      let may = subst (λ (y : JournalEntry B). FitsDebt controller_message scene.sealing owed (part (actor.Controller c) before) y) is (fits c same) in
       let m = in_map (λ (l : Letter ControllerSays). record { to = l.to; body = scene.sealing.sealed (controller_message l.body) }) owed posted.letter (subst (λ (ls : List (Letter B)). IsIn posted.letter ls) may.0 posted.among) in
       record { letter = m.0; among = m.1; to_is = posted.to_is ∙ ap (λ (l : Letter B). l.to) m.2; body_is = posted.body_is ∙ ap (λ (l : Letter B). l.body) m.2; typed = all_of (λ (l : Letter ControllerSays). FitsMessage (controller_message l.body)) owed m.0 may.2 m.1 }
 

@@ -11,7 +11,7 @@ use Rattle.journal.specs.declared.journal.SaveResult.TheVariants.{Saved, KeptOld
 use Rattle.journal.specs.Orderly.{IsOrderly}
 use Rattle.journal.specs.Part.{part, packet_of}
 use Rattle.journal.specs.Pool.{pool}
-use Rattle.actor_fold.specs.Fold.{Standing, standing}
+use Rattle.actor_fold.specs.Fold.{ActorStanding, actor_standing}
 use Rattle.agreement.specs.History as core
 use Rattle.agreement.specs.History.{size}
 use Rattle.agreement.specs.Journals as journal
@@ -27,7 +27,7 @@ use Rattle.controller_moves.specs.Rules.{SavingController, saved, done}
 use Rattle.run_spec.specs.States.{Scene, ControllerAt, content, controller_hears, controller_saved, controller_took, controller_at}
 use Rattle.run_spec.specs.Legal.{IsTurn, results_of}
 use Rattle.run_spec.proofs.Pools.{drawn_found}
-use Rattle.run_agreement.specs.Projection.{taken_by, entries_of, past_of, rules_of}
+use Rattle.run_agreement.specs.Projection.{taken_by, journal_entries_of, past_of, rules_of}
 use Rattle.run_agreement.proofs.Inputs.{same_input}
 
 abbrev pub saving : ControllerAt → SavingController
@@ -69,14 +69,14 @@ module _ {B : Type 0} (scene : Scene B) (results : List (List SaveResult)) (most
   turn a x = r.turn c a x
 
   -- where agreement has this controller, and where its part of a past has it
-  pub record StandsAlike (v : Standing SavingController (core.Letter Entry)) (ps : List (JournalEntry B × Option (Packet B))) : Type 0 where
+  pub record StandsAlike (v : ActorStanding SavingController (core.Letter Entry)) (ps : List (JournalEntry B × Option (Packet B))) : Type 0 where
     pub now : v.now ≡ saving (at ps)
     pub before : v.before ≡ saving_before (at ps)
     pub owed : v.owed ≡ letters_to_members c (at ps).owed
     pub fresh : IsTurn ps → v.fresh ≡ true
 
   -- after a turn
-  taking : (v : Standing SavingController (core.Letter Entry)) (ps : List (JournalEntry B × Option (Packet B))) (s : JournalEntry B × Option (Packet B))
+  taking : (v : ActorStanding SavingController (core.Letter Entry)) (ps : List (JournalEntry B × Option (Packet B))) (s : JournalEntry B × Option (Packet B))
       → (y : ControllerInput) (x : Input OwnInput Entry) → input_of x ≡ y
       → at (s ∷ ps) ≡ controller_took (results_of results c) (at ps) (controller_work scene.kinds scene.setup (at ps).now y) → StandsAlike v ps
       → StandsAlike (journal.took r c v x) (s ∷ ps)
@@ -94,8 +94,8 @@ module _ {B : Type 0} (scene : Scene B) (results : List (List SaveResult)) (most
       }
 
   -- where this controller stands after these entries, its own ones of a past
-  abbrev after : List (journal.Entry OwnInput Entry) → Standing SavingController (core.Letter Entry)
-  after own = standing (actor_rules r c) (r.start c) (map own_step own)
+  abbrev after : List (journal.Entry OwnInput Entry) → ActorStanding SavingController (core.Letter Entry)
+  after own = actor_standing (actor_rules r c) (r.start c) (map own_step own)
 
   abbrev own_of : List (JournalEntry B) → List (journal.Entry OwnInput Entry)
   own_of entries = filter (λ e. nat_eq (controller_of e) c) (past_of scene entries)
@@ -108,16 +108,16 @@ module _ {B : Type 0} (scene : Scene B) (results : List (List SaveResult)) (most
   choose false e own ps s new old = old
 
   -- one that the moves do not see
-  skip : (t : Bool) (v : Standing SavingController (core.Letter Entry)) (ps : List (JournalEntry B × Option (Packet B))) (s : JournalEntry B × Option (Packet B))
+  skip : (t : Bool) (v : ActorStanding SavingController (core.Letter Entry)) (ps : List (JournalEntry B × Option (Packet B))) (s : JournalEntry B × Option (Packet B))
       → StandsAlike v (s ∷ ps) → StandsAlike v ps → StandsAlike v (cond t (s ∷ ps) ps)
   skip true v ps s new old = new
   skip false v ps s new old = old
 
-  abbrev stand : List (JournalEntry B) → Standing SavingController (core.Letter Entry)
+  abbrev stand : List (JournalEntry B) → ActorStanding SavingController (core.Letter Entry)
   stand entries = stands r c (past_of scene entries)
 
   drawing : (d id : ℕ) (keep : Bool) (before : List (JournalEntry B)) (p : Packet B) (q : Option (Packet B)) → q ≡ Some p → StandsAlike (stand before) (part (actor.Controller c) before)
-      → StandsAlike (stands r c (entries_of scene (Draw (actor.Controller d) id keep) q ++ past_of scene before))
+      → StandsAlike (stands r c (journal_entries_of scene (Draw (actor.Controller d) id keep) q ++ past_of scene before))
       (cond (nat_eq d c) ((Draw (actor.Controller d) id keep, q) ∷ part (actor.Controller c) before) (part (actor.Controller c) before))
   drawing d id keep before p None e same = absurd cc
   drawing d id keep before p (Some q) e same =

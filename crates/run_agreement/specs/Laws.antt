@@ -26,15 +26,15 @@ DecidedLasts B = (scene : Scene B) (results : List (List SaveResult)) (most_fail
     → scene.setup.controllers ≡ 2 * most_failures + 1 → AreReadAsSealed scene past → IsPossible scene results past → IsLasting scene results past
 
 -- f + 1 controllers have promised a view that is not above that of c
-abbrev pub MostPromiseUpTo : {B : Type 0} → Scene B → List (List SaveResult) → List (JournalEntry B) → ℕ → ℕ → Type 0
-MostPromiseUpTo scene results past most_failures c =
+abbrev pub MostOfRunPromiseUpTo : {B : Type 0} → Scene B → List (List SaveResult) → List (JournalEntry B) → ℕ → ℕ → Type 0
+MostOfRunPromiseUpTo scene results past most_failures c =
     most_failures < count_below (λ j. nat_le (controller_state scene results j past).vr.promise (controller_state scene results c past).vr.view) scene.setup.controllers
 
 -- the log of a controller that leads begins with what is decided, where most promises are not above its view
-abbrev pub DecidedIsLed : Type 0 → Type 0
-DecidedIsLed B = (scene : Scene B) (results : List (List SaveResult)) (most_failures : ℕ) (past : List (JournalEntry B)) (c : ℕ)
+abbrev pub DecidedOfRunIsLed : Type 0 → Type 0
+DecidedOfRunIsLed B = (scene : Scene B) (results : List (List SaveResult)) (most_failures : ℕ) (past : List (JournalEntry B)) (c : ℕ)
     → scene.setup.controllers ≡ 2 * most_failures + 1 → AreReadAsSealed scene past → IsPossible scene results past → c < scene.setup.controllers
-    → leads (controller_state scene results c past).vr ≡ true → MostPromiseUpTo scene results past most_failures c
+    → leads (controller_state scene results c past).vr ≡ true → MostOfRunPromiseUpTo scene results past most_failures c
     → IsPrefix (decided scene results past) (controller_state scene results c past).vr.log
 
 -- each setup has 2 f + 1 controllers

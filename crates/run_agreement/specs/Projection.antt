@@ -7,7 +7,7 @@ use Rattle.journal.specs.declared.journal.JournalEntry.TheVariants.{Post, Draw, 
 use Rattle.journal.specs.declared.journal.Packet.{Packet}
 use Rattle.journal.specs.declared.journal.SaveResult.{SaveResult}
 use Rattle.journal.specs.Part.{drawn}
-use Rattle.agreement.specs.History.{letter}
+use Rattle.agreement.specs.History.{abstract_letter}
 use Rattle.agreement.specs.Journals as core
 use Rattle.agreement.specs.Journals.{Input, Rules}
 use Rattle.vr_log.specs.declared.entry.Entry.{Entry}
@@ -24,20 +24,20 @@ abbrev pub taken_by : ℕ → ControllerInput → Input OwnInput Entry
 taken_by c (controller_input.Local what) = core.Local (Happens what)
 taken_by c (controller_input.Of switch xid said) = core.Local (FromSwitch switch xid said)
 taken_by c (controller_input.Malformed from) = core.Local (Unread from)
-taken_by c (controller_input.Vr from said) = core.Heard (letter from c (message_of said))
+taken_by c (controller_input.Vr from said) = core.Heard (abstract_letter from c (message_of said))
 
 -- an entry, with the packet that it names
-abbrev pub entries_of : {B : Type 0} → Scene B → JournalEntry B → Option (Packet B) → List (core.Entry OwnInput Entry)
-entries_of scene (Post (actor.Controller c) first letters lost) found = core.Posts c ∷ []
-entries_of scene (Draw (actor.Controller c) id keep) (Some p) = core.Takes c (taken_by c (controller_hears p.from (content scene.sealing p))) ∷ []
-entries_of scene (Local (actor.Controller c) what) found = core.Takes c (core.Local (Happens what)) ∷ []
-entries_of scene (Refused (actor.Controller c)) found = core.Refused c ∷ []
-entries_of scene _ _ = []
+abbrev pub journal_entries_of : {B : Type 0} → Scene B → JournalEntry B → Option (Packet B) → List (core.Entry OwnInput Entry)
+journal_entries_of scene (Post (actor.Controller c) first letters lost) found = core.Posts c ∷ []
+journal_entries_of scene (Draw (actor.Controller c) id keep) (Some p) = core.Takes c (taken_by c (controller_hears p.from (content scene.sealing p))) ∷ []
+journal_entries_of scene (Local (actor.Controller c) what) found = core.Takes c (core.Local (Happens what)) ∷ []
+journal_entries_of scene (Refused (actor.Controller c)) found = core.Refused c ∷ []
+journal_entries_of scene _ _ = []
 
 -- a past, its newest entry first
 abbrev pub past_of : {B : Type 0} → Scene B → List (JournalEntry B) → List (core.Entry OwnInput Entry)
 past_of scene [] = []
-past_of scene (e ∷ before) = entries_of scene e (drawn e before) ++ past_of scene before
+past_of scene (e ∷ before) = journal_entries_of scene e (drawn e before) ++ past_of scene before
 
 -- the rules of the controllers of a scene, with these results of their saves
 abbrev pub rules_of : {B : Type 0} → Scene B → ℕ → List (List SaveResult) → Rules OwnInput SavingController Entry

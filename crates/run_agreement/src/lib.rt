@@ -4,7 +4,7 @@
 //! Each law is a function that does nothing, and whose clause says it.
 #![tactic(auto)]
 
-ghost use Rattle.run_agreement.specs.Laws.{DecidedIsLed, DecidedLasts, KeptLogsAgree, SetupsAreOdd};
+ghost use Rattle.run_agreement.specs.Laws.{DecidedOfRunIsLed, DecidedLasts, KeptLogsAgree, SetupsAreOdd};
 ghost use Rattle.run_agreement.specs.Reading.{OwnBodiesAreTrue};
 
 /// Of the logs that any two controllers have committed, at any two times of a possible past, one begins the other.
@@ -19,7 +19,7 @@ pub fn decided_lasts<B>()
 
 /// Where f + 1 promises are not above its view, the log of a controller that leads begins with all that is decided.
 pub fn decided_is_led<B>()
-    ensures { DecidedIsLed B }
+    ensures { DecidedOfRunIsLed B }
 {}
 
 /// Each setup has a group of 2 f + 1 controllers.

@@ -5,8 +5,8 @@ use Rattle.command_line.specs.Conversion as call
 use Rattle.command_line.specs.declared.conversion.Ending.{Ending}
 use Rattle.run_chart.specs.Words.{window_of}
 
-unfoldable pub usage_line : List ℕ
-usage_line = codes "fault 2 usage: run_chart, or run_chart FIRST LAST" ++ newline
+unfoldable pub chart_usage_line : List ℕ
+chart_usage_line = codes "fault 2 usage: run_chart, or run_chart FIRST LAST" ++ newline
 
 -- The end of a call with these words, and what was left to be read before and after it. `unread` says that a read failed.
 -- Which picture a report has isn't said

@@ -28,7 +28,7 @@ pub fn chart<S: Source, K: Sink>(
     // Where nothing failed and memory sufficed: an end that the words and the bytes have, and its text was written.
     ensures told { result ≢ 5 → result ≢ 6 → (ending : Ending) × (result ≡ call.status_of ending)
         × out.EndsChart (map string_bytes words.now) (S.left source.old) (S.left source.new) (Rose (S.faults source.old) (S.faults source.new)) ending
-        × Appends (K.taken sink.old) (K.taken sink.new) (call.ending_text out.usage_line ending) }
+        × Appends (K.taken sink.old) (K.taken sink.new) (call.ending_text out.chart_usage_line ending) }
     ensures unwritten { result ≡ 5 → Rose (K.faults sink.old) (K.faults sink.new) }
     ensures memory { result ≡ 6 → sink.new ≡ sink.old }
 {

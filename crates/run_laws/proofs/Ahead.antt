@@ -17,7 +17,7 @@ use Rattle.group_controller.specs.declared.messages.ControllerInput.TheVariants 
 use Rattle.list_facts.specs.Lists.{IsIn}
 use Rattle.controller_laws.specs.CommitNumbers.{commit_of, IsKnownCommit, Below, OfCollected, OfResponse, OfInput}
 use Rattle.controller_laws.specs.Entries.{IsGoodBeside}
-use Rattle.controller_laws.specs.Moves.{Chain, Start, Then, Move, Steps, Says, Saves, Begins, Proposes, Results, Notes, member_input}
+use Rattle.controller_laws.specs.Moves.{Chain, Start, Then, ControllerMove, Steps, Says, Saves, Begins, Proposes, Results, Notes, member_input}
 use Rattle.group_controller.specs.Rules.{controller_work}
 use Rattle.group_controller.specs.State.{ControllerState, Work, committed}
 use Rattle.controller_laws.specs.Turns.{beginning, IsReached}
@@ -96,7 +96,7 @@ module _ (x : ControllerInput) (c : VrState) where
       )
 
 module _ (kinds : List ℕ) (setup : Setup) (x : ControllerInput) (c : ControllerState) where
-  move_stood : (w w' : Work) → Move kinds setup x w w' → StoodOrCame x c.vr w.state.vr → StoodOrCame x c.vr w'.state.vr
+  move_stood : (w w' : Work) → ControllerMove kinds setup x w w' → StoodOrCame x c.vr w.state.vr → StoodOrCame x c.vr w'.state.vr
   move_stood w w' (Steps s m is) b = subst (λ (z : Work). StoodOrCame x c.vr z.state.vr) (sym is) (member_stood x c.vr w.state.vr s m b)
   move_stood w w' (Says ls all is) b = subst (λ (z : Work). StoodOrCame x c.vr z.state.vr) (sym is) b
   move_stood w w' (Saves save is) b = subst (λ (z : Work). StoodOrCame x c.vr z.state.vr) (sym is) b

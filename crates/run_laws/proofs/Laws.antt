@@ -18,7 +18,7 @@ use Rattle.run_spec.specs.Committed.{controller_state}
 use Rattle.run_spec.specs.Laws.{IsLasting, IsFenced, IsExactlyOnce}
 use Rattle.exactly_once.specs.Facts.{facts_of}
 use Rattle.exactly_once.specs.Invariant.{HoldsOfRun}
-use Rattle.exactly_once.specs.Premises.{IsValidLog, AreControllers}
+use Rattle.exactly_once.specs.Premises.{IsProperLog, AreControllers}
 use Rattle.exactly_once.proofs.Executed.{holds_always}
 use Rattle.run_spec.proofs.Pasts.{possible_drop}
 use Rattle.exactly_once.proofs.Laws.{is_lasting, is_once, is_fenced}
@@ -36,7 +36,7 @@ use Rattle.run_laws.proofs.Members.{owned_at}
 use Rattle.run_laws.proofs.Turns.{good_turn}
 
 -- the beginning of a log is valid
-front_valid : (k : ℕ) (log : List Entry) → is_log log ≡ true → IsValidLog (take k log)
+front_valid : (k : ℕ) (log : List Entry) → is_log log ≡ true → IsProperLog (take k log)
 front_valid k log valid front back e is =
     let whole : log ≡ front ++ e ∷ (back ++ drop k log) = sym (take-append-drop k log) ∙ ap (λ (l : List Entry). l ++ drop k log) is ∙ append_assoc front (e ∷ back) (drop k log) in
     may_follow_at front e (back ++ drop k log) (subst (λ (l : List Entry). is_log l ≡ true) whole valid)
@@ -46,7 +46,7 @@ module _ {B : Type 0} (scene : Scene B) (results : List (List SaveResult)) where
   kept_valid entries c =
       let now : ControllerState = controller_state scene results c entries in
       let o = (owned_at scene (results_of results c) c (part (actor.Controller c) entries)).now in
-      cond_both (is_up now.vr) (committed now) [] (λ (l : List Entry). IsValidLog l) (λ _. front_valid now.vr.commit now.vr.log o.consistent.follow) (λ _ front back e is. absurd (no_split front back e is))
+      cond_both (is_up now.vr) (committed now) [] (λ (l : List Entry). IsProperLog l) (λ _. front_valid now.vr.commit now.vr.log o.consistent.follow) (λ _ front back e is. absurd (no_split front back e is))
 
   module _ (setup : IsSetup scene.setup) (faithful : IsFaithful scene.sealing) where
     -- where the invariant held of every earlier past, bodies are read as they were sealed

@@ -16,7 +16,7 @@ use Rattle.vr_core.specs.declared.input.VrInput.{VrInput}
 use Rattle.group_controller.specs.declared.messages.ControllerInput.{ControllerInput}
 use Rattle.group_controller.specs.declared.messages.ControllerInput.TheVariants as controller_input
 use Rattle.controller_laws.specs.Entries.{IsConsistent}
-use Rattle.controller_laws.specs.Moves.{Chain, Start, Then, Move, Steps, Says, Saves, Begins, Proposes, Results, Notes, member_input}
+use Rattle.controller_laws.specs.Moves.{Chain, Start, Then, ControllerMove, Steps, Says, Saves, Begins, Proposes, Results, Notes, member_input}
 use Rattle.group_controller.specs.Rules.{is_down, controller_work}
 use Rattle.group_controller.specs.State.{ControllerState, Work}
 use Rattle.controller_laws.specs.Turns.{beginning}
@@ -69,7 +69,7 @@ member_up x s s' (Commits k normal low high is) b = subst (λ (z : VrState). is_
 member_up x s s' (Keeps r nonce asks is) b = subst (λ (z : VrState). is_up z ≡ true) (sym is) b
 
 module _ (kinds : List ℕ) (setup : Setup) (x : ControllerInput) where
-  move_blank : (w w' : Work) → Move kinds setup x w w' → BlankUnlessUp w.state.vr → BlankUnlessUp w'.state.vr
+  move_blank : (w w' : Work) → ControllerMove kinds setup x w w' → BlankUnlessUp w.state.vr → BlankUnlessUp w'.state.vr
   move_blank w w' (Steps s m is) b = subst (λ (z : Work). BlankUnlessUp z.state.vr) (sym is) (member_blank (member_input x) w.state.vr s m b)
   move_blank w w' (Says ls all is) b = subst (λ (z : Work). BlankUnlessUp z.state.vr) (sym is) b
   move_blank w w' (Saves save is) b = subst (λ (z : Work). BlankUnlessUp z.state.vr) (sym is) b
@@ -78,7 +78,7 @@ module _ (kinds : List ℕ) (setup : Setup) (x : ControllerInput) where
   move_blank w w' (Results s xid life number outcome asks l pending is) b = subst (λ (z : Work). BlankUnlessUp z.state.vr) (sym is) b
   move_blank w w' (Notes confirmed told full is) b = subst (λ (z : Work). BlankUnlessUp z.state.vr) (sym is) b
 
-  pub move_up : (w w' : Work) → Move kinds setup x w w' → is_up w.state.vr ≡ true → is_up w'.state.vr ≡ true
+  pub move_up : (w w' : Work) → ControllerMove kinds setup x w w' → is_up w.state.vr ≡ true → is_up w'.state.vr ≡ true
   move_up w w' (Steps s m is) b = subst (λ (z : Work). is_up z.state.vr ≡ true) (sym is) (member_up (member_input x) w.state.vr s m b)
   move_up w w' (Says ls all is) b = subst (λ (z : Work). is_up z.state.vr ≡ true) (sym is) b
   move_up w w' (Saves save is) b = subst (λ (z : Work). is_up z.state.vr ≡ true) (sym is) b

@@ -31,7 +31,7 @@ use Rattle.group_controller.specs.declared.messages.ControllerInput.TheVariants 
 use Rattle.group_controller.specs.declared.messages.ControllerSays.{ControllerSays}
 use Rattle.controller_laws.specs.Entries.{MessageHolds, SaysHold}
 use Rattle.controller_laws.specs.Moves as move
-use Rattle.controller_laws.specs.Moves.{Chain, Start, Then, Move, Steps, Says, Saves, Begins, Proposes, Results, Notes, member_input, IsSaid, IsProposed, Receives, Processes}
+use Rattle.controller_laws.specs.Moves.{Chain, Start, Then, ControllerMove, Steps, Says, Saves, Begins, Proposes, Results, Notes, member_input, IsSaid, IsProposed, Receives, Processes}
 use Rattle.group_controller.specs.Rules.{controller_work}
 use Rattle.controller_laws.specs.Views.{IsKnownView}
 use Rattle.group_controller.specs.State.{ControllerState, Work, committed, to_switch, to_member}
@@ -92,7 +92,7 @@ module _ (kinds : List ℕ) (setup : Setup) (x : ControllerInput) where
   says_more w ls all old true up = inl up
   says_more w ls all old false off = inr (λ l k. elim (in_append l w.letters ls k) [ inl a ↦ old l a | inr b ↦ says_aside w.state l off (all l b) ])
 
-  move_or : (w w' : Work) → Move kinds setup x w w' → UpOrAside w → UpOrAside w'
+  move_or : (w w' : Work) → ControllerMove kinds setup x w w' → UpOrAside w → UpOrAside w'
   move_or w w' m (inl up) = inl (move_up kinds setup x w w' m up)
   move_or w w' (Steps s m is) (inr q) = subst (λ (z : Work). UpOrAside z) (sym is) (inr q)
   move_or w w' (Says ls all is) (inr q) = subst (λ (z : Work). UpOrAside z) (sym is) (says_more w ls all q (is_up w.state.vr) refl)

@@ -29,11 +29,11 @@ use Rattle.flow_clock.specs.Holding.{clocked_of}
 use Rattle.switch_tables.proofs.Tables.{row_keeps, outputs_keep, port_change_keeps, remembers_keeps, ports_keep, plain_keeps}
 use Rattle.of_switch.specs.declared.says.SwitchInput.{SwitchInput}
 use Rattle.of_switch.specs.declared.says.SwitchInput.TheVariants as switch_input
-use Rattle.of_switch.specs.State.{SwitchState, SwitchTurn, quiet, posts, then_turn, rows_of, life_of}
+use Rattle.of_switch.specs.State.{SwitchState, SwitchTurn, quiet_switch, posts, then_turn, rows_of, life_of}
 use Rattle.of_switch.specs.Events.{raised, next_life}
-use Rattle.of_switch.specs.Forwarding.{is_frame, is_up, through_row, fields_at, counting, on_frame}
-use Rattle.of_switch.specs.Commands.{done_as, counted, result_letter, result_of, on_offer, settled, on_command}
-use Rattle.of_switch.specs.Rules.{on_local, on_own_life, life_said, switch_turn}
+use Rattle.of_switch.specs.Forwarding.{is_frame, is_port_up, through_row, frame_fields_at, counting_ports, on_frame}
+use Rattle.of_switch.specs.Commands.{done_as, counted_command, result_letter, result_of, on_offer, settled, on_command}
+use Rattle.of_switch.specs.Rules.{switch_on_local, on_own_life, life_said, switch_turn}
 
 -- the rows after a turn: those before it, those that a tick leaves of them, those of a new life, or those before it with the
 -- change of a command that is carried out
@@ -49,15 +49,15 @@ keeps s t h = Same (ap rows_in h)
 
 frame_keeps : (port : ℕ) (frame : List ℕ) (s : SwitchState) → RowsAfter s (on_frame s port frame)
 frame_keeps port frame s =
-    let met : SwitchTurn = through_row s port frame (chosen_row (rows_of s) (fields_at port frame)) in
-    cond_both (is_up s port && is_frame frame) (counting port frame met) (quiet s) (λ (t : SwitchTurn). RowsAfter s t)
-    (λ _. Same (hit_rows met.state.table (fields_at port frame) (length frame) ∙ ap rows_in (row_keeps s.table port frame s (chosen_row (rows_of s) (fields_at port frame)) refl)))
+    let met : SwitchTurn = through_row s port frame (chosen_row (rows_of s) (frame_fields_at port frame)) in
+    cond_both (is_port_up s port && is_frame frame) (counting_ports port frame met) (quiet_switch s) (λ (t : SwitchTurn). RowsAfter s t)
+    (λ _. Same (hit_rows met.state.table (frame_fields_at port frame) (length frame) ∙ ap rows_in (row_keeps s.table port frame s (chosen_row (rows_of s) (frame_fields_at port frame)) refl)))
     (λ _. Same refl)
 
 -- a command that is carried out with this result
 carried : (s now : SwitchState) (from generation number : ℕ) (what : Order) (result : Outcome) → now.table ≡ s.table →
-    RowsAfter s (then_turn (done_as result what now) (λ n. posts (counted from generation number what result n) (result_letter now from number result ∷ [])))
-carried s now from generation number (order.PacketOut out) outcome.Done h = keeps s _ (outputs_keep s.table quiet (λ n k. k) out.in_port out.payload out.actions (quiet now) h)
+    RowsAfter s (then_turn (done_as result what now) (λ n. posts (counted_command from generation number what result n) (result_letter now from number result ∷ [])))
+carried s now from generation number (order.PacketOut out) outcome.Done h = keeps s _ (outputs_keep s.table quiet_switch (λ n k. k) out.in_port out.payload out.actions (quiet_switch now) h)
 carried s now from generation number (order.FlowMod change) outcome.Done h =
     let new : Executed = record { life = life_of now; number = number; generation = generation; from = from; order = order.FlowMod change } in
     Changed change new (in_right new now.executed (new ∷ []) (inl refl)) refl (changed_rows now.table change ∙ ap (λ (t : Clocked). table_step (rows_in t) change) h)
@@ -80,7 +80,7 @@ own_life s from xid (extension.EventAck life through) = keeps s _ (remembers_kee
 own_life s from xid (extension.Command life generation number through what) = commanded s from xid generation number through what
 own_life s from xid _ = Same refl
 
-locally : (s : SwitchState) (what : Local) → RowsAfter s (on_local s what)
+locally : (s : SwitchState) (what : Local) → RowsAfter s (switch_on_local s what)
 locally s (local.Frame port frame) = frame_keeps port frame s
 locally s (local.Port port up) = keeps s _ (port_change_keeps s.table port up s refl)
 locally s local.Tick = Aged refl

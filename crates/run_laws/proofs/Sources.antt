@@ -82,7 +82,7 @@ module _ (kinds : List ℕ) (setup : Setup) (me n : ℕ) (x : ControllerInput) (
         front = p;
       }
 
-  mark_of : (s life i : ℕ) → told.IsMarked x c s life i → IsMarked c x s life i
+  mark_of : (s life i : ℕ) → told.HoldsMark x c s life i → IsMarked c x s life i
   mark_of s life i (Stood k) = inl k
   mark_of s life i (CameMark xid outcome is) = inr (xid, outcome, is)
 

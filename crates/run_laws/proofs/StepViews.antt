@@ -105,10 +105,10 @@ module _ (limit : ℕ) where
     enter_up view h = record { state = (h, h, u.2); promise = h; letters = others_up s (message.StartViewChange view) h }
 
     -- a view is entered, something is noted, and Check is done
-    noted_up : (view : ℕ) (note : VrState → VrState) → view ≤ limit → IsStateUpTo (note (entering.entered s view)) → IsStepUpTo (steps.guarded s (steps.then_step (entering.enter s view) (λ next. entering.check (note next))))
+    noted_up : (view : ℕ) (note : VrState → VrState) → view ≤ limit → IsStateUpTo (note (entering.entered_view s view)) → IsStepUpTo (steps.guarded s (steps.then_step (entering.enter s view) (λ next. entering.check (note next))))
     noted_up view note h k =
         guarded_up s (steps.then_step (entering.enter s view) (λ next. entering.check (note next))) u
-        (then_up (entering.enter s view) (λ next. entering.check (note next)) (enter_up view h) (check_up (note (entering.entered s view)) k))
+        (then_up (entering.enter s view) (λ next. entering.check (note next)) (enter_up view h) (check_up (note (entering.entered_view s view)) k))
 
     enters_up : (view : ℕ) → view ≤ limit → IsStepUpTo (steps.guarded s (change.enters s view))
     enters_up view h = noted_up view (λ next. next) h (h, h, u.2)
@@ -172,7 +172,7 @@ module _ (limit : ℕ) where
     supply_up : (from view first : ℕ) (log : List Entry) → IsStepUpTo (change.supply s from (message.Supply view first log))
     supply_up from view first log =
         let t : VrState = change.supplied s first log in
-        other_up from _ (cond_both (change.is_wanted s view first log) _ _ IsStepUpTo (λ _. guarded_up s (entering.check t) u (check_up t u)) (λ _. quiet_up s u))
+        other_up from _ (cond_both (change.is_message_wanted s view first log) _ _ IsStepUpTo (λ _. guarded_up s (entering.check t) u (check_up t u)) (λ _. quiet_up s u))
 
     start_view_change_up : (from view : ℕ) → view ≤ limit → IsStepUpTo (change.start_view_change s from (message.StartViewChange view))
     start_view_change_up from view h = other_up from _ (cond_both (member.is_later s view) _ _ IsStepUpTo
@@ -187,7 +187,7 @@ module _ (limit : ℕ) where
         let c : Collected = record { from = from; normal = normal; commit = commit; log = log } in
         other_up from _ (cond_both (member.is_primary_of s s.me view) _ _ IsStepUpTo
         (λ _. cond_both (member.is_later s view) _ _ IsStepUpTo
-        (λ _. noted_up view (λ next. entering.collects next c) h (collects_up (entering.entered s view) (h, h, u.2) c))
+        (λ _. noted_up view (λ next. entering.collects next c) h (collects_up (entering.entered_view s view) (h, h, u.2) c))
         (λ _. cond_both (nat_eq view s.view && member.is_changing s) _ _ IsStepUpTo
         (λ _. guarded_up s (entering.check (entering.collects s c)) u (check_up (entering.collects s c) (collects_up s u c))) (λ _. quiet_up s u)))
         (λ _. quiet_up s u))
@@ -202,7 +202,7 @@ module _ (limit : ℕ) where
     with_up r h (x ∷ rs) a = cond_both (nat_eq x.from r.from) (recovering.newest x r ∷ rs) (x ∷ recovering.with_response rs r) (λ rs. AllByRecursion (λ r. r.view ≤ limit) rs)
         (λ _. (cond_both (nat_lt x.view r.view) r x (λ y. y.view ≤ limit) (λ _. h) (λ _. a.0), a.1)) (λ _. (a.0, with_up r h rs a.1))
 
-    greatest_up : (rs : List Response) → AllByRecursion (λ r. r.view ≤ limit) rs → recovering.greatest_view rs ≤ limit
+    greatest_up : (rs : List Response) → AllByRecursion (λ r. r.view ≤ limit) rs → recovering.greatest_view_told rs ≤ limit
     greatest_up [] a = omega arith
     greatest_up (x ∷ rs) a = let here = a.0 in let rest = greatest_up rs a.1 in omega (arith, here, rest)
 
@@ -217,7 +217,7 @@ module _ (limit : ℕ) where
         let t : VrState = recovering.responded s r in
         let k : IsStateUpTo t = (u.0, u.1, with_up s u r h s.responses u.2) in
         other_up s u from _ (cond_both (member.is_recovering s && nat_eq nonce s.life) _ _ IsStepUpTo
-        (λ _. guarded_up s (recovering.recovers t) u (ends_up t k (recovering.greatest_view t.responses) (greatest_up s u t.responses k.2) (recovering.ending t)))
+        (λ _. guarded_up s (recovering.recovers t) u (ends_up t k (recovering.greatest_view_told t.responses) (greatest_up s u t.responses k.2) (recovering.ending t)))
         (λ _. quiet_up s u))
 
     on_vr_up : (from : ℕ) (m : VrMessage) → view_of m ≤ limit → IsStepUpTo (on_vr s from m)

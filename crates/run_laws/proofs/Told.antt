@@ -45,7 +45,7 @@ use Rattle.run_spec.proofs.Entries.{Mine, Another, switch_after}
 use Rattle.run_spec.proofs.Pasts.{possible_before}
 use Rattle.exactly_once.specs.Facts.{PastFacts, facts_of, executed_of}
 use Rattle.exactly_once.specs.Truths.{IsGoodHappening, IsTrueEntry}
-use Rattle.exactly_once.specs.Invariant.{IsSound}
+use Rattle.exactly_once.specs.Invariant.{SwitchIsSound}
 use Rattle.exactly_once.specs.Premises.{AreControllers}
 use Rattle.exactly_once.proofs.ControllerTurns.{received_at}
 use Rattle.exactly_once.proofs.Executed.{holds_always, decided_true}
@@ -87,7 +87,7 @@ executed_at : (xs : List Executed) (x : Executed) → IsIn x xs → (i : ℕ) ×
 executed_at xs x h = in_get (executed_of x.life xs) x (filter_has (λ (y : Executed). nat_eq y.life x.life) xs x h (eq-eqb x.life x.life refl))
 
 -- what is carried out can be spelled, where the decided log has good events
-order_issued : (kinds : List ℕ) (setup : Setup) → IsSetup setup → (f : PastFacts) (s : ℕ) (state : SwitchState) → ((e : Event) → IsIn e (received f.decided) → IsGoodHappening e.what) → IsSound kinds setup f s state →
+order_issued : (kinds : List ℕ) (setup : Setup) → IsSetup setup → (f : PastFacts) (s : ℕ) (state : SwitchState) → ((e : Event) → IsIn e (received f.decided) → IsGoodHappening e.what) → SwitchIsSound kinds setup f s state →
     (x : Executed) → IsIn x state.executed → IsSpellableOrder x
 order_issued kinds setup within f s state good sound x h =
     let at = executed_at state.executed x h in
@@ -97,7 +97,7 @@ order_issued kinds setup within f s state good sound x h =
     subst (λ (what : Order). IsSpellable (order_message what)) (sym y.2) (order_spellable y.0.order (commands_of_sendable kinds setup within (received f.decided) good j.0 y.0 j.1))
 
 -- events are of their switch
-event_made : (kinds : List ℕ) (setup : Setup) (f : PastFacts) (s : ℕ) (state : SwitchState) → IsSound kinds setup f s state → (e : Event) → IsIn e state.events → IsSpellableEvent s e
+event_made : (kinds : List ℕ) (setup : Setup) (f : PastFacts) (s : ℕ) (state : SwitchState) → SwitchIsSound kinds setup f s state → (e : Event) → IsIn e state.events → IsSpellableEvent s e
 event_made kinds setup f s state sound e h =
     let at = event_at state.events e h in
     record { switch_is = (sound.well.made e.life at.0 e at.1).1.switch_is; message = happening_spellable e.what (sound.good e h) }
@@ -168,7 +168,7 @@ step_rows scene w (Idle a) found h orders = h
 
 module _ {B : Type 0} (scene : Scene B) (results : List (List SaveResult)) (faithful : IsFaithful scene.sealing) (sides : AreControllers scene results) where
   sound_now : (entries : List (JournalEntry B)) → IsPossible scene results entries → (s : ℕ) → s < length scene.setup.ports →
-      IsSound scene.kinds scene.setup (facts_of scene results entries) s (switch_state scene s entries)
+      SwitchIsSound scene.kinds scene.setup (facts_of scene results entries) s (switch_state scene s entries)
   sound_now entries possible s there = ((holds_always scene results faithful sides entries possible).switches s there).now
 
   orders_told : (entries : List (JournalEntry B)) → IsPossible scene results entries → (s : ℕ) → s < length scene.setup.ports →

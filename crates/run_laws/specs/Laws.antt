@@ -14,8 +14,8 @@ use Rattle.run_spec.specs.States.{Scene, IsFaithful}
 use Rattle.run_spec.specs.Legal.{IsPossible}
 use Rattle.run_spec.specs.Committed.{controller_state, kept, decided}
 use Rattle.list_facts.specs.Lists.{AreOne}
-use Rattle.exactly_once.specs.Premises.{IsValidLog, AreControllers}
-use Rattle.run_agreement.specs.Laws.{MostPromiseUpTo}
+use Rattle.exactly_once.specs.Premises.{IsProperLog, AreControllers}
+use Rattle.run_agreement.specs.Laws.{MostOfRunPromiseUpTo}
 
 -- this holds of every past of every run, where bodies say what was sealed in them
 abbrev pub InEveryRun : (B : Type 0) → (Scene B → List (List SaveResult) → List (JournalEntry B) → Type 0) → Type 0
@@ -30,12 +30,12 @@ AreAgreed scene results entries = (c d i j : ℕ) → c < scene.setup.controller
 -- each entry of a committed log may follow those before it: its events come by number in each life, and are processed in
 -- order (Ravana, 3.2)
 abbrev pub AreValidLogs : {B : Type 0} → Scene B → List (List SaveResult) → List (JournalEntry B) → Type 0
-AreValidLogs scene results entries = (c : ℕ) → IsValidLog (kept scene results c entries)
+AreValidLogs scene results entries = (c : ℕ) → IsProperLog (kept scene results c entries)
 
 -- the log of a controller that leads begins with what is decided, where f + 1 of the 2 f + 1 promises are not above its view
 abbrev pub IsLed : {B : Type 0} → Scene B → List (List SaveResult) → List (JournalEntry B) → Type 0
 IsLed scene results entries = (most_failures c : ℕ) → scene.setup.controllers ≡ 2 * most_failures + 1 → c < scene.setup.controllers →
-    leads (controller_state scene results c entries).vr ≡ true → MostPromiseUpTo scene results entries most_failures c →
+    leads (controller_state scene results c entries).vr ≡ true → MostOfRunPromiseUpTo scene results entries most_failures c →
     IsPrefix (decided scene results entries) (controller_state scene results c entries).vr.log
 
 -- an input, an entry and a past suspect no view above a limit

@@ -22,7 +22,7 @@ pub fn pcap<S: Source, K: Sink>(alloc: Global, words: &[String], source: &mut S,
     // Where nothing failed and memory sufficed: the one end that the words and the bytes have, and its text was written.
     ensures told { result ≢ 5 → result ≢ 6 → (ending : Ending) × (result ≡ call.status_of ending)
         × out.EndsCapture (length words.now) (S.left source.old) (S.left source.new) (Rose (S.faults source.old) (S.faults source.new)) ending
-        × Appends (K.taken sink.old) (K.taken sink.new) (call.ending_text out.usage_line ending) }
+        × Appends (K.taken sink.old) (K.taken sink.new) (call.ending_text out.pcap_usage_line ending) }
     ensures unwritten { result ≡ 5 → Rose (K.faults sink.old) (K.faults sink.new) }
     ensures memory { result ≡ 6 → sink.new ≡ sink.old }
     ensures unasked { 0 < length words.now → source.new ≡ source.old }
@@ -48,9 +48,9 @@ fn outcome<S: Source>(alloc: Global, words: &[String], source: &mut S) -> Result
 }
 
 /// The capture of a record.
-#[tactic(auto, unfolding(crate::specs::Outcome::capture_of))]
+#[tactic(auto, unfolding(crate::specs::Outcome::pcap_of))]
 fn capture_of(alloc: Global, told: &Record) -> Result<Octets, AllocError>
-    ensures { IfOk result (λ bytes. bytes ≡ out.capture_of told.now) }
+    ensures { IfOk result (λ bytes. bytes ≡ out.pcap_of told.now) }
 {
     let packets = captured(alloc, told.journal.as_slice())?;
     pcapng(alloc, packets.as_slice())

@@ -15,7 +15,7 @@ use Rattle.of_messages.specs.Grammar.{Spells}
 use Rattle.of_messages.specs.Reading.{message_at, xid_of}
 use Rattle.of_messages.proofs.Again.{message_again, xid_again}
 use Rattle.of_messages.proofs.Written.{message_spelled}
-use Rattle.of_ravana.specs.Canonical.{canonical, canonical_extension, extension_body}
+use Rattle.of_ravana.specs.Canonical.{canonical_spoken, canonical_extension, extension_body}
 use Rattle.of_ravana.specs.Reading.{extension_at}
 use Rattle.of_ravana.proofs.Again.{extension_again}
 use Rattle.of_ravana.proofs.Written.{extension_spelled, extension_has_size}
@@ -66,7 +66,7 @@ frame_again port head bytes four_bytes port_is short long =
 
 -- the bytes of a message
 pub bytes_again : IsFaithful byte_bodies
-unfolding canonical four
+unfolding canonical_spoken four
 bytes_again (message.Of xid (spoken.Ravana said)) valid fits =
     let spells = extension_spelled said valid.0 fits.1 valid.1 in
     let size = extension_has_size said in

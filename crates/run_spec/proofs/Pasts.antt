@@ -12,7 +12,7 @@ use Rattle.journal.specs.declared.journal.SaveResult.{SaveResult}
 use Rattle.journal.specs.Actors.{same_actor, actor_of, IsActor}
 use Rattle.journal.specs.Part.{drawn, part}
 use Rattle.run_spec.specs.States.{Scene, SwitchAt, switch_step, switch_at, controller_at, switch_message, controller_message}
-use Rattle.run_spec.specs.Legal.{Fits, EntryFits, IsTurn, IsSoundSwitch, IsSoundController, IsPossible, results_of}
+use Rattle.run_spec.specs.Legal.{FitsDebt, EntryFits, IsTurn, IsSoundSwitch, IsSoundController, IsPossible, results_of}
 use Rattle.run_spec.proofs.Entries.{Own, Other, controller_after, Mine, Another, switch_after}
 use Rattle.run_spec.proofs.Pools.{orderly_before, drawn_found}
 
@@ -67,9 +67,9 @@ legal_finds {B = B} scene results e before legal a id keep is =
 -- a past goes on with an entry that stands where it may
 pub possible_after : {B : Type 0} (scene : Scene B) (results : List (List SaveResult)) (e : JournalEntry B) (before : List (JournalEntry B)) → IsPossible scene results before →
     IsActor scene.setup (actor_of e) → EntryFits e → IsOrderly scene.sealing.size (e ∷ before) →
-    ((s : ℕ) → s < length scene.setup.ports → same_actor (actor_of e) (actor.Switch s) ≡ true → Fits switch_message scene.sealing (switch_at scene s (part (actor.Switch s) before)).owed (part (actor.Switch s) before) e) →
+    ((s : ℕ) → s < length scene.setup.ports → same_actor (actor_of e) (actor.Switch s) ≡ true → FitsDebt switch_message scene.sealing (switch_at scene s (part (actor.Switch s) before)).owed (part (actor.Switch s) before) e) →
     ((c : ℕ) → c < scene.setup.controllers → same_actor (actor_of e) (actor.Controller c) ≡ true →
-    Fits controller_message scene.sealing (controller_at scene (results_of results c) c (part (actor.Controller c) before)).owed (part (actor.Controller c) before) e) →
+    FitsDebt controller_message scene.sealing (controller_at scene (results_of results c) c (part (actor.Controller c) before)).owed (part (actor.Controller c) before) e) →
     IsPossible scene results (e ∷ before)
 possible_after {B = B} scene results e before old named typed orderly switches controllers =
     record {

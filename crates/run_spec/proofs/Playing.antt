@@ -25,7 +25,7 @@ use Rattle.group_controller.specs.Rules.{controller_work}
 use Rattle.run_spec.specs.States.{Scene, ControllerAt, content, controller_hears, controller_message, sealed_letters, controller_saved, controller_took, controller_step, controller_at}
 use Rattle.run_spec.specs.Legal.{IsSoundSwitch, IsSoundController, IsPossible, results_of}
 use Rattle.run_spec.specs.Committed.{controller_state, states_of}
-use Rattle.run_spec.specs.Schedule.{owed_of, inputs, IsPosted, IsInputOf, TakesInOrder, FollowsInOrder, Phase, Losing, Suspecting, Draining, Met, Answer, Move, Takes, Ends, next_lost, next_move, after_turn, after_move, IsMove, IsEnd, ClosesTo, Closes}
+use Rattle.run_spec.specs.Schedule.{owed_of, inputs, IsPosted, IsInputOf, TakesInOrder, FollowsInOrder, Phase, Losing, Suspecting, Draining, Met, ClosingAnswer, ClosingMove, Takes, Ends, next_lost, next_move, after_turn, after_move, IsMove, IsEnd, ClosesTo, Closes}
 use Rattle.run_spec.specs.Play.{with_entry, played, Rest, closed_from, plays}
 use Rattle.run_spec.proofs.Pasts.{possible_before, from_some, self_switch, self_controller}
 use Rattle.run_spec.proofs.Pools.{one_actor}
@@ -170,16 +170,16 @@ module _ {B : Type 0} (scene : Scene B) (results : List (List SaveResult)) where
         ∙ completed_posted script follows.posted
 
   -- a move that takes an entry, and one that ends
-  move_is : (m : Move B) (e : JournalEntry B) (next : Phase) → IsMove m e next → m ≡ Takes e next
+  move_is : (m : ClosingMove B) (e : JournalEntry B) (next : Phase) → IsMove m e next → m ≡ Takes e next
   move_is (Takes f after) e next is = ap (λ (x : JournalEntry B). Takes x after) (sym is.0) ∙ ap (λ (x : Phase). Takes e x) (sym is.1)
   move_is (Ends answer) e next is = absurd is
 
-  end_is : (m : Move B) (answer : Answer) → IsEnd m answer → m ≡ Ends answer
+  end_is : (m : ClosingMove B) (answer : ClosingAnswer) → IsEnd m answer → m ≡ Ends answer
   end_is (Takes e next) answer is = absurd is
-  end_is (Ends given) answer is = ap (λ (x : Answer). Ends x) (sym is)
+  end_is (Ends given) answer is = ap (λ (x : ClosingAnswer). Ends x) (sym is)
 
   -- a closing that may take one more move, by what its next move is
-  abbrev goes : ℕ → Phase → List (JournalEntry B) → Move B → Rest B
+  abbrev goes : ℕ → Phase → List (JournalEntry B) → ClosingMove B → Rest B
   goes more phase before m = elim m [
     | Ends answer ↦ record { entries = before; answer = Some answer }
     | Takes e next ↦ closed_from more scene results (after_move scene results e before next) (with_entry scene results e before)
@@ -194,24 +194,24 @@ module _ {B : Type 0} (scene : Scene B) (results : List (List SaveResult)) where
   closed_none phase before = refl
 
   -- the past that a closing gives, and its answer
-  abbrev closing : List (JournalEntry B) → Answer → Rest B
+  abbrev closing : List (JournalEntry B) → ClosingAnswer → Rest B
   closing whole answer = record { entries = whole; answer = Some answer }
 
-  closed_end : (more : ℕ) (phase : Phase) (before : List (JournalEntry B)) (answer : Answer) → next_move scene results phase before ≡ Ends answer →
+  closed_end : (more : ℕ) (phase : Phase) (before : List (JournalEntry B)) (answer : ClosingAnswer) → next_move scene results phase before ≡ Ends answer →
       closed_from (suc more) scene results phase before ≡ closing before answer
-  closed_end more phase before answer is = closed_goes more phase before ∙ ap (λ (m : Move B). goes more phase before m) is
+  closed_end more phase before answer is = closed_goes more phase before ∙ ap (λ (m : ClosingMove B). goes more phase before m) is
 
   closed_takes : (more : ℕ) (phase : Phase) (before : List (JournalEntry B)) (e : JournalEntry B) (next : Phase) → next_move scene results phase before ≡ Takes e next →
       closed_from (suc more) scene results phase before ≡ closed_from more scene results (after_move scene results e before next) (with_entry scene results e before)
-  closed_takes more phase before e next is = closed_goes more phase before ∙ ap (λ (m : Move B). goes more phase before m) is
+  closed_takes more phase before e next is = closed_goes more phase before ∙ ap (λ (m : ClosingMove B). goes more phase before m) is
 
   -- a closing from a phase gives this past and this answer
-  pub record IsClosed (phase : Phase) (before whole : List (JournalEntry B)) (answer : Answer) : Type 0 where
+  pub record IsClosed (phase : Phase) (before whole : List (JournalEntry B)) (answer : ClosingAnswer) : Type 0 where
     pub most : ℕ
     pub gives : closed_from most scene results phase before ≡ record { entries = whole; answer = Some answer }
 
   -- and so with one move more before it
-  one_more : (phase : Phase) (e : JournalEntry B) (before whole : List (JournalEntry B)) (next : Phase) (answer : Answer) → IsPosted scene results before →
+  one_more : (phase : Phase) (e : JournalEntry B) (before whole : List (JournalEntry B)) (next : Phase) (answer : ClosingAnswer) → IsPosted scene results before →
       IsMove (next_move scene results phase before) e next → IsClosed (after_move scene results e before next) (with_entry scene results e before) whole answer →
       IsClosed phase (completed before) whole answer
   one_more phase e before whole next answer none move rest =
@@ -221,7 +221,7 @@ module _ {B : Type 0} (scene : Scene B) (results : List (List SaveResult)) where
             ∙ closed_takes rest.most phase before e next (move_is (next_move scene results phase before) e next move) ∙ rest.gives;
       }
 
-  module _ (whole : List (JournalEntry B)) (last : Phase) (answer : Answer) (possible : IsPossible scene results whole) (posted_whole : IsPosted scene results whole)
+  module _ (whole : List (JournalEntry B)) (last : Phase) (answer : ClosingAnswer) (possible : IsPossible scene results whole) (posted_whole : IsPosted scene results whole)
       (ends : IsEnd (next_move scene results last whole) answer) where
     -- the entries of a closing are those that its schedule gives
     steps_closed : (entries : List (JournalEntry B)) (phase : Phase) (before : List (JournalEntry B)) → whole ≡ reverse entries ++ before →
@@ -257,7 +257,7 @@ module _ {B : Type 0} (scene : Scene B) (results : List (List SaveResult)) where
         (steps_closed rest (after_move scene results (Refused a) before steps.1.0) (Refused a ∷ before) (joined ∙ reverse_onto (Refused a) rest before) steps.1.2)
 
   -- the journal of a script and its closing is the one that is played
-  pub run_plays : (steps : List Turn) (script entries : List (JournalEntry B)) (answer : Answer) → IsPossible scene results (reverse entries ++ script) →
+  pub run_plays : (steps : List Turn) (script entries : List (JournalEntry B)) (answer : ClosingAnswer) → IsPossible scene results (reverse entries ++ script) →
       FollowsInOrder scene results steps script → Closes scene results script entries answer →
       (most : ℕ) × (plays most scene results steps ≡ record { entries = reverse entries ++ script; answer = Some answer })
   run_plays steps script entries answer possible follows closes =
@@ -269,16 +269,16 @@ module _ {B : Type 0} (scene : Scene B) (results : List (List SaveResult)) where
       )
 
   -- a closing that gave its answer gives it with more moves too
-  further : (most more : ℕ) (phase : Phase) (before whole : List (JournalEntry B)) (answer : Answer) →
+  further : (most more : ℕ) (phase : Phase) (before whole : List (JournalEntry B)) (answer : ClosingAnswer) →
       ((p : Phase) (b : List (JournalEntry B)) → closed_from most scene results p b ≡ closing whole answer → closed_from (most + more) scene results p b ≡ closing whole answer) →
-      (m : Move B) → next_move scene results phase before ≡ m → closed_from (suc most) scene results phase before ≡ closing whole answer →
+      (m : ClosingMove B) → next_move scene results phase before ≡ m → closed_from (suc most) scene results phase before ≡ closing whole answer →
       closed_from (suc (most + more)) scene results phase before ≡ closing whole answer
   further most more phase before whole answer rest (Ends given) is gives = closed_end (most + more) phase before given is ∙ sym (closed_end most phase before given is) ∙ gives
   further most more phase before whole answer rest (Takes e next) is gives =
       closed_takes (most + more) phase before e next is
       ∙ rest (after_move scene results e before next) (with_entry scene results e before) (sym (closed_takes most phase before e next is) ∙ gives)
 
-  closed_again : (most more : ℕ) (phase : Phase) (before whole : List (JournalEntry B)) (answer : Answer) → closed_from most scene results phase before ≡ closing whole answer →
+  closed_again : (most more : ℕ) (phase : Phase) (before whole : List (JournalEntry B)) (answer : ClosingAnswer) → closed_from most scene results phase before ≡ closing whole answer →
       closed_from (most + more) scene results phase before ≡ closing whole answer
   closed_again zero more phase before whole answer gives = let no = ap (λ (r : Rest B). r.answer) (sym (closed_none phase before) ∙ gives) in absurd cc
   closed_again (suc most) more phase before whole answer gives =
@@ -286,7 +286,7 @@ module _ {B : Type 0} (scene : Scene B) (results : List (List SaveResult)) where
       ∙ further most more phase before whole answer (λ p b g. closed_again most more p b whole answer g) (next_move scene results phase before) refl gives
 
   -- so it gives one past and one answer, however many moves it may take
-  closed_once : (most more : ℕ) (phase : Phase) (before whole other : List (JournalEntry B)) (answer given : Answer) → closed_from most scene results phase before ≡ closing whole answer →
+  closed_once : (most more : ℕ) (phase : Phase) (before whole other : List (JournalEntry B)) (answer given : ClosingAnswer) → closed_from most scene results phase before ≡ closing whole answer →
       closed_from more scene results phase before ≡ closing other given → (whole ≡ other) × (answer ≡ given)
   closed_once most more phase before whole other answer given one another =
       let same = sym (closed_again most more phase before whole answer one) ∙ ap (λ (n : ℕ). closed_from n scene results phase before) (omega arith)
@@ -387,7 +387,7 @@ module _ {B : Type 0} (scene : Scene B) where
     after_unfailed (Refused a) before next = refl
 
     goes_unfailed : (more : ℕ) → ((p : Phase) (b : List (JournalEntry B)) → closed_from more scene results p b ≡ closed_from more scene [] p b) →
-        (phase : Phase) (before : List (JournalEntry B)) (m : Move B) → goes scene results more phase before m ≡ goes scene [] more phase before m
+        (phase : Phase) (before : List (JournalEntry B)) (m : ClosingMove B) → goes scene results more phase before m ≡ goes scene [] more phase before m
     goes_unfailed more rest phase before (Ends answer) = refl
     goes_unfailed more rest phase before (Takes e next) =
         ap (λ (p : Phase). closed_from more scene results p (with_entry scene results e before)) (after_unfailed e before next)
@@ -399,7 +399,7 @@ module _ {B : Type 0} (scene : Scene B) where
     closed_unfailed (suc more) phase before =
         closed_goes scene results more phase before
         ∙ goes_unfailed more (λ p b. closed_unfailed more p b) phase before (next_move scene results phase before)
-        ∙ ap (λ (m : Move B). goes scene [] more phase before m) (move_unfailed phase before)
+        ∙ ap (λ (m : ClosingMove B). goes scene [] more phase before m) (move_unfailed phase before)
         ∙ sym (closed_goes scene [] more phase before)
 
     -- what is played with all saves made is what is played with no results
@@ -409,7 +409,7 @@ module _ {B : Type 0} (scene : Scene B) where
         ∙ ap (λ (before : List (JournalEntry B)). closed_from most scene [] Losing before) (played_unfailed steps [])
 
   -- a run of a script and its closing, in which every save was made
-  pub record IsWholeRun (steps : List Turn) (script entries : List (JournalEntry B)) (answer : Answer) : Type 0 where
+  pub record IsWholeRun (steps : List Turn) (script entries : List (JournalEntry B)) (answer : ClosingAnswer) : Type 0 where
     pub results : List (List SaveResult)
     pub saved : AllSaved results
     pub possible : IsPossible scene results (reverse entries ++ script)
@@ -417,14 +417,14 @@ module _ {B : Type 0} (scene : Scene B) where
     pub closes : Closes scene results script entries answer
 
   -- its journal is the one that its scene and its script give
-  pub the_one_journal : (steps : List Turn) (script entries : List (JournalEntry B)) (answer : Answer) → IsWholeRun steps script entries answer →
+  pub the_one_journal : (steps : List Turn) (script entries : List (JournalEntry B)) (answer : ClosingAnswer) → IsWholeRun steps script entries answer →
       (most : ℕ) × (plays most scene [] steps ≡ record { entries = reverse entries ++ script; answer = Some answer })
   the_one_journal steps script entries answer run =
       let plays_so = run_plays scene run.results steps script entries answer run.possible run.follows run.closes in
       (plays_so.0, sym (plays_unfailed run.results run.saved plays_so.0 steps) ∙ plays_so.1)
 
   -- so two runs of one scenario have one journal and one answer
-  pub one_journal : (steps : List Turn) (script entries : List (JournalEntry B)) (answer : Answer) (script' entries' : List (JournalEntry B)) (answer' : Answer) →
+  pub one_journal : (steps : List Turn) (script entries : List (JournalEntry B)) (answer : ClosingAnswer) (script' entries' : List (JournalEntry B)) (answer' : ClosingAnswer) →
       IsWholeRun steps script entries answer → IsWholeRun steps script' entries' answer' →
       (reverse entries ++ script ≡ reverse entries' ++ script') × (answer ≡ answer')
   one_journal steps script entries answer script' entries' answer' run run' =

@@ -12,7 +12,7 @@ use Rattle.journal.specs.declared.journal.Packet.{Packet}
 use Rattle.journal.specs.Actors.{same_actor}
 use Rattle.journal.specs.Orderly.{IsOrderly}
 use Rattle.journal.specs.Part.{packet_of}
-use Rattle.journal.specs.Pool.{pool, numbered, fitting, without}
+use Rattle.journal.specs.Pool.{pool, numbered_letters, fitting, without}
 use Rattle.list_facts.proofs.Elements.{in_append, in_filter, in_take}
 use Rattle.list_facts.proofs.Places.{get_in}
 use Rattle.list_facts.specs.Lists.{IsIn}
@@ -77,7 +77,7 @@ pub record IsPosted {B : Type 0} (a : Actor) (letters : List (Letter B)) (p : Pa
   pub to_is : p.to ≡ letter.to
   pub body_is : p.body ≡ letter.body
 
-posted_letter : {B : Type 0} (first : ℕ) (a : Actor) (letters : List (Letter B)) (p : Packet B) → IsIn p (numbered first a letters) → IsPosted a letters p
+posted_letter : {B : Type 0} (first : ℕ) (a : Actor) (letters : List (Letter B)) (p : Packet B) → IsIn p (numbered_letters first a letters) → IsPosted a letters p
 posted_letter first a [] p h = absurd h
 posted_letter {B = B} first a (l ∷ letters) p (inl e) =
     record { letter = l; among = inl refl; from_is = ap (λ (q : Packet B). q.from) e; to_is = ap (λ (q : Packet B). q.to) e; body_is = ap (λ (q : Packet B). q.body) e }
@@ -98,7 +98,7 @@ pub pool_after : {B : Type 0} (e : JournalEntry B) (before : List (JournalEntry 
 pool_after (Post a first letters lost) before p h =
     elim (in_append p (pool before) (fitting first a letters lost) h) [
       | inl old ↦ Was old
-      | inr new ↦ New a first letters lost refl (posted_letter first a letters p (in_take _ (numbered first a letters) p new))
+      | inr new ↦ New a first letters lost refl (posted_letter first a letters p (in_take _ (numbered_letters first a letters) p new))
     ]
 pool_after (Draw a id keep) before p h = Was (kept_choice keep id (pool before) p h)
 pool_after (Lose a id) before p h = Was (in_filter _ (pool before) p h)

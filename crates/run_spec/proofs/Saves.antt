@@ -10,7 +10,7 @@ use Rattle.journal.specs.declared.journal.SaveResult.TheVariants.{Saved, KeptOld
 use Rattle.group_controller.specs.declared.messages.ControllerInput.TheVariants as controller_input
 use Rattle.group_controller.specs.State.{ControllerState, Work, down}
 use Rattle.group_controller.specs.Rules.{controller_work}
-use Rattle.run_spec.specs.Legal.{EachFinds, Fits, IsTurn, IsSoundController}
+use Rattle.run_spec.specs.Legal.{EachFinds, FitsDebt, IsTurn, IsSoundController}
 use Rattle.run_spec.specs.States.{Scene, ControllerAt, content, controller_hears, controller_message, controller_saved, controller_took, controller_step, controller_at}
 
 -- the results so far are the first ones
@@ -134,8 +134,8 @@ module _ {B : Type 0} (scene : Scene B) (results more : List SaveResult) where
 
   -- behind a part whose saves have their results
   behind : (c : ℕ) (e : JournalEntry B) (ps : List (JournalEntry B × Option (Packet B))) → (controller_at scene results c ps).saves ≤ length results →
-      Fits controller_message scene.sealing (controller_at scene results c ps).owed ps e → Fits controller_message scene.sealing (controller_at scene (results ++ more) c ps).owed ps e
-  behind c e ps few fits = subst (λ (w : ControllerAt). Fits controller_message scene.sealing w.owed ps e) (same_results c ps few) fits
+      FitsDebt controller_message scene.sealing (controller_at scene results c ps).owed ps e → FitsDebt controller_message scene.sealing (controller_at scene (results ++ more) c ps).owed ps e
+  behind c e ps few fits = subst (λ (w : ControllerAt). FitsDebt controller_message scene.sealing w.owed ps e) (same_results c ps few) fits
 
   settled : (c : ℕ) (ps : List (JournalEntry B × Option (Packet B))) → (controller_at scene results c ps).saves ≤ length results → IsSettled c ps
   settled c ps few = let n = counts c ps in record { before = omega (arith, n, few); now = inl few }

@@ -8,7 +8,7 @@ use Rattle.of_types.specs.declared.numbers.TheConstants.{SHORTEST_FRAME, LONGEST
 use Rattle.of_types.specs.declared.refusal.Refusal.{Refusal}
 use Rattle.of_bytes.specs.Numbers.{number, four}
 use Rattle.of_messages.specs.Reading.{message_at, xid_of}
-use Rattle.of_ravana.specs.Canonical.{canonical}
+use Rattle.of_ravana.specs.Canonical.{canonical_spoken}
 use Rattle.of_ravana.specs.Reading.{extension_at}
 use Rattle.vr_log.specs.declared.message.VrMessage.{VrMessage}
 use Rattle.vr_codec.specs.declared.fault.VrRefusal.{VrRefusal}
@@ -29,7 +29,7 @@ own_bodies = record { sealed = λ m. m; spelled = said_on; size = message_size }
 
 -- the bytes of a message: of OpenFlow, between members, and on a link the port and the frame
 abbrev pub message_bytes : Message → List ℕ
-message_bytes (message.Of xid said) = canonical xid said
+message_bytes (message.Of xid said) = canonical_spoken xid said
 message_bytes (message.Vr said) = canonical_vr said
 message_bytes (message.Frame port bytes) = four port ++ bytes
 

@@ -34,19 +34,19 @@ abbrev pub AreTyped : {A : Type 0} → (A → Message) → List (Letter A) → T
 AreTyped said letters = AllByRecursion (λ l. FitsMessage (said l.body)) letters
 
 -- an entry stands where it may, over what its actor owes there: a Post has all of that, sealed
-abbrev pub Fits : {A B : Type 0} → (A → Message) → Sealing B → List (Letter A) → List (JournalEntry B × Option (Packet B)) → JournalEntry B → Type 0
-Fits said sealing owed before (Post a first letters lost) = (letters ≡ sealed_letters said sealing owed) × (letters ≢ []) × AreTyped said owed
-Fits said sealing owed before (Draw a id keep) = owed ≡ []
-Fits said sealing owed before (Lose a id) = owed ≡ []
-Fits said sealing owed before (Local a input) = owed ≡ []
-Fits said sealing owed before (Idle a) = owed ≡ []
-Fits said sealing owed before (Refused a) = IsTurn before
+abbrev pub FitsDebt : {A B : Type 0} → (A → Message) → Sealing B → List (Letter A) → List (JournalEntry B × Option (Packet B)) → JournalEntry B → Type 0
+FitsDebt said sealing owed before (Post a first letters lost) = (letters ≡ sealed_letters said sealing owed) × (letters ≢ []) × AreTyped said owed
+FitsDebt said sealing owed before (Draw a id keep) = owed ≡ []
+FitsDebt said sealing owed before (Lose a id) = owed ≡ []
+FitsDebt said sealing owed before (Local a input) = owed ≡ []
+FitsDebt said sealing owed before (Idle a) = owed ≡ []
+FitsDebt said sealing owed before (Refused a) = IsTurn before
 
 -- each entry of an actor's part stands where it may
 abbrev pub IsSound : {B S I A : Type 0} → ActorRules S I (Letter A) → Speech I A → Sealing B → S → List (JournalEntry B × Option (Packet B)) → Type 0
 IsSound rules speech sealing start [] = Unit {0}
 IsSound rules speech sealing start (step ∷ before) =
-    Fits speech.said sealing (actor_at rules speech sealing start before).owed before step.0 × IsSound rules speech sealing start before
+    FitsDebt speech.said sealing (actor_at rules speech sealing start before).owed before step.0 × IsSound rules speech sealing start before
 
 abbrev pub IsSoundSwitch : {B : Type 0} → Scene B → ℕ → List (JournalEntry B × Option (Packet B)) → Type 0
 IsSoundSwitch scene s own = IsSound switch_rules switch_speech scene.sealing (starting_switch s scene.setup) own

@@ -6,7 +6,7 @@ use Rattle.journal.specs.declared.journal.Turn.{Turn}
 use Rattle.journal.specs.Actors.{actor_of}
 use Rattle.journal.specs.Turns.{entry_of, posted}
 use Rattle.run_spec.specs.States.{Scene}
-use Rattle.run_spec.specs.Schedule.{owed_of, Phase, Losing, Answer, Takes, Ends, next_move, after_move}
+use Rattle.run_spec.specs.Schedule.{owed_of, Phase, Losing, ClosingAnswer, Takes, Ends, next_move, after_move}
 
 -- an entry, and the post of what its actor then owes
 abbrev pub with_entry : {B : Type 0} → Scene B → List (List SaveResult) → JournalEntry B → List (JournalEntry B) → List (JournalEntry B)
@@ -21,7 +21,7 @@ played scene results (step ∷ steps) before = played scene results steps (with_
 -- the past after a closing of at most so many moves, and its answer
 pub record Rest (B : Type 0) : Type 0 where
   pub entries : List (JournalEntry B)
-  pub answer : Option Answer
+  pub answer : Option ClosingAnswer
 
 unfoldable pub closed_from : {B : Type 0} → ℕ → Scene B → List (List SaveResult) → Phase → List (JournalEntry B) → Rest B
 closed_from zero scene results phase before = record { entries = before; answer = None }

@@ -93,15 +93,15 @@ pub data Phase : Type 0 where
   Met : LogFull → Phase
 
 -- how a closing ends
-pub data Answer : Type 0 where
-  Done : (primary : ℕ) → Answer
-  NoQuorum : (up needed : ℕ) → Answer
-  Overfull : (limit : LogFull) → Answer
+pub data ClosingAnswer : Type 0 where
+  Done : (primary : ℕ) → ClosingAnswer
+  NoQuorum : (up needed : ℕ) → ClosingAnswer
+  Overfull : (limit : LogFull) → ClosingAnswer
 
 -- what comes next in a closing
-pub data Move (B : Type 0) : Type 0 where
-  Takes : JournalEntry B → Phase → Move B
-  Ends : Answer → Move B
+pub data ClosingMove (B : Type 0) : Type 0 where
+  Takes : JournalEntry B → Phase → ClosingMove B
+  Ends : ClosingAnswer → ClosingMove B
 
 -- a packet that is drawn in closing: from a controller to a switch, or to a member of the quorum
 abbrev pub is_drawn : List ℕ → Actor → Actor → Bool
@@ -115,16 +115,16 @@ abbrev pub drained : {B : Type 0} → List ℕ → Packet B → JournalEntry B
 drained quorum p = if is_drawn quorum p.from p.to then Draw p.to p.id false else Lose p.to p.id
 
 -- the next member suspects. Where all did, the packet of the lowest number is drained, until none is left
-abbrev pub next_drained : {B : Type 0} → ℕ → ℕ → List ℕ → List (Packet B) → Move B
+abbrev pub next_drained : {B : Type 0} → ℕ → ℕ → List ℕ → List (Packet B) → ClosingMove B
 next_drained group view quorum [] = Ends (Done (view % group))
 next_drained group view quorum (p ∷ packets) = Takes (drained quorum p) (Draining view quorum)
 
-abbrev pub next_suspicion : {B : Type 0} → ℕ → ℕ → List ℕ → List ℕ → List (Packet B) → Move B
+abbrev pub next_suspicion : {B : Type 0} → ℕ → ℕ → List ℕ → List ℕ → List (Packet B) → ClosingMove B
 next_suspicion group view quorum (m ∷ members) packets = Takes (Local (actor.Controller m) (local.Suspect view)) (Suspecting view quorum members)
 next_suspicion group view quorum [] packets = next_drained group view quorum packets
 
 -- the pool is empty: where a majority takes part, its members suspect
-abbrev pub next_view : {B : Type 0} → ℕ → List ControllerState → Move B
+abbrev pub next_view : {B : Type 0} → ℕ → List ControllerState → ClosingMove B
 next_view group states =
     if nat_lt (length (members_up states)) (majority group) then Ends (NoQuorum (length (members_up states)) (majority group))
     else
@@ -133,12 +133,12 @@ next_view group states =
     next_suspicion group view quorum quorum []
 
 -- the packet of the lowest number is lost, until none is left
-abbrev pub next_lost : {B : Type 0} → ℕ → List ControllerState → List (Packet B) → Move B
+abbrev pub next_lost : {B : Type 0} → ℕ → List ControllerState → List (Packet B) → ClosingMove B
 next_lost group states [] = next_view group states
 next_lost group states (p ∷ packets) = Takes (Lose p.to p.id) Losing
 
 -- the next move over a past in which nothing is owed
-abbrev pub next_move : {B : Type 0} → Scene B → List (List SaveResult) → Phase → List (JournalEntry B) → Move B
+abbrev pub next_move : {B : Type 0} → Scene B → List (List SaveResult) → Phase → List (JournalEntry B) → ClosingMove B
 next_move scene results Losing entries = next_lost scene.setup.controllers (states_of scene results entries) (pool entries)
 next_move scene results (Suspecting view quorum members) entries = next_suspicion scene.setup.controllers view quorum members (pool entries)
 next_move scene results (Draining view quorum) entries = next_drained scene.setup.controllers view quorum (pool entries)
@@ -169,12 +169,12 @@ after_move scene results (Draw (actor.Controller c) id keep) before next = after
 after_move scene results e before next = next
 
 -- a move takes this entry, and leads to this phase
-abbrev pub IsMove : {B : Type 0} → Move B → JournalEntry B → Phase → Type 0
+abbrev pub IsMove : {B : Type 0} → ClosingMove B → JournalEntry B → Phase → Type 0
 IsMove (Takes f next) e phase = (e ≡ f) × (phase ≡ next)
 IsMove (Ends answer) e phase = ⊥
 
 -- a move ends with this answer
-abbrev pub IsEnd : {B : Type 0} → Move B → Answer → Type 0
+abbrev pub IsEnd : {B : Type 0} → ClosingMove B → ClosingAnswer → Type 0
 IsEnd (Takes f next) answer = ⊥
 IsEnd (Ends given) answer = answer ≡ given
 
@@ -195,7 +195,7 @@ pub record ClosesAt {B : Type 0} (scene : Scene B) (results : List (List SaveRes
   pub steps : ClosesTo scene results Losing (past script) entries phase
 
 -- a closing up to its answer
-pub record Closes {B : Type 0} (scene : Scene B) (results : List (List SaveResult)) (before entries : List (JournalEntry B)) (answer : Answer) : Type 0 where
+pub record Closes {B : Type 0} (scene : Scene B) (results : List (List SaveResult)) (before entries : List (JournalEntry B)) (answer : ClosingAnswer) : Type 0 where
   pub last : Phase
   pub steps : ClosesTo scene results Losing before entries last
   pub posted : IsPosted scene results (reverse entries ++ before)

@@ -1,6 +1,6 @@
 -- What an actor holds after its part of a journal, and what it owes. Parts have their newest entry first.
 use Rattle.std.specs.Prelude.{◌≡◌, ℕ, ◌+◌, true, List, [], ◌∷◌, map, slice_index_or, Option, Some, None}
-use Rattle.actor_fold.specs.Fold.{ActorRules, Standing, Step, Takes, Posts, Refuses, Rests, standing, standing_on}
+use Rattle.actor_fold.specs.Fold.{ActorRules, ActorStanding, Step, Takes, Posts, Refuses, Rests, actor_standing, standing_on}
 use Rattle.of_types.specs.declared.setup.Setup.{Setup}
 use Rattle.journal.specs.declared.journal.Actor.{Actor}
 use Rattle.journal.specs.declared.journal.Actor.TheVariants as actor
@@ -97,12 +97,12 @@ step_of speech sealing (Lose a id) found = Rests
 step_of speech sealing (Idle a) found = Rests
 
 -- what an actor of these rules holds after its part, as it started so
-abbrev pub actor_at : {B S I A : Type 0} → ActorRules S I (Letter A) → Speech I A → Sealing B → S → List (JournalEntry B × Option (Packet B)) → Standing S (Letter A)
-actor_at rules speech sealing start own = standing rules start (map (λ x. step_of speech sealing x.0 x.1) own)
+abbrev pub actor_at : {B S I A : Type 0} → ActorRules S I (Letter A) → Speech I A → Sealing B → S → List (JournalEntry B × Option (Packet B)) → ActorStanding S (Letter A)
+actor_at rules speech sealing start own = actor_standing rules start (map (λ x. step_of speech sealing x.0 x.1) own)
 
 -- a switch after its part
 abbrev pub SwitchAt : Type 0
-SwitchAt = Standing SwitchState (Letter SwitchSays)
+SwitchAt = ActorStanding SwitchState (Letter SwitchSays)
 
 abbrev pub switch_took : SwitchAt → SwitchTurn → SwitchAt
 switch_took w turn = record w { now = turn.state; before = w.now; owed = turn.letters; fresh = true; saves_before = w.saves }
@@ -123,7 +123,7 @@ crashed c = down c c.vr.promise c.vr.life
 
 -- a controller after its part
 abbrev pub ControllerAt : Type 0
-ControllerAt = Standing ControllerState (Letter ControllerSays)
+ControllerAt = ActorStanding ControllerState (Letter ControllerSays)
 
 -- a turn with a save: the letters go out only where it succeeds
 abbrev pub controller_saved : ControllerAt → Work → ℕ → ℕ → SaveResult → ControllerAt

@@ -16,14 +16,14 @@ use Rattle.run_spec.specs.States.{Scene, controller_hears, controller_message, c
 use Rattle.world.specs.Standing.{ControllerStands}
 use Rattle.world.specs.World.{IsOwed}
 use Rattle.world.proofs.Controlling as standing
-use Rattle.shared_wire.specs.Calls.{beside}
+use Rattle.shared_wire.specs.Calls.{beside_seat}
 use Rattle.running.specs.Hearing.{Hears}
 use Rattle.running.proofs.Hearing.{heard, unheard}
 
 module _ {B A : Type 0} (law : AppLaw A) (scene : Scene B) (c : ℕ) where
   -- what it owes is posted
   pub controller_posts : (a : Actor) (own : List (JournalEntry B × Option (Packet B))) (x : Controlling A) (owed : List (Letter B)) (before : List (JournalEntry B)) →
-      ControllerStands law scene c own x owed → ControllerStands law scene c (beside (posting scene.sealing.size a owed before) before ++ own) x []
+      ControllerStands law scene c own x owed → ControllerStands law scene c (beside_seat (posting scene.sealing.size a owed before) before ++ own) x []
   controller_posts a own x [] before h = h
   controller_posts a own x (l ∷ owed) before h = standing.controller_posts law scene c own x l owed a _ _ None h
 

@@ -19,7 +19,7 @@ use Rattle.group_controller.specs.Turns.{Controlling}
 use Rattle.run_spec.specs.Committed.{controller_state, switch_state}
 use Rattle.run_spec.specs.Legal.{results_of}
 use Rattle.run_spec.specs.States.{Sealing, controller_at}
-use Rattle.world.specs.World.{AreNew, AreTold, Holds, IsNew, IsPlayed, Keeps, PairsStand, Worlding, resting, results_in, scene_in, starting_switches}
+use Rattle.world.specs.World.{AreNew, AreTold, Holds, IsNew, IsPlayed, Keeps, PairsStand, Worlding, resting_world, results_in, scene_in, starting_switches}
 use Rattle.world.proofs.Places.{results_at}
 use Rattle.running.specs.declared.run.Played.{Played}
 use Rattle.running.specs.Apart.{FollowsApart}
@@ -100,9 +100,9 @@ module _ {B A W : Type 0} (law : AppLaw A) (saving : Saving W) (sealing : Sealin
       subst (λ (cs : List (Controlling A)). HaltsApart law saving sealing w.setup kinds steps cs stables stables_after left stop) controllers_are
       (subst (λ (s : Setup). HaltsApart law saving sealing s kinds steps controllers stables stables_after left stop) setup_is h)
 
-  module _ (left : Played B A) (after : Worlding B A) (is : after ≡ resting setup left.wire left.controllers.items left.switches.items) where
-    now_is : after ≡ resting w.setup left.wire left.controllers.items left.switches.items
-    now_is = is ∙ ap (λ (s : Setup). resting s left.wire left.controllers.items left.switches.items) setup_is
+  module _ (left : Played B A) (after : Worlding B A) (is : after ≡ resting_world setup left.wire left.controllers.items left.switches.items) where
+    now_is : after ≡ resting_world w.setup left.wire left.controllers.items left.switches.items
+    now_is = is ∙ ap (λ (s : Setup). resting_world s left.wire left.controllers.items left.switches.items) setup_is
 
     played_with : (kinds : List ℕ) → HasPlayedApart law saving sealing setup kinds steps controllers stables stables_after left → HasPlayedApart law saving sealing w.setup kinds steps w.controllers stables stables_after left
     played_with kinds h =

@@ -22,7 +22,7 @@ use Rattle.run_spec.specs.States.{Sealing, content}
 use Rattle.run_spec.proofs.Pools.{orderly_before}
 use Rattle.journal.proofs.Found.{IsPicked, body_of, picked, picked_packet}
 use Rattle.shared_wire.specs.Places.{PlaceState}
-use Rattle.shared_wire.specs.Calls.{beside, Adds, AddsNothing}
+use Rattle.shared_wire.specs.Calls.{beside_seat, Adds, AddsNothing}
 use Rattle.running.specs.Hearing.{Advances, Hears}
 
 module _ {B I : Type 0} (sealing : Sealing B) (hears : Actor → Unsealed → I) (locally : LocalInput → I) (p q : PlaceState B) (letters : List (Letter B)) (step : Turn) where
@@ -45,9 +45,9 @@ module _ {B I : Type 0} (sealing : Sealing B) (hears : Actor → Unsealed → I)
     others = [];
     seen = ap past a.seen ∙ reverse-append a.met (turn_entries sealing.size letters step (past a.met)) ∙ ap (λ l. l ++ past a.met) (turned (past a.met))
         ∙ ap (λ (x : Actor). entry_of step (posted sealing.size x letters (past a.met)) ∷ posted sealing.size x letters (past a.met)) mine;
-    own = a.own ∙ ap (λ l. beside l (past a.met) ++ p.own) (turned (past a.met))
+    own = a.own ∙ ap (λ l. beside_seat l (past a.met) ++ p.own) (turned (past a.met))
         ∙ ap (λ (x : Actor). let before = posted sealing.size x letters (past a.met) in
-        (entry_of step before, drawn (entry_of step before) before) ∷ beside (posting sealing.size x letters (past a.met)) (past a.met) ++ p.own) mine;
+        (entry_of step before, drawn (entry_of step before) before) ∷ beside_seat (posting sealing.size x letters (past a.met)) (past a.met) ++ p.own) mine;
     hears_it = heard;
   }
 

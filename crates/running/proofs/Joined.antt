@@ -21,7 +21,7 @@ use Rattle.group_controller.specs.Turns.{Controlling}
 use Rattle.run_spec.specs.States.{Scene, Sealing, controller_at, controller_message, switch_at, switch_message}
 use Rattle.run_spec.specs.Legal.{IsLegalPast, results_of}
 use Rattle.run_spec.specs.Schedule.{owed_of}
-use Rattle.world.specs.World.{IsMember, IsOwed, IsPlayed, resting, results_in}
+use Rattle.world.specs.World.{IsMember, IsOwed, IsPlayed, resting_world, results_in}
 use Rattle.world.specs.Standing.{AllStand, ControllerStands, SwitchStands}
 use Rattle.world.proofs.Joining as joining
 use Rattle.world.proofs.Standing.{none_said}
@@ -169,7 +169,7 @@ module _ {B A W : Type 0} (law : AppLaw A) (saving : Saving W) (sealing : Sealin
   cut_short bytes letters a short = record { each = begins; stuck = a; cut = short }
 
   -- the world that takes it over, where nothing is owed
-  pub played : IsSetup setup → given_by kinds ≤ most_commands → ((a : Actor) → IsActor setup a → owed a ≡ []) → IsPlayed law sealing (resting setup journal members states) kinds
+  pub played : IsSetup setup → given_by kinds ≤ most_commands → ((a : Actor) → IsActor setup a → owed a ≡ []) → IsPlayed law sealing (resting_world setup journal members states) kinds
   played is_setup few rest = record {
     setup = is_setup;
     few = few;

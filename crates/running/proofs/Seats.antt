@@ -13,7 +13,7 @@ use Rattle.group_controller.specs.Turns.{Controlling}
 use Rattle.shared_wire.specs.Places.{fresh, PlaceState, TableId}
 use Rattle.running.specs.declared.seated.Served.{Served}
 use Rattle.running.specs.declared.task.Task.{Task}
-use Rattle.running.specs.Runs.{place_of, seated, served}
+use Rattle.running.specs.Runs.{seat_place_of, seated, served}
 use Rattle.running.specs.Tasks.{AllRan, WasRun, MayBegin}
 use Rattle.running.proofs.Lists.{behind_none, drop_long, got_map, map_long, same_maps, some_at, take_and_drop, take_whole}
 
@@ -41,15 +41,15 @@ module _ {B P : Type 0} (plays : Setup → List ℕ → Actor → P → List (Jo
       (subst (λ (t : Task B P). WasRun plays size steps (slice_index_or old k y) t) (get_or_from_slice_get new k y y new_at) (ran.each k y less))
 
   -- the boards stay
-  pub boards_stay : All (MayBegin plays id steps) old → All (λ p. p.board ≡ id) (map place_of new)
+  pub boards_stay : All (MayBegin plays id steps) old → All (λ p. p.board ≡ id) (map seat_place_of new)
   boards_stay ready k d less =
-      let long = map_long place_of new in
+      let long = map_long seat_place_of new in
       let count = ran.count in
       let y = some_at new k (omega (arith, less, long)) in
       let x = some_at old k (omega (arith, less, long, count)) in
       let same = has_run k x.0 y.0 (omega (arith, less, long, count)) x.1 y.1 in
       let its = ready k x.0 (omega (arith, less, long, count)) in
-      subst (λ (p : PlaceState B). p.board ≡ id) (sym (get_or_from_slice_get (map place_of new) k (place_of y.0) d (got_map place_of new k y.0 y.1)))
+      subst (λ (p : PlaceState B). p.board ≡ id) (sym (get_or_from_slice_get (map seat_place_of new) k (seat_place_of y.0) d (got_map seat_place_of new k y.0 y.1)))
       (same.place.1 ∙ ap (λ (t : Task B P). t.job.place.board) (sym (get_or_from_slice_get old k x.0 x.0 x.1)) ∙ its.board_is)
 
   -- the actors stay
@@ -65,7 +65,7 @@ actors_of_seated [] (x ∷ players) less = absurd (omega (arith, less))
 actors_of_seated (p ∷ places) [] less = refl
 actors_of_seated (p ∷ places) (x ∷ players) less = ap (λ l. p.actor ∷ l) (actors_of_seated places players (omega (arith, less)))
 
-pub actors_of_places : {B P : Type 0} (tasks : List (Task B P)) → map (λ p. p.actor) (map place_of tasks) ≡ map (λ (t : Task B P). t.job.place.actor) tasks
+pub actors_of_places : {B P : Type 0} (tasks : List (Task B P)) → map (λ p. p.actor) (map seat_place_of tasks) ≡ map (λ (t : Task B P). t.job.place.actor) tasks
 actors_of_places [] = refl
 actors_of_places (t ∷ tasks) = ap (λ l. t.job.place.actor ∷ l) (actors_of_places tasks)
 
@@ -77,12 +77,12 @@ actors_of_fresh B id (a ∷ actors) = ap (λ l. a ∷ l) (actors_of_fresh B id a
 pub all_seated : {B P Q : Type 0} (id : TableId) (actors : List Actor) (members : List (Task B P)) (others : List (Task B Q)) (first : List P) (second : List Q) →
     map (λ (t : Task B P). t.job.place.actor) members ≡ map (λ (t : Task B P). t.job.place.actor) (seated (map (fresh id) actors) first) →
     map (λ (t : Task B Q). t.job.place.actor) others ≡ map (λ (t : Task B Q). t.job.place.actor) (seated (drop (length first) (map (fresh id) actors)) second) →
-    length first + length second ≡ length actors → map (λ p. p.actor) (map place_of members ++ map place_of others) ≡ actors
+    length first + length second ≡ length actors → map (λ p. p.actor) (map seat_place_of members ++ map seat_place_of others) ≡ actors
 all_seated {B = B} id actors members others first second members_are others_are long =
     let all = map_long (fresh {B = B} id) actors in
     let rest = drop_long (length first) (map (fresh {B = B} id) actors) (omega (arith, all, long)) in
-    map-append (λ p. p.actor) (map place_of members) (map place_of others) ∙
-    ap (λ l. l ++ map (λ p. p.actor) (map place_of others)) (actors_of_places members ∙ members_are ∙ actors_of_seated (map (fresh {B = B} id) actors) first (omega (arith, all, long))) ∙
+    map-append (λ p. p.actor) (map seat_place_of members) (map seat_place_of others) ∙
+    ap (λ l. l ++ map (λ p. p.actor) (map seat_place_of others)) (actors_of_places members ∙ members_are ∙ actors_of_seated (map (fresh {B = B} id) actors) first (omega (arith, all, long))) ∙
     ap (λ l. map (λ p. p.actor) (take (length first) (map (fresh {B = B} id) actors)) ++ l) (actors_of_places others ∙ others_are ∙ actors_of_seated (drop (length first) (map (fresh {B = B} id) actors)) second (omega (arith, all, long, rest)) ∙
     ap (map (λ p. p.actor)) (take_whole (length second) (drop (length first) (map (fresh {B = B} id) actors)) (omega (arith, all, long, rest)))) ∙
     sym (map-append (λ p. p.actor) (take (length first) (map (fresh {B = B} id) actors)) (drop (length first) (map (fresh {B = B} id) actors))) ∙ ap (map (λ p. p.actor)) (take_and_drop (length first) (map (fresh {B = B} id) actors)) ∙ actors_of_fresh B id actors

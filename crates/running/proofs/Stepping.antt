@@ -23,7 +23,7 @@ use Rattle.shared_wire.specs.Rule.{StartsWith}
 use Rattle.shared_wire.specs.Places.{PlaceState}
 use Rattle.journal.specs.declared.wire.Refused.{Refused as Refusal}
 use Rattle.journal.specs.Answers.{RefusedBy}
-use Rattle.shared_wire.specs.Calls.{beside, Adds, Refuses}
+use Rattle.shared_wire.specs.Calls.{beside_seat, Adds, Refuses}
 use Rattle.shared_wire.proofs.Parts.{AllBy, part-own, same_of}
 use Rattle.shared_wire.proofs.Turns.{by_entry, by_posting}
 use Rattle.running.specs.Apart.{steps_of, inputs_of, IsStepAt}
@@ -109,7 +109,7 @@ module _ {B I : Type 0} (sealing : Sealing B) (hears : Actor → Unsealed → I)
 
   part_is : part p.actor (e ∷ before) ≡ q.own
   part_is = part-own p.actor (e ∷ posting sealing.size p.actor letters (past g.met)) (past g.met) all_by
-      ∙ ap (λ (l : List (JournalEntry B × Option (Packet B))). (e, drawn e before) ∷ beside (posting sealing.size p.actor letters (past g.met)) (past g.met) ++ l) (sym g.mine) ∙ sym g.own
+      ∙ ap (λ (l : List (JournalEntry B × Option (Packet B))). (e, drawn e before) ∷ beside_seat (posting sealing.size p.actor letters (past g.met)) (past g.met) ++ l) (sym g.mine) ∙ sym g.own
 
   -- one step more was taken
   pub taken_on : Taken p.actor steps (number + 1) (past q.seen)
@@ -148,7 +148,7 @@ module _ {B P : Type 0} (plays : List (JournalEntry B × Option (Packet B)) → 
 
   -- the last outbox was posted
   pub last_posted : (size : B → ℕ) (p q : PlaceState B) (player : P) (owed : List (Letter B)) (number : ℕ) → q.actor ≡ p.actor → p.own ≡ part p.actor (past p.seen) → q.own ≡ part q.actor (past q.seen) →
-      Adds p q (posting size p.actor owed) → ((before : List (JournalEntry B)) → plays (beside (posting size p.actor owed before) before ++ p.own) player []) →
+      Adds p q (posting size p.actor owed) → ((before : List (JournalEntry B)) → plays (beside_seat (posting size p.actor owed before) before ++ p.own) player []) →
       PlaysOn plays steps number (record { place = p; player = player; owed = owed }) → PlaysOn plays steps number (record { place = q; player = player; owed = [] })
   last_posted size p q player owed number same p_part q_part a posts on =
       plays_on p q player [] number same (subst (λ o. plays o player []) (sym own_is) (posts (past a.met)))
@@ -158,8 +158,8 @@ module _ {B P : Type 0} (plays : List (JournalEntry B × Option (Packet B)) → 
       one_post [] = refl
       one_post (l ∷ ls) = refl
 
-      own_is : q.own ≡ beside (posting size p.actor owed (past a.met)) (past a.met) ++ p.own
-      own_is = a.own ∙ ap (λ l. beside l (past a.met) ++ p.own) (one_post owed)
+      own_is : q.own ≡ beside_seat (posting size p.actor owed (past a.met)) (past a.met) ++ p.own
+      own_is = a.own ∙ ap (λ l. beside_seat l (past a.met) ++ p.own) (one_post owed)
 
       seen_is : past q.seen ≡ posted size p.actor owed (past a.met)
       seen_is = ap past a.seen ∙ reverse-append a.met (posting size p.actor owed (past a.met)) ∙ ap (λ l. l ++ past a.met) (one_post owed)

@@ -15,7 +15,7 @@ use Rattle.run_spec.specs.States.{Scene, switch_hears, switch_message, switch_ru
 use Rattle.world.specs.Standing.{SwitchStands}
 use Rattle.world.specs.World.{IsOwed}
 use Rattle.world.proofs.Standing.{posts, rests, takes}
-use Rattle.shared_wire.specs.Calls.{beside}
+use Rattle.shared_wire.specs.Calls.{beside_seat}
 use Rattle.running.specs.Hearing.{Hears}
 use Rattle.running.proofs.Hearing.{heard, unheard}
 
@@ -25,7 +25,7 @@ module _ {B : Type 0} (scene : Scene B) (s : ℕ) where
 
   -- what it owes is posted
   pub switch_posts : (a : Actor) (own : List (JournalEntry B × Option (Packet B))) (state : SwitchState) (owed : List (Letter B)) (before : List (JournalEntry B)) →
-      SwitchStands scene s own state owed → SwitchStands scene s (beside (posting scene.sealing.size a owed before) before ++ own) state []
+      SwitchStands scene s own state owed → SwitchStands scene s (beside_seat (posting scene.sealing.size a owed before) before ++ own) state []
   switch_posts a own state [] before h = h
   switch_posts a own state (l ∷ owed) before h = posts switch_rules switch_speech scene.sealing start own state l owed a _ _ None h
 

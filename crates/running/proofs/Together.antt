@@ -22,7 +22,7 @@ use Rattle.group_controller.specs.Turns.{Controlling, pair_in, state_of}
 use Rattle.run_spec.specs.States.{Sealing}
 use Rattle.run_spec.specs.Legal.{IsLegalPast}
 use Rattle.journal.specs.Turns.{IsFull, IsWithinLimits}
-use Rattle.world.specs.World.{AreTold, IsMember, IsPlayed, PairsStand, SavesTold, resting, results_in}
+use Rattle.world.specs.World.{AreTold, IsMember, IsPlayed, PairsStand, SavesTold, resting_world, results_in}
 use Rattle.shared_wire.specs.Places.{fresh, IsPartOf, PlaceState, TableId}
 use Rattle.shared_wire.proofs.Lists.{all_reverse}
 use Rattle.running.specs.declared.job.Job.{Job}
@@ -32,7 +32,7 @@ use Rattle.running.specs.declared.task.Task.{Task}
 use Rattle.running.specs.Apart.{BeginsApart, FollowsApart, IsCutFor}
 use Rattle.running.specs.Jobs.{HasPlayedSome, EndsAs, IsAtEnd, IsSeatedIn}
 use Rattle.running.specs.Playing.{ServedPlays, SwitchPlays, scene_of}
-use Rattle.running.specs.Runs.{actors_up_to, controller_of, first_stop, place_of, player_of, seated, served, stable_of, task_of}
+use Rattle.running.specs.Runs.{actors_up_to, controller_of, first_stop, seat_place_of, player_of, seated, served, stable_of, task_of}
 use Rattle.running.specs.Tasks.{WasRun, MayBegin}
 use Rattle.running.specs.Threads.{IsLeftPaired, HaltsApart, HasPlayedApart, IsLeftLegal, StartsApart}
 use Rattle.running.specs.Together.{HavePlayed}
@@ -205,8 +205,8 @@ module _ {B A W : Type 0} (law : AppLaw A) (saving : Saving W) (sealing : Sealin
           stands = stands;
           ran = subst (λ (t : Task B (Served A W)). WasRun (ServedPlays law saving sealing) sealing.size steps t now)
               (get_or_from_slice_get first_members c start start (member_at c there s)) (h.members_ran.each c start (omega (arith, old_long, group, there)));
-          part = at_number (IsPartOf wire) (map place_of h.members ++ map place_of h.others) c now.job.place h.parts
-              (slice_get-append (map place_of h.members) (map place_of h.others) c now.job.place (got_map place_of h.members c now stands));
+          part = at_number (IsPartOf wire) (map seat_place_of h.members ++ map seat_place_of h.others) c now.job.place h.parts
+              (slice_get-append (map seat_place_of h.members) (map seat_place_of h.others) c now.job.place (got_map seat_place_of h.members c now stands));
         }
 
     switch_ends : (s : ℕ) → s < length setup.ports → HasEndedAs (SwitchPlays sealing) (actor.Switch s) (starting_switch s setup) h.others s
@@ -222,8 +222,8 @@ module _ {B A W : Type 0} (law : AppLaw A) (saving : Saving W) (sealing : Sealin
           stands = stands;
           ran = subst (λ (t : Task B SwitchState). WasRun (SwitchPlays sealing) sealing.size steps t now)
               (get_or_from_slice_get first_others s start start (other_at s there)) (h.others_ran.each s start (omega (arith, old_long, count, there)));
-          part = at_number (IsPartOf wire) (map place_of h.members ++ map place_of h.others) (length (map place_of h.members) + s) now.job.place h.parts
-              (got_behind (map place_of h.members) (map place_of h.others) s (length (map place_of h.members) + s) refl ∙ got_map place_of h.others s now stands);
+          part = at_number (IsPartOf wire) (map seat_place_of h.members ++ map seat_place_of h.others) (length (map seat_place_of h.members) + s) now.job.place h.parts
+              (got_behind (map seat_place_of h.members) (map seat_place_of h.others) s (length (map seat_place_of h.members) + s) refl ∙ got_map seat_place_of h.others s now stands);
         }
 
     -- where no task was short of memory, the job of each has ended
@@ -395,8 +395,8 @@ module _ {B A W : Type 0} (law : AppLaw A) (saving : Saving W) (sealing : Sealin
           left_legal = left_legal;
           follows = subst (λ (cs : List (Controlling A)). FollowsApart (scene_of sealing setup kinds) (results_in cs) steps (past wire)) members_are
               (joined.follows law saving sealing setup kinds steps wire member_jobs other_jobs started h.orderly named jobs_long other_jobs_long joins_controllers switch_seated owes_none);
-          played = subst (λ (cs : List (Controlling A)). IsPlayed law sealing (resting setup wire cs played.switches.items) kinds) members_are
-              (subst (λ (ss : List SwitchState). IsPlayed law sealing (resting setup wire (map (λ j. j.player.controller) member_jobs) ss) kinds) others_are
+          played = subst (λ (cs : List (Controlling A)). IsPlayed law sealing (resting_world setup wire cs played.switches.items) kinds) members_are
+              (subst (λ (ss : List SwitchState). IsPlayed law sealing (resting_world setup wire (map (λ j. j.player.controller) member_jobs) ss) kinds) others_are
               (joined.played law saving sealing setup kinds steps wire member_jobs other_jobs started h.orderly named jobs_long other_jobs_long joins_controllers switch_seated starts.is_setup starts.few owes_none));
         }
 

@@ -15,8 +15,8 @@ module _ {B P : Type 0} where
   abbrev pub task_of : PlaceState B → P → Task B P
   task_of place player = record { job = record { place = place; player = player; owed = [] }; stop = None }
 
-  abbrev pub place_of : Task B P → PlaceState B
-  place_of task = task.job.place
+  abbrev pub seat_place_of : Task B P → PlaceState B
+  seat_place_of task = task.job.place
 
   abbrev pub player_of : Task B P → P
   player_of task = task.job.player

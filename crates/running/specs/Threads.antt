@@ -13,7 +13,7 @@ use Rattle.of_switch.specs.State.{SwitchState}
 use Rattle.group_controller.specs.Turns.{Controlling}
 use Rattle.run_spec.specs.States.{Sealing}
 use Rattle.run_spec.specs.Legal.{IsLegalPast}
-use Rattle.world.specs.World.{AreNew, AreTold, IsMember, IsPlayed, PairsStand, resting, results_in, starting_switches}
+use Rattle.world.specs.World.{AreNew, AreTold, IsMember, IsPlayed, PairsStand, resting_world, results_in, starting_switches}
 use Rattle.running.specs.declared.run.Played.{Played}
 use Rattle.running.specs.Apart.{BeginsApart, FollowsApart}
 use Rattle.running.specs.Playing.{scene_of}
@@ -54,7 +54,7 @@ pub record HasPlayedApart {B A W : Type 0} (law : AppLaw A) (saving : Saving W) 
     (before : List (Controlling A)) (stables stables_after : List W) (left : Played B A) : Type 0 where
   pub left_legal : IsLeftLegal law saving sealing setup kinds before stables stables_after left
   pub follows : FollowsApart (scene_of sealing setup kinds) (results_in left.controllers.items) steps (past left.wire)
-  pub played : IsPlayed law sealing (resting setup left.wire left.controllers.items left.switches.items) kinds
+  pub played : IsPlayed law sealing (resting_world setup left.wire left.controllers.items left.switches.items) kinds
 
 -- why threads were cut short, and what they left
 abbrev pub HaltsApart : {B A W : Type 0} → AppLaw A → Saving W → Sealing B → Setup → List ℕ → List Turn →

@@ -17,7 +17,7 @@ use Rattle.running.specs.declared.run.Played.{Played}
 use Rattle.running.specs.declared.seated.Served.{Served}
 use Rattle.running.specs.declared.task.Task.{Task}
 use Rattle.running.specs.Playing.{ServedPlays, SwitchPlays}
-use Rattle.running.specs.Runs.{actors_up_to, controller_of, first_stop, place_of, player_of, seated, served, stable_of}
+use Rattle.running.specs.Runs.{actors_up_to, controller_of, first_stop, seat_place_of, player_of, seated, served, stable_of}
 use Rattle.running.specs.Tasks.{AllRan}
 
 -- there is room for a group of so many controllers and so many switches, and for so many stables
@@ -44,7 +44,7 @@ pub record HavePlayed {B A W : Type 0} (law : AppLaw A) (saving : Saving W) (sea
   pub orderly : IsOrderly sealing.size (past played.wire)
   pub within : IsWithinLimits sealing.size (past played.wire)
   pub named : AreNamed (actors_up_to (length controllers) (length switches)) played.wire
-  pub parts : All (IsPartOf played.wire) (map place_of members ++ map place_of others)
+  pub parts : All (IsPartOf played.wire) (map seat_place_of members ++ map seat_place_of others)
   pub controllers_are : played.controllers.items ≡ map controller_of (map player_of members)
   pub switches_are : played.switches.items ≡ map player_of others
   pub stables_are : stables_after ≡ map stable_of (map player_of members) ++ drop (length controllers) stables

@@ -6,7 +6,7 @@ ghost use Rattle.journal.specs.Pool.{past};
 ghost use Rattle.journal.specs.Turns.{IsWithinLimits};
 ghost use Rattle.shared_wire.specs.Places.{IsPartOf};
 ghost use Rattle.shared_wire.specs.Rule.{AreNamed};
-ghost use Rattle.running.specs.Runs.{controller_of, first_stop, place_of, player_of, stable_of};
+ghost use Rattle.running.specs.Runs.{controller_of, first_stop, seat_place_of, player_of, stable_of};
 
 use crate::job::Job;
 use crate::seated::Served;
@@ -28,7 +28,7 @@ pub fn take_apart<B: Body, P: Drop>(
     first: Option<Stop>,
 ) -> Option<Stop>
     requires room { (vec_len places.old + vec_len tasks ≤ vec_capacity places.old) × (vec_len players.old + vec_len tasks ≤ vec_capacity players.old) }
-    ensures places { places.new.items ≡ places.old.items ++ map place_of tasks.items }
+    ensures places { places.new.items ≡ places.old.items ++ map seat_place_of tasks.items }
     ensures players { players.new.items ≡ players.old.items ++ map player_of tasks.items }
     ensures room { (vec_capacity places.new ≡ vec_capacity places.old) × (vec_capacity players.new ≡ vec_capacity players.old) }
     ensures long { (vec_len places.new ≡ vec_len places.old + vec_len tasks) × (vec_len players.new ≡ vec_len players.old + vec_len tasks) }

@@ -7,7 +7,7 @@ ghost use Rattle.journal.specs.declared.journal.Letter.{Letter};
 ghost use Rattle.journal.specs.declared.journal.Packet.{Packet};
 ghost use Rattle.journal.specs.Turns.{posting};
 ghost use Rattle.group_controller.specs.Turns.{Controls};
-ghost use Rattle.shared_wire.specs.Calls.{beside};
+ghost use Rattle.shared_wire.specs.Calls.{beside_seat};
 ghost use Rattle.running.specs.Hearing.{Hears};
 ghost use Rattle.running.specs.Jobs.{HasPlayedSome};
 ghost use Rattle.running.specs.Playing.{ServedPlays, SwitchPlays};
@@ -31,7 +31,7 @@ pub trait Seated<B: Body>: Player {
     fn rests(&self)
         ensures posts { (setup : Setup) (kinds : List ℕ) (a : Actor) (start : Self) (own : List (JournalEntry B × Option (Packet B)))
             (owed : List (Letter B)) (before : List (JournalEntry B)) →
-            plays setup kinds a start own self.now owed → plays setup kinds a start (beside (posting B.sealing.size a owed before) before ++ own) self.now [] }
+            plays setup kinds a start own self.now owed → plays setup kinds a start (beside_seat (posting B.sealing.size a owed before) before ++ own) self.now [] }
         ensures quiet { (setup : Setup) (kinds : List ℕ) (a : Actor) (start : Self) (own : List (JournalEntry B × Option (Packet B)))
             (e : JournalEntry B) (found : Option (Packet B)) →
             Hears B.sealing Self.hears Self.locally e found None →

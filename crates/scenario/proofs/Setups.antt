@@ -37,11 +37,11 @@ use Rattle.scenario.specs.declared.written.WrittenStep.{WrittenStep}
 use Rattle.scenario.specs.declared.written.WrittenStep.TheVariants.{Frame, Port, Tick, Draw, Lose, Suspect, Crash, RestartController, RestartSwitch}
 use Rattle.scenario.specs.declared.limits.Timed.{Timed}
 use Rattle.scenario.specs.Generated.{frame_turn, last_crash, generated}
-use Rattle.scenario.specs.Limits.{given, is_within, once, only_if, is_port, is_port_of, is_within_limits, prefix_within, turn_within, restarts_of, repeated, ports_within, link_within, rule_within}
+use Rattle.scenario.specs.Limits.{given, is_within, once, only_if, is_port_within, is_port_of, is_within_limits, prefix_within, turn_within, restarts_of, repeated_member, ports_within, link_within, rule_within}
 use Rattle.scenario.proofs.Turns.{only_if_keeps, turn_is}
 use Rattle.wires.specs.Wires.{is_taken}
 use Rattle.wires.proofs.Apart.{same_end, same_end_sym, apart_link, free_is, not_true}
-use Rattle.scenario.specs.Scenario.{Gives, HasView, steps_within, setup_within, scenario_within, IsScenario}
+use Rattle.scenario.specs.Scenario.{GivesScenario, HasView, steps_within, setup_within, scenario_within, IsScenario}
 
 bind_ok : {A B : Type 0} (r : Result A Fault) (next : A → Result B Fault) (y : B) → (r >>= next) ≡ Ok y → (x : A) × (r ≡ Ok x) × (next x ≡ Ok y)
 bind_ok (Ok x) next y e = (x, refl, e)
@@ -104,7 +104,7 @@ record AreLinks (setup : Setup) (links : List Link) : Type 0 where
   pub between : AllByRecursion (λ l. IsPort setup l.switch l.port × IsPort setup l.peer l.peer_port) links
   pub apart : AreApart (ends_of links)
 
-port_is : (setup : Setup) (switch port : ℕ) → is_port setup.ports switch port ≡ true → IsPort setup switch port
+port_is : (setup : Setup) (switch port : ℕ) → is_port_within setup.ports switch port ≡ true → IsPort setup switch port
 port_is setup switch port e =
     let there : switch < length setup.ports = search (rules, e) in
     let within : (1 ≤ port) × (port ≤ slice_index setup.ports switch) = search (rules, e) in
@@ -122,19 +122,19 @@ more_links setup before l h one other free_one free_other two =
 links_are : (setup : Setup) (before : List Link) (l : WrittenLink) → AreLinks setup before → IfSome (link_within setup.ports before l) (λ link. AreLinks setup (before ++ link ∷ []))
 links_are setup before l h =
     let made : Link = record { switch = l.switch; port = l.port; peer = l.peer; peer_port = l.peer_port } in
-    only_if_then (λ link. AreLinks setup (before ++ link ∷ [])) (is_port setup.ports l.switch l.port && is_port setup.ports l.peer l.peer_port && not (l.switch == l.peer && l.port == l.peer_port)) made
+    only_if_then (λ link. AreLinks setup (before ++ link ∷ [])) (is_port_within setup.ports l.switch l.port && is_port_within setup.ports l.peer l.peer_port && not (l.switch == l.peer && l.port == l.peer_port)) made
     (λ link. only_if (not (is_taken link.switch link.port before) && not (is_taken link.peer link.peer_port before)) link)
     (λ e. only_if_keeps (λ link. AreLinks setup (before ++ link ∷ [])) (not (is_taken l.switch l.port before) && not (is_taken l.peer l.peer_port before)) made
     (λ free. more_links setup before made h
-    (port_is setup l.switch l.port (and_parts (is_port setup.ports l.switch l.port) (is_port setup.ports l.peer l.peer_port) (tests e).0).0)
-    (port_is setup l.peer l.peer_port (and_parts (is_port setup.ports l.switch l.port) (is_port setup.ports l.peer l.peer_port) (tests e).0).1)
+    (port_is setup l.switch l.port (and_parts (is_port_within setup.ports l.switch l.port) (is_port_within setup.ports l.peer l.peer_port) (tests e).0).0)
+    (port_is setup l.peer l.peer_port (and_parts (is_port_within setup.ports l.switch l.port) (is_port_within setup.ports l.peer l.peer_port) (tests e).0).1)
     (free_is l.switch l.port before (and_parts (not (is_taken l.switch l.port before)) (not (is_taken l.peer l.peer_port before)) free).0)
     (free_is l.peer l.peer_port before (and_parts (not (is_taken l.switch l.port before)) (not (is_taken l.peer l.peer_port before)) free).1)
     (same_end_sym (l.switch, l.port) (l.peer, l.peer_port) ∙ not_true (l.switch == l.peer && l.port == l.peer_port) (tests e).1)))
   where
-    tests : is_port setup.ports l.switch l.port && is_port setup.ports l.peer l.peer_port && not (l.switch == l.peer && l.port == l.peer_port) ≡ true →
-        (is_port setup.ports l.switch l.port && is_port setup.ports l.peer l.peer_port ≡ true) × (not (l.switch == l.peer && l.port == l.peer_port) ≡ true)
-    tests e = and_parts (is_port setup.ports l.switch l.port && is_port setup.ports l.peer l.peer_port) (not (l.switch == l.peer && l.port == l.peer_port)) e
+    tests : is_port_within setup.ports l.switch l.port && is_port_within setup.ports l.peer l.peer_port && not (l.switch == l.peer && l.port == l.peer_port) ≡ true →
+        (is_port_within setup.ports l.switch l.port && is_port_within setup.ports l.peer l.peer_port ≡ true) × (not (l.switch == l.peer && l.port == l.peer_port) ≡ true)
+    tests e = and_parts (is_port_within setup.ports l.switch l.port && is_port_within setup.ports l.peer l.peer_port) (not (l.switch == l.peer && l.port == l.peer_port)) e
 
 -- numbers
 or_is : (x y : Bool) (P : Type 0) → (x || y) ≡ true → (x ≡ true → P) → (y ≡ true → P) → P
@@ -214,9 +214,9 @@ module _ (setup : Setup) (P : Turn → Type 0) (turn_has : (before : List Actor)
   all_repeated t zero is = tt
   all_repeated t (suc times) is = (is, all_repeated t times is)
 
-  all_steps : (done : List Timed) → AllByRecursion (λ timed. P timed.turn) done → AllByRecursion P (flat_map repeated done)
+  all_steps : (done : List Timed) → AllByRecursion (λ timed. P timed.turn) done → AllByRecursion P (flat_map repeated_member done)
   all_steps [] h = tt
-  all_steps (timed ∷ done) h = all_append P (repeated timed) (flat_map repeated done) (all_repeated timed.turn timed.times h.0) (all_steps done h.1)
+  all_steps (timed ∷ done) h = all_append P (repeated_member timed) (flat_map repeated_member done) (all_repeated timed.turn timed.times h.0) (all_steps done h.1)
 
   turns_are : (before : List Timed) (step : WrittenStep) → AllByRecursion (λ timed. P timed.turn) before →
       IfSome (turn_within setup.controllers setup.ports (restarts_of before) step) (λ timed. AllByRecursion (λ timed. P timed.turn) (before ++ timed ∷ []))
@@ -231,7 +231,7 @@ module _ (setup : Setup) (P : Turn → Type 0) (turn_has : (before : List Actor)
   unfolding steps_within
   steps_are steps turns e =
       let all = each Limit place.Step (λ before. turn_within setup.controllers setup.ports (restarts_of before)) [] steps in
-      let b = bind_ok all (λ timed. Ok (flat_map repeated timed)) turns e in
+      let b = bind_ok all (λ timed. Ok (flat_map repeated_member timed)) turns e in
       let kept = each_keeps (λ done. AllByRecursion (λ timed. P timed.turn) done) Limit place.Step (λ before. turn_within setup.controllers setup.ports (restarts_of before)) turns_are [] steps tt in
       subst (λ l. AllByRecursion P l) (ok_is _ _ b.2) (all_steps b.0 (at_ok (λ done. AllByRecursion (λ timed. P timed.turn) done) all b.0 b.1 kept))
 
@@ -353,7 +353,7 @@ module _ (w : Written) where
         views = views_of setup w.steps steps steps_e;
       }))
 
-  pub given_is : (read : Result Scenario ScenarioFault) → Gives read (scenario_within w) → IfOk read IsScenario
+  pub given_is : (read : Result Scenario ScenarioFault) → GivesScenario read (scenario_within w) → IfOk read IsScenario
   given_is (Ok scenario) gives = at_ok IsScenario (scenario_within w) scenario gives scenario_is
   given_is (Err fault) gives = tt
 

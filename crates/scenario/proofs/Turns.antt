@@ -20,7 +20,7 @@ use Rattle.scenario.specs.declared.scenario.FaultPlace.TheVariants.{Step}
 use Rattle.scenario.specs.declared.written.WrittenStep.{WrittenStep}
 use Rattle.scenario.specs.declared.written.WrittenStep.TheVariants.{Frame, Port, Tick, Draw, Lose, Suspect, Crash, RestartController, RestartSwitch}
 use Rattle.scenario.specs.Faults.{each}
-use Rattle.scenario.specs.Limits.{is_within, is_port, is_actor, may_restart, only_if, given, once, times_within, restart_within, turn_within, restarts_of, repeated}
+use Rattle.scenario.specs.Limits.{is_within, is_port_within, is_actor, may_restart, only_if, given, once, times_within, restart_within, turn_within, restarts_of, repeated_member}
 
 -- the steps behind those that were done
 abbrev pub rest_within : ℕ → List ℕ → List Timed → List WrittenStep → Result (List Timed) Fault
@@ -29,7 +29,7 @@ rest_within controllers ports = each Limit Step (λ before. turn_within controll
 -- some of what is written was done, and the rest is still to be done
 pub record SoFar (controllers : ℕ) (ports : List ℕ) (written : List WrittenStep) (done : List Timed) (rest : List WrittenStep) (steps : List Turn) (restarts : List Actor) (place : ℕ) : Type 0 where
   pub so_far : rest_within controllers ports [] written ≡ rest_within controllers ports done rest
-  pub steps_are : steps ≡ flat_map repeated done
+  pub steps_are : steps ≡ flat_map repeated_member done
   pub restarts_are : restarts ≡ restarts_of done
   pub count : length done ≡ place
   pub left : place + length rest ≡ length written
@@ -60,13 +60,13 @@ module _ (setup : Setup) (restarts : List Actor) where
   taken_times : (t : Turn) (times : ℕ) → IsActor setup (turn_actor t) → IfSome (times_within t times) IsTurn
   taken_times t times there = only_if_keeps IsTurn (is_within 1 times MOST_TIMES) (record { turn = t; times = times }) (λ e. (there, search (rules, e)))
 
-  port_there : (switch port : ℕ) (other : Bool) → is_port setup.ports switch port && other ≡ true → switch < length setup.ports
+  port_there : (switch port : ℕ) (other : Bool) → is_port_within setup.ports switch port && other ≡ true → switch < length setup.ports
   port_there switch port other e = search (rules, e)
 
   -- a step within its limits
   pub turn_is : (step : WrittenStep) → IfSome (turn_within setup.controllers setup.ports restarts step) IsTurn
-  turn_is (Frame switch port bytes) = taken_once (actor.Switch switch) (local.Frame port bytes) (is_port setup.ports switch port && is_within SHORTEST_FRAME (length bytes) LONGEST_FRAME) (port_there switch port (is_within SHORTEST_FRAME (length bytes) LONGEST_FRAME))
-  turn_is (Port switch port up) = taken_once (actor.Switch switch) (local.Port port up) (is_port setup.ports switch port) (λ e. search (rules, e))
+  turn_is (Frame switch port bytes) = taken_once (actor.Switch switch) (local.Frame port bytes) (is_port_within setup.ports switch port && is_within SHORTEST_FRAME (length bytes) LONGEST_FRAME) (port_there switch port (is_within SHORTEST_FRAME (length bytes) LONGEST_FRAME))
+  turn_is (Port switch port up) = taken_once (actor.Switch switch) (local.Port port up) (is_port_within setup.ports switch port) (λ e. search (rules, e))
   turn_is (Tick a times) = given_keeps IsTurn (is_actor setup.controllers (length setup.ports) a) (times_within (turn.Local a local.Tick) times) (λ e. taken_times (turn.Local a local.Tick) times (is_there a e))
   turn_is (Draw a choice keep times) = given_keeps IsTurn (is_actor setup.controllers (length setup.ports) a && nat_le choice MOST_CHOICE) (times_within (turn.Draw a choice keep) times) (λ e. taken_times (turn.Draw a choice keep) times (is_there_and a (nat_le choice MOST_CHOICE) e))
   turn_is (Lose a choice times) = given_keeps IsTurn (is_actor setup.controllers (length setup.ports) a && nat_le choice MOST_CHOICE) (times_within (turn.Lose a choice) times) (λ e. taken_times (turn.Lose a choice) times (is_there_and a (nat_le choice MOST_CHOICE) e))

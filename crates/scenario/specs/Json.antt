@@ -9,8 +9,8 @@ abbrev pub ◌>>=◌ : {A B : Type 0} → Option A → (A → Option B) → Opti
 found >>= next = option_and_then next found
 
 -- a whole number, from 0 to the greatest of 64 bits
-abbrev pub number : Data → Option ℕ
-number value = as_number value >>= as_u64
+abbrev pub number_of_json : Data → Option ℕ
+number_of_json value = as_number value >>= as_u64
 
 -- the values of a list
 abbrev pub values_of : Items → List Data
@@ -21,8 +21,8 @@ abbrev pub list : Data → Option (List Data)
 list value = option_map values_of (as_array value)
 
 -- what a member of an object says
-abbrev pub number_at : List ℕ → Data → Option ℕ
-number_at name value = get name value >>= number
+abbrev pub number_member : List ℕ → Data → Option ℕ
+number_member name value = get name value >>= number_of_json
 
 abbrev pub flag_at : List ℕ → Data → Option Bool
 flag_at name value = get name value >>= as_bool
@@ -39,7 +39,7 @@ or_says left_out says None = Some left_out
 or_says left_out says (Some value) = says value
 
 abbrev pub number_or : ℕ → List ℕ → Data → Option ℕ
-number_or left_out name value = or_says left_out number (get name value)
+number_or left_out name value = or_says left_out number_of_json (get name value)
 
 abbrev pub flag_or : Bool → List ℕ → Data → Option Bool
 flag_or left_out name value = or_says left_out as_bool (get name value)
@@ -48,8 +48,8 @@ abbrev pub list_or_none : List ℕ → Data → Option (List Data)
 list_or_none name value = or_says [] list (get name value)
 
 -- how many members of a name there are: none or one
-abbrev pub counted : List ℕ → Data → ℕ
-counted name value = elim (get name value) [ None ↦ 0 | Some said ↦ 1 ]
+abbrev pub counted_members : List ℕ → Data → ℕ
+counted_members name value = elim (get name value) [ None ↦ 0 | Some said ↦ 1 ]
 
 abbrev pub count_members : Members → ℕ
 count_members no_members = 0

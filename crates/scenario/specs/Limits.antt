@@ -49,13 +49,13 @@ abbrev pub ports_within : WrittenSwitch → Option ℕ
 ports_within s = only_if (is_within 1 s.ports MOST_PORTS) s.ports
 
 -- a port of a switch, by how many ports each switch has
-abbrev pub is_port : List ℕ → ℕ → ℕ → Bool
-is_port ports switch port = nat_lt switch (length ports) && is_within 1 port (slice_index ports switch)
+abbrev pub is_port_within : List ℕ → ℕ → ℕ → Bool
+is_port_within ports switch port = nat_lt switch (length ports) && is_within 1 port (slice_index ports switch)
 
 -- a wire between two ports, and not from one to itself
 abbrev pub link_between : List ℕ → WrittenLink → Option Link
 link_between ports l =
-    only_if (is_port ports l.switch l.port && is_port ports l.peer l.peer_port && not (l.switch == l.peer && l.port == l.peer_port))
+    only_if (is_port_within ports l.switch l.port && is_port_within ports l.peer l.peer_port && not (l.switch == l.peer && l.port == l.peer_port))
     (record { switch = l.switch; port = l.port; peer = l.peer; peer_port = l.peer_port })
 
 -- a wire whose ports are no ends of those before it
@@ -88,12 +88,12 @@ is_actor controllers switches (actor.Controller c) = nat_lt c controllers
 is_actor controllers switches (actor.Switch s) = nat_lt s switches
 
 -- who restarts at a turn, and at turns
-abbrev pub restarted : Turn → List Actor
-restarted (turn.Local a local.Restart) = a ∷ []
-restarted _ = []
+abbrev pub restarted_actors : Turn → List Actor
+restarted_actors (turn.Local a local.Restart) = a ∷ []
+restarted_actors _ = []
 
 abbrev pub restarts_of : List Timed → List Actor
-restarts_of before = flat_map (λ timed. restarted timed.turn) before
+restarts_of before = flat_map (λ timed. restarted_actors timed.turn) before
 
 -- an actor that has not restarted too often
 abbrev pub may_restart : List Actor → Actor → Bool
@@ -109,10 +109,10 @@ times_within t times = only_if (is_within 1 times MOST_TIMES) (record { turn = t
 
 abbrev pub frame_within : List ℕ → ℕ → ℕ → List ℕ → Option Timed
 frame_within ports switch port bytes =
-    only_if (is_port ports switch port && is_within SHORTEST_FRAME (length bytes) LONGEST_FRAME) (once (actor.Switch switch) (local.Frame port bytes))
+    only_if (is_port_within ports switch port && is_within SHORTEST_FRAME (length bytes) LONGEST_FRAME) (once (actor.Switch switch) (local.Frame port bytes))
 
 abbrev pub port_within : List ℕ → ℕ → ℕ → Bool → Option Timed
-port_within ports switch port up = only_if (is_port ports switch port) (once (actor.Switch switch) (local.Port port up))
+port_within ports switch port up = only_if (is_port_within ports switch port) (once (actor.Switch switch) (local.Port port up))
 
 abbrev pub suspect_within : ℕ → ℕ → ℕ → Option Timed
 suspect_within controllers c view =
@@ -143,5 +143,5 @@ turn_within controllers ports restarts (RestartSwitch s) =
     given (nat_lt s (length ports)) (restart_within restarts (actor.Switch s))
 
 -- a turn as often as it is taken
-abbrev pub repeated : Timed → List Turn
-repeated timed = replicate timed.times timed.turn
+abbrev pub repeated_member : Timed → List Turn
+repeated_member timed = replicate timed.times timed.turn

@@ -22,14 +22,14 @@ use Rattle.scenario.specs.declared.scenario.ScenarioFault.TheVariants.{Refused, 
 use Rattle.scenario.specs.declared.written.Written.{Written}
 use Rattle.scenario.specs.declared.written.WrittenStep.{WrittenStep}
 use Rattle.scenario.specs.Faults.{◌>>=◌, found_at, each, each_alone}
-use Rattle.scenario.specs.Limits.{only_if, is_within_limits, ports_within, link_within, rule_within, turn_within, restarts_of, repeated}
-use Rattle.scenario.specs.Written.{written_of}
+use Rattle.scenario.specs.Limits.{only_if, is_within_limits, ports_within, link_within, rule_within, turn_within, restarts_of, repeated_member}
+use Rattle.scenario.specs.Written.{written_of_json}
 
 -- the steps of a script, each as often as it is taken
 unfoldable pub steps_within : ℕ → List ℕ → List WrittenStep → Result (List Turn) Fault
 steps_within controllers ports steps = do
   timed ← each Limit Step (λ before. turn_within controllers ports (restarts_of before)) [] steps
-  Ok (flat_map repeated timed)
+  Ok (flat_map repeated_member timed)
 
 -- the setup that is written within the limits, or the first fault of a limit of it or of the whole
 unfoldable pub setup_within : Written → Result Setup Fault
@@ -63,18 +63,18 @@ unfoldable pub scenario_of : List ℕ → Result Scenario Fault
 scenario_of bytes = do
   text ← found_at Size Top (only_if (nat_le (length bytes) scenario_limit) bytes)
   value ← found_at Json Top (json_of text)
-  written ← written_of value
+  written ← written_of_json value
   scenario_within written
 
 -- why nothing was read, over what there is to read
-abbrev pub IsRefusal : {A : Type 0} → ScenarioFault → Result A Fault → Type 0
-IsRefusal (Refused fault) said = said ≡ Err fault
-IsRefusal OutOfMemory said = Unit {0}
+abbrev pub IsScenarioRefusal : {A : Type 0} → ScenarioFault → Result A Fault → Type 0
+IsScenarioRefusal (Refused fault) said = said ≡ Err fault
+IsScenarioRefusal OutOfMemory said = Unit {0}
 
 -- what was read is what there is to read, unless there was no memory
-abbrev pub Gives : {A : Type 0} → Result A ScenarioFault → Result A Fault → Type 0
-Gives (Ok read) said = said ≡ Ok read
-Gives (Err fault) said = IsRefusal fault said
+abbrev pub GivesScenario : {A : Type 0} → Result A ScenarioFault → Result A Fault → Type 0
+GivesScenario (Ok read) said = said ≡ Ok read
+GivesScenario (Err fault) said = IsScenarioRefusal fault said
 
 -- a view that a step suspects is within its limit
 abbrev pub HasView : Turn → Type 0

@@ -66,7 +66,7 @@ fn actor_named(name: &str) -> Option<Actor>
 
 /// The actor at a name of an object.
 fn actor_at(name: &str, value: &Value) -> Option<Actor>
-    ensures { result ≡ grammar.actor_at name.now (view value.now) }
+    ensures { result ≡ grammar.actor_of_step name.now (view value.now) }
 {
     actor_named(text_at(name, value)?)
 }
@@ -131,7 +131,7 @@ fn number_if_any(name: &str, value: &Value) -> Option<Option<u64>>
 
 /// How a rule of the firewall is written: `{"proto", "src", "dst"}`, and `"port"` if any.
 pub fn rule_of(value: &Value) -> Option<WrittenRule>
-    ensures { result ≡ grammar.rule_of (view value.now) }
+    ensures { result ≡ grammar.rule_of_json (view value.now) }
 {
     let proto = number_at("proto", value)?;
     let src = prefix_at("src", value)?;
@@ -150,7 +150,7 @@ pub fn rule_of(value: &Value) -> Option<WrittenRule>
 }
 
 fn frame_of(alloc: Global, value: &Value) -> Result<Option<WrittenStep>, AllocError>
-    ensures { IfOk result (λ found. found ≡ grammar.frame_of (view value.now)) }
+    ensures { IfOk result (λ found. found ≡ grammar.frame_of_step (view value.now)) }
 {
     let (Some(switch), Some(port), Some(text)) = (
         number_at("switch", value),
@@ -277,7 +277,7 @@ fn plain_step(word: &str, value: &Value) -> Option<WrittenStep>
 
 /// How a step is written, by what it does.
 pub fn step_of(alloc: Global, value: &Value) -> Result<Option<WrittenStep>, AllocError>
-    ensures { IfOk result (λ found. found ≡ grammar.step_of (view value.now)) }
+    ensures { IfOk result (λ found. found ≡ grammar.step_of_json (view value.now)) }
 {
     match text_at("do", value) {
         Some("frame") => frame_of(alloc, value),

@@ -2,13 +2,13 @@
 ghost use Rattle.std.specs.Prelude.{◌≡◌, map, option_map, option_and_then};
 ghost use Rattle.serde_json.specs.Find.{as_array, as_bool, as_number, as_u64, get};
 ghost use Rattle.serde_json.specs.View.{view, members_view};
-ghost use Rattle.scenario.specs.Json.{number, list, number_at, flag_at, text_at, list_at, number_or, flag_or, list_or_none, counted, count_members, only};
+ghost use Rattle.scenario.specs.Json.{number_of_json, list, number_member, flag_at, text_at, list_at, number_or, flag_or, list_or_none, counted_members, count_members, only};
 
 use serde_json::{Map, Value};
 
 /// A whole number.
 pub fn number(value: &Value) -> Option<u64>
-    ensures { result ≡ number (view value.now) }
+    ensures { result ≡ number_of_json (view value.now) }
 {
     value.as_u64()
 }
@@ -23,7 +23,7 @@ pub fn list(value: &Value) -> Option<&[Value]>
 
 /// The whole number at a name of an object.
 pub fn number_at(name: &str, value: &Value) -> Option<u64>
-    ensures { result ≡ number_at name.now (view value.now) }
+    ensures { result ≡ number_member name.now (view value.now) }
 {
     value.get(name)?.as_u64()
 }
@@ -81,7 +81,7 @@ pub fn list_or_none<'v>(name: &str, value: &'v Value) -> Option<&'v [Value]>
 
 /// How many members of a name there are: none or one.
 pub fn counted(name: &str, value: &Value) -> usize
-    ensures { result ≡ counted name.now (view value.now) }
+    ensures { result ≡ counted_members name.now (view value.now) }
 {
     usize::from(value.get(name).is_some())
 }

@@ -4,7 +4,7 @@ ghost use Rattle.scenario.specs.declared.scenario.FaultKind.TheVariants as kind;
 ghost use Rattle.scenario.specs.declared.scenario.FaultPlace.TheVariants as place;
 ghost use Rattle.scenario.specs.Faults.{each, each_alone};
 ghost use Rattle.scenario.specs.Limits as limits;
-ghost use Rattle.scenario.specs.Scenario.{Gives, scenario_within, setup_within, steps_within};
+ghost use Rattle.scenario.specs.Scenario.{GivesScenario, scenario_within, setup_within, steps_within};
 
 use crate::scenario::{FaultKind, FaultPlace, Scenario, ScenarioFault, Steps};
 use crate::written::{
@@ -103,7 +103,7 @@ fn port_count(switch: WrittenSwitch) -> Option<u32>
 }
 
 fn ports_within(alloc: Global, switches: &[WrittenSwitch]) -> Result<PortCounts, ScenarioFault>
-    ensures exact { Gives result (each_alone kind.Limit place.Switch limits.ports_within switches.now) }
+    ensures exact { GivesScenario result (each_alone kind.Limit place.Switch limits.ports_within switches.now) }
     ensures as_many { IfOk result (λ counts. length counts ≡ length switches.now) }
 {
     let mut counts = PortCounts::new(alloc);
@@ -118,7 +118,7 @@ fn ports_within(alloc: Global, switches: &[WrittenSwitch]) -> Result<PortCounts,
 
 /// Whether a switch has a port.
 fn is_port(ports: &[u32], switch: u64, port: u64) -> bool
-    ensures { result ≡ limits.is_port ports.now switch port }
+    ensures { result ≡ limits.is_port_within ports.now switch port }
 {
     match ports.get(switch as usize) {
         Some(count) => (1..=u64::from(*count)).contains(&port),
@@ -162,7 +162,7 @@ fn links_within(
     written: &[WrittenLink],
 ) -> Result<Links, ScenarioFault>
     requires { length ports.now ≤ MOST_SWITCHES }
-    ensures { Gives result (each kind.Limit place.Link (limits.link_within ports.now) [] written.now) }
+    ensures { GivesScenario result (each kind.Limit place.Link (limits.link_within ports.now) [] written.now) }
 {
     let mut links = Links::new(alloc);
     'links: for (index, link) in written.iter().enumerate() {
@@ -220,7 +220,7 @@ fn rule_within(rule: WrittenRule) -> Option<Rule>
 }
 
 fn rules_within(alloc: Global, written: &[WrittenRule]) -> Result<Rules, ScenarioFault>
-    ensures { Gives result (each_alone kind.Limit place.Deny limits.rule_within written.now) }
+    ensures { GivesScenario result (each_alone kind.Limit place.Deny limits.rule_within written.now) }
 {
     let mut rules = Rules::new(alloc);
     'rules: for (index, rule) in written.iter().enumerate() {
@@ -379,7 +379,7 @@ fn turn_within(
 
 /// Notes who restarts at a turn.
 fn note_restart(restarts: &mut Vec<Actor>, turn: &Turn) -> Result<(), AllocError>
-    ensures { OnOk result (restarts.new.items ≡ restarts.old.items ++ limits.restarted turn.now) }
+    ensures { OnOk result (restarts.new.items ≡ restarts.old.items ++ limits.restarted_actors turn.now) }
 {
     if let Turn::Local {
         actor,
@@ -394,7 +394,7 @@ fn note_restart(restarts: &mut Vec<Actor>, turn: &Turn) -> Result<(), AllocError
 /// Appends a turn as often as it is taken.
 fn repeat(steps: &mut Steps, timed: Timed) -> Result<(), AllocError>
     requires { 1 ≤ timed.times }
-    ensures { OnOk result (steps.new ≡ steps.old ++ limits.repeated timed) }
+    ensures { OnOk result (steps.new ≡ steps.old ++ limits.repeated_member timed) }
 {
     'times: for _ in 1..timed.times {
         steps.push(timed.turn.copy()?)?;
@@ -412,7 +412,7 @@ fn steps_within(
     written: Items<WrittenStep>,
 ) -> Result<Steps, ScenarioFault>
     requires { length ports.now ≤ MOST_SWITCHES }
-    ensures { Gives result (steps_within controllers ports.now written) }
+    ensures { GivesScenario result (steps_within controllers ports.now written) }
 {
     let mut steps = Steps::new(alloc);
     let mut restarts = Vec::new(alloc);
@@ -431,7 +431,7 @@ fn steps_within(
 /// The setup of what is written within its limits.
 #[tactic(auto, unfolding(crate::specs::Scenario::setup_within))]
 fn setup_within(alloc: Global, written: &Written) -> Result<Setup, ScenarioFault>
-    ensures exact { Gives result (setup_within written.now) }
+    ensures exact { GivesScenario result (setup_within written.now) }
     ensures few { IfOk result (λ setup. length setup.ports ≤ MOST_SWITCHES) }
 {
     if !is_within_limits(written) {
@@ -452,7 +452,7 @@ fn setup_within(alloc: Global, written: &Written) -> Result<Setup, ScenarioFault
 /// What is written within its limits.
 #[tactic(auto, unfolding(crate::specs::Scenario::scenario_within))]
 pub fn scenario_within(alloc: Global, written: Written) -> Result<Scenario, ScenarioFault>
-    ensures { Gives result (scenario_within written) }
+    ensures { GivesScenario result (scenario_within written) }
 {
     let setup = setup_within(alloc, &written)?;
     let steps = steps_within(

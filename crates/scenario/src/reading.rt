@@ -8,8 +8,8 @@ ghost use Rattle.scenario.specs.declared.scenario.FaultPlace.{FaultPlace};
 ghost use Rattle.scenario.specs.declared.scenario.FaultPlace.TheVariants as place;
 ghost use Rattle.scenario.specs.Faults.{each_alone};
 ghost use Rattle.scenario.specs.Grammar as grammar;
-ghost use Rattle.scenario.specs.Scenario.{Gives, IsScenario, text_of, json_of, scenario_of};
-ghost use Rattle.scenario.specs.Written.{written_of};
+ghost use Rattle.scenario.specs.Scenario.{GivesScenario, IsScenario, text_of, json_of, scenario_of};
+ghost use Rattle.scenario.specs.Written.{written_of_json};
 
 use crate::grammar::{link_of, lists_of, rule_of, step_of, switch_of};
 use crate::limits::scenario_within;
@@ -68,7 +68,7 @@ impl Listed for WrittenLink {
 }
 
 impl Listed for WrittenRule {
-    ghost said = { grammar.rule_of };
+    ghost said = { grammar.rule_of_json };
 
     ghost stands = { place.Deny };
 
@@ -82,7 +82,7 @@ impl Listed for WrittenRule {
 }
 
 impl Listed for WrittenStep {
-    ghost said = { grammar.step_of };
+    ghost said = { grammar.step_of_json };
 
     ghost stands = { place.Step };
 
@@ -97,7 +97,7 @@ impl Listed for WrittenStep {
 
 /// What each value of a list says, up to the first that has another shape.
 fn read_each<L: Listed>(alloc: Global, values: &[Value]) -> Result<Items<L>, ScenarioFault>
-    ensures { Gives result (each_alone kind.Shape L.stands L.said (map view values.now)) }
+    ensures { GivesScenario result (each_alone kind.Shape L.stands L.said (map view values.now)) }
 {
     let mut items = Items::new(alloc);
     'values: for (index, value) in values.iter().enumerate() {
@@ -110,9 +110,9 @@ fn read_each<L: Listed>(alloc: Global, values: &[Value]) -> Result<Items<L>, Sce
 }
 
 /// What is written of a scenario.
-#[tactic(auto, unfolding(crate::specs::Written::written_of))]
+#[tactic(auto, unfolding(crate::specs::Written::written_of_json))]
 fn written_of(alloc: Global, value: &Value) -> Result<Written, ScenarioFault>
-    ensures { Gives result (written_of (view value.now)) }
+    ensures { GivesScenario result (written_of_json (view value.now)) }
 {
     let Some(lists) = lists_of(value) else {
         return Err(ScenarioFault::refused(FaultKind::Shape, FaultPlace::Top));
@@ -167,7 +167,7 @@ fn json_of(alloc: Global, bytes: &[u8]) -> Result<Option<Value>, AllocError>
 /// the first of a limit. `OutOfMemory` comes only if memory ran out.
 #[tactic(auto, unfolding(crate::specs::Scenario::scenario_of))]
 pub fn read_scenario(alloc: Global, bytes: &[u8]) -> Result<Scenario, ScenarioFault>
-    ensures exact { Gives result (scenario_of bytes.now) }
+    ensures exact { GivesScenario result (scenario_of bytes.now) }
     ensures form { IfOk result (λ scenario. IsScenario scenario) }
 {
     if bytes.len() > SCENARIO_LIMIT {

@@ -13,7 +13,7 @@ use Rattle.journal.specs.Actors.{same_actor, actor_of}
 use Rattle.journal.specs.Part.{part, drawn}
 use Rattle.journal.specs.Pool.{past}
 use Rattle.shared_wire.specs.Rule.{AreNamed}
-use Rattle.shared_wire.specs.Calls.{beside}
+use Rattle.shared_wire.specs.Calls.{beside_seat}
 use Rattle.shared_wire.proofs.Lists.{all_contains, all_reverse, contains_none}
 
 pub same_is : (a b : Actor) → same_actor a b ≡ true → a ≡ b
@@ -56,11 +56,11 @@ module _ {B : Type 0} where
   part_more a e before t is = ap (λ b. cond b ((e, drawn e before) ∷ part a before) (part a before)) is
 
   -- entries of the actor stand beside their packets before its older part
-  pub part-own : (a : Actor) (entries before : List (JournalEntry B)) → AllBy a entries → part a (entries ++ before) ≡ beside entries before ++ part a before
+  pub part-own : (a : Actor) (entries before : List (JournalEntry B)) → AllBy a entries → part a (entries ++ before) ≡ beside_seat entries before ++ part a before
   part-own a [] before all = refl
   part-own a (e ∷ entries) before all = part_more a e (entries ++ before) true (same_of (actor_of e) a all.0) ∙ ap (λ l. (e, drawn e (entries ++ before)) ∷ l) (part-own a entries before all.1)
 
-  -- entries of another actor leave it as it was
+  -- entries of another actor leave it was
   pub part-other : (a b : Actor) (entries before : List (JournalEntry B)) → AllBy b entries → a ≢ b → part a (entries ++ before) ≡ part a before
   part-other a b [] before all ne = refl
   part-other a b (e ∷ entries) before all ne = part_more a e (entries ++ before) false (not_same (actor_of e) a (λ q. ne (sym q ∙ all.0))) ∙ part-other a b entries before all.1 ne

@@ -22,7 +22,7 @@ use Rattle.journal.specs.Pool.{past}
 use Rattle.journal.proofs.All.{all_append, all_weaker}
 use Rattle.shared_wire.specs.declared.rule.Known.{Known}
 use Rattle.shared_wire.specs.declared.rule.View.{View}
-use Rattle.shared_wire.specs.Rule.{StartsWith, AreNamed, knowing, view_of, IsTrueOf, IsKnownAt, AtHome, Away, IsRuled, first_view, after_seating, newly_seated, joined, spent, holding, has_given, took, gave, given_of}
+use Rattle.shared_wire.specs.Rule.{StartsWith, AreNamed, knowing, seat_view_of, IsTrueOf, IsKnownAt, AtHome, Away, IsRuled, first_view, after_seating, newly_seated, joined, spent, holding, has_given, took, gave, given_of}
 use Rattle.shared_wire.specs.Places.{PlaceState, known_of, KnowsEach, IsPartOf}
 use Rattle.shared_wire.proofs.Lists.{at_unmap, not_there, only, one_at, below, at_snoc_or, at_append_or, at_plus, at_length, starts_trans, not_both, contains_at, contains_none, all_reverse}
 use Rattle.shared_wire.proofs.Parts.{same_refl, not_same, not_before, AllBy, part-other, part-unnamed}
@@ -216,10 +216,10 @@ module _ {B : Type 0} where
     seats_next free wait s r at =
         let v0 = r.first.0 in let names = r.first.2 in
         let v_is : v0 ≡ v = one_at s.views 0 v0 v r.first.1 at in
-        let l : View B = view_of v.known (v.seated ++ a ∷ []) more v.held in
-        let n : View B = view_of (knowing a [] [] ∷ []) [] [] None in
-        let l_is : after_seating v ≡ l = ap (λ (ws : List Actor). view_of v.known (v.seated ++ take 1 ws) (drop 1 ws) v.held) wait in
-        let n_is : newly_seated v ≡ n = ap (λ (ws : List Actor). view_of (map (λ x. knowing x [] []) (take 1 ws)) [] [] None) wait in
+        let l : View B = seat_view_of v.known (v.seated ++ a ∷ []) more v.held in
+        let n : View B = seat_view_of (knowing a [] [] ∷ []) [] [] None in
+        let l_is : after_seating v ≡ l = ap (λ (ws : List Actor). seat_view_of v.known (v.seated ++ take 1 ws) (drop 1 ws) v.held) wait in
+        let n_is : newly_seated v ≡ n = ap (λ (ws : List Actor). seat_view_of (map (λ x. knowing x [] []) (take 1 ws)) [] [] None) wait in
         let order : v.seated ++ a ∷ more ≡ actors = ap (λ ws. v.seated ++ ws) (sym wait) ∙ subst (λ (z : View B). z.seated ++ z.unseated ≡ actors) v_is names.order in
         let len : ℕ = length s.views in
         let new : ¬ (Contains v.seated a) = not_before v.seated more a (subst (IsDistinct same_actor) (sym order) r.distinct) in

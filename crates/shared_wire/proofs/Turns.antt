@@ -22,8 +22,8 @@ use Rattle.journal.proofs.All.{all_append}
 use Rattle.shared_wire.specs.declared.rule.Known.{Known}
 use Rattle.shared_wire.specs.declared.rule.View.{View}
 use Rattle.shared_wire.specs.Rule.{IsTrueOf, knowing, holding, has_given}
-use Rattle.shared_wire.specs.Places.{place_of, own_of, seen_of, IsFree}
-use Rattle.shared_wire.specs.Calls.{beside, Adds, AddsNothing, Refuses}
+use Rattle.shared_wire.specs.Places.{actor_place_of, own_of, seen_of, IsFree}
+use Rattle.shared_wire.specs.Calls.{beside_seat, Adds, AddsNothing, Refuses}
 use Rattle.shared_wire.proofs.Lists.{all_reverse}
 use Rattle.shared_wire.proofs.Parts.{AllBy, part-own}
 
@@ -97,7 +97,7 @@ module _ {B : Type 0} where
     seen_then = ap seen_of g.knew
 
     -- what a call added
-    pub adds : {T E : Type 0} (z z' : TableId) (turn : List (JournalEntry B) → List (JournalEntry B)) (r : Result T E) → AllBy a (turn (past j)) → OnOk r (j' ≡ j ++ turn (past j)) → OnOk r (Adds (place_of a z v) (place_of a z' w) turn)
+    pub adds : {T E : Type 0} (z z' : TableId) (turn : List (JournalEntry B) → List (JournalEntry B)) (r : Result T E) → AllBy a (turn (past j)) → OnOk r (j' ≡ j ++ turn (past j)) → OnOk r (Adds (actor_place_of a z v) (actor_place_of a z' w) turn)
     adds z z' turn (Err x) all ok = tt
     adds z z' turn (Ok x) all ok = record {
       met = j;
@@ -109,11 +109,11 @@ module _ {B : Type 0} where
           ∙ ap (λ l. part a (past l)) ok
           ∙ ap (part a) (reverse-append j (turn (past j)))
           ∙ part-own a (past (turn (past j))) (past j) (all_reverse (λ e. actor_of e ≡ a) (turn (past j)) all)
-          ∙ ap (λ l. beside (past (turn (past j))) (past j) ++ l) (sym own_then);
+          ∙ ap (λ l. beside_seat (past (turn (past j))) (past j) ++ l) (sym own_then);
     }
 
     -- the journal is as it was met
-    pub adds_nothing : (z z' : TableId) → j' ≡ j → AddsNothing (place_of a z v) (place_of a z' w)
+    pub adds_nothing : (z z' : TableId) → j' ≡ j → AddsNothing (actor_place_of a z v) (actor_place_of a z' w)
     adds_nothing z z' same = record {
       own = own_now ∙ ap (λ l. part a (past l)) same ∙ sym own_then;
       later = (g.true_of.1.0, seen_now ∙ same ∙ g.true_of.1.1 ∙ ap (λ l. l ++ g.true_of.1.0) (sym seen_then));
@@ -121,7 +121,7 @@ module _ {B : Type 0} where
 
     -- what a call did not add
     pub refuses : {T : Type 0} (size : B → ℕ) (z z' : TableId) (post : List (Letter B)) (r : Result T (Refused B))
-        → IfErr r (λ x. (j' ≡ j) × (x.post ≡ post) × RefusedBy size x.cause post (past j)) → IfErr r (Refuses size (place_of a z v) (place_of a z' w) post)
+        → IfErr r (λ x. (j' ≡ j) × (x.post ≡ post) × RefusedBy size x.cause post (past j)) → IfErr r (Refuses size (actor_place_of a z v) (actor_place_of a z' w) post)
     refuses size z z' post (Ok x) err = tt
     refuses size z z' post (Err x) err = record {
       nothing = adds_nothing z z' err.0;

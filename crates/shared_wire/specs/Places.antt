@@ -48,8 +48,8 @@ module _ {B : Type 0} where
   seen_of [] = []
   seen_of (k ∷ known) = k.seen
 
-  abbrev pub place_of : Actor → TableId → View B → PlaceState B
-  place_of actor board v = record { actor = actor; own = own_of v.known; seen = seen_of v.known; board = board }
+  abbrev pub actor_place_of : Actor → TableId → View B → PlaceState B
+  actor_place_of actor board v = record { actor = actor; own = own_of v.known; seen = seen_of v.known; board = board }
 
   abbrev pub known_of : PlaceState B → Known B
   known_of p = knowing p.actor p.own p.seen

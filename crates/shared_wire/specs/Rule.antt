@@ -26,8 +26,8 @@ module _ {B : Type 0} where
   abbrev pub knowing : Actor → List (JournalEntry B × Option (Packet B)) → List (JournalEntry B) → Known B
   knowing actor own seen = record { actor = actor; own = own; seen = seen }
 
-  abbrev pub view_of : List (Known B) → List Actor → List Actor → Option (List (JournalEntry B)) → View B
-  view_of known seated unseated held = record { known = known; seated = seated; unseated = unseated; held = held }
+  abbrev pub seat_view_of : List (Known B) → List Actor → List Actor → Option (List (JournalEntry B)) → View B
+  seat_view_of known seated unseated held = record { known = known; seated = seated; unseated = unseated; held = held }
 
   -- the own entries are the actor's part of the journal, and the journal begins with what was seen
   abbrev pub IsTrueOf : List (JournalEntry B) → Known B → Type 0
@@ -60,7 +60,7 @@ pub record Away {B : Type 0} (journal : List (JournalEntry B)) (s : State (Optio
   pub free : (i : ℕ) (v : View B) → get_elem? s.views i ≡ some v → i ≢ holder → v.held ≡ None
 
 -- the first seat knows which of the actors have a seat, and nothing of their entries. Just these actors are known somewhere, and the journal names no others
-pub record IsFirst {B : Type 0} (actors : List Actor) (journal : List (JournalEntry B)) (place : Actor → ℕ × ℕ) (views : List (View B)) (v : View B) : Type 0 where
+pub record IsFirstSeat {B : Type 0} (actors : List Actor) (journal : List (JournalEntry B)) (place : Actor → ℕ × ℕ) (views : List (View B)) (v : View B) : Type 0 where
   pub order : v.seated ++ v.unseated ≡ actors
   pub nothing : v.known ≡ []
   pub within : (seat : ℕ) (w : View B) → get_elem? views seat ≡ some w → (i : ℕ) (k : Known B) → get_elem? w.known i ≡ some k → Contains v.seated k.actor
@@ -74,36 +74,36 @@ pub record IsRuled {B : Type 0} (actors : List Actor) (s : State (Option (Wire B
   pub distinct : IsDistinct same_actor actors
   pub wire : AtHome journal s ⊎ Away journal s
   pub fits : (seat : ℕ) (v : View B) → get_elem? s.views seat ≡ some v → Fits journal place seat v
-  pub first : (v : View B) × (get_elem? s.views 0 ≡ some v) × IsFirst actors journal place s.views v
+  pub first : (v : View B) × (get_elem? s.views 0 ≡ some v) × IsFirstSeat actors journal place s.views v
 
 module _ {B : Type 0} where
   -- the first seat at the start: no actor has a seat
   abbrev pub first_view : List Actor → View B
-  first_view actors = view_of [] [] actors None
+  first_view actors = seat_view_of [] [] actors None
 
   -- the first seat, once the next actor has a seat
   abbrev pub after_seating : View B → View B
-  after_seating v = view_of v.known (v.seated ++ take 1 v.unseated) (drop 1 v.unseated) v.held
+  after_seating v = seat_view_of v.known (v.seated ++ take 1 v.unseated) (drop 1 v.unseated) v.held
 
   -- the new seat, which knows this actor and no entries
   abbrev pub newly_seated : View B → View B
-  newly_seated v = view_of (map (λ a. knowing a [] []) (take 1 v.unseated)) [] [] None
+  newly_seated v = seat_view_of (map (λ a. knowing a [] []) (take 1 v.unseated)) [] [] None
 
   -- a seat that stays, with what an ended one knew
   abbrev pub joined : View B → View B → View B
-  joined v w = view_of (v.known ++ w.known) v.seated v.unseated v.held
+  joined v w = seat_view_of (v.known ++ w.known) v.seated v.unseated v.held
 
   -- an ended seat
   abbrev pub spent : View B
-  spent = view_of [] [] [] None
+  spent = seat_view_of [] [] [] None
 
   -- a seat that holds the journal
   abbrev pub holding : View B → List (JournalEntry B) → View B
-  holding v journal = view_of v.known v.seated v.unseated (Some journal)
+  holding v journal = seat_view_of v.known v.seated v.unseated (Some journal)
 
   -- a seat that has given the journal back, and has seen it
   abbrev pub has_given : View B → List (JournalEntry B) → View B
-  has_given v journal = view_of (map (λ (k : Known B). knowing k.actor (part k.actor (past journal)) journal) v.known) v.seated v.unseated None
+  has_given v journal = seat_view_of (map (λ (k : Known B). knowing k.actor (part k.actor (past journal)) journal) v.known) v.seated v.unseated None
 
   -- 0 was found and the wire taken, of which all that was known is true; or nothing changed
   abbrev pub took : Step (Option (Wire B)) → Me (Option (Wire B)) (View B) → ℕ → Me (Option (Wire B)) (View B) → Type 0

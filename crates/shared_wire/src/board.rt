@@ -13,7 +13,7 @@ ghost use Rattle.journal.specs.declared.journal.Actor.{Actor as AnActor};
 ghost use Rattle.journal.specs.declared.journal.JournalEntry.{JournalEntry as AnEntry};
 ghost use Rattle.journal.specs.declared.journal.Turn.TheVariants as turn;
 ghost use Rattle.shared_wire.specs.declared.rule.Known.{Known};
-ghost use Rattle.shared_wire.specs.Rule.{view_of, after_seating, AreNamed};
+ghost use Rattle.shared_wire.specs.Rule.{seat_view_of, after_seating, AreNamed};
 ghost use Rattle.shared_wire.specs.Places.{fresh, known_of, KnowsEach, IsSamePlace, IsPartOf};
 ghost use Rattle.shared_wire.specs.Calls.{Adds, AddsNothing, Refuses};
 
@@ -52,7 +52,7 @@ fn seat_next<B: Weight>(table: &WireTable<B>, first: &mut WireSeat<B>, actor: Ac
         × (first.old.table_id ≡ table.now.table_id)
         × (first.old.id ≡ 0) }
     requires next { (seated : List AnActor) × (more : List AnActor)
-        × (first.old.me ≡ (view_of [] seated (actor ∷ more) None, [])) }
+        × (first.old.me ≡ (seat_view_of [] seated (actor ∷ more) None, [])) }
     ensures first { (first.new.table_id ≡ first.old.table_id)
         × (first.new.id ≡ 0)
         × (first.new.me ≡ (after_seating first.old.me.0, [])) }
@@ -72,11 +72,11 @@ fn seat_all<B: Weight>(
     requires table { (table.now.table_id.words ≡ 1)
         × (first.old.table_id ≡ table.now.table_id)
         × (first.old.id ≡ 0) }
-    requires first { first.old.me ≡ (view_of [] [] actors.now None, []) }
+    requires first { first.old.me ≡ (seat_view_of [] [] actors.now None, []) }
     requires places { (places.old.items ≡ []) × (length actors.now ≤ vec_capacity places.old) }
     ensures first { (first.new.table_id ≡ first.old.table_id)
         × (first.new.id ≡ 0)
-        × (first.new.me ≡ (view_of [] actors.now [] None, [])) }
+        × (first.new.me ≡ (seat_view_of [] actors.now [] None, [])) }
     ensures places { places.new.items ≡ map (fresh table.now.table_id) actors.now }
 {
     for actor in actors {

@@ -15,15 +15,15 @@ pub struct Place<B: Weight> {
 }
 
 impl<B: Weight> Model for Place<B> {
-    ghost use Rattle.shared_wire.specs.Places.{PlaceState, IsPlace, IsFree, place_of, known_of};
+    ghost use Rattle.shared_wire.specs.Places.{PlaceState, IsPlace, IsFree, actor_place_of, known_of};
 
     ghost Value = { PlaceState B };
 
-    ghost view = { λ p. place_of p.actor p.seat.table_id p.seat.me.0 };
+    ghost view = { λ p. actor_place_of p.actor p.seat.table_id p.seat.me.0 };
 
     ghost invariant = { λ p.
-        IsFree (known_of (place_of p.actor p.seat.table_id p.seat.me.0)) p.seat.me
-        × IsPlace B.size (place_of p.actor p.seat.table_id p.seat.me.0) };
+        IsFree (known_of (actor_place_of p.actor p.seat.table_id p.seat.me.0)) p.seat.me
+        × IsPlace B.size (actor_place_of p.actor p.seat.table_id p.seat.me.0) };
 }
 
 impl<B: Weight> Place<B> {

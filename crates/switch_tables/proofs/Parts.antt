@@ -1,7 +1,7 @@
 -- What a switch did stands beside what it is after each part of a journal.
 use Rattle.std.proofs.Common.{◌≡◌, ℕ, List, [], ◌∷◌, refl, sym, ◌∙◌, ap, subst}
 use Rattle.std.specs.Prelude.{Option, map}
-use Rattle.actor_fold.specs.Fold.{Standing, Step, Takes, Posts, Refuses, Rests, standing, standing_first, standing_on}
+use Rattle.actor_fold.specs.Fold.{ActorStanding, Step, Takes, Posts, Refuses, Rests, actor_standing, standing_first, standing_on}
 use Rattle.journal.specs.declared.journal.JournalEntry.{JournalEntry}
 use Rattle.journal.specs.declared.journal.Letter.{Letter}
 use Rattle.journal.specs.declared.journal.Packet.{Packet}
@@ -13,7 +13,7 @@ use Rattle.of_switch.specs.State.{SwitchState, SwitchTurn, starting_switch}
 use Rattle.of_switch.specs.Rules.{switch_turn}
 use Rattle.run_spec.specs.States.{Scene, SwitchAt, switch_rules, switch_at, step_of, switch_speech}
 use Rattle.switch_tables.specs.Acts.{acts_then}
-use Rattle.switch_tables.specs.Laws.{Doing, DoingAt, doing_rules, doing_at, IsTold}
+use Rattle.switch_tables.specs.Laws.{Doing, DoingAt, doing_rules, doing_at, IsTableTold}
 use Rattle.switch_tables.proofs.Tables.{turn_does}
 
 -- a switch beside what it did
@@ -39,11 +39,11 @@ on w x Posts are = record { now = are.now; before = are.before }
 on w x Refuses are = record { now = are.before; before = are.before }
 on w x Rests are = record { now = are.now; before = are.before }
 
-all_on : (doing : Doing) (state : SwitchState) (steps : List (Step SwitchInput)) → IsBeside doing state → AreBeside (standing doing_rules doing steps) (standing switch_rules state steps)
+all_on : (doing : Doing) (state : SwitchState) (steps : List (Step SwitchInput)) → IsBeside doing state → AreBeside (actor_standing doing_rules doing steps) (actor_standing switch_rules state steps)
 all_on doing state [] is = record { now = is; before = is }
 all_on doing state (step ∷ steps) is = on _ _ step (all_on doing state steps is)
 
-pub told : {B : Type 0} (scene : Scene B) (s : ℕ) (own : List (JournalEntry B × Option (Packet B))) → IsTold scene s own
+pub told : {B : Type 0} (scene : Scene B) (s : ℕ) (own : List (JournalEntry B × Option (Packet B))) → IsTableTold scene s own
 told scene s own =
     let is =
     (all_on (record { state = starting_switch s scene.setup; acts = [] }) (starting_switch s scene.setup) (map (λ x. step_of switch_speech scene.sealing x.0 x.1) own)

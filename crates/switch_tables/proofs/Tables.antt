@@ -32,12 +32,12 @@ use Rattle.flow_clock.specs.Holding.{clocked_of}
 use Rattle.flow_clock.proofs.Held.{after_change, after_frame, after_tick, rows_kept}
 use Rattle.of_switch.specs.declared.says.SwitchInput.{SwitchInput}
 use Rattle.of_switch.specs.declared.says.SwitchInput.TheVariants as switch_input
-use Rattle.of_switch.specs.State.{SwitchState, SwitchTurn, quiet, then_turn, posts, greetings, rows_of, life_of}
-use Rattle.of_switch.specs.Events.{raised, packet_raised, is_down, port_status, with_port, port_raised, is_port, on_port, remembers, tells_ports, next_life}
-use Rattle.of_switch.specs.Forwarding.{is_frame, is_up, targets, sends_to, puts_out, puts_all, packet_in, through_row, fields_at, counting, on_frame}
-use Rattle.of_switch.specs.Commands.{done_as, counted, result_letter, result_of, on_offer, settled, on_command}
-use Rattle.of_switch.specs.Rules.{on_local, on_role, on_plain, on_own_life, life_said, switch_turn}
-use Rattle.switch_tables.specs.Acts.{frame_acts, tick_acts, order_acts, offer_acts, command_acts, own_life_acts, local_acts, acts_in, begins_life, acts_then}
+use Rattle.of_switch.specs.State.{SwitchState, SwitchTurn, quiet_switch, then_turn, posts, greetings, rows_of, life_of}
+use Rattle.of_switch.specs.Events.{raised, packet_raised, is_port_down, port_status, with_port, port_raised, is_port, on_port, remembers, tells_ports, next_life}
+use Rattle.of_switch.specs.Forwarding.{is_frame, is_port_up, targets, sends_to, puts_out, puts_all, packet_in_of, through_row, frame_fields_at, counting_ports, on_frame}
+use Rattle.of_switch.specs.Commands.{done_as, counted_command, result_letter, result_of, on_offer, settled, on_command}
+use Rattle.of_switch.specs.Rules.{switch_on_local, on_role, switch_on_plain, on_own_life, life_said, switch_turn}
+use Rattle.switch_tables.specs.Acts.{frame_acts, tick_acts, order_acts, offer_acts, command_acts, own_life_acts, local_acts, acts_in, begins_switch_life, acts_then}
 
 -- a turn that leaves this table
 module _ (table : Clocked) where
@@ -48,14 +48,14 @@ module _ (table : Clocked) where
   choice b x y h k = cond_both b x y (λ (t : SwitchTurn). Keeps t) (λ _. h) (λ _. k)
 
   packet_keeps : (what : Happening) (s : SwitchState) → s.table ≡ table → Keeps (packet_raised what s)
-  packet_keeps what s h = choice (is_full s.buffer) (quiet s) (raised what s) h h
+  packet_keeps what s h = choice (is_full s.buffer) (quiet_switch s) (raised what s) h h
 
   port_keeps : (port : ℕ) (s : SwitchState) → s.table ≡ table → Keeps (port_raised port s)
   port_keeps port s h = choice (is_full s.buffer) _ (raised (port_status s port) s) h h
 
   pub port_change_keeps : (port : ℕ) (up : Bool) (s : SwitchState) → s.table ≡ table → Keeps (on_port s port up)
   port_change_keeps port up s h =
-      choice (is_port s port && (if up then is_down s port else not (is_down s port))) (port_raised port (with_port s port up)) (quiet s) (port_keeps port (with_port s port up) h) h
+      choice (is_port s port && (if up then is_port_down s port else not (is_port_down s port))) (port_raised port (with_port s port up)) (quiet_switch s) (port_keeps port (with_port s port up) h) h
 
   pub remembers_keeps : (ports : List ℕ) (t : SwitchTurn) → Keeps t → Keeps (remembers ports t)
   remembers_keeps [] t h = h
@@ -75,14 +75,14 @@ module _ (table : Clocked) where
 
   pub row_keeps : (port : ℕ) (frame : List ℕ) (s : SwitchState) (found : Option Row) → s.table ≡ table → Keeps (through_row s port frame found)
   row_keeps port frame s None h = h
-  row_keeps port frame s (Some row) h = outputs_keep (packet_raised (packet_in row port frame)) (packet_keeps (packet_in row port frame)) port frame row.actions (quiet s) h
+  row_keeps port frame s (Some row) h = outputs_keep (packet_raised (packet_in_of row port frame)) (packet_keeps (packet_in_of row port frame)) port frame row.actions (quiet_switch s) h
 
   role_keeps : (s : SwitchState) (from xid asked : ℕ) (step : RoleStep) (answer : RoleAnswer) → s.table ≡ table → Keeps (on_role s from xid asked step answer)
   role_keeps s from xid asked step (Reply role generation) h = h
   role_keeps s from xid asked step (Stale seen generation) h = h
   role_keeps s from xid asked step BadRole h = h
 
-  pub plain_keeps : (s : SwitchState) (from xid : ℕ) (m : OfMessage) → s.table ≡ table → Keeps (on_plain s from xid m)
+  pub plain_keeps : (s : SwitchState) (from xid : ℕ) (m : OfMessage) → s.table ≡ table → Keeps (switch_on_plain s from xid m)
   plain_keeps s from xid (plain.RoleRequest role generation) h = let step = role_step s.fence from role generation in role_keeps s from xid role step step.answer h
   plain_keeps s from xid _ h = h
 
@@ -99,9 +99,9 @@ module _ (s : SwitchState) (acts : List Act) (is : s.table ≡ clocked_of acts) 
 
   frame_does : (port : ℕ) (frame : List ℕ) → Does (on_frame s port frame) (frame_acts s port frame)
   frame_does port frame =
-      let fields = fields_at port frame in
+      let fields = frame_fields_at port frame in
       let met : SwitchTurn = through_row s port frame (chosen_row (rows_of s) fields) in
-      either (is_up s port && is_frame frame) (counting port frame met) (quiet s) _ []
+      either (is_port_up s port && is_frame frame) (counting_ports port frame met) (quiet_switch s) _ []
       (ap (λ (t : Clocked). clock_hit t fields (length frame)) (row_keeps s.table port frame s (chosen_row (rows_of s) fields) refl ∙ is)
       ∙ sym (after_frame fields (length frame) (deeds_of acts)))
       is
@@ -111,8 +111,8 @@ module _ (s : SwitchState) (acts : List Act) (is : s.table ≡ clocked_of acts) 
   tick_does false = ap (λ (t : Clocked). clock_risen t) is ∙ sym (after_tick (deeds_of acts))
 
   carried_does : (now : SwitchState) (from generation number : ℕ) (what : Order) (result : Outcome) → now.table ≡ s.table →
-      Does (then_turn (done_as result what now) (λ n. posts (counted from generation number what result n) (result_letter now from number result ∷ []))) (order_acts result what)
-  carried_does now from generation number (order.PacketOut out) outcome.Done h = outputs_keep s.table quiet (λ n k. k) out.in_port out.payload out.actions (quiet now) h ∙ is
+      Does (then_turn (done_as result what now) (λ n. posts (counted_command from generation number what result n) (result_letter now from number result ∷ []))) (order_acts result what)
+  carried_does now from generation number (order.PacketOut out) outcome.Done h = outputs_keep s.table quiet_switch (λ n k. k) out.in_port out.payload out.actions (quiet_switch now) h ∙ is
   carried_does now from generation number (order.FlowMod change) outcome.Done h =
       ap (λ (t : Clocked). clock_change t change) (h ∙ is) ∙ sym (after_change change (deeds_of acts))
   carried_does now from generation number (order.PacketOut out) (outcome.Failed kind code) h = h ∙ is
@@ -138,11 +138,11 @@ module _ (s : SwitchState) (acts : List Act) (is : s.table ≡ clocked_of acts) 
   own_life_does from xid (extension.Clear life through) = is
 
   restart_does : (b : Bool) →
-      (if b then then_turn (tells_ports s.down (raised switch_up (next_life s))) (λ now. posts now (greetings now)) else quiet s).state.table ≡ clocked_of (if b then [] else acts)
+      (if b then then_turn (tells_ports s.down (raised switch_up (next_life s))) (λ now. posts now (greetings now)) else quiet_switch s).state.table ≡ clocked_of (if b then [] else acts)
   restart_does true = ports_keep (clocked_of []) s.down (raised switch_up (next_life s)) refl
   restart_does false = is
 
-  local_does : (what : Local) → (on_local s what).state.table ≡ clocked_of (acts_then s (switch_input.Local what) acts)
+  local_does : (what : Local) → (switch_on_local s what).state.table ≡ clocked_of (acts_then s (switch_input.Local what) acts)
   local_does (local.Frame port frame) = frame_does port frame
   local_does (local.Port port up) = port_change_keeps s.table port up s refl ∙ is
   local_does local.Tick = tick_does (is_last s.table)

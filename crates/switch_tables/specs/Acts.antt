@@ -19,13 +19,13 @@ use Rattle.flow_clock.specs.Clocked.{is_last}
 use Rattle.of_switch.specs.declared.says.SwitchInput.{SwitchInput}
 use Rattle.of_switch.specs.declared.says.SwitchInput.TheVariants as switch_input
 use Rattle.of_switch.specs.State.{SwitchState, life_of}
-use Rattle.of_switch.specs.Forwarding.{is_frame, is_up, fields_at}
+use Rattle.of_switch.specs.Forwarding.{is_frame, is_port_up, frame_fields_at}
 use Rattle.of_switch.specs.Commands.{result_of, settled}
 use Rattle.of_switch.specs.Rules.{life_said}
 
 -- a frame at a port that is up meets the table
 abbrev pub frame_acts : SwitchState → ℕ → List ℕ → List Act
-frame_acts s port frame = if is_up s port && is_frame frame then Frame (fields_at port frame) (length frame) ∷ [] else []
+frame_acts s port frame = if is_port_up s port && is_frame frame then Frame (frame_fields_at port frame) (length frame) ∷ [] else []
 
 -- at a tick the clock rises, until the end of its numbers
 abbrev pub tick_acts : SwitchState → List Act
@@ -61,10 +61,10 @@ acts_in s (switch_input.Of from xid (spoken.Ravana said)) = if nat_eq (life_said
 acts_in s _ = []
 
 -- a restart begins a life, where there is one
-abbrev pub begins_life : SwitchState → SwitchInput → Bool
-begins_life s (switch_input.Local local.Restart) = nat_lt (life_of s) last_life
-begins_life s _ = false
+abbrev pub begins_switch_life : SwitchState → SwitchInput → Bool
+begins_switch_life s (switch_input.Local local.Restart) = nat_lt (life_of s) last_life
+begins_switch_life s _ = false
 
 -- what it did in its present life by then, the latest first
 abbrev pub acts_then : SwitchState → SwitchInput → List Act → List Act
-acts_then s input acts = if begins_life s input then [] else acts_in s input ++ acts
+acts_then s input acts = if begins_switch_life s input then [] else acts_in s input ++ acts

@@ -1,6 +1,6 @@
 -- The table of a switch, told by what the switch did.
 use Rattle.std.specs.Prelude.{◌≡◌, ℕ, true, List, []}
-use Rattle.actor_fold.specs.Fold.{ActorRules, Standing}
+use Rattle.actor_fold.specs.Fold.{ActorRules, ActorStanding}
 use Rattle.of_types.specs.declared.setup.Setup.{Setup}
 use Rattle.journal.specs.declared.journal.JournalEntry.{JournalEntry}
 use Rattle.journal.specs.declared.journal.Letter.{Letter}
@@ -21,7 +21,7 @@ pub record Doing : Type 0 where
   pub acts : List Act
 
 abbrev pub DoingAt : Type 0
-DoingAt = Standing Doing (Letter SwitchSays)
+DoingAt = ActorStanding Doing (Letter SwitchSays)
 
 abbrev pub doing_took : DoingAt → SwitchInput → DoingAt
 doing_took w input =
@@ -46,6 +46,6 @@ abbrev pub acts_of : {B : Type 0} → Scene B → ℕ → List (JournalEntry B �
 acts_of scene s own = (doing_at scene s own).now.acts
 
 -- the table of a switch is what it did in its present life makes of the opening one
-pub record IsTold {B : Type 0} (scene : Scene B) (s : ℕ) (own : List (JournalEntry B × Option (Packet B))) : Type 0 where
+pub record IsTableTold {B : Type 0} (scene : Scene B) (s : ℕ) (own : List (JournalEntry B × Option (Packet B))) : Type 0 where
   pub same : (doing_at scene s own).now.state ≡ (switch_at scene s own).now
   pub table : (switch_at scene s own).now.table ≡ clocked_of (acts_of scene s own)

@@ -12,7 +12,7 @@ ghost use Rattle.journal.specs.declared.journal.JournalEntry.{JournalEntry};
 ghost use Rattle.journal.specs.declared.journal.Packet.{Packet};
 ghost use Rattle.run_spec.specs.States.{Scene};
 ghost use Rattle.switch_tables.specs.Acts.{acts_then};
-ghost use Rattle.switch_tables.specs.Laws.{IsTold};
+ghost use Rattle.switch_tables.specs.Laws.{IsTableTold};
 
 /// A turn of a switch: what it does with its table joins what it did before, and with a life all begins anew.
 pub fn turn_law()
@@ -22,5 +22,5 @@ pub fn turn_law()
 /// After each part of a journal the table of a switch, with its clock, is that of what the switch did in its present life:
 /// the FLOW_MODs that it carried out without a fault, the ticks and the frames.
 pub fn table_law<B>()
-    ensures { (scene : Scene B) (s : ℕ) (own : List (JournalEntry B × Option (Packet B))) → IsTold scene s own }
+    ensures { (scene : Scene B) (s : ℕ) (own : List (JournalEntry B × Option (Packet B))) → IsTableTold scene s own }
 {}

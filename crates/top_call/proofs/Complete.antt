@@ -10,7 +10,7 @@ use Rattle.journal.specs.declared.journal.SaveResult.TheVariants.{Saved, KeptOld
 use Rattle.journal.specs.Stables.{Saving}
 use Rattle.vr_log.specs.declared.entry.LogFull.{LogFull}
 use Rattle.run_spec.specs.Legal.{results_of}
-use Rattle.run_spec.specs.Schedule.{Answer}
+use Rattle.run_spec.specs.Schedule.{ClosingAnswer}
 use Rattle.run_spec.specs.Schedule as schedule
 use Rattle.run_spec.specs.States.{Scene}
 use Rattle.world.specs.World.{is_failed}
@@ -27,7 +27,7 @@ use Rattle.audit.specs.Audit.{differs}
 use Rattle.top_call.specs.Audited.{report_limit}
 use Rattle.top_call.specs.Outcome.{Answers, Served, Write_failed, No_memory, IsReadAndWritten, Outcome, IsUnserved, IsAudit, IsOfFourNumbers, IsAsked, Of_bytes, Of_numbers, AsksFor, Its_bytes, Its_numbers, IsComplete, audit_status, manner_of, service_for}
 use Rattle.top_call.specs.Outcome as outcome
-use Rattle.top_call.specs.Runs.{AreCalm, AreSaved, HasRun, IsInLimits, IsLeft, IsOverfull, IsUnposted, StablesTell, Telling, scene_for}
+use Rattle.top_call.specs.Runs.{AreCalm, AreSaved, HasRun, IsInLimits, IsLeft, IsOverfull, IsRunUnposted, StablesTell, Telling, scene_for}
 
 -- the words of a run, and words that are not accepted, are none of an audit
 pub no_audit : {A : Type 0} (words : List (List ℕ)) (manner : Manner) → manner_of (job_of words) ≡ Some manner → IsAudit words → A
@@ -143,7 +143,7 @@ module _ (kinds : List ℕ) (saves : Telling) (words : List (List ℕ)) (input r
   abbrev Rests : ℕ → Type 0
   Rests status = Contains (0 ∷ 6 ∷ []) status
 
-  saved_in : (answer : Answer) (h : HasRun manner kinds saves scenario answer) → AreSaved scenario.setup.controllers h.results
+  saved_in : (answer : ClosingAnswer) (h : HasRun manner kinds saves scenario answer) → AreSaved scenario.setup.controllers h.results
   saved_in answer h = settles quiet (scene_for kinds scenario) h.results h.journal h.saved
 
   as_asked : (P : Manner → Scenario → Type 0) (played_in : Manner) (played : Scenario) (output : Output) → IsAsked words input rest played_in played output → P played_in played → P manner scenario
@@ -163,7 +163,7 @@ module _ (kinds : List ℕ) (saves : Telling) (words : List (List ℕ)) (input r
       let saved = saved_in (schedule.Overfull limit) full.ran in
       full.full.crowded (limits.logged full.ran.results full.ran.script full.ran.closing full.ran.journal (schedule.Overfull limit) full.ran.run saved)
 
-  never_cut : (bytes letters : ℕ) → IsUnposted manner kinds saves scenario bytes letters → ⊥
+  never_cut : (bytes letters : ℕ) → IsRunUnposted manner kinds saves scenario bytes letters → ⊥
   never_cut bytes letters cut = limits.posted cut.results bytes letters cut.journal cut.run (settles quiet (scene_for kinds scenario) cut.results cut.journal cut.saved)
 
   served_rests : (status : ℕ) (written : List ℕ) → Outcome kinds saves words input rest unread status written → Rests status
@@ -173,7 +173,7 @@ module _ (kinds : List ℕ) (saves : Telling) (words : List (List ℕ)) (input r
   served_rests status written (outcome.Closed played_in played output asked done) = (0, omega arith, refl)
   served_rests status written (outcome.Left played_in played output up needed asked left) = absurd (never_left up needed (as_asked (λ m s. IsLeft m kinds saves s up needed) played_in played output asked left))
   served_rests status written (outcome.Overfull played_in played output limit asked full) = absurd (never_full limit (as_asked (λ m s. IsOverfull m kinds saves s limit) played_in played output asked full))
-  served_rests status written (outcome.Unposted played_in played output bytes letters asked cut) = absurd (never_cut bytes letters (as_asked (λ m s. IsUnposted m kinds saves s bytes letters) played_in played output asked cut))
+  served_rests status written (outcome.Unposted played_in played output bytes letters asked cut) = absurd (never_cut bytes letters (as_asked (λ m s. IsRunUnposted m kinds saves s bytes letters) played_in played output asked cut))
   served_rests status written (outcome.Oversized is many) = asked_no_audit words input manner scenario asks is
   served_rests status written (outcome.Same is none short found) = asked_no_audit words input manner scenario asks is
   served_rests status written (outcome.Differs n is none short found) = asked_no_audit words input manner scenario asks is

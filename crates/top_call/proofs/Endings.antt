@@ -15,13 +15,13 @@ use Rattle.command_line.specs.declared.words.Job.TheVariants.{Sim, Run, Audit, G
 use Rattle.command_line.specs.Words.{job_of}
 use Rattle.top_call.specs.declared.ending.Ending.{Ending}
 use Rattle.top_call.specs.declared.ending.Ending.TheVariants as ending
-use Rattle.top_call.specs.Cause.{HasEndingCause, IsOfNumbers, Tells}
+use Rattle.top_call.specs.Cause.{HasEndingCause, IsOfNumbers, TellsCause}
 use Rattle.top_call.specs.declared.service.Reader.{Reader}
 use Rattle.top_call.specs.declared.service.Reader.TheVariants as reader
 use Rattle.top_call.specs.declared.service.Service.{Service}
 use Rattle.top_call.specs.declared.service.Service.TheVariants as service
 use Rattle.top_call.specs.Audited.{report_limit, too_large}
-use Rattle.top_call.specs.Ending.{ending_status, ending_text, EndsRead, EndsReport, EndsRun, EndsScenario}
+use Rattle.top_call.specs.Ending.{ending_status, outcome_text, EndsRead, EndsReport, EndsRun, EndsScenario}
 use Rattle.top_call.specs.Service.{limit_of}
 use Rattle.top_call.specs.Outcome.{Outcome, statuses, statuses_of_audit, IsOneLine, HasRead, To_the_end, Past_the_limit, IsUnserved, IsAudit, IsOfFourNumbers, IsUnplayed, PlaysNothing, ReadsNothing, statuses_of_made, IsAsked, Of_bytes, Of_numbers, manner_of, service_for}
 use Rattle.top_call.specs.Outcome as outcome
@@ -100,14 +100,14 @@ scenario_ends manner kinds saves bytes scenario (Ok e) is ran = ran_ends manner 
 scenario_ends manner kinds saves bytes scenario (Err x) is ran = tt
 
 module _ (words : List (List ℕ)) (unread unfailed : Type 0) where
-  pub usage_tells : service_for (job_of words) ≡ None → unfailed → Tells words unread unfailed ending.Usage
+  pub usage_tells : service_for (job_of words) ≡ None → unfailed → TellsCause words unread unfailed ending.Usage
   usage_tells none kept =
       let other : IsUnserved words = ap (λ x. is_some x) none in
       record { usage = λ _. other; others = λ _. refl; failed = λ is. absurd (omega (arith, is)); served = λ _. kept; audit = λ is. never_served words other is; made = λ is. never_made words other is }
 
   -- an ending of a service that is none of words
   ends_tells : (s : Service) (e : Ending) → IsServed words s → ending_status e ≢ 2 → (ending_status e ≡ 4 → unread) → (ending_status e ≢ 4 → unfailed) →
-      (IsAudit words → Contains statuses_of_audit (ending_status e)) → (IsOfFourNumbers words → Contains statuses_of_made (ending_status e)) → Tells words unread unfailed e
+      (IsAudit words → Contains statuses_of_audit (ending_status e)) → (IsOfFourNumbers words → Contains statuses_of_made (ending_status e)) → TellsCause words unread unfailed e
   ends_tells s e said no_usage failed served audit made =
       record { usage = λ is. absurd (no_usage is); others = λ other. absurd (never_both words s said other); failed = failed; served = served; audit = audit; made = made }
 
@@ -117,20 +117,20 @@ module _ (words : List (List ℕ)) (unread unfailed : Type 0) where
   read_no_made reader.Run said made = made_no_run words Apart (ap (λ j. manner_of j) (job_served words (service.Reads reader.Run) said)) made
   read_no_made reader.Audit said made = made_no_audit words (job_served words (service.Reads reader.Audit) said) made
 
-  pub unread_tells : (r : Reader) → IsServed words (service.Reads r) → unread → Tells words unread unfailed ending.Unread
+  pub unread_tells : (r : Reader) → IsServed words (service.Reads r) → unread → TellsCause words unread unfailed ending.Unread
   unread_tells r said rose =
       ends_tells (service.Reads r) ending.Unread said (λ is. omega (arith, is)) (λ _. rose) (λ other. absurd (other refl)) (λ _. (2, omega arith, refl)) (λ made. read_no_made r said made)
 
   -- an ending that is neither of these, of a run and of an audit
   run_tells : (s : Service) (e : Ending) → IsServed words s → (IsAudit words → ⊥) → unfailed → ending_status e ≢ 2 → ending_status e ≢ 4 → (IsOfFourNumbers words → Contains statuses_of_made (ending_status e)) →
-      Tells words unread unfailed e
+      TellsCause words unread unfailed e
   run_tells s e said other kept no_usage no_failure range = ends_tells s e said no_usage (λ is. absurd (no_failure is)) (λ _. kept) (λ audit. absurd (other audit)) range
 
-  audit_tells : (e : Ending) → IsServed words (service.Reads reader.Audit) → unfailed → ending_status e ≢ 2 → ending_status e ≢ 4 → Contains statuses_of_audit (ending_status e) → Tells words unread unfailed e
+  audit_tells : (e : Ending) → IsServed words (service.Reads reader.Audit) → unfailed → ending_status e ≢ 2 → ending_status e ≢ 4 → Contains statuses_of_audit (ending_status e) → TellsCause words unread unfailed e
   audit_tells e said kept no_usage no_failure range = ends_tells (service.Reads reader.Audit) e said no_usage (λ is. absurd (no_failure is)) (λ _. kept) (λ _. range) (λ made. read_no_made reader.Audit said made)
 
   module _ (kinds : List ℕ) (saves : Telling) where
-    tells_run : (manner : Manner) (s : Service) (e : Ending) (output : Output) (scenario : Scenario) → IsServed words s → (IsAudit words → ⊥) → unfailed → EndsRun manner kinds saves output scenario e → Tells words unread unfailed e
+    tells_run : (manner : Manner) (s : Service) (e : Ending) (output : Output) (scenario : Scenario) → IsServed words s → (IsAudit words → ⊥) → unfailed → EndsRun manner kinds saves output scenario e → TellsCause words unread unfailed e
     tells_run manner s (ending.Report written) output scenario said other kept ends = run_tells s (ending.Report written) said other kept (λ is. omega (arith, is)) (λ is. omega (arith, is)) (λ _. (0, omega arith, refl))
     tells_run manner s ending.Usage output scenario said other kept never = absurd never
     tells_run manner s (ending.Refused fault) output scenario said other kept never = absurd never
@@ -142,16 +142,16 @@ module _ (words : List (List ℕ)) (unread unfailed : Type 0) where
     tells_run manner s (ending.Differs n) output scenario said other kept never = absurd never
 
     tells_scenario : (manner : Manner) (r : Reader) (e : Ending) (bytes : List ℕ) → manner_of (Some (reads_for r)) ≡ Some manner → IsServed words (service.Reads r) → unfailed → EndsScenario manner kinds saves bytes e →
-        Tells words unread unfailed e
+        TellsCause words unread unfailed e
     tells_scenario manner r e bytes plays said kept ends =
         let other : IsAudit words → ⊥ = λ audit. no_audit words manner (ap (λ j. manner_of j) (job_served words (service.Reads r) said) ∙ plays) audit in
         elim (refused_or_ran manner kinds saves bytes e ends) [
-          | inl refused ↦ subst (λ x. Tells words unread unfailed x) (sym refused.1)
+          | inl refused ↦ subst (λ x. TellsCause words unread unfailed x) (sym refused.1)
               (run_tells (service.Reads r) (ending.Refused refused.0) said other kept (λ is. omega (arith, is)) (λ is. omega (arith, is)) (λ made. read_no_made r said made))
           | inr ran ↦ tells_run manner (service.Reads r) e told_as.Report ran.0 said other kept ran.2
         ]
 
-    tells_report : (e : Ending) (bytes : List ℕ) → IsServed words (service.Reads reader.Audit) → unfailed → EndsReport kinds bytes e → Tells words unread unfailed e
+    tells_report : (e : Ending) (bytes : List ℕ) → IsServed words (service.Reads reader.Audit) → unfailed → EndsReport kinds bytes e → TellsCause words unread unfailed e
     tells_report (ending.Report written) bytes said kept never = absurd never
     tells_report ending.Usage bytes said kept never = absurd never
     tells_report (ending.Refused fault) bytes said kept ends =
@@ -164,18 +164,18 @@ module _ (words : List (List ℕ)) (unread unfailed : Type 0) where
     tells_report (ending.Differs n) bytes said kept ends =
         audit_tells (ending.Differs n) said kept (λ is. omega (arith, is)) (λ is. omega (arith, is)) (5, omega arith, refl)
 
-    tells_read : (r : Reader) (e : Ending) (bytes : List ℕ) → IsServed words (service.Reads r) → unfailed → EndsRead kinds saves r bytes e → Tells words unread unfailed e
+    tells_read : (r : Reader) (e : Ending) (bytes : List ℕ) → IsServed words (service.Reads r) → unfailed → EndsRead kinds saves r bytes e → TellsCause words unread unfailed e
     tells_read reader.Sim e bytes said kept ends = tells_scenario In_order reader.Sim e bytes refl said kept ends
     tells_read reader.Run e bytes said kept ends = tells_scenario Apart reader.Run e bytes refl said kept ends
     tells_read reader.Audit e bytes said kept ends = tells_report e bytes said kept ends
 
     pub read_tells : {X : Type 0} (r : Reader) (bytes : List ℕ) (result : Result Ending X) → IsServed words (service.Reads r) → unfailed → IfOk result (λ e. EndsRead kinds saves r bytes e) →
-        IfOk result (λ e. Tells words unread unfailed e)
+        IfOk result (λ e. TellsCause words unread unfailed e)
     read_tells r bytes (Ok e) said kept ends = tells_read r e bytes said kept ends
     read_tells r bytes (Err x) said kept ends = tt
 
     pub made_tells : {X : Type 0} (number controllers switches frames : ℕ) (scenario : Scenario) (output : Output) (result : Result Ending X) → IsServed words (service.Gen number controllers switches frames) → unfailed →
-        IfOk result (λ e. EndsRun In_order kinds saves output scenario e) → IfOk result (λ e. Tells words unread unfailed e)
+        IfOk result (λ e. EndsRun In_order kinds saves output scenario e) → IfOk result (λ e. TellsCause words unread unfailed e)
     made_tells number controllers switches frames scenario output (Ok e) said kept ends =
         tells_run In_order (service.Gen number controllers switches frames) e output scenario said
         (λ audit. no_audit_made words number controllers switches frames (job_served words (service.Gen number controllers switches frames) said) audit) kept ends
@@ -193,7 +193,7 @@ module _ (kinds : List ℕ) (saves : Telling) (words : List (List ℕ)) (unread 
   unread_caused r (Some input) (Some rest) said rose = outcome.Unread r said rose
 
   abbrev IsCaused : List ℕ → List ℕ → Ending → Type 0
-  IsCaused input rest e = Outcome kinds saves words input rest unread (ending_status e) (ending_text e)
+  IsCaused input rest e = Outcome kinds saves words input rest unread (ending_status e) (outcome_text e)
 
   -- the run of the scenario that was asked
   ran_caused : (input rest : List ℕ) (e : Ending) (manner : Manner) (scenario : Scenario) (output : Output) → IsAsked words input rest manner scenario output → EndsRun manner kinds saves output scenario e → IsCaused input rest e
@@ -399,7 +399,7 @@ reads_some words r said (inl other) = absurd (never_both words (service.Reads r)
 reads_some words r said (inr made) = read_no_made words (Unit {0}) (Unit {0}) r said made
 
 -- the line of an ending
-pub line_is : (e : Ending) → IsOneLine (ending_status e) (ending_text e)
+pub line_is : (e : Ending) → IsOneLine (ending_status e) (outcome_text e)
 line_is (ending.Report written) = record { usage = λ is. absurd (omega (arith, is)); unread = λ is. absurd (omega (arith, is)); nothing = λ is. absurd (omega (arith, is)) }
 line_is ending.Usage = record { usage = λ is. refl; unread = λ is. absurd (omega (arith, is)); nothing = λ is. absurd (omega (arith, is)) }
 line_is (ending.Refused fault) = record { usage = λ is. absurd (omega (arith, is)); unread = λ is. absurd (omega (arith, is)); nothing = λ is. absurd (omega (arith, is)) }

@@ -6,7 +6,7 @@ use Rattle.std.proofs.lemmas.Bool.{cases_Bool, leb-true, eqb-true}
 use Rattle.numerals.specs.Numerals.{numeral}
 use Rattle.command_line.specs.declared.words.Job.{Job}
 use Rattle.command_line.specs.declared.words.Job.TheVariants.{Gen}
-use Rattle.command_line.specs.Words.{generator_of, group_of, job_of, number_within, plain_job}
+use Rattle.command_line.specs.Words.{generator_of, group_in_words, job_of, word_within, plain_job}
 
 -- what the generator asks of them
 pub record AreBounded (controllers switches frames : ℕ) : Type 0 where
@@ -32,7 +32,7 @@ bound : {X Y : Type 0} (o : Option X) (f : X → Option Y) (y : Y) → option_an
 bound None f y h = cc
 bound (Some x) f y h = (x, refl, h)
 
-within : (low high : ℕ) (word : List ℕ) (n : ℕ) → number_within low high word ≡ Some n → (low ≤ n) × (n ≤ high)
+within : (low high : ℕ) (word : List ℕ) (n : ℕ) → word_within low high word ≡ Some n → (low ≤ n) × (n ≤ high)
 within low high word n h =
     let m = bound (numeral word) (λ k. if nat_le low k && nat_le k high then Some k else None) n h in
     let g = given (nat_le low m.0 && nat_le m.0 high) m.0 n m.2 in
@@ -58,9 +58,9 @@ odd m test =
     apart : false ≡ true → ⊥
     apart h = cc
 
-group : (word : List ℕ) (n : ℕ) → group_of word ≡ Some n → Contains (1 ∷ 3 ∷ 5 ∷ 7 ∷ []) n
+group : (word : List ℕ) (n : ℕ) → group_in_words word ≡ Some n → Contains (1 ∷ 3 ∷ 5 ∷ 7 ∷ []) n
 group word n h =
-    let m = bound (number_within 1 7 word) (λ k. if k == 1 || k == 3 || k == 5 || k == 7 then Some k else None) n h in
+    let m = bound (word_within 1 7 word) (λ k. if k == 1 || k == 3 || k == 5 || k == 7 then Some k else None) n h in
     let g = given (m.0 == 1 || m.0 == 3 || m.0 == 5 || m.0 == 7) m.0 n m.2 in
     subst (λ k. Contains (1 ∷ 3 ∷ 5 ∷ 7 ∷ []) k) g.1 (odd m.0 g.0)
 
@@ -83,10 +83,10 @@ is_made _ = false
 
 generated : (first second third fourth : List ℕ) (number controllers switches frames : ℕ) → generator_of first second third fourth ≡ Some (Gen number controllers switches frames) → AreBounded controllers switches frames
 generated first second third fourth number controllers switches frames h =
-    let n = bound (number_within 0 4294967295 first) _ (Gen number controllers switches frames) h in
-    let c = bound (group_of second) _ (Gen number controllers switches frames) n.2 in
-    let s = bound (number_within 1 64 third) _ (Gen number controllers switches frames) c.2 in
-    let f = bound (number_within 0 2048 fourth) _ (Gen number controllers switches frames) s.2 in
+    let n = bound (word_within 0 4294967295 first) _ (Gen number controllers switches frames) h in
+    let c = bound (group_in_words second) _ (Gen number controllers switches frames) n.2 in
+    let s = bound (word_within 1 64 third) _ (Gen number controllers switches frames) c.2 in
+    let f = bound (word_within 0 2048 fourth) _ (Gen number controllers switches frames) s.2 in
     let made : Some (Gen n.0 c.0 s.0 f.0) ≡ Some (Gen number controllers switches frames) = f.2 in
     let some = within 1 64 third s.0 s.1 in
     let short = within 0 2048 fourth f.0 f.1 in

@@ -19,8 +19,8 @@ use Rattle.run_laws.proofs.Told.{told_law}
 use Rattle.run_laws.proofs.Laws.{agreement_law, lasting_law, once_law, fence_law, valid_law}
 use Rattle.run_spec.specs.Committed.{count_up, kept, kept_of, members_up, switch_state}
 use Rattle.run_spec.specs.Legal.{IsPossible, results_of}
-use Rattle.playing.specs.Manners.{Manner, In_order, Apart, Begins, Follows}
-use Rattle.run_spec.specs.Schedule.{Answer, Closes, count_turns, majority}
+use Rattle.playing.specs.Manners.{Manner, In_order, Apart, Begins, FollowsManner}
+use Rattle.run_spec.specs.Schedule.{ClosingAnswer, Closes, count_turns, majority}
 use Rattle.run_spec.specs.Schedule as schedule
 use Rattle.run_spec.specs.States.{Scene, controller_at}
 use Rattle.journal.specs.declared.journal.Actor.TheVariants as actor
@@ -41,7 +41,7 @@ use Rattle.world.proofs.Growing.{no_more}
 use Rattle.world.proofs.Places.{results_at}
 use Rattle.closing.specs.declared.closed.Closed.{Closed}
 use Rattle.closing.specs.declared.closed.Closed.TheVariants as closed
-use Rattle.closing.specs.Closing.{HasMajority, HasReason, IsBounded, answer_of}
+use Rattle.closing.specs.Closing.{HasMajority, HasReason, IsBounded, closing_answer_of}
 use Rattle.closing.proofs.Lists.{map_range}
 use Rattle.closing.proofs.Parts.{few_members}
 use Rattle.vr_log.specs.declared.entry.LogFull.{LogFull}
@@ -63,7 +63,7 @@ use Rattle.journal.specs.Actors.{actor_of, IsActor}
 use Rattle.top_call.proofs.Recorded.{follow_lines, one_record, told_writable}
 use Rattle.top_call.specs.declared.ending.Ending.{Ending}
 use Rattle.top_call.specs.Ending.{EndsRun}
-use Rattle.top_call.specs.Runs.{AreSaved, HasRun, IfInOrder, IsDone, IsLawful, IsLeft, IsOverfull, IsRun, IsTheOne, IsUnposted, StableTells, StablesTell, scene_for}
+use Rattle.top_call.specs.Runs.{AreSaved, HasRun, IfInOrder, IsDone, IsLawful, IsLeft, IsOverfull, IsRun, IsTheOne, IsRunUnposted, StableTells, StablesTell, scene_for}
 use Rattle.top_call.proofs.Playing.{rest_is, within_journal}
 
 -- of the first stables
@@ -171,8 +171,8 @@ module _ {A W : Type 0} (law : AppLaw A) (saving : Saving W) (scenario : Scenari
   each_saved (r ∷ rs) all (suc i) = each_saved rs all.1 i
 
   module _ (manner : Manner) (count : ℕ) (ended : Closed) (played : HasPlayed manner (scene_in byte_bodies start kinds) scenario.steps count ended w) where
-    abbrev answer : Answer
-    answer = answer_of ended
+    abbrev answer : ClosingAnswer
+    answer = closing_answer_of ended
 
     same_scene : (P : Scene (List ℕ) → Type 0) → P (scene_in byte_bodies start kinds) → P OfRun
     same_scene P h = subst (λ (s : Setup). P (record { setup = s; kinds = kinds; sealing = byte_bodies })) begins.setup_is h
@@ -180,8 +180,8 @@ module _ {A W : Type 0} (law : AppLaw A) (saving : Saving W) (scenario : Scenari
     as_group : AreMore w.setup.controllers Results Results
     as_group = no_more w.setup.controllers Results
 
-    follows : Follows manner OfRun Results scenario.steps (past played.front)
-    follows = same_scene (λ s. Follows manner s Results scenario.steps (past played.front)) (played.follows Results as_group)
+    follows : FollowsManner manner OfRun Results scenario.steps (past played.front)
+    follows = same_scene (λ s. FollowsManner manner s Results scenario.steps (past played.front)) (played.follows Results as_group)
 
     closes : Closes OfRun Results (past played.front) played.rest answer
     closes = same_scene (λ s. Closes s Results (past played.front) played.rest answer) (played.closes Results as_group)
@@ -241,7 +241,7 @@ module _ {A W : Type 0} (law : AppLaw A) (saving : Saving W) (scenario : Scenari
   -- where the steps were done in order it is the one journal of the scenario
   module _ (count : ℕ) (ended : Closed) (played : HasPlayed In_order (scene_in byte_bodies start kinds) scenario.steps count ended w) where
     -- a run of the scenario in which every save is made is one whole run
-    is_whole : (results : List (List SaveResult)) (script closing journal : List (JournalEntry (List ℕ))) (end : Answer) → IsRun In_order kinds scenario results script closing journal end →
+    is_whole : (results : List (List SaveResult)) (script closing journal : List (JournalEntry (List ℕ))) (end : ClosingAnswer) → IsRun In_order kinds scenario results script closing journal end →
         AllByRecursion (λ saves. AllByRecursion (λ r. r ≡ Saved) saves) results → IsWholeRun OfRun scenario.steps (past script) closing end
     is_whole results script closing journal end run saved = record {
       results = results;
@@ -251,27 +251,27 @@ module _ {A W : Type 0} (law : AppLaw A) (saving : Saving W) (scenario : Scenari
       closes = run.closes;
     }
 
-    one : AreSaved scenario.setup.controllers Results → IsTheOne kinds scenario w.journal (answer_of ended)
+    one : AreSaved scenario.setup.controllers Results → IsTheOne kinds scenario w.journal (closing_answer_of ended)
     one saved =
         let count_is = length-map w.controllers (λ c. c.results) ∙ runs.group in
-        let run : IsWholeRun OfRun scenario.steps (past played.front) played.rest (answer_of ended) = record {
+        let run : IsWholeRun OfRun scenario.steps (past played.front) played.rest (closing_answer_of ended) = record {
           results = Results;
           saved = all_saved Results (λ c less. saved c (omega (arith, less, count_is)));
           possible = subst (λ l. IsPossible OfRun Results l) (whole In_order count ended played) runs.legal.possible;
           follows = follows In_order count ended played;
           closes = closes In_order count ended played;
         } in
-        let found = the_one_journal OfRun scenario.steps (past played.front) played.rest (answer_of ended) run in
+        let found = the_one_journal OfRun scenario.steps (past played.front) played.rest (closing_answer_of ended) run in
         record {
           most = found.0;
-          plays_it = found.1 ∙ ap (λ l. record { entries = l; answer = Some (answer_of ended) }) (sym (whole In_order count ended played));
+          plays_it = found.1 ∙ ap (λ l. record { entries = l; answer = Some (closing_answer_of ended) }) (sym (whole In_order count ended played));
           only = λ results script closing other end ran each.
-              let same = one_journal OfRun scenario.steps (past script) closing end (past played.front) played.rest (answer_of ended) (is_whole results script closing other end ran each) run in
+              let same = one_journal OfRun scenario.steps (past script) closing end (past played.front) played.rest (closing_answer_of ended) (is_whole results script closing other end ran each) run in
               (one_past other w.journal (ap past ran.joined ∙ past_joined script closing ∙ same.0 ∙ sym (whole In_order count ended played)), same.1);
         }
 
   one_of : (manner : Manner) (count : ℕ) (ended : Closed) → HasPlayed manner (scene_in byte_bodies start kinds) scenario.steps count ended w →
-      IfInOrder manner (AreSaved scenario.setup.controllers Results → IsTheOne kinds scenario w.journal (answer_of ended))
+      IfInOrder manner (AreSaved scenario.setup.controllers Results → IsTheOne kinds scenario w.journal (closing_answer_of ended))
   one_of In_order count ended played = one count ended played
   one_of Apart count ended played = tt
 
@@ -315,7 +315,7 @@ module _ {A W : Type 0} (law : AppLaw A) (saving : Saving W) (scenario : Scenari
       let at = reason manner count end played in
       record { ran = has_run manner count end played (one_of manner count end played); controller = at.0; entry = at.1; full = at.2 }
 
-  pub is_unposted : (manner : Manner) (bytes letters : ℕ) → Begins manner (scene_in byte_bodies start kinds) Results scenario.steps bytes letters (past w.journal) → IsUnposted manner kinds (StablesTell saving stables stables_after) scenario bytes letters
+  pub is_unposted : (manner : Manner) (bytes letters : ℕ) → Begins manner (scene_in byte_bodies start kinds) Results scenario.steps bytes letters (past w.journal) → IsRunUnposted manner kinds (StablesTell saving stables stables_after) scenario bytes letters
   is_unposted manner bytes letters begun = record {
     results = Results;
     journal = w.journal;
@@ -425,7 +425,7 @@ module _ {A W : Type 0} (law : AppLaw A) (saving : Saving W) (scenario : Scenari
       }
 
   left_unposted : (bytes letters : ℕ) → Begins Apart (scene_for kinds scenario) LeftResults scenario.steps bytes letters (past left.wire) →
-      IsUnposted Apart kinds (StablesTell saving stables stables_after) scenario bytes letters
+      IsRunUnposted Apart kinds (StablesTell saving stables stables_after) scenario bytes letters
   left_unposted bytes letters begun = record {
     results = LeftResults;
     journal = left.wire;

@@ -29,12 +29,12 @@ use Rattle.vr_log.specs.Sizes.{IsValidEntry}
 use Rattle.of_switch.specs.State.{SwitchState, rows_of}
 use Rattle.group_controller.specs.State.{ControllerState}
 use Rattle.run_spec.specs.Committed.{decided, members_up, states_of, switch_state}
-use Rattle.run_spec.specs.Schedule.{Answer, Closes, ClosesTo, Draining, Ends, IsMove, Losing, Met, Move, Phase, Suspecting, NoQuorum, Takes, TakesInOrder, after_move, closing_view, drained, is_drawn, majority, next_drained, next_lost, next_move, next_suspicion, next_view, quorum_of}
+use Rattle.run_spec.specs.Schedule.{ClosingAnswer, Closes, ClosesTo, Draining, Ends, IsMove, Losing, Met, ClosingMove, Phase, Suspecting, NoQuorum, Takes, TakesInOrder, after_move, closing_view, drained, is_drawn, majority, next_drained, next_lost, next_move, next_suspicion, next_view, quorum_of}
 use Rattle.run_spec.specs.States.{Scene}
 use Rattle.journal.specs.declared.journal.Actor.{Actor}
 use Rattle.journal.specs.Actors.{actor_of, IsActor}
 use Rattle.running.specs.Apart.{IsStepAt, TakesOwn, inputs_of, steps_of}
-use Rattle.playing.specs.Manners.{Manner, In_order, Apart, Follows}
+use Rattle.playing.specs.Manners.{Manner, In_order, Apart, FollowsManner}
 use Rattle.playing.proofs.Stopping.{same_self}
 use Rattle.run_spec.proofs.Pasts.{from_some}
 use Rattle.run_laws.specs.Told.{IsSpellable, IsSpellableEntry, IsSpellableEvent, IsSpellableOrder, IsSpellableRow, IsSpellableRun, IsSpellableSwitch}
@@ -87,13 +87,13 @@ all_behind P (x ∷ xs) ys all = all_behind P xs ys all.1
 
 -- of a script that was done in either manner, before what came later
 pub follow_lines : (manner : Manner) (scene : Scene (List ℕ)) (results : List (List SaveResult)) (steps : List Turn) (later entries : List (JournalEntry (List ℕ))) → AllByRecursion (λ e. IsActor scene.setup (actor_of e)) (later ++ entries) →
-    Follows manner scene results steps entries → AllByRecursion HasLine entries
+    FollowsManner manner scene results steps entries → AllByRecursion HasLine entries
 follow_lines In_order scene results steps later entries named follows = script_lines scene results steps entries follows.takes
 follow_lines Apart scene results steps later entries named follows =
     apart_lines scene.setup steps entries (all_behind (λ e. IsActor scene.setup (actor_of e)) later entries named) (λ a there. (follows a there).takes)
 
 -- what comes next in a closing has a line
-abbrev HasMoveLine : Move (List ℕ) → Type 0
+abbrev HasMoveLine : ClosingMove (List ℕ) → Type 0
 HasMoveLine (Takes e next) = HasLine e
 HasMoveLine (Ends answer) = Unit {0}
 
@@ -131,7 +131,7 @@ move_line scene results (Suspecting view quorum members) entries = suspicion_lin
 move_line scene results (Draining view quorum) entries = drained_line scene.setup.controllers view quorum (pool entries)
 move_line scene results (Met limit) entries = tt
 
-taken_line : (move : Move (List ℕ)) (e : JournalEntry (List ℕ)) (next : Phase) → HasMoveLine move → IsMove move e next → HasLine e
+taken_line : (move : ClosingMove (List ℕ)) (e : JournalEntry (List ℕ)) (next : Phase) → HasMoveLine move → IsMove move e next → HasLine e
 taken_line (Takes f phase) e next line is = subst (λ (x : JournalEntry (List ℕ)). HasLine x) (sym is.0) line
 taken_line (Ends answer) e next line is = absurd is
 
@@ -196,7 +196,7 @@ entry_valid : (setup : Setup) (e : Entry) → IsSpellableEntry setup e → IsVal
 entry_valid setup (Received e) h = (happening_fits e.what h.1.1, happening_valid e.what h.1)
 entry_valid setup (Processed j) h = tt
 
-module _ {A : Type 0} (scene : Scene (List ℕ)) (results : List (List SaveResult)) (front rest : List (JournalEntry (List ℕ))) (answer : Answer) (w : Worlding (List ℕ) A) (primary : ℕ) where
+module _ {A : Type 0} (scene : Scene (List ℕ)) (results : List (List SaveResult)) (front rest : List (JournalEntry (List ℕ))) (answer : ClosingAnswer) (w : Worlding (List ℕ) A) (primary : ℕ) where
   pub told_writable : IsSetup w.setup → w.setup ≡ scene.setup → w.journal ≡ front ++ rest → AllByRecursion HasLine (past front) → Closes scene results (past front) rest answer →
       length w.switches ≡ length scene.setup.ports → ((s : ℕ) → s < length scene.setup.ports → slice_get w.switches s ≡ Some (switch_state scene s (past w.journal))) →
       decided scene results (past w.journal) ≡ committed_at w.controllers primary → IsSpellableRun scene results (past w.journal) → (count closing : ℕ) → IsWritable (told_by w primary count closing)

@@ -13,7 +13,7 @@ use Rattle.top_call.specs.Audited.{report_limit, too_large}
 use Rattle.top_call.specs.declared.service.Reader.{Reader}
 use Rattle.top_call.specs.declared.service.Reader.TheVariants.{Sim, Run, Audit}
 use Rattle.playing.specs.Manners.{Manner, In_order, Apart}
-use Rattle.top_call.specs.Runs.{IsDone, IsLeft, IsOverfull, IsUnposted, Telling}
+use Rattle.top_call.specs.Runs.{IsDone, IsLeft, IsOverfull, IsRunUnposted, Telling}
 
 abbrev pub ending_status : Ending → ℕ
 ending_status (Report words) = 0
@@ -26,23 +26,23 @@ ending_status (Unposted bytes letters) = 10
 ending_status Same = 0
 ending_status (Differs n) = 8
 
-abbrev pub ending_text : Ending → List ℕ
-ending_text (Report words) = words
-ending_text Usage = usage_line
-ending_text (Refused fault) = fault_line fault
-ending_text Unread = unread_line
-ending_text (NoQuorum up needed) = no_quorum_line up needed
-ending_text (Overfull limit) = overfull_line limit
-ending_text (Unposted bytes letters) = unposted_line bytes letters
-ending_text Same = same_line
-ending_text (Differs n) = differs_line n
+abbrev pub outcome_text : Ending → List ℕ
+outcome_text (Report words) = words
+outcome_text Usage = usage_line
+outcome_text (Refused fault) = fault_line fault
+outcome_text Unread = unread_line
+outcome_text (NoQuorum up needed) = no_quorum_line up needed
+outcome_text (Overfull limit) = overfull_line limit
+outcome_text (Unposted bytes letters) = unposted_line bytes letters
+outcome_text Same = same_line
+outcome_text (Differs n) = differs_line n
 
 -- how a run of a scenario, done in this manner, ends, of which this is told at rest
 abbrev pub EndsRun : Manner → List ℕ → Telling → Output → Scenario → Ending → Type 0
 EndsRun manner kinds saves output scenario (Report words) = IsDone manner kinds saves scenario output words
 EndsRun manner kinds saves output scenario (NoQuorum up needed) = IsLeft manner kinds saves scenario up needed
 EndsRun manner kinds saves output scenario (Overfull limit) = IsOverfull manner kinds saves scenario limit
-EndsRun manner kinds saves output scenario (Unposted bytes letters) = IsUnposted manner kinds saves scenario bytes letters
+EndsRun manner kinds saves output scenario (Unposted bytes letters) = IsRunUnposted manner kinds saves scenario bytes letters
 EndsRun manner kinds saves output scenario Usage = ⊥
 EndsRun manner kinds saves output scenario (Refused fault) = ⊥
 EndsRun manner kinds saves output scenario Unread = ⊥

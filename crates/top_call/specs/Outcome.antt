@@ -19,7 +19,7 @@ use Rattle.top_call.specs.declared.service.Service.TheVariants.{Reads}
 use Rattle.top_call.specs.Audited.{report_limit, too_large}
 use Rattle.top_call.specs.Service.{service_of}
 use Rattle.playing.specs.Manners.{Manner, In_order, Apart}
-use Rattle.top_call.specs.Runs.{IsDone, IsInLimits, IsLeft, IsOverfull, IsUnposted, Telling}
+use Rattle.top_call.specs.Runs.{IsDone, IsInLimits, IsLeft, IsOverfull, IsRunUnposted, Telling}
 
 -- a claim on what is read and written, where both ends tell it: what the source had left at first, what
 -- it has left at the end, and what the sink took
@@ -85,7 +85,7 @@ pub data Outcome (kinds : List ℕ) (saves : Telling) (words : List (List ℕ)) 
       Outcome kinds saves words input rest unread 7 (no_quorum_line up needed)
   Overfull : (manner : Manner) (scenario : Scenario) (output : Output) (limit : LogFull) → IsAsked words input rest manner scenario output → IsOverfull manner kinds saves scenario limit →
       Outcome kinds saves words input rest unread 9 (overfull_line limit)
-  Unposted : (manner : Manner) (scenario : Scenario) (output : Output) (bytes letters : ℕ) → IsAsked words input rest manner scenario output → IsUnposted manner kinds saves scenario bytes letters →
+  Unposted : (manner : Manner) (scenario : Scenario) (output : Output) (bytes letters : ℕ) → IsAsked words input rest manner scenario output → IsRunUnposted manner kinds saves scenario bytes letters →
       Outcome kinds saves words input rest unread 10 (unposted_line bytes letters)
   Oversized : IsAudit words → length rest + (report_limit + 1) ≡ length input → Outcome kinds saves words input rest unread 3 (fault_line too_large)
   Same : IsAudit words → rest ≡ [] → length input ≤ report_limit → differs kinds input ≡ None → Outcome kinds saves words input rest unread 0 same_line

@@ -16,8 +16,8 @@ use Rattle.run_laws.specs.Laws.{AreAgreed, AreValidLogs}
 use Rattle.run_spec.specs.Laws.{IsExactlyOnce, IsFenced, IsLasting}
 use Rattle.run_spec.specs.Legal.{IsLegal, results_of}
 use Rattle.run_spec.specs.Play.{plays}
-use Rattle.playing.specs.Manners.{Manner, In_order, Apart, Begins, Follows}
-use Rattle.run_spec.specs.Schedule.{Answer, Closes, majority}
+use Rattle.playing.specs.Manners.{Manner, In_order, Apart, Begins, FollowsManner}
+use Rattle.run_spec.specs.Schedule.{ClosingAnswer, Closes, majority}
 use Rattle.run_spec.specs.Schedule as schedule
 use Rattle.run_spec.specs.States.{Scene}
 use Rattle.closing_laws.specs.Ends.{HasRested}
@@ -64,11 +64,11 @@ pub record StablesTell {W : Type 0} (saving : Saving W) (stables stables_after :
 
 -- a run of a scenario up to the answer of its closing: a legal journal within the limits, in which the script follows the
 -- steps in this manner, and the entries behind it are those of the closing schedule
-pub record IsRun (manner : Manner) (kinds : List ℕ) (scenario : Scenario) (results : List (List SaveResult)) (script closing journal : List (JournalEntry (List ℕ))) (answer : Answer) : Type 0 where
+pub record IsRun (manner : Manner) (kinds : List ℕ) (scenario : Scenario) (results : List (List SaveResult)) (script closing journal : List (JournalEntry (List ℕ))) (answer : ClosingAnswer) : Type 0 where
   pub joined : journal ≡ script ++ closing
   pub legal : IsLegal (scene_for kinds scenario) results journal
   pub within : IsWithinLimits (scene_for kinds scenario).sealing.size (past journal)
-  pub follows : Follows manner (scene_for kinds scenario) results scenario.steps (past script)
+  pub follows : FollowsManner manner (scene_for kinds scenario) results scenario.steps (past script)
   pub closes : Closes (scene_for kinds scenario) results (past script) closing answer
   pub lawful : IsLawful (scene_for kinds scenario) results (past journal)
 
@@ -85,10 +85,10 @@ AreSaved group results = (c : ℕ) → c < group → AllByRecursion (λ r. r ≡
 
 -- the one journal that a scenario has where its steps are done in order and each save is made: it can be computed, and each run of the scenario in which every
 -- save is made has this journal and this answer
-pub record IsTheOne (kinds : List ℕ) (scenario : Scenario) (journal : List (JournalEntry (List ℕ))) (answer : Answer) : Type 0 where
+pub record IsTheOne (kinds : List ℕ) (scenario : Scenario) (journal : List (JournalEntry (List ℕ))) (answer : ClosingAnswer) : Type 0 where
   pub most : ℕ
   pub plays_it : plays most (scene_for kinds scenario) [] scenario.steps ≡ record { entries = past journal; answer = Some answer }
-  pub only : (results : List (List SaveResult)) (script closing other : List (JournalEntry (List ℕ))) (end : Answer) →
+  pub only : (results : List (List SaveResult)) (script closing other : List (JournalEntry (List ℕ))) (end : ClosingAnswer) →
       IsRun In_order kinds scenario results script closing other end → AllByRecursion (λ saves. AllByRecursion (λ r. r ≡ Saved) saves) results → (other ≡ journal) × (end ≡ answer)
 
 -- a claim on runs whose steps are done in order: threads may come in any order, so these have many journals
@@ -101,7 +101,7 @@ abbrev pub Telling : Type 1
 Telling = Scene (List ℕ) → List (List SaveResult) → List (JournalEntry (List ℕ)) → Type 0
 
 -- A run up to this answer, and what its stable pairs tell. Its closing takes no more turns than the bounds say, where each save was made.
-pub record HasRun (manner : Manner) (kinds : List ℕ) (saves : Telling) (scenario : Scenario) (answer : Answer) : Type 0 where
+pub record HasRun (manner : Manner) (kinds : List ℕ) (saves : Telling) (scenario : Scenario) (answer : ClosingAnswer) : Type 0 where
   pub results : List (List SaveResult)
   pub script : List (JournalEntry (List ℕ))
   pub closing : List (JournalEntry (List ℕ))
@@ -141,7 +141,7 @@ pub record IsOverfull (manner : Manner) (kinds : List ℕ) (saves : Telling) (sc
   pub full : IsAtLimit (scene_for kinds scenario) ran.results (past ran.journal) limit controller entry
 
 -- a run that was cut short since an outbox found no room in the journal
-pub record IsUnposted (manner : Manner) (kinds : List ℕ) (saves : Telling) (scenario : Scenario) (bytes letters : ℕ) : Type 0 where
+pub record IsRunUnposted (manner : Manner) (kinds : List ℕ) (saves : Telling) (scenario : Scenario) (bytes letters : ℕ) : Type 0 where
   pub results : List (List SaveResult)
   pub journal : List (JournalEntry (List ℕ))
   pub run : IsCutShort manner kinds scenario results bytes letters journal
@@ -150,11 +150,11 @@ pub record IsUnposted (manner : Manner) (kinds : List ℕ) (saves : Telling) (sc
 -- A scenario keeps within the limits, done in this manner, where each save is made: f + 1 of its controllers take part behind its script, its letters are
 -- within those of a journal, and the events that its switches make fit a log.
 pub record IsInLimits (manner : Manner) (kinds : List ℕ) (scenario : Scenario) : Type 0 where
-  pub up : (results : List (List SaveResult)) (script closing journal : List (JournalEntry (List ℕ))) (answer : Answer) →
+  pub up : (results : List (List SaveResult)) (script closing journal : List (JournalEntry (List ℕ))) (answer : ClosingAnswer) →
       IsRun manner kinds scenario results script closing journal answer → AreSaved scenario.setup.controllers results → majority scenario.setup.controllers ≤ count_up (scene_for kinds scenario) results (past script)
   pub posted : (results : List (List SaveResult)) (bytes letters : ℕ) (journal : List (JournalEntry (List ℕ))) →
       IsCutShort manner kinds scenario results bytes letters journal → AreSaved scenario.setup.controllers results → ⊥
-  pub logged : (results : List (List SaveResult)) (script closing journal : List (JournalEntry (List ℕ))) (answer : Answer) →
+  pub logged : (results : List (List SaveResult)) (script closing journal : List (JournalEntry (List ℕ))) (answer : ClosingAnswer) →
       IsRun manner kinds scenario results script closing journal answer → AreSaved scenario.setup.controllers results → FitALog (events_made (scene_for kinds scenario) (past journal))
 
 -- no count of the faults of stable pairs rose, nor stands at the greatest number

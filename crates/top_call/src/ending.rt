@@ -1,9 +1,9 @@
 //! How a call ended, and what it has to write.
 ghost use Rattle.std.specs.Prelude.{◌≡◌, ◌≢◌, [], ◌∷◌, ◌++◌, codes, IfOk, OnOk, OnErr};
-ghost use Rattle.report.specs.Report.{word, further, number};
+ghost use Rattle.report.specs.Report.{word, further, number_text};
 ghost use Rattle.command_line.specs.Lines.{text_bytes};
 ghost use Rattle.top_call.specs.Lines as lines;
-ghost use Rattle.top_call.specs.Ending.{ending_text, ending_status};
+ghost use Rattle.top_call.specs.Ending.{outcome_text, ending_status};
 
 use command_line::{Text, differs_line, unread_line};
 use of_types::Octets;
@@ -70,9 +70,9 @@ fn fault(alloc: Global, status: &[u8]) -> Result<Octets, AllocError>
 }
 
 /// Writes a name and its number.
-#[tactic(auto, unfolding(report::specs::Report::number))]
+#[tactic(auto, unfolding(report::specs::Report::number_text))]
 fn write_named(line: &mut Octets, name: &[u8], value: u64) -> Result<(), AllocError>
-    ensures { OnOk result (line.new ≡ line.old ++ (word name.now ++ word (number value))) }
+    ensures { OnOk result (line.new ≡ line.old ++ (word name.now ++ word (number_text value))) }
 {
     write_word(line, name)?;
     write_number(line, value)
@@ -80,7 +80,7 @@ fn write_named(line: &mut Octets, name: &[u8], value: u64) -> Result<(), AllocEr
 
 /// Writes a word and its number, and ends the line.
 fn end_with(line: &mut Octets, name: &[u8], value: u64) -> Result<(), AllocError>
-    ensures { OnOk result (line.new ≡ line.old ++ further (name.now ∷ number value ∷ [])) }
+    ensures { OnOk result (line.new ≡ line.old ++ further (name.now ∷ number_text value ∷ [])) }
 {
     write_named(line, name, value)?;
     write_newline(line)?;
@@ -167,7 +167,7 @@ impl Ending {
 
     /// What is written. That the source failed is told without memory.
     pub fn into_text(self, alloc: Global) -> Result<Text, AllocError>
-        ensures ok { IfOk result (λ text. text_bytes text ≡ ending_text self) }
+        ensures ok { IfOk result (λ text. text_bytes text ≡ outcome_text self) }
         ensures err { OnErr result (ending_status self ≢ 4) }
     {
         match self {

@@ -9,7 +9,7 @@ ghost use Rattle.top_call.specs.declared.sim.Output.TheVariants as told_as;
 ghost use Rattle.top_call.specs.Call.{ForChains, IsAnswered, IsCompleted, IsMadeOfNumbers, stream};
 ghost use Rattle.top_call.specs.Outcome.{IsOneLine, IsWritten, IsUnserved, IsAudit, IsOfFourNumbers, IsUnplayed, PlaysNothing, ReadsNothing, service_for, statuses, statuses_of_usage, statuses_of_audit, statuses_of_made};
 ghost use Rattle.top_call.specs.Ending.{ending_status, EndsRead, EndsScenario, EndsRun};
-ghost use Rattle.top_call.specs.Cause.{HasEndingCause, IsOfNumbers, Tells};
+ghost use Rattle.top_call.specs.Cause.{HasEndingCause, IsOfNumbers, TellsCause};
 ghost use Rattle.top_call.specs.Play.{AreChains, AreFresh};
 ghost use Rattle.top_call.specs.Runs.{AreCalm, StablesTell};
 
@@ -177,7 +177,7 @@ fn outcome<
     ensures cause { (kinds : List ℕ) → AreChains A.law kinds chains.items →
         IfOk result (HasEndingCause kinds (StablesTell W.saving stables.old.items stables.new.items) (map string_bytes words.now)
         (Rose (S.faults source.old) (S.faults source.new)) (S.left source.old) (S.left source.new)) }
-    ensures told { IfOk result (Tells (map string_bytes words.now)
+    ensures told { IfOk result (TellsCause (map string_bytes words.now)
         (Rose (S.faults source.old) (S.faults source.new)) (S.faults source.new ≡ S.faults source.old)) }
     ensures numbers { (kinds : List ℕ) → AreChains A.law kinds chains.items →
         IfOk result (IsOfNumbers kinds (StablesTell W.saving stables.old.items stables.new.items) (map string_bytes words.now) (Rose (S.faults source.old) (S.faults source.new))) }

@@ -11,7 +11,7 @@ use Rattle.of_types.specs.Matching.{any_match}
 use Rattle.app_core.specs.declared.switch_port.SwitchPort.{SwitchPort}
 use Rattle.app_core.specs.Chain.{chain_after, firewall, part_next, reactions, routing, rule_of, slot, starting_chain}
 use Rattle.app_core.specs.Commands.{flow_mod, packet_out}
-use Rattle.app_core.specs.Routes.{levels, over_link, route, walks}
+use Rattle.app_core.specs.Routes.{levels, over_known_link, route, walks}
 use Rattle.app_core.specs.Routing.{frame_out}
 use Rattle.upgrade_tests.proofs.Computed.{Turn, asking, at, comes, frame, goes_down, to_host}
 
@@ -29,17 +29,17 @@ port switch number = record { switch = switch; port = number }
 -- ---- routes and levels
 
 whole : (route ring [] 2 0 ≡ Some (port 2 4 ∷ [])) × (levels ring [] 0 ≡ 0 ∷ 1 ∷ 1 ∷ [])
-unfolding route levels walks over_link
+unfolding route levels walks over_known_link
 whole = (refl, refl)
 
 -- the short way is down
 around : (route ring (port 0 4 ∷ []) 2 0 ≡ Some (port 2 3 ∷ port 1 3 ∷ [])) × (levels ring (port 0 4 ∷ []) 0 ≡ 0 ∷ 1 ∷ 2 ∷ [])
-unfolding route levels walks over_link
+unfolding route levels walks over_known_link
 around = (refl, refl)
 
 -- so is the long way
 apart : (route ring (port 0 4 ∷ port 1 3 ∷ []) 2 0 ≡ None) × (levels ring (port 0 4 ∷ port 1 3 ∷ []) 0 ≡ 0 ∷ 255 ∷ 255 ∷ [])
-unfolding route levels walks over_link
+unfolding route levels walks over_known_link
 apart = (refl, refl)
 
 -- ---- what routing asks
@@ -83,7 +83,7 @@ routes =
     ∷ []
 
 routes_alone : reactions (routing ∷ []) ring (map (λ turn. turn.event) routes) ≡ map (λ turn. turn.asks) routes
-unfolding reactions part_next rule_of route walks over_link
+unfolding reactions part_next rule_of route walks over_known_link
 routes_alone = refl
 
 -- version 4 is asked for
@@ -91,11 +91,11 @@ abbrev asks_to_route : Turn
 asks_to_route = at 0 (comes 48 (asking (4 ∷ []))) []
 
 routes_in_a_slot : reactions (firewall ∷ slot ∷ []) ring (map (λ turn. turn.event) (asks_to_route ∷ routes)) ≡ map (λ turn. turn.asks) (asks_to_route ∷ routes)
-unfolding reactions part_next rule_of route walks over_link
+unfolding reactions part_next rule_of route walks over_known_link
 routes_in_a_slot = refl
 
 -- it ends at version 4, which knows four hosts, and that port 4 of switch 0 is down
 ends_routing : chain_after (slot ∷ []) ring (starting_chain (slot ∷ [])) (map (λ turn. turn.event) (asks_to_route ∷ routes))
     ≡ (4 ∷ 4 ∷ 0 ∷ 0x020000000001 ∷ 1 ∷ 2 ∷ 0x020000000002 ∷ 1 ∷ 0 ∷ 0x020000000003 ∷ 1 ∷ 1 ∷ 0x020000000004 ∷ 1 ∷ 0 ∷ 4 ∷ []) ∷ []
-unfolding part_next rule_of route walks over_link
+unfolding part_next rule_of route walks over_known_link
 ends_routing = refl

@@ -15,10 +15,10 @@ use Rattle.vr_log.specs.Choosing.{has_collected, may_choose, best_of, front, rea
 use Rattle.vr_log.specs.Steps.{VrStep, Did, quiet, sends, later_of, then_step, is_sound, guarded}
 use Rattle.vr_log.specs.declared.message.VrMessage.{VrMessage}
 use Rattle.vr_log.specs.declared.message.VrMessage.TheVariants as message
-use Rattle.vr_log.specs.Valid.{IsValid}
+use Rattle.vr_log.specs.Valid.{IsValidState}
 use Rattle.vr_log.proofs.Steps.{did_then, sound_here}
 use Rattle.view_change.specs.Cases.{do_view_change, collect}
-use Rattle.view_change.specs.Entering.{enter, entered, collects, own_log, sends_log, votes, chooses, check}
+use Rattle.view_change.specs.Entering.{enter, entered_view, collects, own_log, sends_log, votes, chooses, check}
 
 -- a choice, state by state and step by step
 choice : {A : Type 0} (P : A → Type 0) (b : Bool) (x y : A) → P x → P y → P (if b then x else y)
@@ -133,13 +133,13 @@ sound_as a b new log commit = rw (log, commit) refl
 
 -- a view is entered, and Check is done: nothing of that is dropped
 pub entered_did : (s t t1 u : VrState) (view : ℕ) (next : VrState → VrState) (old mid new : VrOut) → Did (enter s view) t old mid → t1 ≡ next t → Did (guarded t1 (check t1)) u mid new →
-    (next (entered s view)).log ≡ s.log → (next (entered s view)).commit ≡ s.commit → is_sound s (check (next (entered s view))).state ≡ true →
+    (next (entered_view s view)).log ≡ s.log → (next (entered_view s view)).commit ≡ s.commit → is_sound s (check (next (entered_view s view))).state ≡ true →
     Did (guarded s (then_step (enter s view) (λ x. check (next x)))) u old new
 entered_did s t t1 u view next old mid new a is b log commit sound =
-    let same : t1 ≡ next (entered s view) = is ∙ ap next a.state_is in
-    let c : Did (guarded (next (entered s view)) (check (next (entered s view)))) u mid new = subst (λ (x : VrState). Did (guarded x (check x)) u mid new) same b in
-    let here : is_sound (next (entered s view)) (check (next (entered s view))).state ≡ true = sound_as (next (entered s view)) s (check (next (entered s view))).state log commit ∙ sound in
-    let d : Did (check (next (entered s view))) u mid new = subst (λ (o : Bool). Did (if o then check (next (entered s view)) else quiet (next (entered s view))) u mid new) here c in
+    let same : t1 ≡ next (entered_view s view) = is ∙ ap next a.state_is in
+    let c : Did (guarded (next (entered_view s view)) (check (next (entered_view s view)))) u mid new = subst (λ (x : VrState). Did (guarded x (check x)) u mid new) same b in
+    let here : is_sound (next (entered_view s view)) (check (next (entered_view s view))).state ≡ true = sound_as (next (entered_view s view)) s (check (next (entered_view s view))).state log commit ∙ sound in
+    let d : Did (check (next (entered_view s view))) u mid new = subst (λ (o : Bool). Did (if o then check (next (entered_view s view)) else quiet (next (entered_view s view))) u mid new) here c in
     let e : Did (check (next t)) u mid new = subst (λ (x : VrState). Did (check (next x)) u mid new) (sym a.state_is) d in
     subst (λ (o : Bool). Did (if o then then_step (enter s view) (λ x. check (next x)) else quiet s) u old new) (sym sound) (did_then (enter s view) (λ x. check (next x)) t u old mid new a e)
 
@@ -183,10 +183,10 @@ pub record Ready (s : VrState) : Type 0 where
   pub commit : s.commit ≤ length s.log
   pub supply : IfSome s.supply (λ supplied. supplied.first ≤ s.commit)
 
-pub collects_ready : (s t : VrState) (view : ℕ) (c : Collected) → IsValid s → t ≡ collects (entered s view) c → Ready t
+pub collects_ready : (s t : VrState) (view : ℕ) (c : Collected) → IsValidState s → t ≡ collects (entered_view s view) c → Ready t
 collects_ready s t view c v is =
     let some : 0 < s.controllers = let m = v.member in omega arith in
-    rw is (choice Ready (has_collected (entered s view) c.from) (entered s view) (record (entered s view) { collected = [] ++ c ∷ [] })
+    rw is (choice Ready (has_collected (entered_view s view) c.from) (entered_view s view) (record (entered_view s view) { collected = [] ++ c ∷ [] })
     (record { log = v.log; group = some; commit = v.commit; supply = tt }) (record { log = v.log; group = some; commit = v.commit; supply = tt }))
 
 -- the cases of the messages that bring entries

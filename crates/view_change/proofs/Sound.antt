@@ -14,9 +14,9 @@ use Rattle.vr_log.specs.Members.{is_changing, is_primary, is_other, most_failure
 use Rattle.vr_log.specs.Same.{same_entries}
 use Rattle.vr_log.specs.Choosing.{has_collected, may_choose, reaches, front}
 use Rattle.vr_log.specs.Steps.{VrStep, quiet, with_log, is_sound}
-use Rattle.vr_log.specs.Valid.{IsValid}
+use Rattle.vr_log.specs.Valid.{IsValidState}
 use Rattle.vr_log.proofs.Equal.{entries_equal, entries_same}
-use Rattle.view_change.specs.Entering.{entered, voted, collects, own_log, sends_log, starts, chooses_from, chooses, check}
+use Rattle.view_change.specs.Entering.{entered_view, voted, collects, own_log, sends_log, starts, chooses_from, chooses, check}
 
 no_end : (b : Bool) → (b && false) ≡ false
 no_end true = refl
@@ -115,11 +115,11 @@ entered_keeps s t le log commit none empty =
     own_case true off = absurd cc
     own_case false off = chooses_own s (record t { collected = t.collected ++ own_log t ∷ []; sent = true }) le log commit none (ap (λ (all : List Collected). all ++ own_log t ∷ []) empty)
 
-pub enters_sound : (s : VrState) (view : ℕ) → IsLog s.log → s.commit ≤ length s.log → is_sound s (check (entered s view)).state ≡ true
-enters_sound s view one le = sound_keeps s (check (entered s view)).state one (entered_keeps s (entered s view) le refl refl refl refl)
+pub enters_sound : (s : VrState) (view : ℕ) → IsLog s.log → s.commit ≤ length s.log → is_sound s (check (entered_view s view)).state ≡ true
+enters_sound s view one le = sound_keeps s (check (entered_view s view)).state one (entered_keeps s (entered_view s view) le refl refl refl refl)
 
-pub vote_sound : (s : VrState) (view from : ℕ) → IsLog s.log → s.commit ≤ length s.log → is_sound s (check (voted (entered s view) from)).state ≡ true
-vote_sound s view from one le = sound_keeps s (check (voted (entered s view) from)).state one (entered_keeps s (voted (entered s view) from) le refl refl refl refl)
+pub vote_sound : (s : VrState) (view from : ℕ) → IsLog s.log → s.commit ≤ length s.log → is_sound s (check (voted (entered_view s view) from)).state ≡ true
+vote_sound s view from one le = sound_keeps s (check (voted (entered_view s view) from)).state one (entered_keeps s (voted (entered_view s view) from) le refl refl refl refl)
 
 -- nor does one with the log of another member alone
 others_keeps : (s t : VrState) (c : Collected) → Keeps s t → t.votes ≡ [] → t.collected ≡ c ∷ [] → nat_eq c.from t.me ≡ false → 0 < most_failures t → Keeps s (check t).state
@@ -150,8 +150,8 @@ some_fail s from group member other =
     off false e = refl
     off true e = absurd cc
 
-pub collect_sound : (s : VrState) (view : ℕ) (c : Collected) → IsValid s → is_other s c.from ≡ true → is_sound s (check (collects (entered s view) c)).state ≡ true
+pub collect_sound : (s : VrState) (view : ℕ) (c : Collected) → IsValidState s → is_other s c.from ≡ true → is_sound s (check (collects (entered_view s view) c)).state ≡ true
 collect_sound s view c v other =
     let f = some_fail s c.from v.group v.member other in
-    sound_keeps s (check (collects (entered s view) c)).state v.log
-    (others_keeps s (collects (entered s view) c) c (record { log = refl; commit = v.commit }) refl refl f.1 f.0)
+    sound_keeps s (check (collects (entered_view s view) c)).state v.log
+    (others_keeps s (collects (entered_view s view) c) c (record { log = refl; commit = v.commit }) refl refl f.1 f.0)

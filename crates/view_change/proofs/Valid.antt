@@ -14,11 +14,11 @@ use Rattle.vr_log.specs.declared.state.VrState.{VrState}
 use Rattle.vr_log.specs.Members.{is_changing, is_primary, is_primary_of, is_other, is_later, leads, most_failures}
 use Rattle.vr_log.specs.Choosing.{has_collected, may_choose, best_of, is_better, least_commit, greatest_commit, front, reaches}
 use Rattle.vr_log.specs.Steps.{VrStep, quiet, guarded}
-use Rattle.vr_log.specs.Valid.{AreMembers, IsValid}
+use Rattle.vr_log.specs.Valid.{AreMembers, IsValidState}
 use Rattle.vr_log.proofs.Valid.{either, chosen_by, nobody, Sound, guarded_valid}
-use Rattle.view_change.specs.Adopting.{adopted, adopts, adopt}
-use Rattle.view_change.specs.Entering.{entered, voted, collects, own_log, sends_log, votes, starts, chooses_from, check}
-use Rattle.view_change.specs.Cases.{enters, vote_later, vote_here, collect_later, collect, do_view_change, is_wanted, supplied}
+use Rattle.view_change.specs.Adopting.{adopted_log, adopts, adopt}
+use Rattle.view_change.specs.Entering.{entered_view, voted, collects, own_log, sends_log, votes, starts, chooses_from, check}
+use Rattle.view_change.specs.Cases.{enters, vote_later, vote_here, collect_later, collect, do_view_change, is_message_wanted, supplied}
 
 -- names of members, one more of them
 all_both : (P : ℕ → Type 0) (xs ys : List ℕ) → AllByRecursion P xs → AllByRecursion P ys → AllByRecursion P (xs ++ ys)
@@ -97,7 +97,7 @@ distinct_push (x ∷ cs) c d none =
     let p = or_parts (nat_eq x.from c.from) (list_any (λ y. nat_eq y.from c.from) cs) none in
     (all_push (λ y. nat_eq x.from y ≡ false) cs c d.0 p.0, distinct_push cs c d.1 p.1)
 
-pub entered_valid : (s : VrState) (view : ℕ) → IsValid s → IsValid (entered s view)
+pub entered_valid : (s : VrState) (view : ℕ) → IsValidState s → IsValidState (entered_view s view)
 entered_valid s view v = record {
   log = v.log;
   group = v.group;
@@ -111,7 +111,7 @@ entered_valid s view v = record {
   supply = tt;
 }
 
-pub voted_valid : (s : VrState) (from : ℕ) → IsValid s → from < s.controllers → IsValid (voted s from)
+pub voted_valid : (s : VrState) (from : ℕ) → IsValidState s → from < s.controllers → IsValidState (voted s from)
 voted_valid s from v lt = record {
   log = v.log;
   group = v.group;
@@ -125,7 +125,7 @@ voted_valid s from v lt = record {
   supply = v.supply;
 }
 
-joined_valid : (s : VrState) (c : Collected) → IsValid s → c.from < s.controllers → has_collected s c.from ≡ false → IsValid (record s { collected = s.collected ++ c ∷ [] })
+joined_valid : (s : VrState) (c : Collected) → IsValidState s → c.from < s.controllers → has_collected s c.from ≡ false → IsValidState (record s { collected = s.collected ++ c ∷ [] })
 joined_valid s c v lt none = record {
   log = v.log;
   group = v.group;
@@ -139,14 +139,14 @@ joined_valid s c v lt none = record {
   supply = v.supply;
 }
 
-pub collects_valid : (s : VrState) (c : Collected) → IsValid s → c.from < s.controllers → IsValid (collects s c)
+pub collects_valid : (s : VrState) (c : Collected) → IsValidState s → c.from < s.controllers → IsValidState (collects s c)
 collects_valid s c v lt = chosen (has_collected s c.from) refl
   where
-    chosen : (b : Bool) → has_collected s c.from ≡ b → IsValid (if b then s else record s { collected = s.collected ++ c ∷ [] })
+    chosen : (b : Bool) → has_collected s c.from ≡ b → IsValidState (if b then s else record s { collected = s.collected ++ c ∷ [] })
     chosen true e = v
     chosen false e = joined_valid s c v lt e
 
-sent_valid : (s : VrState) → IsValid s → IsValid (record s { sent = true })
+sent_valid : (s : VrState) → IsValidState s → IsValidState (record s { sent = true })
 sent_valid s v = record {
   log = v.log;
   group = v.group;
@@ -160,10 +160,10 @@ sent_valid s v = record {
   supply = v.supply;
 }
 
-votes_valid : (s : VrState) → IsValid s → IsValid (votes s).state
+votes_valid : (s : VrState) → IsValidState s → IsValidState (votes s).state
 votes_valid s v =
-    either IsValid (nat_le (most_failures s) (length s.votes) && not s.sent) (sends_log s) (quiet s)
-    (either IsValid (is_primary s) _ _ (sent_valid (collects s (own_log s)) (collects_valid s (own_log s) v v.member)) (sent_valid s v)) v
+    either IsValidState (nat_le (most_failures s) (length s.votes) && not s.sent) (sends_log s) (quiet s)
+    (either IsValidState (is_primary s) _ _ (sent_valid (collects s (own_log s)) (collects_valid s (own_log s) v v.member)) (sent_valid s v)) v
 
 -- the least commit number is at most the others
 least_best : (least : ℕ) (best : Collected) (cs : List Collected) → least ≤ best.commit → least_commit least cs ≤ (best_of best cs).commit
@@ -180,9 +180,9 @@ least_most least most (d ∷ cs) le = least_most (min least d.commit) (max most 
 
 -- what a step leaves is valid, where its log is one and reaches the commit number
 abbrev Passes : VrState → Type 0
-Passes t = Sound t t → IsValid t
+Passes t = Sound t t → IsValidState t
 
-started_passes : (s : VrState) (c : Collected) (cs : List Collected) → IsValid s → reaches s (best_of c cs) ≡ true → Passes (starts s c cs).state
+started_passes : (s : VrState) (c : Collected) (cs : List Collected) → IsValidState s → reaches s (best_of c cs) ≡ true → Passes (starts s c cs).state
 started_passes s c cs v far sound =
     let log : List Entry = take (best_of c cs).commit (front s) ++ (best_of c cs).log in
     let reach = leb-true (best_of c cs).commit (length (front s)) far in
@@ -205,48 +205,48 @@ started_passes s c cs v far sound =
     chosen true n x y p q = p
     chosen false n x y p q = q
 
-chooses_from_passes : (s : VrState) (cs : List Collected) → IsValid s → Passes (chooses_from s cs).state
+chooses_from_passes : (s : VrState) (cs : List Collected) → IsValidState s → Passes (chooses_from s cs).state
 chooses_from_passes s [] v = λ sound. v
 chooses_from_passes s (c ∷ cs) v = chosen_by Passes (reaches s (best_of c cs)) (starts s c cs) _ (λ e. started_passes s c cs v e) (λ e sound. v)
 
-check_passes : (s : VrState) → IsValid s → Passes (check s).state
+check_passes : (s : VrState) → IsValidState s → Passes (check s).state
 check_passes s v =
     let t = votes_valid s v in
     either Passes (may_choose (votes s).state) (chooses_from (votes s).state (votes s).state.collected) (quiet (votes s).state) (chooses_from_passes (votes s).state (votes s).state.collected t) (λ sound. t)
 
 -- a guarded step that ends in Check
-check_valid : (s t : VrState) (step : VrStep) → IsValid s → IsValid t → step.state ≡ (check t).state → IsValid (guarded s step).state
-check_valid s t step v w is = guarded_valid s step v (λ sound. subst (λ (x : VrState). IsValid x) (sym is) (check_passes t w (rw (sym is) (record { log = sound.log; commit = sound.commit }))))
+check_valid : (s t : VrState) (step : VrStep) → IsValidState s → IsValidState t → step.state ≡ (check t).state → IsValidState (guarded s step).state
+check_valid s t step v w is = guarded_valid s step v (λ sound. subst (λ (x : VrState). IsValidState x) (sym is) (check_passes t w (rw (sym is) (record { log = sound.log; commit = sound.commit }))))
 
-pub enters_valid : (s : VrState) (view : ℕ) → IsValid s → IsValid (guarded s (enters s view)).state
-enters_valid s view v = check_valid s (entered s view) (enters s view) v (entered_valid s view v) refl
+pub enters_valid : (s : VrState) (view : ℕ) → IsValidState s → IsValidState (guarded s (enters s view)).state
+enters_valid s view v = check_valid s (entered_view s view) (enters s view) v (entered_valid s view v) refl
 
 other_below : (s : VrState) (from : ℕ) → is_other s from ≡ true → from < s.controllers
 other_below s from h = ltb-true from s.controllers (and_parts (nat_lt from s.controllers) (not (nat_eq from s.me)) h).0
 
-pub vote_later_valid : (s : VrState) (from view : ℕ) → IsValid s → is_other s from ≡ true → IsValid (vote_later s from view).state
+pub vote_later_valid : (s : VrState) (from view : ℕ) → IsValidState s → is_other s from ≡ true → IsValidState (vote_later s from view).state
 vote_later_valid s from view v other =
-    check_valid s (voted (entered s view) from) _ v (voted_valid (entered s view) from (entered_valid s view v) (other_below s from other)) refl
+    check_valid s (voted (entered_view s view) from) _ v (voted_valid (entered_view s view) from (entered_valid s view v) (other_below s from other)) refl
 
-pub vote_here_valid : (s : VrState) (from : ℕ) → IsValid s → is_other s from ≡ true → IsValid (vote_here s from).state
+pub vote_here_valid : (s : VrState) (from : ℕ) → IsValidState s → is_other s from ≡ true → IsValidState (vote_here s from).state
 vote_here_valid s from v other =
-    either IsValid (is_changing s) _ _ (check_valid s (voted s from) (check (voted s from)) v (voted_valid s from v (other_below s from other)) refl) (either IsValid (leads s) _ _ v v)
+    either IsValidState (is_changing s) _ _ (check_valid s (voted s from) (check (voted s from)) v (voted_valid s from v (other_below s from other)) refl) (either IsValidState (leads s) _ _ v v)
 
-pub do_view_change_valid : (s : VrState) (from : ℕ) (m : VrMessage) → IsValid s → IsValid (do_view_change s from m).state
+pub do_view_change_valid : (s : VrState) (from : ℕ) (m : VrMessage) → IsValidState s → IsValidState (do_view_change s from m).state
 do_view_change_valid s from (DoViewChange view normal commit log) v =
-    chosen_by IsValid (is_other s from) _ _
+    chosen_by IsValidState (is_other s from) _ _
     (λ other.
     let lt = other_below s from other in
     let c : Collected = record { from = from; normal = normal; commit = commit; log = log } in
-    either IsValid (is_primary_of s s.me view) (collect s view c) (quiet s)
-    (either IsValid (is_later s view) (collect_later s view c) _
-    (check_valid s (collects (entered s view) c) _ v (collects_valid (entered s view) c (entered_valid s view v) lt) refl)
-    (either IsValid (nat_eq view s.view && is_changing s) (guarded s (check (collects s c))) (quiet s) (check_valid s (collects s c) (check (collects s c)) v (collects_valid s c v lt) refl) v))
+    either IsValidState (is_primary_of s s.me view) (collect s view c) (quiet s)
+    (either IsValidState (is_later s view) (collect_later s view c) _
+    (check_valid s (collects (entered_view s view) c) _ v (collects_valid (entered_view s view) c (entered_valid s view v) lt) refl)
+    (either IsValidState (nat_eq view s.view && is_changing s) (guarded s (check (collects s c))) (quiet s) (check_valid s (collects s c) (check (collects s c)) v (collects_valid s c v lt) refl) v))
     v)
     (λ no. v)
 do_view_change_valid s from _ v = v
 
-adopted_passes : (s : VrState) (view first commit : ℕ) (log : List Entry) → IsValid s → Passes (adopted s view first commit log)
+adopted_passes : (s : VrState) (view first commit : ℕ) (log : List Entry) → IsValidState s → Passes (adopted_log s view first commit log)
 adopted_passes s view first commit log v sound = record {
   log = sound.log;
   group = v.group;
@@ -260,14 +260,14 @@ adopted_passes s view first commit log v sound = record {
   supply = tt;
 }
 
-pub adopt_passes : (s : VrState) (view first commit : ℕ) (log : List Entry) → IsValid s → Passes (adopt s view first commit log).state
+pub adopt_passes : (s : VrState) (view first commit : ℕ) (log : List Entry) → IsValidState s → Passes (adopt s view first commit log).state
 adopt_passes s view first commit log v = either Passes (nat_lt s.commit first) _ (adopts s view first commit log) (λ sound. v) (adopted_passes s view first commit log v)
 
-pub adopt_valid : (s : VrState) (view first commit : ℕ) (log : List Entry) → IsValid s → IsValid (guarded s (adopt s view first commit log)).state
+pub adopt_valid : (s : VrState) (view first commit : ℕ) (log : List Entry) → IsValidState s → IsValidState (guarded s (adopt s view first commit log)).state
 adopt_valid s view first commit log v =
     guarded_valid s (adopt s view first commit log) v (λ sound. adopt_passes s view first commit log v (record { log = sound.log; commit = sound.commit }))
 
-supplied_valid : (s : VrState) (first : ℕ) (log : List Entry) → IsValid s → first ≤ s.commit → IsValid (supplied s first log)
+supplied_valid : (s : VrState) (first : ℕ) (log : List Entry) → IsValidState s → first ≤ s.commit → IsValidState (supplied s first log)
 supplied_valid s first log v le = record {
   log = v.log;
   group = v.group;
@@ -281,9 +281,9 @@ supplied_valid s first log v le = record {
   supply = le;
 }
 
-wanted_first : (s : VrState) (view first : ℕ) (log : List Entry) → is_wanted s view first log ≡ true → first ≤ s.commit
+wanted_first : (s : VrState) (view first : ℕ) (log : List Entry) → is_message_wanted s view first log ≡ true → first ≤ s.commit
 wanted_first s view first log h = grind (arith, nat_tests)
 
-pub wanted_valid : (s : VrState) (view first : ℕ) (log : List Entry) → IsValid s → is_wanted s view first log ≡ true → IsValid (guarded s (check (supplied s first log))).state
+pub wanted_valid : (s : VrState) (view first : ℕ) (log : List Entry) → IsValidState s → is_message_wanted s view first log ≡ true → IsValidState (guarded s (check (supplied s first log))).state
 wanted_valid s view first log v wanted =
     check_valid s (supplied s first log) (check (supplied s first log)) v (supplied_valid s first log v (wanted_first s view first log wanted)) refl

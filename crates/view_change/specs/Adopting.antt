@@ -9,8 +9,8 @@ use Rattle.vr_log.specs.Members.{primary_of}
 use Rattle.vr_log.specs.Steps.{VrStep, asks, letter}
 
 -- the log is the member's own first entries, and those that came behind them
-abbrev pub adopted : VrState → ℕ → ℕ → ℕ → List Entry → VrState
-adopted s view first commit log =
+abbrev pub adopted_log : VrState → ℕ → ℕ → ℕ → List Entry → VrState
+adopted_log s view first commit log =
     record s {
       promise = max s.promise view;
       view = view;
@@ -29,9 +29,9 @@ adopt_letters s commit =
 abbrev pub adopts : VrState → ℕ → ℕ → ℕ → List Entry → VrStep
 adopts s view first commit log =
     record {
-      state = adopted s view first commit log;
+      state = adopted_log s view first commit log;
       promise = if nat_lt s.promise view then Some view else None;
-      letters = adopt_letters (adopted s view first commit log) commit;
+      letters = adopt_letters (adopted_log s view first commit log) commit;
     }
 
 -- entries that begin behind what is committed here leave a gap, and are asked for from there on

@@ -74,8 +74,8 @@ fetch s from (message.Fetch view op) =
 fetch s from _ = quiet s
 
 -- SUPPLY: a primary keeps entries that go beyond those it has
-abbrev pub is_wanted : VrState → ℕ → ℕ → List Entry → Bool
-is_wanted s view first log =
+abbrev pub is_message_wanted : VrState → ℕ → ℕ → List Entry → Bool
+is_message_wanted s view first log =
     is_change s view && is_primary s && nat_le first s.commit && nat_lt (length (front s)) (first + length log)
 
 abbrev pub supplied : VrState → ℕ → List Entry → VrState
@@ -84,6 +84,6 @@ supplied s first log = record s { supply = Some (record { first = first; log = l
 abbrev pub supply : VrState → ℕ → VrMessage → VrStep
 supply s from (message.Supply view first log) =
     if is_other s from
-    then (if is_wanted s view first log then guarded s (check (supplied s first log)) else quiet s)
+    then (if is_message_wanted s view first log then guarded s (check (supplied s first log)) else quiet s)
     else quiet s
 supply s from _ = quiet s

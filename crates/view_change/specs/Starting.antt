@@ -9,11 +9,11 @@ use Rattle.vr_log.specs.Choosing.{best_of, least_commit, greatest_commit, front}
 use Rattle.view_change.specs.declared.starting.Start.{Start}
 
 -- the log is taken, with the greatest commit number; in a group of one all of it is committed
-abbrev pub chosen : VrState → ℕ → List Entry → ℕ → VrState
-chosen s first entries most =
+abbrev pub chosen_vote : VrState → ℕ → List Entry → ℕ → VrState
+chosen_vote s first entries most =
     with_log s first entries (if nat_eq (most_failures s) 0 then length (take first s.log ++ entries) else most)
 
-pub record IsStart (s : VrState) (c : Collected) (collected : List Collected) (start : Start) : Type 0 where
+pub record IsViewStart (s : VrState) (c : Collected) (collected : List Collected) (start : Start) : Type 0 where
   pub first : start.first ≤ s.commit
   pub log : take start.first s.log ++ start.entries ≡ take (best_of c collected).commit (front s) ++ (best_of c collected).log
   pub least : start.least ≡ least_commit c.commit collected

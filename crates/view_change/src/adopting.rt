@@ -1,9 +1,9 @@
 //! How a member takes the log of a view that has started.
 ghost use Rattle.std.specs.Prelude.{◌≡◌, ◌≤◌, IfOk, OnOk};
 ghost use Rattle.vr_log.specs.Steps.{Did, is_sound, guarded};
-ghost use Rattle.vr_log.specs.Valid.{IsValid};
+ghost use Rattle.vr_log.specs.Valid.{IsValidState};
 ghost use Rattle.view_change.specs.Adopting as adopting;
-ghost use Rattle.view_change.specs.Adopting.{adopted, adopts};
+ghost use Rattle.view_change.specs.Adopting.{adopted_log, adopts};
 
 use std::alloc::AllocError;
 use vr_log::{Entries, Status, VrMessage, VrOut, VrState};
@@ -17,7 +17,7 @@ fn take_log(
     log: Entries,
     out: &mut VrOut,
 ) -> Result<bool, AllocError>
-    requires valid { IsValid state.old }
+    requires valid { IsValidState state.old }
     requires first { first ≤ state.old.commit }
     ensures kept { IfOk result (λ kept. kept ≡ is_sound state.old (adopts state.old view first commit log).state) }
     ensures step { OnOk result (Did (guarded state.old (adopts state.old view first commit log)) state.new out.old out.new) }
@@ -51,7 +51,7 @@ pub fn adopt(
     log: Entries,
     out: &mut VrOut,
 ) -> Result<bool, AllocError>
-    requires { IsValid state.old }
+    requires { IsValidState state.old }
     ensures kept { IfOk result (λ kept. kept ≡ is_sound state.old (adopting.adopt state.old view first commit log).state) }
     ensures step { OnOk result (Did (guarded state.old (adopting.adopt state.old view first commit log)) state.new out.old out.new) }
 {

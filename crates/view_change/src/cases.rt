@@ -3,7 +3,7 @@
 ghost use Rattle.std.specs.Prelude.{◌≡◌, ◌≤◌, true, length, drop, take, IfOk, OnOk};
 ghost use Rattle.vr_log.specs.Members.{is_other};
 ghost use Rattle.vr_log.specs.Steps.{Did, guarded};
-ghost use Rattle.vr_log.specs.Valid.{IsValid};
+ghost use Rattle.vr_log.specs.Valid.{IsValidState};
 ghost use Rattle.view_change.specs.Cases as cases;
 ghost use Rattle.view_change.specs.Entering as entering;
 ghost use Rattle.view_change.specs.Entering.{voted, collects};
@@ -20,9 +20,9 @@ use vr_log::{
 
 /// A view is suspected to have failed: this later one is entered.
 pub fn suspect(state: &mut VrState, view: u32, out: &mut VrOut) -> Result<(), AllocError>
-    requires { IsValid state.old }
+    requires { IsValidState state.old }
     ensures step { OnOk result (Did (cases.suspect state.old view) state.new out.old out.new) }
-    ensures valid { OnOk result (IsValid state.new) }
+    ensures valid { OnOk result (IsValidState state.new) }
 {
     if state.is_later(view) {
         enter_and_check(state, view, out)
@@ -41,7 +41,7 @@ fn take_vote(state: &mut VrState, from: u8) -> Result<Members, AllocError>
 }
 
 fn vote_later(state: &mut VrState, from: u8, view: u32, out: &mut VrOut) -> Result<(), AllocError>
-    requires { IsValid state.old }
+    requires { IsValidState state.old }
     ensures { OnOk result (Did (cases.vote_later state.old from view) state.new out.old out.new) }
 {
     enter(state, view, out)?;
@@ -52,7 +52,7 @@ fn vote_later(state: &mut VrState, from: u8, view: u32, out: &mut VrOut) -> Resu
 
 /// A vote for the view that changes.
 fn vote_changing(state: &mut VrState, from: u8, out: &mut VrOut) -> Result<(), AllocError>
-    requires { IsValid state.old }
+    requires { IsValidState state.old }
     ensures { OnOk result (Did (guarded state.old (entering.check (voted state.old from))) state.new out.old out.new) }
 {
     let former = take_vote(state, from)?;
@@ -64,7 +64,7 @@ fn vote_changing(state: &mut VrState, from: u8, out: &mut VrOut) -> Result<(), A
 }
 
 fn vote_here(state: &mut VrState, from: u8, out: &mut VrOut) -> Result<(), AllocError>
-    requires { IsValid state.old }
+    requires { IsValidState state.old }
     ensures { OnOk result (Did (cases.vote_here state.old from) state.new out.old out.new) }
 {
     if state.is_changing() {
@@ -84,9 +84,9 @@ pub fn on_start_view_change(
     message: &VrMessage,
     out: &mut VrOut,
 ) -> Result<(), AllocError>
-    requires { IsValid state.old }
+    requires { IsValidState state.old }
     ensures step { OnOk result (Did (cases.start_view_change state.old from message.now) state.new out.old out.new) }
-    ensures valid { OnOk result (IsValid state.new) }
+    ensures valid { OnOk result (IsValidState state.new) }
 {
     match message {
         VrMessage::StartViewChange { view } => {
@@ -110,7 +110,7 @@ fn collect_later(
     log: Collected,
     out: &mut VrOut,
 ) -> Result<(), AllocError>
-    requires valid { IsValid state.old }
+    requires valid { IsValidState state.old }
     requires other { is_other state.old log.from ≡ true }
     ensures { OnOk result (Did (cases.collect_later state.old view log) state.new out.old out.new) }
 {
@@ -122,7 +122,7 @@ fn collect_later(
 
 /// A log for the view that changes.
 fn collect_changing(state: &mut VrState, log: Collected, out: &mut VrOut) -> Result<(), AllocError>
-    requires { IsValid state.old }
+    requires { IsValidState state.old }
     ensures { OnOk result (Did (guarded state.old (entering.check (collects state.old log))) state.new out.old out.new) }
 {
     let len = state.collected.len();
@@ -141,7 +141,7 @@ fn collect_told(
     log: Collected,
     out: &mut VrOut,
 ) -> Result<(), AllocError>
-    requires valid { IsValid state.old }
+    requires valid { IsValidState state.old }
     requires other { is_other state.old log.from ≡ true }
     ensures { OnOk result (Did (cases.collect state.old view log) state.new out.old out.new) }
 {
@@ -161,9 +161,9 @@ pub fn on_do_view_change(
     message: &VrMessage,
     out: &mut VrOut,
 ) -> Result<(), AllocError>
-    requires { IsValid state.old }
+    requires { IsValidState state.old }
     ensures step { OnOk result (Did (cases.do_view_change state.old from message.now) state.new out.old out.new) }
-    ensures valid { OnOk result (IsValid state.new) }
+    ensures valid { OnOk result (IsValidState state.new) }
 {
     match message {
         VrMessage::DoViewChange {
@@ -197,9 +197,9 @@ pub fn on_start_view(
     message: &VrMessage,
     out: &mut VrOut,
 ) -> Result<(), AllocError>
-    requires { IsValid state.old }
+    requires { IsValidState state.old }
     ensures step { OnOk result (Did (cases.start_view state.old from message.now) state.new out.old out.new) }
-    ensures valid { OnOk result (IsValid state.new) }
+    ensures valid { OnOk result (IsValidState state.new) }
 {
     match message {
         VrMessage::StartView {
@@ -246,9 +246,9 @@ pub fn on_fetch(
     message: &VrMessage,
     out: &mut VrOut,
 ) -> Result<(), AllocError>
-    requires { IsValid state.old }
+    requires { IsValidState state.old }
     ensures step { OnOk result (Did (cases.fetch state.old from message.now) state.new out.old out.new) }
-    ensures valid { IsValid state.new }
+    ensures valid { IsValidState state.new }
 {
     match message {
         VrMessage::Fetch { view, op } => {
@@ -268,8 +268,8 @@ pub fn on_fetch(
 
 /// Whether supplied entries go beyond the committed ones that this primary has.
 fn is_wanted(state: &VrState, view: u32, first: u64, log: &[Entry]) -> bool
-    requires { IsValid state.now }
-    ensures { result ≡ cases.is_wanted state.now view first log.now }
+    requires { IsValidState state.now }
+    ensures { result ≡ cases.is_message_wanted state.now view first log.now }
 {
     is_change(state, view)
         && state.is_primary()
@@ -283,7 +283,7 @@ fn take_supply(
     first: u64,
     log: &[Entry],
 ) -> Result<Option<Supplied>, AllocError>
-    requires valid { IsValid state.old }
+    requires valid { IsValidState state.old }
     requires first { first ≤ state.old.commit }
     ensures former { IfOk result (λ former. former ≡ state.old.supply) }
     ensures state { OnOk result (state.new ≡ cases.supplied state.old first log.now) }
@@ -299,7 +299,7 @@ fn keep_supply(
     log: &[Entry],
     out: &mut VrOut,
 ) -> Result<(), AllocError>
-    requires valid { IsValid state.old }
+    requires valid { IsValidState state.old }
     requires first { first ≤ state.old.commit }
     ensures { OnOk result (Did (guarded state.old (entering.check (cases.supplied state.old first log.now))) state.new out.old out.new) }
 {
@@ -318,9 +318,9 @@ pub fn on_supply(
     message: &VrMessage,
     out: &mut VrOut,
 ) -> Result<(), AllocError>
-    requires { IsValid state.old }
+    requires { IsValidState state.old }
     ensures step { OnOk result (Did (cases.supply state.old from message.now) state.new out.old out.new) }
-    ensures valid { OnOk result (IsValid state.new) }
+    ensures valid { OnOk result (IsValidState state.new) }
 {
     match message {
         VrMessage::Supply { view, first, log } => {

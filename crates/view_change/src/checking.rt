@@ -2,7 +2,7 @@
 ghost use Rattle.std.specs.Prelude.{◌≡◌, ◌<◌, ◌≤◌, length, IfSome, IfOk, OnOk};
 ghost use Rattle.vr_log.specs.Log.{IsLog};
 ghost use Rattle.vr_log.specs.Steps.{Did, is_sound, guarded};
-ghost use Rattle.vr_log.specs.Valid.{IsValid};
+ghost use Rattle.vr_log.specs.Valid.{IsValidState};
 ghost use Rattle.view_change.specs.Cases.{enters};
 ghost use Rattle.view_change.specs.Entering as entering;
 
@@ -35,7 +35,7 @@ pub(crate) fn check(state: &mut VrState, out: &mut VrOut) -> Result<bool, AllocE
 
 /// Enters a later view, and does Check. After an `Err` the state is to be dropped.
 pub fn enter_and_check(state: &mut VrState, view: u32, out: &mut VrOut) -> Result<(), AllocError>
-    requires { IsValid state.old }
+    requires { IsValidState state.old }
     ensures { OnOk result (Did (guarded state.old (enters state.old view)) state.new out.old out.new) }
 {
     enter(state, view, out)?;

@@ -4,8 +4,8 @@ ghost use Rattle.vr_log.specs.Choosing as choosing;
 ghost use Rattle.vr_log.specs.Log.{IsLog};
 ghost use Rattle.vr_log.specs.Steps.{Did, is_sound, guarded};
 ghost use Rattle.view_change.specs.Entering as entering;
-ghost use Rattle.view_change.specs.Entering.{started, tells_start, chooses};
-ghost use Rattle.view_change.specs.Starting.{IsStart, chosen};
+ghost use Rattle.view_change.specs.Entering.{started_view, tells_start, chooses};
+ghost use Rattle.view_change.specs.Starting.{IsViewStart, chosen_vote};
 
 use std::alloc::AllocError;
 use vr_log::{Acked, Collected, Entries, Status, VrMessage, VrOut, VrState, append_entries};
@@ -75,7 +75,7 @@ fn start_of(
     requires commit { state.now.commit ≤ length state.now.log }
     requires supply { IfSome state.now.supply (λ supplied. supplied.first ≤ state.now.commit) }
     requires best { best.now ≡ choosing.best_of first.now rest.now }
-    ensures { IfOk result (λ start. IsStart state.now first.now rest.now start) }
+    ensures { IfOk result (λ start. IsViewStart state.now first.now rest.now start) }
 {
     let (place, mut entries) = front_entries(state, best.commit)?;
     append_entries(&mut entries, best.log.as_slice())?;
@@ -99,8 +99,8 @@ fn take_chosen(
 ) -> Result<bool, AllocError>
     requires first { first ≤ state.old.commit }
     requires commit { state.old.commit ≤ length state.old.log }
-    ensures answer { IfOk result (λ kept. kept ≡ is_sound state.old (chosen state.old first entries most)) }
-    ensures after { IfOk result (λ kept. state.new ≡ (if kept then chosen state.old first entries most else state.old)) }
+    ensures answer { IfOk result (λ kept. kept ≡ is_sound state.old (chosen_vote state.old first entries most)) }
+    ensures after { IfOk result (λ kept. state.new ≡ (if kept then chosen_vote state.old first entries most else state.old)) }
 {
     if state.most_failures() != 0 {
         return state.replace_log(first, entries, most);
@@ -116,8 +116,8 @@ fn take_chosen(
 fn begin(state: &mut VrState, start: Start, out: &mut VrOut) -> Result<bool, AllocError>
     requires first { start.first ≤ state.old.commit }
     requires commit { state.old.commit ≤ length state.old.log }
-    ensures kept { IfOk result (λ kept. kept ≡ is_sound state.old (started state.old (take start.first state.old.log ++ start.entries) start.least start.most)) }
-    ensures step { OnOk result (Did (guarded state.old (tells_start (started state.old (take start.first state.old.log ++ start.entries) start.least start.most))) state.new out.old out.new) }
+    ensures kept { IfOk result (λ kept. kept ≡ is_sound state.old (started_view state.old (take start.first state.old.log ++ start.entries) start.least start.most)) }
+    ensures step { OnOk result (Did (guarded state.old (tells_start (started_view state.old (take start.first state.old.log ++ start.entries) start.least start.most))) state.new out.old out.new) }
 {
     if !take_chosen(state, start.first, start.entries, start.most)? {
         return Ok(false);

@@ -18,8 +18,8 @@ use Rattle.vr_log.specs.declared.message.Filled.{Filled}
 use Rattle.vr_log.specs.declared.message.VrMessage.{VrMessage}
 use Rattle.vr_log.specs.declared.message.VrMessage.TheVariants as message
 use Rattle.vr_log.specs.Log.{log_entries, log_bytes}
-use Rattle.vr_codec.specs.Grammar.{IsReceived, IsProcessed, SpellsEntry, SpellsEntries, SpellsLog, IsPrepare, IsNumbered, IsStartViewChange, IsDoViewChange, IsLogBehind, IsSupply, IsRecovery, IsFilled, SpellsFilled, IsResponse, SpellsVr}
-use Rattle.vr_codec.specs.Reading.{event_at, told_at, received_at, processed_at, entry_at, entries_at, log_at, last_entry_at, last_log_at, numbered_at, start_view_change_at, recovery_at, prepare_at, do_view_change_at, filled_at, option_at, response_at, log_behind_at, supply_at, body_at, vr_at}
+use Rattle.vr_codec.specs.Grammar.{IsReceived, IsProcessed, SpellsEntry, SpellsEntries, SpellsLog, IsPrepare, IsViewAndNumber, IsStartViewChange, IsDoViewChange, IsLogBehind, IsSupply, IsRecovery, IsFilled, SpellsFilled, IsResponse, SpellsVr}
+use Rattle.vr_codec.specs.Reading.{event_at, told_at, received_at, processed_at, entry_at, entries_at, log_at, last_entry_at, last_log_at, numbered_at, start_view_change_at, recovery_at, prepare_at, do_view_change_at, filled_at, option_at, response_at, log_behind_at, supply_at, vr_body_at, vr_at}
 
 -- ---- entries
 
@@ -107,7 +107,7 @@ last_log_again bytes log s = rw (log_again bytes log s) refl
 
 -- ---- messages
 
-numbered_again : (bytes : List ℕ) (kind view n : ℕ) → IsNumbered bytes kind view n → numbered_at bytes ≡ Ok (view, n)
+numbered_again : (bytes : List ℕ) (kind view n : ℕ) → IsViewAndNumber bytes kind view n → numbered_at bytes ≡ Ok (view, n)
 unfolding numbered_at
 numbered_again bytes kind view n s = rw (s.whole, s.view_is, s.number_is) refl
 
@@ -156,7 +156,7 @@ unfolding log_behind_at
 log_behind_again bytes kind view first commit log s =
     rw (le-ltb (length bytes) 21 s.front.there, last_log_again (drop 21 bytes) log s.log_is, s.view_is, s.first_is, s.commit_is) refl
 
-front_again : (bytes : List ℕ) (kind size : ℕ) (m : VrMessage) → size ≤ length bytes → 1 ≤ size → number 1 0 bytes ≡ kind → body_at kind bytes ≡ Ok m → vr_at bytes ≡ Ok m
+front_again : (bytes : List ℕ) (kind size : ℕ) (m : VrMessage) → size ≤ length bytes → 1 ≤ size → number 1 0 bytes ≡ kind → vr_body_at kind bytes ≡ Ok m → vr_at bytes ≡ Ok m
 unfolding vr_at
 front_again bytes kind size m there one k e = rw (le-ltb (length bytes) 1 (omega arith), k) e
 
@@ -164,7 +164,7 @@ same_size : (a b : ℕ) → a ≡ b → b ≤ a
 same_size a b e = omega arith
 
 pub vr_again : (bytes : List ℕ) (m : VrMessage) → SpellsVr bytes m → vr_at bytes ≡ Ok m
-unfolding body_at
+unfolding vr_body_at
 vr_again bytes (message.Prepare view op commit entry) s =
     front_again bytes 1 21 _ s.front.there (omega arith) s.front.kind_is (prepare_again bytes view op commit entry s)
 vr_again bytes (message.PrepareOk view op) s =

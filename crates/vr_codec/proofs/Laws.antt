@@ -7,7 +7,7 @@ use Rattle.vr_log.specs.declared.message.VrMessage.{VrMessage}
 use Rattle.vr_codec.specs.declared.fault.VrFault.{VrFault}
 use Rattle.vr_codec.specs.declared.fault.VrFault.TheVariants as fault
 use Rattle.vr_codec.specs.declared.fault.VrRefusal.{VrRefusal}
-use Rattle.vr_codec.specs.Answers.{GivesVr, IsRead}
+use Rattle.vr_codec.specs.Answers.{GivesVr, IsVrRead}
 use Rattle.vr_codec.specs.Canonical.{canonical_vr}
 use Rattle.vr_log.specs.Sizes.{IsValidVr}
 use Rattle.vr_codec.specs.Fits.{FitsVr}
@@ -29,7 +29,7 @@ is_valid bytes (Err d) fits e = tt
 not_both : (bytes : List ℕ) (m : VrMessage) (e : VrRefusal) → vr_at bytes ≡ Ok m → vr_at bytes ≡ Err e → ⊥
 not_both bytes m e p q = cc
 
-pub is_read : (bytes : List ℕ) (m : VrMessage) (r : Result VrMessage VrFault) → SpellsVr bytes m → GivesVr (λ x. x) r (vr_at bytes) → IsRead m r
+pub is_read : (bytes : List ℕ) (m : VrMessage) (r : Result VrMessage VrFault) → SpellsVr bytes m → GivesVr (λ x. x) r (vr_at bytes) → IsVrRead m r
 is_read bytes m (Ok x) s e = ok_is VrRefusal x m (sym e ∙ vr_again bytes m s)
 is_read bytes m (Err (fault.Refused d)) s e = not_both bytes m d (vr_again bytes m s) e
 is_read bytes m (Err fault.OutOfMemory) s e = tt

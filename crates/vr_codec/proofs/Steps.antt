@@ -6,12 +6,12 @@ use Rattle.vr_log.specs.Log.{log_bytes}
 use Rattle.vr_codec.specs.declared.fault.VrFault.{VrFault}
 use Rattle.vr_codec.specs.declared.fault.VrFault.TheVariants as fault
 use Rattle.vr_codec.specs.declared.fault.VrRefusal.{VrRefusal}
-use Rattle.vr_codec.specs.Answers.{Fails}
+use Rattle.vr_codec.specs.Answers.{FailsVr}
 use Rattle.vr_codec.specs.Reading.{entry_at, entries_at}
 
 -- an entry that is refused is the answer
 pub stops : (whole count : ℕ) (before : List Entry) (bytes : List ℕ) (e : VrFault) (all : Result (List Entry × List ℕ) VrRefusal)
-    → 0 < count → entries_at whole count before bytes ≡ all → Fails e (entry_at bytes) → Fails e all
+    → 0 < count → entries_at whole count before bytes ≡ all → FailsVr e (entry_at bytes) → FailsVr e all
 unfolding entries_at
 stops whole zero before bytes e all lt inv f = absurd (omega arith)
 stops whole (suc count) before bytes (fault.Refused e) all lt inv f = sym inv ∙ rw f refl

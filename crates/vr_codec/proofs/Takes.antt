@@ -26,8 +26,8 @@ use Rattle.vr_log.specs.declared.message.VrMessage.TheVariants as message
 use Rattle.vr_log.specs.Log.{log_entries, log_bytes}
 use Rattle.vr_codec.specs.declared.fault.VrRefusal.{VrRefusal}
 use Rattle.vr_codec.specs.declared.fault.VrRefusal.TheVariants.{Short, BadKind, BadLength}
-use Rattle.vr_codec.specs.Grammar.{SpellsEntry, SpellsEntries, SpellsLog, IsFront, IsPrepare, IsNumbered, IsStartViewChange, IsDoViewChange, IsLogBehind, IsSupply, IsRecovery, IsFilled, SpellsFilled, IsResponse, SpellsVr}
-use Rattle.vr_codec.specs.Reading.{as_event, event_at, told_at, received_at, processed_at, entry_at, entries_at, log_at, last_of, last_entry_at, last_log_at, size_at, numbered_at, start_view_change_at, recovery_at, prepare_at, do_view_change_at, filled_at, option_at, response_at, LogBehind, log_behind_at, supply_at, as_start_view, as_new_state, as_fetch, messages_at, beside, body_at, vr_at}
+use Rattle.vr_codec.specs.Grammar.{SpellsEntry, SpellsEntries, SpellsLog, IsVrFront, IsPrepare, IsViewAndNumber, IsStartViewChange, IsDoViewChange, IsLogBehind, IsSupply, IsRecovery, IsFilled, SpellsFilled, IsResponse, SpellsVr}
+use Rattle.vr_codec.specs.Reading.{as_event, event_at, told_at, received_at, processed_at, entry_at, entries_at, log_at, last_of, last_entry_at, last_log_at, size_at, numbered_at, start_view_change_at, recovery_at, prepare_at, do_view_change_at, filled_at, option_at, response_at, LogBehind, log_behind_at, supply_at, as_start_view, as_new_state, as_fetch, messages_at, beside_vr, vr_body_at, vr_at}
 
 -- ---- entries
 
@@ -259,13 +259,13 @@ sized size bytes u e =
 abbrev two_numbers : ℕ → ℕ → ℕ × ℕ
 two_numbers a b = (a, b)
 
-numbered_takes : (bytes : List ℕ) (kind : ℕ) (x : ℕ × ℕ) → number 1 0 bytes ≡ kind → numbered_at bytes ≡ Ok x → IsNumbered bytes kind x.0 x.1
+numbered_takes : (bytes : List ℕ) (kind : ℕ) (x : ℕ × ℕ) → number 1 0 bytes ≡ kind → numbered_at bytes ≡ Ok x → IsViewAndNumber bytes kind x.0 x.1
 unfolding numbered_at
 numbered_takes bytes kind x k e =
     let found = two_numbers (number 4 1 bytes) (number 8 5 bytes) in
     let a = bind_ok (size_at 13 bytes) (λ u. Ok found) x e in
-    let made : IsNumbered bytes kind (number 4 1 bytes) (number 8 5 bytes) = record { whole = sized 13 bytes a.0 a.1; kind_is = k; view_is = refl; number_is = refl } in
-    subst (λ (y : ℕ × ℕ). IsNumbered bytes kind y.0 y.1) (ok_is VrRefusal found x a.2) made
+    let made : IsViewAndNumber bytes kind (number 4 1 bytes) (number 8 5 bytes) = record { whole = sized 13 bytes a.0 a.1; kind_is = k; view_is = refl; number_is = refl } in
+    subst (λ (y : ℕ × ℕ). IsViewAndNumber bytes kind y.0 y.1) (ok_is VrRefusal found x a.2) made
 
 prepare_ok_takes : (bytes : List ℕ) (m : VrMessage) → (numbered_at bytes >>= λ x. Ok (message.PrepareOk x.0 x.1)) ≡ Ok m → IsOf 2 bytes m
 prepare_ok_takes bytes m e k =
@@ -298,7 +298,7 @@ recovery_takes bytes m e k =
     let made : IsRecovery bytes (number 8 1 bytes) (number 4 9 bytes) = record { whole = sized 13 bytes a.0 a.1; kind_is = k; nonce_is = refl; promise_is = refl } in
     subst (λ (y : VrMessage). SpellsVr bytes y) (ok_is VrRefusal found m a.2) made
 
-fronted : (bytes : List ℕ) (kind size : ℕ) → number 1 0 bytes ≡ kind → size ≤ length bytes → IsFront bytes kind size
+fronted : (bytes : List ℕ) (kind size : ℕ) → number 1 0 bytes ≡ kind → size ≤ length bytes → IsVrFront bytes kind size
 fronted bytes kind size k there = record { there = there; kind_is = k }
 
 prepare_takes : (bytes : List ℕ) (m : VrMessage) → IsBytes bytes → prepare_at bytes ≡ Ok m → IsOf 1 bytes m
@@ -438,9 +438,9 @@ beside_step : (kind : ℕ) (row : ℕ × Result VrMessage VrRefusal) (rest : Res
 beside_step kind row rest bytes m true e this more h = subst (λ (n : ℕ). IsOf n bytes m) (sym (eqb-true kind row.0 e)) (this h)
 beside_step kind row rest bytes m false e this more h = more h
 
-beside_takes : (kind : ℕ) (rows : List (ℕ × Result VrMessage VrRefusal)) (bytes : List ℕ) (m : VrMessage) → AreOf rows bytes m → beside kind rows ≡ Ok m → IsOf kind bytes m
+beside_takes : (kind : ℕ) (rows : List (ℕ × Result VrMessage VrRefusal)) (bytes : List ℕ) (m : VrMessage) → AreOf rows bytes m → beside_vr kind rows ≡ Ok m → IsOf kind bytes m
 beside_takes kind [] bytes m all e = absurd cc
-beside_takes kind (row ∷ rows) bytes m all e = beside_step kind row (beside kind rows) bytes m (eqb kind row.0) refl all.0 (beside_takes kind rows bytes m all.1) e
+beside_takes kind (row ∷ rows) bytes m all e = beside_step kind row (beside_vr kind rows) bytes m (eqb kind row.0) refl all.0 (beside_takes kind rows bytes m all.1) e
 
 rows_take : (bytes : List ℕ) (m : VrMessage) → IsBytes bytes → AreOf (messages_at bytes) bytes m
 rows_take bytes m fits = (
@@ -460,12 +460,12 @@ rows_take bytes m fits = (
   ),
 )
 
-body_takes : (kind : ℕ) (bytes : List ℕ) (m : VrMessage) → IsBytes bytes → body_at kind bytes ≡ Ok m → IsOf kind bytes m
-unfolding body_at
+body_takes : (kind : ℕ) (bytes : List ℕ) (m : VrMessage) → IsBytes bytes → vr_body_at kind bytes ≡ Ok m → IsOf kind bytes m
+unfolding vr_body_at
 body_takes kind bytes m fits e = beside_takes kind (messages_at bytes) bytes m (rows_take bytes m fits) e
 
 pub vr_takes : (bytes : List ℕ) (m : VrMessage) → IsBytes bytes → vr_at bytes ≡ Ok m → SpellsVr bytes m
 unfolding vr_at
 vr_takes bytes m fits e =
-    let p = passed (ltb (length bytes) 1) Short (body_at (number 1 0 bytes) bytes) m e in
+    let p = passed (ltb (length bytes) 1) Short (vr_body_at (number 1 0 bytes) bytes) m e in
     body_takes (number 1 0 bytes) bytes m fits p.1 refl

@@ -17,10 +17,10 @@ use Rattle.vr_log.specs.declared.message.Filled.{Filled}
 use Rattle.vr_log.specs.declared.message.VrMessage.{VrMessage}
 use Rattle.vr_log.specs.declared.message.VrMessage.TheVariants as message
 use Rattle.vr_log.specs.Log.{entry_size, log_size}
-use Rattle.vr_codec.specs.Canonical.{received_front, received_bytes, processed_bytes, canonical_entry, canonical_log, front, pair, recovery_bytes, filled_bytes, canonical_vr}
+use Rattle.vr_codec.specs.Canonical.{received_front, received_bytes, processed_bytes, canonical_entry, canonical_log, front_bytes, pair, recovery_bytes, filled_bytes, canonical_vr}
 use Rattle.vr_log.specs.Sizes.{filled_size, vr_size, IsValidEntry, IsValidLog, IsValidVr}
-use Rattle.vr_codec.specs.Fits.{FitsEntry, FitsLog, FitsVr}
-use Rattle.vr_codec.specs.Grammar.{IsReceived, IsProcessed, SpellsEntry, SpellsEntries, SpellsLog, IsPrepare, IsNumbered, IsStartViewChange, IsDoViewChange, IsLogBehind, IsSupply, IsRecovery, IsResponse, SpellsVr}
+use Rattle.vr_codec.specs.Fits.{FitsVrEntry, FitsLog, FitsVr}
+use Rattle.vr_codec.specs.Grammar.{IsReceived, IsProcessed, SpellsEntry, SpellsEntries, SpellsLog, IsPrepare, IsViewAndNumber, IsStartViewChange, IsDoViewChange, IsLogBehind, IsSupply, IsRecovery, IsResponse, SpellsVr}
 
 -- ---- entries
 
@@ -53,7 +53,7 @@ pub entry_length : (entry : Entry) → length (canonical_entry entry) ≡ entry_
 entry_length (Received event) = received_size event.switch event.life event.number (canonical_happening event.what) ∙ ap (λ (x : ℕ). 18 + x) (happening_length event.what)
 entry_length (Processed j) = processed_size j
 
-entry_spelled : (entry : Entry) → IsValidEntry entry → FitsEntry entry → SpellsEntry (canonical_entry entry) entry
+entry_spelled : (entry : Entry) → IsValidEntry entry → FitsVrEntry entry → SpellsEntry (canonical_entry entry) entry
 entry_spelled (Received event) v f =
     received_spelled event (canonical_happening event.what) f.0 f.1 f.2 (omega (arith, happening_length event.what, v.0)) (happening_spelled event.what v.1 f.3 v.0)
 entry_spelled (Processed j) v f = processed_spelled j f
@@ -64,7 +64,7 @@ entries_length (entry ∷ log) =
     ap length (flat_map-cons canonical_entry entry log)
     ∙ omega (arith, length-append (canonical_entry entry) (flat_map canonical_entry log), entry_length entry, entries_length log, sum_by-cons entry_size entry log)
 
-entries_spelled : (log : List Entry) → AllByRecursion (λ entry. IsValidEntry entry) log → AllByRecursion (λ entry. FitsEntry entry) log → SpellsEntries (flat_map canonical_entry log) log
+entries_spelled : (log : List Entry) → AllByRecursion (λ entry. IsValidEntry entry) log → AllByRecursion (λ entry. FitsVrEntry entry) log → SpellsEntries (flat_map canonical_entry log) log
 entries_spelled [] v f = refl
 entries_spelled (entry ∷ log) v f =
     (canonical_entry entry, flat_map canonical_entry log, flat_map-cons canonical_entry entry log, entry_spelled entry v.0 f.0, entries_spelled log v.1 f.1)
@@ -78,14 +78,14 @@ log_spelled log v f =
       count_is = number_bytes 4 (length log) [] (omega arith);
       few = v.few;
       small = omega (arith, entries_length log);
-      entries = entries_spelled log v.entries (recursion_from_All (λ entry. FitsEntry entry) log f);
+      entries = entries_spelled log v.entries (recursion_from_All (λ entry. FitsVrEntry entry) log f);
     }
 
 -- ---- messages
 
 prepare_spelled : (view op commit : ℕ) (entry : Entry) (text : List ℕ) → view < 2 ^ 32 → op < 2 ^ 64 → commit < 2 ^ 64 → SpellsEntry text entry
-    → IsPrepare (front 1 view ++ (pair op commit ++ text)) view op commit entry
-unfolding front pair one four eight
+    → IsPrepare (front_bytes 1 view ++ (pair op commit ++ text)) view op commit entry
+unfolding front_bytes pair one four eight
 prepare_spelled view op commit entry text v o k s = record {
   front = record { there = omega arith; kind_is = refl };
   view_is = number_bytes 4 view [] v;
@@ -94,17 +94,17 @@ prepare_spelled view op commit entry text v o k s = record {
   entry_is = s;
 }
 
-numbered_spelled : (kind view n : ℕ) → kind < 2 ^ 8 → view < 2 ^ 32 → n < 2 ^ 64 → IsNumbered (front kind view ++ eight n) kind view n
-unfolding front one four eight
+numbered_spelled : (kind view n : ℕ) → kind < 2 ^ 8 → view < 2 ^ 32 → n < 2 ^ 64 → IsViewAndNumber (front_bytes kind view ++ eight n) kind view n
+unfolding front_bytes one four eight
 numbered_spelled kind view n k v x = record { whole = refl; kind_is = number_bytes 1 kind [] k; view_is = number_bytes 4 view [] v; number_is = number_bytes 8 n [] x }
 
-start_view_change_spelled : (view : ℕ) → view < 2 ^ 32 → IsStartViewChange (front 4 view) view
-unfolding front one four
+start_view_change_spelled : (view : ℕ) → view < 2 ^ 32 → IsStartViewChange (front_bytes 4 view) view
+unfolding front_bytes one four
 start_view_change_spelled view v = record { whole = refl; kind_is = refl; view_is = number_bytes 4 view [] v }
 
 do_view_change_spelled : (view normal commit : ℕ) (log : List Entry) (text : List ℕ) → view < 2 ^ 32 → normal < 2 ^ 32 → commit < 2 ^ 64 → SpellsLog text log
-    → IsDoViewChange (front 5 view ++ (four normal ++ (eight commit ++ text))) view normal commit log
-unfolding front one four eight
+    → IsDoViewChange (front_bytes 5 view ++ (four normal ++ (eight commit ++ text))) view normal commit log
+unfolding front_bytes one four eight
 do_view_change_spelled view normal commit log text v u k s = record {
   front = record { there = omega arith; kind_is = refl };
   view_is = number_bytes 4 view [] v;
@@ -114,8 +114,8 @@ do_view_change_spelled view normal commit log text v u k s = record {
 }
 
 supply_spelled : (view first : ℕ) (log : List Entry) (text : List ℕ) → view < 2 ^ 32 → first < 2 ^ 64 → SpellsLog text log
-    → IsSupply (front 12 view ++ (eight first ++ text)) view first log
-unfolding front one four eight
+    → IsSupply (front_bytes 12 view ++ (eight first ++ text)) view first log
+unfolding front_bytes one four eight
 supply_spelled view first log text v k s = record {
   front = record { there = omega arith; kind_is = refl };
   view_is = number_bytes 4 view [] v;
@@ -127,8 +127,8 @@ recovery_spelled : (nonce promise : ℕ) → nonce < 2 ^ 64 → promise < 2 ^ 32
 unfolding recovery_bytes one four eight
 recovery_spelled nonce promise n p = record { whole = refl; kind_is = refl; nonce_is = number_bytes 8 nonce [] n; promise_is = number_bytes 4 promise [] p }
 
-empty_spelled : (view nonce : ℕ) → view < 2 ^ 32 → nonce < 2 ^ 64 → IsResponse (front 8 view ++ (eight nonce ++ one 0)) view nonce None
-unfolding front one four eight
+empty_spelled : (view nonce : ℕ) → view < 2 ^ 32 → nonce < 2 ^ 64 → IsResponse (front_bytes 8 view ++ (eight nonce ++ one 0)) view nonce None
+unfolding front_bytes one four eight
 empty_spelled view nonce v n = record {
   front = record { there = omega arith; kind_is = refl };
   view_is = number_bytes 4 view [] v;
@@ -137,8 +137,8 @@ empty_spelled view nonce v n = record {
 }
 
 filled_spelled : (view nonce : ℕ) (filled : Filled) (text : List ℕ) → view < 2 ^ 32 → nonce < 2 ^ 64 → filled.commit < 2 ^ 64 → SpellsLog text filled.log
-    → IsResponse (front 8 view ++ (eight nonce ++ (one 1 ++ (eight filled.commit ++ text)))) view nonce (Some filled)
-unfolding front one four eight
+    → IsResponse (front_bytes 8 view ++ (eight nonce ++ (one 1 ++ (eight filled.commit ++ text)))) view nonce (Some filled)
+unfolding front_bytes one four eight
 filled_spelled view nonce filled text v n k s = record {
   front = record { there = omega arith; kind_is = refl };
   view_is = number_bytes 4 view [] v;
@@ -147,8 +147,8 @@ filled_spelled view nonce filled text v n k s = record {
 }
 
 log_behind_spelled : (kind view first commit : ℕ) (log : List Entry) (text : List ℕ) → kind < 2 ^ 8 → view < 2 ^ 32 → first < 2 ^ 64 → commit < 2 ^ 64 → SpellsLog text log
-    → IsLogBehind (front kind view ++ (pair first commit ++ text)) kind view first commit log
-unfolding front pair one four eight
+    → IsLogBehind (front_bytes kind view ++ (pair first commit ++ text)) kind view first commit log
+unfolding front_bytes pair one four eight
 log_behind_spelled kind view first commit log text n v o k s = record {
   front = record { there = omega arith; kind_is = number_bytes 1 kind [] n };
   view_is = number_bytes 4 view [] v;
@@ -178,8 +178,8 @@ log_length : (log : List Entry) → length (canonical_log log) ≡ 4 + log_size 
 unfolding canonical_log four
 log_length log = omega (arith, entries_length log)
 
-front_length : (kind view : ℕ) (rest : List ℕ) → length (front kind view ++ rest) ≡ 5 + length rest
-unfolding front one four
+front_length : (kind view : ℕ) (rest : List ℕ) → length (front_bytes kind view ++ rest) ≡ 5 + length rest
+unfolding front_bytes one four
 front_length kind view rest = omega arith
 
 pair_length : (a b : ℕ) (rest : List ℕ) → length (pair a b ++ rest) ≡ 16 + length rest
@@ -194,12 +194,12 @@ eight_length : (n : ℕ) (rest : List ℕ) → length (eight n ++ rest) ≡ 8 + 
 unfolding eight
 eight_length n rest = omega arith
 
-numbered_length : (kind view n : ℕ) → length (front kind view ++ eight n) ≡ 13
-unfolding front one four eight
+numbered_length : (kind view n : ℕ) → length (front_bytes kind view ++ eight n) ≡ 13
+unfolding front_bytes one four eight
 numbered_length kind view n = refl
 
-start_view_change_length : (view : ℕ) → length (front 4 view) ≡ 5
-unfolding front one four
+start_view_change_length : (view : ℕ) → length (front_bytes 4 view) ≡ 5
+unfolding front_bytes one four
 start_view_change_length view = refl
 
 recovery_length : (nonce promise : ℕ) → length (recovery_bytes nonce promise) ≡ 13
@@ -211,7 +211,7 @@ unfolding one eight
 filled_length None = refl
 filled_length (Some filled) = omega (arith, log_length filled.log)
 
-log_behind_length : (kind view first commit : ℕ) (log : List Entry) → length (front kind view ++ (pair first commit ++ canonical_log log)) ≡ 25 + log_size log
+log_behind_length : (kind view first commit : ℕ) (log : List Entry) → length (front_bytes kind view ++ (pair first commit ++ canonical_log log)) ≡ 25 + log_size log
 log_behind_length kind view first commit log =
     omega (arith, front_length kind view (pair first commit ++ canonical_log log), pair_length first commit (canonical_log log), log_length log)
 

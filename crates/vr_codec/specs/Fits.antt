@@ -8,20 +8,20 @@ use Rattle.vr_log.specs.declared.message.Filled.{Filled}
 use Rattle.vr_log.specs.declared.message.VrMessage.{VrMessage}
 use Rattle.vr_log.specs.declared.message.VrMessage.TheVariants as message
 
-abbrev pub FitsEntry : Entry → Type 0
-FitsEntry (Received event) =
+abbrev pub FitsVrEntry : Entry → Type 0
+FitsVrEntry (Received event) =
     (event.switch < 2 ^ 8) × (event.life < 2 ^ 32) × (event.number < 2 ^ 64) × FitsPlain (happening_message event.what)
-FitsEntry (Processed j) = j < 2 ^ 64
+FitsVrEntry (Processed j) = j < 2 ^ 64
 
 abbrev pub FitsLog : List Entry → Type 0
-FitsLog log = All (λ entry. FitsEntry entry) log
+FitsLog log = All (λ entry. FitsVrEntry entry) log
 
 abbrev pub FitsFilled : Option Filled → Type 0
 FitsFilled None = Unit {0}
 FitsFilled (Some filled) = (filled.commit < 2 ^ 64) × FitsLog filled.log
 
 abbrev pub FitsVr : VrMessage → Type 0
-FitsVr (message.Prepare view op commit entry) = (view < 2 ^ 32) × (op < 2 ^ 64) × (commit < 2 ^ 64) × FitsEntry entry
+FitsVr (message.Prepare view op commit entry) = (view < 2 ^ 32) × (op < 2 ^ 64) × (commit < 2 ^ 64) × FitsVrEntry entry
 FitsVr (message.PrepareOk view op) = (view < 2 ^ 32) × (op < 2 ^ 64)
 FitsVr (message.Commit view commit) = (view < 2 ^ 32) × (commit < 2 ^ 64)
 FitsVr (message.StartViewChange view) = view < 2 ^ 32

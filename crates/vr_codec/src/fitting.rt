@@ -2,7 +2,7 @@
 ghost use Rattle.std.specs.Prelude.{◌≡◌, Ok};
 ghost use Rattle.vr_codec.specs.Canonical.{canonical_vr};
 ghost use Rattle.vr_log.specs.Sizes.{IsValidVr};
-ghost use Rattle.vr_codec.specs.Fits.{FitsEntry, FitsLog, FitsFilled, FitsVr};
+ghost use Rattle.vr_codec.specs.Fits.{FitsVrEntry, FitsLog, FitsFilled, FitsVr};
 ghost use Rattle.vr_codec.specs.Grammar.{SpellsVr};
 ghost use Rattle.vr_codec.specs.Reading.{vr_at};
 
@@ -11,7 +11,7 @@ use of_ravana::happening_fits;
 use vr_log::{Entry, Filled, VrMessage};
 
 fn entry_fits(entry: &Entry)
-    ensures { FitsEntry entry.now }
+    ensures { FitsVrEntry entry.now }
 {
     match entry {
         Entry::Received(event) => {

@@ -3,12 +3,12 @@ ghost use Rattle.std.specs.Prelude.{◌≡◌, ◌≤◌, ℕ, List, Ok, length,
 ghost use Rattle.vr_log.specs.declared.entry.Entry.{Entry};
 ghost use Rattle.vr_log.specs.declared.message.VrMessage.{VrMessage};
 ghost use Rattle.vr_log.specs.Log.{entry_size};
-ghost use Rattle.vr_codec.specs.Answers.{GivesVr, IsRead};
+ghost use Rattle.vr_codec.specs.Answers.{GivesVr, IsVrRead};
 ghost use Rattle.vr_codec.specs.Canonical.{canonical_entry, canonical_vr};
 ghost use Rattle.vr_log.specs.Sizes.{IsValidVr};
 ghost use Rattle.vr_codec.specs.Fits.{FitsVr};
 ghost use Rattle.vr_codec.specs.Grammar.{SpellsVr};
-ghost use Rattle.vr_codec.specs.Reading.{prepare_at, do_view_change_at, filled_at, option_at, response_at, log_behind_at, as_start_view, as_new_state, supply_at, body_at, vr_at};
+ghost use Rattle.vr_codec.specs.Reading.{prepare_at, do_view_change_at, filled_at, option_at, response_at, log_behind_at, as_start_view, as_new_state, supply_at, vr_body_at, vr_at};
 
 use crate::entries::{read_last_entry, read_last_log};
 use crate::fault::{VrFault, VrRefusal};
@@ -191,9 +191,9 @@ fn read_recovery(bytes: &[u8]) -> Result<VrMessage, VrRefusal>
 }
 
 /// A message of this kind.
-#[tactic(auto, unfolding(crate::specs::Reading::body_at))]
+#[tactic(auto, unfolding(crate::specs::Reading::vr_body_at))]
 fn read_body(alloc: Global, kind: u8, bytes: &[u8]) -> Result<VrMessage, VrFault>
-    ensures { GivesVr (λ m. m) result (body_at kind bytes.now) }
+    ensures { GivesVr (λ m. m) result (vr_body_at kind bytes.now) }
 {
     match kind {
         1 => read_prepare(alloc, bytes),
@@ -250,7 +250,7 @@ pub fn decode_vr(alloc: Global, bytes: &[u8]) -> Result<VrMessage, VrFault>
     // What is read is valid.
     ensures valid { IfOk result (λ m. IsValidVr m) }
     // What is spelled so is read, unless memory runs out.
-    ensures only { (m : VrMessage) → SpellsVr bytes.now m → IsRead m result }
+    ensures only { (m : VrMessage) → SpellsVr bytes.now m → IsVrRead m result }
     // Which answer it is.
     ensures exact { GivesVr (λ m. m) result (vr_at bytes.now) }
 {

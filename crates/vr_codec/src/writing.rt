@@ -2,7 +2,7 @@
 ghost use Rattle.std.specs.Prelude.{◌≡◌, ◌++◌, length, flat_map, IfOk, OnOk};
 ghost use Rattle.of_bytes.specs.Numbers.{one, four, eight};
 ghost use Rattle.of_ravana.specs.Canonical as told;
-ghost use Rattle.vr_codec.specs.Canonical.{received_front, received_bytes, processed_bytes, canonical_entry, canonical_log, front, pair, recovery_bytes, filled_bytes, canonical_vr};
+ghost use Rattle.vr_codec.specs.Canonical.{received_front, received_bytes, processed_bytes, canonical_entry, canonical_log, front_bytes, pair, recovery_bytes, filled_bytes, canonical_vr};
 ghost use Rattle.vr_codec.specs.Grammar.{SpellsVr};
 ghost use Rattle.vr_log.specs.Sizes.{IsValidVr, vr_size};
 
@@ -84,9 +84,9 @@ fn write_log(out: &mut Octets, log: &[Entry]) -> Result<(), AllocError>
 }
 
 /// A kind and a view.
-#[tactic(auto, unfolding(crate::specs::Canonical::front))]
+#[tactic(auto, unfolding(crate::specs::Canonical::front_bytes))]
 fn viewed(kind: u8, view: u32) -> Front<5>
-    ensures { result ≡ front kind view }
+    ensures { result ≡ front_bytes kind view }
 {
     let mut front = Front::new();
     front.put(one(kind));
@@ -95,9 +95,9 @@ fn viewed(kind: u8, view: u32) -> Front<5>
 }
 
 /// A kind, a view and a number.
-#[tactic(auto, unfolding(crate::specs::Canonical::front))]
+#[tactic(auto, unfolding(crate::specs::Canonical::front_bytes))]
 fn numbered(kind: u8, view: u32, number: u64) -> Front<13>
-    ensures { result ≡ front kind view ++ eight number }
+    ensures { result ≡ front_bytes kind view ++ eight number }
 {
     let mut front = Front::new();
     front.put(one(kind));
@@ -107,9 +107,9 @@ fn numbered(kind: u8, view: u32, number: u64) -> Front<13>
 }
 
 /// A kind, a view and two numbers.
-#[tactic(auto, unfolding(crate::specs::Canonical::front, crate::specs::Canonical::pair))]
+#[tactic(auto, unfolding(crate::specs::Canonical::front_bytes, crate::specs::Canonical::pair))]
 fn paired(kind: u8, view: u32, first: u64, second: u64) -> Front<21>
-    ensures { result ≡ front kind view ++ pair first second }
+    ensures { result ≡ front_bytes kind view ++ pair first second }
 {
     let mut front = Front::new();
     front.put(one(kind));
@@ -120,9 +120,9 @@ fn paired(kind: u8, view: u32, first: u64, second: u64) -> Front<21>
 }
 
 /// What stands in front of the log of a DOVIEWCHANGE.
-#[tactic(auto, unfolding(crate::specs::Canonical::front))]
+#[tactic(auto, unfolding(crate::specs::Canonical::front_bytes))]
 fn do_view_change_front(view: u32, normal: u32, commit: u64) -> Front<17>
-    ensures { result ≡ front 5 view ++ (four normal ++ eight commit) }
+    ensures { result ≡ front_bytes 5 view ++ (four normal ++ eight commit) }
 {
     let mut front = Front::new();
     front.put(one(5));
@@ -164,7 +164,7 @@ fn write_prepare(
     commit: u64,
     entry: &Entry,
 ) -> Result<(), AllocError>
-    ensures { OnOk result (out.new ≡ out.old ++ (front 1 view ++ (pair op commit ++ canonical_entry entry.now))) }
+    ensures { OnOk result (out.new ≡ out.old ++ (front_bytes 1 view ++ (pair op commit ++ canonical_entry entry.now))) }
 {
     out.append(paired(1, view, op, commit).as_slice())?;
     write_entry(out, entry)?;
@@ -178,7 +178,7 @@ fn write_do_view_change(
     commit: u64,
     log: &[Entry],
 ) -> Result<(), AllocError>
-    ensures { OnOk result (out.new ≡ out.old ++ (front 5 view ++ (four normal ++ (eight commit ++ canonical_log log.now)))) }
+    ensures { OnOk result (out.new ≡ out.old ++ (front_bytes 5 view ++ (four normal ++ (eight commit ++ canonical_log log.now)))) }
 {
     out.append(do_view_change_front(view, normal, commit).as_slice())?;
     write_log(out, log)?;
@@ -186,7 +186,7 @@ fn write_do_view_change(
 }
 
 fn write_supply(out: &mut Octets, view: u32, first: u64, log: &[Entry]) -> Result<(), AllocError>
-    ensures { OnOk result (out.new ≡ out.old ++ (front 12 view ++ (eight first ++ canonical_log log.now))) }
+    ensures { OnOk result (out.new ≡ out.old ++ (front_bytes 12 view ++ (eight first ++ canonical_log log.now))) }
 {
     out.append(numbered(12, view, first).as_slice())?;
     write_log(out, log)?;
@@ -199,7 +199,7 @@ fn write_response(
     nonce: u64,
     filled: &Option<Filled>,
 ) -> Result<(), AllocError>
-    ensures { OnOk result (out.new ≡ out.old ++ (front 8 view ++ (eight nonce ++ filled_bytes filled.now))) }
+    ensures { OnOk result (out.new ≡ out.old ++ (front_bytes 8 view ++ (eight nonce ++ filled_bytes filled.now))) }
 {
     out.append(numbered(8, view, nonce).as_slice())?;
     write_filled(out, filled)?;
@@ -215,7 +215,7 @@ fn write_log_behind(
     commit: u64,
     log: &[Entry],
 ) -> Result<(), AllocError>
-    ensures { OnOk result (out.new ≡ out.old ++ (front kind view ++ (pair first commit ++ canonical_log log.now))) }
+    ensures { OnOk result (out.new ≡ out.old ++ (front_bytes kind view ++ (pair first commit ++ canonical_log log.now))) }
 {
     out.append(paired(kind, view, first, commit).as_slice())?;
     write_log(out, log)?;

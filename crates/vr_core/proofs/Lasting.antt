@@ -18,17 +18,17 @@ use Rattle.vr_log.specs.Log.{fits, follows, is_log}
 use Rattle.vr_log.specs.Members.{is_normal, is_changing, is_recovering, is_primary, is_primary_of, is_other, is_here, is_later, is_newer, leads, most_failures}
 use Rattle.vr_log.specs.Same.{same_entries}
 use Rattle.vr_log.specs.Steps.{VrStep, quiet, sends, asks, then_step, is_sound, guarded, later_of}
-use Rattle.vr_log.specs.Valid.{IsValid}
+use Rattle.vr_log.specs.Valid.{IsValidState}
 use Rattle.vr_log.specs.Choosing.{has_collected, may_choose, best_of, reaches, fetch_letter, greatest_commit}
 use Rattle.vr_log.proofs.Equal.{entries_equal}
 use Rattle.vr_normal.specs.Cases.{asks_later, from_primary, prepares, commits, agreed, is_agreed, acked_by, counted, is_counted, prepare_ok}
 use Rattle.vr_normal.specs.Proposing.{proposed}
 use Rattle.vr_normal.specs.Ticks.{tick_primary, tick_changing, tick_recovering}
-use Rattle.view_change.specs.Entering.{entered, enter, voted, collects, own_log, sends_log, votes, starts, chooses_from, chooses, check}
-use Rattle.view_change.specs.Adopting.{adopted, adopts, adopt}
-use Rattle.view_change.specs.Cases.{enters, suspect, vote_here, start_view_change, collect, do_view_change, start_view, is_change, fetch, is_wanted, supplied, supply}
+use Rattle.view_change.specs.Entering.{entered_view, enter, voted, collects, own_log, sends_log, votes, starts, chooses_from, chooses, check}
+use Rattle.view_change.specs.Adopting.{adopted_log, adopts, adopt}
+use Rattle.view_change.specs.Cases.{enters, suspect, vote_here, start_view_change, collect, do_view_change, start_view, is_change, fetch, is_message_wanted, supplied, supply}
 use Rattle.vr_recovery.specs.Cases.{is_answered, get_state, is_longer, lacking, completes, is_adopted, new_state}
-use Rattle.vr_recovery.specs.Recovering.{recovery, ending, ends_with, recovers, responded, response, greatest_view}
+use Rattle.vr_recovery.specs.Recovering.{recovery, ending, ends_with, recovers, responded, response, greatest_view_told}
 use Rattle.vr_core.specs.declared.input.VrInput.{VrInput}
 use Rattle.vr_core.specs.declared.input.VrInput.TheVariants as vr_input
 use Rattle.vr_core.specs.Lasting.{CollectsItsOwn, Lasts, promised}
@@ -177,7 +177,7 @@ enter_does s view h =
     }
 
 enters_does : (s : VrState) (view : ℕ) → is_sound s (enters s view).state ≡ true → Does s (enters s view)
-enters_does s view sound = chained s (enter s view) check (enter_does s view) (check_does s (entered s view) refl refl sound)
+enters_does s view sound = chained s (enter s view) check (enter_does s view) (check_does s (entered_view s view) refl refl sound)
 
 suspect_does : (s : VrState) (view : ℕ) → Does s (suspect s view)
 suspect_does s view = either (Does s) (is_later s view) _ _ (λ _. checked s (enters s view) (enters_does s view)) (λ _. rests s [])
@@ -192,7 +192,7 @@ change_does s from view =
     either (Does s) (is_other s from) _ _
     (λ _. either (Does s) (is_later s view) _ _
     (λ _. checked s (then_step (enter s view) (λ next. check (voted next from)))
-    (λ sound. chained s (enter s view) (λ next. check (voted next from)) (enter_does s view) (voted_does s (entered s view) from refl refl sound)))
+    (λ sound. chained s (enter s view) (λ next. check (voted next from)) (enter_does s view) (voted_does s (entered_view s view) from refl refl sound)))
     (λ _. either (Does s) (nat_eq view s.view) (vote_here s from) (quiet s)
     (λ _. either (Does s) (is_changing s) _ _
     (λ _. checked s (check (voted s from)) (voted_does s s from refl refl))
@@ -213,7 +213,7 @@ collect_does : (s : VrState) (view : ℕ) (c : Collected) → is_other s c.from 
 collect_does s view c other =
     either (Does s) (is_later s view) _ _
     (λ _. checked s (then_step (enter s view) (λ next. check (collects next c)))
-    (λ sound. chained s (enter s view) (λ next. check (collects next c)) (enter_does s view) (collects_does s (entered s view) c other refl refl sound)))
+    (λ sound. chained s (enter s view) (λ next. check (collects next c)) (enter_does s view) (collects_does s (entered_view s view) c other refl refl sound)))
     (λ _. either (Does s) (nat_eq view s.view && is_changing s) _ _
     (λ _. checked s (check (collects s c)) (collects_does s s c other refl refl))
     (λ _. rests s []))
@@ -231,9 +231,9 @@ adopts_promise : (old view : ℕ) (b : Bool) → nat_lt old view ≡ b → max o
 adopts_promise old view true is = let l = ltb-true old view is in omega arith
 adopts_promise old view false is = let l = ltb-false old view is in omega arith
 
-adopts_does : (s : VrState) (view first commit : ℕ) (log : List Entry) → is_sound s (adopted s view first commit log) ≡ true → Does s (adopts s view first commit log)
+adopts_does : (s : VrState) (view first commit : ℕ) (log : List Entry) → is_sound s (adopted_log s view first commit log) ≡ true → Does s (adopts s view first commit log)
 adopts_does s view first commit log sound h =
-    let new = adopted s view first commit log in
+    let new = adopted_log s view first commit log in
     record {
       lasts = record { rises = omega arith; stays = sound_front s new sound; me = refl; controllers = refl; life = refl; promise_is = adopts_promise s.promise view (nat_lt s.promise view) refl; awake = λ h e. cc };
       holds = record { reach = sound_commit s new sound; own = normal_collects new refl };
@@ -261,7 +261,7 @@ fetch_does s from view op =
 supply_does : (s : VrState) (from view first : ℕ) (log : List Entry) → Does s (supply s from (message.Supply view first log))
 supply_does s from view first log =
     either (Does s) (is_other s from) _ _
-    (λ _. either (Does s) (is_wanted s view first log) _ _
+    (λ _. either (Does s) (is_message_wanted s view first log) _ _
     (λ _. checked s (check (supplied s first log)) (λ sound.
     after s (supplied s first log) (check (supplied s first log)) (λ h. record { lasts = unchanged s (supplied s first log) refl refl refl refl refl refl refl; holds = record { reach = h.reach; own = h.own } })
     (check_does s (supplied s first log) refl refl sound)))
@@ -316,7 +316,7 @@ response_does s from view nonce f =
     let now = responded s r in
     either (Does s) (is_other s from) _ _
     (λ _. either (Does s) (is_recovering s && nat_eq nonce s.life) _ _
-    (λ _. checked s (recovers now) (λ sound. after s now (recovers now) (cleared_does s now.responses) (ends_does now (greatest_view now.responses) (ending now) sound)))
+    (λ _. checked s (recovers now) (λ sound. after s now (recovers now) (cleared_does s now.responses) (ends_does now (greatest_view_told now.responses) (ending now) sound)))
     (λ _. rests s []))
     (λ _. rests s [])
 
@@ -358,10 +358,10 @@ pub record Stays (s : VrState) (step : VrStep) : Type 0 where
   pub lasts : Lasts s step.promise step.state
   pub own : CollectsItsOwn step.state
 
-pub step_stays : (s : VrState) (x : VrInput) → IsValid s → CollectsItsOwn s → Stays s (vr_step s x)
+pub step_stays : (s : VrState) (x : VrInput) → IsValidState s → CollectsItsOwn s → Stays s (vr_step s x)
 step_stays s x valid own = let k = vr_does s x (record { reach = valid.commit; own = own }) in record { lasts = k.lasts; own = k.holds.own }
 
-pub proposal_stays : (s : VrState) (entry : Entry) → IsValid s → CollectsItsOwn s → is_normal s ≡ true → Stays s (proposed s entry)
+pub proposal_stays : (s : VrState) (entry : Entry) → IsValidState s → CollectsItsOwn s → is_normal s ≡ true → Stays s (proposed s entry)
 proposal_stays s entry valid own normal = let k = proposed_does s entry normal (record { reach = valid.commit; own = own }) in record { lasts = k.lasts; own = k.holds.own }
 
 -- the promises of three steps

@@ -2,7 +2,7 @@
 ghost use Rattle.std.specs.Prelude.{◌≡◌, ◌<◌, ◌∷◌, [], true, Contains, IfOk, OnOk};
 ghost use Rattle.vr_log.specs.Log.{may_follow};
 ghost use Rattle.vr_log.specs.Members as members;
-ghost use Rattle.vr_log.specs.Valid.{IsValid, starting_state};
+ghost use Rattle.vr_log.specs.Valid.{IsValidState, starting_state};
 ghost use Rattle.vr_recovery.specs.Recovering.{restarted};
 ghost use Rattle.vr_core.specs.Step.{vr_step, Stepped, ProposesTo};
 
@@ -35,7 +35,7 @@ impl Replica {
         requires group { Contains (1 ∷ 3 ∷ 5 ∷ 7 ∷ []) controllers }
         requires member { me < controllers }
         ensures state { IfOk result (λ replica. replica ≡ starting_state me controllers) }
-        ensures valid { IfOk result (λ replica. IsValid replica) }
+        ensures valid { IfOk result (λ replica. IsValidState replica) }
     {
         Ok(Replica {
             state: VrState::new(alloc, me, controllers)?,
@@ -54,7 +54,7 @@ impl Replica {
         requires group { Contains (1 ∷ 3 ∷ 5 ∷ 7 ∷ []) controllers }
         requires member { me < controllers }
         ensures step { IfOk result (λ r. Stepped (restarted me controllers promise life) r.0 r.1) }
-        ensures valid { IfOk result (λ r. IsValid r.0) }
+        ensures valid { IfOk result (λ r. IsValidState r.0) }
     {
         let mut out = VrOut::new(alloc);
         let state = restart(alloc, me, controllers, promise, life, &mut out)?;
@@ -63,9 +63,9 @@ impl Replica {
 
     /// The step of an input: what is to be saved and then sent.
     pub fn step(&mut self, input: &VrInput) -> Result<VrOut, AllocError>
-        requires { IsValid self.old }
+        requires { IsValidState self.old }
         ensures step { IfOk result (λ out. Stepped (vr_step self.old input.now) self.new out) }
-        ensures valid { OnOk result (IsValid self.new) }
+        ensures valid { OnOk result (IsValidState self.new) }
     {
         let mut out = VrOut::new(self.state.log.allocator());
         take(&mut self.state, input, &mut out)?;
@@ -75,10 +75,10 @@ impl Replica {
     /// The primary proposes an entry. The first refusal that holds is the answer: the member is not normal or
     /// not the primary of its view; then the limits of the log. A refusal changes nothing.
     pub fn propose(&mut self, entry: Entry) -> Result<VrOut, ProposeFault>
-        requires valid { IsValid self.old }
+        requires valid { IsValidState self.old }
         requires follows { may_follow self.old.log entry ≡ true }
         ensures step { ProposesTo self.old entry result self.new }
-        ensures valid { OnOk result (IsValid self.new) }
+        ensures valid { OnOk result (IsValidState self.new) }
     {
         let mut out = VrOut::new(self.state.log.allocator());
         propose(&mut self.state, entry, &mut out)?;
@@ -113,7 +113,7 @@ impl Replica {
 
     /// Whether this member leads: it is normal, and the primary of its view.
     pub fn leads(&self) -> bool
-        requires { IsValid self.now }
+        requires { IsValidState self.now }
         ensures { result ≡ members.leads self.now }
     {
         self.state.leads()

@@ -1,7 +1,7 @@
 //! The step of an input's kind.
 ghost use Rattle.std.specs.Prelude.{OnOk};
 ghost use Rattle.vr_log.specs.Steps.{Did};
-ghost use Rattle.vr_log.specs.Valid.{IsValid};
+ghost use Rattle.vr_log.specs.Valid.{IsValidState};
 ghost use Rattle.vr_core.specs.Step.{on_vr, vr_step};
 
 use crate::input::VrInput;
@@ -20,9 +20,9 @@ fn on_message(
     message: &VrMessage,
     out: &mut VrOut,
 ) -> Result<(), AllocError>
-    requires { IsValid state.old }
+    requires { IsValidState state.old }
     ensures step { OnOk result (Did (on_vr state.old from message.now) state.new out.old out.new) }
-    ensures valid { OnOk result (IsValid state.new) }
+    ensures valid { OnOk result (IsValidState state.new) }
 {
     match message {
         VrMessage::Prepare { .. } => on_prepare(state, from, message, out),
@@ -42,9 +42,9 @@ fn on_message(
 
 /// The step of an input. After an `Err` the state is to be dropped.
 pub(crate) fn take(state: &mut VrState, input: &VrInput, out: &mut VrOut) -> Result<(), AllocError>
-    requires { IsValid state.old }
+    requires { IsValidState state.old }
     ensures step { OnOk result (Did (vr_step state.old input.now) state.new out.old out.new) }
-    ensures valid { OnOk result (IsValid state.new) }
+    ensures valid { OnOk result (IsValidState state.new) }
 {
     match input {
         VrInput::From { from, message } => on_message(state, *from, message, out),

@@ -12,10 +12,10 @@ use Rattle.vr_log.specs.declared.entry.Entry.TheVariants.{Received, Processed}
 use Rattle.vr_log.specs.declared.tally.Place.{Place}
 use Rattle.vr_log.specs.declared.tally.Tally.{Tally}
 use Rattle.vr_log.specs.Log.{received, is_past_limits, may_be_received, may_follow, fits, follows, IsLog}
-use Rattle.vr_log.specs.Tally.{place_of, IsPlaceOf, IsPlaced, IsTally, IsCounted, Tells, is_full, may_join, joins}
+use Rattle.vr_log.specs.Tally.{next_place_of, IsNextPlace, PlacesNext, IsTally, IsCounted, Tells, is_log_full, may_join, joins}
 use Rattle.vr_log.proofs.Logs.{received-append, length_is, processed_push, log_size_push, IsLog_push, IsLog_take, fits_is, none_after}
 
-pub full_is : (log : List Entry) (tally : Tally) (entry : Entry) → IsTally log tally → is_full tally entry ≡ is_past_limits log entry
+pub full_is : (log : List Entry) (tally : Tally) (entry : Entry) → IsTally log tally → is_log_full tally entry ≡ is_past_limits log entry
 full_is log tally entry t =
     let e : tally.received + tally.processed ≡ length log = let r = t.events in let p = t.finished in let l = length_is log in omega arith in
     rw (e, t.size) refl
@@ -48,7 +48,7 @@ count_most s life events = count_by-le-length _ events
 
 -- the place of the next event of the switch of an event that fits
 event_place : (log : List Entry) (event : Event) → IsLog log → fits log (Received event) ≡ true → (next : Place) →
-    next ≡ record { life = event.life; number = min (2 ^ 64 - 1) (event.number + 1) } → IsPlaceOf event.switch (received log ++ event ∷ []) next
+    next ≡ record { life = event.life; number = min (2 ^ 64 - 1) (event.number + 1) } → IsNextPlace event.switch (received log ++ event ∷ []) next
 event_place log event lawful f next is =
     let fit = fits_is log (Received event) f in
     let life : life_in event.switch (received log ++ event ∷ []) ≡ event.life = life_in-append event.switch (received log) event ∙ rw (eq-eqb event.switch event.switch refl) refl in
@@ -62,7 +62,7 @@ event_place log event lawful f next is =
       number = ap (λ (p : Place). p.number) is ∙ rw life (omega arith);
     }
 
-other_place : (s : ℕ) (events : List Event) (event : Event) → (event.switch ≡ s → ⊥) → (old next : Place) → next ≡ old → IsPlaceOf s events old → IsPlaceOf s (events ++ event ∷ []) next
+other_place : (s : ℕ) (events : List Event) (event : Event) → (event.switch ≡ s → ⊥) → (old next : Place) → next ≡ old → IsNextPlace s events old → IsNextPlace s (events ++ event ∷ []) next
 other_place s events event other old next is h =
     let life : life_in s (events ++ event ∷ []) ≡ life_in s events = life_in-append s events event ∙ rw (ne_eqb event.switch s other) refl in
     record {
@@ -70,14 +70,14 @@ other_place s events event other old next is h =
       number = ap (λ (p : Place). p.number) is ∙ (h.number ∙ rw life (sym (count_there s (life_in s events) events event other)));
     }
 
-next_placed : (log : List Entry) (old new : List Place) (event : Event) → IsLog log → fits log (Received event) ≡ true → IsPlaced old (Received event) new →
-    (s : ℕ) → IsPlaceOf s (received log) (place_of old s) → IsPlaceOf s (received log ++ event ∷ []) (place_of new s)
+next_placed : (log : List Entry) (old new : List Place) (event : Event) → IsLog log → fits log (Received event) ≡ true → PlacesNext old (Received event) new →
+    (s : ℕ) → IsNextPlace s (received log) (next_place_of old s) → IsNextPlace s (received log ++ event ∷ []) (next_place_of new s)
 next_placed log old new event lawful f put s h =
     elim (cases_eq event.switch s) [
       | inl same ↦
-          subst (λ (k : ℕ). IsPlaceOf k (received log ++ event ∷ []) (place_of new k)) same
-          (event_place log event lawful f (place_of new event.switch) (put event.switch ∙ rw (eq-eqb event.switch event.switch refl) refl))
-      | inr other ↦ other_place s (received log) event other (place_of old s) (place_of new s) (put s ∙ rw (ne_eqb s event.switch (λ e. other (sym e))) refl) h
+          subst (λ (k : ℕ). IsNextPlace k (received log ++ event ∷ []) (next_place_of new k)) same
+          (event_place log event lawful f (next_place_of new event.switch) (put event.switch ∙ rw (eq-eqb event.switch event.switch refl) refl))
+      | inr other ↦ other_place s (received log) event other (next_place_of old s) (next_place_of new s) (put s ∙ rw (ne_eqb s event.switch (λ e. other (sym e))) refl) h
     ]
 
 pub counted_is : (log : List Entry) (old new : Tally) (entry : Entry) → IsLog log → IsTally log old → fits log entry ≡ true → IsCounted old entry new → IsTally (log ++ entry ∷ []) new

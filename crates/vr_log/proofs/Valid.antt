@@ -12,7 +12,7 @@ use Rattle.vr_log.specs.Same.{same_entries}
 use Rattle.std.proofs.lemmas.Bool.{and_parts, leb-true}
 use Rattle.vr_log.proofs.Logs.{IsLog_append, IsLog_is, no_log}
 use Rattle.vr_log.specs.Steps.{VrStep, Did, quiet, is_sound, guarded, acknowledges}
-use Rattle.vr_log.specs.Valid.{AreMembers, IsValid, starting_state}
+use Rattle.vr_log.specs.Valid.{AreMembers, IsValidState, starting_state}
 
 -- a choice keeps what both sides keep
 pub either : (P : VrState → Type 0) (b : Bool) (x y : VrStep) → P x.state → P y.state → P (if b then x else y).state
@@ -29,7 +29,7 @@ supply_rises : (supply : Option Supplied) (commit most : ℕ) → commit ≤ mos
 supply_rises None commit most le h = h
 supply_rises (Some p) commit most le h = omega arith
 
-pub commit_valid : (s : VrState) (commit : ℕ) → IsValid s → s.commit ≤ commit → commit ≤ length s.log → IsValid (record s { commit = commit })
+pub commit_valid : (s : VrState) (commit : ℕ) → IsValidState s → s.commit ≤ commit → commit ≤ length s.log → IsValidState (record s { commit = commit })
 commit_valid s commit v more le = record {
   log = v.log;
   group = v.group;
@@ -43,10 +43,10 @@ commit_valid s commit v more le = record {
   supply = supply_rises s.supply s.commit commit more v.supply;
 }
 
-pub acknowledges_valid : (s : VrState) (commit : ℕ) → IsValid s → IsValid (acknowledges s commit).state
+pub acknowledges_valid : (s : VrState) (commit : ℕ) → IsValidState s → IsValidState (acknowledges s commit).state
 acknowledges_valid s commit v = commit_valid s (max s.commit (min commit (length s.log))) v (omega arith) (omega (arith, v.commit))
 
-pub grown_valid : (s : VrState) (entries : List Entry) → IsValid s → follows s.log entries ≡ true → IsValid (record s { log = s.log ++ entries })
+pub grown_valid : (s : VrState) (entries : List Entry) → IsValidState s → follows s.log entries ≡ true → IsValidState (record s { log = s.log ++ entries })
 grown_valid s entries v f = record {
   log = IsLog_append s.log entries v.log f;
   group = v.group;
@@ -61,8 +61,8 @@ grown_valid s entries v f = record {
 }
 
 -- a step that leaves a valid state did so
-pub did_valid : (step : VrStep) (state : VrState) (old new : VrOut) → IsValid step.state → Did step state old new → IsValid state
-did_valid step state old new v d = subst (λ (x : VrState). IsValid x) (sym d.state_is) v
+pub did_valid : (step : VrStep) (state : VrState) (old new : VrOut) → IsValidState step.state → Did step state old new → IsValidState state
+did_valid step state old new v d = subst (λ (x : VrState). IsValidState x) (sym d.state_is) v
 
 pub on_ok : {A E : Type 0} {P Q : Type 0} (r : Result A E) → (P → Q) → OnOk r P → OnOk r Q
 on_ok (Ok x) f p = f p
@@ -76,7 +76,7 @@ pub nobody : (size : ℕ) → AreMembers size []
 unfolding IsDistinct
 nobody size = record { below = tt; once = tt }
 
-pub starting_valid : (me controllers : ℕ) → Contains (1 ∷ 3 ∷ 5 ∷ 7 ∷ []) controllers → me < controllers → IsValid (starting_state me controllers)
+pub starting_valid : (me controllers : ℕ) → Contains (1 ∷ 3 ∷ 5 ∷ 7 ∷ []) controllers → me < controllers → IsValidState (starting_state me controllers)
 starting_valid me controllers group member = record {
   log = no_log;
   group = group;
@@ -101,5 +101,5 @@ sound_is old new h =
     let q = and_parts (is_log new.log) (nat_le new.commit (length new.log)) p.0 in
     record { log = IsLog_is new.log q.0; commit = leb-true new.commit (length new.log) q.1 }
 
-pub guarded_valid : (s : VrState) (step : VrStep) → IsValid s → (Sound s step.state → IsValid step.state) → IsValid (guarded s step).state
-guarded_valid s step v h = chosen_by IsValid (is_sound s step.state) step (quiet s) (λ e. h (sound_is s step.state e)) (λ e. v)
+pub guarded_valid : (s : VrState) (step : VrStep) → IsValidState s → (Sound s step.state → IsValidState step.state) → IsValidState (guarded s step).state
+guarded_valid s step v h = chosen_by IsValidState (is_sound s step.state) step (quiet s) (λ e. h (sound_is s step.state e)) (λ e. v)

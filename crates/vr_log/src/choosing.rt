@@ -1,7 +1,7 @@
 //! Which of the collected logs a view starts from, and what its primary lacks of it.
 ghost use Rattle.std.specs.Prelude.{◌≡◌, ◌<◌, ◌≤◌, ◌++◌, ◌∷◌, [], length, IfSome, OnOk};
 ghost use Rattle.vr_log.specs.Choosing.{has_collected, may_choose, length_of, is_better, best_of, front, fetch_letter, fetches};
-ghost use Rattle.vr_log.specs.Valid.{IsValid};
+ghost use Rattle.vr_log.specs.Valid.{IsValidState};
 
 use crate::message::VrMessage;
 use crate::state::{Collected, VrOut, VrState};
@@ -86,7 +86,7 @@ impl VrState {
 
     /// Fetches what the start of a view waits for.
     pub fn fetch(&self, out: &mut VrOut) -> Result<(), AllocError>
-        requires { IsValid self.now }
+        requires { IsValidState self.now }
         ensures promise { out.new.promise ≡ out.old.promise }
         ensures letters { OnOk result (out.new.letters ≡ out.old.letters ++ fetches self.now) }
     {

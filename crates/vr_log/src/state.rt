@@ -1,6 +1,6 @@
 //! The state of a member of a group, as plain data.
 ghost use Rattle.std.specs.Prelude.{◌<◌, ◌≡◌, [], ◌∷◌, Contains, IfOk};
-ghost use Rattle.vr_log.specs.Valid.{IsValid, starting_state};
+ghost use Rattle.vr_log.specs.Valid.{IsValidState, starting_state};
 
 use crate::acked::Acked;
 use crate::entry::Entries;
@@ -87,7 +87,7 @@ impl VrState {
         requires group { Contains (1 ∷ 3 ∷ 5 ∷ 7 ∷ []) controllers }
         requires member { me < controllers }
         ensures state { IfOk result (λ s. s ≡ starting_state me controllers) }
-        ensures valid { IfOk result (λ s. IsValid s) }
+        ensures valid { IfOk result (λ s. IsValidState s) }
     {
         Ok(VrState {
             me,

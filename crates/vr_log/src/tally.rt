@@ -1,7 +1,7 @@
 //! What is counted of a log, beside it.
 ghost use Rattle.std.specs.Prelude.{◌≡◌, [], true, IfOk, OnOk, OnErr};
 ghost use Rattle.vr_log.specs.declared.entry.Entry.TheVariants.{Received};
-ghost use Rattle.vr_log.specs.Tally.{place_of, IsPut, is_full, may_join, joins, IsCounted, Tells};
+ghost use Rattle.vr_log.specs.Tally.{next_place_of, IsPut, is_log_full, may_join, joins, IsCounted, Tells};
 
 use crate::entry::{Entry, size_of_entry};
 use crate::log::{LOG_BYTES, LOG_ENTRIES};
@@ -52,7 +52,7 @@ impl Places {
     }
 
     pub(crate) fn of(&self, switch: u8) -> Place
-        ensures { result ≡ place_of self.now switch }
+        ensures { result ≡ next_place_of self.now switch }
     {
         match self.places.get(usize::from(switch)) {
             Some(place) => *place,
@@ -108,7 +108,7 @@ impl Tally {
 
     /// Whether the log with this entry would be past its limits.
     pub(crate) fn is_full(&self, entry: &Entry) -> bool
-        ensures { result ≡ is_full self.now entry.now }
+        ensures { result ≡ is_log_full self.now entry.now }
     {
         let few = self.received < LOG_ENTRIES && self.processed < LOG_ENTRIES - self.received;
         !(few && self.bytes <= LOG_BYTES && size_of_entry(entry) <= LOG_BYTES - self.bytes)

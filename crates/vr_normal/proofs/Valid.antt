@@ -7,21 +7,21 @@ use Rattle.vr_log.specs.declared.state.VrState.{VrState}
 use Rattle.vr_log.specs.Log.{fits}
 use Rattle.vr_log.specs.Members.{most_failures}
 use Rattle.vr_log.specs.Steps.{appended}
-use Rattle.vr_log.specs.Valid.{IsValid}
+use Rattle.vr_log.specs.Valid.{IsValidState}
 use Rattle.vr_log.proofs.Valid.{either, chosen_by, commit_valid, grown_valid, acknowledges_valid}
 use Rattle.vr_log.proofs.Logs.{follows_one}
 use Rattle.vr_normal.specs.Cases.{prepares, acked_by, counted, agreed, is_agreed}
 use Rattle.vr_normal.specs.Proposing.{proposed}
 use Rattle.vr_normal.proofs.Agreed.{greatest_least, greatest_most}
 
-pub prepares_valid : (s : VrState) (op commit : ℕ) (entry : Entry) → IsValid s → IsValid (prepares s op commit entry).state
+pub prepares_valid : (s : VrState) (op commit : ℕ) (entry : Entry) → IsValidState s → IsValidState (prepares s op commit entry).state
 prepares_valid s op commit entry v =
-    either IsValid (nat_le op (length s.log)) _ _ (acknowledges_valid s commit v)
-    (either IsValid (nat_eq op (length s.log + 1)) _ _
-    (chosen_by IsValid (fits s.log entry) _ _ (λ f. acknowledges_valid (appended s entry) commit (grown_valid s (entry ∷ []) v (follows_one s.log entry ∙ f))) (λ f. v))
+    either IsValidState (nat_le op (length s.log)) _ _ (acknowledges_valid s commit v)
+    (either IsValidState (nat_eq op (length s.log + 1)) _ _
+    (chosen_by IsValidState (fits s.log entry) _ _ (λ f. acknowledges_valid (appended s entry) commit (grown_valid s (entry ∷ []) v (follows_one s.log entry ∙ f))) (λ f. v))
     v)
 
-pub acked_valid : (s : VrState) (from op : ℕ) → IsValid s → IsValid (acked_by s from op)
+pub acked_valid : (s : VrState) (from op : ℕ) → IsValidState s → IsValidState (acked_by s from op)
 acked_valid s from op v = record {
   log = v.log;
   group = v.group;
@@ -35,11 +35,11 @@ acked_valid s from op v = record {
   supply = v.supply;
 }
 
-pub counted_valid : (s : VrState) → IsValid s → IsValid (counted s)
+pub counted_valid : (s : VrState) → IsValidState s → IsValidState (counted s)
 counted_valid s v =
     commit_valid s (agreed s) v (greatest_least s.commit _) (let most = greatest_most (is_agreed s) s.commit (length s.log) in omega (arith, v.commit))
 
-pub proposed_valid : (s : VrState) (entry : Entry) → IsValid s → fits s.log entry ≡ true → IsValid (proposed s entry).state
+pub proposed_valid : (s : VrState) (entry : Entry) → IsValidState s → fits s.log entry ≡ true → IsValidState (proposed s entry).state
 proposed_valid s entry v f =
     let grown = grown_valid s (entry ∷ []) v (follows_one s.log entry ∙ f) in
     let more = length-append s.log (entry ∷ []) in

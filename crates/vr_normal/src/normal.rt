@@ -3,7 +3,7 @@
 ghost use Rattle.std.specs.Prelude.{◌≡◌, ◌<◌, true, IsTrue, is_ok, OnOk};
 ghost use Rattle.vr_log.specs.Log.{fits, may_follow};
 ghost use Rattle.vr_log.specs.Steps.{Did};
-ghost use Rattle.vr_log.specs.Valid.{IsValid};
+ghost use Rattle.vr_log.specs.Valid.{IsValidState};
 ghost use Rattle.vr_normal.specs.Cases.{asks_later, prepares, prepare, commits, commit_told, prepare_ok};
 ghost use Rattle.vr_normal.specs.Proposing.{proposed, Proposes};
 
@@ -64,9 +64,9 @@ pub fn on_prepare(
     message: &VrMessage,
     out: &mut VrOut,
 ) -> Result<(), AllocError>
-    requires { IsValid state.old }
+    requires { IsValidState state.old }
     ensures step { OnOk result (Did (prepare state.old from message.now) state.new out.old out.new) }
-    ensures valid { OnOk result (IsValid state.new) }
+    ensures valid { OnOk result (IsValidState state.new) }
 {
     match message {
         VrMessage::Prepare {
@@ -108,9 +108,9 @@ pub fn on_commit(
     message: &VrMessage,
     out: &mut VrOut,
 ) -> Result<(), AllocError>
-    requires { IsValid state.old }
+    requires { IsValidState state.old }
     ensures step { OnOk result (Did (commit_told state.old from message.now) state.new out.old out.new) }
-    ensures valid { OnOk result (IsValid state.new) }
+    ensures valid { OnOk result (IsValidState state.new) }
 {
     match message {
         VrMessage::Commit { view, commit } => {
@@ -133,10 +133,10 @@ pub fn on_prepare_ok(
     message: &VrMessage,
     out: &mut VrOut,
 ) -> Result<(), AllocError>
-    requires { IsValid state.old }
+    requires { IsValidState state.old }
     ensures done { IsTrue (is_ok result) }
     ensures step { Did (prepare_ok state.old from message.now) state.new out.old out.new }
-    ensures valid { IsValid state.new }
+    ensures valid { IsValidState state.new }
 {
     if let VrMessage::PrepareOk { view, op } = message {
         let counts = state.is_other(from)
@@ -153,7 +153,7 @@ pub fn on_prepare_ok(
 
 /// Appends an entry that fits, and sends it to the others.
 fn append_proposed(state: &mut VrState, entry: Entry, out: &mut VrOut) -> Result<(), AllocError>
-    requires valid { IsValid state.old }
+    requires valid { IsValidState state.old }
     requires fits { fits state.old.log entry ≡ true }
     ensures { OnOk result (Did (proposed state.old entry) state.new out.old out.new) }
 {
@@ -172,10 +172,10 @@ fn append_proposed(state: &mut VrState, entry: Entry, out: &mut VrOut) -> Result
 /// The primary proposes an entry. The first refusal that holds is the answer: the member is not normal or
 /// not the primary of its view; then the limits of the log.
 pub fn propose(state: &mut VrState, entry: Entry, out: &mut VrOut) -> Result<(), ProposeFault>
-    requires valid { IsValid state.old }
+    requires valid { IsValidState state.old }
     requires follows { may_follow state.old.log entry ≡ true }
     ensures step { Proposes state.old entry result state.new out.old out.new }
-    ensures valid { OnOk result (IsValid state.new) }
+    ensures valid { OnOk result (IsValidState state.new) }
 {
     if !state.leads() {
         return Err(ProposeFault::NotPrimary);

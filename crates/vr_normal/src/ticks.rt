@@ -2,7 +2,7 @@
 ghost use Rattle.std.specs.Prelude.{◌≡◌, ◌<◌, ◌≤◌, ◌+◌, ◌^◌, ◌++◌, length, OnOk};
 ghost use Rattle.vr_log.specs.declared.message.VrMessage.TheVariants as message;
 ghost use Rattle.vr_log.specs.Steps.{Did, to_others};
-ghost use Rattle.vr_log.specs.Valid.{IsValid};
+ghost use Rattle.vr_log.specs.Valid.{IsValidState};
 ghost use Rattle.vr_normal.specs.Ticks.{prepares_from, repeats_to, sent_log, tick_primary, tick_changing, tick_recovering, ticked};
 
 use std::alloc::AllocError;
@@ -56,7 +56,7 @@ fn repeat_to(state: &VrState, to: u8, out: &mut VrOut) -> Result<(), AllocError>
 }
 
 fn tick_as_primary(state: &VrState, out: &mut VrOut) -> Result<(), AllocError>
-    requires { IsValid state.now }
+    requires { IsValidState state.now }
     ensures { OnOk result (Did (tick_primary state.now) state.now out.old out.new) }
 {
     for to in 0..state.controllers {
@@ -80,7 +80,7 @@ fn vote_again(state: &VrState, out: &mut VrOut) -> Result<(), AllocError>
 
 /// The log again, where it was sent. No member sends its log to itself.
 fn send_log_again(state: &VrState, out: &mut VrOut) -> Result<(), AllocError>
-    requires { IsValid state.now }
+    requires { IsValidState state.now }
     ensures promise { out.new.promise ≡ out.old.promise }
     ensures letters { OnOk result (out.new.letters ≡ out.old.letters ++ sent_log state.now) }
 {
@@ -97,7 +97,7 @@ fn send_log_again(state: &VrState, out: &mut VrOut) -> Result<(), AllocError>
 }
 
 fn tick_as_changing(state: &VrState, out: &mut VrOut) -> Result<(), AllocError>
-    requires { IsValid state.now }
+    requires { IsValidState state.now }
     ensures { OnOk result (Did (tick_changing state.now) state.now out.old out.new) }
 {
     vote_again(state, out)?;
@@ -119,9 +119,9 @@ fn tick_as_recovering(state: &VrState, out: &mut VrOut) -> Result<(), AllocError
 
 /// Sends again what may have been lost. The state stays. After an `Err` it is to be dropped.
 pub fn tick(state: &mut VrState, out: &mut VrOut) -> Result<(), AllocError>
-    requires { IsValid state.old }
+    requires { IsValidState state.old }
     ensures step { OnOk result (Did (ticked state.old) state.new out.old out.new) }
-    ensures valid { IsValid state.new }
+    ensures valid { IsValidState state.new }
 {
     match state.status {
         Status::Normal => {

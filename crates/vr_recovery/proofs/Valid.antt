@@ -13,12 +13,12 @@ use Rattle.vr_log.specs.declared.state.VrState.{VrState}
 use Rattle.vr_log.specs.Log.{follows}
 use Rattle.vr_log.specs.Members.{is_other}
 use Rattle.vr_log.specs.Steps.{VrStep, Did, quiet, guarded}
-use Rattle.vr_log.specs.Valid.{AreMembers, IsValid}
+use Rattle.vr_log.specs.Valid.{AreMembers, IsValidState}
 use Rattle.vr_log.proofs.Valid.{either, chosen_by, nobody, Sound, guarded_valid, grown_valid, acknowledges_valid}
 use Rattle.view_change.specs.Adopting.{adopt}
 use Rattle.view_change.proofs.Valid.{adopt_passes, adopt_valid}
 use Rattle.vr_recovery.specs.Cases.{is_longer, is_adopted, lacking, completes, new_state}
-use Rattle.vr_recovery.specs.Recovering.{newest, with_response, greatest_view, responded, ending, ends_with, recovers}
+use Rattle.vr_recovery.specs.Recovering.{newest, with_response, greatest_view_told, responded, ending, ends_with, recovers}
 
 -- the case of a log that is adopted
 pub adopts_newer : (s u : VrState) (m : VrMessage) (from view first commit : ℕ) (log copied told : List Entry) (old new : VrOut) → is_other s from ≡ true → is_longer s view first log ≡ false → is_adopted s view first ≡ true →
@@ -29,15 +29,15 @@ adopts_newer s u m from view first commit log copied told old new other short ad
     ap (λ (x : VrMessage). new_state s from x) is ∙ (here ∙ ap (λ (l : List Entry). guarded s (adopt s view first commit l)) (sym (a ∙ b))) in
     subst (λ (x : VrStep). Did x u old new) (sym step) h
 
-pub completes_valid : (s : VrState) (first commit : ℕ) (log : List Entry) → IsValid s → IsValid (completes s first commit log).state
+pub completes_valid : (s : VrState) (first commit : ℕ) (log : List Entry) → IsValidState s → IsValidState (completes s first commit log).state
 completes_valid s first commit log v =
-    chosen_by IsValid (follows s.log (lacking s first log)) _ _ (λ f. acknowledges_valid (record s { log = s.log ++ lacking s first log }) commit (grown_valid s (lacking s first log) v f)) (λ f. v)
+    chosen_by IsValidState (follows s.log (lacking s first log)) _ _ (λ f. acknowledges_valid (record s { log = s.log ++ lacking s first log }) commit (grown_valid s (lacking s first log) v f)) (λ f. v)
 
-pub new_state_valid : (s : VrState) (from : ℕ) (m : VrMessage) → IsValid s → IsValid (new_state s from m).state
+pub new_state_valid : (s : VrState) (from : ℕ) (m : VrMessage) → IsValidState s → IsValidState (new_state s from m).state
 new_state_valid s from (message.NewState view first commit log) v =
-    either IsValid (is_other s from) _ _
-    (either IsValid (is_longer s view first log) (completes s first commit log) _ (completes_valid s first commit log v)
-    (either IsValid (is_adopted s view first) (guarded s (adopt s view first commit log)) (quiet s) (adopt_valid s view first commit log v) v)) v
+    either IsValidState (is_other s from) _ _
+    (either IsValidState (is_longer s view first log) (completes s first commit log) _ (completes_valid s first commit log v)
+    (either IsValidState (is_adopted s view first) (guarded s (adopt s view first commit log)) (quiet s) (adopt_valid s view first commit log v) v)) v
 new_state_valid s from _ v = v
 
 -- of each member one response is kept
@@ -63,7 +63,7 @@ distinct_with (kept ∷ responses) r d = elim (cases_Bool (nat_eq kept.from r.fr
   | inr other ↦ rw other (all_with (λ y. nat_eq kept.from y ≡ false) responses r d.0 other, distinct_with responses r d.1)
 ]
 
-told_valid : (s : VrState) (responses : List Response) → IsValid s → AreMembers s.controllers (map (λ k. k.from) responses) → IsValid (record s { responses = responses })
+told_valid : (s : VrState) (responses : List Response) → IsValidState s → AreMembers s.controllers (map (λ k. k.from) responses) → IsValidState (record s { responses = responses })
 told_valid s responses v a = record {
   log = v.log;
   group = v.group;
@@ -77,19 +77,19 @@ told_valid s responses v a = record {
   supply = v.supply;
 }
 
-pub emptied_valid : (s : VrState) → IsValid s → IsValid (record s { responses = [] })
+pub emptied_valid : (s : VrState) → IsValidState s → IsValidState (record s { responses = [] })
 emptied_valid s v = told_valid s [] v (nobody s.controllers)
 
-responded_valid : (s : VrState) (r : Response) → IsValid s → r.from < s.controllers → IsValid (responded s r)
+responded_valid : (s : VrState) (r : Response) → IsValidState s → r.from < s.controllers → IsValidState (responded s r)
 responded_valid s r v lt =
     told_valid s (with_response s.responses r) v (record { below = all_with (λ j. j < s.controllers) s.responses r v.responses.below lt; once = distinct_with s.responses r v.responses.once })
 
-ends_passes : (t : VrState) (view : ℕ) (told : Option Filled) → IsValid t → Sound (ends_with t view told).state (ends_with t view told).state → IsValid (ends_with t view told).state
+ends_passes : (t : VrState) (view : ℕ) (told : Option Filled) → IsValidState t → Sound (ends_with t view told).state (ends_with t view told).state → IsValidState (ends_with t view told).state
 ends_passes t view None v sound = v
 ends_passes t view (Some told) v sound = adopt_passes (record t { responses = [] }) view 0 told.commit told.log (emptied_valid t v) sound
 
-pub recovers_valid : (s : VrState) (r : Response) → IsValid s → is_other s r.from ≡ true → IsValid (guarded s (recovers (responded s r))).state
+pub recovers_valid : (s : VrState) (r : Response) → IsValidState s → is_other s r.from ≡ true → IsValidState (guarded s (recovers (responded s r))).state
 recovers_valid s r v other =
     let t = responded s r in
     let lt = ltb-true r.from s.controllers (and_parts (nat_lt r.from s.controllers) (not (nat_eq r.from s.me)) other).0 in
-    guarded_valid s (recovers t) v (λ sound. ends_passes t (greatest_view t.responses) (ending t) (responded_valid s r v lt) (record { log = sound.log; commit = sound.commit }))
+    guarded_valid s (recovers t) v (λ sound. ends_passes t (greatest_view_told t.responses) (ending t) (responded_valid s r v lt) (record { log = sound.log; commit = sound.commit }))

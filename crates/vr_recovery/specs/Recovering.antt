@@ -50,8 +50,8 @@ with_response (kept ∷ responses) r =
     if nat_eq kept.from r.from then newest kept r ∷ responses else kept ∷ with_response responses r
 
 -- the greatest view that was told
-abbrev pub greatest_view : List Response → ℕ
-greatest_view = rule.greatest_view
+abbrev pub greatest_view_told : List Response → ℕ
+greatest_view_told = rule.greatest_view
 
 -- the log of its primary, where that told it
 abbrev pub told_log : ℕ → Option Response → Option Filled
@@ -62,19 +62,19 @@ abbrev pub primary_log : VrState → ℕ → Option Filled
 primary_log s view = told_log view (find (λ r. nat_eq r.from (primary_of s view)) s.responses)
 
 -- enough members told a view, which is not below the promise
-abbrev pub is_enough : VrState → Bool
-is_enough = rule.is_enough
+abbrev pub are_responses_enough : VrState → Bool
+are_responses_enough = rule.is_enough
 
 -- recovery ends with that log
 abbrev pub ending : VrState → Option Filled
-ending s = if is_enough s then primary_log s (greatest_view s.responses) else None
+ending s = if are_responses_enough s then primary_log s (greatest_view_told s.responses) else None
 
 abbrev pub ends_with : VrState → ℕ → Option Filled → VrStep
 ends_with s view None = quiet s
 ends_with s view (Some told) = adopt (record s { responses = [] }) view 0 told.commit told.log
 
 abbrev pub recovers : VrState → VrStep
-recovers s = ends_with s (greatest_view s.responses) (ending s)
+recovers s = ends_with s (greatest_view_told s.responses) (ending s)
 
 -- RECOVERYRESPONSE to the question of this life
 abbrev pub responded : VrState → Response → VrState

@@ -2,7 +2,7 @@
 //! than its call changes nothing. After an `Err` the state is to be dropped.
 ghost use Rattle.std.specs.Prelude.{◌≡◌, ◌<◌, ◌∷◌, [], Contains, IfOk, OnOk};
 ghost use Rattle.vr_log.specs.Steps.{Did, guarded};
-ghost use Rattle.vr_log.specs.Valid.{IsValid};
+ghost use Rattle.vr_log.specs.Valid.{IsValidState};
 ghost use Rattle.vr_recovery.specs.Recovering as recovering;
 ghost use Rattle.vr_recovery.specs.Recovering.{restarted, recovers, responded, ending};
 
@@ -25,7 +25,7 @@ pub fn restart(
     requires group { Contains (1 ∷ 3 ∷ 5 ∷ 7 ∷ []) controllers }
     requires member { me < controllers }
     ensures step { IfOk result (λ state. Did (restarted me controllers promise life) state out.old out.new) }
-    ensures valid { IfOk result (λ state. IsValid state) }
+    ensures valid { IfOk result (λ state. IsValidState state) }
 {
     let mut state = VrState::new(alloc, me, controllers)?;
     state.status = Status::Recovering;
@@ -75,9 +75,9 @@ pub fn on_recovery(
     message: &VrMessage,
     out: &mut VrOut,
 ) -> Result<(), AllocError>
-    requires { IsValid state.old }
+    requires { IsValidState state.old }
     ensures step { OnOk result (Did (recovering.recovery state.old from message.now) state.new out.old out.new) }
-    ensures valid { OnOk result (IsValid state.new) }
+    ensures valid { OnOk result (IsValidState state.new) }
 {
     match message {
         VrMessage::Recovery { nonce, promise } => {
@@ -117,7 +117,7 @@ fn ending(state: &VrState, responses: &[Response]) -> Result<Option<Filled>, All
 
 /// Keeps a response, and ends recovery where that is possible. Where the log that was told is none, all stays.
 fn take_response(state: &mut VrState, response: Response, out: &mut VrOut) -> Result<(), AllocError>
-    requires { IsValid state.old }
+    requires { IsValidState state.old }
     ensures { OnOk result (Did (guarded state.old (recovers (responded state.old response))) state.new out.old out.new) }
 {
     let alloc = state.log.allocator();
@@ -151,9 +151,9 @@ pub fn on_response(
     message: &VrMessage,
     out: &mut VrOut,
 ) -> Result<(), AllocError>
-    requires { IsValid state.old }
+    requires { IsValidState state.old }
     ensures step { OnOk result (Did (recovering.response state.old from message.now) state.new out.old out.new) }
-    ensures valid { OnOk result (IsValid state.new) }
+    ensures valid { OnOk result (IsValidState state.new) }
 {
     match message {
         VrMessage::RecoveryResponse {

@@ -2,7 +2,7 @@
 //! nothing. After an `Err` the state is to be dropped.
 ghost use Rattle.std.specs.Prelude.{◌≡◌, ◌<◌, ◌≤◌, ◌+◌, length, OnOk};
 ghost use Rattle.vr_log.specs.Steps.{Did};
-ghost use Rattle.vr_log.specs.Valid.{IsValid};
+ghost use Rattle.vr_log.specs.Valid.{IsValidState};
 ghost use Rattle.vr_recovery.specs.Cases.{get_state, is_longer, is_adopted, completes, new_state};
 
 use std::alloc::AllocError;
@@ -16,9 +16,9 @@ pub fn on_get_state(
     message: &VrMessage,
     out: &mut VrOut,
 ) -> Result<(), AllocError>
-    requires { IsValid state.old }
+    requires { IsValidState state.old }
     ensures step { OnOk result (Did (get_state state.old from message.now) state.new out.old out.new) }
-    ensures valid { IsValid state.new }
+    ensures valid { IsValidState state.new }
 {
     match message {
         VrMessage::GetState { view, op } => {
@@ -88,9 +88,9 @@ pub fn on_new_state(
     message: &VrMessage,
     out: &mut VrOut,
 ) -> Result<(), AllocError>
-    requires { IsValid state.old }
+    requires { IsValidState state.old }
     ensures step { OnOk result (Did (new_state state.old from message.now) state.new out.old out.new) }
-    ensures valid { OnOk result (IsValid state.new) }
+    ensures valid { OnOk result (IsValidState state.new) }
 {
     match message {
         VrMessage::NewState {

@@ -20,7 +20,7 @@ use Rattle.run_spec.specs.Legal.{EntryFits, IsSoundController}
 use Rattle.run_spec.specs.States.{Scene, ControllerAt, controller_at, controller_message, controller_rules, controller_saved, controller_speech, controller_took, crashed}
 use Rattle.run_spec.proofs.Saves.{same_results, sound_with_more}
 use Rattle.world.specs.World.{IsOwed}
-use Rattle.world.specs.Standing.{ControllerStands, Stands}
+use Rattle.world.specs.Standing.{ControllerStands, WorldStands}
 use Rattle.world.proofs.Standing.{IsIdle, input_taken, posts, refuses, rests, takes}
 use Rattle.world.proofs.Taking.{IsTaken, took_is}
 
@@ -83,8 +83,8 @@ module _ {B A : Type 0} (law : AppLaw A) (scene : Scene B) (c : ℕ) (own : List
     me_is = me_is ∙ h.me_is;
     saves = subst (λ (rs : List SaveResult). length rs ≡ (controller_at scene rs c ((Refused a, nothing) ∷ (e, found) ∷ own)).saves) (sym unsaved)
         (h.saves ∙ sym (ap (λ w. w.saves_before) on ∙ (knows).1));
-    stands = subst (λ (rs : List SaveResult). Stands (controller_rules scene rs) controller_speech scene.sealing start ((Refused a, nothing) ∷ (e, found) ∷ own) (state_of new) []) (sym unsaved)
-        (subst (λ (s : ControllerState). Stands (controller_rules scene old.results) controller_speech scene.sealing start ((Refused a, nothing) ∷ (e, found) ∷ own) s []) (sym down)
+    stands = subst (λ (rs : List SaveResult). WorldStands (controller_rules scene rs) controller_speech scene.sealing start ((Refused a, nothing) ∷ (e, found) ∷ own) (state_of new) []) (sym unsaved)
+        (subst (λ (s : ControllerState). WorldStands (controller_rules scene old.results) controller_speech scene.sealing start ((Refused a, nothing) ∷ (e, found) ∷ own) s []) (sym down)
         (refuses (controller_rules scene old.results) controller_speech scene.sealing start own (state_of old) e found nothing x a heard typed h.stands (knows).0));
   }
     where
@@ -120,7 +120,7 @@ module _ {B A : Type 0} (law : AppLaw A) (scene : Scene B) (c : ℕ) (own : List
     same_then : was ≡ is
     same_then = same_results scene old.results taken.more c own few ∙ ap (λ (rs : List SaveResult). controller_at scene rs c own) (sym taken.joined)
 
-    stood : Stands (controller_rules scene new.results) controller_speech scene.sealing start own (state_of old) []
+    stood : WorldStands (controller_rules scene new.results) controller_speech scene.sealing start own (state_of old) []
     stood = record {
       typed = h.stands.typed;
       finds = h.stands.finds;

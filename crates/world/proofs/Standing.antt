@@ -1,7 +1,7 @@
 -- An actor goes on behind its own entries: it posts what it owes, rests, takes what it hears, or is refused that.
 use Rattle.std.proofs.Common.{◌≡◌, ℕ, List, [], ◌∷◌, refl, sym, ◌∙◌, ap, subst}
 use Rattle.std.specs.Prelude.{Option}
-use Rattle.actor_fold.specs.Fold.{ActorRules, Standing, standing_on}
+use Rattle.actor_fold.specs.Fold.{ActorRules, ActorStanding, standing_on}
 use Rattle.journal.specs.declared.journal.Actor.{Actor}
 use Rattle.journal.specs.declared.journal.JournalEntry.{JournalEntry}
 use Rattle.journal.specs.declared.journal.JournalEntry.TheVariants.{Post, Draw, Lose, Local, Idle, Refused}
@@ -12,7 +12,7 @@ use Rattle.run_spec.specs.Inputs.{IsInput, By_draw, By_local}
 use Rattle.run_spec.specs.Legal.{EntryFits}
 use Rattle.run_spec.specs.States.{Sealing, Speech, actor_at, sealed_letters, step_of}
 use Rattle.world.specs.World.{IsOwed}
-use Rattle.world.specs.Standing.{Stands}
+use Rattle.world.specs.Standing.{WorldStands}
 
 -- where nothing is sealed, nothing is said
 pub none_said : {A B : Type 0} (sealing : Sealing B) (said : A → Message) (says : List (Letter A)) (ls : List (Letter B)) → ls ≡ sealed_letters said sealing says → ls ≡ [] → says ≡ []
@@ -29,11 +29,11 @@ IsIdle (Local a input) = ⊥
 IsIdle (Refused a) = ⊥
 
 module _ {B S I A : Type 0} (rules : ActorRules S I (Letter A)) (speech : Speech I A) (sealing : Sealing B) (start : S) (own : List (JournalEntry B × Option (Packet B))) where
-  abbrev was : Standing S (Letter A)
+  abbrev was : ActorStanding S (Letter A)
   was = actor_at rules speech sealing start own
 
   abbrev At : List (JournalEntry B × Option (Packet B)) → S → List (Letter B) → Type 0
-  At entries state owed = Stands rules speech sealing start entries state owed
+  At entries state owed = WorldStands rules speech sealing start entries state owed
 
   -- it owes nothing that it says
   pub quiet : (state : S) → At own state [] → was.owed ≡ []

@@ -6,7 +6,7 @@ use Rattle.journal.specs.declared.journal.SaveResult.{SaveResult}
 use Rattle.journal.specs.declared.journal.SaveResult.TheVariants.{Saved, KeptOld, KeptNew}
 use Rattle.group_controller.specs.declared.messages.ControllerSays.{ControllerSays}
 use Rattle.group_controller.specs.State.{ControllerState, Work}
-use Rattle.group_controller.specs.Turns.{Done, left_by, posted_by}
+use Rattle.group_controller.specs.Turns.{Done, left_by, letters_posted_by}
 use Rattle.run_spec.specs.States.{ControllerAt, controller_saved, controller_took}
 
 -- the newest result
@@ -24,7 +24,7 @@ pub record IsTaken (results new : List SaveResult) (w v : ControllerAt) (state :
 
 module _ (results new : List SaveResult) (w : ControllerAt) (work : Work) (counted : w.saves ≡ length results) where
   saved_taken : (saved : ℕ × ℕ) (r : SaveResult) → new ≡ results ++ r ∷ [] →
-      IsTaken results new w (controller_saved w work saved.0 saved.1 r) (left_by r w.now work saved) (posted_by r work)
+      IsTaken results new w (controller_saved w work saved.0 saved.1 r) (left_by r w.now work saved) (letters_posted_by r work)
   saved_taken saved Saved kept = record { now = refl; owed = refl; saves = counts; more = Saved ∷ []; joined = kept }
     where
       counts : w.saves + 1 ≡ length new

@@ -60,9 +60,9 @@ TurnStops size turn old new OutOfMemory = IsHalted size turn old new
 TurnStops size turn old new (JournalFull bytes letters) = IsStuck size new bytes letters × ((new ≡ old) ⊎ (new.journal ≡ taken turn (with_posts size old).journal))
 
 -- a refusal behind these entries, where one stands: the newest of them is its actor's input
-pub data IsRefusal {B : Type 0} (before : List (JournalEntry B)) : List (JournalEntry B) → Type 0 where
-  None_stands : IsRefusal before []
-  One_stands : (a : Actor) → MayBeRefused before → IsInputOf a before → IsRefusal before (Refused a ∷ [])
+pub data IsRefusalBehind {B : Type 0} (before : List (JournalEntry B)) : List (JournalEntry B) → Type 0 where
+  None_stands : IsRefusalBehind before []
+  One_stands : (a : Actor) → MayBeRefused before → IsInputOf a before → IsRefusalBehind before (Refused a ∷ [])
 
 -- the step of a turn that found no memory: nothing has changed, or its input is refused
 pub data StepStops {B A W : Type 0} (law : AppLaw A) (saving : Saving W) (sealing : Sealing B) (turn : Turn)

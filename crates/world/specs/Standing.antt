@@ -18,7 +18,7 @@ use Rattle.world.specs.World.{IsOwed}
 
 -- an actor of these rules, which started so, is what these entries of its own make of it, and owes these letters. They stand
 -- with the newest first, each draw beside its packet
-pub record Stands {B S I A : Type 0} (rules : ActorRules S I (Letter A)) (speech : Speech I A) (sealing : Sealing B) (start : S)
+pub record WorldStands {B S I A : Type 0} (rules : ActorRules S I (Letter A)) (speech : Speech I A) (sealing : Sealing B) (start : S)
     (own : List (JournalEntry B × Option (Packet B))) (state : S) (owed : List (Letter B)) : Type 0 where
   pub typed : AllByRecursion (λ x. EntryFits x.0) own
   pub finds : EachFinds own
@@ -28,7 +28,7 @@ pub record Stands {B S I A : Type 0} (rules : ActorRules S I (Letter A)) (speech
 
 -- a switch of a number does
 abbrev pub SwitchStands : {B : Type 0} → Scene B → ℕ → List (JournalEntry B × Option (Packet B)) → SwitchState → List (Letter B) → Type 0
-SwitchStands scene s own state owed = Stands switch_rules switch_speech scene.sealing (starting_switch s scene.setup) own state owed
+SwitchStands scene s own state owed = WorldStands switch_rules switch_speech scene.sealing (starting_switch s scene.setup) own state owed
 
 -- and a controller, whose saves had these results, and no more
 pub record ControllerStands {B A : Type 0} (law : AppLaw A) (scene : Scene B) (c : ℕ) (own : List (JournalEntry B × Option (Packet B)))
@@ -37,7 +37,7 @@ pub record ControllerStands {B A : Type 0} (law : AppLaw A) (scene : Scene B) (c
   pub setup_is : x.setup ≡ scene.setup
   pub me_is : x.me ≡ c
   pub saves : length x.results ≡ (controller_at scene x.results c own).saves
-  pub stands : Stands (controller_rules scene x.results) controller_speech scene.sealing (starting_controller c scene.setup.controllers) own (state_of x) owed
+  pub stands : WorldStands (controller_rules scene x.results) controller_speech scene.sealing (starting_controller c scene.setup.controllers) own (state_of x) owed
 
 -- each actor of a setup stands behind its part of a past, owing these letters
 pub record AllStand {B A : Type 0} (law : AppLaw A) (scene : Scene B) (entries : List (JournalEntry B))

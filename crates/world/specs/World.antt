@@ -118,8 +118,8 @@ abbrev pub ForEachScene : {B A : Type 0} → AppLaw A → Sealing B → Worlding
 ForEachScene law sealing w claim = (kinds : List ℕ) → Holds law sealing w kinds → claim (scene_in sealing w kinds)
 
 -- a world of these parts, which owes nothing
-abbrev pub resting : {B A : Type 0} → Setup → List (JournalEntry B) → List (Controlling A) → List SwitchState → Worlding B A
-resting setup journal controllers switches = record { setup = setup; journal = journal; controllers = controllers; switches = switches; owed = None }
+abbrev pub resting_world : {B A : Type 0} → Setup → List (JournalEntry B) → List (Controlling A) → List SwitchState → Worlding B A
+resting_world setup journal controllers switches = record { setup = setup; journal = journal; controllers = controllers; switches = switches; owed = None }
 
 -- the stable pair of each controller is the one that it knows
 abbrev pub PairsStand : {A W : Type 0} → Saving W → List W → List (Controlling A) → Type 0

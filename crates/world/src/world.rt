@@ -13,7 +13,7 @@ ghost use Rattle.journal.specs.declared.journal.Turn.TheVariants as turn;
 ghost use Rattle.group_controller.specs.Turns.{ForEachKinds, state_of};
 ghost use Rattle.run_spec.specs.Committed.{members_up};
 ghost use Rattle.run_spec.specs.Messages.{way_of};
-ghost use Rattle.world.specs.World.{Applies, AreStocked, Holds, IsPlayed, Keeps, PairsStand, PostStops, resting, StartsAs, Steps, taken, with_posts};
+ghost use Rattle.world.specs.World.{Applies, AreStocked, Holds, IsPlayed, Keeps, PairsStand, PostStops, resting_world, StartsAs, Steps, taken, with_posts};
 ghost use Rattle.world.specs.Refusals.{StepStops, TurnStops};
 ghost use Rattle.world.specs.Actors.{ControllerOwes, ControllerRefused, IsServed, SwitchOwes, SwitchRefused};
 
@@ -87,7 +87,7 @@ impl<B: Body, A: App> World<B, A> {
         controllers: Vec<Controller<A>>,
         switches: Vec<Switch>,
     ) -> World<B, A>
-        ensures is { result ≡ resting setup wire controllers.items switches.items }
+        ensures is { result ≡ resting_world setup wire controllers.items switches.items }
         ensures holds { ForEachKinds (IsPlayed A.law B.sealing result) (Holds A.law B.sealing result) }
     {
         World {

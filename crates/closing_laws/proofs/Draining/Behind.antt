@@ -12,7 +12,7 @@ use Rattle.vr_log.specs.declared.state.VrState.{VrState}
 use Rattle.vr_log.specs.Members.{is_up}
 use Rattle.view_change.specs.Entering.{tells_start}
 use Rattle.dispatcher.specs.Marks.{no_marks}
-use Rattle.group_controller.specs.State.{ControllerState, Work, fresh, leaving, posting, stepped}
+use Rattle.group_controller.specs.State.{ControllerState, Work, fresh, leaving, posting_work, stepped}
 use Rattle.group_controller.specs.Rules.{switches}
 use Rattle.group_controller.specs.Settling.{role_letter}
 use Rattle.run_spec.specs.States.{Scene, IsFaithful}
@@ -75,7 +75,7 @@ module _ {B : Type 0} (scene : Scene B) (results : List (List SaveResult)) (setu
   place =
       let s : Work = starting_turn scene.kinds scene.setup starts.started.promise started_as in
       let proceeds = settling_proceeds scene.kinds scene.setup started_as.commit
-      (posting (leaving (stepped (fresh started_as) (record (tells_start started_as) { promise = starts.started.promise }))
+      (posting_work (leaving (stepped (fresh started_as) (record (tells_start started_as) { promise = starts.started.promise }))
       (record (stepped (fresh started_as) (record (tells_start started_as) { promise = starts.started.promise })).state { marks = no_marks; last_told = None }))
       (map (role_letter w) (switches scene.setup))) in
       subst (λ (x : ControllerState). IsSamePlace started_as x.vr) (sym starts.started.primary)

@@ -12,13 +12,13 @@ use Rattle.journal.specs.declared.journal.Letter.{Letter}
 use Rattle.journal.specs.declared.journal.Packet.{Packet}
 use Rattle.journal.specs.declared.journal.SaveResult.{SaveResult}
 use Rattle.journal.specs.Actors.{actor_of}
-use Rattle.journal.specs.Pool.{pool, numbered}
+use Rattle.journal.specs.Pool.{pool, numbered_letters}
 use Rattle.journal.specs.Turns.{IsWithinLimits}
 use Rattle.list_facts.specs.Lists.{IsIn}
 use Rattle.vr_log.specs.declared.entry.LogFull.{LogFull}
 use Rattle.run_spec.specs.States.{Scene, IsFaithful, ControllerAt, SwitchAt, controller_message, sealed_letters, switch_message}
 use Rattle.run_spec.specs.Legal.{IsPossible}
-use Rattle.run_spec.specs.Schedule.{Done, IsEnd, Phase, Draining, Met, Move, Ends, ClosesTo, IsInputOf, IsMove, IsPosted, after_move, drained, is_drawn, met_by, next_drained, next_move, owed_of, is_turn, count_turns}
+use Rattle.run_spec.specs.Schedule.{Done, IsEnd, Phase, Draining, Met, ClosingMove, Ends, ClosesTo, IsInputOf, IsMove, IsPosted, after_move, drained, is_drawn, met_by, next_drained, next_move, owed_of, is_turn, count_turns}
 use Rattle.run_spec.proofs.Pasts.{possible_before, self_controller}
 use Rattle.run_spec.proofs.Pools.{one_actor}
 use Rattle.run_agreement.proofs.Pasts.{fits}
@@ -97,7 +97,7 @@ module _ {B : Type 0} (scene : Scene B) (results : List (List SaveResult)) (setu
       let few = holds.has_room (at scene results p P).now stands.members stands.switches (o.waiting ++ owes a P) stands.drains (true_of scene results w quorum start P (o.waiting ++ owes a P) stands (holds.truths P old had)) (holds.logged P old had) stands.roomy in
       let both = length-append o.waiting (owes a P) in
       let waits = paired_length (Carries scene.sealing) (pool P) o.waiting o.carries in
-      let said = paired_length (Carries scene.sealing) (numbered first a letters) (owes a P) (post_carries scene results w quorum start setup faithful a first letters lost P possible) in
+      let said = paired_length (Carries scene.sealing) (numbered_letters first a letters) (owes a P) (post_carries scene results w quorum start setup faithful a first letters lost P possible) in
       let same = length-numbered first a letters in
       finds_room scene.sealing.size a first letters lost P possible.orderly within (omega (arith, few, both, waits, said, same))
 
@@ -204,10 +204,10 @@ module _ {B : Type 0} (scene : Scene B) (results : List (List SaveResult)) (setu
         ends_with _ Drains none = ap (next_drained scene.setup.controllers w quorum) none
 
         by_waiting : (waiting : List Sent) → AllCarry scene.sealing (pool P) waiting → Stands P waiting → Went e rest P last (left_after P waiting)
-        by_waiting [] carries stands = absurd (subst (λ (v : Move B). IsMove v e next) (ends_with phase draining (none_carried scene.sealing (pool P) carries)) move)
+        by_waiting [] carries stands = absurd (subst (λ (v : ClosingMove B). IsMove v e next) (ends_with phase draining (none_carried scene.sealing (pool P) carries)) move)
         by_waiting (m ∷ ms) carries stands =
             let h = head_of scene.sealing (pool P) m ms carries in
-            let m' = subst (λ (v : Move B). IsMove v e next) (first.next_is scene P m ms h results w quorum phase draining) move in
+            let m' = subst (λ (v : ClosingMove B). IsMove v e next) (first.next_is scene P m ms h results w quorum phase draining) move in
             subst (λ (x : JournalEntry B). Leads_on m ms h stands x) (sym m'.0) (one_head m ms h stands) possible
             (subst (λ (f : Phase). ClosesTo scene results (after_move scene results e P f) (e ∷ P) rest last) m'.1 closes)
 
@@ -252,11 +252,11 @@ module _ {B : Type 0} (scene : Scene B) (results : List (List SaveResult)) (setu
       by_waiting : (waiting : List Sent) → AllCarry scene.sealing (pool P) waiting → Stands P waiting → Ended primary P
       by_waiting [] carries stands =
           let none = none_carried scene.sealing (pool P) carries in
-          let done : Done primary ≡ Done p = subst (λ (v : Move B). IsEnd v (Done primary)) (ends_with phase P draining none) end in
+          let done : Done primary ≡ Done p = subst (λ (v : ClosingMove B). IsEnd v (Done primary)) (ends_with phase P draining none) end in
           record { who = cc; empty = none; stands = stands }
       by_waiting (m ∷ ms) carries stands =
           let h = head_of scene.sealing (pool P) m ms carries in
-          absurd (subst (λ (v : Move B). IsEnd v (Done primary)) (first.next_is scene P m ms h results w quorum phase draining) end)
+          absurd (subst (λ (v : ClosingMove B). IsEnd v (Done primary)) (first.next_is scene P m ms h results w quorum phase draining) end)
 
   -- one entry, and the rest
   gone_by : (e : JournalEntry B) (rest : List (JournalEntry B)) (P : Past) (last : Phase) (left_before left_rested : ℕ) → left_rested ≡ left_before → Went e rest P last left_rested →

@@ -23,7 +23,7 @@ use Rattle.run_spec.specs.declared.messages.Message.TheVariants as message
 use Rattle.run_spec.specs.States.{controller_message}
 use Rattle.closing_laws.specs.Views.{IsReadyMember, in_started, in_view}
 use Rattle.closing_laws.specs.Ways.{told_to}
-use Rattle.closing_laws.specs.Following.{ArePrepares, AreAcknowledged, Start, Waits, IsFollowing, KeepsUp, LeadsFrom}
+use Rattle.closing_laws.specs.Following.{ArePrepares, AreAcknowledged, Start, WaitsFor, IsFollowing, KeepsUp, LeadsFrom}
 use Rattle.closing_laws.proofs.Start.Adopted.{log_adopted}
 
 -- what members are told of entries
@@ -142,7 +142,7 @@ pub record Hears (start : Start) (p : VrState) (b : ℕ) (s : VrState) (m : VrMe
 
 -- what a member says as it takes the log of a view
 module _ (start : Start) (p : VrState) (lead : LeadsFrom start p) (leader : p.me ≡ p.view % p.controllers) (small : p.me < p.controllers) (b : ℕ) (apart : b ≡ p.me → ⊥) where
-  module _ (s : VrState) (m : VrMessage) (out in_ : List Message) (h : Waits start p b s (message.Vr m ∷ out) in_) where
+  module _ (s : VrState) (m : VrMessage) (out in_ : List Message) (h : WaitsFor start p b s (message.Vr m ∷ out) in_) where
     abbrev had : VrState
     had = h.had
 

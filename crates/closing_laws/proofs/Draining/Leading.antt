@@ -18,7 +18,7 @@ use Rattle.run_spec.specs.declared.messages.Message.{Message}
 use Rattle.run_spec.specs.declared.messages.Message.TheVariants as message
 use Rattle.run_spec.specs.States.{controller_message}
 use Rattle.closing_laws.specs.Quorum.{has}
-use Rattle.closing_laws.specs.Following.{ArePrepares, Start, Waits, IsAgreed, LeadsFrom}
+use Rattle.closing_laws.specs.Following.{ArePrepares, Start, WaitsFor, IsAgreed, LeadsFrom}
 use Rattle.closing_laws.specs.Views.{IsCovered, IsReadyMember, in_view, last_first, log_of, started_with, tellers}
 use Rattle.closing_laws.proofs.Lists.Numbers.{filter_has, filter_in}
 use Rattle.closing_laws.proofs.Lists.Picked.{IsPicked, another}
@@ -146,7 +146,7 @@ module _ (n w : ℕ) (quorum : List ℕ) (at : ℕ → VrState) (best : ℕ) (pi
       ∙ ap (λ (z : List Message). tells_member b (to_members (to_others leader (view_start leader))) ++ z) (roles_told b w ts)
       ∙ ap (λ (z : List Message). z ++ []) ((others_told (view_start leader) leader.me b (λ e. other (e ∙ me)) leader.controllers).1 (omega (arith, less, all)))
 
-  pub waits : (b : ℕ) (ts : List ℕ) → has quorum b ≡ true → (b ≡ p → ⊥) → Waits start leader b (in_view (at b) w (voters b) true [] None) (word_to b ts) []
+  pub waits : (b : ℕ) (ts : List ℕ) → has quorum b ≡ true → (b ≡ p → ⊥) → WaitsFor start leader b (in_view (at b) w (voters b) true [] None) (word_to b ts) []
   waits b ts member other = record {
     had = at b;
     voters = voters b;

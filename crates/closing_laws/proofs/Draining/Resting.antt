@@ -24,7 +24,7 @@ use Rattle.dispatcher.specs.Marks.{has_result, is_confirmed, is_finished, is_wan
 use Rattle.group_controller.specs.State.{ControllerState, committed}
 use Rattle.closing_laws.specs.Quorum.{has}
 use Rattle.closing_laws.specs.Following.{Start, KeepsUp, IsAgreed, LeadsFrom}
-use Rattle.closing_laws.specs.Serving.{AreFew, IsAttended, IsSettled, IsTrueOf, IsMastered, AreEventsTold, events_told, logged_of, processed_by, sent_of, settled_by, told_by, told_through}
+use Rattle.closing_laws.specs.Serving.{AreFew, IsAttended, IsSettled, IsTrueOf, IsMastered, AreEventsTold, events_told, logged_of, processed_by, sent_of, settled_by, letters_told_by, told_through}
 use Rattle.closing_laws.proofs.Draining.Followers.{rests, drop_none}
 use Rattle.closing_laws.proofs.Truths.CommandsNamed.{command_named}
 
@@ -98,7 +98,7 @@ module _ (kinds : List ℕ) (setup : Setup) (c : ControllerState) (all : committ
     ]
 
     -- each command that was told has its result
-    all_marked : (i : ℕ) → settled_by kinds setup c s sw ≤ i → i < told_by kinds setup c s sw → has_result c.marks s (life_of sw) i ≡ true
+    all_marked : (i : ℕ) → settled_by kinds setup c s sw ≤ i → i < letters_told_by kinds setup c s sw → has_result c.marks s (life_of sw) i ≡ true
     all_marked i least most = elim ((h.confirmed confirmed).accounted i least most) [ inl e ↦ e | inr w ↦ elim w [ inl e ↦ absurd e | inr e ↦ absurd e ] ]
 
   -- of all switches
@@ -147,7 +147,7 @@ module _ (kinds : List ℕ) (setup : Setup) (c : ControllerState) (all : committ
             subst (λ (l : ℕ). settled_commands kinds setup (committed c) x.switch l ≤ x.number) own (omega (arith, same, least))
 
         to_told : (x : Issued) → x.life ≡ life_of (switches x.switch) → x.number < length (issued kinds setup x.switch x.life (take (processed (committed c) + 1) (received (committed c)))) →
-            x.number < told_by kinds setup c x.switch (switches x.switch)
+            x.number < letters_told_by kinds setup c x.switch (switches x.switch)
         to_told x own most =
             let same = counted x.switch x.life (processed (committed c) + 1) in
             let told : events_told c ≡ processed (committed c) + 1 = ap (λ (b : Bool). processed (committed c) + (if b then 0 else 1)) settled.told in

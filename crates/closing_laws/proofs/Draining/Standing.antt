@@ -14,7 +14,7 @@ use Rattle.journal.specs.declared.journal.SaveResult.{SaveResult}
 use Rattle.journal.specs.Actors.{actor_of}
 use Rattle.journal.specs.Part.{part}
 use Rattle.journal.specs.Limits.{pool_packets}
-use Rattle.journal.specs.Pool.{pool, numbered}
+use Rattle.journal.specs.Pool.{pool, numbered_letters}
 use Rattle.list_facts.specs.Lists.{IsIn}
 use Rattle.vr_log.specs.declared.state.Status.{Status}
 use Rattle.vr_log.specs.declared.state.Status.TheVariants.{Normal, ViewChange, Recovering, Down}
@@ -265,18 +265,18 @@ module _ {B : Type 0} (scene : Scene B) (results : List (List SaveResult)) (w : 
   module _ (setup : IsSetup scene.setup) (faithful : IsFaithful scene.sealing) where
     -- what an actor owes can be said
     pub post_carries : (a : Actor) (first : ℕ) (letters : List (Letter B)) (lost : ℕ) (P : Past) → IsPossible scene results (Post a first letters lost ∷ P) →
-        AllCarry scene.sealing (numbered first a letters) (owes a P)
+        AllCarry scene.sealing (numbered_letters first a letters) (owes a P)
     post_carries (actor.Controller c) first letters lost P possible =
         let old = possible_before scene results _ P possible in
         let may = fits scene results (Post (actor.Controller c) first letters lost) P possible c (self_controller c) in
         let holds = (always scene results setup faithful P old 0).controllers c (possible.named.0) in
-        subst (λ (ls : List (Letter B)). AllCarry scene.sealing (numbered first (actor.Controller c) ls) (owes (actor.Controller c) P)) (sym may.0)
+        subst (λ (ls : List (Letter B)). AllCarry scene.sealing (numbered_letters first (actor.Controller c) ls) (owes (actor.Controller c) P)) (sym may.0)
         (letters_carry scene.sealing faithful controller_message (actor.Controller c) first (at scene results c P).owed (λ l among. ordered_may scene.kinds scene.setup _ c l (holds.owed l among)) may.2)
     post_carries (actor.Switch s) first letters lost P possible =
         let old = possible_before scene results _ P possible in
         let may = switch_fits scene results s (Post (actor.Switch s) first letters lost) P refl possible possible.named.0 in
         let holds = (always scene results setup faithful P old 0).switches s (possible.named.0) in
-        subst (λ (ls : List (Letter B)). AllCarry scene.sealing (numbered first (actor.Switch s) ls) (owes (actor.Switch s) P)) (sym may.0)
+        subst (λ (ls : List (Letter B)). AllCarry scene.sealing (numbered_letters first (actor.Switch s) ls) (owes (actor.Switch s) P)) (sym may.0)
         (letters_carry scene.sealing faithful switch_message (actor.Switch s) first (sw scene results s P).owed (λ l among. reported_may s _ _ l (holds.owed l among)) may.2)
 
     -- what is owed is posted
@@ -288,7 +288,7 @@ module _ {B : Type 0} (scene : Scene B) (results : List (List SaveResult)) (w : 
         record {
           waiting = o.waiting ++ owes a P;
           carries = subst (λ (ps : List (Packet B)). AllCarry scene.sealing ps (o.waiting ++ owes a P)) (sym (ap (λ (l : List (Packet B)). pool P ++ l) (all_fit first a letters lost room)))
-              (carry_both scene.sealing (pool P) (numbered first a letters) o.waiting (owes a P) o.carries (post_carries a first letters lost P possible));
+              (carry_both scene.sealing (pool P) (numbered_letters first a letters) o.waiting (owes a P) o.carries (post_carries a first letters lost P possible));
           stands = idle_stands (Post a first letters lost) P (o.waiting ++ owes a P) (Posts a first letters lost) (subst (λ (b : Actor). Stands P (o.waiting ++ owes b P)) whose o.stands);
           posted = posted_after a first letters lost P;
         }

@@ -20,7 +20,7 @@ use Rattle.group_controller.specs.Rules.{controller_work}
 use Rattle.run_spec.specs.States.{Scene, ControllerAt, content, controller_hears, controller_saved, controller_step}
 use Rattle.run_spec.specs.Legal.{results_of}
 use Rattle.run_spec.specs.Committed.{states_of, members_up}
-use Rattle.run_spec.specs.Schedule.{Phase, Losing, Suspecting, Draining, Met, Move, Takes, Ends, ClosesTo, IsMove, after_move, after_turn, is_drawn, is_turn, majority, met_by, next_drained, next_lost, next_move, next_suspicion, next_view}
+use Rattle.run_spec.specs.Schedule.{Phase, Losing, Suspecting, Draining, Met, ClosingMove, Takes, Ends, ClosesTo, IsMove, after_move, after_turn, is_drawn, is_turn, majority, met_by, next_drained, next_lost, next_move, next_suspicion, next_view}
 use Rattle.closing_laws.proofs.Journal.Taking.{at, own_steps}
 use Rattle.closing_laws.specs.Starts.{SavesSucceed}
 use Rattle.closing_laws.proofs.Journal.Carrying.{controller_rests}
@@ -67,7 +67,7 @@ module _ {B : Type 0} (scene : Scene B) (results : List (List SaveResult)) where
   fallen c (Met limit) down = inr (limit, refl)
 
   -- no move leads to a proposal that met the limit
-  abbrev NoLimit : Move B → Type 0
+  abbrev NoLimit : ClosingMove B → Type 0
   NoLimit (Takes e Losing) = Unit {0}
   NoLimit (Takes e (Suspecting view quorum members)) = Unit {0}
   NoLimit (Takes e (Draining view quorum)) = Unit {0}
@@ -84,7 +84,7 @@ module _ {B : Type 0} (scene : Scene B) (results : List (List SaveResult)) where
 
   view_on : (group : ℕ) (states : List ControllerState) → NoLimit (next_view group states)
   view_on group states =
-      cond_both (nat_lt (length (members_up states)) (majority group)) _ _ (λ (y : Move B). NoLimit y) (λ _. tt) (λ _. suspicion_on group _ _ _ [])
+      cond_both (nat_lt (length (members_up states)) (majority group)) _ _ (λ (y : ClosingMove B). NoLimit y) (λ _. tt) (λ _. suspicion_on group _ _ _ [])
 
   lost_on : (group : ℕ) (states : List ControllerState) (ps : List (Packet B)) → NoLimit (next_lost group states ps)
   lost_on group states [] = view_on group states
@@ -96,7 +96,7 @@ module _ {B : Type 0} (scene : Scene B) (results : List (List SaveResult)) where
   move_on (Draining view quorum) P = drained_on scene.setup.controllers view quorum (pool P)
   move_on (Met limit) P = tt
 
-  pub not_met : (move : Move B) (e : JournalEntry B) (limit : LogFull) → NoLimit move → IsMove move e (Met limit) → ⊥
+  pub not_met : (move : ClosingMove B) (e : JournalEntry B) (limit : LogFull) → NoLimit move → IsMove move e (Met limit) → ⊥
   not_met (Takes f Losing) e limit on h = let m = h.1 in cc
   not_met (Takes f (Suspecting view quorum members)) e limit on h = let m = h.1 in cc
   not_met (Takes f (Draining view quorum)) e limit on h = let m = h.1 in cc
@@ -170,7 +170,7 @@ module _ {B : Type 0} (scene : Scene B) (results : List (List SaveResult)) where
   IsRefusal (Refused a) = Unit {0}
   IsRefusal _ = ⊥
 
-  abbrev NoRefusal : Move B → Type 0
+  abbrev NoRefusal : ClosingMove B → Type 0
   NoRefusal (Takes e next) = IsRefusal e → ⊥
   NoRefusal (Ends answer) = Unit {0}
 
@@ -183,7 +183,7 @@ module _ {B : Type 0} (scene : Scene B) (results : List (List SaveResult)) where
   suspicion_takes group view quorum (m ∷ members) ps = λ h. h
 
   lost_takes : (group : ℕ) (states : List ControllerState) (ps : List (Packet B)) → NoRefusal (next_lost group states ps)
-  lost_takes group states [] = cond_both (nat_lt (length (members_up states)) (majority group)) _ _ (λ (y : Move B). NoRefusal y) (λ _. tt) (λ _. suspicion_takes group _ _ _ [])
+  lost_takes group states [] = cond_both (nat_lt (length (members_up states)) (majority group)) _ _ (λ (y : ClosingMove B). NoRefusal y) (λ _. tt) (λ _. suspicion_takes group _ _ _ [])
   lost_takes group states (p ∷ ps) = λ h. h
 
   move_takes : (phase : Phase) (P : Past) → NoRefusal (next_move scene results phase P)
@@ -192,7 +192,7 @@ module _ {B : Type 0} (scene : Scene B) (results : List (List SaveResult)) where
   move_takes (Draining view quorum) P = drained_takes scene.setup.controllers view quorum (pool P)
   move_takes (Met limit) P = tt
 
-  never_refused : (move : Move B) (e : JournalEntry B) (next : Phase) → NoRefusal move → IsMove move e next → IsRefusal e → ⊥
+  never_refused : (move : ClosingMove B) (e : JournalEntry B) (next : Phase) → NoRefusal move → IsMove move e next → IsRefusal e → ⊥
   never_refused (Takes f n) e next on h r = on (subst IsRefusal h.0 r)
   never_refused (Ends answer) e next on h r = h
 

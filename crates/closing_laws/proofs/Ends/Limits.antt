@@ -58,7 +58,7 @@ use Rattle.run_spec.specs.States.{Scene, IsFaithful, ControllerAt, SwitchAt, con
 use Rattle.group_controller.specs.Rules.{after_step, controller_work, has_started, is_down, on_extension, on_input, on_hello, on_local, on_master, on_tick, on_plain, on_result, on_switch, on_wish, when_down}
 use Rattle.run_spec.specs.Legal.{IsPossible, results_of}
 use Rattle.run_spec.specs.Committed.{controller_state, members_up, states_of, switch_state}
-use Rattle.run_spec.specs.Schedule.{Answer, Overfull, IsEnd, Phase, Losing, Suspecting, Draining, Met, Move, Takes, Ends, ClosesTo, IsMove, after_member, after_move, after_turn, majority, met_by, next_drained, next_lost, next_move, next_suspicion}
+use Rattle.run_spec.specs.Schedule.{ClosingAnswer, Overfull, IsEnd, Phase, Losing, Suspecting, Draining, Met, ClosingMove, Takes, Ends, ClosesTo, IsMove, after_member, after_move, after_turn, majority, met_by, next_drained, next_lost, next_move, next_suspicion}
 use Rattle.run_spec.proofs.Pasts.{possible_before, self_controller}
 use Rattle.run_spec.proofs.Pools.{drawn_found}
 use Rattle.exactly_once.specs.Facts.{facts_of}
@@ -417,7 +417,7 @@ module _ {B : Type 0} (scene : Scene B) (results : List (List SaveResult)) (setu
   move_met (Refused a) P next can other = calm next (Refused a ∷ P) other
 
   -- only at a limit a closing ends so
-  abbrev NotOverfull : Move B → Type 0
+  abbrev NotOverfull : ClosingMove B → Type 0
   NotOverfull (Ends (Overfull limit)) = ⊥
   NotOverfull _ = Unit {0}
 
@@ -430,12 +430,12 @@ module _ {B : Type 0} (scene : Scene B) (results : List (List SaveResult)) (setu
   suspicion_ends view quorum (m ∷ members) ps = tt
 
   lost_ends : (states : List ControllerState) (ps : List (Packet B)) → NotOverfull (next_lost scene.setup.controllers states ps)
-  lost_ends states [] = cond_both (nat_lt (length (members_up states)) (majority scene.setup.controllers)) _ _ (λ (v : Move B). NotOverfull v) (λ _. tt) (λ _. suspicion_ends _ _ _ [])
+  lost_ends states [] = cond_both (nat_lt (length (members_up states)) (majority scene.setup.controllers)) _ _ (λ (v : ClosingMove B). NotOverfull v) (λ _. tt) (λ _. suspicion_ends _ _ _ [])
   lost_ends states (p ∷ ps) = tt
 
-  never : (move : Move B) (limit : LogFull) → NotOverfull move → IsEnd move (Overfull limit) → ⊥
+  never : (move : ClosingMove B) (limit : LogFull) → NotOverfull move → IsEnd move (Overfull limit) → ⊥
   never (Takes e next) limit on h = h
-  never (Ends answer) limit on h = subst (λ (x : Answer). NotOverfull (Ends x)) (sym h) on
+  never (Ends answer) limit on h = subst (λ (x : ClosingAnswer). NotOverfull (Ends x)) (sym h) on
 
   end_met : (phase : Phase) (P : Past) (limit : LogFull) → HasMet phase P → IsEnd (next_move scene results phase P) (Overfull limit) → Met_by P limit
   end_met Losing P limit h end = absurd (never (next_move scene results Losing P) limit (lost_ends (states_of scene results P) (pool P)) end)

@@ -33,7 +33,7 @@ use Rattle.run_spec.specs.declared.messages.Unsealed.TheVariants as unsealed
 use Rattle.run_spec.specs.States.{Scene, ControllerAt, content, controller_hears, controller_step}
 use Rattle.run_spec.specs.Legal.{results_of}
 use Rattle.run_spec.specs.Committed.{controller_state, count_up, members_up, states_of}
-use Rattle.run_spec.specs.Schedule.{Answer, NoQuorum, IsEnd, Phase, Losing, Suspecting, Draining, Met, Move, Takes, Ends, ClosesTo, IsMove, after_member, after_move, after_turn, is_drawn, majority, met_by, next_drained, next_lost, next_move, next_suspicion, next_view}
+use Rattle.run_spec.specs.Schedule.{ClosingAnswer, NoQuorum, IsEnd, Phase, Losing, Suspecting, Draining, Met, ClosingMove, Takes, Ends, ClosesTo, IsMove, after_member, after_move, after_turn, is_drawn, majority, met_by, next_drained, next_lost, next_move, next_suspicion, next_view}
 use Rattle.run_laws.proofs.Members.{move_up}
 use Rattle.closing_laws.specs.Quorum.{has}
 use Rattle.closing_laws.specs.Starts.{SavesSucceed, view_after, quorum_after}
@@ -205,7 +205,7 @@ module _ {B : Type 0} (scene : Scene B) (results : List (List SaveResult)) where
     pub by_one : ByOne e P
     pub phase : PhaseUp next P
 
-  abbrev MoveUp : Move B → Past → Type 0
+  abbrev MoveUp : ClosingMove B → Past → Type 0
   MoveUp (Takes e next) P = Moves e next P
   MoveUp (Ends (NoQuorum up needed)) P = ⊥
   MoveUp (Ends answer) P = Unit {0}
@@ -242,13 +242,13 @@ module _ {B : Type 0} (scene : Scene B) (results : List (List SaveResult)) where
   move_up_at (Draining view quorum) P g u = drained_move view quorum P (pool P) u
   move_up_at (Met limit) P g u = tt
 
-  taken : (move : Move B) (e : JournalEntry B) (next : Phase) (P : Past) → MoveUp move P → IsMove move e next → Moves e next P
+  taken : (move : ClosingMove B) (e : JournalEntry B) (next : Phase) (P : Past) → MoveUp move P → IsMove move e next → Moves e next P
   taken (Takes f x) e next P m h = subst (λ (y : JournalEntry B). Moves y next P) (sym h.0) (subst (λ (y : Phase). Moves f y P) (sym h.1) m)
   taken (Ends answer) e next P m h = absurd h
 
-  never_ends : (move : Move B) (P : Past) (up needed : ℕ) → MoveUp move P → IsEnd move (NoQuorum up needed) → ⊥
+  never_ends : (move : ClosingMove B) (P : Past) (up needed : ℕ) → MoveUp move P → IsEnd move (NoQuorum up needed) → ⊥
   never_ends (Takes e next) P up needed m h = h
-  never_ends (Ends answer) P up needed m h = subst (λ (x : Answer). MoveUp (Ends x) P) (sym h) m
+  never_ends (Ends answer) P up needed m h = subst (λ (x : ClosingAnswer). MoveUp (Ends x) P) (sym h) m
 
   phase_after : (e : JournalEntry B) (next : Phase) (P : Past) → Goes P → Moves e next P → PhaseUp (after_move scene results e P next) (e ∷ P)
   phase_after (Local (actor.Controller m) input) next P g v =

@@ -16,7 +16,7 @@ use Rattle.journal.specs.declared.journal.SaveResult.{SaveResult}
 use Rattle.journal.specs.declared.journal.SaveResult.TheVariants.{Saved}
 use Rattle.journal.specs.Actors.{same_actor, actor_of}
 use Rattle.journal.specs.Part.{part, drawn, packet_of}
-use Rattle.journal.specs.Pool.{pool, numbered}
+use Rattle.journal.specs.Pool.{pool, numbered_letters}
 use Rattle.list_facts.specs.Lists.{IsIn}
 use Rattle.of_switch.specs.declared.says.SwitchSays.{SwitchSays}
 use Rattle.of_switch.specs.Rules.{switch_turn}
@@ -71,7 +71,7 @@ module _ {B : Type 0} (sealing : Sealing B) where
 
   -- letters that are posted carry what they say
   pub letters_carry : {A : Type 0} → IsFaithful sealing → (says : A → Message) (a : Actor) (first : ℕ) (letters : List (Letter A)) → ((l : Letter A) → IsIn l letters → MaySay says a l) →
-      AllByRecursion (λ l. FitsMessage (says l.body)) letters → AllCarry (numbered first a (sealed_letters says sealing letters)) (map (sent_by says a) letters)
+      AllByRecursion (λ l. FitsMessage (says l.body)) letters → AllCarry (numbered_letters first a (sealed_letters says sealing letters)) (map (sent_by says a) letters)
   letters_carry faithful says a first [] may typed = tt
   letters_carry faithful says a first (l ∷ letters) may typed =
       let can = may l (inl refl) in (
@@ -86,17 +86,17 @@ module _ {B : Type 0} (sealing : Sealing B) where
   -- and can be read as that
   pub letters_read : {A : Type 0} → IsFaithful sealing → (says : A → Message) (a : Actor) (first : ℕ) (letters : List (Letter A)) → ((l : Letter A) → IsIn l letters → MaySay says a l) →
       AllByRecursion (λ l. FitsMessage (says l.body)) letters →
-      map (content sealing) (numbered first a (sealed_letters says sealing letters)) ≡ map (λ (l : Letter A). unsealed.Message (says l.body)) letters
+      map (content sealing) (numbered_letters first a (sealed_letters says sealing letters)) ≡ map (λ (l : Letter A). unsealed.Message (says l.body)) letters
   letters_read faithful says a first [] may typed = refl
   letters_read {A} faithful says a first (l ∷ letters) may typed =
       let can = may l (inl refl) in
-      ap (λ (u : Unsealed). u ∷ map (content sealing) (numbered (first + 1) a (sealed_letters says sealing letters)))
+      ap (λ (u : Unsealed). u ∷ map (content sealing) (numbered_letters (first + 1) a (sealed_letters says sealing letters)))
       (ap (λ (w : Way). sealing.spelled w (sealing.sealed (says l.body))) can.1 ∙ faithful (says l.body) can.0 typed.0)
       ∙ ap (λ (us : List Unsealed). unsealed.Message (says l.body) ∷ us) (letters_read faithful says a (first + 1) letters (λ x among. may x (inr among)) typed.1)
 
   pub read_carry : {A : Type 0} (says : A → Message) (a : Actor) (first : ℕ) (letters : List (Letter A)) →
-      map (content sealing) (numbered first a (sealed_letters says sealing letters)) ≡ map (λ (l : Letter A). unsealed.Message (says l.body)) letters →
-      AllCarry (numbered first a (sealed_letters says sealing letters)) (map (sent_by says a) letters)
+      map (content sealing) (numbered_letters first a (sealed_letters says sealing letters)) ≡ map (λ (l : Letter A). unsealed.Message (says l.body)) letters →
+      AllCarry (numbered_letters first a (sealed_letters says sealing letters)) (map (sent_by says a) letters)
   read_carry says a first [] read = tt
   read_carry says a first (l ∷ letters) read =
       (record { from = refl; to = refl; says = cc }, read_carry says a (first + 1) letters cc)

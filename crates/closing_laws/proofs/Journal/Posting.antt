@@ -13,14 +13,14 @@ use Rattle.journal.specs.declared.journal.Packet.{Packet}
 use Rattle.journal.specs.declared.journal.SaveResult.{SaveResult}
 use Rattle.journal.specs.Actors.{actor_of, same_actor}
 use Rattle.journal.specs.Part.{drawn, part}
-use Rattle.journal.specs.Pool.{pool, numbered}
+use Rattle.journal.specs.Pool.{pool, numbered_letters}
 use Rattle.journal.specs.Turns.{IsWithinLimits}
 use Rattle.group_controller.specs.declared.messages.ControllerSays.{ControllerSays}
 use Rattle.run_spec.specs.declared.messages.Message.{Message}
 use Rattle.run_spec.specs.declared.messages.Unsealed.TheVariants as unsealed
 use Rattle.run_spec.specs.Committed.{switch_state}
 use Rattle.run_spec.specs.States.{Scene, Sealing, IsFaithful, ControllerAt, content, controller_message, sealed_letters, switch_at, switch_message}
-use Rattle.run_spec.specs.Legal.{Fits, IsPossible, IsSoundSwitch}
+use Rattle.run_spec.specs.Legal.{FitsDebt, IsPossible, IsSoundSwitch}
 use Rattle.run_spec.specs.Schedule.{Phase, ClosesTo, IsInputOf, IsPosted, owed_of}
 use Rattle.run_spec.proofs.Entries.{Mine, Another, switch_after}
 use Rattle.run_spec.proofs.Pasts.{possible_before, self_controller, self_switch}
@@ -106,8 +106,8 @@ module _ {B : Type 0} (scene : Scene B) (results : List (List SaveResult)) where
       pub letters_are : letters ≡ sealed_letters controller_message scene.sealing (at scene results m P).owed
       letters_are = (fits scene results post P possible m (self_controller m)).0
 
-      pub pool_grows : pool (post ∷ P) ≡ pool P ++ numbered first (actor.Controller m) (sealed_letters controller_message scene.sealing (at scene results m P).owed)
-      pool_grows = ap (λ (l : List (Packet B)). pool P ++ l) (all_fit first (actor.Controller m) letters lost room ∙ ap (numbered first (actor.Controller m)) letters_are)
+      pub pool_grows : pool (post ∷ P) ≡ pool P ++ numbered_letters first (actor.Controller m) (sealed_letters controller_message scene.sealing (at scene results m P).owed)
+      pool_grows = ap (λ (l : List (Packet B)). pool P ++ l) (all_fit first (actor.Controller m) letters lost room ∙ ap (numbered_letters first (actor.Controller m)) letters_are)
 
       -- what was owed can be read
       pub says_posted : IsSetup scene.setup → IsFaithful scene.sealing → pool P ≡ [] → map (content scene.sealing) (pool (post ∷ P)) ≡ map (λ (l : Letter ControllerSays). unsealed.Message (controller_message l.body)) (at scene results m P).owed
@@ -115,13 +115,13 @@ module _ {B : Type 0} (scene : Scene B) (results : List (List SaveResult)) where
           let old = possible_before scene results post P possible in
           let holds = (always scene results setup faithful P old 0).controllers m (possible.named.0) in
           ap (map (content scene.sealing))
-          (pool_grows ∙ ap (λ (ps : List (Packet B)). ps ++ numbered first (actor.Controller m) (sealed_letters controller_message scene.sealing (at scene results m P).owed)) empty)
+          (pool_grows ∙ ap (λ (ps : List (Packet B)). ps ++ numbered_letters first (actor.Controller m) (sealed_letters controller_message scene.sealing (at scene results m P).owed)) empty)
           ∙ letters_read scene.sealing faithful controller_message (actor.Controller m) first (at scene results m P).owed (λ l among. ordered_may scene.kinds scene.setup _ m l (holds.owed l among))
           (fits scene results post P possible m (self_controller m)).2
 
   -- an entry of a switch fits what it owes
   pub switch_fits : (m : ℕ) (e : JournalEntry B) (P : List (JournalEntry B)) → actor_of e ≡ actor.Switch m → IsPossible scene results (e ∷ P) → m < length scene.setup.ports →
-      Fits switch_message scene.sealing (switch_at scene m (part (actor.Switch m) P)).owed (part (actor.Switch m) P) e
+      FitsDebt switch_message scene.sealing (switch_at scene m (part (actor.Switch m) P)).owed (part (actor.Switch m) P) e
   switch_fits m e P whose possible there =
       elim (switch_after scene m e P) [
         | Mine own is ↦ (subst (λ (ps : List (JournalEntry B × Option (Packet B))). IsSoundSwitch scene m ps) is (possible.switches m there)).0

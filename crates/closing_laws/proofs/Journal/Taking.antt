@@ -16,7 +16,7 @@ use Rattle.journal.specs.declared.journal.SaveResult.{SaveResult}
 use Rattle.journal.specs.declared.journal.SaveResult.TheVariants.{Saved}
 use Rattle.journal.specs.Actors.{same_actor, actor_of}
 use Rattle.journal.specs.Part.{part, drawn, packet_of}
-use Rattle.journal.specs.Pool.{pool, numbered, fitting, without}
+use Rattle.journal.specs.Pool.{pool, numbered_letters, fitting, without}
 use Rattle.journal.proofs.Pools.{Rising, without-at}
 use Rattle.vr_log.specs.declared.message.VrLetter.{VrLetter}
 use Rattle.vr_log.specs.declared.message.VrMessage.{VrMessage}
@@ -183,7 +183,7 @@ module _ {B : Type 0} (scene : Scene B) (results : List (List SaveResult)) where
   -- what a turn of a member owes is carried, once it is posted
   pub posts_carry : IsFaithful scene.sealing → (m first : ℕ) (letters : List VrLetter) → AllByRecursion (λ l. IsValidTo l.to l.body) (to_members letters) →
       AllByRecursion (λ l. FitsMessage (controller_message l.body)) (to_members letters) →
-      AllCarry (numbered first (actor.Controller m) (sealed_letters controller_message scene.sealing (to_members letters))) (map (flown m) letters)
+      AllCarry (numbered_letters first (actor.Controller m) (sealed_letters controller_message scene.sealing (to_members letters))) (map (flown m) letters)
   posts_carry faithful m first [] valid typed = tt
   posts_carry faithful m first (l ∷ letters) valid typed =
       (record { from = refl; to = refl; says = faithful (message.Vr l.message) valid.0 typed.0 }, posts_carry faithful m (first + 1) letters valid.1 typed.1)
@@ -194,10 +194,10 @@ finds_head p rest = rw (eq-eqb p.id p.id refl) refl
 pub leaves_head : {B : Type 0} {high : ℕ} (p : Packet B) (rest : List (Packet B)) {low : ℕ} → Rising high low (p ∷ rest) → without p.id (p ∷ rest) ≡ rest
 leaves_head p rest rises = without-at (p ∷ rest) 0 p rises refl
 
-pub length-numbered : {B : Type 0} (n : ℕ) (a : Actor) (letters : List (Letter B)) → length (numbered n a letters) ≡ length letters
+pub length-numbered : {B : Type 0} (n : ℕ) (a : Actor) (letters : List (Letter B)) → length (numbered_letters n a letters) ≡ length letters
 length-numbered n a [] = refl
 length-numbered n a (l ∷ letters) = ap suc (length-numbered (n + 1) a letters)
 
 -- a post that finds room
-pub all_fit : {B : Type 0} (first : ℕ) (a : Actor) (letters : List (Letter B)) (lost : ℕ) → lost ≡ 0 → fitting first a letters lost ≡ numbered first a letters
-all_fit first a letters lost none = take_all (length letters - lost) (numbered first a letters) (let long = length-numbered first a letters in omega (arith, none, long))
+pub all_fit : {B : Type 0} (first : ℕ) (a : Actor) (letters : List (Letter B)) (lost : ℕ) → lost ≡ 0 → fitting first a letters lost ≡ numbered_letters first a letters
+all_fit first a letters lost none = take_all (length letters - lost) (numbered_letters first a letters) (let long = length-numbered first a letters in omega (arith, none, long))

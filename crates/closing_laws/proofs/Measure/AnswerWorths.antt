@@ -16,7 +16,7 @@ use Rattle.vr_log.specs.Steps.{letter}
 use Rattle.app_core.specs.declared.issued.Issued.{Issued}
 use Rattle.app_core.specs.Issued.{commands_of}
 use Rattle.dispatcher.specs.declared.answers.Through.{Through}
-use Rattle.dispatcher.specs.Folding.{acknowledgement, acknowledges, acknowledges_at, clears, clears_at, is_told, numbered}
+use Rattle.dispatcher.specs.Folding.{acknowledgement, acknowledges_event, acknowledges_at, clears, clears_at, is_told, numbered}
 use Rattle.dispatcher.specs.Marks.{settled_commands}
 use Rattle.group_controller.specs.declared.messages.ControllerSays.{ControllerSays}
 use Rattle.group_controller.specs.State.{ControllerState, committed, to_member, to_members}
@@ -74,7 +74,7 @@ clears_few kinds setup log commands =
     let few = switches_few (λ x. not (has_ended x.switch x.life (received log))) commands 0 (length setup.ports) in
     omega (arith, same, few)
 
-pub acknowledges_few : (log : List Entry) (o : Option Event) → length (acknowledges log o) ≤ 1
+pub acknowledges_few : (log : List Entry) (o : Option Event) → length (acknowledges_event log o) ≤ 1
 acknowledges_few log None = omega arith
 acknowledges_few log (Some event) = cond_both (has_ended event.switch event.life (received log)) [] (acknowledgement log event.switch event.life ∷ []) (λ (l : List Through). length l ≤ 1) (λ e. omega arith) (λ e. omega arith)
 

@@ -19,11 +19,11 @@ use Rattle.app_core.specs.declared.issued.Issued.{Issued}
 use Rattle.controller_laws.proofs.Logs.{processed_prefix}
 use Rattle.dispatcher.specs.declared.answers.Wish.{Wish}
 use Rattle.dispatcher.specs.declared.answers.Wish.TheVariants.{Propose, Acknowledge, Nothing}
-use Rattle.dispatcher.specs.Marks.{Marks, confirmed_by, has_result, is_confirmed, is_pending, is_wanted, outstanding, with_mark, with_result}
+use Rattle.dispatcher.specs.Marks.{Marks, confirmed_by, has_result, is_confirmed, is_pending, is_wanted, outstanding, with_mark, with_marked_result}
 use Rattle.of_switch.specs.State.{SwitchState, life_of}
 use Rattle.event_buffer.specs.Buffer.{next_number}
 use Rattle.group_controller.specs.declared.messages.ControllerSays.{ControllerSays}
-use Rattle.group_controller.specs.State.{ControllerState, Work, committed, posting, resting, stepped, with_no_met_limit}
+use Rattle.group_controller.specs.State.{ControllerState, Work, committed, posting_work, resting, stepped, with_no_met_limit}
 use Rattle.group_controller.specs.Settling.{ack_letter, after_finishing, after_proposal, is_alone, is_untold, proposing, settling}
 use Rattle.group_controller.specs.Rules.{commands_for, on_master, on_wish, on_result}
 use Rattle.closing_laws.specs.Measure.{commands_from, commands_sent, left_at_switches, left_to_process}
@@ -156,7 +156,7 @@ module _ (kinds : List ℕ) (setup : Setup) (quorum : List ℕ) (f : ℕ) (sw : 
 
   -- ---- a result comes
 
-  marked_confirmed : (s life number : ℕ) → (with_result kinds setup (committed c) c.marks s life number).confirmed ≡ c.marks.confirmed
+  marked_confirmed : (s life number : ℕ) → (with_marked_result kinds setup (committed c) c.marks s life number).confirmed ≡ c.marks.confirmed
   marked_confirmed s life number =
       cond_both (is_pending kinds setup (committed c) s life number) (with_mark c.marks s life number) c.marks (λ (m : Marks). m.confirmed ≡ c.marks.confirmed)
       (λ _. cond_both (has_result c.marks s life number) c.marks _ (λ (m : Marks). m.confirmed ≡ c.marks.confirmed) (λ _. refl) (λ _. refl)) (λ _. refl)
@@ -169,7 +169,7 @@ module _ (kinds : List ℕ) (setup : Setup) (quorum : List ℕ) (f : ℕ) (sw : 
       (λ _. lowers_rest 1 (omega arith))
     where
       now : ControllerState
-      now = record d { marks = with_result kinds setup (committed c) c.marks s life number }
+      now = record d { marks = with_marked_result kinds setup (committed c) c.marks s life number }
 
       sent : commands_sent kinds setup now ≡ commands_sent kinds setup c
       sent = ap (λ (ns : List ℕ). if is_untold c || not (has_unprocessed (committed c)) then 0
@@ -219,7 +219,7 @@ module _ (kinds : List ℕ) (setup : Setup) (quorum : List ℕ) (f : ℕ) (sw : 
       abbrev through_letter : ℕ → Letter ControllerSays
       through_letter through = ack_letter (record { switch = e.switch; life = e.life; through = through })
 
-      acknowledged_lowers : (through : ℕ) → Lowers (posting (resting d) (through_letter through ∷ [])) 2
+      acknowledged_lowers : (through : ℕ) → Lowers (posting_work (resting d) (through_letter through ∷ [])) 2
       acknowledged_lowers through place early =
           let said = acks_worth quorum c.vr.me (record { switch = e.switch; life = e.life; through = through } ∷ []) in
           whole_falls kinds setup quorum c.vr.me f sw c d (through_letter through ∷ []) 1 2 place (omega (arith, said)) (prefix_refl (committed c)) p.one early

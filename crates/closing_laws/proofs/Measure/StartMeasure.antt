@@ -17,7 +17,7 @@ use Rattle.dispatcher.specs.Marks.{no_marks}
 use Rattle.event_buffer.specs.Buffer.{next_number}
 use Rattle.of_switch.specs.State.{SwitchState}
 use Rattle.group_controller.specs.declared.messages.ControllerSays.{ControllerSays}
-use Rattle.group_controller.specs.State.{ControllerState, Work, committed, leaving, posting}
+use Rattle.group_controller.specs.State.{ControllerState, Work, committed, leaving, posting_work}
 use Rattle.group_controller.specs.Settling.{is_some_of, role_letter}
 use Rattle.group_controller.specs.Rules.{starting_view, switches}
 use Rattle.run_spec.specs.Bound.{waiting_at}
@@ -54,7 +54,7 @@ module _ (kinds : List ℕ) (setup : Setup) (quorum : List ℕ) (f place : ℕ) 
   end = starting_view kinds setup work
 
   abbrev asking : Work
-  asking = posting (leaving work begun) (map (role_letter v.view) (switches setup))
+  asking = posting_work (leaving work begun) (map (role_letter v.view) (switches setup))
 
   module _ (enough : length (filter (has quorum) (others_below v.me v.controllers)) ≡ f) (one : is_log v.log ≡ true) (within : v.commit ≤ length v.log) (whole : most_failures v ≡ 0 → v.commit ≡ length v.log)
       (early : place ≤ processed (committed begun)) where

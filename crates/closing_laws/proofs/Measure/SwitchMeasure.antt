@@ -24,7 +24,7 @@ use Rattle.group_controller.specs.State.{ControllerState}
 use Rattle.group_controller.specs.Settling.{is_some_of}
 use Rattle.of_switch.specs.declared.says.SwitchInput.TheVariants as switch_input
 use Rattle.of_switch.specs.declared.says.SwitchSays.{SwitchSays}
-use Rattle.of_switch.specs.State.{SwitchState, SwitchTurn, life_of, quiet, to_controller}
+use Rattle.of_switch.specs.State.{SwitchState, SwitchTurn, life_of, quiet_switch, to_controller}
 use Rattle.of_switch.specs.Events.{cleared, coming, event_letter, first_held, on_event_ack, port_status, window}
 use Rattle.of_switch.specs.Commands.{letter_of_result, on_command, settled}
 use Rattle.of_switch.specs.Drafts.{Draft, draft_of, drafted_event, forgets, with_ports, with_raised, with_told}
@@ -273,8 +273,8 @@ module _ (kinds : List ℕ) (setup : Setup) (c : ControllerState) (s : ℕ) (sw 
   abbrev Goes : Message → SwitchTurn → Type 0
   Goes m turn = worths_of quorum switch_message (actor.Switch s) turn.letters + left_at f c s turn.state + 1 ≤ message_worth m + left_at f c s sw
 
-  silent : (m : Message) (state : SwitchState) → state.buffer ≡ sw.buffer → state.fence ≡ sw.fence → 1 ≤ message_worth m → Goes m (quiet state)
-  silent m state buffer fence some = lowered quorum c.vr.me drawn s kinds setup c refl sw f (message_worth m) (quiet state) (stays quorum c.vr.me drawn s kinds setup c refl sw (message_worth m) (quiet state) buffer fence (omega (arith, some)))
+  silent : (m : Message) (state : SwitchState) → state.buffer ≡ sw.buffer → state.fence ≡ sw.fence → 1 ≤ message_worth m → Goes m (quiet_switch state)
+  silent m state buffer fence some = lowered quorum c.vr.me drawn s kinds setup c refl sw f (message_worth m) (quiet_switch state) (stays quorum c.vr.me drawn s kinds setup c refl sw (message_worth m) (quiet_switch state) buffer fence (omega (arith, some)))
 
   asks : IsAttended kinds setup c s sw (asks_role c.vr.view ∷ out) in_ → Goes (asks_role c.vr.view) (turn_on (asks_role c.vr.view))
   unfolding switch_turn
@@ -286,7 +286,7 @@ module _ (kinds : List ℕ) (setup : Setup) (c : ControllerState) (s : ℕ) (sw 
   acknowledges : (life through : ℕ) → IsAttended kinds setup c s sw (acknowledges_events life through ∷ out) in_ → Goes (acknowledges_events life through) (turn_on (acknowledges_events life through))
   unfolding switch_turn
   acknowledges life through h =
-      cond_both (nat_eq life (life_of sw)) (on_event_ack sw through) (quiet sw) (λ (t : SwitchTurn). Goes (acknowledges_events life through) t)
+      cond_both (nat_eq life (life_of sw)) (on_event_ack sw through) (quiet_switch sw) (λ (t : SwitchTurn). Goes (acknowledges_events life through) t)
       (λ own. elim h.role [
         | inl unasked ↦ absurd (let first = unasked.first in cc)
         | inr asked ↦ lowered quorum c.vr.me drawn s kinds setup c refl sw f 1 (on_event_ack sw through) (acked_lowers quorum c.vr.me drawn s kinds setup c refl sw through asked.0.master asked.0.generation)
@@ -298,7 +298,7 @@ module _ (kinds : List ℕ) (setup : Setup) (c : ControllerState) (s : ℕ) (sw 
       Goes (message.Of 0 (spoken.Ravana (extension.Command life c.vr.view number through what))) (turn_on (message.Of 0 (spoken.Ravana (extension.Command life c.vr.view number through what))))
   unfolding switch_turn
   commands life number through what near h =
-      cond_both (nat_eq life (life_of sw)) (on_command sw c.vr.me 0 c.vr.view number through what) (quiet sw)
+      cond_both (nat_eq life (life_of sw)) (on_command sw c.vr.me 0 c.vr.view number through what) (quiet_switch sw)
       (λ (t : SwitchTurn). Goes (message.Of 0 (spoken.Ravana (extension.Command life c.vr.view number through what))) t)
       (λ own. elim h.role [
         | inl unasked ↦ absurd (let first = unasked.first in cc)
@@ -313,7 +313,7 @@ module _ (kinds : List ℕ) (setup : Setup) (c : ControllerState) (s : ℕ) (sw 
   clears : (life through : ℕ) → Goes (message.Of 0 (spoken.Ravana (extension.Clear life through))) (turn_on (message.Of 0 (spoken.Ravana (extension.Clear life through))))
   unfolding switch_turn
   clears life through =
-      cond_both (nat_eq life (life_of sw)) (quiet (settled sw through)) (quiet sw) (λ (t : SwitchTurn). Goes (message.Of 0 (spoken.Ravana (extension.Clear life through))) t)
+      cond_both (nat_eq life (life_of sw)) (quiet_switch (settled sw through)) (quiet_switch sw) (λ (t : SwitchTurn). Goes (message.Of 0 (spoken.Ravana (extension.Clear life through))) t)
       (λ own. silent (message.Of 0 (spoken.Ravana (extension.Clear life through))) (settled sw through) refl refl (omega arith))
       (λ other. silent (message.Of 0 (spoken.Ravana (extension.Clear life through))) sw refl refl (omega arith))
 

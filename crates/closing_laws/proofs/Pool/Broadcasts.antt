@@ -24,7 +24,7 @@ use Rattle.vr_log.specs.Steps.{letter, to_others}
 use Rattle.vr_log.proofs.Logs.{received-append}
 use Rattle.app_core.specs.declared.issued.Issued.{Issued}
 use Rattle.dispatcher.specs.Folding.{acknowledges_at, clears_at, numbered, places_processed}
-use Rattle.dispatcher.specs.Marks.{confirmed_by, is_pending, outstanding, with_result}
+use Rattle.dispatcher.specs.Marks.{confirmed_by, is_pending, outstanding, with_marked_result}
 use Rattle.group_controller.specs.declared.messages.ControllerSays.{ControllerSays}
 use Rattle.group_controller.specs.State.{ControllerState, Work, committed, leaving, met_limit, resting, to_member, to_members}
 use Rattle.group_controller.specs.Settling.{ack_letter, after_finishing, after_proposal, answers_at, clear_letter, command_letter, command_letters, finishing, goes_on, is_alone, is_settled, is_untold, processing, proposing, role_letter, settling, with_answers, with_commands, with_proposal}
@@ -327,7 +327,7 @@ module _ (quorum : List ℕ) (least : ℕ) where
 
       pub result_posts : (s life number : ℕ) → (d : ControllerState) × (d.vr ≡ c.vr) × Posts (resting d) (on_result kinds setup c s life number) []
       result_posts s life number =
-          let now : ControllerState = record c { marks = with_result kinds setup (committed c) c.marks s life number } in
+          let now : ControllerState = record c { marks = with_marked_result kinds setup (committed c) c.marks s life number } in
           cond_both (is_pending kinds setup (committed c) s life number) _ _ (λ (y : Work). (d : ControllerState) × (d.vr ≡ c.vr) × Posts (resting d) y [])
           (λ _. (now, refl, finished_posts (resting now)))
           (λ _. (c, refl, posts_none (resting c)))

@@ -27,7 +27,7 @@ use Rattle.controller_laws.proofs.Logs.{processed-append, processed_prefix}
 use Rattle.dispatcher.specs.declared.answers.Through.{Through}
 use Rattle.dispatcher.specs.declared.answers.Wish.TheVariants.{Propose, Acknowledge, Nothing}
 use Rattle.dispatcher.specs.Folding.{is_done, places_processed}
-use Rattle.dispatcher.specs.Marks.{Marks, confirmed_by, has_result, is_pending, outstanding, settled_commands, wanted, with_mark, with_result}
+use Rattle.dispatcher.specs.Marks.{Marks, confirmed_by, has_result, is_pending, outstanding, settled_commands, wanted, with_mark, with_marked_result}
 use Rattle.of_switch.specs.State.{SwitchState, SwitchTurn, life_of}
 use Rattle.group_controller.specs.State.{ControllerState, Work, committed, resting, stepped, to_members, with_no_met_limit}
 use Rattle.group_controller.specs.Rules.{controller_work, on_master, on_wish, switches, on_result}
@@ -37,7 +37,7 @@ use Rattle.run_spec.specs.declared.messages.Message.TheVariants as message
 use Rattle.run_spec.specs.States.{controller_message, switch_message}
 use Rattle.closing_laws.specs.Quorum.{has}
 use Rattle.closing_laws.specs.Following.{Start}
-use Rattle.closing_laws.specs.Serving.{AreFew, events_told, results_said, told_by}
+use Rattle.closing_laws.specs.Serving.{AreFew, events_told, results_said, letters_told_by}
 use Rattle.closing_laws.specs.Ways.{Sent, between, sent_by}
 use Rattle.closing_laws.proofs.Draining.Drained as drained_by
 use Rattle.closing_laws.proofs.Draining.Drained.{heard_of, put}
@@ -133,7 +133,7 @@ module _ (kinds : List ℕ) (setup : Setup) (few : AreFew kinds setup) (w p : �
       held : Holds c.marks rest
       held = clearing.held_rest kinds setup p life early (committed c) c.marks m rest held_before
 
-      told_within : (s : ℕ) → told_by kinds setup c s (switches s) ≤ clearing.reached kinds setup p life (committed c) s
+      told_within : (s : ℕ) → letters_told_by kinds setup c s (switches s) ≤ clearing.reached kinds setup p life (committed c) s
       told_within s =
           let told = ap {B = ℕ} (λ (b : Bool). if b then 0 else 1) d.primary.settled.told in
           let is = told_is kinds setup c s (switches s) in
@@ -186,7 +186,7 @@ module _ (kinds : List ℕ) (setup : Setup) (few : AreFew kinds setup) (w p : �
           (λ _. rests)
         where
           now : Marks
-          now = with_result kinds setup (committed c) c.marks s (life s) number
+          now = with_marked_result kinds setup (committed c) c.marks s (life s) number
 
           -- the mark is new, or was there
           only : (u l i : ℕ) → has_result now u l i ≡ true → (has_result c.marks u l i ≡ true) ⊎ ((s ≡ u) × (number ≡ i) × (life s ≡ l))

@@ -21,7 +21,7 @@ use Rattle.controller_laws.proofs.Logs.{processed-append}
 use Rattle.dispatcher.specs.Folding.{numbered, places_processed}
 use Rattle.dispatcher.specs.Marks.{Marks, is_finished, outstanding, wanted}
 use Rattle.group_controller.specs.declared.messages.ControllerSays.{ControllerSays}
-use Rattle.group_controller.specs.State.{ControllerState, Work, committed, posting, resting}
+use Rattle.group_controller.specs.State.{ControllerState, Work, committed, posting_work, resting}
 use Rattle.group_controller.specs.Settling.{after_finishing, after_proposal, answers_at, command_letter, command_letters, finishing, goes_on, is_alone, is_settled, is_untold, processing, proposing, settling, with_answers, with_commands}
 use Rattle.run_spec.specs.States.{controller_message}
 use Rattle.closing_laws.specs.Ways.{Sent, sent_by}
@@ -56,12 +56,12 @@ module _ (kinds : List ℕ) (setup : Setup) (p : ℕ) (life : ℕ → ℕ) (earl
     pub late : is_alone work.state ≡ true → early → ⊥
 
   -- letters go behind
-  posted_more : (work : Work) (letters : List (Letter ControllerSays)) → waiting_of (posting work letters) ≡ waiting_of work ++ posted p letters
+  posted_more : (work : Work) (letters : List (Letter ControllerSays)) → waiting_of (posting_work work letters) ≡ waiting_of work ++ posted p letters
   posted_more work letters =
       ap (λ (l : List Sent). rest ++ l) (map-append (sent_by controller_message (actor.Controller p)) work.letters letters) ∙ sym (append_assoc rest (posted p work.letters) (posted p letters))
 
   pub front_posted : (log : List Entry) (marks : Marks) (work : Work) (letters : List (Letter ControllerSays)) → clears_posted p letters ≡ 0 → AreInFront log marks (waiting_of work) →
-      AreInFront log marks (waiting_of (posting work letters))
+      AreInFront log marks (waiting_of (posting_work work letters))
   front_posted log marks work letters silent f =
       subst (λ (l : List Sent). AreInFront log marks l) (sym (posted_more work letters)) (record {
         holds = held_more kinds setup p life early log marks (waiting_of work) (posted p letters) silent f.holds;
@@ -94,14 +94,14 @@ module _ (kinds : List ℕ) (setup : Setup) (p : ℕ) (life : ℕ → ℕ) (earl
   pub answers_clear : (log : List Entry) (marks : Marks) (work : Work) (before : ℕ) → IsPrefix log (committed work.state) → Commits log marks work (drop before (committed work.state)) → AreInFront log marks (waiting_of work) →
       AreInFront (committed work.state) marks (waiting_of (with_answers kinds setup before work))
   answers_clear log marks work before longer (None_processed none) f =
-      subst (λ (places : List ℕ). AreInFront (committed work.state) marks (waiting_of (posting work (flat_map (answers_at kinds setup work.state) places)))) (sym none)
+      subst (λ (places : List ℕ). AreInFront (committed work.state) marks (waiting_of (posting_work work (flat_map (answers_at kinds setup work.state) places)))) (sym none)
       (front_posted (committed work.state) marks work [] refl (record {
         holds = held_longer kinds setup p life early log marks (committed work.state) longer (waiting_of work) f.holds;
         reached = reached_longer kinds setup p life early log marks (committed work.state) longer (waiting_of work) f.reached;
       }))
   answers_clear log marks work before longer (One_processed one more late there grown finished) f =
-      subst (λ (places : List ℕ). AreInFront (committed work.state) marks (waiting_of (posting work (flat_map (answers_at kinds setup work.state) places)))) (sym one)
-      (subst (λ (letters : List (Letter ControllerSays)). AreInFront (committed work.state) marks (waiting_of (posting work letters))) (sym (append-nil (answers_at kinds setup work.state (processed log))))
+      subst (λ (places : List ℕ). AreInFront (committed work.state) marks (waiting_of (posting_work work (flat_map (answers_at kinds setup work.state) places)))) (sym one)
+      (subst (λ (letters : List (Letter ControllerSays)). AreInFront (committed work.state) marks (waiting_of (posting_work work letters))) (sym (append-nil (answers_at kinds setup work.state (processed log))))
       (subst (λ (l : List Sent). AreInFront (committed work.state) marks l) (sym (posted_more work (answers_at kinds setup work.state (processed log)))) (record {
         holds = held_answered kinds setup p life early log work.state marks (waiting_of work) longer more late there grown f.holds f.reached finished;
         reached = reached_answered kinds setup p life early log work.state marks (waiting_of work) longer more late there grown f.holds f.reached finished;
@@ -127,13 +127,13 @@ module _ (kinds : List ℕ) (setup : Setup) (p : ℕ) (life : ℕ → ℕ) (earl
     proposal_silent : clears_posted p (proposal c entry) ≡ 0
     proposal_silent = members_none is_clear (λ x. refl) (actor.Controller p) (to_others c.vr (vr.Prepare c.vr.view (length c.vr.log + 1) c.vr.commit entry))
 
-    proposed_front : AreInFront (committed c) c.marks (waiting_of (posting work (proposal c entry)))
+    proposed_front : AreInFront (committed c) c.marks (waiting_of (posting_work work (proposal c entry)))
     proposed_front = front_posted (committed c) c.marks work (proposal c entry) proposal_silent h.front
 
     -- in a group of several
     several_clear : is_alone c ≡ false → IsClearing (proposed_as false work entry)
     several_clear several = record {
-      front = subst (λ (log : List Entry). AreInFront log c.marks (waiting_of (posting work (proposal c entry)))) (sym (committed_same c entry h.within)) proposed_front;
+      front = subst (λ (log : List Entry). AreInFront log c.marks (waiting_of (posting_work work (proposal c entry)))) (sym (committed_same c entry h.within)) proposed_front;
       within = let l = long in let w = h.within in omega (arith, l, w);
       whole = λ is. absurd (let other : is_alone c ≡ true = is in cc);
       late = h.late;

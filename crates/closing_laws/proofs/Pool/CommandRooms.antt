@@ -34,7 +34,7 @@ use Rattle.app_core.specs.declared.issued.Issued.{Issued}
 use Rattle.controller_laws.proofs.Logs.{processed-append, processed_prefix}
 use Rattle.dispatcher.specs.declared.answers.Wish.{Wish}
 use Rattle.dispatcher.specs.declared.answers.Wish.TheVariants.{Propose, Acknowledge, Nothing}
-use Rattle.dispatcher.specs.Marks.{Marks, is_pending, with_mark, with_result}
+use Rattle.dispatcher.specs.Marks.{Marks, is_pending, with_mark, with_marked_result}
 use Rattle.of_switch.specs.State.{SwitchState, SwitchTurn, life_of}
 use Rattle.group_controller.specs.declared.messages.ControllerSays.{ControllerSays}
 use Rattle.group_controller.specs.State.{ControllerState, Work, committed, resting, stepped, to_members, with_no_met_limit}
@@ -309,7 +309,7 @@ module _ (kinds : List ℕ) (setup : Setup) (few : AreFew kinds setup) (w p : �
             cond_both (is_pending kinds setup (committed c) k (life k) number) (after_finishing kinds setup (resting (with_number k number))) (resting begun) (λ (y : Work). Fits y)
             (λ _. from_pays (resting (with_number k number)) _ refl (result_less k xid number result says)
             (after_pays is sel of (actor.Controller p) kinds setup start life pay up (resting (with_number k number))
-            (marked_finishes kinds setup start life c.vr c.marks (with_result kinds setup (committed c) c.marks k (life k) number) truths.primary.one truths.primary.unfinished
+            (marked_finishes kinds setup start life c.vr c.marks (with_marked_result kinds setup (committed c) c.marks k (life k) number) truths.primary.one truths.primary.unfinished
             (result_kept kinds setup (committed c) c.marks k (life k) number) finishes)))
             (λ _ _. omega arith);
         agreed = λ b op from chosen apart says several more. agreed_fits b op several more;
@@ -327,7 +327,7 @@ module _ (kinds : List ℕ) (setup : Setup) (few : AreFew kinds setup) (w p : �
           by_wish k number what Nothing there _ = omega arith
 
           with_number : ℕ → ℕ → ControllerState
-          with_number k number = record begun { marks = with_result kinds setup (committed c) c.marks k (life k) number }
+          with_number k number = record begun { marks = with_marked_result kinds setup (committed c) c.marks k (life k) number }
 
           result_less : (k xid number : ℕ) (result : Outcome) → m.said ≡ message.Of xid (spoken.Ravana (extension.CmdAck (life k) number result)) → level_of c ≤ heard + level_of (with_number k number)
           result_less k xid number result says =

@@ -21,9 +21,9 @@ use Rattle.command_buffer.specs.declared.buffer.Offer.TheVariants.{Ahead, Execut
 use Rattle.command_buffer.specs.Results.{offer_of}
 use Rattle.of_switch.specs.declared.says.SwitchSays.{SwitchSays}
 use Rattle.app_core.specs.Orders.{Ascend, HasFewOutputs, most_ports}
-use Rattle.of_switch.specs.State.{SwitchState, SwitchTurn, number_of, ports_up, quiet, refuses, then_turn}
+use Rattle.of_switch.specs.State.{SwitchState, SwitchTurn, own_number_of, ports_up, quiet_switch, switch_refuses, then_turn}
 use Rattle.of_switch.specs.Commands.{done_as, executes, on_command, on_offer, result_letter, result_of, settled}
-use Rattle.of_switch.specs.Events.{is_down}
+use Rattle.of_switch.specs.Events.{is_port_down}
 use Rattle.of_switch.specs.Forwarding.{over_link, over_links, puts_all, puts_out, sends_to, targets}
 use Rattle.role_fence.specs.Fence.{may_execute}
 use Rattle.run_spec.specs.States.{switch_message}
@@ -91,7 +91,7 @@ few_targets s port output =
     few : (test : ℕ → Bool) → Few (filter test (ports_up s))
     few test =
         let a = fewer_filter test (ports_up s) in
-        let b = fewer_filter (λ p. not (is_down s p)) (range_with_len 1 s.ports) in
+        let b = fewer_filter (λ p. not (is_port_down s p)) (range_with_len 1 s.ports) in
         let c = length-range_with_len 1 s.ports in
         omega (arith, a, b, c)
 
@@ -99,7 +99,7 @@ few_targets s port output =
 few_sent : (s : SwitchState) (frame ports : List ℕ) → AreApart (ends_of s.links) → length (flat_map (over_links s frame) ports) ≤ length ports
 few_sent s frame [] apart = omega arith
 few_sent s frame (port ∷ ports) apart =
-    let one = one_wire frame (number_of s) port s.links apart in
+    let one = one_wire frame (own_number_of s) port s.links apart in
     let rest = few_sent s frame ports apart in
     let parts = length-append (over_links s frame port) (flat_map (over_links s frame) ports) in
     omega (arith, one, rest, parts)
@@ -166,9 +166,9 @@ module _ (s : SwitchState) (port output : ℕ) (is_port : output ≤ most_ports)
   no_target above = by_targets 0 (let none = none_of up output 1 s.ports (inr (omega (arith, above))) in omega (arith, none))
 
 -- what one output of a command puts on links
-few_put : (s : SwitchState) (port output : ℕ) (frame : List ℕ) (most : ℕ) → AreApart (ends_of s.links) → length (targets s port output) ≤ most → length (puts_out quiet port frame output s).letters ≤ most
+few_put : (s : SwitchState) (port output : ℕ) (frame : List ℕ) (most : ℕ) → AreApart (ends_of s.links) → length (targets s port output) ≤ most → length (puts_out quiet_switch port frame output s).letters ≤ most
 few_put s port output frame most apart few =
-    cond_both (nat_eq output TO_CONTROLLER) (quiet s) (sends_to frame (targets s port output) s) (λ (t : SwitchTurn). length t.letters ≤ most) (λ _. omega arith)
+    cond_both (nat_eq output TO_CONTROLLER) (quiet_switch s) (sends_to frame (targets s port output) s) (λ (t : SwitchTurn). length t.letters ≤ most) (λ _. omega arith)
     (λ _. let sent = few_sent s frame (targets s port output) apart in omega (arith, sent, few))
 
 -- a switch with these ports, whose wires are apart
@@ -176,18 +176,18 @@ record IsLike (ports : ℕ) (s : SwitchState) : Type 0 where
   pub ports_are : s.ports ≡ ports
   pub apart : AreApart (ends_of s.links)
 
-still_like : (ports : ℕ) (s : SwitchState) (port output : ℕ) (frame : List ℕ) → IsLike ports s → IsLike ports (puts_out quiet port frame output s).state
+still_like : (ports : ℕ) (s : SwitchState) (port output : ℕ) (frame : List ℕ) → IsLike ports s → IsLike ports (puts_out quiet_switch port frame output s).state
 still_like ports s port output frame like =
-    cond_both (nat_eq output TO_CONTROLLER) (quiet s) (sends_to frame (targets s port output) s) (λ (t : SwitchTurn). IsLike ports t.state) (λ _. like)
+    cond_both (nat_eq output TO_CONTROLLER) (quiet_switch s) (sends_to frame (targets s port output) s) (λ (t : SwitchTurn). IsLike ports t.state) (λ _. like)
     (λ _. record { ports_are = like.ports_are; apart = like.apart })
 
 -- ports that ascend: from the least one on each of the switch gets the frame once at most
 ascending_put : (ports port : ℕ) (frame outputs : List ℕ) (least : ℕ) (t : SwitchTurn) → IsLike ports t.state → Ascend least outputs →
-    length (puts_all quiet port frame outputs t).letters ≤ length t.letters + (suc ports - least)
+    length (puts_all quiet_switch port frame outputs t).letters ≤ length t.letters + (suc ports - least)
 ascending_put ports port frame [] least t like ascend = omega arith
 ascending_put ports port frame (output ∷ outputs) least t like ascend =
-    let here = puts_out quiet port frame output t.state in
-    let rest = ascending_put ports port frame outputs (suc output) (then_turn t (puts_out quiet port frame output)) (still_like ports t.state port output frame like) ascend.2 in
+    let here = puts_out quiet_switch port frame output t.state in
+    let rest = ascending_put ports port frame outputs (suc output) (then_turn t (puts_out quiet_switch port frame output)) (still_like ports t.state port output frame like) ascend.2 in
     let joined = length-append t.letters here.letters in
     let low = ascend.0 in
     let high = ascend.1 in
@@ -210,7 +210,7 @@ few_done s outcome.Done (order.PacketOut out) apart (inl few) = by_actions out.a
     by_actions (output ∷ []) few = few_put s out.in_port output out.payload s.ports apart (few_targets s out.in_port output)
     by_actions (output ∷ next ∷ outputs) few = absurd (omega (arith, few))
 few_done s outcome.Done (order.PacketOut out) apart (inr ascend) =
-    let sent = ascending_put s.ports out.in_port out.payload out.actions 1 (quiet s) (record { ports_are = refl; apart = apart }) ascend in
+    let sent = ascending_put s.ports out.in_port out.payload out.actions 1 (quiet_switch s) (record { ports_are = refl; apart = apart }) ascend in
     omega (arith, sent)
 few_done s outcome.Done (order.FlowMod change) apart few = omega arith
 few_done s (outcome.Failed kind code) what apart few = omega arith
@@ -262,7 +262,7 @@ module _ (s : ℕ) (sw : SwitchState) (apart : AreApart (ends_of sw.links)) (few
   Follow turn = AreFollowed (map (sent_by switch_message (actor.Switch s)) turn.letters)
 
   -- no letters, or one that is no frame
-  pub none_follow : (state : SwitchState) → Follow (quiet state)
+  pub none_follow : (state : SwitchState) → Follow (quiet_switch state)
   none_follow state = followed_none [] refl
 
   -- a command that is carried out
@@ -294,4 +294,4 @@ module _ (s : ℕ) (sw : SwitchState) (apart : AreApart (ends_of sw.links)) (few
   pub command_follows : (me xid view number through : ℕ) (what : Order) → HasFewOutputs what → Follow (on_command sw me xid view number through what)
   command_follows me xid view number through what outputs =
       cond_both (may_execute sw.fence me view) _ _ Follow (λ _. offered_follow through me view number what (offer_of (settled sw through).results number) outputs)
-      (λ _. followed_none (map (sent_by switch_message (actor.Switch s)) (refuses sw me xid NOT_MASTER).letters) refl)
+      (λ _. followed_none (map (sent_by switch_message (actor.Switch s)) (switch_refuses sw me xid NOT_MASTER).letters) refl)

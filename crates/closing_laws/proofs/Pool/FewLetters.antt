@@ -13,11 +13,11 @@ use Rattle.vr_log.specs.Log.{fits, follows}
 use Rattle.vr_log.specs.Members.{is_changing, is_here, is_later, is_newer, is_normal, is_other, is_primary, is_primary_of, is_recovering, leads, most_failures, others, others_below, primary_of}
 use Rattle.vr_log.specs.Steps.{VrStep, acknowledges, appended, asks, guarded, is_sound, letter, quiet, sends, tells, then_step, to_others}
 use Rattle.vr_normal.specs.Cases.{acked_by, asks_later, commits, counted, from_primary, is_counted, prepare_ok, prepares}
-use Rattle.view_change.specs.Adopting.{adopt, adopted, adopts}
-use Rattle.view_change.specs.Cases.{collect, collect_later, enters, fetch, is_change, is_wanted, start_view, supplied, vote_here, vote_later}
-use Rattle.view_change.specs.Entering.{check, chooses, chooses_from, collects, enter, entered, own_log, sends_log, starts, view_start, voted, votes}
+use Rattle.view_change.specs.Adopting.{adopt, adopted_log, adopts}
+use Rattle.view_change.specs.Cases.{collect, collect_later, enters, fetch, is_change, is_message_wanted, start_view, supplied, vote_here, vote_later}
+use Rattle.view_change.specs.Entering.{check, chooses, chooses_from, collects, enter, entered_view, own_log, sends_log, starts, view_start, voted, votes}
 use Rattle.vr_recovery.specs.Cases.{completes, get_state, is_adopted, is_answered, is_longer, lacking, new_state}
-use Rattle.vr_recovery.specs.Recovering.{ending, ends_with, greatest_view, recovers, responded, responds, response}
+use Rattle.vr_recovery.specs.Recovering.{ending, ends_with, greatest_view_told, recovers, responded, responds, response}
 use Rattle.vr_core.specs.declared.input.VrInput.TheVariants as vr_input
 use Rattle.vr_core.specs.Step.{on_vr, vr_step}
 
@@ -85,11 +85,11 @@ check_few s =
     omega (arith, one, same, more, all)
 
 -- a view is entered, and more is done
-entering_few : (s : VrState) (view : ℕ) (next : VrState → VrStep) → length (next (entered s view)).letters ≤ s.controllers + 2 → IsFew s.controllers (then_step (enter s view) next)
+entering_few : (s : VrState) (view : ℕ) (next : VrState → VrStep) → length (next (entered_view s view)).letters ≤ s.controllers + 2 → IsFew s.controllers (then_step (enter s view) next)
 entering_few s view next more =
     let first = told_few s (message.StartViewChange view) in
     let others_same = length-map (others s) (λ (k : ℕ). letter (message.StartViewChange view) k) in
-    let all = length-append (to_others s (message.StartViewChange view)) (next (entered s view)).letters in
+    let all = length-append (to_others s (message.StartViewChange view)) (next (entered_view s view)).letters in
     omega (arith, more, first, all)
 
 guarded_few : (n : ℕ) (s : VrState) (step : VrStep) → IsFew n step → IsFew n (guarded s step)
@@ -107,9 +107,9 @@ few_of_one : (n : ℕ) (step : VrStep) → SaysOne step → IsFew n step
 few_of_one n step one = omega (arith, one)
 
 adopt_one : (s : VrState) (view first commit : ℕ) (log : List Entry) → SaysOne (adopt s view first commit log)
-adopt_one s view first commit log = one_of (nat_lt s.commit first) (asks s view s.commit) (adopts s view first commit log) (omega arith) (by_test (nat_lt commit (length (adopted s view first commit log).log)))
+adopt_one s view first commit log = one_of (nat_lt s.commit first) (asks s view s.commit) (adopts s view first commit log) (omega arith) (by_test (nat_lt commit (length (adopted_log s view first commit log).log)))
   where
-    by_test : (b : Bool) → length (if b then letter (message.PrepareOk view (length (adopted s view first commit log).log)) (primary_of (adopted s view first commit log) view) ∷ [] else []) ≤ 1
+    by_test : (b : Bool) → length (if b then letter (message.PrepareOk view (length (adopted_log s view first commit log).log)) (primary_of (adopted_log s view first commit log) view) ∷ [] else []) ≤ 1
     by_test true = omega arith
     by_test false = omega arith
 
@@ -130,9 +130,9 @@ prepares_one s op commit entry =
 recovers_one : (s : VrState) → SaysOne (recovers s)
 recovers_one s = by_log (ending s)
   where
-    by_log : (o : Option Filled) → SaysOne (ends_with s (greatest_view s.responses) o)
+    by_log : (o : Option Filled) → SaysOne (ends_with s (greatest_view_told s.responses) o)
     by_log None = omega arith
-    by_log (Some told) = adopt_one (record s { responses = [] }) (greatest_view s.responses) 0 told.commit told.log
+    by_log (Some told) = adopt_one (record s { responses = [] }) (greatest_view_told s.responses) 0 told.commit told.log
 
 -- a message
 from_few : (s : VrState) (from : ℕ) (m : VrMessage) → IsFew s.controllers (on_vr s from m)
@@ -146,7 +146,7 @@ from_few s from (message.Commit view commit) =
 from_few s from (message.StartViewChange view) =
     either s.controllers (is_other s from) (if is_later s view then vote_later s from view else if nat_eq view s.view then vote_here s from else quiet s) (quiet s)
     (either s.controllers (is_later s view) (vote_later s from view) (if nat_eq view s.view then vote_here s from else quiet s)
-    (guarded_few s.controllers s (then_step (enter s view) (λ next. check (voted next from))) (entering_few s view (λ next. check (voted next from)) (check_few (voted (entered s view) from))))
+    (guarded_few s.controllers s (then_step (enter s view) (λ next. check (voted next from))) (entering_few s view (λ next. check (voted next from)) (check_few (voted (entered_view s view) from))))
     (either s.controllers (nat_eq view s.view) (vote_here s from) (quiet s)
     (either s.controllers (is_changing s) (guarded s (check (voted s from))) (if leads s then tells s from (view_start s) else quiet s)
     (guarded_few s.controllers s (check (voted s from)) (let few = check_few (voted s from) in omega (arith, few)))
@@ -157,7 +157,7 @@ from_few s from (message.DoViewChange view normal commit log) =
     either s.controllers (is_other s from) (if is_primary_of s s.me view then collect s view c else quiet s) (quiet s)
     (either s.controllers (is_primary_of s s.me view) (collect s view c) (quiet s)
     (either s.controllers (is_later s view) (collect_later s view c) (if nat_eq view s.view && is_changing s then guarded s (check (collects s c)) else quiet s)
-    (guarded_few s.controllers s (then_step (enter s view) (λ next. check (collects next c))) (entering_few s view (λ next. check (collects next c)) (collects_few (entered s view) s.controllers refl)))
+    (guarded_few s.controllers s (then_step (enter s view) (λ next. check (collects next c))) (entering_few s view (λ next. check (collects next c)) (collects_few (entered_view s view) s.controllers refl)))
     (either s.controllers (nat_eq view s.view && is_changing s) (guarded s (check (collects s c))) (quiet s)
     (guarded_few s.controllers s (check (collects s c)) (let few = collects_few s s.controllers refl in omega (arith, few))) (omega arith)))
     (omega arith))
@@ -180,7 +180,7 @@ from_few s from (message.Recovery nonce promise) =
     either s.controllers (is_other s from) (if is_normal s then if nat_lt s.view promise then guarded s (enters s promise) else responds s from nonce else quiet s) (quiet s)
     (either s.controllers (is_normal s) (if nat_lt s.view promise then guarded s (enters s promise) else responds s from nonce) (quiet s)
     (either s.controllers (nat_lt s.view promise) (guarded s (enters s promise)) (responds s from nonce)
-    (guarded_few s.controllers s (enters s promise) (entering_few s promise check (check_few (entered s promise)))) (omega arith))
+    (guarded_few s.controllers s (enters s promise) (entering_few s promise check (check_few (entered_view s promise)))) (omega arith))
     (omega arith))
     (omega arith)
 from_few s from (message.RecoveryResponse view nonce filled) =
@@ -203,8 +203,8 @@ from_few s from (message.Fetch view op) =
     (one_of (is_other s from) (if is_change s view && nat_le op s.commit then tells s from (message.Supply s.view op (drop op (take s.commit s.log))) else quiet s) (quiet s)
     (one_of (is_change s view && nat_le op s.commit) (tells s from (message.Supply s.view op (drop op (take s.commit s.log)))) (quiet s) (omega arith) (omega arith)) (omega arith))
 from_few s from (message.Supply view first log) =
-    either s.controllers (is_other s from) (if is_wanted s view first log then guarded s (check (supplied s first log)) else quiet s) (quiet s)
-    (either s.controllers (is_wanted s view first log) (guarded s (check (supplied s first log))) (quiet s) (guarded_few s.controllers s (check (supplied s first log)) (let few = check_few (supplied s first log) in omega (arith, few))) (omega arith))
+    either s.controllers (is_other s from) (if is_message_wanted s view first log then guarded s (check (supplied s first log)) else quiet s) (quiet s)
+    (either s.controllers (is_message_wanted s view first log) (guarded s (check (supplied s first log))) (quiet s) (guarded_few s.controllers s (check (supplied s first log)) (let few = check_few (supplied s first log) in omega (arith, few))) (omega arith))
     (omega arith)
 
 pub hears_few : (s : VrState) (from : ℕ) (m : VrMessage) → IsFew s.controllers (vr_step s (vr_input.From from m))
@@ -212,4 +212,4 @@ hears_few s from m = from_few s from m
 
 pub suspects_few : (s : VrState) (view : ℕ) → IsFew s.controllers (vr_step s (vr_input.Suspect view))
 suspects_few s view =
-    either s.controllers (is_later s view) (guarded s (enters s view)) (quiet s) (guarded_few s.controllers s (enters s view) (entering_few s view check (check_few (entered s view)))) (omega arith)
+    either s.controllers (is_later s view) (guarded s (enters s view)) (quiet s) (guarded_few s.controllers s (enters s view) (entering_few s view check (check_few (entered_view s view)))) (omega arith)

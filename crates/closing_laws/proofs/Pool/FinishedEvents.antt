@@ -21,7 +21,7 @@ use Rattle.vr_log.proofs.Logs.{received-append}
 use Rattle.controller_laws.proofs.Logs.{processed-append, processed_prefix}
 use Rattle.dispatcher.specs.declared.answers.Wish.{Wish}
 use Rattle.dispatcher.specs.declared.answers.Wish.TheVariants.{Propose, Acknowledge, Nothing}
-use Rattle.dispatcher.specs.Marks.{Marks, confirmed_by, has_result, is_finished, is_pending, no_marks, outstanding, wanted, with_mark, with_result}
+use Rattle.dispatcher.specs.Marks.{Marks, confirmed_by, has_result, is_finished, is_pending, no_marks, outstanding, wanted, with_mark, with_marked_result}
 use Rattle.two_stage_log.specs.Counts.{has_unprocessed}
 use Rattle.of_switch.specs.State.{SwitchState, life_of}
 use Rattle.group_controller.specs.State.{ControllerState, Work, committed, leaving, met_limit, resting, stepped, with_no_met_limit}
@@ -226,7 +226,7 @@ module _ (kinds : List ℕ) (setup : Setup) (start : Start) (life : ℕ → ℕ)
 
 -- as results do
 pub result_kept : (kinds : List ℕ) (setup : Setup) (log : List Entry) (marks : Marks) (switch life number s l i : ℕ) → has_result marks s l i ≡ true →
-    has_result (with_result kinds setup log marks switch life number) s l i ≡ true
+    has_result (with_marked_result kinds setup log marks switch life number) s l i ≡ true
 result_kept kinds setup log marks switch life number s l i h =
     cond_both (is_pending kinds setup log switch life number) (with_mark marks switch life number) marks (λ (m : Marks). has_result m s l i ≡ true) (λ _. mark_kept marks switch life number s l i h) (λ _. h)
 
@@ -258,10 +258,10 @@ module _ (kinds : List ℕ) (setup : Setup) (few : AreFew kinds setup) (w p : �
       event = λ k xid number what there from is. by_wish k number what _;
       result = λ k xid number result there from is.
           cond_both (is_pending kinds setup (committed c) k (life k) number)
-          (after_finishing kinds setup (resting (record begun { marks = with_result kinds setup (committed c) c.marks k (life k) number }))) (resting begun)
+          (after_finishing kinds setup (resting (record begun { marks = with_marked_result kinds setup (committed c) c.marks k (life k) number }))) (resting begun)
           (λ (y : Work). IsNow y)
-          (λ _. after_finishes kinds setup start life (resting (record begun { marks = with_result kinds setup (committed c) c.marks k (life k) number }))
-          (marked_finishes kinds setup start life c.vr c.marks (with_result kinds setup (committed c) c.marks k (life k) number) truths.primary.one truths.primary.unfinished
+          (λ _. after_finishes kinds setup start life (resting (record begun { marks = with_marked_result kinds setup (committed c) c.marks k (life k) number }))
+          (marked_finishes kinds setup start life c.vr c.marks (with_marked_result kinds setup (committed c) c.marks k (life k) number) truths.primary.one truths.primary.unfinished
           (result_kept kinds setup (committed c) c.marks k (life k) number) finishes_now))
           (λ _. finishes_now);
       agreed = λ b op from chosen apart is several more. settling_finishes kinds setup start life c.vr.commit (stepped begun (quiet (marked c.vr b op))) (counts b op (λ none. absurd (omega (arith, several, none))));

@@ -20,7 +20,7 @@ use Rattle.vr_log.specs.declared.state.VrState.{VrState}
 use Rattle.vr_core.specs.declared.input.VrInput.TheVariants as vr_input
 use Rattle.vr_core.specs.Step.{vr_step}
 use Rattle.of_switch.specs.declared.says.SwitchSays.{SwitchSays}
-use Rattle.of_switch.specs.State.{SwitchState, SwitchTurn, life_of, quiet, to_controller}
+use Rattle.of_switch.specs.State.{SwitchState, SwitchTurn, life_of, quiet_switch, to_controller}
 use Rattle.of_switch.specs.Commands.{letter_of_result, on_command}
 use Rattle.of_switch.specs.Events.{event_letter, first_held}
 use Rattle.of_switch.specs.Rules.{switch_turn}
@@ -121,7 +121,7 @@ module _ (me view s : ℕ) (sw : SwitchState) where
         followed_none _ (events_never me view sw s (λ (a : Actor). is_frame) (λ e. refl) turn.letters _ after.letters)
     turn_follows _ _ (Results number settled what turn after) is outputs =
         subst Follow (sym is)
-        (cond_both (nat_eq (life_of sw) (life_of sw)) (on_command sw from 0 view number settled what) (quiet sw) Follow
+        (cond_both (nat_eq (life_of sw) (life_of sw)) (on_command sw from 0 view number settled what) (quiet_switch sw) Follow
         (λ _. command_follows s sw apart few from 0 view number settled what outputs) (λ _. none_follow s sw apart few sw))
     turn_follows _ _ (Rests m state buffer fence) is outputs = none_follow s sw apart few state
 

@@ -33,7 +33,7 @@ use Rattle.of_switch.specs.State.{SwitchState, SwitchTurn, life_of}
 use Rattle.of_switch.specs.Events.{window}
 use Rattle.of_switch.specs.Rules.{switch_turn}
 use Rattle.group_controller.specs.declared.messages.ControllerSays.{ControllerSays}
-use Rattle.group_controller.specs.State.{ControllerState, Work, committed, posting, resting, stepped, to_members, with_no_met_limit}
+use Rattle.group_controller.specs.State.{ControllerState, Work, committed, posting_work, resting, stepped, to_members, with_no_met_limit}
 use Rattle.group_controller.specs.Settling.{ack_letter}
 use Rattle.group_controller.specs.Rules.{controller_work, on_wish}
 use Rattle.run_spec.specs.declared.messages.Message.{Message}
@@ -344,7 +344,7 @@ module _ (kinds : List ℕ) (setup : Setup) (w p : ℕ) (quorum : List ℕ) (sta
                 same = refl;
                 more = [];
                 few_logged = none_logged;
-                posts = broadcasts.posts_silent quorum first (resting c1) (posting (resting c1) ls) ls refl refl
+                posts = broadcasts.posts_silent quorum first (resting c1) (posting_work (resting c1) ls) ls refl refl
                     (λ l among. elim among [ inl is ↦ ap (λ (x : Letter ControllerSays). is_prepare (controller_message x.body)) is | inr none ↦ absurd none ]);
               }
           rests Nothing logs = record { old = c1; same = refl; more = []; few_logged = none_logged; posts = broadcasts.posts_none quorum first (resting c1) }

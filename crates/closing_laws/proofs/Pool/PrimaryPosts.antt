@@ -29,8 +29,8 @@ use Rattle.controller_laws.proofs.Logs.{processed-append, processed_count, proce
 use Rattle.dispatcher.specs.declared.answers.Through.{Through}
 use Rattle.dispatcher.specs.declared.answers.Wish.TheVariants.{Propose, Acknowledge, Nothing}
 use Rattle.dispatcher.specs.declared.numbered.Numbered.{Numbered}
-use Rattle.dispatcher.specs.Folding.{acknowledgement, acknowledges, acknowledges_at, clears_at, is_done, numbered, places_processed, wish}
-use Rattle.dispatcher.specs.Marks.{confirmed_by, is_confirmed, is_pending, is_wanted, outstanding, wanted, with_result}
+use Rattle.dispatcher.specs.Folding.{acknowledgement, acknowledges_event, acknowledges_at, clears_at, is_done, numbered, places_processed, wish}
+use Rattle.dispatcher.specs.Marks.{confirmed_by, is_confirmed, is_pending, is_wanted, outstanding, wanted, with_marked_result}
 use Rattle.group_controller.specs.declared.messages.ControllerSays.{ControllerSays}
 use Rattle.group_controller.specs.State.{ControllerState, Work, committed, leaving, resting, stepped, to_member, with_no_met_limit}
 use Rattle.group_controller.specs.Settling.{ack_letter, after_finishing, after_proposal, answers_at, clear_letter, command_letter, command_letters, finishing, goes_on, is_alone, is_settled, is_untold, processing, proposing, settling, with_answers, with_commands}
@@ -57,7 +57,7 @@ posted_more p _ (Clear t) = Clear t
 posted_more p _ (Command view n few) = Command view n few
 posted_more p _ (Prepare to view op commit entry) = Prepare to view op commit entry
 
-acknowledges_in : (log : List Entry) (o : Option Event) (t : Through) → IsIn t (acknowledges log o) → t.through ≤ processed_of log t.switch t.life
+acknowledges_in : (log : List Entry) (o : Option Event) (t : Through) → IsIn t (acknowledges_event log o) → t.through ≤ processed_of log t.switch t.life
 acknowledges_in log None t among = absurd among
 acknowledges_in log (Some e) t among = by_life (has_ended e.switch e.life (received log)) among
   where
@@ -314,7 +314,7 @@ module _ (me : ℕ) where
       -- a result comes
       pub result_posts : (s life number : ℕ) → HasPosted c 0 (on_result kinds setup d s life number)
       result_posts s life number =
-          let now : ControllerState = record d { marks = with_result kinds setup (committed d) d.marks s life number } in
+          let now : ControllerState = record d { marks = with_marked_result kinds setup (committed d) d.marks s life number } in
           cond_both (is_pending kinds setup (committed c) s life number) (after_finishing kinds setup (resting now)) (resting d) (λ (y : Work). HasPosted c 0 y)
           (λ _. from_posts c (resting now) (after_finishing kinds setup (resting now)) refl refl 0 (finished_posts (resting now) within))
           (λ _. rest_posts 0)

@@ -10,7 +10,7 @@ use Rattle.journal.specs.declared.journal.Letter.{Letter}
 use Rattle.journal.specs.declared.journal.Packet.{Packet}
 use Rattle.journal.specs.Limits.{pool_packets, pool_bodies}
 use Rattle.journal.specs.Orderly.{IsOrderly, fitting_count, pool_bytes}
-use Rattle.journal.specs.Pool.{pool, numbered, fitting, without, letter_bytes, bytes_posted}
+use Rattle.journal.specs.Pool.{pool, numbered_letters, fitting, without, letter_bytes, bytes_posted}
 use Rattle.journal.specs.Turns.{IsWithinLimits}
 
 module _ {B : Type 0} (size : B → ℕ) where
@@ -20,11 +20,11 @@ module _ {B : Type 0} (size : B → ℕ) where
   letters-cons : (l : Letter B) (ls : List (Letter B)) → letter_bytes size (l ∷ ls) ≡ size l.body + letter_bytes size ls
   letters-cons l ls = sum_by-cons (λ (x : Letter B). size x.body) l ls
 
-  numbered_bytes : (first : ℕ) (a : Actor) (letters : List (Letter B)) → pool_bytes size (numbered first a letters) ≡ letter_bytes size letters
+  numbered_bytes : (first : ℕ) (a : Actor) (letters : List (Letter B)) → pool_bytes size (numbered_letters first a letters) ≡ letter_bytes size letters
   numbered_bytes first a [] = refl
   numbered_bytes first a (l ∷ letters) =
       let more = numbered_bytes (first + 1) a letters in
-      let here = bytes-cons (record { id = first; from = a; to = l.to; body = l.body }) (numbered (first + 1) a letters) in
+      let here = bytes-cons (record { id = first; from = a; to = l.to; body = l.body }) (numbered_letters (first + 1) a letters) in
       let said = letters-cons l letters in
       omega (arith, more, here, said)
 
@@ -42,7 +42,7 @@ module _ {B : Type 0} (size : B → ℕ) where
   waiting_bytes (Post a first letters lost ∷ P) =
       let old = waiting_bytes P in
       let all = sum_by-append (λ (p : Packet B). size p.body) (pool P) (fitting first a letters lost) in
-      let some = sum_by-take-le (λ (p : Packet B). size p.body) (numbered first a letters) (length letters - lost) in
+      let some = sum_by-take-le (λ (p : Packet B). size p.body) (numbered_letters first a letters) (length letters - lost) in
       let same = numbered_bytes first a letters in
       omega (arith, old, all, some, same)
   waiting_bytes (Draw a id true ∷ P) = waiting_bytes P

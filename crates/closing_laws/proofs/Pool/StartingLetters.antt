@@ -24,7 +24,7 @@ use Rattle.dispatcher.specs.Marks.{Marks, is_finished, no_marks, outstanding, wa
 use Rattle.dispatcher.specs.declared.answers.Through.{Through}
 use Rattle.dispatcher.specs.Folding.{acknowledges_at, clears, clears_at, is_told, places_processed}
 use Rattle.group_controller.specs.declared.messages.ControllerSays.{ControllerSays}
-use Rattle.group_controller.specs.State.{ControllerState, Work, committed, fresh, leaving, met_limit, posting, stepped, to_member, to_members}
+use Rattle.group_controller.specs.State.{ControllerState, Work, committed, fresh, leaving, met_limit, posting_work, stepped, to_member, to_members}
 use Rattle.group_controller.specs.Settling.{ack_letter, after_proposal, answers_at, clear_letter, command_letters, finishing, goes_on, is_alone, is_settled, is_untold, processing, role_letter, settling, with_answers, with_commands}
 use Rattle.group_controller.specs.Rules.{switches}
 use Rattle.closing_laws.specs.Starts.{starting_turn}
@@ -221,7 +221,7 @@ module _ (kinds : List ℕ) (setup : Setup) where
       omega (arith, told, members, roles, count, joined, first, none, fuel, small, all, few_ports)
     where
       asking : Work
-      asking = posting (leaving (stepped (fresh s) (record (tells_start s) { promise = promise })) (fresh s)) (map (role_letter s.view) (switches setup))
+      asking = posting_work (leaving (stepped (fresh s) (record (tells_start s) { promise = promise })) (fresh s)) (map (role_letter s.view) (switches setup))
 
       answered : Work
       answered = with_answers kinds setup s.commit asking

@@ -18,7 +18,7 @@ use Rattle.event_buffer.specs.Buffer.{Buffer, cleared_to, next_number}
 use Rattle.group_controller.specs.State.{ControllerState}
 use Rattle.group_controller.specs.Settling.{is_some_of}
 use Rattle.of_switch.specs.declared.says.SwitchSays.{SwitchSays}
-use Rattle.of_switch.specs.State.{SwitchState, SwitchTurn, life_of, quiet, to_controller}
+use Rattle.of_switch.specs.State.{SwitchState, SwitchTurn, life_of, quiet_switch, to_controller}
 use Rattle.of_switch.specs.Events.{cleared, coming, event_letter, first_held, on_event_ack, window}
 use Rattle.of_switch.specs.Commands.{letter_of_result, on_command, settled}
 use Rattle.of_switch.specs.Rules.{switch_turn}
@@ -52,7 +52,7 @@ pub data IsTurn (me view : ℕ) (sw : SwitchState) : Message → SwitchTurn → 
   Tells : (through : ℕ) (turn : SwitchTurn) → sw.fence.generation ≡ Some view → AfterAck sw me through turn → IsTurn me view sw (acknowledges_events (life_of sw) through) turn
   Results : (number settled : ℕ) (what : Order) (turn : SwitchTurn) → AfterCommand sw me number turn →
       IsTurn me view sw (message.Of 0 (spoken.Ravana (extension.Command (life_of sw) view number settled what))) turn
-  Rests : (m : Message) (state : SwitchState) → state.buffer ≡ sw.buffer → state.fence ≡ sw.fence → IsTurn me view sw m (quiet state)
+  Rests : (m : Message) (state : SwitchState) → state.buffer ≡ sw.buffer → state.fence ≡ sw.fence → IsTurn me view sw m (quiet_switch state)
 
 module _ (kinds : List ℕ) (setup : Setup) (c : ControllerState) (s : ℕ) (sw : SwitchState) (small : c.vr.view < 2 ^ 32) (is_true : IsTrueOf kinds setup c s sw) (out in_ : List Message) where
   abbrev turn_on : Message → SwitchTurn
@@ -71,7 +71,7 @@ module _ (kinds : List ℕ) (setup : Setup) (c : ControllerState) (s : ℕ) (sw 
   acknowledges : (life through : ℕ) → IsAttended kinds setup c s sw (acknowledges_events life through ∷ out) in_ → Turns (acknowledges_events life through) (turn_on (acknowledges_events life through))
   unfolding switch_turn
   acknowledges life through served =
-      cond_both (nat_eq life (life_of sw)) (on_event_ack sw through) (quiet sw) (λ (t : SwitchTurn). Turns (acknowledges_events life through) t)
+      cond_both (nat_eq life (life_of sw)) (on_event_ack sw through) (quiet_switch sw) (λ (t : SwitchTurn). Turns (acknowledges_events life through) t)
       (λ own. elim served.role [
         | inl unasked ↦ absurd (let first = unasked.first in cc)
         | inr asked ↦
@@ -85,7 +85,7 @@ module _ (kinds : List ℕ) (setup : Setup) (c : ControllerState) (s : ℕ) (sw 
       Turns (message.Of 0 (spoken.Ravana (extension.Command life c.vr.view number through what))) (turn_on (message.Of 0 (spoken.Ravana (extension.Command life c.vr.view number through what))))
   unfolding switch_turn
   commands life number through what near served =
-      cond_both (nat_eq life (life_of sw)) (on_command sw c.vr.me 0 c.vr.view number through what) (quiet sw)
+      cond_both (nat_eq life (life_of sw)) (on_command sw c.vr.me 0 c.vr.view number through what) (quiet_switch sw)
       (λ (t : SwitchTurn). Turns (message.Of 0 (spoken.Ravana (extension.Command life c.vr.view number through what))) t)
       (λ own. elim served.role [
         | inl unasked ↦ absurd (let first = unasked.first in cc)
@@ -101,7 +101,7 @@ module _ (kinds : List ℕ) (setup : Setup) (c : ControllerState) (s : ℕ) (sw 
   clears : (life through : ℕ) → Turns (message.Of 0 (spoken.Ravana (extension.Clear life through))) (turn_on (message.Of 0 (spoken.Ravana (extension.Clear life through))))
   unfolding switch_turn
   clears life through =
-      cond_both (nat_eq life (life_of sw)) (quiet (settled sw through)) (quiet sw) (λ (t : SwitchTurn). Turns (message.Of 0 (spoken.Ravana (extension.Clear life through))) t)
+      cond_both (nat_eq life (life_of sw)) (quiet_switch (settled sw through)) (quiet_switch sw) (λ (t : SwitchTurn). Turns (message.Of 0 (spoken.Ravana (extension.Clear life through))) t)
       (λ own. Rests (message.Of 0 (spoken.Ravana (extension.Clear life through))) (settled sw through) refl refl)
       (λ other. Rests (message.Of 0 (spoken.Ravana (extension.Clear life through))) sw refl refl)
 

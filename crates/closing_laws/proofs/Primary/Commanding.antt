@@ -21,7 +21,7 @@ use Rattle.group_controller.specs.State.{ControllerState, committed}
 use Rattle.group_controller.specs.Settling.{command_letters, is_some_of, is_untold}
 use Rattle.journal.specs.declared.journal.Letter.{Letter}
 use Rattle.run_spec.specs.declared.messages.Message.{Message}
-use Rattle.closing_laws.specs.Serving.{AreFew, IsAttended, IsToldLast, settled_by, told_by}
+use Rattle.closing_laws.specs.Serving.{AreFew, IsAttended, IsToldLast, settled_by, letters_told_by}
 use Rattle.closing_laws.proofs.Primary.Committing.{settled_is, told_is}
 use Rattle.closing_laws.proofs.Primary.Holding.{commanded}
 use Rattle.closing_laws.proofs.Primary.Numbering.{command_within, commands_numbered, counted, counted_next}
@@ -97,13 +97,13 @@ module _ (kinds : List ℕ) (setup : Setup) (c : ControllerState) where
   pub told_now_last : is_untold c ≡ true → IsToldLast now_told
   told_now_last untold = (omega arith, λ e. (and_parts (has_unprocessed (committed c)) (not (is_some_of first c.last_told)) untold).0)
 
-  pub told_before : is_untold c ≡ true → (s : ℕ) (sw : SwitchState) → told_by kinds setup c s sw ≡ settled_by kinds setup c s sw
+  pub told_before : is_untold c ≡ true → (s : ℕ) (sw : SwitchState) → letters_told_by kinds setup c s sw ≡ settled_by kinds setup c s sw
   told_before untold s sw =
       let none : first + 0 ≡ first = omega arith in
       told_is kinds setup c s sw ∙ ap (λ (b : Bool). counted kinds setup s (life_of sw) (take (first + (if b then 0 else 1)) (received (committed c)))) untold
       ∙ ap (λ (n : ℕ). counted kinds setup s (life_of sw) (take n (received (committed c)))) none ∙ sym (settled_is kinds setup c s sw)
 
-  pub told_now : has_unprocessed (committed c) ≡ true → (s : ℕ) (sw : SwitchState) → told_by kinds setup now_told s sw ≡ settled_by kinds setup c s sw + count_issued s (life_of sw) due
+  pub told_now : has_unprocessed (committed c) ≡ true → (s : ℕ) (sw : SwitchState) → letters_told_by kinds setup now_told s sw ≡ settled_by kinds setup c s sw + count_issued s (life_of sw) due
   told_now there s sw =
       told_is kinds setup now_told s sw ∙ ap (λ (b : Bool). counted kinds setup s (life_of sw) (take (first + (if b then 0 else 1)) (received (committed c)))) is_told
       ∙ counted_next kinds setup s (life_of sw) first (received (committed c)) (ltb-true first (length (received (committed c))) there)

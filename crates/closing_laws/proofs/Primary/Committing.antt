@@ -18,7 +18,7 @@ use Rattle.two_stage_log.specs.Counts.{has_unprocessed}
 use Rattle.app_core.specs.declared.issued.Issued.{Issued}
 use Rattle.app_core.specs.Chain.{concat}
 use Rattle.app_core.specs.Issued.{count_issued}
-use Rattle.dispatcher.specs.Folding.{acknowledgement, acknowledges, acknowledges_at, clears_at, places_processed}
+use Rattle.dispatcher.specs.Folding.{acknowledgement, acknowledges_event, acknowledges_at, clears_at, places_processed}
 use Rattle.dispatcher.specs.Marks.{Marks, has_result, is_confirmed}
 use Rattle.of_switch.specs.State.{SwitchState, life_of}
 use Rattle.controller_laws.proofs.Issued.{issues-take}
@@ -28,7 +28,7 @@ use Rattle.group_controller.specs.State.{ControllerState, committed}
 use Rattle.group_controller.specs.Settling.{ack_letter, answers_at, clear_letter, is_some_of, is_untold}
 use Rattle.journal.specs.declared.journal.Letter.{Letter}
 use Rattle.run_spec.specs.declared.messages.Message.{Message}
-use Rattle.closing_laws.specs.Serving.{IsAttended, IsToldLast, acknowledges_events, events_told, processed_by, settled_by, told_by}
+use Rattle.closing_laws.specs.Serving.{IsAttended, IsToldLast, acknowledges_events, events_told, processed_by, settled_by, letters_told_by}
 use Rattle.closing_laws.proofs.Primary.Growth.{counted_grows, log_front, places_are, processed_within, same_told}
 use Rattle.closing_laws.proofs.Primary.Holding.{IsAcknowledged, answered}
 use Rattle.closing_laws.proofs.Primary.Numbering.{counted}
@@ -36,7 +36,7 @@ use Rattle.closing_laws.proofs.Primary.Telling.{AreQuiet, quiet_acks, quiet_appe
 
 -- the commands that were told, by the events that they are for
 pub told_is : (kinds : List ℕ) (setup : Setup) (c : ControllerState) (s : ℕ) (sw : SwitchState) →
-    told_by kinds setup c s sw ≡ counted kinds setup s (life_of sw) (take (events_told c) (received (committed c)))
+    letters_told_by kinds setup c s sw ≡ counted kinds setup s (life_of sw) (take (events_told c) (received (committed c)))
 told_is kinds setup c s sw = ap (λ (z : List (List Issued)). count_issued s (life_of sw) (concat z)) (sym (issues-take kinds setup (events_told c) (received (committed c))))
 
 pub settled_is : (kinds : List ℕ) (setup : Setup) (c : ControllerState) (s : ℕ) (sw : SwitchState) →
@@ -106,7 +106,7 @@ module _ (kinds : List ℕ) (setup : Setup) (c c' : ControllerState) (m : Commit
           let long = prefix_length events_front in
           (omega (arith, grows, h.0), λ e. (let less = ltb-true (processed K) (length (received K)) (h.1 (omega (arith, e, grows, h.0))) in lt-ltb (processed K') (length (received K')) (omega (arith, less, long, e, h.0, grows))))
 
-  pub told_stays : is_untold c ≡ false → IsToldLast c → (s : ℕ) (sw : SwitchState) → told_by kinds setup c' s sw ≡ told_by kinds setup c s sw
+  pub told_stays : is_untold c ≡ false → IsToldLast c → (s : ℕ) (sw : SwitchState) → letters_told_by kinds setup c' s sw ≡ letters_told_by kinds setup c s sw
   told_stays untold last s sw =
       let same = same_told (received K) (received K') (processed K) (processed K') c.last_told events_front within (processed_within K' m.one) (processed_prefix front) m.most
       (λ h. ltb-true (processed K) (length (received K)) (m.unfinished h)) untold last in
@@ -125,7 +125,7 @@ module _ (kinds : List ℕ) (setup : Setup) (c c' : ControllerState) (m : Commit
     is_answered j e is switch_is life_is young =
         subst (λ (z : List Message). IsIn here z) (sym (told-append s (map ack_letter (acknowledges_at K' j)) (map clear_letter (clears_at kinds setup K' j))))
         (in_left here (told s (map ack_letter (acknowledges_at K' j))) (told s (map clear_letter (clears_at kinds setup K' j)))
-        (subst (λ (o : Option Event). IsIn here (told s (map ack_letter (acknowledges K' o)))) (sym is)
+        (subst (λ (o : Option Event). IsIn here (told s (map ack_letter (acknowledges_event K' o)))) (sym is)
         (subst (λ (a : ℕ). IsIn here (told s (map ack_letter (if has_ended a e.life (received K') then [] else acknowledgement K' a e.life ∷ [])))) (sym switch_is)
         (subst (λ (l : ℕ). IsIn here (told s (map ack_letter (if has_ended s l (received K') then [] else acknowledgement K' s l ∷ [])))) (sym life_is)
         base))))

@@ -21,12 +21,12 @@ use Rattle.app_core.specs.Issued.{count_issued}
 use Rattle.dispatcher.specs.Marks.{confirmed_by, is_confirmed, is_wanted}
 use Rattle.of_switch.specs.State.{SwitchState, life_of}
 use Rattle.group_controller.specs.declared.messages.ControllerInput.TheVariants as controller_input
-use Rattle.group_controller.specs.State.{ControllerState, Work, committed, posting, resting, with_no_met_limit}
+use Rattle.group_controller.specs.State.{ControllerState, Work, committed, posting_work, resting, with_no_met_limit}
 use Rattle.group_controller.specs.Rules.{commands_for, controller_work}
 use Rattle.group_controller.specs.Settling.{is_untold}
 use Rattle.run_spec.specs.declared.messages.Message.{Message}
 use Rattle.run_spec.specs.declared.messages.Message.TheVariants as message
-use Rattle.closing_laws.specs.Serving.{AreFew, AreEventsTold, AreUntold, IsMastered, IsSaidBy, IsAttended, IsSettled, IsTrueOf, IsTruePrimary, acknowledges_events, commands_said, is_reply, is_request, processed_by, settled_by, told_by}
+use Rattle.closing_laws.specs.Serving.{AreFew, AreEventsTold, AreUntold, IsMastered, IsSaidBy, IsAttended, IsSettled, IsTrueOf, IsTruePrimary, acknowledges_events, commands_said, is_reply, is_request, processed_by, settled_by, letters_told_by}
 use Rattle.closing_laws.proofs.Primary.Commanding.{among_due, due, few_beyond, first, numbers_due, wanting}
 use Rattle.closing_laws.proofs.Primary.Committing.{settled_is, told_is}
 use Rattle.closing_laws.proofs.Primary.Extending.{extends_none}
@@ -44,13 +44,13 @@ reply_of xid view = message.Of xid (spoken.Plain (plain.RoleReply MASTER view))
 module _ (kinds : List ℕ) (setup : Setup) (c : ControllerState) where
   -- how many commands are told, where none is left to tell
   pub told_first : is_untold c ≡ false → has_unprocessed (committed c) ≡ true → (s : ℕ) (sw : SwitchState) →
-      told_by kinds setup c s sw ≡ settled_by kinds setup c s sw + count_issued s (life_of sw) (due kinds setup c)
+      letters_told_by kinds setup c s sw ≡ settled_by kinds setup c s sw + count_issued s (life_of sw) (due kinds setup c)
   told_first untold there s sw =
       told_is kinds setup c s sw ∙ ap (λ (b : Bool). counted kinds setup s (life_of sw) (take (first kinds setup c + (if b then 0 else 1)) (received (committed c)))) untold
       ∙ counted_next kinds setup s (life_of sw) (first kinds setup c) (received (committed c)) (ltb-true (first kinds setup c) (length (received (committed c))) there)
       ∙ ap (λ (n : ℕ). n + count_issued s (life_of sw) (due kinds setup c)) (sym (settled_is kinds setup c s sw))
 
-  pub told_all : is_untold c ≡ false → has_unprocessed (committed c) ≡ false → (s : ℕ) (sw : SwitchState) → told_by kinds setup c s sw ≡ settled_by kinds setup c s sw
+  pub told_all : is_untold c ≡ false → has_unprocessed (committed c) ≡ false → (s : ℕ) (sw : SwitchState) → letters_told_by kinds setup c s sw ≡ settled_by kinds setup c s sw
   told_all untold none s sw =
       let past = ltb-false (first kinds setup c) (length (received (committed c))) none in
       told_is kinds setup c s sw ∙ ap (λ (b : Bool). counted kinds setup s (life_of sw) (take (first kinds setup c + (if b then 0 else 1)) (received (committed c)))) untold
@@ -116,20 +116,20 @@ module _ (kinds : List ℕ) (setup : Setup) (few : AreFew kinds setup) (c : Cont
     free : AreUntold c s sw out (reply_of xid c.vr.view ∷ rest)
     free = was.unconfirmed unconfirmed
 
-    numbers : commands_said (life_of sw) it ≡ range_with_len (settled_by kinds setup c s sw) (told_by kinds setup c s sw - settled_by kinds setup c s sw)
+    numbers : commands_said (life_of sw) it ≡ range_with_len (settled_by kinds setup c s sw) (letters_told_by kinds setup c s sw - settled_by kinds setup c s sw)
     numbers =
         commands_told kinds setup (committed c) c.vr.view s (life_of sw) its
         ∙ numbers_all s (life_of sw) (λ y. nat_eq y.switch s) (wanting kinds setup now) (λ x h switch_is life_is. eq-eqb x.switch s switch_is)
         ∙ by_place (has_unprocessed (committed c)) refl
       where
-        by_place : (b : Bool) → has_unprocessed (committed c) ≡ b → numbers_in s (life_of sw) (wanting kinds setup now) ≡ range_with_len (settled_by kinds setup c s sw) (told_by kinds setup c s sw - settled_by kinds setup c s sw)
+        by_place : (b : Bool) → has_unprocessed (committed c) ≡ b → numbers_in s (life_of sw) (wanting kinds setup now) ≡ range_with_len (settled_by kinds setup c s sw) (letters_told_by kinds setup c s sw - settled_by kinds setup c s sw)
         by_place true there =
             let all = told_first kinds setup c untold there s sw in
             numbers_due kinds setup now s sw young (λ i h. absurd (true≢false (sym h ∙ free.no_marks i))) there confirmed
             ∙ ap (range_with_len (settled_by kinds setup c s sw)) (omega (arith, all))
         by_place false none =
             let all = told_all kinds setup c untold none s sw in
-            let zero_left : told_by kinds setup c s sw - settled_by kinds setup c s sw ≡ 0 = omega (arith, all) in
+            let zero_left : letters_told_by kinds setup c s sw - settled_by kinds setup c s sw ≡ 0 = omega (arith, all) in
             ap (λ (xs : List Issued). numbers_in s (life_of sw) (filter (λ x. is_confirmed now.marks x.switch) (filter (is_wanted (committed c) now.marks) xs))) (due_none kinds setup c none)
             ∙ sym (ap (range_with_len (settled_by kinds setup c s sw)) zero_left)
 
@@ -159,7 +159,7 @@ module _ (kinds : List ℕ) (setup : Setup) (few : AreFew kinds setup) (c : Cont
         in_order = λ less. done;
         accounted = λ i low high. inr (inl (subst (λ (z : List ℕ). IsIn i z) (sym (commands_said-append (life_of sw) out it))
             (in_right i (commands_said (life_of sw) out) (commands_said (life_of sw) it)
-            (subst (λ (z : List ℕ). IsIn i z) (sym numbers) (in_range (settled_by kinds setup c s sw) (told_by kinds setup c s sw - settled_by kinds setup c s sw) i low (omega (arith, low, high)))))));
+            (subst (λ (z : List ℕ). IsIn i z) (sym numbers) (in_range (settled_by kinds setup c s sw) (letters_told_by kinds setup c s sw - settled_by kinds setup c s sw) i low (omega (arith, low, high)))))));
       };
       unconfirmed = λ h. absurd (true≢false (sym confirmed ∙ h));
       marks = was.marks;
@@ -171,7 +171,7 @@ module _ (kinds : List ℕ) (setup : Setup) (few : AreFew kinds setup) (sw : ℕ
     (whole : most_failures c.vr ≡ 0 → c.vr.commit ≡ length c.vr.log) (settled : IsSettled kinds setup c) (true_of : (t : ℕ) → t < length setup.ports → IsTrueOf kinds setup c t (sw t))
     (served : AreServed kinds setup sw in_ c out) (s xid : ℕ) (own : in_ s ≡ reply_of xid c.vr.view ∷ in' s) (others : (t : ℕ) → (t ≡ s → ⊥) → in' t ≡ in_ t) where
   abbrev work : Work
-  work = posting (resting (now kinds setup few c s)) (commands_for kinds setup (now kinds setup few c s) s)
+  work = posting_work (resting (now kinds setup few c s)) (commands_for kinds setup (now kinds setup few c s) s)
 
   work_is : controller_work kinds setup c (controller_input.Of s xid (spoken.Plain (plain.RoleReply MASTER c.vr.view))) ≡ work
   work_is =

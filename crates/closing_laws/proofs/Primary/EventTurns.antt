@@ -24,7 +24,7 @@ use Rattle.dispatcher.specs.Folding.{is_done, wish}
 use Rattle.dispatcher.specs.Marks.{Marks, is_finished}
 use Rattle.of_switch.specs.State.{SwitchState, life_of}
 use Rattle.group_controller.specs.declared.messages.ControllerInput.TheVariants as controller_input
-use Rattle.group_controller.specs.State.{ControllerState, Work, committed, posting, resting, with_no_met_limit}
+use Rattle.group_controller.specs.State.{ControllerState, Work, committed, posting_work, resting, with_no_met_limit}
 use Rattle.group_controller.specs.Rules.{controller_work, on_wish}
 use Rattle.group_controller.specs.Settling.{ack_letter, after_finishing, after_proposal, is_alone, is_settled, proposing}
 use Rattle.run_spec.specs.declared.messages.Message.{Message}
@@ -183,7 +183,7 @@ module _ (kinds : List ℕ) (setup : Setup) (few : AreFew kinds setup) (sw : ℕ
       where
         by_place : (b : Bool) → nat_lt number (processed_by c s (sw s)) ≡ b →
             HasTurned kinds setup sw in' c out c.marks (on_wish kinds setup c1 e (if b then Acknowledge (processed_by c s (sw s)) else Nothing))
-        by_place true less = rests (posting (resting c1) (ack_letter through ∷ [])) refl refl (λ b. refl)
+        by_place true less = rests (posting_work (resting c1) (ack_letter through ∷ [])) refl refl (λ b. refl)
             (each_by c1 (λ t. told t (ack_letter through ∷ []))
             (subst (λ (z : List Message). IsAttended kinds setup c1 s (sw s) (out s ++ z) (in' s)) (sym own_told)
             (event_taken kinds setup c s (sw s) xid number what (out s) (in' s) was c.vr.log (acknowledges_events (life_of (sw s)) (processed_by c s (sw s)) ∷ []) refl

@@ -27,13 +27,13 @@ use Rattle.group_controller.specs.State.{ControllerState, committed}
 use Rattle.group_controller.specs.Settling.{is_some_of}
 use Rattle.run_spec.specs.declared.messages.Message.{Message}
 use Rattle.run_spec.specs.declared.messages.Message.TheVariants as message
-use Rattle.closing_laws.specs.Serving.{AreCommanded, AreEventsTold, IsMastered, IsSaidBy, IsAttended, IsTrueOf, acknowledges_events, commands_said, events_said, is_reply, is_request, logged_of, processed_by, sent_of, settled_by, told_by}
+use Rattle.closing_laws.specs.Serving.{AreCommanded, AreEventsTold, IsMastered, IsSaidBy, IsAttended, IsTrueOf, acknowledges_events, commands_said, events_said, is_reply, is_request, logged_of, processed_by, sent_of, settled_by, letters_told_by}
 use Rattle.closing_laws.proofs.Primary.Coming.{coming_next}
 use Rattle.closing_laws.proofs.Primary.Telling.{AreQuiet, commands_said-append}
 
 -- what is told and settled depends on what is committed
 module _ (kinds : List ℕ) (setup : Setup) (c c' : ControllerState) (same : committed c' ≡ committed c) (last : c'.last_told ≡ c.last_told) (s : ℕ) (sw : SwitchState) where
-  pub told_same : told_by kinds setup c' s sw ≡ told_by kinds setup c s sw
+  pub told_same : letters_told_by kinds setup c' s sw ≡ letters_told_by kinds setup c s sw
   told_same =
       ap (λ (K : List Entry). count_issued s (life_of sw) (concat (take (processed K + (if has_unprocessed K && not (is_some_of (processed K) c'.last_told) then 0 else 1)) (issues kinds setup (received K))))) same
       ∙ ap (λ (o : Option ℕ). count_issued s (life_of sw) (concat (take (processed (committed c) + (if has_unprocessed (committed c) && not (is_some_of (processed (committed c)) o) then 0 else 1)) (issues kinds setup (received (committed c)))))) last
@@ -86,7 +86,7 @@ module _ (kinds : List ℕ) (setup : Setup) (c : ControllerState) (s : ℕ) (sw 
     results = λ i h. let r = was.results i h in let t = told_is in omega (arith, r, t);
   }
     where
-      told_is : told_by kinds setup (with_log c log) s sw ≡ told_by kinds setup c s sw
+      told_is : letters_told_by kinds setup (with_log c log) s sw ≡ letters_told_by kinds setup c s sw
       told_is = told_same kinds setup c (with_log c log) same refl s sw
 
       settled_is : settled_by kinds setup (with_log c log) s sw ≡ settled_by kinds setup c s sw

@@ -13,7 +13,7 @@ use Rattle.dispatcher.specs.Marks.{has_result, is_confirmed}
 use Rattle.of_switch.specs.State.{SwitchState, events_in, life_of}
 use Rattle.group_controller.specs.State.{ControllerState}
 use Rattle.run_spec.specs.declared.messages.Message.{Message}
-use Rattle.closing_laws.specs.Serving.{AreCommanded, AreEventsTold, AreUntold, IsMastered, IsOlder, IsSaidBy, IsSaidIn, IsAttended, IsUnasked, acknowledges_events, asks_role, commands_said, events_said, is_reply, is_request, logged_of, processed_by, sent_of, settled_by, told_by}
+use Rattle.closing_laws.specs.Serving.{AreCommanded, AreEventsTold, AreUntold, IsMastered, IsOlder, IsSaidBy, IsSaidIn, IsAttended, IsUnasked, acknowledges_events, asks_role, commands_said, events_said, is_reply, is_request, logged_of, processed_by, sent_of, settled_by, letters_told_by}
 use Rattle.closing_laws.proofs.Primary.Numbering.{in_range, range_joined}
 use Rattle.closing_laws.proofs.Primary.Telling.{AreQuiet, commands_said-append}
 
@@ -82,7 +82,7 @@ module _ (kinds : List ℕ) (setup : Setup) (c c' : ControllerState) (s : ℕ) (
 
     module _ (was : IsAttended kinds setup c s sw out in_) (acks : IsAcknowledged letters) (settled : settled_by kinds setup c s sw ≤ settled_by kinds setup c' s sw) where
       -- it is told answers
-      pub answered : AreQuiet c.vr.view letters → told_by kinds setup c' s sw ≡ told_by kinds setup c s sw → IsAttended kinds setup c' s sw (out ++ letters) in_
+      pub answered : AreQuiet c.vr.view letters → letters_told_by kinds setup c' s sw ≡ letters_told_by kinds setup c s sw → IsAttended kinds setup c' s sw (out ++ letters) in_
       answered quiet told = record {
         said = said_more quiet.said was.said;
         heard = heard_still was.heard;
@@ -113,8 +113,8 @@ module _ (kinds : List ℕ) (setup : Setup) (c c' : ControllerState) (s : ℕ) (
 
       -- it is told the commands that are due, where it has confirmed its role
       pub commanded : AllByRecursion (λ m. IsSaidBy c.vr.view m) letters → count_by is_request letters ≡ 0 →
-          told_by kinds setup c s sw ≡ settled_by kinds setup c' s sw → settled_by kinds setup c' s sw ≤ told_by kinds setup c' s sw → settled_by kinds setup c' s sw ≤ sw.results.executed →
-          (is_confirmed c.marks s ≡ true → commands_said (life_of sw) letters ≡ range_with_len (settled_by kinds setup c' s sw) (told_by kinds setup c' s sw - settled_by kinds setup c' s sw)) →
+          letters_told_by kinds setup c s sw ≡ settled_by kinds setup c' s sw → settled_by kinds setup c' s sw ≤ letters_told_by kinds setup c' s sw → settled_by kinds setup c' s sw ≤ sw.results.executed →
+          (is_confirmed c.marks s ≡ true → commands_said (life_of sw) letters ≡ range_with_len (settled_by kinds setup c' s sw) (letters_told_by kinds setup c' s sw - settled_by kinds setup c' s sw)) →
           (is_confirmed c.marks s ≡ false → commands_said (life_of sw) letters ≡ []) → IsAttended kinds setup c' s sw (out ++ letters) in_
       commanded said none due least done mine none_of = record {
         said = said_more said was.said;
@@ -133,7 +133,7 @@ module _ (kinds : List ℕ) (setup : Setup) (c c' : ControllerState) (s : ℕ) (
           a = settled_by kinds setup c' s sw
 
           b : ℕ
-          b = told_by kinds setup c' s sw
+          b = letters_told_by kinds setup c' s sw
 
           there : is_confirmed c.marks s ≡ true → (i : ℕ) → a ≤ i → i < b → IsIn i (commands_said life (out ++ letters))
           there h i low high =
@@ -153,7 +153,7 @@ module _ (kinds : List ℕ) (setup : Setup) (c c' : ControllerState) (s : ℕ) (
           by_next h q (inr past) = record {
             next = a;
             waits =
-                let none : told_by kinds setup c s sw - q.next ≡ 0 = omega (arith, due, past) in
+                let none : letters_told_by kinds setup c s sw - q.next ≡ 0 = omega (arith, due, past) in
                 both h [] (q.waits ∙ ap (λ (n : ℕ). range_with_len q.next n) none);
             in_order = λ more. done;
             accounted = λ i low high. inr (inl (there h i low high));

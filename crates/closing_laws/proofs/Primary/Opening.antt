@@ -14,7 +14,7 @@ use Rattle.dispatcher.specs.Folding.{places_processed}
 use Rattle.dispatcher.specs.Marks.{Marks, has_result, is_confirmed, no_marks}
 use Rattle.of_switch.specs.State.{SwitchState, life_of}
 use Rattle.group_controller.specs.declared.messages.ControllerSays.{ControllerSays}
-use Rattle.group_controller.specs.State.{ControllerState, Work, committed, leaving, posting, to_members}
+use Rattle.group_controller.specs.State.{ControllerState, Work, committed, leaving, posting_work, to_members}
 use Rattle.group_controller.specs.Rules.{starting_view, switches}
 use Rattle.group_controller.specs.Settling.{answers_at, role_letter, settling, with_answers, with_commands}
 use Rattle.run_spec.specs.declared.messages.Message.{Message}
@@ -107,7 +107,7 @@ module _ (kinds : List ℕ) (setup : Setup) (sw : ℕ → SwitchState) (few : Ar
   roles = map (role_letter start.state.vr.view) (switches setup)
 
   abbrev pub asking : Work
-  asking = posting (leaving start opened) roles
+  asking = posting_work (leaving start opened) roles
 
   abbrev end : Work
   end = starting_view kinds setup start

@@ -32,12 +32,12 @@ use Rattle.vr_core.specs.declared.input.VrInput.TheVariants as vr_input
 use Rattle.dispatcher.specs.declared.answers.Wish.{Wish}
 use Rattle.dispatcher.specs.declared.answers.Wish.TheVariants.{Propose, Acknowledge, Nothing}
 use Rattle.dispatcher.specs.Folding.{acknowledges_at, clears_at, numbered, places_processed, wish}
-use Rattle.dispatcher.specs.Marks.{confirmed_by, is_pending, outstanding, with_result}
+use Rattle.dispatcher.specs.Marks.{confirmed_by, is_pending, outstanding, with_marked_result}
 use Rattle.app_core.specs.declared.issued.Issued.{Issued}
 use Rattle.group_controller.specs.declared.messages.ControllerInput.{ControllerInput}
 use Rattle.group_controller.specs.declared.messages.ControllerInput.TheVariants as controller_input
 use Rattle.group_controller.specs.declared.messages.ControllerSays.{ControllerSays}
-use Rattle.group_controller.specs.State.{ControllerState, Work, committed, leaving, met_limit, posting, resting, stepped, to_member, to_members, with_no_met_limit}
+use Rattle.group_controller.specs.State.{ControllerState, Work, committed, leaving, met_limit, posting_work, resting, stepped, to_member, to_members, with_no_met_limit}
 use Rattle.group_controller.specs.Settling.{ack_letter, after_finishing, after_proposal, answers_at, clear_letter, command_letter, command_letters, finishing, goes_on, is_alone, is_settled, is_untold, processing, proposing, settling, with_answers, with_commands, with_proposal}
 use Rattle.group_controller.specs.Rules.{after_step, commands_for, controller_work, on_input, on_master, on_result, on_role_reply, on_spoken, on_wish, starting_view}
 use Rattle.run_laws.proofs.Members.{up_leads}
@@ -205,7 +205,7 @@ module _ (kinds : List ℕ) (setup : Setup) where
     others = subst (λ (ls : List (Letter ControllerSays)). AreForOthers c.vr.me ls) (sym p.joined) (subst (λ (s : VrState). AreForOthers s.me p.letters) same p.others);
   }
 
-  posts_to_switch : (d : ControllerState) (letters : List (Letter ControllerSays)) → AreForOthers d.vr.me letters → Proceeds (resting d) (posting (resting d) letters)
+  posts_to_switch : (d : ControllerState) (letters : List (Letter ControllerSays)) → AreForOthers d.vr.me letters → Proceeds (resting d) (posting_work (resting d) letters)
   posts_to_switch d letters apart = record { place = same_place d.vr; save = refl; letters = letters; joined = refl; others = apart }
 
   module _ (c : ControllerState) where
@@ -235,12 +235,12 @@ module _ (kinds : List ℕ) (setup : Setup) where
 
     wish_proper : (e : Event) (w : Wish) → IsProper c (on_wish kinds setup d e w)
     wish_proper e Propose = of_rest c d (proposing kinds setup d (Received e)) refl (proposing_proceeds d (Received e))
-    wish_proper e (Acknowledge through) = of_rest c d (posting (resting d) (ack e through ∷ [])) refl (posts_to_switch d (ack e through ∷ []) (ack_for e through))
+    wish_proper e (Acknowledge through) = of_rest c d (posting_work (resting d) (ack e through ∷ [])) refl (posts_to_switch d (ack e through ∷ []) (ack_for e through))
     wish_proper e Nothing = of_rest c d (resting d) refl (stays (resting d))
 
     result_proper : (s life number : ℕ) → IsProper c (on_result kinds setup d s life number)
     result_proper s life number =
-        let now : ControllerState = record d { marks = with_result kinds setup (committed d) d.marks s life number } in
+        let now : ControllerState = record d { marks = with_marked_result kinds setup (committed d) d.marks s life number } in
         cond_both (is_pending kinds setup (committed d) s life number) _ _ (λ (y : Work). IsProper c y)
         (λ _. of_rest c now (after_finishing kinds setup (resting now)) refl (finished_proceeds (resting now)))
         (λ _. of_rest c d (resting d) refl (stays (resting d)))

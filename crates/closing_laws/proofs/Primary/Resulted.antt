@@ -13,7 +13,7 @@ use Rattle.vr_log.specs.Log.{received}
 use Rattle.vr_log.specs.Members.{most_failures}
 use Rattle.app_core.specs.Chain.{concat}
 use Rattle.app_core.specs.Issued.{count_issued, issues}
-use Rattle.dispatcher.specs.Marks.{Marks, has_result, is_confirmed, is_pending, with_mark, with_result}
+use Rattle.dispatcher.specs.Marks.{Marks, has_result, is_confirmed, is_pending, with_mark, with_marked_result}
 use Rattle.of_switch.specs.State.{SwitchState, life_of}
 use Rattle.group_controller.specs.declared.messages.ControllerInput.TheVariants as controller_input
 use Rattle.group_controller.specs.State.{ControllerState, Work, committed, resting, with_no_met_limit}
@@ -205,7 +205,7 @@ module _ (kinds : List ℕ) (setup : Setup) (few : AreFew kinds setup) (sw : ℕ
           and_from (nat_le (settled_by kinds setup c s (sw s)) number) (nat_lt number (count_issued s (life_of (sw s)) (concat (issues kinds setup (received (committed c))))))
           (le-leb (settled_by kinds setup c s (sw s)) number low) (lt-ltb number (count_issued s (life_of (sw s)) (concat (issues kinds setup (received (committed c))))) (omega (arith, most, some, all)))
 
-  pub result_comes : end.state.full ≡ None → IsTruePrimary end.state → ((t : ℕ) → t < length setup.ports → IsTrueOf kinds setup end.state t (sw t)) → HasTurned kinds setup sw in' c out (with_result kinds setup (committed c) c.marks s (life_of (sw s)) number) end
+  pub result_comes : end.state.full ≡ None → IsTruePrimary end.state → ((t : ℕ) → t < length setup.ports → IsTrueOf kinds setup end.state t (sw t)) → HasTurned kinds setup sw in' c out (with_marked_result kinds setup (committed c) c.marks s (life_of (sw s)) number) end
   result_comes full p_end true_end = by_pending pending refl
     where
       by_pending : (b : Bool) → pending ≡ b → HasTurned kinds setup sw in' c out (if b then now else c.marks) end

@@ -12,7 +12,7 @@ use Rattle.vr_log.specs.declared.state.VrState.{VrState}
 use Rattle.vr_log.specs.Log.{is_log}
 use Rattle.vr_log.specs.Steps.{VrStep, quiet, guarded, is_sound, letter, tells}
 use Rattle.vr_log.proofs.Equal.{entries_same}
-use Rattle.view_change.specs.Adopting.{adopt, adopts, adopted, adopt_letters}
+use Rattle.view_change.specs.Adopting.{adopt, adopts, adopted_log, adopt_letters}
 use Rattle.vr_core.specs.declared.input.VrInput.TheVariants as vr_input
 use Rattle.vr_core.specs.Step.{vr_step, on_vr}
 use Rattle.closing_laws.specs.Views.{in_view, in_started}
@@ -32,7 +32,7 @@ module _ (s : VrState) (w : ℕ) (voters : List ℕ) (sent : Bool) (logs : List 
       ap (λ (xs : List Entry). xs ++ drop base log) (sym (take-take base s.commit s.log from) ∙ ap (take base) agree ∙ take-take base s.commit log from)
       ∙ take-append-drop base log
 
-  adopted_is : adopted t w base commit (drop base log) ≡ u
+  adopted_is : adopted_log t w base commit (drop base log) ≡ u
   adopted_is =
       let promise : max w w ≡ w = omega arith in
       let most : max s.commit commit ≡ commit = omega (arith, up_to) in

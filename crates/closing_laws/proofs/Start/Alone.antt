@@ -11,13 +11,13 @@ use Rattle.journal.specs.declared.journal.Letter.{Letter}
 use Rattle.journal.specs.declared.journal.Local.TheVariants as local
 use Rattle.journal.specs.declared.journal.Packet.{Packet}
 use Rattle.journal.specs.declared.journal.SaveResult.{SaveResult}
-use Rattle.journal.specs.Pool.{numbered, pool}
+use Rattle.journal.specs.Pool.{numbered_letters, pool}
 use Rattle.journal.specs.Turns.{IsWithinLimits}
 use Rattle.vr_log.specs.declared.message.VrLetter.{VrLetter}
 use Rattle.vr_log.specs.declared.state.VrState.{VrState}
 use Rattle.vr_log.specs.Members.{leads, most_failures, others_below}
 use Rattle.vr_log.specs.Steps.{VrStep, letter, to_others}
-use Rattle.view_change.specs.Entering.{started, view_start}
+use Rattle.view_change.specs.Entering.{started_view, view_start}
 use Rattle.vr_core.specs.declared.input.VrInput.TheVariants as vr_input
 use Rattle.group_controller.specs.declared.messages.ControllerInput.TheVariants as controller_input
 use Rattle.group_controller.specs.declared.messages.ControllerSays.{ControllerSays}
@@ -29,7 +29,7 @@ use Rattle.run_spec.specs.Legal.{IsPossible}
 use Rattle.run_spec.specs.Committed.{controller_state, states_of, members_up}
 use Rattle.run_spec.proofs.Pasts.{self_controller}
 use Rattle.run_agreement.proofs.Pasts.{fits}
-use Rattle.run_spec.specs.Schedule.{Phase, Losing, Suspecting, Move, Takes, ClosesTo, IsEnd, IsMove, IsPosted, after_member, after_move, count_turns, majority, next_move, next_suspicion}
+use Rattle.run_spec.specs.Schedule.{Phase, Losing, Suspecting, ClosingMove, Takes, ClosesTo, IsEnd, IsMove, IsPosted, after_member, after_move, count_turns, majority, next_move, next_suspicion}
 use Rattle.closing_laws.specs.Quorum.{has}
 use Rattle.closing_laws.specs.Views.{HasBest, IsCovered, IsReadyMember, gathering, lacks, log_of, started_with, tellers, turns_to_start}
 use Rattle.closing_laws.specs.Starts.{HasStartedIn, IsAttempt, Starts, StartsInTime, Last_suspects, members_at, quorum_after, starting_turn, turns_after, view_after}
@@ -96,7 +96,7 @@ module _ {B : Type 0} (scene : Scene B) (results : List (List SaveResult)) (befo
       alone_at j chosen = let less = small j chosen in omega (arith, less, single)
 
   abbrev begins_as : VrState
-  begins_as = started (gathering (start 0) w [] [] None) (start 0).log (start 0).commit (start 0).commit
+  begins_as = started_view (gathering (start 0) w [] [] None) (start 0).log (start 0).commit (start 0).commit
 
   abbrev step : VrStep
   step = record { state = begins_as; promise = Some w; letters = [] }
@@ -134,7 +134,7 @@ module _ {B : Type 0} (scene : Scene B) (results : List (List SaveResult)) (befo
       ∙ ap (λ (k : ℕ). started_with (start 0) w [] [] (start k).log) is_best))
 
   begun_in : (Q : List (JournalEntry B)) → (at scene results 0 Q).now ≡ (at scene results 0 (suspicion ∷ before)).now → (number : ℕ) →
-      pool Q ≡ numbered number (actor.Controller 0) (sealed_letters controller_message scene.sealing turn_work.letters) →
+      pool Q ≡ numbered_letters number (actor.Controller 0) (sealed_letters controller_message scene.sealing turn_work.letters) →
       map (content scene.sealing) (pool Q) ≡ map (λ (l : Letter ControllerSays). unsealed.Message (controller_message l.body)) turn_work.letters → HasStartedIn scene results w quorum start best Q
   begun_in Q same number waits says = record {
     voters = λ c. [];
@@ -145,7 +145,7 @@ module _ {B : Type 0} (scene : Scene B) (results : List (List SaveResult)) (befo
     others = λ c chosen other. let less = small c chosen in let zero_it : c ≡ 0 = omega (arith, less, single) in absurd (eqb-false c (w % n) other (zero_it ∙ sym first));
     outside = λ c less out. let zero_it : c ≡ 0 = omega (arith, less, single) in absurd (both_ways (has quorum 0) (ap (has quorum) (sym zero_it) ∙ out) there);
     number = number;
-    waits = waits ∙ ap (λ (k : ℕ). numbered number (actor.Controller k) (sealed_letters controller_message scene.sealing turn_work.letters)) (sym first);
+    waits = waits ∙ ap (λ (k : ℕ). numbered_letters number (actor.Controller k) (sealed_letters controller_message scene.sealing turn_work.letters)) (sym first);
     says = says;
   }
 
@@ -202,7 +202,7 @@ module _ {B : Type 0} (scene : Scene B) (results : List (List SaveResult)) (befo
             rest = rest;
             joined = is;
             turns = sym all;
-            started = begun_in (suspicion ∷ before) refl 0 (a.empty ∙ ap (λ (ls : List (Letter ControllerSays)). numbered 0 (actor.Controller 0) (sealed_letters controller_message scene.sealing ls)) (sym none))
+            started = begun_in (suspicion ∷ before) refl 0 (a.empty ∙ ap (λ (ls : List (Letter ControllerSays)). numbered_letters 0 (actor.Controller 0) (sealed_letters controller_message scene.sealing ls)) (sym none))
                 (ap (map (content scene.sealing)) a.empty ∙ ap (map (λ (l : Letter ControllerSays). unsealed.Message (controller_message l.body))) (sym none));
             covered = own_covered;
             unchanged = λ t. switches_stay scene results 0 suspicion before refl t;
@@ -227,8 +227,8 @@ module _ {B : Type 0} (scene : Scene B) (results : List (List SaveResult)) (befo
             turns = sym all;
             started = begun_in (it ∷ (suspicion ∷ before)) (posted_holds scene results 0 number letters lost (suspicion ∷ before) 0).0 number
                 (pool_grows scene results 0 number letters lost (suspicion ∷ before) after fit
-                ∙ ap (λ (ps : List (Packet B)). ps ++ numbered number (actor.Controller 0) (sealed_letters controller_message scene.sealing (at scene results 0 (suspicion ∷ before)).owed)) a.empty
-                ∙ ap (λ (ls : List (Letter ControllerSays)). numbered number (actor.Controller 0) (sealed_letters controller_message scene.sealing ls)) turn.owed)
+                ∙ ap (λ (ps : List (Packet B)). ps ++ numbered_letters number (actor.Controller 0) (sealed_letters controller_message scene.sealing (at scene results 0 (suspicion ∷ before)).owed)) a.empty
+                ∙ ap (λ (ls : List (Letter ControllerSays)). numbered_letters number (actor.Controller 0) (sealed_letters controller_message scene.sealing ls)) turn.owed)
                 (says_posted scene results 0 number letters lost (suspicion ∷ before) after fit setup faithful a.empty
                 ∙ ap (map (λ (l : Letter ControllerSays). unsealed.Message (controller_message l.body))) turn.owed);
             covered = own_covered;
@@ -248,7 +248,7 @@ module _ {B : Type 0} (scene : Scene B) (results : List (List SaveResult)) (befo
   one_move : (e : JournalEntry B) (rest : List (JournalEntry B)) → entries ≡ e ∷ rest → (next : Phase) → IsMove (next_move scene results (Suspecting w quorum quorum) before) e next →
       ClosesTo scene results (after_move scene results e before next) (e ∷ before) rest last → StartsInTime scene results before entries last best
   one_move e rest is next move closes =
-      let m = subst (λ (v : Move B). IsMove v e next) first_takes move in
+      let m = subst (λ (v : ClosingMove B). IsMove v e next) first_takes move in
       let joined : entries ≡ suspicion ∷ rest = is ∙ ap (λ (x : JournalEntry B). x ∷ rest) m.0 in
       let closes' = subst (λ (x : JournalEntry B). ClosesTo scene results (after_move scene results x before next) (x ∷ before) rest last) m.0 closes in
       let all = one_turn in
@@ -279,7 +279,7 @@ module _ {B : Type 0} (scene : Scene B) (results : List (List SaveResult)) (befo
           record {
             starts = λ enough. absurd (omega (arith, all, none, enough));
             goes_on = λ less answer end.
-                subst (λ (v : Move B). IsEnd v answer) (begun.first_move scene results before most a.empty ∙ first_takes)
+                subst (λ (v : ClosingMove B). IsEnd v answer) (begun.first_move scene results before most a.empty ∙ first_takes)
                 (subst (λ (y : Phase). IsEnd (next_move scene results y before) answer) still
                 (subst (λ (l : List (JournalEntry B)). IsEnd (next_move scene results last (reverse l ++ before)) answer) is end));
           }

@@ -15,7 +15,7 @@ use Rattle.vr_log.specs.declared.entry.Entry.{Entry}
 use Rattle.vr_log.specs.declared.state.Status.{Status}
 use Rattle.vr_log.specs.declared.state.Status.TheVariants.{Normal, ViewChange, Recovering, Down}
 use Rattle.vr_log.specs.Members.{is_up}
-use Rattle.member_moves.specs.Projection.{group_of, state_of, status_of}
+use Rattle.member_moves.specs.Projection.{group_of, member_state_of, member_status_of}
 use Rattle.controller_moves.specs.Projection.{OwnInput}
 use Rattle.controller_moves.specs.Rules.{SavingController}
 use Rattle.controller_moves.proofs.Following.{follow_law}
@@ -33,7 +33,7 @@ use Rattle.run_agreement.proofs.Standing.{stands_alike}
 use Rattle.run_laws.proofs.Events.{events_valid}
 use Rattle.run_laws.proofs.Laws.{always}
 
-pub status_up : (s : Status) → elim s [ Normal ↦ true | ViewChange ↦ true | Recovering ↦ false | Down ↦ false ] ≡ true → agreed.is_up (status_of s) ≡ true
+pub status_up : (s : Status) → elim s [ Normal ↦ true | ViewChange ↦ true | Recovering ↦ false | Down ↦ false ] ≡ true → agreed.is_up_status (member_status_of s) ≡ true
 status_up Normal h = refl
 status_up ViewChange h = refl
 status_up Recovering h = absurd cc
@@ -51,7 +51,7 @@ module _ {B : Type 0} (scene : Scene B) (results : List (List SaveResult)) (setu
   read = read_past scene results P possible (WhereValid faithful (events_valid scene results P possible (λ i. always scene results setup faithful P possible (suc i))))
 
   -- the state of a member after an earlier past
-  state_at : (c : ℕ) (Q : List (JournalEntry B)) → IsReadPast scene results Q → r.state (stands r c (past_of scene Q)).now ≡ state_of (controller_state scene results c Q).vr
+  state_at : (c : ℕ) (Q : List (JournalEntry B)) → IsReadPast scene results Q → r.state (stands r c (past_of scene Q)).now ≡ member_state_of (controller_state scene results c Q).vr
   state_at c Q was = ap (λ (a : SavingController). r.state a) (stands_alike scene results 0 c alone Q was.possible.orderly).now
 
   goes : (c i : ℕ) → c < scene.setup.controllers → is_up (controller_state scene results c P).vr ≡ true →
@@ -64,7 +64,7 @@ module _ {B : Type 0} (scene : Scene B) (results : List (List SaveResult)) (setu
       let now_is = ap (λ (es : List (journal.Entry OwnInput Entry)). r.state (stands r c es).now) (sym whole) ∙ state_at c P read in
       let on : GoesOn (r.state (stands r c (past_of scene late)).now) (r.state (stands r c (x.0 ++ past_of scene late)).now) =
       journal_goes (follow_law scene.kinds scene.setup 0 (λ d. results_of results d)) refl c x.0 (past_of scene late) (in_group scene results 0 alone c there)
-      (ap (λ (s : State Entry). agreed.is_up s.status) now_is ∙ status_up (controller_state scene results c P).vr.status up) in
+      (ap (λ (s : State Entry). agreed.is_up_status s.status) now_is ∙ status_up (controller_state scene results c P).vr.status up) in
       subst (λ (s : State Entry). IsPrefix (controller_state scene results c late).vr.log s.log) now_is
       (subst (λ (s : State Entry). IsPrefix s.log (r.state (stands r c (x.0 ++ past_of scene late)).now).log) then_is on.longer)
 

@@ -21,10 +21,10 @@ use Rattle.group_controller.specs.State.{ControllerState}
 use Rattle.run_spec.specs.States.{Scene, IsFaithful}
 use Rattle.run_spec.specs.Legal.{IsPossible, results_of}
 use Rattle.run_spec.specs.Committed.{controller_state, switch_state, states_of, members_up}
-use Rattle.run_spec.specs.Schedule.{Answer, Phase, Losing, Suspecting, Draining, Move, Ends, NoQuorum, ClosesTo, IsEnd, IsInputOf, IsMove, IsPosted, after_member, count_turns, is_turn, majority, next_move, next_lost, next_suspicion}
+use Rattle.run_spec.specs.Schedule.{ClosingAnswer, Phase, Losing, Suspecting, Draining, ClosingMove, Ends, NoQuorum, ClosesTo, IsEnd, IsInputOf, IsMove, IsPosted, after_member, count_turns, is_turn, majority, next_move, next_lost, next_suspicion}
 use Rattle.run_laws.proofs.Members.{owned_at}
 use Rattle.closing_laws.specs.Quorum.{has, IsQuorum}
-use Rattle.closing_laws.specs.Draining.{GroupState, all_suspected, resting}
+use Rattle.closing_laws.specs.Draining.{GroupState, all_suspected, resting_group}
 use Rattle.closing_laws.specs.Views.{HasBest, IsCovered, IsReadyMember, in_view, lacks, turns_to_start}
 use Rattle.closing_laws.specs.Starts.{HasStartedIn, IsAttempt, StartsInTime, Drains, members_at, quorum_after, turns_after, view_after}
 use Rattle.closing_laws.proofs.Journal.Posting.{later, later_is, never_posts, possible_under}
@@ -128,7 +128,7 @@ module _ {B : Type 0} (scene : Scene B) (results : List (List SaveResult)) (befo
       (by_entry e (under possible) (subst (λ (l : List (JournalEntry B)). ClosesTo scene results Losing before l last) is closes))
     where
       moved : (x : JournalEntry B) (next : Phase) → IsMove (next_move scene results Losing before) x next → IsMove (next_move scene results (Suspecting w quorum quorum) before) x next
-      moved x next = subst (λ (v : Move B). IsMove v x next) (first_move empty)
+      moved x next = subst (λ (v : ClosingMove B). IsMove v x next) (first_move empty)
 
       by_entry : (x : JournalEntry B) → IsPossible scene results (x ∷ before) → ClosesTo scene results Losing before (x ∷ rest) last → ClosesTo scene results (Suspecting w quorum quorum) before (x ∷ rest) last
       by_entry (Post a first letters lost) can c = absurd (never a first letters lost c.0 can)
@@ -144,12 +144,12 @@ module _ {B : Type 0} (scene : Scene B) (results : List (List SaveResult)) (befo
     once = quorum_once n w quorum start ready (picked_of_quorum n w quorum quorum_is)
 
     abbrev entered_group : GroupState
-    entered_group = all_suspected (resting start) w quorum
+    entered_group = all_suspected (resting_group start) w quorum
 
     abbrev turns : ℕ
     turns = turns_after scene results before best
 
-    start_stands : walking.Stands scene results setup faithful w quorum quorum_is.members before a.saves before (resting start)
+    start_stands : walking.Stands scene results setup faithful w quorum quorum_is.members before a.saves before (resting_group start)
     start_stands = record {
       holds = record { members = λ c lt. refl; saves = λ c. omega arith; switches = λ t. refl; few = omega arith };
       carries = subst (λ (ps : List (Packet B)). AllCarry scene results ps []) (sym a.empty) tt;
@@ -168,11 +168,11 @@ module _ {B : Type 0} (scene : Scene B) (results : List (List SaveResult)) (befo
     half : n / 2 ≤ 3
     half = let seven = walking.seven_at_most n setup.group in omega (arith, seven)
 
-    suspicions : Path w quorum entered_group quorum (resting start)
-    suspicions = suspecting.suspects_path n w quorum start ready several entered_group quorum (resting start) once (λ j h. (refl, h)) (Arrives entered_group refl)
+    suspicions : Path w quorum entered_group quorum (resting_group start)
+    suspicions = suspecting.suspects_path n w quorum start ready several entered_group quorum (resting_group start) once (λ j h. (refl, h)) (Arrives entered_group refl)
 
     suspicions_count : entered_group.turns ≡ n / 2 + 1
-    suspicions_count = let all = suspecting.suspicion_turns w quorum (resting start) in let count = quorum_is.count in omega (arith, all, count)
+    suspicions_count = let all = suspecting.suspicion_turns w quorum (resting_group start) in let count = quorum_is.count in omega (arith, all, count)
 
     -- behind the suspicions the logs have one history, so that the view starts
     module _ (first rest : List (JournalEntry B)) (x phase : Phase) (is : entries ≡ first ++ rest) (counted : 0 + count_turns first ≡ entered_group.turns)
@@ -196,7 +196,7 @@ module _ {B : Type 0} (scene : Scene B) (results : List (List SaveResult)) (befo
       possible1 = possible_under scene results rest P1 can1
 
       entered : (j : ℕ) → has quorum j ≡ true → (controller_state scene results j P1).vr ≡ in_view (start j) w [] false [] None
-      entered j member = stands.holds.members j (quorum_is.members j member) ∙ suspecting.entered_all n w quorum start ready several quorum (resting start) once (λ i h. (refl, h)) j member
+      entered j member = stands.holds.members j (quorum_is.members j member) ∙ suspecting.entered_all n w quorum start ready several quorum (resting_group start) once (λ i h. (refl, h)) j member
 
       is_covered : IsCovered quorum start best
       is_covered = covered scene results setup faithful P1 possible1 w quorum start once (let count = quorum_is.count in omega (arith, count)) quorum_is.members several entered best b
@@ -215,7 +215,7 @@ module _ {B : Type 0} (scene : Scene B) (results : List (List SaveResult)) (befo
       all_counted = let parts = ap (λ (l : List (JournalEntry B)). count_turns l) is ∙ counts_append first rest in omega (arith, parts, counted)
 
       -- where it did not start yet
-      not_yet : count_turns entries ≤ z.turns → ((answer : Answer) → IsEnd (next_move scene results x (later P1 rest)) answer → ⊥) → StartsInTime scene results before entries x best
+      not_yet : count_turns entries ≤ z.turns → ((answer : ClosingAnswer) → IsEnd (next_move scene results x (later P1 rest)) answer → ⊥) → StartsInTime scene results before entries x best
       not_yet few never = record {
         starts = λ enough. let all = turns_are in absurd (omega (arith, all, few, enough));
         goes_on = λ less answer end. never answer (subst (λ (l : List (JournalEntry B)). IsEnd (next_move scene results x l) answer) (sym (later_is before entries) ∙ split) end);
@@ -258,7 +258,7 @@ module _ {B : Type 0} (scene : Scene B) (results : List (List SaveResult)) (befo
         split2 : later P1 rest ≡ later P2 more
         split2 = ap (later P1) rest_is ∙ later_append P1 second more
 
-        last_part : (((answer : Answer) → IsEnd (next_move scene results x (later P2 more)) answer → ⊥) × (more ≡ [])) ⊎
+        last_part : (((answer : ClosingAnswer) → IsEnd (next_move scene results x (later P2 more)) answer → ⊥) × (more ≡ [])) ⊎
             starting.Begun scene results setup faithful w quorum quorum_is.members before a.saves z start best way.2 (ready (w % n) quorum_is.primary) quorum_is.primary (ready best b.member).is_one P2 more x → StartsInTime scene results before entries x best
         last_part (inl none) =
             let parts = ap (λ (l : List (JournalEntry B)). count_turns l) rest_is ∙ counts_append second more in
@@ -291,7 +291,7 @@ module _ {B : Type 0} (scene : Scene B) (results : List (List SaveResult)) (befo
           second_part (walking.goes scene results setup faithful w quorum quorum_is.members before a.saves z
           (let all = turns_are in let few = few_turns (n / 2) (lacks (w % n) start best) half in omega (arith, all, few)) rest P1 x phase [] entered_group at_phase (walking.Rests stands) way.1 closes can1 done1 room1)
 
-    first_part : (x : Phase) → walking.Outcome scene results setup faithful w quorum quorum_is.members before a.saves entered_group before (resting start) entries x → StartsInTime scene results before entries x best
+    first_part : (x : Phase) → walking.Outcome scene results setup faithful w quorum quorum_is.members before a.saves entered_group before (resting_group start) entries x → StartsInTime scene results before entries x best
     first_part x (walking.Goes never few) =
         let count = suspicions_count in
         let more = long (n / 2) (lacks (w % n) start best) several in
@@ -304,7 +304,7 @@ module _ {B : Type 0} (scene : Scene B) (results : List (List SaveResult)) (befo
     from_suspicions : (x : Phase) → ClosesTo scene results (Suspecting w quorum quorum) before entries x → StartsInTime scene results before entries x best
     from_suspicions x closes =
         first_part x (walking.goes scene results setup faithful w quorum quorum_is.members before a.saves entered_group (let count = suspicions_count in let few = half in omega (arith, count, few)) entries before x
-        (Suspecting w quorum quorum) quorum (resting start) (walking.Still quorum) (walking.Rests start_stands) suspicions closes can done room)
+        (Suspecting w quorum quorum) quorum (resting_group start) (walking.Still quorum) (walking.Rests start_stands) suspicions closes can done room)
 
     pub in_time : StartsInTime scene results before entries last best
     in_time = by_entries entries refl
@@ -323,7 +323,7 @@ module _ {B : Type 0} (scene : Scene B) (results : List (List SaveResult)) (befo
               starts = λ enough. absurd (omega (arith, none, more, enough));
               goes_on = λ less answer end. r.goes_on less answer
                   (subst (λ (l : List (JournalEntry B)). IsEnd (next_move scene results (Suspecting w quorum quorum) (reverse l ++ before)) answer) (sym is)
-                  (subst (λ (v : Move B). IsEnd v answer) (first_move a.empty)
+                  (subst (λ (v : ClosingMove B). IsEnd v answer) (first_move a.empty)
                   (subst (λ (y : Phase). IsEnd (next_move scene results y before) answer) still
                   (subst (λ (l : List (JournalEntry B)). IsEnd (next_move scene results last (reverse l ++ before)) answer) is end))));
             }

@@ -15,7 +15,7 @@ use Rattle.agreement.proofs.Leading.{best_begins, decided_certified}
 use Rattle.vr_log.specs.declared.entry.Entry.{Entry}
 use Rattle.vr_log.specs.declared.state.VrState.{VrState}
 use Rattle.vr_log.specs.Choosing.{length_of}
-use Rattle.member_moves.specs.Projection.{state_of}
+use Rattle.member_moves.specs.Projection.{member_state_of}
 use Rattle.controller_moves.proofs.Following.{follow_law}
 use Rattle.run_spec.specs.States.{Scene, IsFaithful}
 use Rattle.run_spec.specs.Legal.{IsPossible, results_of}
@@ -39,7 +39,7 @@ module _ {B : Type 0} (scene : Scene B) (results : List (List SaveResult)) (setu
   abbrev f : ℕ
   f = histories.f scene results setup faithful P possible several
 
-  state_is : (j : ℕ) → has quorum j ≡ true → (histories.h scene results setup faithful P possible several).state j ≡ state_of (members j)
+  state_is : (j : ℕ) → has quorum j ≡ true → (histories.h scene results setup faithful P possible several).state j ≡ member_state_of (members j)
   state_is j member = histories.state_is scene results setup faithful P possible several j (ready j member).small
 
   -- its length is what it tells of it
@@ -69,14 +69,14 @@ module _ {B : Type 0} (scene : Scene B) (results : List (List SaveResult)) (setu
 
   -- what the moves have decided
   abbrev was : List Entry
-  was = decision.decided (histories.r scene results setup faithful P possible several) (histories.g scene results setup faithful P possible several) (histories.all scene results setup faithful P possible several)
+  was = decision.decided_log (histories.r scene results setup faithful P possible several) (histories.g scene results setup faithful P possible several) (histories.all scene results setup faithful P possible several)
 
   pub decided_in_best : IsPrefix (decided scene results P) (members best).log
   decided_in_best =
       prefix_trans (decided_begins scene results f (histories.odd scene results setup faithful P possible several).1 P (histories.read scene results setup faithful P possible several))
       (subst (λ (s : State Entry). IsPrefix was s.log) (state_is best b.member)
       (best_begins (histories.good scene results setup faithful P possible several) (has quorum) best was (whole many)
-      (λ j member. ap (λ (s : State Entry). agreed.is_up s.status) (state_is j member) ∙ status_up (members j).status (ready j member).up) b.member
+      (λ j member. ap (λ (s : State Entry). agreed.is_up_status s.status) (state_is j member) ∙ status_up (members j).status (ready j member).up) b.member
       (histories.within scene results setup faithful P possible several best (ready best b.member).small)
       (λ j member. subst₂ (λ (x y : State Entry). IsAtMost x.normal (length x.log) y.normal (length y.log)) (sym (state_is j member)) (sym (state_is best b.member)) (far j member))
       (decided_certified (follow_law scene.kinds scene.setup f (λ c. results_of results c)) (histories.some scene results setup faithful P possible several) (histories.all scene results setup faithful P possible several)

@@ -13,7 +13,7 @@ use Rattle.vr_core.specs.declared.input.VrInput.TheVariants as vr_input
 use Rattle.vr_core.specs.Step.{vr_step}
 use Rattle.of_types.specs.SmallSets.{with_number}
 use Rattle.closing_laws.specs.Quorum.{has}
-use Rattle.closing_laws.specs.Draining.{Flight, GroupState, flown, put, drained, drains}
+use Rattle.closing_laws.specs.Draining.{Flight, GroupState, flown, put_state, drained_group, drains}
 use Rattle.closing_laws.specs.Views.{IsReadyMember, vote_letters, voting}
 use Rattle.closing_laws.proofs.Lists.Numbers.{Once, has_here, has_later, with_length}
 use Rattle.closing_laws.proofs.Start.Members.{vote_taken}
@@ -35,7 +35,7 @@ unfolding drains
 drains_add zero m quorum g = let same : 0 + m ≡ m = omega arith in ap (λ (k : ℕ). drains k quorum g) same
 drains_add (suc n) m quorum g =
     let same : suc n + m ≡ suc (n + m) = omega arith in
-    ap (λ (k : ℕ). drains k quorum g) same ∙ drains_add n m quorum (drained quorum g g.pool)
+    ap (λ (k : ℕ). drains k quorum g) same ∙ drains_add n m quorum (drained_group quorum g g.pool)
 
 pub none_after : (quorum : List ℕ) (at at' : ℕ → VrState) (pool pool' : List Flight) (turns turns' : ℕ) → ((j : ℕ) → at j ≡ at' j) → pool ≡ pool' → turns ≡ turns' →
     After 0 quorum (record { at = at; pool = pool; turns = turns }) at' pool' turns'
@@ -109,13 +109,13 @@ first_changing quorum g still (suc i) less = absurd (omega (arith, less))
 -- one packet that is drawn
 pub one_drawn : (quorum : List ℕ) (at at' : ℕ → VrState) (f : Flight) (waiting pool' : List Flight) (turns : ℕ) (step : VrStep) → AreChanging quorum at → has quorum f.to ≡ true →
     vr_step (at f.to) (vr_input.From f.from f.message) ≡ step →
-    ((j : ℕ) → put at f.to step.state j ≡ at' j) → waiting ++ map (flown f.to) step.letters ≡ pool' →
+    ((j : ℕ) → put_state at f.to step.state j ≡ at' j) → waiting ++ map (flown f.to) step.letters ≡ pool' →
     After 1 quorum (record { at = at; pool = f ∷ waiting; turns = turns }) at' pool' (turns + 1)
 unfolding drains
 one_drawn quorum at at' f waiting pool' turns step still member is each posted =
     record {
-      found = put at f.to step.state;
-      drained_to = rw (member, is) (ap (λ (q : List Flight). record { at = put at f.to step.state; pool = q; turns = turns + 1 }) posted);
+      found = put_state at f.to step.state;
+      drained_to = rw (member, is) (ap (λ (q : List Flight). record { at = put_state at f.to step.state; pool = q; turns = turns + 1 }) posted);
       each = each;
       changing = first_changing quorum (record { at = at; pool = f ∷ waiting; turns = turns }) still;
     }

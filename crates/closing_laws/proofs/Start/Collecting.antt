@@ -16,7 +16,7 @@ use Rattle.vr_core.specs.declared.input.VrInput.TheVariants as vr_input
 use Rattle.vr_core.specs.Step.{vr_step}
 use Rattle.closing_laws.specs.Quorum.{has}
 use Rattle.closing_laws.specs.Draining.{GroupState, Flight, flown}
-use Rattle.closing_laws.specs.Views.{IsReadyMember, log_of, behind}
+use Rattle.closing_laws.specs.Views.{IsReadyMember, log_of, views_behind}
 use Rattle.closing_laws.proofs.Lists.Numbers.{Once, has_here, has_later, has_append}
 use Rattle.closing_laws.proofs.Lists.Picked.{IsPicked}
 use Rattle.closing_laws.proofs.Start.Calls.{After, AreChanging, none_after, after_on, after_first, after_is, one_drawn, held}
@@ -33,7 +33,7 @@ collected_has start (d ∷ done) j = ap (λ (b : Bool). nat_eq d j || b) (collec
 module _ (n w : ℕ) (quorum : List ℕ) (start : ℕ → VrState) (ready : (j : ℕ) → has quorum j ≡ true → IsReadyMember n w j (start j)) (q : IsPicked n w quorum) (group : 0 < n / 2) where
   -- the votes of each
   abbrev pub votes_of : ℕ → List ℕ
-  votes_of j = heard_from (behind quorum []) j
+  votes_of j = heard_from (views_behind quorum []) j
 
   pub leader : IsReadyMember n w (w % n) (start (w % n))
   leader = ready (w % n) q.primary

@@ -19,7 +19,7 @@ use Rattle.vr_log.specs.declared.entry.Entry.{Entry}
 use Rattle.vr_log.specs.declared.state.Collected.{Collected}
 use Rattle.vr_log.specs.declared.state.VrState.{VrState}
 use Rattle.vr_log.specs.Choosing.{is_better, length_of}
-use Rattle.member_moves.specs.Projection.{state_of, vote_of}
+use Rattle.member_moves.specs.Projection.{member_state_of, vote_of}
 use Rattle.run_spec.specs.States.{Scene, IsFaithful}
 use Rattle.run_spec.specs.Legal.{IsPossible}
 use Rattle.run_spec.specs.Committed.{controller_state}
@@ -70,10 +70,10 @@ module _ {B : Type 0} (scene : Scene B) (results : List (List SaveResult)) (setu
   within : (j : ℕ) → has quorum j ≡ true → j < size g
   within j member = histories.within scene results setup faithful P possible several j (small j member)
 
-  state_is : (j : ℕ) → has quorum j ≡ true → h.state j ≡ state_of (in_view (start j) w [] false [] None)
-  state_is j member = histories.state_is scene results setup faithful P possible several j (small j member) ∙ ap state_of (entered j member)
+  state_is : (j : ℕ) → has quorum j ≡ true → h.state j ≡ member_state_of (in_view (start j) w [] false [] None)
+  state_is j member = histories.state_is scene results setup faithful P possible several j (small j member) ∙ ap member_state_of (entered j member)
 
-  good_state : (j : ℕ) → has quorum j ≡ true → IsGoodState g h j (state_of (in_view (start j) w [] false [] None))
+  good_state : (j : ℕ) → has quorum j ≡ true → IsGoodState g h j (member_state_of (in_view (start j) w [] false [] None))
   good_state j member = subst (λ (s : State Entry). IsGoodState g h j s) (state_is j member) (good.states j (within j member))
 
   vote_for : (j : ℕ) → has quorum j ≡ true → IsVote g h j w (start j).normal (start j).commit (start j).log

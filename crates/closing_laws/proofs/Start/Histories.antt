@@ -3,14 +3,14 @@ use Rattle.std.proofs.Common.{◌≡◌, ◌≤◌, ◌<◌, ℕ, suc, ◌+◌, 
 use Rattle.of_types.specs.Setups.{IsSetup}
 use Rattle.journal.specs.declared.journal.JournalEntry.{JournalEntry}
 use Rattle.journal.specs.declared.journal.SaveResult.{SaveResult}
-use Rattle.actor_fold.specs.Fold.{Standing}
+use Rattle.actor_fold.specs.Fold.{ActorStanding}
 use Rattle.agreement.specs.History.{Group, History, Letter, size}
 use Rattle.agreement.specs.Invariant.{Invariant}
 use Rattle.agreement.specs.Journals as journal
 use Rattle.agreement.specs.Journals.{Rules, firm}
 use Rattle.agreement.proofs.Agreeing.{journal_good}
 use Rattle.vr_log.specs.declared.entry.Entry.{Entry}
-use Rattle.member_moves.specs.Projection.{group_of, state_of}
+use Rattle.member_moves.specs.Projection.{group_of, member_state_of}
 use Rattle.controller_moves.specs.Projection.{OwnInput}
 use Rattle.controller_moves.specs.Rules.{SavingController}
 use Rattle.controller_moves.proofs.Following.{follow_law}
@@ -53,7 +53,7 @@ module _ {B : Type 0} (scene : Scene B) (results : List (List SaveResult)) (setu
   pub read : IsReadPast scene results P
   read = read_past scene results P possible (WhereValid faithful (events_valid scene results P possible (λ i. always scene results setup faithful P possible (suc i))))
 
-  pub legal : journal.IsLegal r g all
+  pub legal : journal.IsAllowed r g all
   legal = posting_legal r g (size g) (past_of scene P) (omega arith) (past_legal scene results f odd.1 P read).legal
 
   pub good : Invariant g h
@@ -62,7 +62,7 @@ module _ {B : Type 0} (scene : Scene B) (results : List (List SaveResult)) (setu
   pub within : (c : ℕ) → c < scene.setup.controllers → c < size g
   within c there = in_group scene results f odd.1 c there
 
-  pub state_is : (c : ℕ) → c < scene.setup.controllers → h.state c ≡ state_of (controller_state scene results c P).vr
+  pub state_is : (c : ℕ) → c < scene.setup.controllers → h.state c ≡ member_state_of (controller_state scene results c P).vr
   state_is c there =
-      ap (λ (w : Standing SavingController (Letter Entry)). r.state (firm w)) (posting_stands r g (size g) c (past_of scene P) (within c there))
+      ap (λ (w : ActorStanding SavingController (Letter Entry)). r.state (firm w)) (posting_stands r g (size g) c (past_of scene P) (within c there))
       ∙ ap (λ (a : SavingController). r.state a) (stands_alike scene results f c odd.1 P possible.orderly).now

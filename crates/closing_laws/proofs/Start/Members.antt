@@ -14,7 +14,7 @@ use Rattle.vr_log.specs.Members.{is_up, is_primary, others_below}
 use Rattle.vr_log.specs.Steps.{VrStep, quiet, guarded, is_sound, then_step, to_others, letter, tells, sends}
 use Rattle.vr_log.specs.Choosing.{may_choose, reaches, fetch_letter}
 use Rattle.vr_log.proofs.Equal.{entries_same}
-use Rattle.view_change.specs.Entering.{chooses_from, started, tells_start, view_start, entered, enter, check, votes, chooses, own_log}
+use Rattle.view_change.specs.Entering.{chooses_from, started_view, tells_start, view_start, entered_view, enter, check, votes, chooses, own_log}
 use Rattle.view_change.specs.Cases.{enters}
 use Rattle.vr_core.specs.declared.input.VrInput.TheVariants as vr_input
 use Rattle.vr_core.specs.Step.{vr_step, on_vr}
@@ -46,9 +46,9 @@ pub suspects : (n w j : ℕ) (s : VrState) → IsReadyMember n w j s → 0 < s.c
 suspects n w j s m group =
     let later : (is_up s && nat_lt s.view w) ≡ true = and_from (is_up s) (nat_lt s.view w) m.up (lt-ltb s.view w m.below) in
     let few : nat_le (s.controllers / 2) 0 ≡ false = lt-leb (s.controllers / 2) 0 group in
-    let first : votes (entered s w) ≡ quiet (entered s w) = rw few refl in
-    let none : may_choose (entered s w) ≡ false = four_third true (is_primary (entered s w)) false (nat_lt (s.controllers / 2) 0) refl in
-    let checked : check (entered s w) ≡ quiet (entered s w) = check_rests (entered s w) (quiet (entered s w)) first none in
+    let first : votes (entered_view s w) ≡ quiet (entered_view s w) = rw few refl in
+    let none : may_choose (entered_view s w) ≡ false = four_third true (is_primary (entered_view s w)) false (nat_lt (s.controllers / 2) 0) refl in
+    let checked : check (entered_view s w) ≡ quiet (entered_view s w) = check_rests (entered_view s w) (quiet (entered_view s w)) first none in
     let step : VrStep = record { state = in_view s w [] false [] None; promise = Some w; letters = to_others s (message.StartViewChange w) } in
     let entering : enters s w ≡ step =
     ap (λ (x : VrStep). then_step (enter s w) (λ (t : VrState). x)) checked ∙ ap (λ (l : List VrLetter). record { state = in_view s w [] false [] None; promise = Some w; letters = l }) (append-nil (to_others s (message.StartViewChange w))) in
@@ -167,7 +167,7 @@ module _ (s : VrState) (w : ℕ) (alone : s.controllers ≡ 1) (first : s.me ≡
   pub its_own : nat_eq (w % s.controllers) s.me ≡ true
   its_own = eq-eqb (w % s.controllers) s.me (ap (λ (k : ℕ). w % k) alone ∙ (let none : w % 1 ≡ 0 = omega arith in none) ∙ sym first)
 
-  keeps : votes (entered s w) ≡ quiet keeping
+  keeps : votes (entered_view s w) ≡ quiet keeping
   keeps =
       let all : nat_le (s.controllers / 2) 0 ≡ true = ap (λ (k : ℕ). nat_le k 0) half in
       rw (all, its_own) refl
@@ -176,7 +176,7 @@ module _ (s : VrState) (w : ℕ) (alone : s.controllers ≡ 1) (first : s.me ≡
   whole = ap (λ (xs : List Entry). xs ++ drop s.commit s.log) (take-take s.commit s.commit s.log (omega arith)) ∙ take-append-drop s.commit s.log
 
   abbrev pub alone_started : VrState
-  alone_started = started keeping s.log s.commit s.commit
+  alone_started = started_view keeping s.log s.commit s.commit
 
   chooses_own : chooses keeping ≡ sends alone_started []
   chooses_own =
@@ -186,8 +186,8 @@ module _ (s : VrState) (w : ℕ) (alone : s.controllers ≡ 1) (first : s.me ≡
       let reached : reaches keeping (own_log s) ≡ true = le-leb s.commit (length (take s.commit s.log)) (let long = length-take-le s.commit s.log commit in omega (arith, long)) in
       let silent : to_others alone_started (view_start alone_started) ≡ [] = ap (λ (k : ℕ). map (letter (view_start alone_started)) (others_below s.me k)) alone ∙ ap (λ (k : ℕ). map (letter (view_start alone_started)) (others_below k 1)) first in
       ap (λ (b : Bool). if b then chooses_from keeping (own_log s ∷ []) else quiet keeping) may
-      ∙ ap (λ (b : Bool). if b then tells_start (started keeping (take s.commit (take s.commit s.log) ++ drop s.commit s.log) s.commit s.commit) else sends keeping (fetch_letter keeping (own_log s) ∷ [])) reached
-      ∙ ap (λ (xs : List Entry). tells_start (started keeping xs s.commit s.commit)) whole
+      ∙ ap (λ (b : Bool). if b then tells_start (started_view keeping (take s.commit (take s.commit s.log) ++ drop s.commit s.log) s.commit s.commit) else sends keeping (fetch_letter keeping (own_log s) ∷ [])) reached
+      ∙ ap (λ (xs : List Entry). tells_start (started_view keeping xs s.commit s.commit)) whole
       ∙ ap (sends alone_started) silent
 
   sound_alone : is_sound s alone_started ≡ true
@@ -199,7 +199,7 @@ module _ (s : VrState) (w : ℕ) (alone : s.controllers ≡ 1) (first : s.me ≡
   pub starts_alone : vr_step s (vr_input.Suspect w) ≡ record { state = alone_started; promise = Some w; letters = [] }
   starts_alone =
       let later : (is_up s && nat_lt s.view w) ≡ true = and_from (is_up s) (nat_lt s.view w) up (lt-ltb s.view w below) in
-      let checked : check (entered s w) ≡ sends alone_started [] = ap (λ (x : VrStep). then_step x chooses) keeps ∙ ap (λ (x : VrStep). then_step (quiet keeping) (λ (t : VrState). x)) chooses_own in
+      let checked : check (entered_view s w) ≡ sends alone_started [] = ap (λ (x : VrStep). then_step x chooses) keeps ∙ ap (λ (x : VrStep). then_step (quiet keeping) (λ (t : VrState). x)) chooses_own in
       let entering : enters s w ≡ record { state = alone_started; promise = Some w; letters = to_others s (message.StartViewChange w) ++ [] } = ap (λ (x : VrStep). then_step (enter s w) (λ (t : VrState). x)) checked in
       let step : VrStep = record { state = alone_started; promise = Some w; letters = to_others s (message.StartViewChange w) ++ [] } in
       ap (λ (b : Bool). if b then guarded s (enters s w) else quiet s) later ∙ ap (guarded s) entering

@@ -10,7 +10,7 @@ use Rattle.view_change.specs.Entering.{tells_start}
 use Rattle.vr_core.specs.declared.input.VrInput.TheVariants as vr_input
 use Rattle.vr_core.specs.Step.{vr_step}
 use Rattle.closing_laws.specs.Quorum.{has}
-use Rattle.closing_laws.specs.Draining.{Flight, GroupState, drained, drains, suspected, took}
+use Rattle.closing_laws.specs.Draining.{Flight, GroupState, drained_group, drains, suspected, took_flight}
 use Rattle.closing_laws.specs.Views.{in_view, lacks, log_of, started_with, tellers, turns_to_start}
 use Rattle.closing_laws.proofs.Start.Calls.{AreChanging}
 
@@ -24,14 +24,14 @@ pub data Path (w : ℕ) (quorum : List ℕ) (z : GroupState) : List ℕ → Grou
   Suspects : (m : ℕ) (ms : List ℕ) (g : GroupState) → has quorum m ≡ true → is_up (g.at m) ≡ true → is_changing (vr_step (g.at m) (vr_input.Suspect w)).state ≡ true →
       Path w quorum z ms (suspected g w m) → Path w quorum z (m ∷ ms) g
   Draws : (g : GroupState) (f : Flight) (waiting : List Flight) → g.pool ≡ f ∷ waiting → has quorum f.to ≡ true → is_changing (g.at f.to) ≡ true → is_changing (hears g f).state ≡ true →
-      Path w quorum z [] (took g f.to (hears g f) waiting) → Path w quorum z [] g
+      Path w quorum z [] (took_flight g f.to (hears g f) waiting) → Path w quorum z [] g
   Loses : (g : GroupState) (f : Flight) (waiting : List Flight) → g.pool ≡ f ∷ waiting → has quorum f.to ≡ false → Path w quorum z [] (record g { pool = waiting }) → Path w quorum z [] g
 
 -- each turn counts
 pub path_turns : (w : ℕ) (quorum : List ℕ) (z : GroupState) (ms : List ℕ) (g : GroupState) → Path w quorum z ms g → g.turns ≤ z.turns
 path_turns w quorum z _ _ (Arrives g is) = let same = ap (λ (x : GroupState). x.turns) is in omega (arith, same)
 path_turns w quorum z _ _ (Suspects m ms g member up changes rest) = let more = path_turns w quorum z ms (suspected g w m) rest in omega (arith, more)
-path_turns w quorum z _ _ (Draws g f waiting waits member changing changes rest) = let more = path_turns w quorum z [] (took g f.to (hears g f) waiting) rest in omega (arith, more)
+path_turns w quorum z _ _ (Draws g f waiting waits member changing changes rest) = let more = path_turns w quorum z [] (took_flight g f.to (hears g f) waiting) rest in omega (arith, more)
 path_turns w quorum z _ _ (Loses g f waiting waits other rest) = path_turns w quorum z [] (record g { pool = waiting }) rest
 
 -- what is drained is one
@@ -43,20 +43,20 @@ of_drains w quorum z (suc k) g still ends =
     (λ next is. of_drains w quorum z k next (λ i le. subst (λ (x : GroupState). AreChanging quorum (drains i quorum x).at) is (still (suc i) (omega (arith, le))))
     (sym (ap (drains k quorum) is) ∙ ends))
   where
-    by_pool : (pool : List Flight) → g.pool ≡ pool → ((next : GroupState) → drained quorum g g.pool ≡ next → Path w quorum z [] next) → Path w quorum z [] g
-    by_pool [] e later = later g (ap (drained quorum g) e)
+    by_pool : (pool : List Flight) → g.pool ≡ pool → ((next : GroupState) → drained_group quorum g g.pool ≡ next → Path w quorum z [] next) → Path w quorum z [] g
+    by_pool [] e later = later g (ap (drained_group quorum g) e)
     by_pool (f ∷ waiting) e later = by_member (has quorum f.to) refl
       where
         by_member : (b : Bool) → has quorum f.to ≡ b → Path w quorum z [] g
         by_member true member =
-            let next : GroupState = took g f.to (hears g f) waiting in
-            let is : drained quorum g g.pool ≡ next = ap (drained quorum g) e ∙ ap (λ (b : Bool). if b then next else record g { pool = waiting }) member in
+            let next : GroupState = took_flight g f.to (hears g f) waiting in
+            let is : drained_group quorum g g.pool ≡ next = ap (drained_group quorum g) e ∙ ap (λ (b : Bool). if b then next else record g { pool = waiting }) member in
             let changes : is_changing (next.at f.to) ≡ true = subst (λ (x : GroupState). is_changing (x.at f.to) ≡ true) is (still 1 (omega arith) f.to member) in
             Draws g f waiting e member (still 0 (omega arith) f.to member)
             (ap (λ (b : Bool). is_changing (if b then (hears g f).state else g.at f.to)) (sym (eq-eqb f.to f.to refl)) ∙ changes) (later next is)
         by_member false other =
             let next : GroupState = record g { pool = waiting } in
-            Loses g f waiting e other (later next (ap (drained quorum g) e ∙ ap (λ (b : Bool). if b then took g f.to (hears g f) waiting else next) other))
+            Loses g f waiting e other (later next (ap (drained_group quorum g) e ∙ ap (λ (b : Bool). if b then took_flight g f.to (hears g f) waiting else next) other))
 
 -- the group before the turn that starts the view: one packet waits, for the primary
 pub record IsLast (n w : ℕ) (quorum : List ℕ) (start : ℕ → VrState) (best : ℕ) (z : GroupState) : Type 0 where

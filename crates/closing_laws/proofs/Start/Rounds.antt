@@ -9,14 +9,14 @@ use Rattle.vr_log.specs.Members.{others_below}
 use Rattle.of_types.specs.SmallSets.{with_number}
 use Rattle.closing_laws.specs.Quorum.{has}
 use Rattle.closing_laws.specs.Draining.{Flight, GroupState}
-use Rattle.closing_laws.specs.Views.{IsReadyMember, behind, last_first}
+use Rattle.closing_laws.specs.Views.{IsReadyMember, views_behind, last_first}
 use Rattle.closing_laws.proofs.Lists.Numbers.{Once, has_here, has_later, has_append, filter_once, filter_twice, filter_on, filter_no, others_all, others_but_one, with_none, with_length, below_has, below_once, below_others}
 use Rattle.closing_laws.proofs.Lists.Picked.{IsPicked}
 use Rattle.closing_laws.proofs.Start.Calls.{After, after_on, after_is, after_count, held, held_same, told, tells_now, calls_drained, one_more}
 use Rattle.closing_laws.proofs.Start.Words.{call, log_sent, all_calls, all_packets, times}
 
 -- turned lists
-pub behind_has : (turned xs : List ℕ) (j : ℕ) → has (behind turned xs) j ≡ (has turned j || has xs j)
+pub behind_has : (turned xs : List ℕ) (j : ℕ) → has (views_behind turned xs) j ≡ (has turned j || has xs j)
 behind_has [] xs j = refl
 behind_has (c ∷ turned) xs j = behind_has turned (c ∷ xs) j ∙ moved (has turned j) (nat_eq c j) (has xs j)
   where
@@ -26,18 +26,18 @@ behind_has (c ∷ turned) xs j = behind_has turned (c ∷ xs) j ∙ moved (has t
     moved false true d = refl
     moved false false d = refl
 
-pub behind_back : (turned xs : List ℕ) → Once (behind turned xs) → Once xs
+pub behind_back : (turned xs : List ℕ) → Once (views_behind turned xs) → Once xs
 behind_back [] xs once = once
 behind_back (c ∷ turned) xs once = (behind_back turned (c ∷ xs) once).1
 
-pub behind_apart : (turned xs : List ℕ) (c : ℕ) → Once (behind turned xs) → has turned c ≡ true → has xs c ≡ true → ⊥
+pub behind_apart : (turned xs : List ℕ) (c : ℕ) → Once (views_behind turned xs) → has turned c ≡ true → has xs c ≡ true → ⊥
 behind_apart [] xs c once h k = true≢false (sym h)
 behind_apart (d ∷ turned) xs c once h k = elim (or_cases (nat_eq d c) (has turned c) h) [
   | inl e ↦ both_ways (has xs d) (behind_back turned (d ∷ xs) once).0 (ap (has xs) (eqb-true d c e) ∙ k)
   | inr i ↦ behind_apart turned (d ∷ xs) c once i (has_later d c xs k)
 ]
 
-pub behind_once : (turned xs : List ℕ) → Once (behind turned xs) → Once turned
+pub behind_once : (turned xs : List ℕ) → Once (views_behind turned xs) → Once turned
 behind_once [] xs once = tt
 behind_once (c ∷ turned) xs once = (apart (has turned c) refl, behind_once turned (c ∷ xs) once)
   where
@@ -45,19 +45,19 @@ behind_once (c ∷ turned) xs once = (apart (has turned c) refl, behind_once tur
     apart true e = absurd (behind_apart turned (c ∷ xs) c once e (has_here c xs))
     apart false e = refl
 
-pub behind_length : (turned xs : List ℕ) → length (behind turned xs) ≡ length turned + length xs
+pub behind_length : (turned xs : List ℕ) → length (views_behind turned xs) ≡ length turned + length xs
 behind_length [] xs = omega arith
 behind_length (c ∷ turned) xs = let h = behind_length turned (c ∷ xs) in omega (arith, h)
 
-pub behind_filter : (t : ℕ → Bool) (turned xs : List ℕ) → filter t (behind turned xs) ≡ behind (filter t turned) (filter t xs)
+pub behind_filter : (t : ℕ → Bool) (turned xs : List ℕ) → filter t (views_behind turned xs) ≡ views_behind (filter t turned) (filter t xs)
 behind_filter t [] xs = refl
 behind_filter t (c ∷ turned) xs = behind_filter t turned (c ∷ xs) ∙ by_test (t c)
   where
-    by_test : (b : Bool) → behind (filter t turned) (if b then c ∷ filter t xs else filter t xs) ≡ behind (if b then c ∷ filter t turned else filter t turned) (filter t xs)
+    by_test : (b : Bool) → views_behind (filter t turned) (if b then c ∷ filter t xs else filter t xs) ≡ views_behind (if b then c ∷ filter t turned else filter t turned) (filter t xs)
     by_test true = refl
     by_test false = refl
 
-pub behind_is_once : (turned xs : List ℕ) → Once turned → Once xs → ((j : ℕ) → has turned j ≡ true → has xs j ≡ false) → Once (behind turned xs)
+pub behind_is_once : (turned xs : List ℕ) → Once turned → Once xs → ((j : ℕ) → has turned j ≡ true → has xs j ≡ false) → Once (views_behind turned xs)
 behind_is_once [] xs a b apart = b
 behind_is_once (c ∷ turned) xs a b apart =
     behind_is_once turned (c ∷ xs) a.1 (apart c (has_here c turned), b)
@@ -140,14 +140,14 @@ module _ (n w : ℕ) (quorum : List ℕ) (start : ℕ → VrState) (ready : (j :
   told_by_call callers c j = not (nat_eq c j) && (not (nat_eq (w % n) j) && nat_eq (suc (length (heard_from callers j))) (n / 2))
 
   -- the packets of one caller
-  one_round : (callers todo : List ℕ) (c : ℕ) (at : ℕ → VrState) (rest : List Flight) (turns : ℕ) → quorum ≡ behind callers (c ∷ todo) →
+  one_round : (callers todo : List ℕ) (c : ℕ) (at : ℕ → VrState) (rest : List Flight) (turns : ℕ) → quorum ≡ views_behind callers (c ∷ todo) →
       ((j : ℕ) → at j ≡ held n w quorum start ready (heard_from callers) j) →
       After (length (others_below c n)) quorum (record { at = at; pool = map (call w c) (others_below c n) ++ rest; turns = turns })
       (held n w quorum start ready (heard_from (c ∷ callers)))
       (rest ++ map (log_sent start w (w % n)) (filter (told_by_call callers c) quorum)) (turns + n / 2)
   one_round callers todo c at rest turns split each =
       let js = others_below c n in
-      let once : Once (behind callers (c ∷ todo)) = subst Once split quorum_once in
+      let once : Once (views_behind callers (c ∷ todo)) = subst Once split quorum_once in
       let member : has quorum c ≡ true = ap (λ (l : List ℕ). has l c) split ∙ behind_has callers (c ∷ todo) c ∙ or_right (has callers c) (has (c ∷ todo) c) (has_here c todo) in
       let own = ready c member in
       let unheard : has callers c ≡ false = not_before (has callers c) refl once in
@@ -168,7 +168,7 @@ module _ (n w : ℕ) (quorum : List ℕ) (start : ℕ → VrState) (ready : (j :
       (ap (λ (l : List ℕ). rest ++ map (log_sent start w (w % n)) l) (others_in c (λ j. not (nat_eq (w % n) j) && nat_eq (suc (length (heard_from callers j))) (n / 2)) own.small))
       (ap (λ (k : ℕ). turns + k) (others_count c member))
     where
-      not_before : (b : Bool) → has callers c ≡ b → Once (behind callers (c ∷ todo)) → has callers c ≡ false
+      not_before : (b : Bool) → has callers c ≡ b → Once (views_behind callers (c ∷ todo)) → has callers c ≡ false
       not_before true e once = absurd (behind_apart callers (c ∷ todo) c once e (has_here c todo))
       not_before false e once = e
 
@@ -213,7 +213,7 @@ module _ (n w : ℕ) (quorum : List ℕ) (start : ℕ → VrState) (ready : (j :
           rw (there, apart) refl
 
   -- a caller that is not one of the last two: nobody has enough votes yet
-  early_none : (callers todo : List ℕ) (c : ℕ) → quorum ≡ behind callers (c ∷ todo) → 1 < length todo → filter (told_by_call callers c) quorum ≡ []
+  early_none : (callers todo : List ℕ) (c : ℕ) → quorum ≡ views_behind callers (c ∷ todo) → 1 < length todo → filter (told_by_call callers c) quorum ≡ []
   early_none callers todo c split more =
       let once : Once callers = behind_once callers (c ∷ todo) (subst Once split quorum_once) in
       let long = ap length split ∙ behind_length callers (c ∷ todo) in
@@ -233,9 +233,9 @@ module _ (n w : ℕ) (quorum : List ℕ) (start : ℕ → VrState) (ready : (j :
           by_turn false h e = let votes = heard_all callers j once h in omega (arith, votes, long, whole, more, e)
 
   -- the last but one: the last member has all its votes
-  second_last : (callers : List ℕ) (c l : ℕ) → quorum ≡ behind callers (c ∷ (l ∷ [])) → filter (told_by_call callers c) quorum ≡ filter (λ j. not (nat_eq (w % n) j)) (l ∷ [])
+  second_last : (callers : List ℕ) (c l : ℕ) → quorum ≡ views_behind callers (c ∷ (l ∷ [])) → filter (told_by_call callers c) quorum ≡ filter (λ j. not (nat_eq (w % n) j)) (l ∷ [])
   second_last callers c l split =
-      let whole_once : Once (behind callers (c ∷ (l ∷ []))) = subst Once split quorum_once in
+      let whole_once : Once (views_behind callers (c ∷ (l ∷ []))) = subst Once split quorum_once in
       let once : Once callers = behind_once callers (c ∷ (l ∷ [])) whole_once in
       let back = behind_back callers (c ∷ (l ∷ [])) whole_once in
       let long = ap length split ∙ behind_length callers (c ∷ (l ∷ [])) in
@@ -251,7 +251,7 @@ module _ (n w : ℕ) (quorum : List ℕ) (start : ℕ → VrState) (ready : (j :
       let all : nat_eq (suc (length (heard_from callers l))) (n / 2) ≡ true = eq-eqb (suc (length (heard_from callers l))) (n / 2) (omega (arith, votes, long, whole)) in
       let last : told_by_call callers c l ≡ not (nat_eq (w % n) l) = rw (apart, all) (and-true (not (nat_eq (w % n) l))) in
       ap (filter (told_by_call callers c)) split ∙ behind_filter (told_by_call callers c) callers (c ∷ (l ∷ []))
-      ∙ ap (λ (xs : List ℕ). behind xs (filter (told_by_call callers c) (c ∷ (l ∷ [])))) first
+      ∙ ap (λ (xs : List ℕ). views_behind xs (filter (told_by_call callers c) (c ∷ (l ∷ [])))) first
       ∙ ap (λ (b : Bool). if b then c ∷ filter (told_by_call callers c) (l ∷ []) else filter (told_by_call callers c) (l ∷ [])) caller
       ∙ ap (λ (b : Bool). if b then l ∷ [] else []) last
     where
@@ -260,14 +260,14 @@ module _ (n w : ℕ) (quorum : List ℕ) (start : ℕ → VrState) (ready : (j :
       silent true false d h = refl
       silent false b d h = refl
 
-      absent : (b : Bool) → has callers l ≡ b → Once (behind callers (c ∷ (l ∷ []))) → b ≡ false
+      absent : (b : Bool) → has callers l ≡ b → Once (views_behind callers (c ∷ (l ∷ []))) → b ≡ false
       absent true e once = absurd (behind_apart callers (c ∷ (l ∷ [])) l once e (has_later c l (l ∷ []) (has_here l [])))
       absent false e once = refl
 
   -- and the last one: all others have
-  very_last : (callers : List ℕ) (c : ℕ) → quorum ≡ behind callers (c ∷ []) → filter (told_by_call callers c) quorum ≡ behind (filter (λ j. not (nat_eq (w % n) j)) callers) []
+  very_last : (callers : List ℕ) (c : ℕ) → quorum ≡ views_behind callers (c ∷ []) → filter (told_by_call callers c) quorum ≡ views_behind (filter (λ j. not (nat_eq (w % n) j)) callers) []
   very_last callers c split =
-      let whole_once : Once (behind callers (c ∷ [])) = subst Once split quorum_once in
+      let whole_once : Once (views_behind callers (c ∷ [])) = subst Once split quorum_once in
       let once : Once callers = behind_once callers (c ∷ []) whole_once in
       let long = ap length split ∙ behind_length callers (c ∷ []) in
       let whole = q.count in
@@ -279,13 +279,13 @@ module _ (n w : ℕ) (quorum : List ℕ) (start : ℕ → VrState) (ready : (j :
       rw (apart, all) (and-true (not (nat_eq (w % n) j)))) in
       let caller : told_by_call callers c c ≡ false = ap (λ b. not b && (not (nat_eq (w % n) c) && nat_eq (suc (length (heard_from callers c))) (n / 2))) (eq-eqb c c refl) in
       ap (filter (told_by_call callers c)) split ∙ behind_filter (told_by_call callers c) callers (c ∷ [])
-      ∙ ap (λ (xs : List ℕ). behind xs (filter (told_by_call callers c) (c ∷ []))) first
-      ∙ ap (λ (b : Bool). behind (filter (λ j. not (nat_eq (w % n) j)) callers) (if b then c ∷ [] else [])) caller
+      ∙ ap (λ (xs : List ℕ). views_behind xs (filter (told_by_call callers c) (c ∷ []))) first
+      ∙ ap (λ (b : Bool). views_behind (filter (λ j. not (nat_eq (w % n) j)) callers) (if b then c ∷ [] else [])) caller
 
   -- all of them, one caller after another
-  pub all_rounds : (todo callers : List ℕ) (at : ℕ → VrState) (turns : ℕ) → quorum ≡ behind callers todo → 1 < length todo →
+  pub all_rounds : (todo callers : List ℕ) (at : ℕ → VrState) (turns : ℕ) → quorum ≡ views_behind callers todo → 1 < length todo →
       ((j : ℕ) → at j ≡ held n w quorum start ready (heard_from callers) j) →
-      After (all_packets n todo) quorum (record { at = at; pool = all_calls n w todo; turns = turns }) (held n w quorum start ready (heard_from (behind todo callers)))
+      After (all_packets n todo) quorum (record { at = at; pool = all_calls n w todo; turns = turns }) (held n w quorum start ready (heard_from (views_behind todo callers)))
       (map (log_sent start w (w % n)) (filter (λ j. not (nat_eq (w % n) j)) (last_first callers todo))) (turns + times (n / 2) todo)
   all_rounds [] callers at turns split more each = absurd (omega (arith, more))
   all_rounds (c ∷ []) callers at turns split more each = absurd (omega (arith, more))
@@ -303,8 +303,8 @@ module _ (n w : ℕ) (quorum : List ℕ) (start : ℕ → VrState) (ready : (j :
       (append_assoc calls_l [] (map told_it (filter (told_by_call callers c) quorum)) ∙ ap (λ (xs : List ℕ). calls_l ++ map told_it xs) (second_last callers c l split)) refl in
       let joined : rest ++ map told_it (filter (told_by_call (c ∷ callers) l) quorum) ≡ final =
       ap (λ (xs : List ℕ). rest ++ map told_it xs) (very_last (c ∷ callers) l split ∙ sym (behind_filter test (c ∷ callers) []))
-      ∙ sym (map-append told_it (filter test (l ∷ [])) (filter test (behind (c ∷ callers) [])))
-      ∙ ap (map told_it) (one_more (test l) l (filter test (behind (c ∷ callers) []))) in
+      ∙ sym (map-append told_it (filter test (l ∷ [])) (filter test (views_behind (c ∷ callers) [])))
+      ∙ ap (map told_it) (one_more (test l) l (filter test (views_behind (c ∷ callers) []))) in
       after_count (length (others_below c n) + length (others_below l n)) (all_packets n (c ∷ (l ∷ []))) quorum (record { at = at; pool = all_calls n w (c ∷ (l ∷ [])); turns = turns })
       (held n w quorum start ready (heard_from (l ∷ (c ∷ callers)))) final (turns + times (n / 2) (c ∷ (l ∷ []))) (omega arith)
       (after_on (length (others_below c n)) (length (others_below l n)) quorum (record { at = at; pool = all_calls n w (c ∷ (l ∷ [])); turns = turns })
@@ -323,18 +323,18 @@ module _ (n w : ℕ) (quorum : List ℕ) (start : ℕ → VrState) (ready : (j :
       (all_calls n w todo ++ map told_it (filter (told_by_call callers c) quorum)) (all_calls n w todo) k k
       (one_round callers todo c at (all_calls n w todo) turns split each) (λ j. refl)
       (ap (λ (xs : List ℕ). all_calls n w todo ++ map told_it xs) (early_none callers todo c split (omega arith)) ∙ append-nil (all_calls n w todo)) refl in
-      after_on (length (others_below c n)) (all_packets n todo) quorum g (held n w quorum start ready (heard_from (c ∷ callers))) (held n w quorum start ready (heard_from (behind (c ∷ todo) callers)))
+      after_on (length (others_below c n)) (all_packets n todo) quorum g (held n w quorum start ready (heard_from (c ∷ callers))) (held n w quorum start ready (heard_from (views_behind (c ∷ todo) callers)))
       (all_calls n w todo) final k (turns + times (n / 2) (c ∷ todo)) first
       (λ found is. after_is (all_packets n todo) quorum (record { at = found; pool = all_calls n w todo; turns = k })
-      (held n w quorum start ready (heard_from (behind todo (c ∷ callers)))) (held n w quorum start ready (heard_from (behind (c ∷ todo) callers))) final final
+      (held n w quorum start ready (heard_from (views_behind todo (c ∷ callers)))) (held n w quorum start ready (heard_from (views_behind (c ∷ todo) callers))) final final
       (k + times (n / 2) todo) (turns + times (n / 2) (c ∷ todo))
       (all_rounds (d ∷ (e ∷ later)) (c ∷ callers) found k split (omega arith) is) (λ j. refl) refl (omega arith))
 
   -- then each member of the quorum has all votes
-  pub all_voted : (j : ℕ) → has quorum j ≡ true → length (heard_from (behind quorum []) j) ≡ n / 2
+  pub all_voted : (j : ℕ) → has quorum j ≡ true → length (heard_from (views_behind quorum []) j) ≡ n / 2
   all_voted j member =
-      let there : has (behind quorum []) j ≡ true = behind_has quorum [] j ∙ or_left (has quorum j) false member in
-      let votes = heard_others (behind quorum []) j (behind_is_once quorum [] quorum_once tt (λ i h. refl)) there in
+      let there : has (views_behind quorum []) j ≡ true = behind_has quorum [] j ∙ or_left (has quorum j) false member in
+      let votes = heard_others (views_behind quorum []) j (behind_is_once quorum [] quorum_once tt (λ i h. refl)) there in
       let long = behind_length quorum [] in
       let whole = q.count in
       omega (arith, votes, long, whole)

@@ -12,7 +12,7 @@ use Rattle.vr_log.specs.declared.state.VrState.{VrState}
 use Rattle.vr_log.specs.Steps.{VrStep, quiet, guarded, then_step, letter, tells, sends}
 use Rattle.vr_log.specs.Choosing.{has_collected, best_of, least_commit, greatest_commit, front, reaches, fetch_letter, is_better, length_of}
 use Rattle.view_change.specs.Cases.{collect}
-use Rattle.view_change.specs.Entering.{collects, enter, check, votes, chooses, chooses_from, started, tells_start, own_log}
+use Rattle.view_change.specs.Entering.{collects, enter, check, votes, chooses, chooses_from, started_view, tells_start, own_log}
 use Rattle.vr_core.specs.declared.input.VrInput.TheVariants as vr_input
 use Rattle.vr_core.specs.Step.{vr_step, on_vr}
 use Rattle.closing_laws.specs.Views.{in_view}
@@ -121,15 +121,15 @@ module _ (s : VrState) (w : ℕ) (voters : List ℕ) (here : nat_eq (w % s.contr
   -- the view starts
   pub check_starts : (cs : List Collected) (supply : Option Supplied) (best : Collected) (log : List Entry) → s.controllers / 2 ≤ length cs → best_of (own_log s) cs ≡ best →
       best.commit ≤ length (front (gathering cs supply)) → take best.commit (front (gathering cs supply)) ++ best.log ≡ log →
-      check (gathering cs supply) ≡ tells_start (started (gathering cs supply) log (least_commit s.commit cs) (greatest_commit s.commit cs))
+      check (gathering cs supply) ≡ tells_start (started_view (gathering cs supply) log (least_commit s.commit cs) (greatest_commit s.commit cs))
   check_starts cs supply best log enough found near is =
       let t = gathering cs supply in
       let reached : reaches t best ≡ true = le-leb best.commit (length (front t)) near in
-      let step = tells_start (started t log (least_commit s.commit cs) (greatest_commit s.commit cs)) in
+      let step = tells_start (started_view t log (least_commit s.commit cs) (greatest_commit s.commit cs)) in
       by_choice cs supply step.state step.letters enough
-      (ap (λ (b : Collected). if reaches t b then tells_start (started t (take b.commit (front t) ++ b.log) (least_commit s.commit cs) (greatest_commit s.commit cs)) else sends t (fetch_letter t b ∷ [])) found
-      ∙ ap (λ (b : Bool). if b then tells_start (started t (take best.commit (front t) ++ best.log) (least_commit s.commit cs) (greatest_commit s.commit cs)) else sends t (fetch_letter t best ∷ [])) reached
-      ∙ ap (λ (l : List Entry). tells_start (started t l (least_commit s.commit cs) (greatest_commit s.commit cs))) is)
+      (ap (λ (b : Collected). if reaches t b then tells_start (started_view t (take b.commit (front t) ++ b.log) (least_commit s.commit cs) (greatest_commit s.commit cs)) else sends t (fetch_letter t b ∷ [])) found
+      ∙ ap (λ (b : Bool). if b then tells_start (started_view t (take best.commit (front t) ++ best.log) (least_commit s.commit cs) (greatest_commit s.commit cs)) else sends t (fetch_letter t best ∷ [])) reached
+      ∙ ap (λ (l : List Entry). tells_start (started_view t l (least_commit s.commit cs) (greatest_commit s.commit cs))) is)
 
   -- or what lacks is fetched
   pub check_fetches : (cs : List Collected) (supply : Option Supplied) (best : Collected) → s.controllers / 2 ≤ length cs → best_of (own_log s) cs ≡ best →
@@ -139,8 +139,8 @@ module _ (s : VrState) (w : ℕ) (voters : List ℕ) (here : nat_eq (w % s.contr
       let t = gathering cs supply in
       let lacks : reaches t best ≡ false = lt-leb best.commit (length (front t)) far in
       by_choice cs supply t (letter (message.Fetch w s.commit) best.from ∷ []) enough
-      (ap (λ (b : Collected). if reaches t b then tells_start (started t (take b.commit (front t) ++ b.log) (least_commit s.commit cs) (greatest_commit s.commit cs)) else sends t (fetch_letter t b ∷ [])) found
-      ∙ ap (λ (b : Bool). if b then tells_start (started t (take best.commit (front t) ++ best.log) (least_commit s.commit cs) (greatest_commit s.commit cs)) else sends t (fetch_letter t best ∷ [])) lacks)
+      (ap (λ (b : Collected). if reaches t b then tells_start (started_view t (take b.commit (front t) ++ b.log) (least_commit s.commit cs) (greatest_commit s.commit cs)) else sends t (fetch_letter t b ∷ [])) found
+      ∙ ap (λ (b : Bool). if b then tells_start (started_view t (take best.commit (front t) ++ best.log) (least_commit s.commit cs) (greatest_commit s.commit cs)) else sends t (fetch_letter t best ∷ [])) lacks)
 
   -- a log comes
   log_joins : (cs : List Collected) (c : Collected) → has_collected (gathering cs None) c.from ≡ false → collects (gathering cs None) c ≡ gathering (cs ++ c ∷ []) None

@@ -10,7 +10,7 @@ use Rattle.journal.specs.declared.journal.JournalEntry.TheVariants.{Post, Draw, 
 use Rattle.journal.specs.declared.journal.Letter.{Letter}
 use Rattle.journal.specs.declared.journal.Packet.{Packet}
 use Rattle.journal.specs.declared.journal.SaveResult.{SaveResult}
-use Rattle.journal.specs.Pool.{pool, numbered}
+use Rattle.journal.specs.Pool.{pool, numbered_letters}
 use Rattle.journal.specs.Turns.{IsWithinLimits}
 use Rattle.vr_log.specs.declared.state.VrState.{VrState}
 use Rattle.vr_log.specs.Choosing.{greatest_commit}
@@ -24,7 +24,7 @@ use Rattle.run_spec.specs.declared.messages.Unsealed.TheVariants as unsealed
 use Rattle.run_spec.specs.Committed.{switch_state}
 use Rattle.run_spec.specs.States.{Scene, IsFaithful, ControllerAt, content, controller_message, sealed_letters}
 use Rattle.run_spec.specs.Legal.{IsPossible}
-use Rattle.run_spec.specs.Schedule.{Answer, IsEnd, Phase, Draining, Move, ClosesTo, IsMove, IsPosted, after_member, count_turns, drained, next_move}
+use Rattle.run_spec.specs.Schedule.{ClosingAnswer, IsEnd, Phase, Draining, ClosingMove, ClosesTo, IsMove, IsPosted, after_member, count_turns, drained, next_move}
 use Rattle.run_spec.proofs.Pasts.{possible_before, self_controller}
 use Rattle.run_agreement.proofs.Pasts.{fits}
 use Rattle.closing_laws.specs.Quorum.{has}
@@ -103,7 +103,7 @@ module _ {B : Type 0} (scene : Scene B) (results : List (List SaveResult)) (setu
 
       -- where the controllers are as after the draw
       begun_in : (Q : List (JournalEntry B)) → ((c : ℕ) → (at scene results c Q).now ≡ (at scene results c (start_draw ∷ P)).now) → (number : ℕ) →
-          pool Q ≡ numbered number (actor.Controller (w % m)) (sealed_letters controller_message scene.sealing turn_work.letters) →
+          pool Q ≡ numbered_letters number (actor.Controller (w % m)) (sealed_letters controller_message scene.sealing turn_work.letters) →
           map (content scene.sealing) (pool Q) ≡ map (λ (l : Letter ControllerSays). unsealed.Message (controller_message l.body)) turn_work.letters → HasStartedIn scene results w quorum start best Q
       begun_in Q same number waits says = record {
         voters = ends.voters;
@@ -155,7 +155,7 @@ module _ {B : Type 0} (scene : Scene B) (results : List (List SaveResult)) (setu
                 one = refl;
                 started =
                     (begun_in (start_draw ∷ P) (λ c. refl) 0
-                    (empty ∙ ap (λ (ls : List (Letter ControllerSays)). numbered 0 (actor.Controller (w % m)) (sealed_letters controller_message scene.sealing ls)) (sym none))
+                    (empty ∙ ap (λ (ls : List (Letter ControllerSays)). numbered_letters 0 (actor.Controller (w % m)) (sealed_letters controller_message scene.sealing ls)) (sym none))
                     (ap (map (content scene.sealing)) empty ∙ ap (map (λ (l : Letter ControllerSays). unsealed.Message (controller_message l.body))) (sym none)));
                 unchanged = λ t. switches_stay scene results (w % m) start_draw P refl t ∙ stands.holds.switches t;
                 posted = done;
@@ -176,9 +176,9 @@ module _ {B : Type 0} (scene : Scene B) (results : List (List SaveResult)) (setu
                 started =
                     (begun_in (it ∷ (start_draw ∷ P)) (λ c. (posted_holds scene results (w % m) first letters lost (start_draw ∷ P) c).0) first
                     (pool_grows scene results (w % m) first letters lost (start_draw ∷ P) after fit
-                    ∙ ap (λ (ps : List (Packet B)). ps ++ numbered first (actor.Controller (w % m)) (sealed_letters controller_message scene.sealing (at scene results (w % m) (start_draw ∷ P)).owed))
+                    ∙ ap (λ (ps : List (Packet B)). ps ++ numbered_letters first (actor.Controller (w % m)) (sealed_letters controller_message scene.sealing (at scene results (w % m) (start_draw ∷ P)).owed))
                     (pool_empty (possible_before scene results start_draw P was))
-                    ∙ ap (λ (ls : List (Letter ControllerSays)). numbered first (actor.Controller (w % m)) (sealed_letters controller_message scene.sealing ls)) turn_is.owed)
+                    ∙ ap (λ (ls : List (Letter ControllerSays)). numbered_letters first (actor.Controller (w % m)) (sealed_letters controller_message scene.sealing ls)) turn_is.owed)
                     (says_posted scene results (w % m) first letters lost (start_draw ∷ P) after fit setup faithful (pool_empty (possible_before scene results start_draw P was))
                     ∙ ap (map (λ (l : Letter ControllerSays). unsealed.Message (controller_message l.body))) turn_is.owed));
                 unchanged = λ t. switches_stay scene results (w % m) it (start_draw ∷ P) refl t ∙ switches_stay scene results (w % m) start_draw P refl t ∙ stands.holds.switches t;
@@ -196,17 +196,17 @@ module _ {B : Type 0} (scene : Scene B) (results : List (List SaveResult)) (setu
       pub last_turn : (e : JournalEntry B) (rest : List (JournalEntry B)) (last phase : Phase) → walking.PhaseOf scene results setup faithful w quorum small before succeed phase [] → (next : Phase) → IsMove (next_move scene results phase P) e next → walking.Here scene results setup faithful w quorum small before succeed rest P last e next → Begun P (e ∷ rest) last
       last_turn e rest last phase at_phase next move here =
           let h = head_here in
-          let m' = subst (λ (v : Move B). IsMove v e next) (walking.next_is scene results setup faithful w quorum small before succeed z last_flight [] P h phase at_phase) move in
+          let m' = subst (λ (v : ClosingMove B). IsMove v e next) (walking.next_is scene results setup faithful w quorum small before succeed z last_flight [] P h phase at_phase) move in
           let e_is = m'.0 ∙ walking.drawn_entry scene results setup faithful w quorum small before succeed z last_flight [] P h leads_it in
           let here' = walking.here_is scene results setup faithful w quorum small before succeed rest P last e (Draw (actor.Controller (w % m)) h.packet.id false) next (Draining w quorum) e_is m'.1 here in
           subst (λ (x : JournalEntry B). Begun P (x ∷ rest) last) (sym e_is) (starts_goes P h stands rest last here'.0 here'.1 here'.2 here'.3)
 
-      pub no_end : (phase : Phase) → walking.PhaseOf scene results setup faithful w quorum small before succeed phase [] → (answer : Answer) → IsEnd (next_move scene results phase P) answer → ⊥
+      pub no_end : (phase : Phase) → walking.PhaseOf scene results setup faithful w quorum small before succeed phase [] → (answer : ClosingAnswer) → IsEnd (next_move scene results phase P) answer → ⊥
       no_end phase at_phase answer end = let h = head_here in walking.never_ends scene results setup faithful w quorum small before succeed z P phase (drained quorum h.packet) (Draining w quorum) answer (walking.next_is scene results setup faithful w quorum small before succeed z last_flight [] P h phase at_phase) end
 
       pub begins : (entries : List (JournalEntry B)) (last phase : Phase) → walking.PhaseOf scene results setup faithful w quorum small before succeed phase [] → ClosesTo scene results phase P entries last → IsPossible scene results (later P entries) → IsPosted scene results (later P entries) →
           IsWithinLimits scene.sealing.size (later P entries) →
-          (((answer : Answer) → IsEnd (next_move scene results last (later P entries)) answer → ⊥) × (entries ≡ [])) ⊎ Begun P entries last
+          (((answer : ClosingAnswer) → IsEnd (next_move scene results last (later P entries)) answer → ⊥) × (entries ≡ [])) ⊎ Begun P entries last
       begins [] last phase at_phase closes possible posted within = inl ((λ answer end. no_end phase at_phase answer (subst (λ (x : Phase). IsEnd (next_move scene results x P) answer) closes end)), refl)
       begins (Post a first letters lost ∷ rest) last phase at_phase closes possible posted within =
           absurd (never_posts scene results P stands.posted a first letters lost closes.0 (possible_under scene results rest (Post a first letters lost ∷ P) possible))

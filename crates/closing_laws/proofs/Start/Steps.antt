@@ -12,7 +12,7 @@ use Rattle.vr_log.specs.declared.state.VrState.{VrState}
 use Rattle.vr_log.specs.Choosing.{best_of, has_collected}
 use Rattle.vr_log.specs.Log.{is_log}
 use Rattle.vr_log.specs.Steps.{VrStep, guarded, is_sound, letter, quiet, sends, to_others}
-use Rattle.view_change.specs.Entering.{check, own_log, started, tells_start}
+use Rattle.view_change.specs.Entering.{check, own_log, started_view, tells_start}
 use Rattle.vr_core.specs.declared.input.VrInput.TheVariants as vr_input
 use Rattle.vr_core.specs.Step.{vr_step}
 use Rattle.closing_laws.specs.Views.{IsReadyMember, gathering, in_started, in_view, started_with}
@@ -25,7 +25,7 @@ pub enters : (n w j : ℕ) (s : VrState) → IsReadyMember n w j s → 0 < n / 2
 enters n w j s m group = suspects n w j s m (subst (λ (k : ℕ). 0 < k / 2) (sym m.size) group)
 
 pub alone : (w : ℕ) (s : VrState) → IsReadyMember 1 w 0 s →
-    vr_step s (vr_input.Suspect w) ≡ record { state = started (gathering s w [] [] None) s.log s.commit s.commit; promise = Some w; letters = [] }
+    vr_step s (vr_input.Suspect w) ≡ record { state = started_view (gathering s w [] [] None) s.log s.commit s.commit; promise = Some w; letters = [] }
 alone w s m = starts_alone s w m.size m.me m.up m.below m.commit m.is_one
 
 module _ (n w : ℕ) (s : VrState) (voters : List ℕ) (logs : List Collected) (c : Collected) (m : IsReadyMember n w (w % n) s) (small : c.from < n) (other : c.from ≡ w % n → ⊥)

@@ -14,12 +14,12 @@ use Rattle.vr_log.specs.Members.{others_below}
 use Rattle.vr_log.specs.Steps.{VrStep, guarded, is_sound, sends, letter, to_others}
 use Rattle.vr_log.specs.Choosing.{best_of, least_commit, greatest_commit, is_better}
 use Rattle.vr_log.proofs.Equal.{entries_same}
-use Rattle.view_change.specs.Entering.{check, own_log, started, view_start}
+use Rattle.view_change.specs.Entering.{check, own_log, started_view, view_start}
 use Rattle.vr_core.specs.declared.input.VrInput.TheVariants as vr_input
 use Rattle.vr_core.specs.Step.{vr_step}
 use Rattle.closing_laws.specs.Quorum.{IsQuorum, has}
-use Rattle.closing_laws.specs.Draining.{Flight, GroupState, flown, put, took, drains, all_suspected, resting}
-use Rattle.closing_laws.specs.Views.{IsReadyMember, in_view, voting, log_of, behind, last_first, tellers, lacks, HasBest, HasStarted, IsCovered}
+use Rattle.closing_laws.specs.Draining.{Flight, GroupState, flown, put_state, took_flight, drains, all_suspected, resting_group}
+use Rattle.closing_laws.specs.Views.{IsReadyMember, in_view, voting, log_of, views_behind, last_first, tellers, lacks, HasBest, HasStarted, IsCovered}
 use Rattle.closing_laws.proofs.Lists.Numbers.{Once, has_here, has_later, filter_has, filter_in, filter_once, others_but_one}
 use Rattle.closing_laws.proofs.Lists.Picked.{IsPicked, picked_of_quorum}
 use Rattle.closing_laws.proofs.Start.Calls.{After, AreChanging, after_on, after_first, one_drawn, held}
@@ -54,7 +54,7 @@ last_length turned [] = behind_length turned []
 last_length turned (c ∷ []) = let h = behind_length turned [] in omega (arith, h)
 last_length turned (c ∷ (d ∷ more)) = let h = last_length (c ∷ turned) (d ∷ more) in omega (arith, h)
 
-last_once : (turned xs : List ℕ) → Once (behind turned xs) → Once (last_first turned xs)
+last_once : (turned xs : List ℕ) → Once (views_behind turned xs) → Once (last_first turned xs)
 last_once turned [] once = once
 last_once turned (c ∷ []) once =
     let before = behind_once turned (c ∷ []) once in
@@ -143,7 +143,7 @@ module _ (n w : ℕ) (quorum : List ℕ) (start : ℕ → VrState) (ready : (j :
 
   -- the primary once the view has started
   abbrev begun : VrState
-  begun = started (gathered n w quorum start ready q group bs) (start best).log (least_commit sp.commit logs) (greatest_commit sp.commit logs)
+  begun = started_view (gathered n w quorum start ready q group bs) (start best).log (least_commit sp.commit logs) (greatest_commit sp.commit logs)
 
   sound_start : is_sound sp begun ≡ true
   sound_start =
@@ -274,7 +274,7 @@ module _ (n w : ℕ) (quorum : List ℕ) (start : ℕ → VrState) (ready : (j :
     abbrev g : GroupState
     g = record { at = at; pool = all_calls n w quorum; turns = turns }
 
-    rounds : After (all_packets n quorum) quorum g (held n w quorum start ready (heard_from (behind quorum []))) (map (log_sent start w (w % n)) bs) (turns + times (n / 2) quorum)
+    rounds : After (all_packets n quorum) quorum g (held n w quorum start ready (heard_from (views_behind quorum []))) (map (log_sent start w (w % n)) bs) (turns + times (n / 2) quorum)
     rounds = all_rounds n w quorum start ready q quorum [] at turns refl (let count = q.count in omega (arith, count, group)) each
 
     last : (count : ℕ) × (count + 1 ≡ length bs) ×
@@ -301,7 +301,7 @@ module _ (n w : ℕ) (quorum : List ℕ) (start : ℕ → VrState) (ready : (j :
             front = bs;
             sender = best;
             message = message.Supply w sp.commit lent;
-            reached = after_first (all_packets n quorum) (c + 1 + 1) (all_packets n quorum + (c + 1 + 1)) quorum g (held n w quorum start ready (heard_from (behind quorum []))) (led n w quorum start ready q group t)
+            reached = after_first (all_packets n quorum) (c + 1 + 1) (all_packets n quorum + (c + 1 + 1)) quorum g (held n w quorum start ready (heard_from (views_behind quorum []))) (led n w quorum start ready q group t)
                 (map (log_sent start w (w % n)) bs) (answer far ∷ []) now (now + c + 1 + 1) (now + c + 1 + 1) rounds both refl refl;
             starts = told far;
           },
@@ -318,7 +318,7 @@ module _ (n w : ℕ) (quorum : List ℕ) (start : ℕ → VrState) (ready : (j :
             front = b.front;
             sender = b.last;
             message = message.DoViewChange w (start b.last).normal (start b.last).commit (drop (start b.last).commit (start b.last).log);
-            reached = after_first (all_packets n quorum) c (all_packets n quorum + c) quorum g (held n w quorum start ready (heard_from (behind quorum []))) (led n w quorum start ready q group (gathered n w quorum start ready q group b.front))
+            reached = after_first (all_packets n quorum) c (all_packets n quorum + c) quorum g (held n w quorum start ready (heard_from (views_behind quorum []))) (led n w quorum start ready q group (gathered n w quorum start ready q group b.front))
                 (map (log_sent start w (w % n)) bs) (log_sent start w (w % n) b.last ∷ []) now (now + c) (now + c) rounds b.reached refl refl;
             starts = λ found is. log_heard n w quorum start ready q group b.front b.last found begun (to_others begun (view_start begun)) is b.member b.other b.new
                 (ap (λ (xs : List ℕ). check (gathered n w quorum start ready q group xs)) b.joined ∙ starts_near near) sound_start;
@@ -360,11 +360,11 @@ module _ (n w : ℕ) (quorum : List ℕ) (start : ℕ → VrState) (ready : (j :
       ∙ suspects n w c s m (subst (λ (k : ℕ). 0 < k / 2) (sym m.size) group) in
       let said : map (flown c) (to_others s (message.StartViewChange w)) ≡ map (call w c) (others_below c n) =
       called c (others_below s.me s.controllers) ∙ ap (λ (k : ℕ). map (call w c) (others_below k s.controllers)) m.me ∙ ap (λ (k : ℕ). map (call w c) (others_below c k)) m.size in
-      let next : took (record { at = at; pool = pool; turns = turns }) c (vr_step (at c) (vr_input.Suspect w)) pool ≡
-      record { at = put at c (in_view s w [] false [] None); pool = pool ++ map (call w c) (others_below c n); turns = turns + 1 } =
-      ap (λ (x : VrStep). took (record { at = at; pool = pool; turns = turns }) c x pool) does
-      ∙ ap (λ (l : List Flight). record { at = put at c (in_view s w [] false [] None); pool = pool ++ l; turns = turns + 1 }) said in
-      let rest = all_suspect cs (λ j. seen j || nat_eq c j) (put at c (in_view s w [] false [] None)) (pool ++ map (call w c) (others_below c n)) (turns + 1)
+      let next : took_flight (record { at = at; pool = pool; turns = turns }) c (vr_step (at c) (vr_input.Suspect w)) pool ≡
+      record { at = put_state at c (in_view s w [] false [] None); pool = pool ++ map (call w c) (others_below c n); turns = turns + 1 } =
+      ap (λ (x : VrStep). took_flight (record { at = at; pool = pool; turns = turns }) c x pool) does
+      ∙ ap (λ (l : List Flight). record { at = put_state at c (in_view s w [] false [] None); pool = pool ++ l; turns = turns + 1 }) said in
+      let rest = all_suspect cs (λ j. seen j || nat_eq c j) (put_state at c (in_view s w [] false [] None)) (pool ++ map (call w c) (others_below c n)) (turns + 1)
       (λ j. placed j (nat_eq j c) refl) once.1
       (λ j h. let r = fresh j (has_later c j cs h) in (ap (λ (b : Bool). b || nat_eq c j) r.0 ∙ ne_eqb c j (λ e. both_ways (has cs j) (ap (has cs) (sym e) ∙ once.0) h), r.1)) in
       record {
@@ -406,13 +406,13 @@ module _ (n w : ℕ) (quorum : List ℕ) (start : ℕ → VrState) (ready : (j :
       placed found j false is = is
 
   -- the view starts
-  pub view_starts : (k : ℕ) × HasStarted n w quorum start best (drains k quorum (all_suspected (resting start) w quorum))
+  pub view_starts : (k : ℕ) × HasStarted n w quorum start best (drains k quorum (all_suspected (resting_group start) w quorum))
   view_starts =
       let first = all_suspect quorum (λ j. false) start [] 0 (λ j. refl) (quorum_once n w quorum start ready q) (λ j h. (refl, h)) in
       let g : GroupState = record { at = first.found; pool = all_calls n w quorum; turns = 0 + length quorum } in
       let rest = drained_all first.found (0 + length quorum) (λ j. first.each j ∙ none_yet j) in
       let done = begins rest.0 g rest.1 rest.3 in
-      let is : drains (rest.0 + 1) quorum (all_suspected (resting start) w quorum) ≡ record { at = done.found; pool = map (flown (w % n)) (to_others begun (view_start begun)); turns = rest.1 + 1 } =
+      let is : drains (rest.0 + 1) quorum (all_suspected (resting_group start) w quorum) ≡ record { at = done.found; pool = map (flown (w % n)) (to_others begun (view_start begun)); turns = rest.1 + 1 } =
       ap (drains (rest.0 + 1) quorum) first.is ∙ done.drained_to in
       let at_p : done.found (w % n) ≡ begun = done.each (w % n) ∙ ap (λ (b : Bool). if b then begun else held n w quorum start ready (votes_of n w quorum start ready q group) (w % n)) (eq-eqb (w % n) (w % n) refl) in (
         rest.0 + 1,
@@ -433,7 +433,7 @@ module _ (n w : ℕ) (quorum : List ℕ) (start : ℕ → VrState) (ready : (j :
       not_leader j out = ne_eqb j (w % n) (λ e. both_ways (has quorum (w % n)) (ap (has quorum) (sym e) ∙ out) q.primary)
 
   -- how the members come there, once they have entered the view
-  pub path : (z : GroupState) × Path w quorum z [] (all_suspected (resting start) w quorum) × IsLast n w quorum start best z
+  pub path : (z : GroupState) × Path w quorum z [] (all_suspected (resting_group start) w quorum) × IsLast n w quorum start best z
   path =
       let once = quorum_once n w quorum start ready q in
       let first = all_suspect quorum (λ j. false) start [] 0 (λ j. refl) once (λ j h. (refl, h)) in
@@ -443,7 +443,7 @@ module _ (n w : ℕ) (quorum : List ℕ) (start : ℕ → VrState) (ready : (j :
       let e = rest.3 in
       let z : GroupState = record { at = e.reached.found; pool = record { from = e.sender; to = w % n; message = e.message } ∷ []; turns = rest.1 } in
       let changes : AreChanging quorum e.reached.found = led_changing n w quorum start ready q group e.front e.reached.found e.reached.each in
-      let drained_path : Path w quorum z [] (all_suspected (resting start) w quorum) =
+      let drained_path : Path w quorum z [] (all_suspected (resting_group start) w quorum) =
       subst (λ (x : GroupState). Path w quorum z [] x) (sym first.is) (of_drains w quorum z k g (λ i le. each_before k g rest.1 e i le) e.reached.drained_to) in (
         z,
         drained_path,
@@ -475,7 +475,7 @@ module _ (n w : ℕ) (quorum : List ℕ) (start : ℕ → VrState) (ready : (j :
 
 -- by what each quorum is
 pub starts_of : (n w : ℕ) (quorum : List ℕ) (start : ℕ → VrState) → IsQuorum n w quorum → ((j : ℕ) → has quorum j ≡ true → IsReadyMember n w j (start j)) → 0 < n / 2 →
-    (best : ℕ) → HasBest quorum start best → IsCovered quorum start best → (packets : ℕ) × HasStarted n w quorum start best (drains packets quorum (all_suspected (resting start) w quorum))
+    (best : ℕ) → HasBest quorum start best → IsCovered quorum start best → (packets : ℕ) × HasStarted n w quorum start best (drains packets quorum (all_suspected (resting_group start) w quorum))
 starts_of n w quorum start q ready group best b covered =
     view_starts n w quorum start ready (picked_of_quorum n w quorum q) group best
     (record { member = b.member; better = b.better; agrees = covered.agrees; covers = covered.covers })

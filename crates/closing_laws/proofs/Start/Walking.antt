@@ -17,7 +17,7 @@ use Rattle.journal.specs.declared.journal.SaveResult.{SaveResult}
 use Rattle.journal.specs.declared.journal.SaveResult.TheVariants.{Saved}
 use Rattle.journal.specs.Actors.{actor_of}
 use Rattle.journal.specs.Part.{packet_of, part}
-use Rattle.journal.specs.Pool.{pool, numbered, letters_posted, without}
+use Rattle.journal.specs.Pool.{pool, numbered_letters, letters_posted, without}
 use Rattle.journal.specs.Turns.{IsWithinLimits}
 use Rattle.journal.proofs.Pools.{Rising, Rising-pool}
 use Rattle.vr_log.specs.declared.message.VrLetter.{VrLetter}
@@ -39,7 +39,7 @@ use Rattle.run_spec.specs.Committed.{switch_state}
 use Rattle.run_spec.specs.Messages.{FitsMessage}
 use Rattle.run_spec.specs.States.{Scene, IsFaithful, ControllerAt, content, controller_hears, controller_message, sealed_letters}
 use Rattle.run_spec.specs.Legal.{IsPossible, results_of}
-use Rattle.run_spec.specs.Schedule.{Answer, IsEnd, Phase, Suspecting, Draining, Losing, Move, Takes, ClosesTo, IsInputOf, IsMove, IsPosted, after_member, after_move, count_turns, drained, is_drawn, is_turn, met_by, next_drained, next_move}
+use Rattle.run_spec.specs.Schedule.{ClosingAnswer, IsEnd, Phase, Suspecting, Draining, Losing, ClosingMove, Takes, ClosesTo, IsInputOf, IsMove, IsPosted, after_member, after_move, count_turns, drained, is_drawn, is_turn, met_by, next_drained, next_move}
 use Rattle.run_spec.proofs.Pasts.{possible_before, self_controller}
 use Rattle.run_agreement.proofs.Pasts.{fits}
 use Rattle.run_agreement.proofs.Spelling.{all_spelled}
@@ -47,7 +47,7 @@ use Rattle.run_laws.proofs.Events.{events_valid}
 use Rattle.run_laws.proofs.Laws.{always}
 use Rattle.run_laws.proofs.Members.{owned_at}
 use Rattle.closing_laws.specs.Quorum.{has}
-use Rattle.closing_laws.specs.Draining.{Flight, GroupState, flown, suspected, took}
+use Rattle.closing_laws.specs.Draining.{Flight, GroupState, flown, suspected, took_flight}
 use Rattle.closing_laws.specs.Starts.{SavesSucceed}
 use Rattle.closing_laws.proofs.Journal.Posting.{later, map_none, never_posts, owes_nothing, pool_grows, possible_under, posted_all, posted_holds, poster, sealed_length, switches_stay, within_under}
 use Rattle.closing_laws.proofs.Journal.Taking.{AllCarry, By_message, By_suspicion, HeadOf, TurnOf, at, carry_both, changing_up, finds_head, head_of, leaves_head, member_work, others_stay, own_steps, posts_carry, quiet_work, turn_draw, turn_local, Carries}
@@ -146,8 +146,8 @@ module _ {B : Type 0} (scene : Scene B) (results : List (List SaveResult)) (setu
         let new = posts_carry scene results faithful m first vs
         (subst (λ (ls : List (Letter ControllerSays)). AllByRecursion (λ l. IsValidTo l.to l.body) ls) owed may)
         (subst (λ (ls : List (Letter ControllerSays)). AllByRecursion (λ l. FitsMessage (controller_message l.body)) ls) owed typed) in
-        let all = carry_both scene results (pool P) (numbered first (actor.Controller m) (sealed_letters controller_message scene.sealing (to_members vs))) waiting (map (flown m) vs) carries new in
-        let grown = pool_grows scene results m first letters lost P possible room ∙ ap (λ (ls : List (Letter ControllerSays)). pool P ++ numbered first (actor.Controller m) (sealed_letters controller_message scene.sealing ls)) owed in
+        let all = carry_both scene results (pool P) (numbered_letters first (actor.Controller m) (sealed_letters controller_message scene.sealing (to_members vs))) waiting (map (flown m) vs) carries new in
+        let grown = pool_grows scene results m first letters lost P possible room ∙ ap (λ (ls : List (Letter ControllerSays)). pool P ++ numbered_letters first (actor.Controller m) (sealed_letters controller_message scene.sealing ls)) owed in
         record {
           holds = record {
             members = λ c lt. ap (λ (x : ControllerState). x.vr) (posted_holds scene results m first letters lost P c).0 ∙ holds.members c lt;
@@ -155,7 +155,7 @@ module _ {B : Type 0} (scene : Scene B) (results : List (List SaveResult)) (setu
             switches = λ t. switches_stay scene results m post P refl t ∙ holds.switches t;
             few = holds.few;
           };
-          carries = subst (λ (ps : List (Packet B)). AllCarry scene results ps g.pool) (sym grown) (subst (λ (fs : List Flight). AllCarry scene results (pool P ++ numbered first (actor.Controller m) (sealed_letters controller_message scene.sealing (to_members vs))) fs) (sym is) all);
+          carries = subst (λ (ps : List (Packet B)). AllCarry scene results ps g.pool) (sym grown) (subst (λ (fs : List Flight). AllCarry scene results (pool P ++ numbered_letters first (actor.Controller m) (sealed_letters controller_message scene.sealing (to_members vs))) fs) (sym is) all);
           posted = posted_all scene results m first letters lost P;
         }
 
@@ -171,7 +171,7 @@ module _ {B : Type 0} (scene : Scene B) (results : List (List SaveResult)) (setu
   -- a turn behind which the view still changes
   module _ (m : ℕ) (e : JournalEntry B) (P : List (JournalEntry B)) (g : GroupState) (step : VrStep) (there : m < scene.setup.controllers) (whose : actor_of e ≡ actor.Controller m) (holds : Holds P g)
       (turn : TurnOf scene results m e P (stepped (with_no_met_limit (at scene results m P).now) step)) where
-    took_holds : (waiting : List Flight) → length waiting ≤ length g.pool → length step.letters ≤ most_said → Holds (e ∷ P) (took g m step waiting)
+    took_holds : (waiting : List Flight) → length waiting ≤ length g.pool → length step.letters ≤ most_said → Holds (e ∷ P) (took_flight g m step waiting)
     took_holds waiting shorter said = record {
       members = λ c lt. member c (nat_eq c m) refl (holds.members c lt);
       saves = λ c. saved c (nat_eq c m) refl (holds.saves c);
@@ -196,7 +196,7 @@ module _ {B : Type 0} (scene : Scene B) (results : List (List SaveResult)) (setu
             let same = ap (λ (x : ControllerAt). x.saves) (others_stay scene results m e P whose c (ne_eqb m c (λ i. eqb-false c m is (sym i)))) in
             omega (arith, old, same)
 
-    pub took_owes : (waiting : List Flight) → length waiting ≤ length g.pool → length step.letters ≤ most_said → AllCarry scene results (pool (e ∷ P)) waiting → Owes (e ∷ P) (took g m step waiting)
+    pub took_owes : (waiting : List Flight) → length waiting ≤ length g.pool → length step.letters ≤ most_said → AllCarry scene results (pool (e ∷ P)) waiting → Owes (e ∷ P) (took_flight g m step waiting)
     took_owes waiting shorter said carries = record {
       member = m;
       there = there;
@@ -250,7 +250,7 @@ module _ {B : Type 0} (scene : Scene B) (results : List (List SaveResult)) (setu
 
     -- the closing goes on behind these entries, or the first of them bring the group there
     pub data Outcome (P : List (JournalEntry B)) (g : GroupState) (entries : List (JournalEntry B)) (last : Phase) : Type 0 where
-      Goes : ((answer : Answer) → IsEnd (next_move scene results last (later P entries)) answer → ⊥) → g.turns + count_turns entries ≤ z.turns → Outcome P g entries last
+      Goes : ((answer : ClosingAnswer) → IsEnd (next_move scene results last (later P entries)) answer → ⊥) → g.turns + count_turns entries ≤ z.turns → Outcome P g entries last
       Reaches : (first rest : List (JournalEntry B)) (phase : Phase) → entries ≡ first ++ rest → g.turns + count_turns first ≡ z.turns → PhaseOf phase [] → Stands (later P first) z →
           ClosesTo scene results phase (later P first) rest last → Outcome P g entries last
 
@@ -347,7 +347,7 @@ module _ {B : Type 0} (scene : Scene B) (results : List (List SaveResult)) (setu
           ∙ ap (λ (s : VrState). after_step scene.kinds scene.setup (with_no_met_limit c) (vr_step s (vr_input.From f.from f.message))) is
 
       draws_goes : (g : GroupState) (rest : List (JournalEntry B)) (last : Phase) → g.pool ≡ f ∷ waiting → Stands P g → has quorum f.to ≡ true → is_changing (g.at f.to) ≡ true → is_changing (hears g f).state ≡ true →
-          Path w quorum z [] (took g f.to (hears g f) waiting) → Here rest P last draw (Draining w quorum) → ((P' : List (JournalEntry B)) → Again rest last P') → Outcome P g (draw ∷ rest) last
+          Path w quorum z [] (took_flight g f.to (hears g f) waiting) → Here rest P last draw (Draining w quorum) → ((P' : List (JournalEntry B)) → Again rest last P') → Outcome P g (draw ∷ rest) last
       draws_goes g rest last waits stands member changing changes path here again =
           let behind = ap (λ (l : List Flight). length l) waits in
           let c = (at scene results f.to P).now in
@@ -357,8 +357,8 @@ module _ {B : Type 0} (scene : Scene B) (results : List (List SaveResult)) (setu
           let same = took_stays f.to draw P g (hears g f) (small f.to member) refl stands.holds turn (Draining w quorum) changes in
           let possible = possible_before scene results draw P (possible_under scene results rest (draw ∷ P) here.1) in
           let carries : AllCarry scene results (pool (draw ∷ P)) waiting = subst (λ (ps : List (Packet B)). AllCarry scene results ps waiting) (sym (left_head possible)) h.others in
-          behind_one draw P g (took g f.to (hears g f) waiting) rest last refl
-          (again (draw ∷ P) (Draining w quorum) [] (took g f.to (hears g f) waiting) Now
+          behind_one draw P g (took_flight g f.to (hears g f) waiting) rest last refl
+          (again (draw ∷ P) (Draining w quorum) [] (took_flight g f.to (hears g f) waiting) Now
           (Owing (took_owes f.to draw P g (hears g f) (small f.to member) refl stands.holds turn waiting (omega (arith, behind)) (says_little P g stands.holds f.to (small f.to member) (vr_input.From f.from f.message) (Hears_of f.from f.message)) carries)) path
           (subst (λ (x : Phase). ClosesTo scene results x (draw ∷ P) rest last) same here.0) here.1 here.2 here.3)
 
@@ -405,18 +405,18 @@ module _ {B : Type 0} (scene : Scene B) (results : List (List SaveResult)) (setu
     moves : (e : JournalEntry B) (rest P : List (JournalEntry B)) (last phase : Phase) → ClosesTo scene results phase P (e ∷ rest) last → (ms : List ℕ) (g : GroupState) → PhaseOf phase ms → Stands P g → Path w quorum z ms g →
         (next : Phase) → IsMove (next_move scene results phase P) e next → Here rest P last e next → ((P' : List (JournalEntry B)) → Again rest last P') → Outcome P g (e ∷ rest) last
     moves e rest P last phase whole _ _ at_phase stands (Suspects m ms g member up changes path) next move here again =
-        let m' = subst (λ (v : Move B). IsMove v e next) (suspects_move P phase m ms at_phase) move in
+        let m' = subst (λ (v : ClosingMove B). IsMove v e next) (suspects_move P phase m ms at_phase) move in
         subst (λ (x : JournalEntry B). Outcome P g (x ∷ rest) last) (sym m'.0)
         (suspects_goes m ms g P rest last member up changes stands path (here_is rest P last e (Local (actor.Controller m) (local.Suspect w)) next (Suspecting w quorum ms) m'.0 m'.1 here) again)
     moves e rest P last phase whole _ _ at_phase stands (Draws g f waiting waits member changing changes path) next move here again =
         let h = head_of scene results (pool P) f waiting (subst (λ (fs : List Flight). AllCarry scene results (pool P) fs) waits stands.carries) in
-        let m' = subst (λ (v : Move B). IsMove v e next) (next_is f waiting P h phase at_phase) move in
+        let m' = subst (λ (v : ClosingMove B). IsMove v e next) (next_is f waiting P h phase at_phase) move in
         let e_is = m'.0 ∙ drawn_entry f waiting P h member in
         subst (λ (x : JournalEntry B). Outcome P g (x ∷ rest) last) (sym e_is)
         (draws_goes f waiting P h g rest last waits stands member changing changes path (here_is rest P last e (Draw (actor.Controller f.to) h.packet.id false) next (Draining w quorum) e_is m'.1 here) again)
     moves e rest P last phase whole _ _ at_phase stands (Loses g f waiting waits other path) next move here again =
         let h = head_of scene results (pool P) f waiting (subst (λ (fs : List Flight). AllCarry scene results (pool P) fs) waits stands.carries) in
-        let m' = subst (λ (v : Move B). IsMove v e next) (next_is f waiting P h phase at_phase) move in
+        let m' = subst (λ (v : ClosingMove B). IsMove v e next) (next_is f waiting P h phase at_phase) move in
         let e_is = m'.0 ∙ lost_entry f waiting P h other in
         subst (λ (x : JournalEntry B). Outcome P g (x ∷ rest) last) (sym e_is)
         (loses_goes f waiting P h g rest last waits stands path (here_is rest P last e (Lose (actor.Controller f.to) h.packet.id) next (Draining w quorum) e_is m'.1 here) again)
@@ -425,8 +425,8 @@ module _ {B : Type 0} (scene : Scene B) (results : List (List SaveResult)) (setu
         Reaches [] (e ∷ rest) phase refl (omega (arith, same)) at_phase (subst (λ (x : GroupState). Stands P x) is stands) whole
 
     -- where no more entries come
-    pub never_ends : (P : List (JournalEntry B)) (phase : Phase) (e : JournalEntry B) (next : Phase) (answer : Answer) → next_move scene results phase P ≡ Takes e next → IsEnd (next_move scene results phase P) answer → ⊥
-    never_ends P phase e next answer is end = subst (λ (v : Move B). IsEnd v answer) is end
+    pub never_ends : (P : List (JournalEntry B)) (phase : Phase) (e : JournalEntry B) (next : Phase) (answer : ClosingAnswer) → next_move scene results phase P ≡ Takes e next → IsEnd (next_move scene results phase P) answer → ⊥
+    never_ends P phase e next answer is end = subst (λ (v : ClosingMove B). IsEnd v answer) is end
 
     ends_here : (P : List (JournalEntry B)) (phase : Phase) (ms : List ℕ) (g : GroupState) → PhaseOf phase ms → Stands P g → Path w quorum z ms g → Outcome P g [] phase
     ends_here P phase _ _ at_phase stands (Suspects m ms g member up changes path) =

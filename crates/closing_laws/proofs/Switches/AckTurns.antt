@@ -9,7 +9,7 @@ use Rattle.journal.specs.declared.journal.Letter.{Letter}
 use Rattle.list_facts.proofs.Prefixes.{append_filter}
 use Rattle.event_buffer.specs.Buffer.{Buffer, cleared_to, most_held}
 use Rattle.of_switch.specs.declared.says.SwitchSays.{SwitchSays}
-use Rattle.of_switch.specs.State.{SwitchState, SwitchTurn, events_in, life_of, number_of}
+use Rattle.of_switch.specs.State.{SwitchState, SwitchTurn, events_in, life_of, own_number_of}
 use Rattle.of_switch.specs.Events.{cleared, coming, event_letter, event_letters, on_event_ack, port_status, window}
 use Rattle.of_switch.specs.Drafts.{Draft, draft_of, drafted_event, forgets, with_ports, with_raised, with_told}
 use Rattle.of_switch.proofs.Turns.{ack-drafted, forgets-same}
@@ -58,9 +58,9 @@ own_life switch life (e ∷ events) own = rw (eq-eqb e.life life own.0.1) (ap (�
 -- what is left, and told to the master
 pub record AfterAck (sw : SwitchState) (me through : ℕ) (turn : SwitchTurn) : Type 0 where
   pub more : List Event
-  pub own : AreOwn (number_of sw) (life_of sw) more
+  pub own : AreOwn (own_number_of sw) (life_of sw) more
   pub life : life_of turn.state ≡ life_of sw
-  pub number : number_of turn.state ≡ number_of sw
+  pub number : own_number_of turn.state ≡ own_number_of sw
   pub gone : turn.state.buffer.cleared ≡ cleared_to sw.buffer through
   pub held : turn.state.buffer.held ≡ drop (cleared_to sw.buffer through - sw.buffer.cleared) sw.buffer.held ++ more
   pub events : events_in turn.state (life_of sw) ≡ events_in sw (life_of sw) ++ more
@@ -81,7 +81,7 @@ acked sw me through is =
       held = ap (λ (b : Buffer). b.held ++ raised) same ∙ ap (λ (l : List Event). left.buffer.held ++ l) told.raised;
       events = ap (λ (l : List Event). filter (λ e. nat_eq e.life (life_of sw)) (sw.events ++ l)) told.raised
           ∙ append_filter (λ (e : Event). nat_eq e.life (life_of sw)) sw.events told.more
-          ∙ ap (λ (l : List Event). events_in sw (life_of sw) ++ l) (own_life (number_of sw) (life_of sw) told.more told.own);
+          ∙ ap (λ (l : List Event). events_in sw (life_of sw) ++ l) (own_life (own_number_of sw) (life_of sw) told.more told.own);
       fence = refl;
       results = refl;
       letters = told.letters

@@ -20,7 +20,7 @@ use Rattle.event_buffer.specs.Buffer.{Buffer}
 use Rattle.dispatcher.specs.Ledger.{most_commands}
 use Rattle.of_switch.specs.declared.says.SwitchSays.{SwitchSays}
 use Rattle.of_switch.specs.declared.says.SwitchSays.TheVariants as switch_says
-use Rattle.of_switch.specs.State.{SwitchState, SwitchTurn, life_of, number_of, quiet, then_turn}
+use Rattle.of_switch.specs.State.{SwitchState, SwitchTurn, life_of, own_number_of, quiet_switch, then_turn}
 use Rattle.of_switch.specs.Commands.{done_as, executes, letter_of_result, on_command, on_offer, result_of, settled}
 use Rattle.of_switch.specs.Forwarding.{over_link, over_links, puts_all, puts_out, sends_to, targets}
 
@@ -53,13 +53,13 @@ one_link frame switch port k l = by_tests (nat_eq k.switch switch && nat_eq k.po
 sent_frames : (s : SwitchState) (frame ports : List ℕ) → AreFrames (flat_map (over_links s frame) ports)
 sent_frames s frame ports l among =
     let by_port = in_flat_map (over_links s frame) ports l among in
-    let by_link = in_flat_map (over_link frame (number_of s) by_port.0) s.links l by_port.2 in
-    one_link frame (number_of s) by_port.0 by_link.0 l by_link.2
+    let by_link = in_flat_map (over_link frame (own_number_of s) by_port.0) s.links l by_port.2 in
+    one_link frame (own_number_of s) by_port.0 by_link.0 l by_link.2
 
 -- outputs, one after another
-frames_more : (s : SwitchState) (t : SwitchTurn) (port : ℕ) (frame : List ℕ) (output : ℕ) → Frames s t → Frames s (then_turn t (puts_out quiet port frame output))
+frames_more : (s : SwitchState) (t : SwitchTurn) (port : ℕ) (frame : List ℕ) (output : ℕ) → Frames s t → Frames s (then_turn t (puts_out quiet_switch port frame output))
 frames_more s t port frame output h =
-    cond_both (nat_eq output TO_CONTROLLER) (quiet t.state) (sends_to frame (targets t.state port output) t.state) (λ (x : SwitchTurn). Frames s (record { state = x.state; letters = t.letters ++ x.letters }))
+    cond_both (nat_eq output TO_CONTROLLER) (quiet_switch t.state) (sends_to frame (targets t.state port output) t.state) (λ (x : SwitchTurn). Frames s (record { state = x.state; letters = t.letters ++ x.letters }))
     (λ _. record { buffer = h.buffer; events = h.events; fence = h.fence; results = h.results; frames = λ l among. h.frames l (subst (λ (ls : List (Letter SwitchSays)). IsIn l ls) (append-nil t.letters) among) })
     (λ _. record {
       buffer = h.buffer;
@@ -72,12 +72,12 @@ frames_more s t port frame output h =
       ];
     })
 
-frames_all : (s : SwitchState) (port : ℕ) (frame outputs : List ℕ) (t : SwitchTurn) → Frames s t → Frames s (puts_all quiet port frame outputs t)
+frames_all : (s : SwitchState) (port : ℕ) (frame outputs : List ℕ) (t : SwitchTurn) → Frames s t → Frames s (puts_all quiet_switch port frame outputs t)
 frames_all s port frame [] t h = h
-frames_all s port frame (output ∷ outputs) t h = frames_all s port frame outputs (then_turn t (puts_out quiet port frame output)) (frames_more s t port frame output h)
+frames_all s port frame (output ∷ outputs) t h = frames_all s port frame outputs (then_turn t (puts_out quiet_switch port frame output)) (frames_more s t port frame output h)
 
 done_frames : (s : SwitchState) (result : Outcome) (what : Order) → Frames s (done_as result what s)
-done_frames s outcome.Done (order.PacketOut out) = frames_all s out.in_port out.payload out.actions (quiet s) (record { buffer = refl; events = refl; fence = refl; results = refl; frames = λ l none. absurd none })
+done_frames s outcome.Done (order.PacketOut out) = frames_all s out.in_port out.payload out.actions (quiet_switch s) (record { buffer = refl; events = refl; fence = refl; results = refl; frames = λ l none. absurd none })
 done_frames s outcome.Done (order.FlowMod change) = record { buffer = refl; events = refl; fence = refl; results = refl; frames = λ l none. absurd none }
 done_frames s (outcome.Failed kind code) what = record { buffer = refl; events = refl; fence = refl; results = refl; frames = λ l none. absurd none }
 done_frames s outcome.Cleared what = record { buffer = refl; events = refl; fence = refl; results = refl; frames = λ l none. absurd none }

@@ -24,7 +24,7 @@ use Rattle.of_switch.specs.Commands.{letter_of_result}
 use Rattle.run_spec.specs.declared.messages.Message.{Message}
 use Rattle.run_spec.specs.declared.messages.Message.TheVariants as message
 use Rattle.run_spec.specs.States.{switch_message}
-use Rattle.closing_laws.specs.Serving.{AreCommanded, IsSaidIn, IsAttended, Results, commands_said, events_said, is_reply, is_request, results_said, told_by, told_through}
+use Rattle.closing_laws.specs.Serving.{AreCommanded, IsSaidIn, IsAttended, Results, commands_said, events_said, is_reply, is_request, results_said, letters_told_by, told_through}
 use Rattle.closing_laws.specs.Ways.{told_to}
 use Rattle.closing_laws.proofs.Primary.Telling.{told_to-append}
 use Rattle.closing_laws.proofs.Switches.CommandTurns.{AfterCommand}
@@ -56,10 +56,10 @@ module _ (kinds : List ℕ) (setup : Setup) (c : ControllerState) (s : ℕ) (sw 
 
   -- it is the next one, which was told
   first_is : (out in_ : List Message) (a : AreCommanded kinds setup c s sw (command ∷ out) in_) →
-      (number ≡ a.next) × (0 < told_by kinds setup c s sw - a.next) × (commands_said (life_of sw) out ≡ range_with_len (a.next + 1) (told_by kinds setup c s sw - a.next - 1))
-  first_is out in_ a = first_waits number a.next (told_by kinds setup c s sw - a.next) (commands_said (life_of sw) out) (sym (commands out) ∙ a.waits)
+      (number ≡ a.next) × (0 < letters_told_by kinds setup c s sw - a.next) × (commands_said (life_of sw) out ≡ range_with_len (a.next + 1) (letters_told_by kinds setup c s sw - a.next - 1))
+  first_is out in_ a = first_waits number a.next (letters_told_by kinds setup c s sw - a.next) (commands_said (life_of sw) out) (sym (commands out) ∙ a.waits)
 
-  pub below : (out in_ : List Message) → AreCommanded kinds setup c s sw (command ∷ out) in_ → number < told_by kinds setup c s sw
+  pub below : (out in_ : List Message) → AreCommanded kinds setup c s sw (command ∷ out) in_ → number < letters_told_by kinds setup c s sw
   below out in_ a = let first = first_is out in_ a in let same = first.0 in let some = first.1 in omega (arith, same, some)
 
   pub late : (out in_ : List Message) → AreCommanded kinds setup c s sw (command ∷ out) in_ → number ≤ sw.results.executed
@@ -92,7 +92,7 @@ module _ (kinds : List ℕ) (setup : Setup) (c : ControllerState) (s : ℕ) (sw 
         let first = first_is out in_ a in
         let same = first.0 in
         let done = after.executed in
-        let fewer : told_by kinds setup c s sw - a.next - 1 ≡ told_by kinds setup c s sw - (a.next + 1) = omega arith in
+        let fewer : letters_told_by kinds setup c s sw - a.next - 1 ≡ letters_told_by kinds setup c s sw - (a.next + 1) = omega arith in
         record {
           next = a.next + 1;
           waits = subst (λ (l : ℕ). commands_said l out ≡ range_with_len (a.next + 1) (told_through kinds setup c s l - (a.next + 1))) (sym life) (first.2 ∙ ap (λ (k : ℕ). range_with_len (a.next + 1) k) fewer);

@@ -18,7 +18,7 @@ use Rattle.event_buffer.specs.Buffer.{Buffer}
 use Rattle.group_controller.specs.State.{ControllerState}
 use Rattle.of_switch.specs.declared.says.SwitchInput.TheVariants as switch_input
 use Rattle.of_switch.specs.declared.says.SwitchSays.{SwitchSays}
-use Rattle.of_switch.specs.State.{SwitchState, SwitchTurn, events_in, life_of, number_of, quiet}
+use Rattle.of_switch.specs.State.{SwitchState, SwitchTurn, events_in, life_of, own_number_of, quiet_switch}
 use Rattle.of_switch.specs.Events.{first_held, on_event_ack}
 use Rattle.of_switch.specs.Commands.{letter_of_result, on_command, settled}
 use Rattle.of_switch.specs.Rules.{switch_turn}
@@ -43,7 +43,7 @@ GoesOut c letters = (l : Letter SwitchSays) → IsIn l letters → (l.to ≡ act
 -- what a turn leaves
 pub record Leaves (kinds : List ℕ) (setup : Setup) (c : ControllerState) (s : ℕ) (sw : SwitchState) (out in_ : List Message) (turn : SwitchTurn) : Type 0 where
   pub life : life_of turn.state ≡ life_of sw
-  pub number : number_of turn.state ≡ number_of sw
+  pub number : own_number_of turn.state ≡ own_number_of sw
   pub cleared : sw.buffer.cleared ≤ turn.state.buffer.cleared
   pub more : List Event
   pub events : events_in turn.state (life_of sw) ≡ events_in sw (life_of sw) ++ more
@@ -81,7 +81,7 @@ module _ (kinds : List ℕ) (setup : Setup) (c : ControllerState) (s : ℕ) (sw 
   nothing : (state : SwitchState) (said : Extension) → state.buffer ≡ sw.buffer → state.events ≡ sw.events → state.fence ≡ sw.fence → state.results.executed ≡ sw.results.executed →
       ((through : ℕ) → acknowledges_events (life_of sw) through ≡ message.Of 0 (spoken.Ravana said) → ⊥) →
       commands_said (life_of sw) (message.Of 0 (spoken.Ravana said) ∷ out) ≡ commands_said (life_of sw) out →
-      IsAttended kinds setup c s sw (message.Of 0 (spoken.Ravana said) ∷ out) in_ → Keeps (quiet state)
+      IsAttended kinds setup c s sw (message.Of 0 (spoken.Ravana said) ∷ out) in_ → Keeps (quiet_switch state)
   nothing state said buffer events fence executed other commands served _ =
       record {
         life = ap (λ (b : Buffer). b.life) buffer;
@@ -96,7 +96,7 @@ module _ (kinds : List ℕ) (setup : Setup) (c : ControllerState) (s : ℕ) (sw 
   acknowledges : (life through : ℕ) → IsAttended kinds setup c s sw (acknowledges_events life through ∷ out) in_ → Keeps (turn_on (acknowledges_events life through))
   unfolding switch_turn
   acknowledges life through served =
-      cond_both (nat_eq life (life_of sw)) (on_event_ack sw through) (quiet sw) (λ (t : SwitchTurn). Keeps t)
+      cond_both (nat_eq life (life_of sw)) (on_event_ack sw through) (quiet_switch sw) (λ (t : SwitchTurn). Keeps t)
       (λ own true_after.
       let served' = subst (λ (l : ℕ). IsAttended kinds setup c s sw (acknowledges_events l through ∷ out) in_) (eqb-true life (life_of sw) own) served in
       elim served'.role [
@@ -121,7 +121,7 @@ module _ (kinds : List ℕ) (setup : Setup) (c : ControllerState) (s : ℕ) (sw 
       Keeps (turn_on (message.Of 0 (spoken.Ravana (extension.Command life c.vr.view number through what))))
   unfolding switch_turn
   commands life number through what near served =
-      cond_both (nat_eq life (life_of sw)) (on_command sw c.vr.me 0 c.vr.view number through what) (quiet sw) (λ (t : SwitchTurn). Keeps t)
+      cond_both (nat_eq life (life_of sw)) (on_command sw c.vr.me 0 c.vr.view number through what) (quiet_switch sw) (λ (t : SwitchTurn). Keeps t)
       (λ own _.
       let served' = subst (λ (l : ℕ). IsAttended kinds setup c s sw (message.Of 0 (spoken.Ravana (extension.Command l c.vr.view number through what)) ∷ out) in_) (eqb-true life (life_of sw) own) served in
       elim served'.role [
@@ -151,7 +151,7 @@ module _ (kinds : List ℕ) (setup : Setup) (c : ControllerState) (s : ℕ) (sw 
       Keeps (turn_on (message.Of 0 (spoken.Ravana (extension.Clear life through))))
   unfolding switch_turn
   clears life through served =
-      cond_both (nat_eq life (life_of sw)) (quiet (settled sw through)) (quiet sw) (λ (t : SwitchTurn). Keeps t)
+      cond_both (nat_eq life (life_of sw)) (quiet_switch (settled sw through)) (quiet_switch sw) (λ (t : SwitchTurn). Keeps t)
       (λ own. nothing (settled sw through) (extension.Clear life through) refl refl refl refl (λ t is. absurd cc) refl served)
       (λ other. nothing sw (extension.Clear life through) refl refl refl refl (λ t is. absurd cc) refl served)
 

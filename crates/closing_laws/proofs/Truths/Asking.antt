@@ -33,13 +33,13 @@ use Rattle.vr_recovery.specs.Recovering.{restarted}
 use Rattle.vr_core.specs.declared.input.VrInput.TheVariants as vr_input
 use Rattle.vr_core.specs.Step.{vr_step}
 use Rattle.app_core.specs.declared.issued.Issued.{Issued}
-use Rattle.dispatcher.specs.Marks.{no_marks, confirmed_by, is_pending, with_result, outstanding}
+use Rattle.dispatcher.specs.Marks.{no_marks, confirmed_by, is_pending, with_marked_result, outstanding}
 use Rattle.dispatcher.specs.Folding.{numbered, acknowledges_at, clears_at, places_processed, is_done}
 use Rattle.group_controller.specs.declared.messages.ControllerInput.{ControllerInput}
 use Rattle.group_controller.specs.declared.messages.ControllerInput.TheVariants as controller_input
 use Rattle.group_controller.specs.declared.messages.ControllerSays.{ControllerSays}
 use Rattle.group_controller.specs.declared.messages.ControllerSays.TheVariants as controller_says
-use Rattle.group_controller.specs.State.{ControllerState, Work, committed, with_no_met_limit, met_limit, resting, posting, leaving, stepped, to_member, to_members}
+use Rattle.group_controller.specs.State.{ControllerState, Work, committed, with_no_met_limit, met_limit, resting, posting_work, leaving, stepped, to_member, to_members}
 use Rattle.group_controller.specs.Settling.{role_letter, command_letter, command_letters, ack_letter, clear_letter, answers_at, with_answers, is_untold, with_commands, with_proposal, is_settled, is_alone, after_proposal, goes_on, processing, finishing, settling, proposing}
 use Rattle.group_controller.specs.Rules.{switches, has_started, after_step, unconfirmed, tick_letters, on_tick, on_wish, on_event, on_result, on_role_reply, on_plain, on_extension, on_spoken, on_switch, on_local, on_input, when_down, is_down, controller_work}
 
@@ -78,7 +78,7 @@ well view w h =
     all_weaker (λ (l : Letter ControllerSays). AsksAt view l.body) (λ (l : Letter ControllerSays). AsksBy w.state.vr l.body)
     (λ l at. asked_by w.state.vr l.body h.lead (subst (λ (v : ℕ). AsksAt v l.body) (sym h.view_is) at)) w.letters h.letters
 
-posts : (view : ℕ) (w : Work) (ls : List (Letter ControllerSays)) → AreAt view ls → Leading view w → Leading view (posting w ls)
+posts : (view : ℕ) (w : Work) (ls : List (Letter ControllerSays)) → AreAt view ls → Leading view w → Leading view (posting_work w ls)
 posts view w ls more h =
     record { lead = h.lead; view_is = h.view_is; letters = all_append (λ (l : Letter ControllerSays). AsksAt view l.body) w.letters ls h.letters more }
 
@@ -115,7 +115,7 @@ module _ (kinds : List ℕ) (setup : Setup) (view : ℕ) where
   commands_lead w h =
       let ls = command_letters kinds setup w.state (outstanding kinds setup (committed w.state) w.state.marks) in
       cond_both (is_untold w.state) _ _ (Leading view)
-      (λ _. leaves view (posting w ls) _ refl (posts view w ls (commands_at w.state _) h))
+      (λ _. leaves view (posting_work w ls) _ refl (posts view w ls (commands_at w.state _) h))
       (λ _. h)
 
   settled : (before : ℕ) (w : Work) → Leading view w → Leading view (with_commands kinds setup (with_answers kinds setup before w))
@@ -153,7 +153,7 @@ module _ (kinds : List ℕ) (setup : Setup) (view : ℕ) where
       let p = after_leads (resting c) entry h in
       cond_both (goes_on c entry) _ _ (Leading view) (λ _. finished _ (after_proposal kinds setup (resting c) entry) p) (λ _. p)
 
--- a tick of the member leaves it as it was
+-- a tick of the member leaves it was
 abbrev tick_of : VrState → Status → VrStep
 tick_of s x = elim x [ status.Normal ↦ (if is_primary s then tick_primary s else quiet s) | status.ViewChange ↦ tick_changing s | status.Recovering ↦ tick_recovering s | status.Down ↦ quiet s ]
 
@@ -182,7 +182,7 @@ module _ (kinds : List ℕ) (setup : Setup) where
       cond_both (has_started c.vr step.state) _ _ AsksWell
       (λ starts.
       let lead = (and_parts (leads step.state) (not (leads c.vr && nat_eq c.vr.view step.state.view)) starts).0 in
-      let asked = posting (leaving w anew) (map (role_letter view) (switches setup)) in
+      let asked = posting_work (leaving w anew) (map (role_letter view) (switches setup)) in
       well view _ (settles kinds setup view anew.vr.commit asked (posts view (leaving w anew) _ (roles_at kinds setup view (switches setup)) (leaves view w anew refl (started_leads c step lead)))))
       (λ _. cond_both (leads step.state && nat_lt c.vr.commit step.state.commit) _ _ AsksWell
       (λ more. well view _ (settles kinds setup view c.vr.commit w (started_leads c step (and_parts (leads step.state) (nat_lt c.vr.commit step.state.commit) more).0)))
@@ -210,7 +210,7 @@ module _ (kinds : List ℕ) (setup : Setup) where
 
     result_well : (switch life number : ℕ) → AsksWell (on_result kinds setup c switch life number)
     result_well switch life number =
-        let d : ControllerState = record c { marks = with_result kinds setup (committed c) c.marks switch life number } in
+        let d : ControllerState = record c { marks = with_marked_result kinds setup (committed c) c.marks switch life number } in
         cond_both (is_pending kinds setup (committed c) switch life number) _ _ AsksWell
         (λ _. well c.vr.view _ (finished kinds setup c.vr.view _ (resting d) (rests_leads d lead)))
         (λ _. tt)

@@ -7,10 +7,10 @@ use Rattle.journal.specs.declared.journal.JournalEntry.TheVariants.{Post}
 use Rattle.journal.specs.declared.journal.Letter.{Letter}
 use Rattle.journal.specs.declared.journal.SaveResult.{SaveResult}
 use Rattle.journal.specs.Part.{part}
-use Rattle.actor_fold.specs.Fold.{Standing}
+use Rattle.actor_fold.specs.Fold.{ActorStanding}
 use Rattle.agreement.specs.Lists.{count_below}
 use Rattle.agreement.specs.History as core
-use Rattle.agreement.specs.History.{Group, History, size, primary_of}
+use Rattle.agreement.specs.History.{Group, History, size, primary_in}
 use Rattle.agreement.specs.Invariant.{Invariant, IsGroup}
 use Rattle.agreement.specs.Journals as journal
 use Rattle.agreement.specs.Journals.{Rules, Follows, history, stands, firm}
@@ -26,7 +26,7 @@ use Rattle.agreement.proofs.Standing.{stands_own, stands_valid}
 use Rattle.vr_log.specs.declared.entry.Entry.{Entry}
 use Rattle.vr_log.specs.declared.state.VrState.{VrState}
 use Rattle.vr_log.specs.Members as member
-use Rattle.member_moves.specs.Projection.{group_of, state_of, is_member}
+use Rattle.member_moves.specs.Projection.{group_of, member_state_of, is_member}
 use Rattle.member_moves.proofs.Members.{IsMemberOf, member_of, normal_of, same_primary}
 use Rattle.controller_moves.specs.Projection.{OwnInput}
 use Rattle.controller_moves.specs.Rules.{SavingController}
@@ -47,19 +47,19 @@ run_promises gr i (then c b r m) j = le_trans (run_promises gr i r j) (promise_m
 
 module _ {Own A E : Type 0} {r : Rules Own A E} {g : Group E} (f : Follows r g) (o : 1 ≤ g.most_failures) where
   -- nor in a journal, of what no refusal takes back
-  pub promises_rise : (more past : List (journal.Entry Own E)) → journal.IsLegal r g (more ++ past) → (j : ℕ) → r.promise (firm (stands r j past)) ≤ r.promise (firm (stands r j (more ++ past)))
+  pub promises_rise : (more past : List (journal.Entry Own E)) → journal.IsAllowed r g (more ++ past) → (j : ℕ) → r.promise (firm (stands r j past)) ≤ r.promise (firm (stands r j (more ++ past)))
   promises_rise more past k j =
       let good = agreeing.journal_good f o past (agreeing.legal_past r g more past k) in
       run_promises f.group good (journal_runs f o more past good k) j
 
   -- f + 1 controllers promise the view of one that leads, at each later time
-  pub backed_since : (more past : List (journal.Entry Own E)) (c : ℕ) → journal.IsLegal r g (more ++ past) → c < size g → (let s = r.state (firm (stands r c past)) in
-      s.status ≡ core.Normal → c ≡ primary_of g s.view → 1 ≤ s.view → g.most_failures < count_below (λ j. leb s.view (r.promise (firm (stands r j (more ++ past))))) (size g))
+  pub backed_since : (more past : List (journal.Entry Own E)) (c : ℕ) → journal.IsAllowed r g (more ++ past) → c < size g → (let s = r.state (firm (stands r c past)) in
+      s.status ≡ core.Normal → c ≡ primary_in g s.view → 1 ≤ s.view → g.most_failures < count_below (λ j. leb s.view (r.promise (firm (stands r j (more ++ past))))) (size g))
   backed_since more past c k b n is some =
       let k1 = agreeing.legal_past r g more past k in
       let i0 = start_good f.group f.starts in
       let run : Run g (history r g []) (history r g past) =
-      subst (λ (x : List (journal.Entry Own E)). Run g (history r g []) (history r g x)) (append-nil past) (journal_runs f o past [] i0 (subst (λ (x : List (journal.Entry Own E)). journal.IsLegal r g x) (sym (append-nil past)) k1)) in
+      subst (λ (x : List (journal.Entry Own E)). Run g (history r g []) (history r g x)) (append-nil past) (journal_runs f o past [] i0 (subst (λ (x : List (journal.Entry Own E)). journal.IsAllowed r g x) (sym (append-nil past)) k1)) in
       let view : ℕ = (r.state (firm (stands r c past))).view in
       let then_many = backed_law g (history r g []) (history r g past) f.group f.starts run c b n is some in
       let more_now = count_more (λ j. leb view (r.promise (firm (stands r j past)))) (λ j. leb view (r.promise (firm (stands r j (more ++ past))))) (size g)
@@ -84,7 +84,7 @@ module _ {B : Type 0} (scene : Scene B) (results : List (List SaveResult)) (most
   abbrev at : ℕ → List (JournalEntry B) → SavingController
   at j past = saving (controller_at scene (results_of results j) j (part (actor.Controller j) past))
 
-  legal : (past : List (JournalEntry B)) → IsReadPast scene results past → journal.IsLegal r g (past_of scene past)
+  legal : (past : List (JournalEntry B)) → IsReadPast scene results past → journal.IsAllowed r g (past_of scene past)
   legal past k = (past_legal scene results most_failures n past k).legal
 
   is_now : (past : List (JournalEntry B)) → IsReadPast scene results past → (j : ℕ) → (stands r j (past_of scene past)).now ≡ at j past
@@ -98,7 +98,7 @@ module _ {B : Type 0} (scene : Scene B) (results : List (List SaveResult)) (most
 
   -- one that leads is normal, and the primary of its view
   leads_as : (past : List (JournalEntry B)) → IsReadPast scene results past → (d : ℕ) → d < scene.setup.controllers → (let s = (controller_state scene results d past).vr in
-      member.leads s ≡ true → ((state_of s).status ≡ core.Normal) × (d ≡ primary_of g s.view))
+      member.leads s ≡ true → ((member_state_of s).status ≡ core.Normal) × (d ≡ primary_in g s.view))
   leads_as past k d b leading =
       let s : VrState = (controller_state scene results d past).vr in
       let of : IsMemberOf g d s = member_of g d s (member_at past k d b) in
@@ -110,7 +110,7 @@ module _ {B : Type 0} (scene : Scene B) (results : List (List SaveResult)) (most
 
   module _ (o : 1 ≤ most_failures) where
     -- what f + 1 have promised for good they promise now
-    now_promised : (view : ℕ) (es : List (journal.Entry OwnInput Entry)) (past : List (JournalEntry B)) → IsReadPast scene results past → journal.IsLegal r g es →
+    now_promised : (view : ℕ) (es : List (journal.Entry OwnInput Entry)) (past : List (JournalEntry B)) → IsReadPast scene results past → journal.IsAllowed r g es →
         ((j : ℕ) → (stands r j es).now ≡ (stands r j (past_of scene past)).now) → Backed view es → most_failures < count_below (λ j. nat_le view (controller_state scene results j past).vr.promise) scene.setup.controllers
     now_promised view es past k fine same many =
         let follow = follow_law scene.kinds scene.setup most_failures (λ c. results_of results c) in
@@ -119,7 +119,7 @@ module _ {B : Type 0} (scene : Scene B) (results : List (List SaveResult)) (most
         (λ j l h.
         let rises = promises_rise follow o (journal.Posts j ∷ []) es (l, fine) j in
         let is : r.promise (firm (stands r j (journal.Posts j ∷ es))) ≡ (controller_state scene results j past).vr.promise =
-        ap (λ (w : Standing SavingController (core.Letter Entry)). r.promise (firm w)) (stands_own r (journal.Posts j) es) ∙ ap (λ (a : SavingController). r.promise a) (same j ∙ is_now past k j) in
+        ap (λ (w : ActorStanding SavingController (core.Letter Entry)). r.promise (firm w)) (stands_own r (journal.Posts j) es) ∙ ap (λ (a : SavingController). r.promise a) (same j ∙ is_now past k j) in
         let u = leb-true view (r.promise (firm (stands r j es))) h in
         le-leb view (controller_state scene results j past).vr.promise (omega (arith, u, rises, is))) in
         subst (λ (m : ℕ). most_failures < count_below (λ j. nat_le view (controller_state scene results j past).vr.promise) m) (sym (whole_group n)) (omega (arith, many, settle))
@@ -138,10 +138,10 @@ module _ {B : Type 0} (scene : Scene B) (results : List (List SaveResult)) (most
         let s : VrState = (controller_state scene results d before).vr in
         let as_it = leads_as before k1 d b leading in
         let mine : firm (stands r d (past_of scene (e ∷ before))) ≡ at d before =
-        ap (λ (w : Standing SavingController (core.Letter Entry)). firm w) (stands_own r (journal.Posts d) (past_of scene before)) ∙ is_now before k1 d in
+        ap (λ (w : ActorStanding SavingController (core.Letter Entry)). firm w) (stands_own r (journal.Posts d) (past_of scene before)) ∙ is_now before k1 d in
         let on = past_on scene results most_failures n more (e ∷ before) in
         let many : Backed s.view (past_of scene past) =
         subst (λ (es : List (journal.Entry OwnInput Entry)). Backed s.view es) (sym on.1)
-        (subst (λ (a : SavingController). (let z = r.state a in z.status ≡ core.Normal → d ≡ primary_of g z.view → 1 ≤ z.view → Backed z.view (on.0 ++ past_of scene (e ∷ before)))) mine
-        (backed_since follow o on.0 (past_of scene (e ∷ before)) d (subst (λ (es : List (journal.Entry OwnInput Entry)). journal.IsLegal r g es) on.1 (legal past k)) there) as_it.0 as_it.1 some) in
+        (subst (λ (a : SavingController). (let z = r.state a in z.status ≡ core.Normal → d ≡ primary_in g z.view → 1 ≤ z.view → Backed z.view (on.0 ++ past_of scene (e ∷ before)))) mine
+        (backed_since follow o on.0 (past_of scene (e ∷ before)) d (subst (λ (es : List (journal.Entry OwnInput Entry)). journal.IsAllowed r g es) on.1 (legal past k)) there) as_it.0 as_it.1 some) in
         now_promised s.view (past_of scene past) past k (legal past k) (λ j. refl) many

@@ -32,7 +32,7 @@ use Rattle.run_spec.proofs.Pasts.{possible_before}
 use Rattle.run_spec.proofs.Pools.{Was, New, pool_after}
 use Rattle.exactly_once.specs.Facts.{PastFacts, facts_of, events_of, executed_of}
 use Rattle.exactly_once.specs.Truths.{IsTrueEntry}
-use Rattle.exactly_once.specs.Invariant.{HoldsOfRun, IsHonest, IsSound, IsSoundAt, Logged, Own}
+use Rattle.exactly_once.specs.Invariant.{HoldsOfRun, IsHonest, SwitchIsSound, IsSoundAt, Logged, Own}
 use Rattle.exactly_once.proofs.ControllerTurns.{received_at}
 use Rattle.exactly_once.proofs.Journals.{firm_events, firm_executed}
 use Rattle.run_agreement.proofs.Groups.{odd_law}
@@ -77,7 +77,7 @@ primary_true kinds setup f c me controllers there own honest begins leads_now =
 
 -- and of a switch beside it
 switch_true : (kinds : List ℕ) (setup : Setup) (f : PastFacts) (c : ControllerState) (s : ℕ) (state : SwitchState) → is_log c.vr.log ≡ true → IsPrefix f.decided c.vr.log →
-    IsHonest kinds setup f c → IsSound kinds setup f s state → ((life : ℕ) → IsPrefix (events_of life (f.events s)) (events_in state life)) →
+    IsHonest kinds setup f c → SwitchIsSound kinds setup f s state → ((life : ℕ) → IsPrefix (events_of life (f.events s)) (events_in state life)) →
     ((life : ℕ) → IsPrefix (executed_of life (f.executed s)) (executed_of life state.executed)) → KeepsOrder state → IsTrueOf kinds setup c s state
 switch_true kinds setup f c s state valid begins honest sound events executed order =
     let entries : (i : ℕ) (e : Entry) → slice_get c.vr.log i ≡ Some e → IsTrueEntry kinds setup f i e = λ i e at. honest.entries i e (Logged at) in

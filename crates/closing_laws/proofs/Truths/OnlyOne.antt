@@ -16,12 +16,12 @@ use Rattle.vr_log.specs.declared.state.Status.TheVariants as status
 use Rattle.vr_log.specs.declared.state.VrState.{VrState}
 use Rattle.vr_log.specs.Members.{is_up}
 use Rattle.vr_core.specs.declared.input.VrInput.{VrInput}
-use Rattle.member_moves.specs.Projection.{group_of, status_of, is_member}
+use Rattle.member_moves.specs.Projection.{group_of, member_status_of, is_member}
 use Rattle.member_moves.proofs.Members.{up_of, newer_of}
 use Rattle.group_controller.specs.declared.messages.ControllerInput.{ControllerInput}
 use Rattle.group_controller.specs.State.{ControllerState, Work}
 use Rattle.group_controller.specs.Rules.{is_down, controller_work}
-use Rattle.controller_laws.specs.Moves.{Chain, Start, Then, Move, Steps, Says, Saves, Begins, Proposes, Results, Notes, member_input}
+use Rattle.controller_laws.specs.Moves.{Chain, Start, Then, ControllerMove, Steps, Says, Saves, Begins, Proposes, Results, Notes, member_input}
 use Rattle.controller_laws.specs.MemberMoves.{MemberMove, Enters, Tallies, Collects, Stocks, Starts, Adopts, Recovers, Appends, Commits, Keeps}
 use Rattle.controller_laws.specs.Turns.{beginning}
 use Rattle.controller_laws.proofs.Reached.{turn_chain}
@@ -53,7 +53,7 @@ not_down status.ViewChange up other = false≢true other
 not_down status.Recovering up other = false≢true up
 not_down status.Down up other = false≢true up
 
-up_again : (x : Status) → invariant.is_up (status_of x) ≡ true → (elim x as (λ _. Bool) [ status.Normal ↦ true | status.ViewChange ↦ true | status.Recovering ↦ false | status.Down ↦ false ]) ≡ true
+up_again : (x : Status) → invariant.is_up_status (member_status_of x) ≡ true → (elim x as (λ _. Bool) [ status.Normal ↦ true | status.ViewChange ↦ true | status.Recovering ↦ false | status.Down ↦ false ]) ≡ true
 up_again status.Normal up = refl
 up_again status.ViewChange up = refl
 up_again status.Recovering up = absurd (false≢true up)
@@ -78,7 +78,7 @@ member_rises x s s' (Commits k normal low high is) up = let e = ap (λ (z : VrSt
 member_rises x s s' (Keeps r nonce asks is) up = let e = ap (λ (z : VrState). z.view) is in omega (arith, e)
 
 module _ (kinds : List ℕ) (setup : Setup) (x : ControllerInput) where
-  move_rises : (w w' : Work) → Move kinds setup x w w' → is_up w.state.vr ≡ true → w.state.vr.view ≤ w'.state.vr.view
+  move_rises : (w w' : Work) → ControllerMove kinds setup x w w' → is_up w.state.vr ≡ true → w.state.vr.view ≤ w'.state.vr.view
   move_rises w w' (Steps s m is) up = let e = ap (λ (z : Work). z.state.vr.view) is in let l = member_rises (member_input x) w.state.vr s m up in omega (arith, e, l)
   move_rises w w' (Says ls all is) up = let e = ap (λ (z : Work). z.state.vr.view) is in omega (arith, e)
   move_rises w w' (Saves save is) up = let e = ap (λ (z : Work). z.state.vr.view) is in omega (arith, e)
@@ -119,7 +119,7 @@ module _ (kinds : List ℕ) (setup : Setup) (x : ControllerInput) where
       let took : Work = controller_work kinds setup c (input_of (taken_by 0 x)) in
       let same : (done [] a took took.save).0.state ≡ (controller_work kinds setup c x).state = done_state a took took.save ∙ ap (λ (y : ControllerInput). (controller_work kinds setup c y).state) (same_input 0 x) in
       let goes = (follow_law kinds setup 0 (λ _. [])).alone refl 0 a (taken_by 0 x) (omega arith) valid
-      (ap (λ (z : ControllerState). invariant.is_up (status_of z.vr.status)) same ∙ up_of (controller_work kinds setup c x).state.vr.status after) in
+      (ap (λ (z : ControllerState). invariant.is_up_status (member_status_of z.vr.status)) same ∙ up_of (controller_work kinds setup c x).state.vr.status after) in
       up_again c.vr.status goes.up
 
 module _ {B : Type 0} (scene : Scene B) (results : List (List SaveResult)) (n : scene.setup.controllers ≡ 1) where

@@ -37,11 +37,11 @@ use Rattle.flow_clock.specs.Clocked.{clock_told}
 use Rattle.of_switch.proofs.Leaving.{any_left_told}
 use Rattle.of_switch.specs.declared.says.SwitchInput.{SwitchInput}
 use Rattle.of_switch.specs.declared.says.SwitchInput.TheVariants as switch_input
-use Rattle.of_switch.specs.State.{SwitchState, SwitchTurn, quiet, then_turn, rows_of, life_of}
-use Rattle.of_switch.specs.Events.{raised, packet_raised, is_down, port_status, with_event, with_port, port_raised, is_port, on_port, remembers, tells_ports, next_life, on_event_ack, flow_removed}
-use Rattle.of_switch.specs.Forwarding.{is_frame, is_up, targets, sends_to, puts_out, puts_all, packet_in, through_row, fields_at, counting, on_frame}
-use Rattle.of_switch.specs.Commands.{done_as, counted, result_of, on_offer, settled, on_command}
-use Rattle.of_switch.specs.Rules.{on_local, on_role, on_plain, on_own_life, life_said, switch_turn}
+use Rattle.of_switch.specs.State.{SwitchState, SwitchTurn, quiet_switch, then_turn, rows_of, life_of}
+use Rattle.of_switch.specs.Events.{raised, packet_raised, is_port_down, port_status, with_event, with_port, port_raised, is_port, on_port, remembers, tells_ports, next_life, on_event_ack, flow_removed}
+use Rattle.of_switch.specs.Forwarding.{is_frame, is_port_up, targets, sends_to, puts_out, puts_all, packet_in_of, through_row, frame_fields_at, counting_ports, on_frame}
+use Rattle.of_switch.specs.Commands.{done_as, counted_command, result_of, on_offer, settled, on_command}
+use Rattle.of_switch.specs.Rules.{switch_on_local, on_role, switch_on_plain, on_own_life, life_said, switch_turn}
 use Rattle.closing_laws.proofs.Truths.SwitchLists.{AreHeld, held_more, held_first, held_less, ascend_few, dirty_less, none_dirty, has_none}
 
 -- lists of a switch, which has few ports
@@ -90,7 +90,7 @@ raised_keeps : (what : Happening) (s : SwitchState) → KeepsOrder s → length 
 raised_keeps what s h room = (event_joins what s h.0 room, λ some. let none = none_remembered s.buffer h.1 room in absurd (omega (arith, none, some)))
 
 packet_keeps : (what : Happening) (s : SwitchState) → KeepsOrder s → Keeps (packet_raised what s)
-packet_keeps what s h = cond_both (is_full s.buffer) (quiet s) (raised what s) (λ (t : SwitchTurn). Keeps t) (λ _. h) (λ room. raised_keeps what s h (has_room s.buffer room))
+packet_keeps what s h = cond_both (is_full s.buffer) (quiet_switch s) (raised what s) (λ (t : SwitchTurn). Keeps t) (λ _. h) (λ room. raised_keeps what s h (has_room s.buffer room))
 
 port_keeps : (port : ℕ) (s : SwitchState) → KeepsOrder s → Keeps (port_raised port s)
 port_keeps port s h =
@@ -115,8 +115,8 @@ port_moves port up s h there =
 
 ports_change : (port : ℕ) (up : Bool) (s : SwitchState) → KeepsOrder s → Keeps (on_port s port up)
 ports_change port up s h =
-    cond_both (is_port s port && (if up then is_down s port else not (is_down s port))) (port_raised port (with_port s port up)) (quiet s) (λ (t : SwitchTurn). Keeps t)
-    (λ moves. port_keeps port (with_port s port up) (port_moves port up s h (and_parts (is_port s port) (if up then is_down s port else not (is_down s port)) moves).0))
+    cond_both (is_port s port && (if up then is_port_down s port else not (is_port_down s port))) (port_raised port (with_port s port up)) (quiet_switch s) (λ (t : SwitchTurn). Keeps t)
+    (λ moves. port_keeps port (with_port s port up) (port_moves port up s h (and_parts (is_port s port) (if up then is_port_down s port else not (is_port_down s port)) moves).0))
     (λ _. h)
 
 -- ---- events leave, and ports that were remembered find room
@@ -172,19 +172,19 @@ outputs_keep tells told port frame (output ∷ outputs) t h =
 
 row_keeps : (port : ℕ) (frame : List ℕ) (s : SwitchState) (found : Option Row) → KeepsOrder s → Keeps (through_row s port frame found)
 row_keeps port frame s None h = h
-row_keeps port frame s (Some row) h = outputs_keep (packet_raised (packet_in row port frame)) (packet_keeps (packet_in row port frame)) port frame row.actions (quiet s) h
+row_keeps port frame s (Some row) h = outputs_keep (packet_raised (packet_in_of row port frame)) (packet_keeps (packet_in_of row port frame)) port frame row.actions (quiet_switch s) h
 
 frame_keeps : (port : ℕ) (frame : List ℕ) (s : SwitchState) → KeepsOrder s → Keeps (on_frame s port frame)
 frame_keeps port frame s h =
-    let found : Option Row = chosen_row (rows_of s) (fields_at port frame) in
-    cond_both (is_up s port && is_frame frame) (counting port frame (through_row s port frame found)) (quiet s) (λ (t : SwitchTurn). Keeps t) (λ _. row_keeps port frame s found h) (λ _. h)
+    let found : Option Row = chosen_row (rows_of s) (frame_fields_at port frame) in
+    cond_both (is_port_up s port && is_frame frame) (counting_ports port frame (through_row s port frame found)) (quiet_switch s) (λ (t : SwitchTurn). Keeps t) (λ _. row_keeps port frame s found h) (λ _. h)
 
 role_keeps : (s : SwitchState) (from xid asked : ℕ) (step : RoleStep) (answer : RoleAnswer) → KeepsOrder s → Keeps (on_role s from xid asked step answer)
 role_keeps s from xid asked step (Reply role generation) h = h
 role_keeps s from xid asked step (Stale seen generation) h = h
 role_keeps s from xid asked step BadRole h = h
 
-plain_keeps : (s : SwitchState) (from xid : ℕ) (m : OfMessage) → KeepsOrder s → Keeps (on_plain s from xid m)
+plain_keeps : (s : SwitchState) (from xid : ℕ) (m : OfMessage) → KeepsOrder s → Keeps (switch_on_plain s from xid m)
 plain_keeps s from xid (plain.RoleRequest role generation) h = let step = role_step s.fence from role generation in role_keeps s from xid role step step.answer h
 plain_keeps s from xid _ h = h
 
@@ -196,12 +196,12 @@ results_less s through h =
     (record { are_held = h.0.are_held; room = h.0.room; results = omega (arith, long, few); few = h.0.few; within = h.0.within }, h.1)
 
 done_keeps : (s : SwitchState) (what : Order) (result : Outcome) → KeepsOrder s → Keeps (done_as result what s)
-done_keeps s (order.PacketOut out) outcome.Done h = outputs_keep quiet (λ n k. k) out.in_port out.payload out.actions (quiet s) h
+done_keeps s (order.PacketOut out) outcome.Done h = outputs_keep quiet_switch (λ n k. k) out.in_port out.payload out.actions (quiet_switch s) h
 done_keeps s (order.FlowMod change) outcome.Done h = h
 done_keeps s what (outcome.Failed kind code) h = h
 done_keeps s what outcome.Cleared h = h
 
-counts : (s : SwitchState) (from generation number : ℕ) (what : Order) (result : Outcome) → KeepsOrder s → KeepsOrder (counted from generation number what result s)
+counts : (s : SwitchState) (from generation number : ℕ) (what : Order) (result : Outcome) → KeepsOrder s → KeepsOrder (counted_command from generation number what result s)
 counts s from generation number what result h =
     let long = length-append s.results.outcomes (result ∷ []) in
     let few = h.0.results in
@@ -227,7 +227,7 @@ own_life s from xid (extension.Command life generation number through what) h = 
 own_life s from xid (extension.Clear life through) h = results_less s through h
 own_life s from xid _ h = h
 
-locally : (s : SwitchState) (what : Local) → KeepsOrder s → Keeps (on_local s what)
+locally : (s : SwitchState) (what : Local) → KeepsOrder s → Keeps (switch_on_local s what)
 locally s (local.Frame port frame) h = frame_keeps port frame s h
 locally s (local.Port port up) h = ports_change port up s h
 locally s local.Tick h = any_left_told KeepsOrder (λ e now room k. raised_keeps (flow_removed e) now k (has_room now.buffer room)) (clock_told s.table) s h

@@ -26,7 +26,7 @@ use Rattle.controller_laws.proofs.Issued.{count-orders, issued-take, issued_none
 use Rattle.controller_laws.proofs.Logs.{count_prefix, processed_at, processed_count, processed_stands, received_in_order, received_prefix}
 use Rattle.exactly_once.specs.Facts.{PastFacts, events_of, executed_of}
 use Rattle.exactly_once.specs.Truths.{IsDoneThrough, IsGenuine, IsTrueEntry}
-use Rattle.exactly_once.specs.Invariant.{IsSound}
+use Rattle.exactly_once.specs.Invariant.{SwitchIsSound}
 use Rattle.exactly_once.proofs.ControllerTurns.{life_comes, received_at}
 use Rattle.exactly_once.proofs.Growing.{take_same}
 use Rattle.exactly_once.proofs.Executed.{seam_at}
@@ -36,7 +36,7 @@ pub processed_received : (log : List Entry) (s l : ℕ) → processed_of log s l
 processed_received log s l = count_prefix s l (front_prefix (processed log) (received log))
 
 -- what left the buffer of a switch was decided as processed
-pub cleared_decided : (kinds : List ℕ) (setup : Setup) (f : PastFacts) (s : ℕ) (state : SwitchState) → IsSound kinds setup f s state → state.buffer.cleared ≤ processed_of f.decided s (life_of state)
+pub cleared_decided : (kinds : List ℕ) (setup : Setup) (f : PastFacts) (s : ℕ) (state : SwitchState) → SwitchIsSound kinds setup f s state → state.buffer.cleared ≤ processed_of f.decided s (life_of state)
 cleared_decided kinds setup f s state sound =
     let at = get_or_push state.ended state.buffer.cleared 0 (life_of state) sound.well.lives in
     let few = sound.dropped (life_of state) in
@@ -47,7 +47,7 @@ module _ (kinds : List ℕ) (setup : Setup) (f : PastFacts) (log : List Entry) (
     (begins : IsPrefix f.decided log)
     (committed_is : take k f.decided ≡ take k log)
     (entries : (i : ℕ) (e : Entry) → slice_get log i ≡ Some e → IsTrueEntry kinds setup f i e)
-    (sound : IsSound kinds setup f s state)
+    (sound : SwitchIsSound kinds setup f s state)
     (events : (life : ℕ) → IsPrefix (events_of life (f.events s)) (events_in state life))
     (executed : (life : ℕ) → IsPrefix (executed_of life (f.executed s)) (executed_of life state.executed))
   where

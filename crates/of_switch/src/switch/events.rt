@@ -2,7 +2,7 @@
 ghost use Rattle.std.specs.Prelude.{◌≡◌, ◌≤◌, ◌<◌, ◌+◌, ◌-◌, ◌^◌, [], true, false, length, take, drop, All, if◌then◌else◌, IfOk, OnOk, OnErr, ◌∷◌};
 ghost use Rattle.event_buffer.specs.Buffer.{most_held, highest_port, is_full, next_number, cleared_to, with_dirty};
 ghost use Rattle.of_switch.specs.State.{Turned, life_of};
-ghost use Rattle.of_switch.specs.Events.{window, coming as coming_events, first_held, cleared, raised, port_status, port_raised, with_port, next_life, on_port, on_event_ack, brings, flow_removed as removal_told, on_restart, on_tick};
+ghost use Rattle.of_switch.specs.Events.{window, coming as coming_events, first_held, cleared, raised, port_status, port_raised, with_port, next_life, on_port, on_event_ack, brings, flow_removed as removal_told, switch_on_restart, switch_on_tick};
 ghost use Rattle.of_types.specs.Lives.{last_life};
 ghost use Rattle.role_fence.specs.Fence.{starting_fence};
 ghost use Rattle.of_switch.specs.Drafts.{IsDraft, draft_of, drafted, with_raised, with_removed, with_greetings, with_first, with_ports, forgets, forgetting, all_posted, changed_to, life_begun};
@@ -202,7 +202,7 @@ impl Switch {
 
     /// A restart begins the next life, where there is one.
     pub(super) fn on_restart(&mut self) -> Result<Letters<SwitchSays>, AllocError>
-        ensures ok { IfOk result (λ letters. Turned (on_restart self.old) self.new letters) }
+        ensures ok { IfOk result (λ letters. Turned (switch_on_restart self.old) self.new letters) }
         ensures err { OnErr result (self.new ≡ self.old) }
     {
         if self.life() < LAST_LIFE {
@@ -215,7 +215,7 @@ impl Switch {
     /// The next life begins.
     fn restart(&mut self) -> Result<Letters<SwitchSays>, AllocError>
         requires { life_of self.old < last_life }
-        ensures ok { IfOk result (λ letters. Turned (on_restart self.old) self.new letters) }
+        ensures ok { IfOk result (λ letters. Turned (switch_on_restart self.old) self.new letters) }
         ensures err { OnErr result (self.new ≡ self.old) }
     {
         let buffer = EventBuffer::new(self.alloc, self.number(), self.life() + 1)?;
@@ -278,7 +278,7 @@ impl Switch {
 
     /// A tick: the table ages, and then the first events are sent. A later life without a master greets again.
     pub(super) fn on_tick(&mut self) -> Result<Letters<SwitchSays>, AllocError>
-        ensures ok { IfOk result (λ letters. Turned (on_tick self.old) self.new letters) }
+        ensures ok { IfOk result (λ letters. Turned (switch_on_tick self.old) self.new letters) }
         ensures err { OnErr result (self.new ≡ self.old) }
     {
         let left = self.table.leaving()?;

@@ -3,8 +3,8 @@ ghost use Rattle.std.specs.Prelude.{◌≡◌, ◌≤◌, not, nat_eq, length, f
 ghost use Rattle.flow_table.specs.Table.{chosen_row};
 ghost use Rattle.of_switch.specs.State.{Turned, ports_up, rows_of};
 ghost use Rattle.of_types.specs.declared.numbers.TheConstants.{LONGEST_FRAME};
-ghost use Rattle.of_switch.specs.Forwarding.{is_frame, targets, over_link, over_links, is_table_miss, packet_in as packet_in_of, fields_at, through_row, counting, on_frame};
-ghost use Rattle.of_switch.specs.Drafts.{draft_of, with_letters, with_packet, with_sent, with_output, with_outputs, with_row, untold, other_port};
+ghost use Rattle.of_switch.specs.Forwarding.{is_frame, targets, over_link, over_links, is_table_miss, packet_in_of, frame_fields_at, through_row, counting_ports, on_frame};
+ghost use Rattle.of_switch.specs.Drafts.{draft_of, with_letters, with_packet, with_sent, with_output, with_outputs, with_draft_row, untold, other_port};
 
 use super::Switch;
 use crate::draft::Draft;
@@ -44,7 +44,7 @@ impl Switch {
     /// A frame meets the table. One that no row matches is dropped.
     fn meet_table(&mut self, port: u32, frame: &Octets) -> Result<Letters<SwitchSays>, AllocError>
         requires { length frame.now ≤ LONGEST_FRAME }
-        ensures ok { IfOk result (λ letters. Turned (counting port frame.now (through_row self.old port frame.now (chosen_row (rows_of self.old) (fields_at port frame.now)))) self.new letters) }
+        ensures ok { IfOk result (λ letters. Turned (counting_ports port frame.now (through_row self.old port frame.now (chosen_row (rows_of self.old) (frame_fields_at port frame.now)))) self.new letters) }
         ensures err { OnErr result (self.new ≡ self.old) }
     {
         let draft = self.through_table(port, frame)?;
@@ -56,7 +56,7 @@ impl Switch {
 
     /// What becomes of a frame that meets the table.
     fn through_table(&self, port: u32, frame: &Octets) -> Result<Draft, AllocError>
-        ensures { IfOk result (λ d. d ≡ with_row self.now port frame.now (chosen_row (rows_of self.now) (fields_at port frame.now)) (draft_of self.now)) }
+        ensures { IfOk result (λ d. d ≡ with_draft_row self.now port frame.now (chosen_row (rows_of self.now) (frame_fields_at port frame.now)) (draft_of self.now)) }
     {
         let mut draft = self.draft();
         if let Some(row) = self.table.look_up(&fields_of(port, frame.as_slice())) {
@@ -257,7 +257,7 @@ pub(super) fn is_frame_of(frame: &[u8]) -> bool
 
 /// The fields of a frame that came in by a port.
 fn fields_of(port: u32, frame: &[u8]) -> Fields
-    ensures { result ≡ fields_at port frame.now }
+    ensures { result ≡ frame_fields_at port frame.now }
 {
     Fields {
         in_port: Some(port),

@@ -1,8 +1,8 @@
 //! What a switch makes of what controllers say (OpenFlow 1.3, 6.3.5, 7.3 and 7.5; Ravana, 4.1 and 4.2).
 ghost use Rattle.std.specs.Prelude.{◌≡◌, ◌≤◌, ◌+◌, [], true, nat_eq, ◌&&◌, vec_len, vec_capacity, IfOk, OnErr};
 ghost use Rattle.of_types.specs.declared.message.Spoken.TheVariants.{Plain};
-ghost use Rattle.of_switch.specs.State.{Turned, answers, refuses, life_of as present_life};
-ghost use Rattle.of_switch.specs.Rules.{on_role_request, on_plain, on_own_life, life_said, on_extension, on_malformed, asks};
+ghost use Rattle.of_switch.specs.State.{Turned, answers, switch_refuses, life_of as present_life};
+ghost use Rattle.of_switch.specs.Rules.{on_role_request, switch_on_plain, on_own_life, life_said, switch_on_extension, on_malformed, asks_memory};
 ghost use Rattle.of_switch.specs.Drafts.{role_letters, told_events};
 
 use super::Switch;
@@ -25,7 +25,7 @@ impl Switch {
         xid: u32,
         message: OfMessage,
     ) -> Result<Letters<SwitchSays>, AllocError>
-        ensures ok { IfOk result (λ letters. Turned (on_plain self.old from xid message) self.new letters) }
+        ensures ok { IfOk result (λ letters. Turned (switch_on_plain self.old from xid message) self.new letters) }
         ensures err { OnErr result (self.new ≡ self.old) }
     {
         match message {
@@ -65,9 +65,9 @@ impl Switch {
         xid: u32,
         message: Extension,
     ) -> Result<Letters<SwitchSays>, AllocError>
-        ensures ok { IfOk result (λ letters. Turned (on_extension self.old from xid message) self.new letters) }
+        ensures ok { IfOk result (λ letters. Turned (switch_on_extension self.old from xid message) self.new letters) }
         ensures err { OnErr result (self.new ≡ self.old) }
-        ensures memory { OnErr result ((nat_eq (life_said message) (present_life self.old) && asks self.old message) ≡ true) }
+        ensures memory { OnErr result ((nat_eq (life_said message) (present_life self.old) && asks_memory self.old message) ≡ true) }
     {
         if life_of(&message) == self.life() {
             self.on_own_life(from, xid, message)
@@ -85,7 +85,7 @@ impl Switch {
     ) -> Result<Letters<SwitchSays>, AllocError>
         ensures ok { IfOk result (λ letters. Turned (on_own_life self.old from xid message) self.new letters) }
         ensures err { OnErr result (self.new ≡ self.old) }
-        ensures memory { OnErr result (asks self.old message ≡ true) }
+        ensures memory { OnErr result (asks_memory self.old message ≡ true) }
     {
         match message {
             Extension::Event { .. } | Extension::CmdAck { .. } => self.refuse(from, xid, BAD_TYPE),
@@ -178,7 +178,7 @@ impl Switch {
         xid: u32,
         why: Refusal,
     ) -> Result<Letters<SwitchSays>, AllocError>
-        ensures { IfOk result (λ letters. Turned (refuses self.now from xid why) self.now letters) }
+        ensures { IfOk result (λ letters. Turned (switch_refuses self.now from xid why) self.now letters) }
     {
         let head = Items::new(self.alloc);
         one_letter(self.alloc, error_letter(from, xid, why, head))

@@ -2,8 +2,8 @@
 ghost use Rattle.std.specs.Prelude.{◌≡◌, ◌≤◌, ◌<◌, length, IfOk};
 ghost use Rattle.of_types.specs.SmallSets.{places_from};
 ghost use Rattle.event_buffer.specs.Buffer.{highest_port};
-ghost use Rattle.of_switch.specs.Events.{is_port, is_down, with_port, port_status};
-ghost use Rattle.of_switch.specs.Forwarding.{is_up};
+ghost use Rattle.of_switch.specs.Events.{is_port, is_port_down, with_port, port_status};
+ghost use Rattle.of_switch.specs.Forwarding.{is_port_up};
 
 use super::Switch;
 use of_types::{Happening, PortStatus, REASON_MODIFY};
@@ -27,14 +27,14 @@ impl Switch {
 
     /// Whether it has a port that is down.
     pub(super) fn is_down(&self, port: u32) -> bool
-        ensures { result ≡ is_down self.now port }
+        ensures { result ≡ is_port_down self.now port }
     {
         self.is_port(port) && self.down[port as usize - 1]
     }
 
     /// Whether it has a port that is up.
     pub(super) fn is_up(&self, port: u32) -> bool
-        ensures { result ≡ is_up self.now port }
+        ensures { result ≡ is_port_up self.now port }
     {
         self.is_port(port) && !self.is_down(port)
     }

@@ -1,7 +1,7 @@
 use Rattle.std.proofs.Common.{arith}
 use Rattle.std.proofs.lemmas.Result.{err_from_is_err_and}
 use Rattle.run_spec.specs.Schedule.{Losing}
-use Rattle.closing.specs.Closing.{ClosesIn, StandsAt}
+use Rattle.closing.specs.Closing.{ClosesIn, ClosingStandsAt}
 use Rattle.closing.proofs.Leading.{leads_then}
 use Rattle.closing.proofs.Parts.{keeps_then, post_keeps, post_leads, post_rests, post_stops, rests_result, same_keeps}
 use Rattle.closing.proofs.rest.clear.Goals as goal
@@ -42,4 +42,4 @@ returns-clause-closes g c =
     let law = g.A.App.law in
     let sealing = g.B.Body.sealing in
     let post = post_keeps law g.W.Stable.saving sealing c.args.world.now c.post_owed.new.self c.args.stables.now c.requires.pairs c.in_ok-post_owed.ensures.posts c.post_owed.ensures.holds in
-    leads_then law sealing (ClosesIn Losing) (ClosesIn Losing) (StandsAt (λ _. ClosesIn Losing) c.lose_all.result) c.args.world.now c.post_owed.new.self c.lose_all.new.world post.setup post.holds (post_leads law g.W.Stable.saving sealing c.args.world.now c.post_owed.new.self c.args.stables.now c.requires.pairs c.in_ok-post_owed.ensures.posts) c.lose_all.ensures.closes
+    leads_then law sealing (ClosesIn Losing) (ClosesIn Losing) (ClosingStandsAt (λ _. ClosesIn Losing) c.lose_all.result) c.args.world.now c.post_owed.new.self c.lose_all.new.world post.setup post.holds (post_leads law g.W.Stable.saving sealing c.args.world.now c.post_owed.new.self c.args.stables.now c.requires.pairs c.in_ok-post_owed.ensures.posts) c.lose_all.ensures.closes

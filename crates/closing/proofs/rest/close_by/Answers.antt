@@ -1,5 +1,5 @@
 use Rattle.std.proofs.Common.{sym, ◌∙◌, subst, arith}
-use Rattle.closing.specs.Closing.{CameTo, Drained, Drains, LeadsTo, StandsAt, Suspects}
+use Rattle.closing.specs.Closing.{CameTo, Drained, Drains, LeadsTo, ClosingStandsAt, Suspects}
 use Rattle.closing.proofs.Leading.{leads_then}
 use Rattle.closing.proofs.Parts.{keeps_then, not_over, rests_result}
 use Rattle.closing.proofs.rest.close_by.Goals as goal
@@ -24,5 +24,5 @@ returns-clause-closes g c =
     let law = g.A.App.law in
     let sealing = g.B.Body.sealing in
     let rests = not_over c.in_ok-came.came (sym c.is_over.ensures ∙ c.if-is_over.false) in
-    leads_then law sealing (Suspects c.args.view c.args.quorum.now c.args.quorum.now) (Drains c.args.view c.args.quorum.now) (StandsAt (CameTo (Drained c.args.view c.args.quorum.now)) c.drain.result) c.args.world.now c.suspect.new.world c.drain.new.world c.in_ok-came.ensures.keeps.setup c.in_ok-came.ensures.keeps.holds
+    leads_then law sealing (Suspects c.args.view c.args.quorum.now c.args.quorum.now) (Drains c.args.view c.args.quorum.now) (ClosingStandsAt (CameTo (Drained c.args.view c.args.quorum.now)) c.drain.result) c.args.world.now c.suspect.new.world c.drain.new.world c.in_ok-came.ensures.keeps.setup c.in_ok-came.ensures.keeps.holds
     (subst (λ x. LeadsTo law sealing (Suspects c.args.view c.args.quorum.now c.args.quorum.now) (CameTo (Drains c.args.view c.args.quorum.now) x) c.args.world.now c.suspect.new.world) rests c.in_ok-came.ensures.suspects) c.drain.ensures.drains

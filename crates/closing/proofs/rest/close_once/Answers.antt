@@ -4,7 +4,7 @@ use Rattle.journal.specs.Pool.{past}
 use Rattle.run_spec.specs.Schedule.{Losing, majority}
 use Rattle.world.specs.World.{scene_in}
 use Rattle.std.specs.Prelude.{◌/◌}
-use Rattle.closing.specs.Closing.{ClosesIn, EndsBy, StandsAt, up_in}
+use Rattle.closing.specs.Closing.{ClosesIn, EndsBy, ClosingStandsAt, up_in}
 use Rattle.closing.specs.Views.{most_view_of_a_closing, views_of_an_attempt}
 use Rattle.closing.proofs.Leading.{halted_in, leads_then, runs_again}
 use Rattle.closing.proofs.Parts.{ends_few, keeps_then, suspected_more, views_result}
@@ -56,4 +56,4 @@ pub returns-clause-closes : goal.returns-clause-closes
 returns-clause-closes g c =
     let law = g.A.App.law in
     let sealing = g.B.Body.sealing in
-    leads_then law sealing (ClosesIn Losing) (ClosesIn Losing) (StandsAt EndsBy c.close_cleared.result) c.args.world.now c.clear.new.world c.close_cleared.new.world c.in_ok-clear.ensures.keeps.setup c.in_ok-clear.ensures.keeps.holds c.in_ok-clear.ensures.closes c.close_cleared.ensures.closes
+    leads_then law sealing (ClosesIn Losing) (ClosesIn Losing) (ClosingStandsAt EndsBy c.close_cleared.result) c.args.world.now c.clear.new.world c.close_cleared.new.world c.in_ok-clear.ensures.keeps.setup c.in_ok-clear.ensures.keeps.holds c.in_ok-clear.ensures.closes c.close_cleared.ensures.closes

@@ -2,7 +2,7 @@ use Rattle.closing.specs.declared.closed.Came.{Came}
 use Rattle.std.proofs.Common.{sym, ◌∙◌, subst, arith, Err}
 use Rattle.std.proofs.lemmas.Result.{err_from_is_err_and}
 use Rattle.world.specs.World.{scene_in}
-use Rattle.closing.specs.Closing.{CameTo, Drained, Drains, LeadsTo, StandsAt, UpBy, up_in}
+use Rattle.closing.specs.Closing.{CameTo, Drained, Drains, LeadsTo, ClosingStandsAt, UpBy, up_in}
 use Rattle.closing.proofs.Leading.{leads_then}
 use Rattle.closing.proofs.Parts.{keeps_then, none_waits, not_over, over_came, rests_then, same_stop}
 use Rattle.closing.proofs.rest.drain.Goals as goal
@@ -23,7 +23,7 @@ returns-in_err-came-clause-drains g c =
     let p = err_from_is_err_and c.from_residual.result c.from_residual.ensures.1 in
     rw (p.1, p.2) (λ kinds holds start s.
     same_stop Came Came (CameTo (Drains c.args.view c.args.quorum.now)) (CameTo (Drained c.args.view c.args.quorum.now)) c.in_err-came.field-0.0 (scene_in sealing c.args.world.now kinds) start c.drain_first.new.world
-    (leads_then law sealing (Drains c.args.view c.args.quorum.now) (Drains c.args.view c.args.quorum.now) (StandsAt (CameTo (Drains c.args.view c.args.quorum.now)) (Err c.in_err-came.field-0.0)) c.args.world.now c.draining.world c.drain_first.new.world c.draining.invariant.keeps.setup c.draining.invariant.keeps.holds c.draining.invariant.drains c.in_err-came.ensures.drains kinds holds start s))
+    (leads_then law sealing (Drains c.args.view c.args.quorum.now) (Drains c.args.view c.args.quorum.now) (ClosingStandsAt (CameTo (Drains c.args.view c.args.quorum.now)) (Err c.in_err-came.field-0.0)) c.args.world.now c.draining.world c.drain_first.new.world c.draining.invariant.keeps.setup c.draining.invariant.keeps.holds c.draining.invariant.drains c.in_err-came.ensures.drains kinds holds start s))
 
 pub returns-then-is_over-clause-keeps : goal.returns-then-is_over-clause-keeps
 returns-then-is_over-clause-keeps g c =

@@ -1,7 +1,7 @@
 use Rattle.std.proofs.Common.{◌∙◌, arith, Err}
 use Rattle.std.proofs.lemmas.Result.{err_from_is_err_and}
 use Rattle.run_spec.specs.Schedule.{Losing}
-use Rattle.closing.specs.Closing.{ClosesIn, StandsAt}
+use Rattle.closing.specs.Closing.{ClosesIn, ClosingStandsAt}
 use Rattle.closing.proofs.Leading.{leads_then}
 use Rattle.closing.proofs.Parts.{keeps_then, none_waits, rests_then}
 use Rattle.closing.proofs.rest.lose_all.Goals as goal
@@ -31,7 +31,7 @@ returns-in_err-lose_first-clause-closes g c =
     let law = g.A.App.law in
     let sealing = g.B.Body.sealing in
     let p = err_from_is_err_and c.from_residual.result c.from_residual.ensures.1 in
-    rw (p.1, p.2) (leads_then law sealing (ClosesIn Losing) (ClosesIn Losing) (StandsAt {T = Unit {0}} (λ _. ClosesIn Losing) (Err c.in_err-lose_first.field-0.0)) c.args.world.now c.losing.world c.lose_first.new.world c.losing.invariant.keeps.setup c.losing.invariant.keeps.holds c.losing.invariant.closes c.in_err-lose_first.ensures.closes)
+    rw (p.1, p.2) (leads_then law sealing (ClosesIn Losing) (ClosesIn Losing) (ClosingStandsAt {T = Unit {0}} (λ _. ClosesIn Losing) (Err c.in_err-lose_first.field-0.0)) c.args.world.now c.losing.world c.lose_first.new.world c.losing.invariant.keeps.setup c.losing.invariant.keeps.holds c.losing.invariant.closes c.in_err-lose_first.ensures.closes)
 
 pub returns-clause-empty : goal.returns-clause-empty
 returns-clause-empty g c =

@@ -3,7 +3,7 @@ use Rattle.std.proofs.lemmas.Result.{err_from_is_err_and}
 use Rattle.journal.specs.Pool.{past}
 use Rattle.run_spec.specs.Schedule.{Losing}
 use Rattle.world.specs.World.{scene_in}
-use Rattle.closing.specs.Closing.{ClosesIn, EndsBy, LeadsTo, StandsAt, UpTo, up_in}
+use Rattle.closing.specs.Closing.{ClosesIn, EndsBy, LeadsTo, ClosingStandsAt, UpTo, up_in}
 use Rattle.closing.specs.Views.{most_view_of_a_closing, most_view_of_a_script, views_of_an_attempt}
 use Rattle.closing.proofs.Ended.{has_ended}
 use Rattle.closing.proofs.Leading.{leads_then, runs_again}
@@ -39,7 +39,7 @@ returns-in_err-closed-clause-stops g c =
     let sealing = g.B.Body.sealing in
     let p = err_from_is_err_and c.from_residual.result c.from_residual.ensures.1 in
     rw (p.1, p.2) (λ kinds holds.
-    stops_by (scene_in sealing c.args.world.now kinds) c.in_err-closed.field-0.0 c.args.world.now c.close_once.new.world (leads_then law sealing (ClosesIn Losing) (ClosesIn Losing) (StandsAt EndsBy (Err c.in_err-closed.field-0.0)) c.args.world.now c.closing.world c.close_once.new.world c.closing.invariant.keeps.setup c.closing.invariant.keeps.holds c.closing.invariant.closes c.in_err-closed.ensures.closes kinds holds c.args.world.now (closes_first (scene_in sealing c.args.world.now kinds) c.args.world.now)))
+    stops_by (scene_in sealing c.args.world.now kinds) c.in_err-closed.field-0.0 c.args.world.now c.close_once.new.world (leads_then law sealing (ClosesIn Losing) (ClosesIn Losing) (ClosingStandsAt EndsBy (Err c.in_err-closed.field-0.0)) c.args.world.now c.closing.world c.close_once.new.world c.closing.invariant.keeps.setup c.closing.invariant.keeps.holds c.closing.invariant.closes c.in_err-closed.ensures.closes kinds holds c.args.world.now (closes_first (scene_in sealing c.args.world.now kinds) c.args.world.now)))
 
 pub returns-in-Some-clause-keeps : goal.returns-in-Some-clause-keeps
 returns-in-Some-clause-keeps g c =

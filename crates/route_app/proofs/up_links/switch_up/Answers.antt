@@ -1,6 +1,6 @@
 use Rattle.std.proofs.Common.{List, Option, subst, sym, ap, ◌∙◌}
 use Rattle.app_core.specs.declared.switch_port.SwitchPort.{SwitchPort}
-use Rattle.app_core.specs.Routes.{is_down}
+use Rattle.app_core.specs.Routes.{is_link_down}
 use Rattle.route_app.specs.Tables.{IsUpTable}
 use Rattle.route_app.specs.UpLinks.{relinked_ports}
 use Rattle.route_app.proofs.Relinking.{down_elsewhere, ports_up}
@@ -14,4 +14,4 @@ returns-clause-up c =
     let made = c.relink_ports.ensures ∙ ap (λ (d : List SwitchPort). relinked_ports c.args.wires.now d c.args.links.now.table.items c.args.switch 49) c.as_slice.ensures.value in
     subst (λ (t : List (Option SwitchPort)). IsUpTable setup new t) (sym made)
     (ports_up setup c.args.wires.now w new old c.args.links.now.table.items up c.args.switch
-    (λ x o. ap (λ (d : List SwitchPort). is_down d x) c.bring_up_switch.ensures ∙ down_elsewhere old c.args.switch x o))
+    (λ x o. ap (λ (d : List SwitchPort). is_link_down d x) c.bring_up_switch.ensures ∙ down_elsewhere old c.args.switch x o))

@@ -1,6 +1,6 @@
-use Rattle.run_chart.specs.Outcome.{usage_line}
+use Rattle.run_chart.specs.Outcome.{chart_usage_line}
 use Rattle.run_chart.proofs.outcome.chart.Goals as goal
 
 pub returns-in-Ok-clause-told : goal.returns-in-Ok-clause-told
-unfolding usage_line
+unfolding chart_usage_line
 returns-in-Ok-clause-told g c = λ open_ known. let told = c.end_call.ensures.told open_ known in (c.in-Ok.ending, told.0, c.in-Ok.ensures, told.1)

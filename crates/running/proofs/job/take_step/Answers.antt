@@ -3,7 +3,7 @@ use Rattle.std.proofs.lemmas.Result.{err_from_is_err_and}
 use Rattle.journal.specs.Part.{drawn}
 use Rattle.journal.specs.Pool.{past}
 use Rattle.journal.specs.Turns.{entry_of, posting, posted}
-use Rattle.shared_wire.specs.Calls.{beside}
+use Rattle.shared_wire.specs.Calls.{beside_seat}
 use Rattle.running.specs.Hearing.{Hears}
 use Rattle.running.specs.Jobs.{HasPlayedSome}
 use Rattle.running.proofs.Playing.{ok_at, on_err_at}
@@ -24,7 +24,7 @@ take-requires g c =
     let r = c.requires.plays in
     let p = c.args.job.now.place in
     let k = c.in_ok-heard.ensures.ok in
-    (r.0, r.1, p.actor, r.2, beside (posting g.B.Body.sealing.size p.actor c.args.job.now.owed (past k.met)) (past k.met) ++ p.own, c.rests.ensures.posts r.0 r.1 p.actor r.2 p.own c.args.job.now.owed (past k.met) r.3)
+    (r.0, r.1, p.actor, r.2, beside_seat (posting g.B.Body.sealing.size p.actor c.args.job.now.owed (past k.met)) (past k.met) ++ p.own, c.rests.ensures.posts r.0 r.1 p.actor r.2 p.own c.args.job.now.owed (past k.met) r.3)
 
 pub returns-in_ok-job-clause-on : goal.returns-in_ok-job-clause-on
 returns-in_ok-job-clause-on g c = λ setup kinds start steps number next on.
@@ -35,7 +35,7 @@ returns-in_ok-job-clause-on g c = λ setup kinds start steps number next on.
     let owed = c.args.job.now.owed in
     let k = c.in_ok-heard.ensures.ok in
     let before = posted g.B.Body.sealing.size p.actor owed (past k.met) in
-    let own = beside (posting g.B.Body.sealing.size p.actor owed (past k.met)) (past k.met) ++ p.own in
+    let own = beside_seat (posting g.B.Body.sealing.size p.actor owed (past k.met)) (past k.met) ++ p.own in
     let e = entry_of c.args.step.now before in
     let posted_it = c.rests.ensures.posts setup kinds p.actor start p.own owed (past k.met) on.plays_it in
     let heard = subst (λ i. Hears sealing g.P.Player.hears g.P.Player.locally e (drawn e before) i) c.in-Some.is k.hears_it in
@@ -53,7 +53,7 @@ returns-in_err-job-clause-stops g c = λ setup kinds start steps number on.
     let owed = c.args.job.now.owed in
     let k = c.in_ok-heard.ensures.ok in
     let before = posted g.B.Body.sealing.size p.actor owed (past k.met) in
-    let own = beside (posting g.B.Body.sealing.size p.actor owed (past k.met)) (past k.met) ++ p.own in
+    let own = beside_seat (posting g.B.Body.sealing.size p.actor owed (past k.met)) (past k.met) ++ p.own in
     let e = entry_of c.args.step.now before in
     let posted_it = c.rests.ensures.posts setup kinds p.actor start p.own owed (past k.met) on.plays_it in
     let heard = subst (λ i. Hears sealing g.P.Player.hears g.P.Player.locally e (drawn e before) i) c.in-Some.is k.hears_it in
@@ -70,7 +70,7 @@ returns-in_default-clause-on g c = λ setup kinds start steps number next on.
     let player = c.args.job.now.player in
     let k = c.in_ok-heard.ensures.ok in
     let before = posted g.B.Body.sealing.size p.actor owed (past k.met) in
-    let own = beside (posting g.B.Body.sealing.size p.actor owed (past k.met)) (past k.met) ++ p.own in
+    let own = beside_seat (posting g.B.Body.sealing.size p.actor owed (past k.met)) (past k.met) ++ p.own in
     let e = entry_of c.args.step.now before in
     let posted_it = c.rests.ensures.posts setup kinds p.actor start p.own owed (past k.met) on.plays_it in
     let nothing = subst (λ i. Hears sealing g.P.Player.hears g.P.Player.locally e (drawn e before) i) c.in_default.is k.hears_it in

@@ -5,7 +5,7 @@ use Rattle.std.proofs.lemmas.List.Elements.{All-append}
 use Rattle.shared_wire.specs.Places.{fresh, IsPartOf, PlaceState}
 use Rattle.shared_wire.specs.Rule.{AreNamed}
 use Rattle.running.specs.Playing.{ServedPlays, SwitchPlays}
-use Rattle.running.specs.Runs.{controller_of, first_stop, place_of, player_of, seated, served, stable_of}
+use Rattle.running.specs.Runs.{controller_of, first_stop, seat_place_of, player_of, seated, served, stable_of}
 use Rattle.running.specs.Tasks.{AllRan, MayBegin}
 use Rattle.running.proofs.Distinct.{how_many}
 use Rattle.running.proofs.Lists.{behind_none, contains_each, map_long, no_items, served_long}
@@ -134,10 +134,10 @@ close-requires-clause-board g c =
     c.seat-2.ensures.tasks (no_items c.args.ready.others.len c.args.ready.others.items c.args.ready.others.ok.0 none.2) c.seat.ensures.places c.into_iter-places.ensures.rest (omega (arith, none.0, long, group)) in
     let members_ran = subst (λ l. AllRan members_plays size steps l members) members_are c.run_both-members.ensures.members in
     let others_ran = subst (λ l. AllRan others_plays size steps l others) others_are c.run_both-members.ensures.others in
-    let places_are = c.take_apart-stop-2.ensures.places ∙ ap (λ l. l ++ map place_of others) (behind_none c.take_apart-stop.new.places.items c.args.ready.left_places.items (map place_of members) c.take_apart-stop.ensures.places
+    let places_are = c.take_apart-stop-2.ensures.places ∙ ap (λ l. l ++ map seat_place_of others) (behind_none c.take_apart-stop.new.places.items c.args.ready.left_places.items (map seat_place_of members) c.take_apart-stop.ensures.places
     (no_items c.args.ready.left_places.len c.args.ready.left_places.items c.args.ready.left_places.ok.0 left.0)) in
     subst (λ l. All (λ (p : PlaceState _). p.board ≡ id) l) (sym places_are)
-    (All-append (λ (p : PlaceState _). p.board ≡ id) (map place_of members) (map place_of others)
+    (All-append (λ (p : PlaceState _). p.board ≡ id) (map seat_place_of members) (map seat_place_of others)
     (boards_stay members_plays size steps id _ members members_ran c.requires.members) (boards_stay others_plays size steps id _ others others_ran c.requires.others))
 
 pub close-requires-clause-all : goal.close-requires-clause-all
@@ -167,7 +167,7 @@ close-requires-clause-all g c =
     ap (λ p. seated (drop (length players) p) c.args.switches.items) c.requires.places in
     let members_ran = subst (λ l. AllRan members_plays size steps l members) members_are c.run_both-members.ensures.members in
     let others_ran = subst (λ l. AllRan others_plays size steps l others) others_are c.run_both-members.ensures.others in
-    let places_are = c.take_apart-stop-2.ensures.places ∙ ap (λ l. l ++ map place_of others) (behind_none c.take_apart-stop.new.places.items c.args.ready.left_places.items (map place_of members) c.take_apart-stop.ensures.places
+    let places_are = c.take_apart-stop-2.ensures.places ∙ ap (λ l. l ++ map seat_place_of others) (behind_none c.take_apart-stop.new.places.items c.args.ready.left_places.items (map seat_place_of members) c.take_apart-stop.ensures.places
     (no_items c.args.ready.left_places.len c.args.ready.left_places.items c.args.ready.left_places.ok.0 left.0)) in
     let many = ap length c.requires.actors ∙ how_many (length c.args.controllers.items) (length c.args.switches.items) in
     contains_each (map (λ p. p.actor) c.take_apart-stop-2.new.places.items) actors
@@ -205,7 +205,7 @@ returns g c =
       within = c.close.ensures.within;
       named = subst (λ a. AreNamed a wire) c.requires.actors c.close.ensures.named;
       parts = subst (λ l. All (IsPartOf wire) l)
-          (c.take_apart-stop-2.ensures.places ∙ ap (λ l. l ++ map place_of others) (behind_none c.take_apart-stop.new.places.items c.args.ready.left_places.items (map place_of members) c.take_apart-stop.ensures.places
+          (c.take_apart-stop-2.ensures.places ∙ ap (λ l. l ++ map seat_place_of others) (behind_none c.take_apart-stop.new.places.items c.args.ready.left_places.items (map seat_place_of members) c.take_apart-stop.ensures.places
           (no_items c.args.ready.left_places.len c.args.ready.left_places.items c.args.ready.left_places.ok.0 left.0))) c.close.ensures.parts;
       controllers_are = behind_none c.part.new.controllers.items c.args.ready.left_controllers.items (map controller_of c.take_apart-stop.new.players.items) c.part.ensures.controllers
           (no_items c.args.ready.left_controllers.len c.args.ready.left_controllers.items c.args.ready.left_controllers.ok.0 left.2) ∙ ap (map controller_of) players_are;

@@ -1,6 +1,6 @@
 use Rattle.std.proofs.Common.{◌≡◌, List, ap, sym, subst, ◌∙◌}
 use Rattle.vr_log.specs.declared.state.Response.{Response}
-use Rattle.vr_log.specs.Valid.{IsValid}
+use Rattle.vr_log.specs.Valid.{IsValidState}
 use Rattle.vr_recovery.specs.Recovering.{with_response, ending}
 use Rattle.vr_recovery.proofs.Ended.{waits}
 use Rattle.vr_recovery.proofs.Valid.{emptied_valid}
@@ -9,7 +9,7 @@ use Rattle.vr_recovery.proofs.recovering.take_response.Goals as goal
 pub adopt-requires : goal.adopt-requires
 adopt-requires c =
     let s = c.args.state.now in
-    subst (λ (l : List Response). IsValid (record s { responses = l })) (sym (c.replace.ensures.after ∙ c.new.ensures)) (emptied_valid s c.requires)
+    subst (λ (l : List Response). IsValidState (record s { responses = l })) (sym (c.replace.ensures.after ∙ c.new.ensures)) (emptied_valid s c.requires)
 
 pub returns-in-None : goal.returns-in-None
 returns-in-None c =

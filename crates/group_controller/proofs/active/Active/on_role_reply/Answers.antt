@@ -1,14 +1,14 @@
 use Rattle.std.proofs.Common.{rules, subst, sym}
 use Rattle.std.specs.Prelude.{OnOk}
 use Rattle.std.proofs.lemmas.Result.{on_ok_weaker}
-use Rattle.group_controller.specs.Acting.{Acting, Begins, Works}
+use Rattle.group_controller.specs.Acting.{Acting, BeginsTurn, Works}
 use Rattle.group_controller.specs.Rules.{on_role_reply}
 use Rattle.group_controller.proofs.Acting.{master_does}
 use Rattle.group_controller.proofs.active.Active.on_role_reply.Goals as goal
 
 pub returns : goal.returns
 returns g c = λ kinds setup begins.
-    let inside = subst (λ (a : Acting _). Begins g.A.App.law a kinds setup) (sym c.self.view_is) begins in
+    let inside = subst (λ (a : Acting _). BeginsTurn g.A.App.law a kinds setup) (sym c.self.view_is) begins in
     let stands = c.on_role.ensures.stands kinds setup _ inside.acts.stands in
     subst (λ (a : Acting _). OnOk c.send.result (Works g.A.App.law kinds setup a (on_role_reply kinds setup a.work.state c.args.switch c.args.role c.args.generation) c.send.new.self)) c.self.view_is
     (on_ok_weaker c.send.result

@@ -1,7 +1,7 @@
 use Rattle.std.proofs.Common.{◌≡◌, ◌∙◌, true, false, Err, ap, subst, sym}
 use Rattle.std.specs.Prelude.{OnOk}
 use Rattle.vr_log.specs.Members.{leads}
-use Rattle.vr_log.specs.Valid.{IsValid}
+use Rattle.vr_log.specs.Valid.{IsValidState}
 use Rattle.vr_core.specs.Step.{ProposesTo}
 use Rattle.group_controller.specs.Acting.{Acting, Acts, Works}
 use Rattle.group_controller.specs.Settling.{after_proposal, goes_on}
@@ -18,7 +18,7 @@ returns-then-committed-before g c = λ kinds setup acts.
     let left : Proposed g.A.App.law kinds setup _ c.match-propose.self c.args.entry = elim c.match-propose.branch [
       | in-Ok+in_ok-take-in-Ok w ↦
           let p = subst (λ r. ProposesTo s c.args.entry r c.propose.new.self) w.in-Ok.is c.propose.ensures.step in
-          let valid = subst (λ r. OnOk r (IsValid c.propose.new.self)) w.in-Ok.is c.propose.ensures.valid in
+          let valid = subst (λ r. OnOk r (IsValidState c.propose.new.self)) w.in-Ok.is c.propose.ensures.valid in
           Joined p.1 (proposes g.A.App.law kinds setup _ c.match-propose.self c.args.entry c.propose.new.self w.in-Ok.out inside leading valid p.2 (w.self-is ∙ w.in_ok-take-in-Ok.ensures))
       | in-Err-LogFull w ↦
           let p = subst (λ r. ProposesTo s c.args.entry r c.propose.new.self) (w.in-Err-LogFull.is ∙ ap (λ f. Err f) w.in-Err-LogFull.field-0-is) c.propose.ensures.step in
@@ -36,7 +36,7 @@ returns g c = λ kinds setup acts.
     let left : Proposed g.A.App.law kinds setup _ c.match-propose.self c.args.entry = elim c.match-propose.branch [
       | in-Ok+in_ok-take-in-Ok w ↦
           let p = subst (λ r. ProposesTo s c.args.entry r c.propose.new.self) w.in-Ok.is c.propose.ensures.step in
-          let valid = subst (λ r. OnOk r (IsValid c.propose.new.self)) w.in-Ok.is c.propose.ensures.valid in
+          let valid = subst (λ r. OnOk r (IsValidState c.propose.new.self)) w.in-Ok.is c.propose.ensures.valid in
           Joined p.1 (proposes g.A.App.law kinds setup _ c.match-propose.self c.args.entry c.propose.new.self w.in-Ok.out inside leading valid p.2 (w.self-is ∙ w.in_ok-take-in-Ok.ensures))
       | in-Err-LogFull w ↦
           let p = subst (λ r. ProposesTo s c.args.entry r c.propose.new.self) (w.in-Err-LogFull.is ∙ ap (λ f. Err f) w.in-Err-LogFull.field-0-is) c.propose.ensures.step in

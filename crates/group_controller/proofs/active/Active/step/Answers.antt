@@ -5,7 +5,7 @@ use Rattle.std.proofs.lemmas.Result.{on_ok_weaker}
 use Rattle.vr_log.specs.declared.state.VrState.{VrState}
 use Rattle.vr_log.specs.Members.{leads}
 use Rattle.vr_core.specs.Step.{vr_step}
-use Rattle.group_controller.specs.Acting.{Acting, ActsUpTo, AreNew, Begins, Works}
+use Rattle.group_controller.specs.Acting.{Acting, ActsUpTo, AreNewlyHandled, BeginsTurn, Works}
 use Rattle.group_controller.specs.Rules.{after_step}
 use Rattle.group_controller.specs.State.{Work}
 use Rattle.group_controller.proofs.Acting.{folded_does, steps}
@@ -17,7 +17,7 @@ pub fold_behind-requires-clause-reach : goal.fold_behind-requires-clause-reach
 fold_behind-requires-clause-reach g c =
     let kinds = c.requires.begins.0 in
     let setup = c.requires.begins.1 in
-    let inside = subst (λ (a : Acting _). Begins g.A.App.law a kinds setup) (sym c.self.view_is) c.requires.begins.2 in
+    let inside = subst (λ (a : Acting _). BeginsTurn g.A.App.law a kinds setup) (sym c.self.view_is) c.requires.begins.2 in
     let s = steps g.A.App.law kinds setup _ c.take.new.self c.args.input.now c.step.new.self c.in_ok-out.out inside c.in_ok-out.ensures.valid c.in_ok-out.ensures.step c.in_ok-take.ensures in
     subst (λ (n : ℕ). n ≤ c.take.new.self.work.state.vr.commit) (sym c.committed-before.ensures) s.acts.reach
 
@@ -26,7 +26,7 @@ start_view-requires-clause-acts g c =
     let kinds = c.requires.begins.0 in
     let setup = c.requires.begins.1 in
     let begins = c.requires.begins.2 in
-    let inside = subst (λ (a : Acting _). Begins g.A.App.law a kinds setup) (sym c.self.view_is) begins in
+    let inside = subst (λ (a : Acting _). BeginsTurn g.A.App.law a kinds setup) (sym c.self.view_is) begins in
     let old = c.self.inside.replica in
     let step = vr_step old c.args.input.now in
     let s = steps g.A.App.law kinds setup _ c.take.new.self c.args.input.now c.step.new.self c.in_ok-out.out inside c.in_ok-out.ensures.valid c.in_ok-out.ensures.step c.in_ok-take.ensures in
@@ -41,7 +41,7 @@ start_view-requires-clause-leads g c =
     let kinds = c.requires.begins.0 in
     let setup = c.requires.begins.1 in
     let begins = c.requires.begins.2 in
-    let inside = subst (λ (a : Acting _). Begins g.A.App.law a kinds setup) (sym c.self.view_is) begins in
+    let inside = subst (λ (a : Acting _). BeginsTurn g.A.App.law a kinds setup) (sym c.self.view_is) begins in
     let old = c.self.inside.replica in
     let step = vr_step old c.args.input.now in
     let s = steps g.A.App.law kinds setup _ c.take.new.self c.args.input.now c.step.new.self c.in_ok-out.out inside c.in_ok-out.ensures.valid c.in_ok-out.ensures.step c.in_ok-take.ensures in
@@ -58,7 +58,7 @@ start_view-requires-clause-leads g c =
 
 pub returns-then-has_started : goal.returns-then-has_started
 returns-then-has_started g c = λ kinds setup begins.
-    let inside = subst (λ (a : Acting _). Begins g.A.App.law a kinds setup) (sym c.self.view_is) begins in
+    let inside = subst (λ (a : Acting _). BeginsTurn g.A.App.law a kinds setup) (sym c.self.view_is) begins in
     let old = c.self.inside.replica in
     let step = vr_step old c.args.input.now in
     let s = steps g.A.App.law kinds setup _ c.take.new.self c.args.input.now c.step.new.self c.in_ok-out.out inside c.in_ok-out.ensures.valid c.in_ok-out.ensures.step c.in_ok-take.ensures in
@@ -76,7 +76,7 @@ returns-then-has_started g c = λ kinds setup begins.
 
 pub returns-then-not-leads : goal.returns-then-not-leads
 returns-then-not-leads g c = λ kinds setup begins.
-    let inside = subst (λ (a : Acting _). Begins g.A.App.law a kinds setup) (sym c.self.view_is) begins in
+    let inside = subst (λ (a : Acting _). BeginsTurn g.A.App.law a kinds setup) (sym c.self.view_is) begins in
     let old = c.self.inside.replica in
     let step = vr_step old c.args.input.now in
     let s = steps g.A.App.law kinds setup _ c.take.new.self c.args.input.now c.step.new.self c.in_ok-out.out inside c.in_ok-out.ensures.valid c.in_ok-out.ensures.step c.in_ok-take.ensures in
@@ -97,7 +97,7 @@ settle-requires-clause-acts g c =
     let kinds = c.requires.begins.0 in
     let setup = c.requires.begins.1 in
     let begins = c.requires.begins.2 in
-    let inside = subst (λ (a : Acting _). Begins g.A.App.law a kinds setup) (sym c.self.view_is) begins in
+    let inside = subst (λ (a : Acting _). BeginsTurn g.A.App.law a kinds setup) (sym c.self.view_is) begins in
     let old = c.self.inside.replica in
     let step = vr_step old c.args.input.now in
     let s = steps g.A.App.law kinds setup _ c.take.new.self c.args.input.now c.step.new.self c.in_ok-out.out inside c.in_ok-out.ensures.valid c.in_ok-out.ensures.step c.in_ok-take.ensures in
@@ -112,7 +112,7 @@ settle-requires-clause-leads g c = sym (c.leads-leads.ensures ∙ ap (λ (a : Ac
 
 pub returns-then-before-committed : goal.returns-then-before-committed
 returns-then-before-committed g c = λ kinds setup begins.
-    let inside = subst (λ (a : Acting _). Begins g.A.App.law a kinds setup) (sym c.self.view_is) begins in
+    let inside = subst (λ (a : Acting _). BeginsTurn g.A.App.law a kinds setup) (sym c.self.view_is) begins in
     let old = c.self.inside.replica in
     let step = vr_step old c.args.input.now in
     let s = steps g.A.App.law kinds setup _ c.take.new.self c.args.input.now c.step.new.self c.in_ok-out.out inside c.in_ok-out.ensures.valid c.in_ok-out.ensures.step c.in_ok-take.ensures in
@@ -127,13 +127,13 @@ returns-then-before-committed g c = λ kinds setup begins.
     (c.view-now.ensures ∙ ap (λ (a : Acting _). a.work.state.vr.view) known ∙ ap (λ (v : VrState). v.view) is) in
     let more = is_settling old step.state c.committed-before.result c.committed.result _ (sym leading ∙ c.if-not-leads.false) c.committed-before.ensures
     (c.committed.ensures ∙ ap (λ (a : Acting _). a.work.state.vr.commit) known ∙ ap (λ (v : VrState). v.commit) is) (lt-ltb c.committed-before.result c.committed.result c.if-before-committed.true) in
-    let new = subst (λ (n : ℕ). AreNew kinds setup d.work.state n c.deref.result.now) c.committed-before.ensures (subst (λ l. AreNew kinds setup d.work.state c.committed-before.result l) (sym c.deref.ensures.value) folded.0) in
+    let new = subst (λ (n : ℕ). AreNewlyHandled kinds setup d.work.state n c.deref.result.now) c.committed-before.ensures (subst (λ l. AreNewlyHandled kinds setup d.work.state c.committed-before.result l) (sym c.deref.ensures.value) folded.0) in
     subst (λ (a : Acting _). OnOk c.settle.result (Works g.A.App.law kinds setup a (after_step kinds setup a.work.state (vr_step a.work.state.vr c.args.input.now)) c.settle.new.self)) c.self.view_is
     (on_ok_weaker c.settle.result (λ rest. step_settles g.A.App.law kinds setup _ d c.settle.new.self step first (started ∙ c.if-has_started.false) more rest) (c.settle.ensures kinds setup folded.1 old.commit new))
 
 pub returns : goal.returns
 returns g c = λ kinds setup begins.
-    let inside = subst (λ (a : Acting _). Begins g.A.App.law a kinds setup) (sym c.self.view_is) begins in
+    let inside = subst (λ (a : Acting _). BeginsTurn g.A.App.law a kinds setup) (sym c.self.view_is) begins in
     let old = c.self.inside.replica in
     let step = vr_step old c.args.input.now in
     let s = steps g.A.App.law kinds setup _ c.take.new.self c.args.input.now c.step.new.self c.in_ok-out.out inside c.in_ok-out.ensures.valid c.in_ok-out.ensures.step c.in_ok-take.ensures in

@@ -3,7 +3,7 @@ use Rattle.std.proofs.lemmas.List.{append-nil}
 use Rattle.std.specs.Prelude.{Option, None, option_to_list}
 use Rattle.vr_log.specs.declared.state.VrState.{VrState}
 use Rattle.vr_core.specs.Lasting.{CollectsItsOwn}
-use Rattle.group_controller.specs.Acting.{Acting, Begins, with_out}
+use Rattle.group_controller.specs.Acting.{Acting, BeginsTurn, with_out}
 use Rattle.group_controller.specs.Turns.{Born, Controlling, Controls, TakesOneAtMost}
 use Rattle.group_controller.proofs.Controlling.{born_is, last_alike, on_any_err, rest_alike}
 use Rattle.group_controller.proofs.controller.Controller.born.Goals as goal
@@ -12,7 +12,7 @@ pub returns-clause-born : goal.returns-clause-born
 returns-clause-born g c = λ kinds controls.
     let inside = subst (λ (x : Controlling _). Controls g.A.App.law x kinds) (sym c.self.view_is) controls in
     let alike = last_alike g.A.App.law kinds _ _ c.pop.result c.in-Some.app inside.shelf c.pop.ensures.items c.in-Some.is in
-    let begins = subst (λ (k : List ℕ). Begins g.A.App.law c.in_ok-active.active k c.self.inside.setup) alike.0 c.in_ok-active.ensures.begins in
+    let begins = subst (λ (k : List ℕ). BeginsTurn g.A.App.law c.in_ok-active.active k c.self.inside.setup) alike.0 c.in_ok-active.ensures.begins in
     subst (λ (x : Controlling _). Born g.A.App.law x kinds c.args.life c.take.new.self) c.self.view_is
     (born_is g.A.App.law kinds _ c.args.life c.in_ok-active.active c.take.new.self c.in_ok-replica.replica c.in_ok-replica.out begins c.in_ok-active.ensures.state c.in_ok-replica.ensures.step (c.in_ok-take.ensures ∙ ap (λ (a : Acting _). with_out a c.in_ok-replica.out) (c.deref_mut.ensures.value ∙ c.in_ok-active-2.ensures.ok)))
 

@@ -1,7 +1,7 @@
 use Rattle.std.proofs.Common.{◌∙◌, ap, subst, sym}
 use Rattle.vr_log.specs.declared.state.VrState.{VrState}
 use Rattle.vr_core.specs.Lasting.{CollectsItsOwn}
-use Rattle.group_controller.specs.Acting.{Acting, Begins}
+use Rattle.group_controller.specs.Acting.{Acting, BeginsTurn}
 use Rattle.group_controller.specs.State.{fresh}
 use Rattle.group_controller.proofs.Controlling.{starts_controlled}
 use Rattle.group_controller.proofs.controller.Controller.new.Goals as goal
@@ -21,7 +21,7 @@ new-requires-2-clause-none g c = ap (λ (v : VrState). v.commit) c.in_ok-replica
 pub returns-clause-controls : goal.returns-clause-controls
 returns-clause-controls g c =
     let boxed = c.in_ok-new.ensures.ok in
-    let begins = subst (λ (a : Acting _). Begins g.A.App.law a (g.A.App.law.kinds c.args.app) c.args.setup.now) (sym boxed) c.in_ok-active.ensures.begins in
+    let begins = subst (λ (a : Acting _). BeginsTurn g.A.App.law a (g.A.App.law.kinds c.args.app) c.args.setup.now) (sym boxed) c.in_ok-active.ensures.begins in
     let state = ap (λ (a : Acting _). a.work.state) boxed ∙ c.in_ok-active.ensures.state in
     starts_controlled g.A.App.law (g.A.App.law.kinds c.args.app) c.args.me c.args.setup.now c.in_ok-copy.field-0 c.in_ok-new.field-0.value c.in_ok-replica.replica c.args.shelf.items c.new-4.result.items
     c.in_ok-copy.ensures c.requires.setup c.requires.member begins state c.in_ok-replica.ensures.state c.requires.alike

@@ -10,7 +10,7 @@ use Rattle.app_core.specs.Law.{AppLaw}
 use Rattle.run_spec.specs.Bound.{IsQuick, IsSharplyBounded}
 use Rattle.run_spec.specs.Committed.{count_up}
 use Rattle.run_spec.specs.Legal.{IsLegalPast, IsPossible}
-use Rattle.run_spec.specs.Schedule.{Closes, majority}
+use Rattle.run_spec.specs.Closing.{Closes, majority}
 use Rattle.run_spec.specs.States.{IsFaithful, Scene, Sealing}
 use Rattle.closing_laws.specs.Ends.{HasRested}
 use Rattle.closing_laws.specs.Quick.{WhereSavesSucceed}

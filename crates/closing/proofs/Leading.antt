@@ -22,7 +22,7 @@ use Rattle.journal.proofs.Lists.{past-push}
 use Rattle.journal.specs.Stables.{Saving}
 use Rattle.app_core.specs.Law.{AppLaw}
 use Rattle.run_spec.specs.States.{Scene, Sealing}
-use Rattle.run_spec.specs.Schedule.{Losing, Phase, ClosesTo, IsMove, after_move, next_move}
+use Rattle.run_spec.specs.Closing.{Losing, Phase, ClosesTo, IsMove, after_move, next_move}
 use Rattle.world.specs.Debts.{Debt}
 use Rattle.world.specs.Refusals.{IsHalted, IsRefusalBehind, IsRefused, None_stands, One_stands, Posted, Turned_down, TurnStops, Unchanged, Unposted}
 use Rattle.world.specs.World.{AreMore, Applies, Holds, IsStuck, Keeps, PairsStand, Worlding, results_in, scene_in, taken, with_posts}

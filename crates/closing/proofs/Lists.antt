@@ -7,7 +7,7 @@ use Rattle.std.proofs.lemmas.Bool.{eqb-true, eq-eqb}
 use Rattle.vr_log.specs.Members.{is_up}
 use Rattle.group_controller.specs.State.{ControllerState}
 use Rattle.run_spec.specs.Committed.{members_up}
-use Rattle.run_spec.specs.Schedule.{bound_of, quorum_of}
+use Rattle.run_spec.specs.Closing.{bound_of, quorum_of}
 use Rattle.closing_laws.specs.Quorum.{has}
 use Rattle.closing.specs.Closing.{bound_with, member_in}
 

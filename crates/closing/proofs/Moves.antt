@@ -24,7 +24,7 @@ use Rattle.group_controller.specs.State.{ControllerState}
 use Rattle.group_controller.specs.Turns.{Controlling, state_of, Controls}
 use Rattle.run_spec.specs.States.{Scene}
 use Rattle.run_spec.specs.Committed.{controller_state, states_of}
-use Rattle.run_spec.specs.Schedule.{Phase, Losing, Suspecting, Draining, Met, IsMove, is_drawn, drained, next_lost, next_drained, after_move, after_turn, after_member, met_by}
+use Rattle.run_spec.specs.Closing.{Phase, Losing, Suspecting, Draining, Met, IsMove, is_drawn, drained, next_lost, next_drained, after_move, after_turn, after_member, met_by}
 use Rattle.world.specs.World.{AreMore, Worlding, results_in}
 use Rattle.world.proofs.Growing.{no_more}
 use Rattle.closing.specs.declared.closed.Came.{Came}

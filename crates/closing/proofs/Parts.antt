@@ -26,8 +26,9 @@ use Rattle.group_controller.specs.State.{ControllerState}
 use Rattle.group_controller.specs.Turns.{state_of}
 use Rattle.run_spec.specs.States.{Scene, Sealing}
 use Rattle.run_spec.specs.Committed.{members_up, states_of}
-use Rattle.run_spec.specs.Schedule.{Phase, Losing, Met, ClosingMove, ClosingAnswer, Ends, IsPosted, IsEnd, closing_view, majority, quorum_of, next_drained, next_lost, next_move, next_suspicion, next_view, ClosesTo}
-use Rattle.run_spec.specs.Schedule as schedule
+use Rattle.run_spec.specs.Script.{IsPosted}
+use Rattle.run_spec.specs.Closing.{Phase, Losing, Met, ClosingMove, ClosingAnswer, Ends, IsEnd, closing_view, majority, quorum_of, next_drained, next_lost, next_move, next_suspicion, next_view, ClosesTo}
+use Rattle.run_spec.specs.Closing as schedule
 use Rattle.world.specs.Debts.{Debt}
 use Rattle.world.specs.World.{AreMore, AreTold, Holds, IsDebtor, Keeps, PairsStand, PostStops, Worlding, posts_of, results_in, scene_in}
 use Rattle.world.proofs.Stables.{each_told_then, unsaved_told}

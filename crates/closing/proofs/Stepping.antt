@@ -19,7 +19,7 @@ use Rattle.app_core.specs.Law.{AppLaw}
 use Rattle.group_controller.specs.Turns.{Controlling, state_of, Controls}
 use Rattle.run_spec.specs.States.{Sealing}
 use Rattle.run_spec.specs.Committed.{states_of}
-use Rattle.run_spec.specs.Schedule.{Losing, Suspecting, Draining, IsMove, is_drawn}
+use Rattle.run_spec.specs.Closing.{Losing, Suspecting, Draining, IsMove, is_drawn}
 use Rattle.world.specs.Refusals.{TurnStops}
 use Rattle.world.specs.World.{Applies, Holds, Keeps, PairsStand, Worlding, scene_in}
 use Rattle.closing.specs.declared.closed.Came.{Came}

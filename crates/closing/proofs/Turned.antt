@@ -23,7 +23,8 @@ use Rattle.group_controller.specs.Turns.{Controlling, state_of, Controls}
 use Rattle.run_spec.specs.States.{Scene, controller_at}
 use Rattle.run_spec.specs.Legal.{results_of}
 use Rattle.run_spec.specs.Committed.{controller_state, members_up}
-use Rattle.run_spec.specs.Schedule.{Phase, Losing, IsMove, IsPosted, after_move, after_turn, next_move, ClosesTo}
+use Rattle.run_spec.specs.Script.{IsPosted}
+use Rattle.run_spec.specs.Closing.{Phase, Losing, IsMove, after_move, after_turn, next_move, ClosesTo}
 use Rattle.world.specs.Debts.{Debt}
 use Rattle.world.specs.World.{AreMore, AreTold, Applies, PairsStand, Worlding, posts_of, results_in, taken}
 use Rattle.world.proofs.Growing.{more_then, no_more}

@@ -19,7 +19,8 @@ use Rattle.run_laws.proofs.Views.{views_up_to}
 use Rattle.run_spec.specs.States.{IsFaithful, Scene, Sealing}
 use Rattle.run_spec.specs.Legal.{IsLegalPast}
 use Rattle.run_spec.specs.Committed.{controller_state, members_up, states_of}
-use Rattle.run_spec.specs.Schedule.{IsPosted, bound_of, owed_of}
+use Rattle.run_spec.specs.Script.{IsPosted, owed_of}
+use Rattle.run_spec.specs.Closing.{bound_of}
 use Rattle.run_spec.proofs.Pasts.{from_some}
 use Rattle.world.specs.World.{AreMore, Holds, HoldsAt, Worlding, debt_of, results_in, scene_in}
 use Rattle.world.proofs.Growing.{same_at, no_more}

@@ -20,8 +20,8 @@ use Rattle.group_controller.specs.Turns.{Controlling, state_of}
 use Rattle.run_spec.specs.States.{Scene, Sealing}
 use Rattle.run_spec.specs.Bound.{IsQuick, IsSharplyBounded}
 use Rattle.run_spec.specs.Committed.{count_up, members_up}
-use Rattle.run_spec.specs.Schedule.{Phase, Losing, Met, ClosingMove, ClosingAnswer, majority, next_move, next_suspicion, next_drained, ClosesTo, Closes}
-use Rattle.run_spec.specs.Schedule as schedule
+use Rattle.run_spec.specs.Closing.{Phase, Losing, Met, ClosingMove, ClosingAnswer, majority, next_move, next_suspicion, next_drained, ClosesTo, Closes}
+use Rattle.run_spec.specs.Closing as schedule
 use Rattle.run_laws.specs.Laws.{IsSuspectedUpTo}
 use Rattle.closing_laws.specs.Ends.{HasRested}
 use Rattle.closing_laws.specs.Starts.{SavesSucceed}

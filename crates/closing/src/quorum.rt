@@ -2,7 +2,7 @@
 ghost use Rattle.std.specs.Prelude.{◌≡◌, ◌≤◌, ◌+◌, ℕ, true, List, IfOk, OnOk, ◌++◌, length};
 ghost use Rattle.vr_log.specs.Members.{is_up};
 ghost use Rattle.group_controller.specs.Turns.{Controls, state_of};
-ghost use Rattle.run_spec.specs.Schedule.{bound_of, closing_view};
+ghost use Rattle.run_spec.specs.Closing.{bound_of, closing_view};
 ghost use Rattle.world.specs.World.{Holds};
 ghost use Rattle.closing.specs.Closing.{HaveViewsUpTo, bound_with, member_in, states_in, up_in, view_above};
 ghost use Rattle.closing.specs.Views.{most_view_of_a_closing, views_of_an_attempt};

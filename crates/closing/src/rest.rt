@@ -1,7 +1,7 @@
 //! A whole closing.
 ghost use Rattle.std.specs.Prelude.{◌≡◌, ◌≤◌, ◌+◌, ◌%◌, ◌/◌, [], true, false, ℕ, List, None, length, OnOk, IfOk, IfErr};
 ghost use Rattle.journal.specs.Pool.{past, pool};
-ghost use Rattle.run_spec.specs.Schedule.{Losing, closing_view, majority, quorum_of};
+ghost use Rattle.run_spec.specs.Closing.{Losing, closing_view, majority, quorum_of};
 ghost use Rattle.world.specs.World.{ForEachScene, Holds, Keeps, PairsStand};
 ghost use Rattle.run_laws.specs.Laws.{IsSuspectedUpTo};
 ghost use Rattle.closing_laws.specs.Quorum.{has};

@@ -4,7 +4,7 @@ ghost use Rattle.std.specs.List.{AllByRecursion};
 ghost use Rattle.journal.specs.Actors.{IsActor};
 ghost use Rattle.journal.specs.Pool.{past, pool};
 ghost use Rattle.group_controller.specs.Turns.{state_of};
-ghost use Rattle.run_spec.specs.Schedule.{Losing, is_drawn};
+ghost use Rattle.run_spec.specs.Closing.{Losing, is_drawn};
 ghost use Rattle.world.specs.World.{Holds, Keeps, PairsStand};
 ghost use Rattle.run_laws.specs.Laws.{IsSuspectedUpTo};
 ghost use Rattle.closing_laws.specs.Quorum.{has};

@@ -8,7 +8,7 @@ use Rattle.run_spec.specs.States.{Scene, IsFaithful}
 use Rattle.run_spec.specs.Legal.{IsLegalPast}
 use Rattle.run_spec.specs.Committed.{decided, kept}
 use Rattle.run_spec.specs.Laws.{IsClosed}
-use Rattle.run_spec.specs.Schedule.{Closes, Done}
+use Rattle.run_spec.specs.Closing.{Closes, Done}
 use Rattle.dispatcher.specs.Ledger.{most_commands}
 use Rattle.app_core.specs.Chain.{given_by}
 

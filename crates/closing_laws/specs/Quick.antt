@@ -7,7 +7,8 @@ use Rattle.journal.specs.Turns.{IsWithinLimits}
 use Rattle.dispatcher.specs.Ledger.{most_commands}
 use Rattle.run_spec.specs.Bound.{IsQuick, IsSharplyBounded}
 use Rattle.run_spec.specs.Legal.{IsPossible}
-use Rattle.run_spec.specs.Schedule.{ClosesTo, Losing, Phase, IsPosted}
+use Rattle.run_spec.specs.Script.{IsPosted}
+use Rattle.run_spec.specs.Closing.{ClosesTo, Losing, Phase}
 use Rattle.run_spec.specs.States.{Scene, IsFaithful}
 use Rattle.app_core.specs.Chain.{given_by}
 use Rattle.closing_laws.specs.Starts.{SavesSucceed}

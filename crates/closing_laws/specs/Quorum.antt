@@ -8,7 +8,7 @@ use Rattle.vr_log.specs.Members.{is_up}
 use Rattle.group_controller.specs.State.{ControllerState}
 use Rattle.run_spec.specs.States.{Scene}
 use Rattle.run_spec.specs.Committed.{states_of, members_up, count_up}
-use Rattle.run_spec.specs.Schedule.{closing_view, quorum_of, majority}
+use Rattle.run_spec.specs.Closing.{closing_view, quorum_of, majority}
 
 -- a number is among these
 abbrev pub has : List ℕ → ℕ → Bool

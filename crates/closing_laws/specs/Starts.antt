@@ -17,7 +17,8 @@ use Rattle.run_spec.specs.declared.messages.Unsealed.TheVariants as unsealed
 use Rattle.run_spec.specs.States.{Scene, IsFaithful, content, controller_at, controller_message, sealed_letters}
 use Rattle.run_spec.specs.Legal.{IsPossible, results_of}
 use Rattle.run_spec.specs.Committed.{controller_state, switch_state, states_of, count_up}
-use Rattle.run_spec.specs.Schedule.{Phase, Losing, Suspecting, Draining, ClosingAnswer, ClosesTo, IsPosted, IsEnd, after_member, closing_view, count_turns, majority, next_move}
+use Rattle.run_spec.specs.Script.{IsPosted}
+use Rattle.run_spec.specs.Closing.{Phase, Losing, Suspecting, Draining, ClosingAnswer, ClosesTo, IsEnd, after_member, closing_view, count_turns, majority, next_move}
 use Rattle.closing_laws.specs.Quorum.{has, members_that_close}
 use Rattle.closing_laws.specs.Views.{HasBest, IsCovered, in_view, lacks, log_of, started_with, tellers, turns_to_start}
 

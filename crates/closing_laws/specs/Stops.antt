@@ -13,7 +13,7 @@ use Rattle.vr_log.specs.Log.{entry_size, full_at, is_past_limits, log_bytes, log
 use Rattle.vr_log.specs.Members.{leads}
 use Rattle.run_spec.specs.Legal.{IsPossible}
 use Rattle.run_spec.specs.Committed.{controller_state, count_up, switch_state}
-use Rattle.run_spec.specs.Schedule.{Closes, NoQuorum, Overfull, majority}
+use Rattle.run_spec.specs.Closing.{Closes, NoQuorum, Overfull, majority}
 use Rattle.closing_laws.specs.Starts.{SavesSucceed}
 
 -- where a majority takes part as it begins, and each save in it succeeds, a closing finds a quorum

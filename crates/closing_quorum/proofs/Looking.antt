@@ -2,7 +2,7 @@
 use Rattle.std.proofs.Common.{◌≡◌, ℕ, ◌+◌, Bool, true, false, not, List, suc, refl, ◌∙◌, ap, arith}
 use Rattle.std.specs.Prelude.{nat_eq, ◌%◌, ◌||◌, filter, take}
 use Rattle.std.specs.List.{list_any}
-use Rattle.run_spec.specs.Schedule.{first_view, quorum_of}
+use Rattle.run_spec.specs.Closing.{first_view, quorum_of}
 
 -- a number is among these
 abbrev pub has : List ℕ → ℕ → Bool

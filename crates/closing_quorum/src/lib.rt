@@ -3,7 +3,7 @@
 
 ghost use Rattle.std.specs.Prelude.{◌≡◌, ◌≤◌, ◌<◌, ◌+◌, ◌/◌, nat_eq, IfOk};
 ghost use Rattle.std.specs.List.{list_any};
-ghost use Rattle.run_spec.specs.Schedule.{first_view, quorum_of};
+ghost use Rattle.run_spec.specs.Closing.{first_view, quorum_of};
 ghost use Rattle.closing_quorum.specs.Looking.{most_view_to_look_from};
 
 use std::alloc::{AllocError, Global};

@@ -17,7 +17,8 @@ use Rattle.journal.specs.Pool.{past, pick}
 use Rattle.journal.specs.Turns.{drawn_entry, entry_of, lost_entry, turn_actor}
 use Rattle.run_laws.specs.Laws.{EntrySuspectsUpTo, IsSuspectedUpTo}
 use Rattle.run_spec.specs.Legal.{IsLegalPast, results_of}
-use Rattle.run_spec.specs.Schedule.{majority, owed_of}
+use Rattle.run_spec.specs.Script.{owed_of}
+use Rattle.run_spec.specs.Closing.{majority}
 use Rattle.run_spec.specs.States.{Scene, Sealing, ControllerAt, controller_at, controller_message, sealed_letters}
 use Rattle.run_spec.proofs.Saves.{same_results}
 use Rattle.app_core.specs.Law.{AppLaw}

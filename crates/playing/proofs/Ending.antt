@@ -8,7 +8,9 @@ use Rattle.journal.specs.declared.wire.Stop.TheVariants.{OutOfMemory, JournalFul
 use Rattle.journal.specs.Pool.{past}
 use Rattle.journal.specs.Stables.{Saving}
 use Rattle.app_core.specs.Law.{AppLaw}
-use Rattle.run_spec.specs.Schedule.{Closes, ClosesTo, FollowsInOrder, In_the_closing, IsJournalFull, Losing, Phase}
+use Rattle.run_spec.specs.Script.{FollowsInOrder}
+use Rattle.run_spec.specs.Closing.{Closes, ClosesTo, Losing, Phase}
+use Rattle.run_spec.specs.Limit.{In_the_closing, IsJournalFull}
 use Rattle.run_spec.specs.States.{Scene, Sealing}
 use Rattle.world.specs.World.{AreMore, Holds, Keeps, Worlding, results_in, scene_in}
 use Rattle.world.proofs.Growing.{more_then, no_more}

@@ -20,7 +20,8 @@ use Rattle.journal.proofs.Lists.{past-push}
 use Rattle.journal.specs.Stables.{Saving}
 use Rattle.app_core.specs.Law.{AppLaw}
 use Rattle.run_laws.specs.Laws.{EntrySuspectsUpTo, IsSuspectedUpTo}
-use Rattle.run_spec.specs.Schedule.{FollowsInOrder, IsBegun, In_the_script, IsPosted, IsStepOf, TakesInOrder, inputs}
+use Rattle.run_spec.specs.Script.{FollowsInOrder, IsPosted, IsStepOf, TakesInOrder, inputs}
+use Rattle.run_spec.specs.Limit.{IsBegun, In_the_script}
 use Rattle.run_spec.specs.States.{Scene, Sealing}
 use Rattle.world.specs.Refusals.{IsHalted, IsRefusalBehind, None_stands, One_stands, Posted, Turned_down, TurnStops, Unchanged, Unposted}
 use Rattle.world.specs.World.{AreMore, Applies, Holds, IsStuck, Keeps, PairsStand, Worlding, results_in, scene_in, taken, with_posts}

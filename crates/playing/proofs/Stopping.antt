@@ -12,7 +12,8 @@ use Rattle.journal.specs.Actors.{actor_of, same_actor, IsActor}
 use Rattle.journal.specs.Pool.{past}
 use Rattle.journal.specs.Turns.{IsFull}
 use Rattle.app_core.specs.Law.{AppLaw}
-use Rattle.run_spec.specs.Schedule.{IsJournalFull, owed_of}
+use Rattle.run_spec.specs.Script.{owed_of}
+use Rattle.run_spec.specs.Limit.{IsJournalFull}
 use Rattle.run_spec.specs.States.{Scene}
 use Rattle.world.specs.Debts.{Debt}
 use Rattle.world.specs.World.{IsStuck, Worlding, debt_of, results_in}

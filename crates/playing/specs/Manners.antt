@@ -3,7 +3,8 @@ use Rattle.std.specs.Prelude.{ℕ, List}
 use Rattle.journal.specs.declared.journal.JournalEntry.{JournalEntry}
 use Rattle.journal.specs.declared.journal.SaveResult.{SaveResult}
 use Rattle.journal.specs.declared.journal.Turn.{Turn}
-use Rattle.run_spec.specs.Schedule.{FollowsInOrder, IsBegun}
+use Rattle.run_spec.specs.Script.{FollowsInOrder}
+use Rattle.run_spec.specs.Limit.{IsBegun}
 use Rattle.run_spec.specs.States.{Scene}
 use Rattle.running.specs.Apart.{FollowsApart, IsBegunApart}
 

@@ -8,7 +8,8 @@ use Rattle.journal.specs.declared.wire.Stop.{Stop}
 use Rattle.journal.specs.declared.wire.Stop.TheVariants.{OutOfMemory, JournalFull}
 use Rattle.journal.specs.Pool.{past}
 use Rattle.run_laws.specs.Laws.{SuspectsUpTo}
-use Rattle.run_spec.specs.Schedule.{Losing, Phase, Closes, ClosesTo, FollowsInOrder, TakesInOrder}
+use Rattle.run_spec.specs.Script.{FollowsInOrder, TakesInOrder}
+use Rattle.run_spec.specs.Closing.{Losing, Phase, Closes, ClosesTo}
 use Rattle.run_spec.specs.States.{Scene, Sealing}
 use Rattle.journal.specs.Stables.{Saving}
 use Rattle.app_core.specs.Law.{AppLaw}

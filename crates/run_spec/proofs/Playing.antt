@@ -25,7 +25,8 @@ use Rattle.group_controller.specs.Rules.{controller_work}
 use Rattle.run_spec.specs.States.{Scene, ControllerAt, content, controller_hears, controller_message, sealed_letters, controller_saved, controller_took, controller_step, controller_at}
 use Rattle.run_spec.specs.Legal.{IsSoundSwitch, IsSoundController, IsPossible, results_of}
 use Rattle.run_spec.specs.Committed.{controller_state, states_of}
-use Rattle.run_spec.specs.Schedule.{owed_of, inputs, IsPosted, IsInputOf, TakesInOrder, FollowsInOrder, Phase, Losing, Suspecting, Draining, Met, ClosingAnswer, ClosingMove, Takes, Ends, next_lost, next_move, after_turn, after_move, IsMove, IsEnd, ClosesTo, Closes}
+use Rattle.run_spec.specs.Script.{owed_of, inputs, IsPosted, IsInputOf, TakesInOrder, FollowsInOrder}
+use Rattle.run_spec.specs.Closing.{Phase, Losing, Suspecting, Draining, Met, ClosingAnswer, ClosingMove, Takes, Ends, next_lost, next_move, after_turn, after_move, IsMove, IsEnd, ClosesTo, Closes}
 use Rattle.run_spec.specs.Play.{with_entry, played, Rest, closed_from, plays}
 use Rattle.run_spec.proofs.Pasts.{possible_before, from_some, self_switch, self_controller}
 use Rattle.run_spec.proofs.Pools.{one_actor}

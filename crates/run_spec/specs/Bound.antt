@@ -11,7 +11,7 @@ use Rattle.group_controller.specs.State.{ControllerState}
 use Rattle.of_switch.specs.State.{SwitchState, life_of}
 use Rattle.run_spec.specs.States.{Scene}
 use Rattle.run_spec.specs.Committed.{decided, states_of, switch_state, members_up}
-use Rattle.run_spec.specs.Schedule.{closing_view, quorum_of, count_turns}
+use Rattle.run_spec.specs.Closing.{closing_view, quorum_of, count_turns}
 
 -- the events that a switch holds, and the ports that it remembers
 abbrev pub waiting_at : SwitchState → ℕ

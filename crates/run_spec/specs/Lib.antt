@@ -4,7 +4,9 @@ pub mod Inputs
 pub mod Legal
 pub mod Committed
 pub mod Laws
-pub mod Schedule
+pub mod Script
+pub mod Closing
+pub mod Limit
 pub mod Play
 pub mod Bound
 pub mod Bodies

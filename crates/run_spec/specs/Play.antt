@@ -6,7 +6,8 @@ use Rattle.journal.specs.declared.journal.Turn.{Turn}
 use Rattle.journal.specs.Actors.{actor_of}
 use Rattle.journal.specs.Turns.{entry_of, posted}
 use Rattle.run_spec.specs.States.{Scene}
-use Rattle.run_spec.specs.Schedule.{owed_of, Phase, Losing, ClosingAnswer, Takes, Ends, next_move, after_move}
+use Rattle.run_spec.specs.Script.{owed_of}
+use Rattle.run_spec.specs.Closing.{Phase, Losing, ClosingAnswer, Takes, Ends, next_move, after_move}
 
 -- an entry, and the post of what its actor then owes
 abbrev pub with_entry : {B : Type 0} → Scene B → List (List SaveResult) → JournalEntry B → List (JournalEntry B) → List (JournalEntry B)

@@ -1,5 +1,8 @@
-//! What a run of a group is, as definitions alone: messages and what bodies say, what an actor holds and owes after its
-//! part of a journal, which journals may come about, what is committed, and the schedule that brings a run to rest.
+//! What a run of a group is, as definitions alone. They are read in this order: `Messages`, and what bodies say; `States`, what an
+//! actor holds and owes after its part of a journal, with `Inputs`; `Legal`, which journals may come about; `Committed`, what is
+//! committed and decided; and `Laws`, what is promised of each run. Apart from these stand `Script`, in which order steps are
+//! taken; `Closing`, the schedule that brings a run to rest; `Limit`, the journals that its limit cuts short; `Play`, the one
+//! journal that a script gives; and `Bound`, how many turns a closing takes. `Bodies` has the two kinds of bodies.
 #![tactic(auto)]
 
 ghost use Rattle.run_spec.specs.States.{IsFaithful};

@@ -20,7 +20,7 @@ use Rattle.of_switch.specs.State.{SwitchState}
 use Rattle.group_controller.specs.Turns.{Controlling}
 use Rattle.run_spec.specs.States.{Scene, Sealing, controller_at, controller_message, switch_at, switch_message}
 use Rattle.run_spec.specs.Legal.{IsLegalPast, results_of}
-use Rattle.run_spec.specs.Schedule.{owed_of}
+use Rattle.run_spec.specs.Script.{owed_of}
 use Rattle.world.specs.World.{IsMember, IsOwed, IsPlayed, resting_world, results_in}
 use Rattle.world.specs.Standing.{AllStand, ControllerStands, SwitchStands}
 use Rattle.world.proofs.Joining as joining

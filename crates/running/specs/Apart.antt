@@ -9,7 +9,9 @@ use Rattle.journal.specs.Actors.{same_actor, actor_of, is_input, IsActor}
 use Rattle.journal.specs.Part.{part}
 use Rattle.journal.specs.Turns.{entry_of, turn_actor, IsFull}
 use Rattle.run_spec.specs.States.{Scene}
-use Rattle.run_spec.specs.Schedule.{ClosesTo, IsJournalFull, Losing, Phase, owed_of}
+use Rattle.run_spec.specs.Script.{owed_of}
+use Rattle.run_spec.specs.Closing.{ClosesTo, Losing, Phase}
+use Rattle.run_spec.specs.Limit.{IsJournalFull}
 
 -- the steps of one actor
 abbrev pub steps_of : Actor → List Turn → List Turn

@@ -10,8 +10,8 @@ use Rattle.journal.specs.declared.journal.SaveResult.TheVariants.{Saved, KeptOld
 use Rattle.journal.specs.Stables.{Saving}
 use Rattle.vr_log.specs.declared.entry.LogFull.{LogFull}
 use Rattle.run_spec.specs.Legal.{results_of}
-use Rattle.run_spec.specs.Schedule.{ClosingAnswer}
-use Rattle.run_spec.specs.Schedule as schedule
+use Rattle.run_spec.specs.Closing.{ClosingAnswer}
+use Rattle.run_spec.specs.Closing as schedule
 use Rattle.run_spec.specs.States.{Scene}
 use Rattle.world.specs.World.{is_failed}
 use Rattle.scenario.specs.declared.scenario.Fault.{Fault}

@@ -20,8 +20,8 @@ use Rattle.run_laws.proofs.Laws.{agreement_law, lasting_law, once_law, fence_law
 use Rattle.run_spec.specs.Committed.{count_up, kept, kept_of, members_up, switch_state}
 use Rattle.run_spec.specs.Legal.{IsPossible, results_of}
 use Rattle.playing.specs.Manners.{Manner, In_order, Apart, Begins, FollowsManner}
-use Rattle.run_spec.specs.Schedule.{ClosingAnswer, Closes, count_turns, majority}
-use Rattle.run_spec.specs.Schedule as schedule
+use Rattle.run_spec.specs.Closing.{ClosingAnswer, Closes, count_turns, majority}
+use Rattle.run_spec.specs.Closing as schedule
 use Rattle.run_spec.specs.States.{Scene, controller_at}
 use Rattle.journal.specs.declared.journal.Actor.TheVariants as actor
 use Rattle.journal.specs.Part.{part}

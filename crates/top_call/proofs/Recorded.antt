@@ -29,7 +29,8 @@ use Rattle.vr_log.specs.Sizes.{IsValidEntry}
 use Rattle.of_switch.specs.State.{SwitchState, rows_of}
 use Rattle.group_controller.specs.State.{ControllerState}
 use Rattle.run_spec.specs.Committed.{decided, members_up, states_of, switch_state}
-use Rattle.run_spec.specs.Schedule.{ClosingAnswer, Closes, ClosesTo, Draining, Ends, IsMove, Losing, Met, ClosingMove, Phase, Suspecting, NoQuorum, Takes, TakesInOrder, after_move, closing_view, drained, is_drawn, majority, next_drained, next_lost, next_move, next_suspicion, next_view, quorum_of}
+use Rattle.run_spec.specs.Script.{TakesInOrder}
+use Rattle.run_spec.specs.Closing.{ClosingAnswer, Closes, ClosesTo, Draining, Ends, IsMove, Losing, Met, ClosingMove, Phase, Suspecting, NoQuorum, Takes, after_move, closing_view, drained, is_drawn, majority, next_drained, next_lost, next_move, next_suspicion, next_view, quorum_of}
 use Rattle.run_spec.specs.States.{Scene}
 use Rattle.journal.specs.declared.journal.Actor.{Actor}
 use Rattle.journal.specs.Actors.{actor_of, IsActor}

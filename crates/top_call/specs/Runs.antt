@@ -17,8 +17,8 @@ use Rattle.run_spec.specs.Laws.{IsExactlyOnce, IsFenced, IsLasting}
 use Rattle.run_spec.specs.Legal.{IsLegal, results_of}
 use Rattle.run_spec.specs.Play.{plays}
 use Rattle.playing.specs.Manners.{Manner, In_order, Apart, Begins, FollowsManner}
-use Rattle.run_spec.specs.Schedule.{ClosingAnswer, Closes, majority}
-use Rattle.run_spec.specs.Schedule as schedule
+use Rattle.run_spec.specs.Closing.{ClosingAnswer, Closes, majority}
+use Rattle.run_spec.specs.Closing as schedule
 use Rattle.run_spec.specs.States.{Scene}
 use Rattle.closing_laws.specs.Ends.{HasRested}
 use Rattle.closing_laws.specs.Held.{AreKept}

@@ -27,7 +27,7 @@ use Rattle.group_controller.specs.Turns.{Controlling, Controls}
 use Rattle.run_spec.specs.declared.messages.Message.{Message}
 use Rattle.run_spec.specs.Inputs.{IsHeard, IsHeardAt}
 use Rattle.run_spec.specs.Legal.{EntryFits, FitsDebt, results_of}
-use Rattle.run_spec.specs.Schedule.{IsInputOf}
+use Rattle.run_spec.specs.Script.{IsInputOf}
 use Rattle.run_spec.specs.States.{IsFaithful, Scene, Sealing, controller_at, switch_at, controller_message, switch_message}
 use Rattle.run_spec.proofs.Pasts.{from_some}
 use Rattle.world.specs.Debts.{Debt}

@@ -13,7 +13,7 @@ use Rattle.journal.specs.Refusals.{MayBeRefused}
 use Rattle.journal.specs.Turns.{turn_actor}
 use Rattle.app_core.specs.Law.{AppLaw}
 use Rattle.group_controller.specs.Turns.{Controlling, state_of}
-use Rattle.run_spec.specs.Schedule.{IsInputOf}
+use Rattle.run_spec.specs.Script.{IsInputOf}
 use Rattle.run_spec.specs.States.{Sealing, crashed}
 use Rattle.world.specs.Debts.{Debt}
 use Rattle.world.specs.World.{IsStuck, Keeps, Worlding, taken, with_posts}

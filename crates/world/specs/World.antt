@@ -27,7 +27,7 @@ use Rattle.run_spec.specs.declared.messages.Message.{Message}
 use Rattle.run_spec.specs.States.{Scene, Sealing, switch_at, controller_at, sealed_letters, switch_message, controller_message}
 use Rattle.run_spec.specs.Legal.{AreTyped, IsLegalPast, results_of}
 use Rattle.run_spec.specs.Committed.{controller_state, switch_state}
-use Rattle.run_spec.specs.Schedule.{IsInputOf}
+use Rattle.run_spec.specs.Script.{IsInputOf}
 use Rattle.world.specs.Debts.{Debt}
 
 -- a world, as contracts see it: its setup, its journal, its controllers and its switches by number, and what is owed

@@ -10,7 +10,7 @@ use Rattle.group_controller.specs.Turns.{Controlling, state_of}
 use Rattle.of_switch.specs.State.{SwitchState, rows_of, life_of}
 use Rattle.run_spec.specs.States.{Scene}
 use Rattle.run_spec.specs.Committed.{kept, kept_of, switch_state}
-use Rattle.run_spec.specs.Schedule.{count_turns}
+use Rattle.run_spec.specs.Closing.{count_turns}
 use Rattle.world.specs.World.{Worlding}
 use Rattle.report.specs.declared.record.Record.{Record}
 use Rattle.report.specs.declared.record.Shown.{Shown}

@@ -3,7 +3,7 @@
 
 ghost use Rattle.std.specs.Prelude.{◌≡◌, ◌<◌, ◌≤◌, length, IfOk};
 ghost use Rattle.report.specs.Sums.{sums_in};
-ghost use Rattle.run_spec.specs.Schedule.{count_turns};
+ghost use Rattle.run_spec.specs.Closing.{count_turns};
 ghost use Rattle.world_record.specs.Shows.{bare_record, told_by};
 
 mod committed;

@@ -18,7 +18,7 @@ use Rattle.group_controller.specs.Settling.{role_letter}
 use Rattle.run_spec.specs.States.{Scene, IsFaithful}
 use Rattle.run_spec.specs.Legal.{IsPossible}
 use Rattle.run_spec.specs.Committed.{controller_state}
-use Rattle.run_spec.specs.Schedule.{ClosesTo, Losing, Phase, after_member, met_by}
+use Rattle.run_spec.specs.Closing.{ClosesTo, Losing, Phase, after_member, met_by}
 use Rattle.closing_laws.specs.Following.{Start}
 use Rattle.closing_laws.specs.Measure.{left_to_do}
 use Rattle.closing_laws.specs.Quorum.{has}

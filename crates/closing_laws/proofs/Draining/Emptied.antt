@@ -29,7 +29,8 @@ use Rattle.run_spec.specs.declared.messages.Unsealed.TheVariants as unsealed
 use Rattle.run_spec.specs.States.{Scene, IsFaithful, controller_message, switch_hears, switch_message}
 use Rattle.run_spec.specs.Legal.{IsPossible}
 use Rattle.run_spec.specs.Committed.{controller_state, switch_state, decided}
-use Rattle.run_spec.specs.Schedule.{ClosesTo, Met, Done, IsEnd, IsPosted, Phase, next_move, count_turns}
+use Rattle.run_spec.specs.Script.{IsPosted}
+use Rattle.run_spec.specs.Closing.{ClosesTo, Met, Done, IsEnd, Phase, next_move, count_turns}
 use Rattle.closing_laws.specs.Ends.{HasRested}
 use Rattle.closing_laws.specs.Following.{Start}
 use Rattle.closing_laws.specs.Measure.{commands_from, left_to_do}

@@ -18,7 +18,8 @@ use Rattle.list_facts.specs.Lists.{IsIn}
 use Rattle.vr_log.specs.declared.entry.LogFull.{LogFull}
 use Rattle.run_spec.specs.States.{Scene, IsFaithful, ControllerAt, SwitchAt, controller_message, sealed_letters, switch_message}
 use Rattle.run_spec.specs.Legal.{IsPossible}
-use Rattle.run_spec.specs.Schedule.{Done, IsEnd, Phase, Draining, Met, ClosingMove, Ends, ClosesTo, IsInputOf, IsMove, IsPosted, after_move, drained, is_drawn, met_by, next_drained, next_move, owed_of, is_turn, count_turns}
+use Rattle.run_spec.specs.Script.{IsInputOf, IsPosted, owed_of}
+use Rattle.run_spec.specs.Closing.{Done, IsEnd, Phase, Draining, Met, ClosingMove, Ends, ClosesTo, IsMove, after_move, drained, is_drawn, met_by, next_drained, next_move, is_turn, count_turns}
 use Rattle.run_spec.proofs.Pasts.{possible_before, self_controller}
 use Rattle.run_spec.proofs.Pools.{one_actor}
 use Rattle.run_agreement.proofs.Pasts.{fits}

@@ -12,7 +12,7 @@ use Rattle.journal.proofs.Pools.{Rising, Rising-pool}
 use Rattle.run_spec.specs.declared.messages.Unsealed.{Unsealed}
 use Rattle.run_spec.specs.States.{Scene, content, controller_hears, switch_hears}
 use Rattle.run_spec.specs.Legal.{IsPossible}
-use Rattle.run_spec.specs.Schedule.{Phase, Draining, Takes, drained, is_drawn, next_drained, next_move}
+use Rattle.run_spec.specs.Closing.{Phase, Draining, Takes, drained, is_drawn, next_drained, next_move}
 use Rattle.closing_laws.specs.Ways.{Sent}
 use Rattle.closing_laws.specs.Following.{Start}
 use Rattle.closing_laws.specs.Starts.{IsDraining, Last_suspects, Drains}

@@ -29,7 +29,7 @@ use Rattle.run_spec.specs.declared.messages.Message.TheVariants as message
 use Rattle.run_spec.specs.declared.messages.Unsealed.TheVariants as unsealed
 use Rattle.run_spec.specs.States.{Scene, ControllerAt, content, controller_hears, controller_message}
 use Rattle.run_spec.specs.Legal.{IsPossible}
-use Rattle.run_spec.specs.Schedule.{Phase, Losing, after_member, is_drawn, met_by}
+use Rattle.run_spec.specs.Closing.{Phase, Losing, after_member, is_drawn, met_by}
 use Rattle.closing_laws.specs.Measure.{left_to_do}
 use Rattle.closing_laws.specs.Quorum.{has}
 use Rattle.closing_laws.specs.Ways.{Sent, sent_by}

@@ -15,7 +15,7 @@ use Rattle.group_controller.specs.State.{ControllerState, Work}
 use Rattle.run_spec.specs.States.{Scene, IsFaithful, content, controller_message}
 use Rattle.run_spec.specs.Legal.{IsPossible}
 use Rattle.run_spec.specs.Committed.{controller_state, switch_state}
-use Rattle.run_spec.specs.Schedule.{Phase}
+use Rattle.run_spec.specs.Closing.{Phase}
 use Rattle.closing_laws.specs.Following.{LeadsFrom, Start}
 use Rattle.closing_laws.specs.Measure.{left_to_do}
 use Rattle.closing_laws.specs.Quorum.{has}

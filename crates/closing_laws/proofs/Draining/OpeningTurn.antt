@@ -27,7 +27,7 @@ use Rattle.group_controller.specs.Rules.{starting_view, switches}
 use Rattle.group_controller.specs.Settling.{after_finishing, after_proposal, finishing, is_alone, is_settled, processing, role_letter, settling, with_answers, with_commands}
 use Rattle.run_spec.specs.declared.messages.Message.{Message}
 use Rattle.run_spec.specs.States.{controller_message}
-use Rattle.run_spec.specs.Schedule.{is_drawn}
+use Rattle.run_spec.specs.Closing.{is_drawn}
 use Rattle.closing_laws.specs.Quorum.{has}
 use Rattle.closing_laws.specs.Following.{Start, KeepsUp}
 use Rattle.closing_laws.specs.Serving.{AreFew, IsOlder, IsAttended, IsTrueOf, IsTruePrimary}

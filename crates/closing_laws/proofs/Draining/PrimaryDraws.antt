@@ -19,7 +19,7 @@ use Rattle.group_controller.specs.State.{ControllerState, Work}
 use Rattle.group_controller.specs.Rules.{controller_work}
 use Rattle.run_spec.specs.States.{Scene, ControllerAt, controller_message}
 use Rattle.run_spec.specs.Legal.{IsPossible}
-use Rattle.run_spec.specs.Schedule.{Phase, Losing, Draining, after_member, met_by}
+use Rattle.run_spec.specs.Closing.{Phase, Losing, Draining, after_member, met_by}
 use Rattle.run_laws.proofs.Members.{up_leads}
 use Rattle.closing_laws.specs.Measure.{left_to_do}
 use Rattle.closing_laws.specs.Quorum.{has}

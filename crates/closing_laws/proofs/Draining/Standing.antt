@@ -30,7 +30,7 @@ use Rattle.group_controller.specs.Rules.{controller_work}
 use Rattle.run_spec.specs.declared.messages.Message.{Message}
 use Rattle.run_spec.specs.States.{Scene, IsFaithful, ControllerAt, controller_message, sealed_letters, switch_at, switch_message}
 use Rattle.run_spec.specs.Legal.{IsPossible}
-use Rattle.run_spec.specs.Schedule.{IsInputOf, IsPosted, owed_of}
+use Rattle.run_spec.specs.Script.{IsInputOf, IsPosted, owed_of}
 use Rattle.run_spec.proofs.Pasts.{possible_before, self_controller, self_switch}
 use Rattle.run_spec.proofs.Pools.{one_actor}
 use Rattle.run_agreement.proofs.Pasts.{fits}

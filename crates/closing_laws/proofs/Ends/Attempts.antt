@@ -20,7 +20,7 @@ use Rattle.group_controller.specs.Rules.{controller_work}
 use Rattle.run_spec.specs.States.{Scene, ControllerAt, content, controller_hears, controller_saved, controller_step}
 use Rattle.run_spec.specs.Legal.{results_of}
 use Rattle.run_spec.specs.Committed.{states_of, members_up}
-use Rattle.run_spec.specs.Schedule.{Phase, Losing, Suspecting, Draining, Met, ClosingMove, Takes, Ends, ClosesTo, IsMove, after_move, after_turn, is_drawn, is_turn, majority, met_by, next_drained, next_lost, next_move, next_suspicion, next_view}
+use Rattle.run_spec.specs.Closing.{Phase, Losing, Suspecting, Draining, Met, ClosingMove, Takes, Ends, ClosesTo, IsMove, after_move, after_turn, is_drawn, is_turn, majority, met_by, next_drained, next_lost, next_move, next_suspicion, next_view}
 use Rattle.closing_laws.proofs.Journal.Taking.{at, own_steps}
 use Rattle.closing_laws.specs.Starts.{SavesSucceed}
 use Rattle.closing_laws.proofs.Journal.Carrying.{controller_rests}

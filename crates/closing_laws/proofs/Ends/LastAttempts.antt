@@ -11,7 +11,8 @@ use Rattle.journal.specs.Turns.{IsWithinLimits}
 use Rattle.run_spec.specs.States.{Scene}
 use Rattle.run_spec.specs.Legal.{IsPossible, results_of}
 use Rattle.run_spec.specs.Committed.{count_up, members_up, states_of}
-use Rattle.run_spec.specs.Schedule.{Done, NoQuorum, IsEnd, Phase, Losing, Ends, ClosesTo, IsMove, IsPosted, after_move, closing_view, majority, next_lost, next_move, next_suspicion, next_view, quorum_of}
+use Rattle.run_spec.specs.Script.{IsPosted}
+use Rattle.run_spec.specs.Closing.{Done, NoQuorum, IsEnd, Phase, Losing, Ends, ClosesTo, IsMove, after_move, closing_view, majority, next_lost, next_move, next_suspicion, next_view, quorum_of}
 use Rattle.closing_laws.specs.Starts.{IsAttempt}
 use Rattle.closing_laws.proofs.Ends.Attempts.{StayUp, Falls, course, succeed}
 use Rattle.closing_laws.proofs.Journal.Posting.{later, later_is}

@@ -58,7 +58,7 @@ use Rattle.run_spec.specs.States.{Scene, IsFaithful, ControllerAt, SwitchAt, con
 use Rattle.group_controller.specs.Rules.{after_step, controller_work, has_started, is_down, on_extension, on_input, on_hello, on_local, on_master, on_tick, on_plain, on_result, on_switch, on_wish, when_down}
 use Rattle.run_spec.specs.Legal.{IsPossible, results_of}
 use Rattle.run_spec.specs.Committed.{controller_state, members_up, states_of, switch_state}
-use Rattle.run_spec.specs.Schedule.{ClosingAnswer, Overfull, IsEnd, Phase, Losing, Suspecting, Draining, Met, ClosingMove, Takes, Ends, ClosesTo, IsMove, after_member, after_move, after_turn, majority, met_by, next_drained, next_lost, next_move, next_suspicion}
+use Rattle.run_spec.specs.Closing.{ClosingAnswer, Overfull, IsEnd, Phase, Losing, Suspecting, Draining, Met, ClosingMove, Takes, Ends, ClosesTo, IsMove, after_member, after_move, after_turn, majority, met_by, next_drained, next_lost, next_move, next_suspicion}
 use Rattle.run_spec.proofs.Pasts.{possible_before, self_controller}
 use Rattle.run_spec.proofs.Pools.{drawn_found}
 use Rattle.exactly_once.specs.Facts.{facts_of}

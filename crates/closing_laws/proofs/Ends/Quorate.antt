@@ -33,7 +33,7 @@ use Rattle.run_spec.specs.declared.messages.Unsealed.TheVariants as unsealed
 use Rattle.run_spec.specs.States.{Scene, ControllerAt, content, controller_hears, controller_step}
 use Rattle.run_spec.specs.Legal.{results_of}
 use Rattle.run_spec.specs.Committed.{controller_state, count_up, members_up, states_of}
-use Rattle.run_spec.specs.Schedule.{ClosingAnswer, NoQuorum, IsEnd, Phase, Losing, Suspecting, Draining, Met, ClosingMove, Takes, Ends, ClosesTo, IsMove, after_member, after_move, after_turn, is_drawn, majority, met_by, next_drained, next_lost, next_move, next_suspicion, next_view}
+use Rattle.run_spec.specs.Closing.{ClosingAnswer, NoQuorum, IsEnd, Phase, Losing, Suspecting, Draining, Met, ClosingMove, Takes, Ends, ClosesTo, IsMove, after_member, after_move, after_turn, is_drawn, majority, met_by, next_drained, next_lost, next_move, next_suspicion, next_view}
 use Rattle.run_laws.proofs.Members.{move_up}
 use Rattle.closing_laws.specs.Quorum.{has}
 use Rattle.closing_laws.specs.Starts.{SavesSucceed, view_after, quorum_after}

@@ -10,7 +10,8 @@ use Rattle.vr_log.specs.declared.entry.LogFull.{LogFull}
 use Rattle.group_controller.specs.State.{ControllerState}
 use Rattle.run_spec.specs.States.{Scene, IsFaithful}
 use Rattle.run_spec.specs.Legal.{IsPossible, results_of}
-use Rattle.run_spec.specs.Schedule.{IsPosted, count_turns, ClosesTo, Done, IsEnd, Phase, met_by, next_move}
+use Rattle.run_spec.specs.Script.{IsPosted}
+use Rattle.run_spec.specs.Closing.{count_turns, ClosesTo, Done, IsEnd, Phase, met_by, next_move}
 use Rattle.closing_laws.specs.Ends.{ClosingsRest, HasRested}
 use Rattle.closing_laws.specs.Following.{Start}
 use Rattle.closing_laws.specs.Serving.{AreFew}

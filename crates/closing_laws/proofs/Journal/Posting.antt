@@ -21,7 +21,8 @@ use Rattle.run_spec.specs.declared.messages.Unsealed.TheVariants as unsealed
 use Rattle.run_spec.specs.Committed.{switch_state}
 use Rattle.run_spec.specs.States.{Scene, Sealing, IsFaithful, ControllerAt, content, controller_message, sealed_letters, switch_at, switch_message}
 use Rattle.run_spec.specs.Legal.{FitsDebt, IsPossible, IsSoundSwitch}
-use Rattle.run_spec.specs.Schedule.{Phase, ClosesTo, IsInputOf, IsPosted, owed_of}
+use Rattle.run_spec.specs.Script.{IsInputOf, IsPosted, owed_of}
+use Rattle.run_spec.specs.Closing.{Phase, ClosesTo}
 use Rattle.run_spec.proofs.Entries.{Mine, Another, switch_after}
 use Rattle.run_spec.proofs.Pasts.{possible_before, self_controller, self_switch}
 use Rattle.run_spec.proofs.Pools.{one_actor}

@@ -16,7 +16,7 @@ use Rattle.group_controller.specs.declared.messages.ControllerSays.{ControllerSa
 use Rattle.group_controller.specs.State.{ControllerState, Work}
 use Rattle.run_spec.specs.declared.messages.Message.{Message}
 use Rattle.run_spec.specs.declared.messages.Message.TheVariants as message
-use Rattle.run_spec.specs.Schedule.{is_drawn}
+use Rattle.run_spec.specs.Closing.{is_drawn}
 use Rattle.run_spec.specs.States.{controller_message, switch_message}
 use Rattle.closing_laws.specs.Measure.{commands_from, left_at, left_at_switches, left_to_do, left_to_process, message_worth, worth, worths}
 use Rattle.closing_laws.specs.Quorum.{has}

@@ -19,7 +19,7 @@ use Rattle.group_controller.specs.State.{ControllerState, committed}
 use Rattle.run_spec.specs.Bound.{closing_members, greatest_of, place_known}
 use Rattle.run_spec.specs.Committed.{controller_state, members_up, states_of}
 use Rattle.run_spec.specs.Legal.{results_of}
-use Rattle.run_spec.specs.Schedule.{majority}
+use Rattle.run_spec.specs.Closing.{majority}
 use Rattle.run_spec.specs.States.{Scene}
 use Rattle.run_laws.proofs.Members.{owned_at}
 use Rattle.closing_laws.specs.Measure.{commands_from}

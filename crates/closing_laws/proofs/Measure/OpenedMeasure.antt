@@ -18,7 +18,7 @@ use Rattle.group_controller.specs.State.{ControllerState, Work, fresh, stepped}
 use Rattle.run_spec.specs.Bound.{waiting_at}
 use Rattle.run_spec.specs.States.{Scene, IsFaithful, controller_message}
 use Rattle.run_spec.specs.Committed.{controller_state, switch_state}
-use Rattle.run_spec.specs.Schedule.{Phase}
+use Rattle.run_spec.specs.Closing.{Phase}
 use Rattle.closing_laws.specs.Following.{LeadsFrom, Start}
 use Rattle.closing_laws.specs.Measure.{commands_from, left_at_switches, left_to_do, left_to_process, logged_held}
 use Rattle.closing_laws.specs.Quorum.{has}

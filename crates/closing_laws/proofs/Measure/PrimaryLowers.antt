@@ -18,7 +18,7 @@ use Rattle.group_controller.specs.Settling.{settling}
 use Rattle.group_controller.specs.State.{ControllerState, Work, committed, stepped, with_no_met_limit}
 use Rattle.group_controller.specs.Rules.{controller_work, on_master, on_result, on_wish}
 use Rattle.run_spec.specs.declared.messages.Message.{Message}
-use Rattle.run_spec.specs.Schedule.{is_drawn}
+use Rattle.run_spec.specs.Closing.{is_drawn}
 use Rattle.run_spec.specs.States.{controller_message}
 use Rattle.closing_laws.specs.Following.{LeadsFrom, Start}
 use Rattle.closing_laws.specs.Measure.{commands_from, left_to_do, message_worth}

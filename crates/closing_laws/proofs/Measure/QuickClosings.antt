@@ -23,7 +23,8 @@ use Rattle.of_switch.specs.State.{SwitchState, life_of}
 use Rattle.run_spec.specs.Bound.{closing_members, commands_left, ended_waiting, entries_left, events_left, most_by, place_known, sharp_bound, turns_bound}
 use Rattle.run_spec.specs.Committed.{count_up, decided, kept, kept_of, longest, members_up, states_of}
 use Rattle.run_spec.specs.Legal.{IsPossible}
-use Rattle.run_spec.specs.Schedule.{ClosesTo, IsMove, IsPosted, Losing, Phase, after_move, closing_view, count_turns, is_turn, majority, next_lost, next_move, quorum_of}
+use Rattle.run_spec.specs.Script.{IsPosted}
+use Rattle.run_spec.specs.Closing.{ClosesTo, IsMove, Losing, Phase, after_move, closing_view, count_turns, is_turn, majority, next_lost, next_move, quorum_of}
 use Rattle.run_spec.specs.States.{Scene, IsFaithful}
 use Rattle.app_core.specs.Chain.{given_by}
 use Rattle.closing_laws.specs.Quick.{ClosingsAreQuick, ClosingsAreSharplyBounded}

@@ -27,7 +27,7 @@ use Rattle.run_spec.specs.Bound.{closing_members, commands_left, entries_left, g
 use Rattle.run_spec.specs.States.{Scene, IsFaithful}
 use Rattle.run_spec.specs.Legal.{IsPossible}
 use Rattle.run_spec.specs.Committed.{controller_state, decided, switch_state}
-use Rattle.run_spec.specs.Schedule.{Phase, ClosesTo, count_turns, met_by}
+use Rattle.run_spec.specs.Closing.{Phase, ClosesTo, count_turns, met_by}
 use Rattle.run_agreement.proofs.Groups.{odd_law}
 use Rattle.run_laws.proofs.Laws.{lasting_law}
 use Rattle.closing_laws.specs.Following.{LeadsFrom, Start}

@@ -33,7 +33,7 @@ use Rattle.of_switch.proofs.Turns.{ack-drafted, forgets-same}
 use Rattle.run_spec.specs.declared.messages.Message.{Message}
 use Rattle.run_spec.specs.declared.messages.Message.TheVariants as message
 use Rattle.run_spec.specs.declared.messages.Unsealed.TheVariants as unsealed
-use Rattle.run_spec.specs.Schedule.{is_drawn}
+use Rattle.run_spec.specs.Closing.{is_drawn}
 use Rattle.run_spec.specs.States.{switch_hears, switch_message}
 use Rattle.closing_laws.specs.Quorum.{has}
 use Rattle.closing_laws.specs.Measure.{left_at, message_worth, unlogged, unsent}

@@ -23,7 +23,7 @@ use Rattle.run_spec.specs.declared.messages.Message.{Message}
 use Rattle.run_spec.specs.declared.messages.Message.TheVariants as message
 use Rattle.run_spec.specs.declared.messages.Unsealed.TheVariants as unsealed
 use Rattle.run_spec.specs.States.{controller_message, switch_hears, switch_message}
-use Rattle.run_spec.specs.Schedule.{is_drawn}
+use Rattle.run_spec.specs.Closing.{is_drawn}
 use Rattle.closing_laws.specs.Quorum.{has}
 use Rattle.closing_laws.specs.Ways.{Sent, sent_by, between}
 use Rattle.closing_laws.specs.Following.{Start}

@@ -29,7 +29,8 @@ use Rattle.run_spec.specs.Legal.{IsPossible}
 use Rattle.run_spec.specs.Committed.{controller_state, states_of, members_up}
 use Rattle.run_spec.proofs.Pasts.{self_controller}
 use Rattle.run_agreement.proofs.Pasts.{fits}
-use Rattle.run_spec.specs.Schedule.{Phase, Losing, Suspecting, ClosingMove, Takes, ClosesTo, IsEnd, IsMove, IsPosted, after_member, after_move, count_turns, majority, next_move, next_suspicion}
+use Rattle.run_spec.specs.Script.{IsPosted}
+use Rattle.run_spec.specs.Closing.{Phase, Losing, Suspecting, ClosingMove, Takes, ClosesTo, IsEnd, IsMove, after_member, after_move, count_turns, majority, next_move, next_suspicion}
 use Rattle.closing_laws.specs.Quorum.{has}
 use Rattle.closing_laws.specs.Views.{HasBest, IsCovered, IsReadyMember, gathering, lacks, log_of, started_with, tellers, turns_to_start}
 use Rattle.closing_laws.specs.Starts.{HasStartedIn, IsAttempt, Starts, StartsInTime, Last_suspects, members_at, quorum_after, starting_turn, turns_after, view_after}

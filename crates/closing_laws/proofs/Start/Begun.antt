@@ -21,7 +21,8 @@ use Rattle.group_controller.specs.State.{ControllerState}
 use Rattle.run_spec.specs.States.{Scene, IsFaithful}
 use Rattle.run_spec.specs.Legal.{IsPossible, results_of}
 use Rattle.run_spec.specs.Committed.{controller_state, switch_state, states_of, members_up}
-use Rattle.run_spec.specs.Schedule.{ClosingAnswer, Phase, Losing, Suspecting, Draining, ClosingMove, Ends, NoQuorum, ClosesTo, IsEnd, IsInputOf, IsMove, IsPosted, after_member, count_turns, is_turn, majority, next_move, next_lost, next_suspicion}
+use Rattle.run_spec.specs.Script.{IsInputOf, IsPosted}
+use Rattle.run_spec.specs.Closing.{ClosingAnswer, Phase, Losing, Suspecting, Draining, ClosingMove, Ends, NoQuorum, ClosesTo, IsEnd, IsMove, after_member, count_turns, is_turn, majority, next_move, next_lost, next_suspicion}
 use Rattle.run_laws.proofs.Members.{owned_at}
 use Rattle.closing_laws.specs.Quorum.{has, IsQuorum}
 use Rattle.closing_laws.specs.Draining.{GroupState, all_suspected, resting_group}

@@ -4,7 +4,7 @@ use Rattle.std.specs.Prelude.{not, nat_eq, ◌&&◌, ◌||◌, filter, if◌then
 use Rattle.std.proofs.lemmas.Bool.{eq-eqb, ne_eqb, eqb-true, eqb-false, or_left, or_cases, true≢false, both_ways, false_from_ne_true}
 use Rattle.std.proofs.lemmas.List.{length-take-le}
 use Rattle.vr_log.specs.Members.{others_below}
-use Rattle.run_spec.specs.Schedule.{quorum_of}
+use Rattle.run_spec.specs.Closing.{quorum_of}
 use Rattle.closing_laws.specs.Quorum.{has, AreAmong}
 use Rattle.closing_laws.proofs.Lists.Numbers.{Once, has_here, has_later, filter_has, filter_once, filter_twice, filter_on, others_but_one, below_once, filter_in, filter_no}
 use Rattle.closing_laws.proofs.Lists.Picked.{IsPicked}

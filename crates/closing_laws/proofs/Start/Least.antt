@@ -7,7 +7,7 @@ use Rattle.std.proofs.lemmas.Bool.{cases_lt, both_ways}
 use Rattle.vr_log.specs.Members.{is_up}
 use Rattle.group_controller.specs.State.{ControllerState}
 use Rattle.run_spec.specs.Committed.{members_up}
-use Rattle.run_spec.specs.Schedule.{bound_of, first_view, closing_view}
+use Rattle.run_spec.specs.Closing.{bound_of, first_view, closing_view}
 use Rattle.closing_laws.specs.Quorum.{has, AreBelow, HasTheLeastView}
 
 -- among as many views as a group has members each member leads one

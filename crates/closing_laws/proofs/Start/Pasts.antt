@@ -11,7 +11,7 @@ use Rattle.group_controller.specs.State.{ControllerState}
 use Rattle.run_spec.specs.States.{Scene}
 use Rattle.run_spec.specs.Legal.{results_of}
 use Rattle.run_spec.specs.Committed.{controller_state, states_of, members_up}
-use Rattle.run_spec.specs.Schedule.{closing_view, majority}
+use Rattle.run_spec.specs.Closing.{closing_view, majority}
 use Rattle.run_laws.proofs.Members.{owned_at}
 use Rattle.closing_laws.specs.Quorum.{has, HasAQuorum, HasTheLeastView, WhereMostAreUp, members_that_close}
 use Rattle.closing_laws.proofs.Lists.Numbers.{has_here, filter_has, below_has}

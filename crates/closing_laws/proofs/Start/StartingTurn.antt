@@ -24,7 +24,8 @@ use Rattle.run_spec.specs.declared.messages.Unsealed.TheVariants as unsealed
 use Rattle.run_spec.specs.Committed.{switch_state}
 use Rattle.run_spec.specs.States.{Scene, IsFaithful, ControllerAt, content, controller_message, sealed_letters}
 use Rattle.run_spec.specs.Legal.{IsPossible}
-use Rattle.run_spec.specs.Schedule.{ClosingAnswer, IsEnd, Phase, Draining, ClosingMove, ClosesTo, IsMove, IsPosted, after_member, count_turns, drained, next_move}
+use Rattle.run_spec.specs.Script.{IsPosted}
+use Rattle.run_spec.specs.Closing.{ClosingAnswer, IsEnd, Phase, Draining, ClosingMove, ClosesTo, IsMove, after_member, count_turns, drained, next_move}
 use Rattle.run_spec.proofs.Pasts.{possible_before, self_controller}
 use Rattle.run_agreement.proofs.Pasts.{fits}
 use Rattle.closing_laws.specs.Quorum.{has}

@@ -39,7 +39,8 @@ use Rattle.run_spec.specs.Committed.{switch_state}
 use Rattle.run_spec.specs.Messages.{FitsMessage}
 use Rattle.run_spec.specs.States.{Scene, IsFaithful, ControllerAt, content, controller_hears, controller_message, sealed_letters}
 use Rattle.run_spec.specs.Legal.{IsPossible, results_of}
-use Rattle.run_spec.specs.Schedule.{ClosingAnswer, IsEnd, Phase, Suspecting, Draining, Losing, ClosingMove, Takes, ClosesTo, IsInputOf, IsMove, IsPosted, after_member, after_move, count_turns, drained, is_drawn, is_turn, met_by, next_drained, next_move}
+use Rattle.run_spec.specs.Script.{IsInputOf, IsPosted}
+use Rattle.run_spec.specs.Closing.{ClosingAnswer, IsEnd, Phase, Suspecting, Draining, Losing, ClosingMove, Takes, ClosesTo, IsMove, after_member, after_move, count_turns, drained, is_drawn, is_turn, met_by, next_drained, next_move}
 use Rattle.run_spec.proofs.Pasts.{possible_before, self_controller}
 use Rattle.run_agreement.proofs.Pasts.{fits}
 use Rattle.run_agreement.proofs.Spelling.{all_spelled}

@@ -14,7 +14,7 @@ use Rattle.group_controller.specs.State.{ControllerState}
 use Rattle.run_spec.specs.States.{Scene, IsFaithful}
 use Rattle.run_spec.specs.Legal.{IsPossible}
 use Rattle.run_spec.specs.Committed.{controller_state, switch_state, states_of, count_up}
-use Rattle.run_spec.specs.Schedule.{closing_view, majority}
+use Rattle.run_spec.specs.Closing.{closing_view, majority}
 use Rattle.run_agreement.specs.Reading.{WhereValid}
 use Rattle.run_agreement.proofs.Groups.{odd_law}
 use Rattle.run_agreement.proofs.Reading.{IsReadPast, read_past}

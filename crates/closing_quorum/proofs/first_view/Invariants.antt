@@ -1,5 +1,5 @@
 use Rattle.std.proofs.Common.{◌≡◌, ◌+◌, ◌-◌}
-use Rattle.run_spec.specs.Schedule.{first_view}
+use Rattle.run_spec.specs.Closing.{first_view}
 use Rattle.closing_quorum.proofs.first_view.Given as goal
 
 abbrev pub invariant-looking : goal.invariant-looking

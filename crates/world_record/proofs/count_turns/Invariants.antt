@@ -1,5 +1,5 @@
 use Rattle.std.proofs.Common.{◌≡◌, ◌≤◌, take}
-use Rattle.run_spec.specs.Schedule.{count_turns}
+use Rattle.run_spec.specs.Closing.{count_turns}
 use Rattle.world_record.proofs.count_turns.Given as goal
 
 abbrev pub invariant-loop-entry : goal.invariant-loop-entry

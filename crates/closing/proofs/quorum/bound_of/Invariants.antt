@@ -1,6 +1,6 @@
 use Rattle.std.proofs.Common.{◌≡◌, drop}
 use Rattle.std.specs.Prelude.{max}
-use Rattle.run_spec.specs.Schedule.{bound_of}
+use Rattle.run_spec.specs.Closing.{bound_of}
 use Rattle.closing.specs.Closing.{states_in}
 use Rattle.closing.proofs.quorum.bound_of.Given as goal
 

@@ -1,6 +1,6 @@
 use Rattle.std.proofs.Common.{arith}
 use Rattle.std.proofs.lemmas.Result.{err_from_is_err_and}
-use Rattle.run_spec.specs.Schedule.{Losing}
+use Rattle.run_spec.specs.Closing.{Losing}
 use Rattle.closing.specs.Closing.{ClosesIn, ClosingStandsAt}
 use Rattle.closing.proofs.Leading.{leads_then}
 use Rattle.closing.proofs.Parts.{keeps_then, post_keeps, post_leads, post_rests, post_stops, rests_result, same_keeps}

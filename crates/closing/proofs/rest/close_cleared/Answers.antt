@@ -4,7 +4,7 @@ use Rattle.std.proofs.lemmas.Result.{err_from_is_err_and}
 use Rattle.journal.specs.Pool.{past}
 use Rattle.world.specs.World.{scene_in}
 use Rattle.std.specs.Prelude.{Option, ◌%◌, ◌/◌}
-use Rattle.run_spec.specs.Schedule.{Losing, quorum_of}
+use Rattle.run_spec.specs.Closing.{Losing, quorum_of}
 use Rattle.closing.specs.declared.closed.Closed.{Closed}
 use Rattle.closing_laws.specs.Quorum.{has}
 use Rattle.closing.specs.Closing.{CameTo, Drained, EndsBy}

@@ -1,7 +1,7 @@
 use Rattle.std.proofs.Common.{◌≡◌, ◌+◌, length, ◌∙◌, ap, arith}
 use Rattle.std.proofs.lemmas.Result.{err_from_is_err_and}
 use Rattle.journal.specs.Pool.{past}
-use Rattle.run_spec.specs.Schedule.{Losing, majority}
+use Rattle.run_spec.specs.Closing.{Losing, majority}
 use Rattle.world.specs.World.{scene_in}
 use Rattle.std.specs.Prelude.{◌/◌}
 use Rattle.closing.specs.Closing.{ClosesIn, EndsBy, ClosingStandsAt, up_in}

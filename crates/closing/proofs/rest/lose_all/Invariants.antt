@@ -1,6 +1,6 @@
 use Rattle.std.proofs.Common.{◌≡◌}
 use Rattle.journal.specs.Pool.{past}
-use Rattle.run_spec.specs.Schedule.{Losing}
+use Rattle.run_spec.specs.Closing.{Losing}
 use Rattle.world.specs.World.{Keeps}
 use Rattle.closing.specs.Closing.{ClosesIn, LeadsTo, Rests, up_in, work_left}
 use Rattle.closing.proofs.rest.lose_all.Given as goal

@@ -1,7 +1,7 @@
 use Rattle.std.proofs.Common.{◌≤◌, ◌<◌, ◌+◌, ◌-◌, ◌*◌, length, subst, arith, Err}
 use Rattle.std.proofs.lemmas.Result.{err_from_is_err_and}
 use Rattle.journal.specs.Pool.{past}
-use Rattle.run_spec.specs.Schedule.{Losing}
+use Rattle.run_spec.specs.Closing.{Losing}
 use Rattle.world.specs.World.{scene_in}
 use Rattle.closing.specs.Closing.{ClosesIn, EndsBy, LeadsTo, ClosingStandsAt, UpTo, up_in}
 use Rattle.closing.specs.Views.{most_view_of_a_closing, most_view_of_a_script, views_of_an_attempt}

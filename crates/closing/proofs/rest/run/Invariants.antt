@@ -1,6 +1,6 @@
 use Rattle.std.proofs.Common.{◌+◌, ◌-◌, ◌*◌, length}
 use Rattle.journal.specs.Pool.{past}
-use Rattle.run_spec.specs.Schedule.{Losing}
+use Rattle.run_spec.specs.Closing.{Losing}
 use Rattle.world.specs.World.{Keeps}
 use Rattle.run_laws.specs.Laws.{IsSuspectedUpTo}
 use Rattle.closing.specs.Closing.{ClosesIn, LeadsTo, up_in}

@@ -1,64 +1,21 @@
--- Which journals a script and the closing schedule give.
-use Rattle.std.specs.Prelude.{◌≡◌, ℕ, zero, suc, ◌+◌, ◌/◌, ◌%◌, max, Bool, true, false, not, nat_eq, nat_lt, ◌||◌, List, [], ◌∷◌, ◌++◌, length, take, filter, reverse, count_by, slice_get, Option, Some, None, if◌then◌else◌}
+-- The closing schedule: which journals bring a run to rest, move by move.
+use Rattle.std.specs.Prelude.{◌≡◌, ℕ, zero, suc, ◌+◌, ◌/◌, ◌%◌, max, Bool, true, false, not, nat_eq, nat_lt, ◌||◌, List, [], ◌∷◌, ◌++◌, length, take, filter, reverse, count_by, Option, Some, None, if◌then◌else◌}
 use Rattle.std.specs.List.{list_any}
 use Rattle.journal.specs.declared.journal.Actor.{Actor}
 use Rattle.journal.specs.declared.journal.Actor.TheVariants as actor
 use Rattle.journal.specs.declared.journal.JournalEntry.{JournalEntry}
 use Rattle.journal.specs.declared.journal.JournalEntry.TheVariants.{Post, Draw, Lose, Local, Idle, Refused}
-use Rattle.journal.specs.declared.journal.Letter.{Letter}
 use Rattle.journal.specs.declared.journal.Local.TheVariants as local
 use Rattle.journal.specs.declared.journal.Packet.{Packet}
 use Rattle.journal.specs.declared.journal.SaveResult.{SaveResult}
-use Rattle.journal.specs.declared.journal.Turn.{Turn}
-use Rattle.journal.specs.Actors.{same_actor, actor_of, is_input}
 use Rattle.journal.specs.Part.{part}
 use Rattle.journal.specs.Pool.{pool, past}
-use Rattle.journal.specs.Turns.{entry_of, IsFull}
 use Rattle.vr_log.specs.declared.entry.LogFull.{LogFull}
 use Rattle.vr_log.specs.Members.{is_up}
 use Rattle.group_controller.specs.State.{ControllerState}
-use Rattle.run_spec.specs.States.{Scene, sealed_letters, switch_message, controller_message, controller_at, switch_at}
-use Rattle.run_spec.specs.Legal.{results_of}
+use Rattle.run_spec.specs.States.{Scene}
 use Rattle.run_spec.specs.Committed.{controller_state, states_of, members_up}
-
--- how many inputs were taken
-abbrev pub inputs : {B : Type 0} → List (JournalEntry B) → ℕ
-inputs entries = count_by is_input entries
-
--- the letters that an actor owes, sealed
-abbrev pub owed_of : {B : Type 0} → Scene B → List (List SaveResult) → Actor → List (JournalEntry B) → List (Letter B)
-owed_of scene results (actor.Controller c) entries =
-    sealed_letters controller_message scene.sealing (controller_at scene (results_of results c) c (part (actor.Controller c) entries)).owed
-owed_of scene results (actor.Switch s) entries =
-    sealed_letters switch_message scene.sealing (switch_at scene s (part (actor.Switch s) entries)).owed
-
--- the actor of the newest entry owes nothing
-abbrev pub IsPosted : {B : Type 0} → Scene B → List (List SaveResult) → List (JournalEntry B) → Type 0
-IsPosted scene results [] = Unit {0}
-IsPosted scene results (e ∷ before) = owed_of scene results (actor_of e) (e ∷ before) ≡ []
-
--- the newest entry is an input of this actor
-abbrev pub IsInputOf : {B : Type 0} → Actor → List (JournalEntry B) → Type 0
-IsInputOf a [] = ⊥
-IsInputOf a (e ∷ before) = (is_input e ≡ true) × (same_actor (actor_of e) a ≡ true)
-
--- an entry is the one of the next step, or the post of the input directly before it
-abbrev pub IsStepOf : {B : Type 0} → List Turn → JournalEntry B → List (JournalEntry B) → Type 0
-IsStepOf steps (Post a first letters lost) before = IsInputOf a before
-IsStepOf steps (Refused a) before = ⊥
-IsStepOf steps e before = (step : Turn) × (slice_get steps (inputs before) ≡ Some step) × (e ≡ entry_of step before)
-
--- a script's part that takes the first steps in order, each outbox posted directly after its input
-abbrev pub TakesInOrder : {B : Type 0} → Scene B → List (List SaveResult) → List Turn → List (JournalEntry B) → Type 0
-TakesInOrder scene results steps [] = Unit {0}
-TakesInOrder scene results steps (e ∷ before) =
-    IsStepOf steps e before × (is_input e ≡ true → IsPosted scene results before) × TakesInOrder scene results steps before
-
--- the script's part of a journal in which the steps are done in order
-pub record FollowsInOrder {B : Type 0} (scene : Scene B) (results : List (List SaveResult)) (steps : List Turn) (script : List (JournalEntry B)) : Type 0 where
-  pub takes : TakesInOrder scene results steps script
-  pub all : inputs script ≡ length steps
-  pub posted : IsPosted scene results script
+use Rattle.run_spec.specs.Script.{IsPosted, IsInputOf}
 
 -- the views and promises of the controllers that take part are below this
 abbrev pub bound_of : List ControllerState → ℕ
@@ -212,17 +169,3 @@ is_turn (Refused a) = false
 
 abbrev pub count_turns : {B : Type 0} → List (JournalEntry B) → ℕ
 count_turns entries = count_by is_turn entries
-
--- the newest entry took an input, and the letters posted with those that its actor owes pass a limit
-abbrev pub IsJournalFull : {B : Type 0} → Scene B → List (List SaveResult) → List (JournalEntry B) → ℕ → ℕ → Type 0
-IsJournalFull scene results [] bytes letters = ⊥
-IsJournalFull scene results (e ∷ before) bytes letters =
-    (is_input e ≡ true) × IsFull scene.sealing.size (e ∷ before) (owed_of scene results (actor_of e) (e ∷ before)) bytes letters
-
--- a run that is cut short where an outbox met the limits of the journal, in the script or in the closing
-pub data IsBegun {B : Type 0} (scene : Scene B) (results : List (List SaveResult)) (steps : List Turn) (bytes letters : ℕ) : List (JournalEntry B) → Type 0 where
-  In_the_script : {entries : List (JournalEntry B)} → TakesInOrder scene results steps entries →
-      IsJournalFull scene results entries bytes letters → IsBegun scene results steps bytes letters entries
-  In_the_closing : (script entries : List (JournalEntry B)) (last : Phase) → FollowsInOrder scene results steps script →
-      ClosesTo scene results Losing script entries last → IsJournalFull scene results (reverse entries ++ script) bytes letters →
-      IsBegun scene results steps bytes letters (reverse entries ++ script)

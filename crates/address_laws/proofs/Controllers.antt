@@ -23,8 +23,8 @@ use Rattle.vr_recovery.specs.Recovering.{restarted}
 use Rattle.vr_core.specs.declared.input.VrInput.TheVariants as vr_input
 use Rattle.vr_core.specs.Step.{vr_step}
 use Rattle.app_core.specs.declared.issued.Issued.{Issued}
-use Rattle.dispatcher.specs.declared.answers.Wish.{Wish}
-use Rattle.dispatcher.specs.declared.answers.Wish.TheVariants.{Propose, Acknowledge, Nothing}
+use Rattle.dispatcher.specs.declared.answers.EventAction.{EventAction}
+use Rattle.dispatcher.specs.declared.answers.EventAction.TheVariants.{Propose, Acknowledge, Nothing}
 use Rattle.dispatcher.specs.Marks.{Marks, no_marks, is_confirmed, confirmed_by, is_pending, has_result, with_mark, with_marked_result, outstanding}
 use Rattle.dispatcher.specs.Folding.{wish}
 use Rattle.group_controller.specs.declared.messages.ControllerInput.{ControllerInput}
@@ -83,7 +83,7 @@ module _ (kinds : List ℕ) (setup : Setup) where
       (step_good c (vr_step c.vr vr_input.Tick) k (step_stays setup.controllers c.vr vr_input.Tick k.member))
 
   -- what a switch says
-  wished : (c : ControllerState) (event : Event) (w : Wish) → event.switch < length setup.ports → KnowsSwitches setup c → Ends (on_wish kinds setup c event w)
+  wished : (c : ControllerState) (event : Event) (w : EventAction) → event.switch < length setup.ports → KnowsSwitches setup c → Ends (on_wish kinds setup c event w)
   wished c event Propose there k names =
       addressed kinds setup _ (proposes kinds setup c (Received event) there (record { knows = k; sends = tt; log = proposing_kept kinds setup c (Received event) names }))
   wished c event (Acknowledge through) there k names = record { knows = k; sends = (there, tt) }

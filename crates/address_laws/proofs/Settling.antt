@@ -16,7 +16,7 @@ use Rattle.vr_log.specs.Log.{received, is_past_limits}
 use Rattle.vr_normal.specs.Proposing as member
 use Rattle.app_core.specs.declared.issued.Issued.{Issued}
 use Rattle.app_core.specs.Issued.{commands_of}
-use Rattle.dispatcher.specs.declared.answers.Through.{Through}
+use Rattle.dispatcher.specs.declared.answers.AckThrough.{AckThrough}
 use Rattle.dispatcher.specs.Marks.{Marks, is_confirmed, wanted, outstanding}
 use Rattle.dispatcher.specs.Folding.{numbered, acknowledges_event, acknowledges_at, is_told, clears, clears_at, places_processed}
 use Rattle.group_controller.specs.declared.messages.ControllerSays.{ControllerSays}
@@ -63,7 +63,7 @@ module _ (kinds : List ℕ) (setup : Setup) where
   acks_go : (log : List Entry) (o : Option Event) → ((e : Event) → o ≡ Some e → e.switch < length setup.ports) → AreAddressed setup (map ack_letter (acknowledges_event log o))
   acks_go log None there = tt
   acks_go log (Some e) there =
-      cond_both (has_ended e.switch e.life (received log)) _ _ (λ (ts : List Through). AreAddressed setup (map ack_letter ts)) (λ _. tt) (λ _. (there e refl, tt))
+      cond_both (has_ended e.switch e.life (received log)) _ _ (λ (ts : List AckThrough). AreAddressed setup (map ack_letter ts)) (λ _. tt) (λ _. (there e refl, tt))
 
   clears_go : (log : List Entry) (commands : List Issued) → AreAddressed setup (map clear_letter (clears kinds setup log commands))
   clears_go log commands =

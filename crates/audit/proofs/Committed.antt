@@ -14,7 +14,7 @@ use Rattle.app_core.specs.declared.issued.Issued.{Issued}
 use Rattle.app_core.specs.Chain.{concat}
 use Rattle.app_core.specs.Issued.{issues}
 use Rattle.report.specs.declared.record.Record.{Record}
-use Rattle.report.specs.declared.record.Told.{Told}
+use Rattle.report.specs.declared.record.SwitchRecord.{SwitchRecord}
 use Rattle.audit.specs.declared.switch_lines.Committed.{Committed}
 use Rattle.audit.specs.Audit.{is_processed_line, events_fail, differs_from, executed_fails, told_fails, switches_fail, log_fails, lines_before, lines_fail, first_failing}
 use Rattle.audit.specs.Issuing.{order_in}
@@ -88,7 +88,7 @@ module _ (kinds : List ℕ) (r : Record) (c : Committed) (committed : IsCommitte
       ∙ ap (λ (l : List Event). is_below (processed r.log) (equal_at l line)) committed.events
       ∙ below_is line (processed r.log) (received r.log) sound.apart
 
-  events_are : (t : Told) (events : List Event) → events_fail_by c t.life t.held events ≡ events_fail r.log t events
+  events_are : (t : SwitchRecord) (events : List Event) → events_fail_by c t.life t.held events ≡ events_fail r.log t events
   events_are t [] = refl
   events_are t (e ∷ events) =
       ap (λ (b : Bool). (nat_eq e.life t.life && nat_le t.held (count_by (λ f. nat_eq f.life t.life) events) && not b) ∷ events_fail_by c t.life t.held events) (processed_is e)
@@ -101,13 +101,13 @@ module _ (kinds : List ℕ) (r : Record) (c : Committed) (committed : IsCommitte
   map_same f g [] e = refl
   map_same f g (x ∷ xs) e = ap (λ b. b ∷ map f xs) (e x) ∙ ap (λ l. g x ∷ l) (map_same f g xs e)
 
-  told_are : (switch : ℕ) (t : Told) → told_fails_by c switch t ≡ told_fails kinds r switch t
+  told_are : (switch : ℕ) (t : SwitchRecord) → told_fails_by c switch t ≡ told_fails kinds r switch t
   told_are switch t =
       ap (λ (l : List Bool). false ∷ (l ++ (map (executed_fails_by c switch) t.executed ++ replicate (length t.rows) false))) (events_are t t.events)
       ∙ ap (λ (l : List Bool). false ∷ (events_fail r.log t t.events ++ (l ++ replicate (length t.rows) false)))
       (map_same (executed_fails_by c switch) (executed_fails (concat (issues kinds r.setup (received r.log))) switch) t.executed (executed_is switch))
 
-  pub switches_are : (switch : ℕ) (switches : List Told) → switches_fail_by c switch switches ≡ switches_fail kinds r switch switches
+  pub switches_are : (switch : ℕ) (switches : List SwitchRecord) → switches_fail_by c switch switches ≡ switches_fail kinds r switch switches
   switches_are switch [] = refl
   switches_are switch (t ∷ switches) =
       ap (λ (l : List Bool). l ++ switches_fail_by c (switch + 1) switches) (told_are switch t) ∙ ap (λ (l : List Bool). told_fails kinds r switch t ++ l) (switches_are (switch + 1) switches)

@@ -2,7 +2,7 @@
 use Rattle.std.proofs.Common.{◌≡◌, ◌<◌, ℕ, zero, suc, ◌+◌, Bool, true, false, List, ◌∷◌, [], ◌++◌, length, get_or, map, drop, replicate, Option, Some, None, refl, sym, ap, ◌∙◌, arith, length-append}
 use Rattle.std.proofs.lemmas.List.{drop_more, length-map, length-replicate}
 use Rattle.of_types.specs.declared.message.Event.{Event}
-use Rattle.report.specs.declared.record.Told.{Told}
+use Rattle.report.specs.declared.record.SwitchRecord.{SwitchRecord}
 use Rattle.audit.specs.declared.switch_lines.Committed.{Committed}
 use Rattle.audit.specs.Audit.{first_failing}
 use Rattle.audit.specs.Judging.{events_fail_by, executed_fails_by, told_fails_by, switches_fail_by}
@@ -25,7 +25,7 @@ length-events_fail_by : (c : Committed) (life held : ℕ) (xs : List Event) → 
 length-events_fail_by c life held [] = refl
 length-events_fail_by c life held (x ∷ xs) = ap suc (length-events_fail_by c life held xs)
 
-module _ (c : Committed) (switch : ℕ) (t : Told) where
+module _ (c : Committed) (switch : ℕ) (t : SwitchRecord) where
   pub length_told : length (told_fails_by c switch t) ≡ 1 + (length t.events + (length t.executed + length t.rows))
   length_told =
       let events = events_fail_by c t.life t.held t.events in
@@ -56,9 +56,9 @@ module _ (c : Committed) (switch : ℕ) (t : Told) where
           sym h ∙ sym (first_behind (line + 1 + length t.events) (map (executed_fails_by c switch) t.executed) (replicate (length t.rows) false) (sym h)
           ∙ none_fails (line + 1 + length t.events + length (map (executed_fails_by c switch) t.executed)) (length t.rows))
 
-module _ (c : Committed) (switches : List Told) (s i : ℕ) (t : Told) (lt : i < length switches) (at : t ≡ get_or switches i t) where
+module _ (c : Committed) (switches : List SwitchRecord) (s i : ℕ) (t : SwitchRecord) (lt : i < length switches) (at : t ≡ get_or switches i t) where
   told_line : switches_fail_by c s (drop i switches) ≡ told_fails_by c s t ++ switches_fail_by c (s + 1) (drop (i + 1) switches)
-  told_line = ap (λ (l : List Told). switches_fail_by c s l) (drop_more switches i t lt) ∙ ap (λ (x : Told). told_fails_by c s x ++ switches_fail_by c (s + 1) (drop (i + 1) switches)) (sym at)
+  told_line = ap (λ (l : List SwitchRecord). switches_fail_by c s l) (drop_more switches i t lt) ∙ ap (λ (x : SwitchRecord). told_fails_by c s x ++ switches_fail_by c (s + 1) (drop (i + 1) switches)) (sym at)
 
   pub told_stops : (line n : ℕ) (total : Option ℕ) → first_failing line (switches_fail_by c s (drop i switches)) ≡ total → Some n ≡ first_failing line (told_fails_by c s t) → Some n ≡ total
   told_stops line n total h is =

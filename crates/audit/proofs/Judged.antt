@@ -16,7 +16,7 @@ use Rattle.app_core.specs.declared.issued.Issued.{Issued}
 use Rattle.app_core.specs.Chain.{concat, reactions}
 use Rattle.app_core.specs.Issued.{issue_all, issues, commands_of}
 use Rattle.report.specs.declared.record.Record.{Record}
-use Rattle.report.specs.declared.record.Told.{Told}
+use Rattle.report.specs.declared.record.SwitchRecord.{SwitchRecord}
 use Rattle.audit.specs.declared.evidence.Evidence.{Evidence}
 use Rattle.audit.specs.declared.following.Following.{Following}
 use Rattle.audit.specs.Audit.{has_event_line, has_executed_line, is_settled_line, entry_fails}
@@ -97,7 +97,7 @@ module _ (e line : Event) where
       or_parts false b h = (refl, h)
       or_parts true b h = absurd cc
 
-pub told_is : (e : Event) (front rest : List Event) (switches : List Told) → list_any (λ f. same_name (name_of f) (name_of e)) front ≡ false → is_told_as_executed (front ++ e ∷ rest) switches (length front) ≡ has_event_line switches e
+pub told_is : (e : Event) (front rest : List Event) (switches : List SwitchRecord) → list_any (λ f. same_name (name_of f) (name_of e)) front ≡ false → is_told_as_executed (front ++ e ∷ rest) switches (length front) ≡ has_event_line switches e
 told_is e front rest switches fresh =
     any_same (λ t. list_any (tells_event (front ++ e ∷ rest) (length front)) t.events) (λ t. list_any (same_event e) t.events) switches
     (λ t. any_same (tells_event (front ++ e ∷ rest) (length front)) (same_event e) t.events (λ line. tells_is e line front rest fresh))
@@ -109,14 +109,14 @@ none_any p [] e = refl
 none_any p (x ∷ xs) e = ap (λ b. b || list_any p xs) (e x) ∙ none_any p xs e
 
 module _ (life number : ℕ) where
-  none_below : (k s : ℕ) (switches : List Told) → s < k → is_executed k switches (s, life, number) ≡ false
+  none_below : (k s : ℕ) (switches : List SwitchRecord) → s < k → is_executed k switches (s, life, number) ≡ false
   none_below k s [] lt = refl
   none_below k s (t ∷ switches) lt =
       ap (λ b. b || is_executed (k + 1) switches (s, life, number))
       (none_any (executed_as_told k (s, life, number)) t.executed (λ y. ap (λ b. b && nat_eq y.life life && nat_eq y.number number) (ne_eqb k s (λ e. absurd (omega (arith, e, lt))))))
       ∙ none_below (k + 1) s switches (omega (arith, lt))
 
-  pub executed_at : (k s : ℕ) (switches : List Told) → is_executed k switches (k + s, life, number) ≡ has_executed_line switches s life number
+  pub executed_at : (k s : ℕ) (switches : List SwitchRecord) → is_executed k switches (k + s, life, number) ≡ has_executed_line switches s life number
   executed_at k s [] = refl
   executed_at k zero (t ∷ switches) =
       ap (λ b. b || is_executed (k + 1) switches (k + 0, life, number))

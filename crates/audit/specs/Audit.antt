@@ -16,7 +16,7 @@ use Rattle.app_core.specs.declared.issued.Issued.{Issued}
 use Rattle.app_core.specs.Chain.{concat}
 use Rattle.app_core.specs.Issued.{issues, commands_of}
 use Rattle.report.specs.declared.record.Record.{Record}
-use Rattle.report.specs.declared.record.Told.{Told}
+use Rattle.report.specs.declared.record.SwitchRecord.{SwitchRecord}
 use Rattle.report.specs.Reading.{report_at}
 use Rattle.audit.specs.declared.auditing.Verdict.{Verdict}
 use Rattle.audit.specs.declared.auditing.Verdict.TheVariants.{Same, Differs}
@@ -25,16 +25,16 @@ use Rattle.audit.specs.Orders.{same_order}
 -- ---- the lines of the log
 
 -- an event line is equal
-abbrev pub has_event_line : List Told → Event → Bool
+abbrev pub has_event_line : List SwitchRecord → Event → Bool
 has_event_line switches e = list_any (λ t. list_any (same_event e) t.events) switches
 
 -- a switch has an executed line of a life with a number
-abbrev pub has_executed_line : List Told → ℕ → ℕ → ℕ → Bool
+abbrev pub has_executed_line : List SwitchRecord → ℕ → ℕ → ℕ → Bool
 has_executed_line switches switch life number =
     elim (slice_get switches switch) [ None ↦ false | Some t ↦ list_any (λ y. y.life == life && y.number == number) t.executed ]
 
 -- a command was executed, or its switch began a later life before
-abbrev pub is_settled_line : List Told → List Entry → Issued → Bool
+abbrev pub is_settled_line : List SwitchRecord → List Entry → Issued → Bool
 is_settled_line switches before x = has_executed_line switches x.switch x.life x.number || has_ended x.switch x.life (received before)
 
 -- a line of the log fails: it may not follow those before it, an event has no event line, or a command of an event that
@@ -55,7 +55,7 @@ abbrev pub is_processed_line : List Entry → Event → Bool
 is_processed_line log line = list_any (λ e. same_event e line) (take (processed log) (received log))
 
 -- an event line of the present life fails that is neither among the last ones that are held nor processed
-abbrev pub events_fail : List Entry → Told → List Event → List Bool
+abbrev pub events_fail : List Entry → SwitchRecord → List Event → List Bool
 events_fail log t [] = []
 events_fail log t (e ∷ events) =
     (e.life == t.life && nat_le t.held (count_by (λ f. f.life == t.life) events) && not (is_processed_line log e)) ∷ events_fail log t events
@@ -70,12 +70,12 @@ abbrev pub executed_fails : List Issued → ℕ → Executed → Bool
 executed_fails issued switch y = differs_from (find (λ x. x.switch == switch && x.life == y.life && x.number == y.number) issued) y.order
 
 -- the line of a switch, and those that it counts
-abbrev pub told_fails : List ℕ → Record → ℕ → Told → List Bool
+abbrev pub told_fails : List ℕ → Record → ℕ → SwitchRecord → List Bool
 told_fails kinds r switch t =
     false ∷ (events_fail r.log t t.events
     ++ (map (executed_fails (concat (issues kinds r.setup (received r.log))) switch) t.executed ++ replicate (length t.rows) false))
 
-abbrev pub switches_fail : List ℕ → Record → ℕ → List Told → List Bool
+abbrev pub switches_fail : List ℕ → Record → ℕ → List SwitchRecord → List Bool
 switches_fail kinds r switch [] = []
 switches_fail kinds r switch (t ∷ switches) = told_fails kinds r switch t ++ switches_fail kinds r (switch + 1) switches
 

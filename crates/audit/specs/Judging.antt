@@ -10,7 +10,7 @@ use Rattle.vr_log.specs.Log.{received, processed}
 use Rattle.app_core.specs.Chain.{concat}
 use Rattle.app_core.specs.Issued.{issues}
 use Rattle.report.specs.declared.record.Record.{Record}
-use Rattle.report.specs.declared.record.Told.{Told}
+use Rattle.report.specs.declared.record.SwitchRecord.{SwitchRecord}
 use Rattle.audit.specs.declared.following.Following.{Following}
 use Rattle.audit.specs.declared.evidence.Evidence.{Evidence}
 use Rattle.audit.specs.declared.switch_lines.Committed.{Committed}
@@ -29,7 +29,7 @@ is_place i (Some n) = nat_eq n i
 abbrev pub tells_event : List Event → ℕ → Event → Bool
 tells_event events i line = is_place i (equal_at events line)
 
-abbrev pub is_told_as_executed : List Event → List Told → ℕ → Bool
+abbrev pub is_told_as_executed : List Event → List SwitchRecord → ℕ → Bool
 is_told_as_executed events switches i = list_any (λ t. list_any (tells_event events i) t.events) switches
 
 -- an executed line of a switch has a name
@@ -37,7 +37,7 @@ abbrev pub executed_as_told : ℕ → Name → Executed → Bool
 executed_as_told switch name y = same_name (switch, y.life, y.number) name
 
 -- of these switches, from this number on, one has such a line
-abbrev pub is_executed : ℕ → List Told → Name → Bool
+abbrev pub is_executed : ℕ → List SwitchRecord → Name → Bool
 is_executed switch [] name = false
 is_executed switch (t ∷ switches) name = list_any (executed_as_told switch name) t.executed || is_executed (switch + 1) switches name
 
@@ -80,10 +80,10 @@ order_fails (Some issued) order = not (same_order issued order)
 abbrev pub executed_fails_by : Committed → ℕ → Executed → Bool
 executed_fails_by c switch y = order_fails (value_of c.orders (switch, y.life, y.number)) y.order
 
-abbrev pub told_fails_by : Committed → ℕ → Told → List Bool
+abbrev pub told_fails_by : Committed → ℕ → SwitchRecord → List Bool
 told_fails_by c switch t =
     false ∷ (events_fail_by c t.life t.held t.events ++ (map (executed_fails_by c switch) t.executed ++ replicate (length t.rows) false))
 
-abbrev pub switches_fail_by : Committed → ℕ → List Told → List Bool
+abbrev pub switches_fail_by : Committed → ℕ → List SwitchRecord → List Bool
 switches_fail_by c switch [] = []
 switches_fail_by c switch (t ∷ switches) = told_fails_by c switch t ++ switches_fail_by c (switch + 1) switches

@@ -7,7 +7,7 @@ ghost use Rattle.audit.specs.Judging.{tells_event, is_told_as_executed, executed
 use crate::named::{Name, Named};
 use crate::received::Received;
 use of_types::{Event, Executed, Items};
-use report::Told;
+use report::SwitchRecord;
 use std::alloc::{AllocError, Global};
 
 /// What the lines of a log are judged by: which received events have an equal event line, which commands have an executed
@@ -38,7 +38,7 @@ fn mark_each(told: &mut [bool], received: &Received, lines: &[Event])
     }
 }
 
-fn mark_all(told: &mut [bool], received: &Received, switches: &[Told])
+fn mark_all(told: &mut [bool], received: &Received, switches: &[SwitchRecord])
     requires { length told.old ≡ length received.now }
     ensures { (i : ℕ) → get_or told.new i false ≡ (get_or told.old i false || is_told_as_executed received.now switches.now i) }
 {
@@ -59,7 +59,7 @@ fn unmarked(alloc: Global, count: usize) -> Result<Vec<bool>, AllocError>
 pub fn told_events(
     alloc: Global,
     received: &Received,
-    switches: &[Told],
+    switches: &[SwitchRecord],
 ) -> Result<Vec<bool>, AllocError>
     ensures { IfOk result (λ told. (i : ℕ) → get_or told.items i false ≡ is_told_as_executed received.now switches.now i) }
 {
@@ -78,7 +78,7 @@ fn note_each(names: &mut Named<()>, switch: usize, executed: &[Executed]) -> Res
 }
 
 /// The names of the commands that have an executed line.
-pub fn executed_names(alloc: Global, switches: &[Told]) -> Result<Named<()>, AllocError>
+pub fn executed_names(alloc: Global, switches: &[SwitchRecord]) -> Result<Named<()>, AllocError>
     ensures { IfOk result (λ names. (q : Name) → is_some (value_of names q) ≡ is_executed 0 switches.now q) }
 {
     let mut names = Named::new(alloc);

@@ -8,7 +8,7 @@ use crate::named::Named;
 use crate::received::Received;
 use crate::same::same_order;
 use of_types::{Event, Executed, Order};
-use report::Told;
+use report::SwitchRecord;
 use std::alloc::AllocError;
 
 /// What the lines of the switches are judged by: the received events, how many of them are processed, and what is issued
@@ -48,14 +48,14 @@ fn left_behind(left: u64, life: u32, line: &Event) -> u64
 }
 
 /// Whether a line of the present life is neither among the last ones that are held, with so many behind it, nor processed.
-fn event_fails(left: u64, told: &Told, line: &Event, committed: &Committed) -> bool
+fn event_fails(left: u64, told: &SwitchRecord, line: &Event, committed: &Committed) -> bool
     ensures { result ≡ (nat_eq line.now.life told.now.life && nat_le told.now.held left && not (is_processed_in committed.now line.now)) }
 {
     line.life == told.life && told.held <= left && !is_processed(line, committed)
 }
 
 /// The first event line that fails. They are numbered from this line on.
-fn first_of_events(line: u64, told: &Told, committed: &Committed) -> Result<Option<u64>, AllocError>
+fn first_of_events(line: u64, told: &SwitchRecord, committed: &Committed) -> Result<Option<u64>, AllocError>
     ensures { IfOk result (λ first. first ≡ first_failing line (events_fail_by committed.now told.now.life told.now.held told.now.events)) }
 {
     let mut left = count_of_life(told.life, told.events.as_slice());
@@ -103,7 +103,7 @@ fn first_of_executed(
 fn first_of_switch(
     line: u64,
     switch: usize,
-    told: &Told,
+    told: &SwitchRecord,
     committed: &Committed,
 ) -> Result<Option<u64>, AllocError>
     ensures { IfOk result (λ first. first ≡ first_failing line (told_fails_by committed.now switch told.now)) }
@@ -119,7 +119,7 @@ fn first_of_switch(
 }
 
 /// The line behind those of a switch.
-fn behind(line: u64, switch: usize, told: &Told, committed: &Committed) -> Result<u64, AllocError>
+fn behind(line: u64, switch: usize, told: &SwitchRecord, committed: &Committed) -> Result<u64, AllocError>
     ensures { IfOk result (λ next. next ≡ line + length (told_fails_by committed.now switch told.now)) }
 {
     let events = add(line, 1)?;
@@ -131,7 +131,7 @@ fn behind(line: u64, switch: usize, told: &Told, committed: &Committed) -> Resul
 /// The first line of the switches that fails. They are numbered from this line on.
 pub fn first_of_switches(
     line: u64,
-    switches: &[Told],
+    switches: &[SwitchRecord],
     committed: &Committed,
 ) -> Result<Option<u64>, AllocError>
     ensures { IfOk result (λ first. first ≡ first_failing line (switches_fail_by committed.now 0 switches.now)) }

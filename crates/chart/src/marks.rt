@@ -5,7 +5,7 @@ use crate::captions::{input_words, named};
 use crate::lifelines::Lifelines;
 use crate::shapes::{Carried, Standing};
 use of_types::{Extension, MASTER, Octets, OfMessage, Spoken};
-use report::{Record, Told, write_number};
+use report::{Record, SwitchRecord, write_number};
 use journal::{Actor, JournalEntry, Letter, Local};
 use std::alloc::{AllocError, Global};
 use vr_log::Entry;
@@ -71,7 +71,7 @@ struct SwitchMarks {
 }
 
 impl SwitchMarks {
-    fn new(alloc: Global, told: &Told) -> Result<SwitchMarks, AllocError> {
+    fn new(alloc: Global, told: &SwitchRecord) -> Result<SwitchMarks, AllocError> {
         let mut executed = Unmarked::new(alloc);
         for (index, command) in told.executed.as_slice().iter().enumerate() {
             executed.push(command.life, command.number, index)?;

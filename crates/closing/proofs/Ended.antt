@@ -22,8 +22,8 @@ use Rattle.closing_laws.proofs.Ends.Rested.{rest_law}
 use Rattle.closing_laws.proofs.Measure.QuickClosings.{quick_law, sharp_law}
 use Rattle.world.specs.World.{Holds, Worlding, results_in, scene_in}
 use Rattle.world.proofs.Growing.{no_more}
-use Rattle.closing.specs.declared.closed.Closed.{Closed}
-use Rattle.closing.specs.declared.closed.Closed.TheVariants as closed
+use Rattle.closing.specs.declared.closed.ClosingOutcome.{ClosingOutcome}
+use Rattle.closing.specs.declared.closed.ClosingOutcome.TheVariants as closed
 use Rattle.closing.specs.Closing.{HasClosed, HasEnded, HasReason, closing_answer_of}
 use Rattle.closing.proofs.Leading.{runs_again}
 use Rattle.closing.proofs.Turned.{past_joined}
@@ -31,7 +31,7 @@ use Rattle.closing.proofs.Worlds.{Runs}
 
 module _ {B A : Type 0} (law : AppLaw A) (sealing : Sealing B) (faithful : IsFaithful sealing) (start now : Worlding B A) (kinds : List ℕ)
     (same : now.setup ≡ start.setup) (holds : Holds law sealing now kinds) (within : IsWithinLimits sealing.size (past now.journal))
-    (ended : Closed) (has : HasClosed (scene_in sealing start kinds) (closing_answer_of ended) start now) where
+    (ended : ClosingOutcome) (has : HasClosed (scene_in sealing start kinds) (closing_answer_of ended) start now) where
   abbrev OfRun : Scene B
   OfRun = scene_in sealing start kinds
 
@@ -58,7 +58,7 @@ module _ {B A : Type 0} (law : AppLaw A) (sealing : Sealing B) (faithful : IsFai
   of_closing claim proved saved =
       proved OfRun Results (past start.journal) has.entries closes.last runs.setup faithful holds.few possible saved within_limits closes.steps closes.posted
 
-  reason_by : (e : Closed) → Closes OfRun Results (past start.journal) has.entries (closing_answer_of e) → HasReason e OfRun Results (past start.journal) (past now.journal)
+  reason_by : (e : ClosingOutcome) → Closes OfRun Results (past start.journal) has.entries (closing_answer_of e) → HasReason e OfRun Results (past start.journal) (past now.journal)
   reason_by (closed.Done primary) c =
       subst (λ (l : List (JournalEntry B)). HasRested OfRun Results primary l) (sym whole)
       (rest_law OfRun Results (past start.journal) has.entries primary runs.setup faithful holds.few (subst (λ (l : List (JournalEntry B)). IsLegalPast OfRun Results l) whole runs.legal) c within_limits)

@@ -27,8 +27,8 @@ use Rattle.run_spec.specs.Committed.{controller_state, states_of}
 use Rattle.run_spec.specs.Closing.{Phase, Losing, Suspecting, Draining, Met, IsMove, is_drawn, drained, next_lost, next_drained, after_move, after_turn, after_member, met_by}
 use Rattle.world.specs.World.{AreMore, Worlding, results_in}
 use Rattle.world.proofs.Growing.{no_more}
-use Rattle.closing.specs.declared.closed.Came.{Came}
-use Rattle.closing.specs.declared.closed.Came.TheVariants as came
+use Rattle.closing.specs.declared.closed.TurnOutcome.{TurnOutcome}
+use Rattle.closing.specs.declared.closed.TurnOutcome.TheVariants as came
 use Rattle.closing_laws.specs.Quorum.{has}
 use Rattle.closing.specs.Closing.{CameTo, came_met, came_of, ClosesIn, Drains, IsFirst, Stage, Suspects, UpBy, up_in}
 use Rattle.closing.proofs.Worlds.{Runs, KnowsItself, member_of}
@@ -98,7 +98,7 @@ module _ {B : Type 0} (place : PacketPlace) (entries : List (JournalEntry B)) (f
   drained_drawn group view quorum is = drained_move group view quorum (Draw place.to place.id false) (drained_by quorum true is ∙ sym draw_is)
 
 -- where a closing stands by what a turn came to
-abbrev pub phase_of : Came → Phase → Phase
+abbrev pub phase_of : TurnOutcome → Phase → Phase
 phase_of came.ToRest next = next
 phase_of came.ToAFailedSave next = Losing
 phase_of (came.ToTheLimit limit) next = Met limit
@@ -120,14 +120,14 @@ member_phase view n c s next group me =
     by_up true up = by_primary up (nat_eq (view % s.vr.controllers) s.vr.me) refl
     by_up false up = rw up refl
 
-pub came_stands : {B A : Type 0} (stage : Stage B A) (scene : Scene B) (start now : Worlding B A) (next : Phase) (cause : Came) → ClosesIn (phase_of cause next) scene start now →
+pub came_stands : {B A : Type 0} (stage : Stage B A) (scene : Scene B) (start now : Worlding B A) (next : Phase) (cause : TurnOutcome) → ClosesIn (phase_of cause next) scene start now →
     (ClosesIn next scene start now → stage scene start now) → CameTo stage cause scene start now
 came_stands stage scene start now next came.ToRest c goes = goes c
 came_stands stage scene start now next came.ToAFailedSave c goes = c
 came_stands stage scene start now next (came.ToTheLimit limit) c goes = c
 
 -- who takes part by what a turn came to
-up_or_met : (cause : Came) (before after : List ℕ) → (cause ≡ came.ToAFailedSave → ⊥) → after ≡ before → UpBy cause before after
+up_or_met : (cause : TurnOutcome) (before after : List ℕ) → (cause ≡ came.ToAFailedSave → ⊥) → after ≡ before → UpBy cause before after
 up_or_met came.ToRest before after other same = same
 up_or_met came.ToAFailedSave before after other same = absurd (other refl)
 up_or_met (came.ToTheLimit limit) before after other same = same

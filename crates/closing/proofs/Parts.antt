@@ -32,8 +32,8 @@ use Rattle.run_spec.specs.Closing as schedule
 use Rattle.world.specs.Debts.{Debt}
 use Rattle.world.specs.World.{AreMore, AreTold, Holds, IsDebtor, Keeps, PairsStand, PostStops, Worlding, posts_of, results_in, scene_in}
 use Rattle.world.proofs.Stables.{each_told_then, unsaved_told}
-use Rattle.closing.specs.declared.closed.Came.{Came}
-use Rattle.closing.specs.declared.closed.Came.TheVariants as came
+use Rattle.closing.specs.declared.closed.TurnOutcome.{TurnOutcome}
+use Rattle.closing.specs.declared.closed.TurnOutcome.TheVariants as came
 use Rattle.run_laws.specs.Laws.{IsSuspectedUpTo, SuspectsUpTo}
 use Rattle.closing_laws.proofs.Start.Walking.{seven_at_most}
 use Rattle.closing.specs.Closing.{CameTo, ClosesIn, ClosingStops, Drained, EndsBy, HasClosed, IsCutAt, IsHaltedAt, is_over, LeadsTo, Rests, Stage, ClosingStandsAt, states_in, Suspects, up_in}
@@ -55,12 +55,12 @@ none_waits {B = B} journal o found none = by_pool (pool (past journal)) refl
     by_pool (p ∷ others) is = absurd (never p o refl (subst (λ l. IsFound journal o (slice_get l 0)) is found))
 
 -- who is over, and who is not
-pub not_over : (cause : Came) → is_over cause ≡ false → cause ≡ came.ToRest
+pub not_over : (cause : TurnOutcome) → is_over cause ≡ false → cause ≡ came.ToRest
 not_over came.ToRest h = refl
 not_over came.ToAFailedSave h = cc
 not_over (came.ToTheLimit limit) h = cc
 
-pub over_came : {B A : Type 0} (stage other : Stage B A) (cause : Came) (scene : Scene B) (start now : Worlding B A) → is_over cause ≡ true → CameTo stage cause scene start now → CameTo other cause scene start now
+pub over_came : {B A : Type 0} (stage other : Stage B A) (cause : TurnOutcome) (scene : Scene B) (start now : Worlding B A) → is_over cause ≡ true → CameTo stage cause scene start now → CameTo other cause scene start now
 over_came stage other came.ToRest scene start now h c = cc
 over_came stage other came.ToAFailedSave scene start now h c = c
 over_came stage other (came.ToTheLimit limit) scene start now h c = c

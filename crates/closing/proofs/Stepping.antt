@@ -22,7 +22,7 @@ use Rattle.run_spec.specs.Committed.{states_of}
 use Rattle.run_spec.specs.Closing.{Losing, Suspecting, Draining, IsMove, is_drawn}
 use Rattle.world.specs.Refusals.{TurnStops}
 use Rattle.world.specs.World.{Applies, Holds, Keeps, PairsStand, Worlding, scene_in}
-use Rattle.closing.specs.declared.closed.Came.{Came}
+use Rattle.closing.specs.declared.closed.TurnOutcome.{TurnOutcome}
 use Rattle.closing_laws.specs.Quorum.{has}
 use Rattle.closing.specs.Closing.{CameAt, CameTo, came_of, ClosesIn, Drains, IsFirst, LeadsTo, Stage, ClosingStandsAt, Suspects, UpBy, up_in, work_left}
 use Rattle.closing.proofs.Worlds.{KnowsItself}
@@ -120,7 +120,7 @@ module _ {B A W : Type 0} (law : AppLaw A) (knows : (x : Controlling A) (kinds :
         took : (kinds : List ℕ) → Holds law sealing old kinds → Turned law (scene_in sealing old kinds) Drawn old new
         took kinds holds = turned law saving sealing old stables new stables_after (turn.Draw place.to 0 false) Drawn rested pairs (took_draw place (past old.journal) found) refl named refl kinds holds k t
 
-        pub draw_leads : (a : Actor) → place.to ≡ a → (cause : Came) → CameAt view new a cause → LeadsTo law sealing (Drains view quorum) (CameTo (Drains view quorum) cause) old new
+        pub draw_leads : (a : Actor) → place.to ≡ a → (cause : TurnOutcome) → CameAt view new a cause → LeadsTo law sealing (Drains view quorum) (CameTo (Drains view quorum) cause) old new
         draw_leads (actor.Controller c) mine cause at kinds holds start s =
             let scene = scene_in sealing old kinds in
             let turn = took kinds holds in
@@ -133,7 +133,7 @@ module _ {B A W : Type 0} (law : AppLaw A) (knows : (x : Controlling A) (kinds :
             subst (λ x. CameTo (Drains view quorum) x scene start new) (sym at) (draws_switch law scene old new view n place quorum mine found drawn (took kinds holds) start s)
 
         pub draw_up : (kinds : List ℕ) → Holds law sealing old kinds → ((n : ℕ) → has quorum n ≡ true → has (up_in old) n ≡ true) →
-            (a : Actor) → place.to ≡ a → (cause : Came) → CameAt view new a cause → UpBy cause (up_in old) (up_in new)
+            (a : Actor) → place.to ≡ a → (cause : TurnOutcome) → CameAt view new a cause → UpBy cause (up_in old) (up_in new)
         draw_up kinds holds up (actor.Controller c) mine cause at =
             let scene = scene_in sealing old kinds in
             let turn = took kinds holds in
@@ -164,7 +164,7 @@ module _ {B A W : Type 0} (law : AppLaw A) (knows : (x : Controlling A) (kinds :
         })
         stop k stops
 
-    module _ (t : Applies sealing.size (turn.Local (actor.Controller c) (local.Suspect view)) old new) (k : Kept) (cause : Came) (at : CameAt view new (actor.Controller c) cause) where
+    module _ (t : Applies sealing.size (turn.Local (actor.Controller c) (local.Suspect view)) old new) (k : Kept) (cause : TurnOutcome) (at : CameAt view new (actor.Controller c) cause) where
       suspected : (kinds : List ℕ) → Holds law sealing old kinds → Turned law (scene_in sealing old kinds) Suspicion old new
       suspected kinds holds = turned law saving sealing old stables new stables_after (turn.Local (actor.Controller c) (local.Suspect view)) Suspicion rested pairs refl refl there refl kinds holds k t
 

@@ -28,13 +28,13 @@ use Rattle.closing_laws.specs.Starts.{SavesSucceed}
 use Rattle.closing_laws.specs.Stops.{IsAtLimit}
 use Rattle.world.specs.Refusals.{IsRefusalBehind}
 use Rattle.world.specs.World.{AreMore, Holds, IsStuck, Worlding, results_in, scene_in}
-use Rattle.closing.specs.declared.closed.Came.{Came}
-use Rattle.closing.specs.declared.closed.Came.TheVariants as came
-use Rattle.closing.specs.declared.closed.Closed.{Closed}
-use Rattle.closing.specs.declared.closed.Closed.TheVariants as closed
+use Rattle.closing.specs.declared.closed.TurnOutcome.{TurnOutcome}
+use Rattle.closing.specs.declared.closed.TurnOutcome.TheVariants as came
+use Rattle.closing.specs.declared.closed.ClosingOutcome.{ClosingOutcome}
+use Rattle.closing.specs.declared.closed.ClosingOutcome.TheVariants as closed
 
 -- what the schedule calls the end of a closing
-abbrev pub closing_answer_of : Closed → ClosingAnswer
+abbrev pub closing_answer_of : ClosingOutcome → ClosingAnswer
 closing_answer_of (closed.Done primary) = schedule.Done primary
 closing_answer_of (closed.NoQuorum up needed) = schedule.NoQuorum up needed
 closing_answer_of (closed.Overfull limit) = schedule.Overfull limit
@@ -47,7 +47,7 @@ abbrev pub up_in : {B A : Type 0} → Worlding B A → List ℕ
 up_in w = members_up (states_in w.controllers)
 
 -- where a closing is done, its primary is of the group of one world, and a majority of that group takes part in another
-abbrev pub HasMajority : {B A : Type 0} → Closed → Worlding B A → Worlding B A → Type 0
+abbrev pub HasMajority : {B A : Type 0} → ClosingOutcome → Worlding B A → Worlding B A → Type 0
 HasMajority (closed.Done primary) old new = (primary < old.setup.controllers) × (majority old.setup.controllers ≤ length (up_in new))
 HasMajority (closed.NoQuorum up needed) old new = Unit {0}
 HasMajority (closed.Overfull limit) old new = Unit {0}
@@ -109,33 +109,33 @@ abbrev pub Drained : {B A : Type 0} → ℕ → List ℕ → Stage B A
 Drained view quorum scene start now = Drains view quorum scene start now × (pool (past now.journal) ≡ [])
 
 -- what the turn of a member of a quorum came to
-abbrev pub came_met : Option LogFull → Came
+abbrev pub came_met : Option LogFull → TurnOutcome
 came_met None = came.ToRest
 came_met (Some limit) = came.ToTheLimit limit
 
-abbrev pub came_of : ℕ → ℕ → ℕ → ControllerState → Came
+abbrev pub came_of : ℕ → ℕ → ℕ → ControllerState → TurnOutcome
 came_of view group number state =
     if not (is_up state.vr) then came.ToAFailedSave else if nat_eq (view % group) number then came_met state.full else came.ToRest
 
 -- what the turn of an actor came to
-abbrev pub CameAt : {B A : Type 0} → ℕ → Worlding B A → Actor → Came → Type 0
+abbrev pub CameAt : {B A : Type 0} → ℕ → Worlding B A → Actor → TurnOutcome → Type 0
 CameAt {A = A} view w (actor.Controller c) cause = (x : Controlling A) → slice_get w.controllers c ≡ Some x → cause ≡ came_of view w.setup.controllers c (state_of x)
 CameAt view w (actor.Switch s) cause = cause ≡ came.ToRest
 
 -- where a closing stands by that
-abbrev pub CameTo : {B A : Type 0} → Stage B A → Came → Stage B A
+abbrev pub CameTo : {B A : Type 0} → Stage B A → TurnOutcome → Stage B A
 CameTo next came.ToRest scene start now = next scene start now
 CameTo next came.ToAFailedSave scene start now = ClosesIn Losing scene start now
 CameTo next (came.ToTheLimit limit) scene start now = ClosesIn (Met limit) scene start now
 
 -- who takes part then: the same, or one less
-abbrev pub UpBy : Came → List ℕ → List ℕ → Type 0
+abbrev pub UpBy : TurnOutcome → List ℕ → List ℕ → Type 0
 UpBy came.ToRest before after = after ≡ before
 UpBy came.ToAFailedSave before after = length after < length before
 UpBy (came.ToTheLimit limit) before after = after ≡ before
 
 -- whether a part of a closing is over before its end
-abbrev pub is_over : Came → Bool
+abbrev pub is_over : TurnOutcome → Bool
 is_over came.ToRest = false
 is_over came.ToAFailedSave = true
 is_over (came.ToTheLimit limit) = true
@@ -175,24 +175,24 @@ abbrev pub StaysAt : {T B A : Type 0} → AppLaw A → Sealing B → Stage B A �
 StaysAt law sealing stage result old new = LeadsTo law sealing stage (ClosingStandsAt (λ _. stage) result) old new
 
 -- the next member suspects, and these are still to
-abbrev pub NextSuspects : {B A : Type 0} → AppLaw A → Sealing B → ℕ → List ℕ → ℕ → List ℕ → Result Came Stop → Worlding B A → Worlding B A → Type 0
+abbrev pub NextSuspects : {B A : Type 0} → AppLaw A → Sealing B → ℕ → List ℕ → ℕ → List ℕ → Result TurnOutcome Stop → Worlding B A → Worlding B A → Type 0
 NextSuspects law sealing view quorum number members result old new =
     LeadsTo law sealing (Suspects view quorum (number ∷ members)) (ClosingStandsAt (CameTo (Suspects view quorum members)) result) old new
 
 -- all members suspect, and what waits is to be drained
-abbrev pub AllSuspect : {B A : Type 0} → AppLaw A → Sealing B → ℕ → List ℕ → Result Came Stop → Worlding B A → Worlding B A → Type 0
+abbrev pub AllSuspect : {B A : Type 0} → AppLaw A → Sealing B → ℕ → List ℕ → Result TurnOutcome Stop → Worlding B A → Worlding B A → Type 0
 AllSuspect law sealing view quorum result old new = LeadsTo law sealing (Suspects view quorum quorum) (ClosingStandsAt (CameTo (Drains view quorum)) result) old new
 
 -- one packet is drained, and what waits still is to be
-abbrev pub DrainsOne : {B A : Type 0} → AppLaw A → Sealing B → ℕ → List ℕ → Result Came Stop → Worlding B A → Worlding B A → Type 0
+abbrev pub DrainsOne : {B A : Type 0} → AppLaw A → Sealing B → ℕ → List ℕ → Result TurnOutcome Stop → Worlding B A → Worlding B A → Type 0
 DrainsOne law sealing view quorum result old new = LeadsTo law sealing (Drains view quorum) (ClosingStandsAt (CameTo (Drains view quorum)) result) old new
 
 -- all that waits is drained, and is gone
-abbrev pub DrainsAll : {B A : Type 0} → AppLaw A → Sealing B → ℕ → List ℕ → Result Came Stop → Worlding B A → Worlding B A → Type 0
+abbrev pub DrainsAll : {B A : Type 0} → AppLaw A → Sealing B → ℕ → List ℕ → Result TurnOutcome Stop → Worlding B A → Worlding B A → Type 0
 DrainsAll law sealing view quorum result old new = LeadsTo law sealing (Drains view quorum) (ClosingStandsAt (CameTo (Drained view quorum)) result) old new
 
 -- all members suspect, and all that waits is drained, and is gone
-abbrev pub ClosesBy : {B A : Type 0} → AppLaw A → Sealing B → ℕ → List ℕ → Result Came Stop → Worlding B A → Worlding B A → Type 0
+abbrev pub ClosesBy : {B A : Type 0} → AppLaw A → Sealing B → ℕ → List ℕ → Result TurnOutcome Stop → Worlding B A → Worlding B A → Type 0
 ClosesBy law sealing view quorum result old new = LeadsTo law sealing (Suspects view quorum quorum) (ClosingStandsAt (CameTo (Drained view quorum)) result) old new
 
 -- what a part of a closing keeps of a world: nothing is owed, and no view above a limit was suspected
@@ -214,7 +214,7 @@ pub record HasClosed {B A : Type 0} (scene : Scene B) (answer : ClosingAnswer) (
 -- Why a closing ended so, by the pasts before and behind it. Nothing is left undone, and what the primary that closed has
 -- committed is what is decided; too few took part as it began, where each save in it succeeds; or no room is left in the
 -- log of a controller that leads
-abbrev pub HasReason : {B : Type 0} → Closed → Scene B → List (List SaveResult) → List (JournalEntry B) → List (JournalEntry B) → Type 0
+abbrev pub HasReason : {B : Type 0} → ClosingOutcome → Scene B → List (List SaveResult) → List (JournalEntry B) → List (JournalEntry B) → Type 0
 HasReason (closed.Done primary) scene results before after = HasRested scene results primary after
 HasReason (closed.NoQuorum up needed) scene results before after = SavesSucceed scene results before → count_up scene results before < majority scene.setup.controllers
 HasReason (closed.Overfull limit) scene results before after = (c : ℕ) × (entry : Entry) × IsAtLimit scene results after limit c entry
@@ -225,22 +225,22 @@ pub record IsBounded {B : Type 0} (scene : Scene B) (results : List (List SaveRe
   pub sharp : SavesSucceed scene results before → IsSharplyBounded scene results before entries
 
 -- a closing that began in one world has ended in another as a call tells: by its schedule, for a reason, within its bounds
-pub record HasEnded {B A : Type 0} (scene : Scene B) (start now : Worlding B A) (ended : Closed) : Type 0 where
+pub record HasEnded {B A : Type 0} (scene : Scene B) (start now : Worlding B A) (ended : ClosingOutcome) : Type 0 where
   pub closed : HasClosed scene (closing_answer_of ended) start now
   pub reason : HasReason ended scene (results_in now.controllers) (past start.journal) (past now.journal)
   pub bounded : IsBounded scene (results_in now.controllers) (past start.journal) closed.entries
 
 -- it has ended, or begins again
-abbrev pub EndsBy : {B A : Type 0} → Option Closed → Stage B A
+abbrev pub EndsBy : {B A : Type 0} → Option ClosingOutcome → Stage B A
 EndsBy None scene start now = ClosesIn Losing scene start now
 EndsBy (Some ended) scene start now = HasClosed scene (closing_answer_of ended) start now
 
 -- an attempt leads a closing to its end, or to where it begins again
-abbrev pub Attempts : {B A : Type 0} → AppLaw A → Sealing B → Result (Option Closed) Stop → Worlding B A → Worlding B A → Type 0
+abbrev pub Attempts : {B A : Type 0} → AppLaw A → Sealing B → Result (Option ClosingOutcome) Stop → Worlding B A → Worlding B A → Type 0
 Attempts law sealing result old new = LeadsTo law sealing (ClosesIn Losing) (ClosingStandsAt EndsBy result) old new
 
 -- who takes part then: at its end a majority, and one less where it begins again
-abbrev pub UpTo : {B A : Type 0} → Option Closed → Worlding B A → Worlding B A → Type 0
+abbrev pub UpTo : {B A : Type 0} → Option ClosingOutcome → Worlding B A → Worlding B A → Type 0
 UpTo None old new = length (up_in new) < length (up_in old)
 UpTo (Some ended) old new = HasMajority ended old new
 

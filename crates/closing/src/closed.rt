@@ -3,7 +3,7 @@ use vr_log::LogFull;
 
 /// How a closing ended.
 #[derive(Clone, Copy, PartialEq, Eq, Debug)]
-pub enum Closed {
+pub enum ClosingOutcome {
     /// Nothing waits any more.
     Done { primary: u8 },
     /// Too few controllers take part.
@@ -14,7 +14,7 @@ pub enum Closed {
 
 /// What the turn of a member of the quorum came to.
 #[derive(Clone, Copy, PartialEq, Eq, Debug)]
-pub enum Came {
+pub enum TurnOutcome {
     ToRest,
     ToAFailedSave,
     ToTheLimit(LogFull),

@@ -7,6 +7,6 @@ mod rest;
 mod steps;
 mod views;
 
-pub use closed::Closed;
+pub use closed::ClosingOutcome;
 pub use rest::run;
 pub use views::may_close;

@@ -8,7 +8,7 @@ ghost use Rattle.closing_laws.specs.Quorum.{has};
 ghost use Rattle.closing.specs.Closing.{AllSuspect, Attempts, ClosesBy, ClosesIn, ClosingStops, DrainsAll, HasEnded, HasMajority, RaisesViewsBy, Rests, StaysAt, UpBy, UpTo, up_in};
 ghost use Rattle.closing.specs.Views.{most_view_of_a_closing, most_view_of_a_script, views_of_an_attempt};
 
-use crate::closed::{Came, Closed};
+use crate::closed::{TurnOutcome, ClosingOutcome};
 use crate::quorum::{closing_view, members_up};
 use crate::steps::{drain_first, is_over, lawful, lose_first, suspect_next};
 use app_core::App;
@@ -58,7 +58,7 @@ fn suspect<B: Body, A: App, W: Stable>(
     stables: &mut [W],
     view: u32,
     quorum: &[u8],
-) -> Result<Came, Stop>
+) -> Result<TurnOutcome, Stop>
     requires rests { world.old.owed ≡ None }
     requires holds { (kinds : List ℕ) × Holds A.law B.sealing world.old kinds }
     requires pairs { PairsStand W.saving stables.old world.old.controllers }
@@ -74,7 +74,7 @@ fn suspect<B: Body, A: App, W: Stable>(
             return Ok(came);
         }
     }
-    Ok(Came::ToRest)
+    Ok(TurnOutcome::ToRest)
 }
 
 /// What waits is drawn or lost, by number, until nothing waits.
@@ -83,7 +83,7 @@ fn drain<B: Body, A: App, W: Stable>(
     stables: &mut [W],
     view: u32,
     quorum: &[u8],
-) -> Result<Came, Stop>
+) -> Result<TurnOutcome, Stop>
     requires rests { world.old.owed ≡ None }
     requires holds { (kinds : List ℕ) × Holds A.law B.sealing world.old kinds }
     requires pairs { PairsStand W.saving stables.old world.old.controllers }
@@ -99,7 +99,7 @@ fn drain<B: Body, A: App, W: Stable>(
             return Ok(came);
         }
     }
-    Ok(Came::ToRest)
+    Ok(TurnOutcome::ToRest)
 }
 
 /// The quorum suspects the view, and then what waits is drained.
@@ -108,7 +108,7 @@ fn close_by<B: Body, A: App, W: Stable>(
     stables: &mut [W],
     view: u32,
     quorum: &[u8],
-) -> Result<Came, Stop>
+) -> Result<TurnOutcome, Stop>
     requires rests { world.old.owed ≡ None }
     requires holds { (kinds : List ℕ) × Holds A.law B.sealing world.old kinds }
     requires pairs { PairsStand W.saving stables.old world.old.controllers }
@@ -131,7 +131,7 @@ fn close_cleared<B: Body, A: App, W: Stable>(
     world: &mut World<B, A>,
     stables: &mut [W],
     up: &[u8],
-) -> Result<Option<Closed>, Stop>
+) -> Result<Option<ClosingOutcome>, Stop>
     requires rests { world.old.owed ≡ None }
     requires holds { (kinds : List ℕ) × Holds A.law B.sealing world.old kinds }
     requires pairs { PairsStand W.saving stables.old world.old.controllers }
@@ -151,9 +151,9 @@ fn close_cleared<B: Body, A: App, W: Stable>(
     let primary = (view % u32::from(group)) as u8;
     let quorum = quorum_of(alloc, group, primary, up)?;
     match close_by(world, stables, view, quorum.as_slice())? {
-        Came::ToRest => Ok(Some(Closed::Done { primary })),
-        Came::ToAFailedSave => Ok(None),
-        Came::ToTheLimit(limit) => Ok(Some(Closed::Overfull(limit))),
+        TurnOutcome::ToRest => Ok(Some(ClosingOutcome::Done { primary })),
+        TurnOutcome::ToAFailedSave => Ok(None),
+        TurnOutcome::ToTheLimit(limit) => Ok(Some(ClosingOutcome::Overfull(limit))),
     }
 }
 
@@ -162,7 +162,7 @@ fn close_once<B: Body, A: App, W: Stable>(
     alloc: Global,
     world: &mut World<B, A>,
     stables: &mut [W],
-) -> Result<Option<Closed>, Stop>
+) -> Result<Option<ClosingOutcome>, Stop>
     requires holds { (kinds : List ℕ) × Holds A.law B.sealing world.old kinds }
     requires pairs { PairsStand W.saving stables.old world.old.controllers }
     requires views { IsSuspectedUpTo most_view_of_a_closing (past world.old.journal) }
@@ -177,7 +177,7 @@ fn close_once<B: Body, A: App, W: Stable>(
     let up = members.as_slice();
     let needed = u64::from(world.setup().controllers / 2) + 1;
     if (up.len() as u64) < needed {
-        return Ok(Some(Closed::NoQuorum {
+        return Ok(Some(ClosingOutcome::NoQuorum {
             up: up.len() as u64,
             needed,
         }));
@@ -193,7 +193,7 @@ pub fn run<B: Body, A: App, W: Stable>(
     alloc: Global,
     world: &mut World<B, A>,
     stables: &mut [W],
-) -> Result<Closed, Stop>
+) -> Result<ClosingOutcome, Stop>
     requires holds { (kinds : List ℕ) × Holds A.law B.sealing world.old kinds }
     requires pairs { PairsStand W.saving stables.old world.old.controllers }
     requires views { IsSuspectedUpTo most_view_of_a_script (past world.old.journal) }

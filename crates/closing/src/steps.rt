@@ -10,7 +10,7 @@ ghost use Rattle.run_laws.specs.Laws.{IsSuspectedUpTo};
 ghost use Rattle.closing_laws.specs.Quorum.{has};
 ghost use Rattle.closing.specs.Closing.{HaveViewsUpTo, CameAt, came_of, ClosesIn, Drains, DrainsOne, HasLessLeft, IsFirst, is_over, NextSuspects, Rests, StaysAt, UpBy, up_in};
 
-use crate::closed::Came;
+use crate::closed::TurnOutcome;
 use app_core::App;
 use closing_quorum::has;
 use group_controller::Controller;
@@ -31,31 +31,31 @@ pub fn lawful<B: Body, A: App>(world: &World<B, A>)
 }
 
 /// Whether a part of a closing is over before its end.
-pub fn is_over(came: Came) -> bool
+pub fn is_over(came: TurnOutcome) -> bool
     ensures { result ≡ is_over came }
 {
-    came != Came::ToRest
+    came != TurnOutcome::ToRest
 }
 
 /// What the turn of a controller came to.
-fn came<A: App>(view: u32, group: u8, number: u8, controller: &Controller<A>) -> Came
+fn came<A: App>(view: u32, group: u8, number: u8, controller: &Controller<A>) -> TurnOutcome
     requires { 0 < group }
     ensures { result ≡ came_of view group number (state_of controller.now) }
 {
     if !takes_part(controller) {
-        return Came::ToAFailedSave;
+        return TurnOutcome::ToAFailedSave;
     }
     if view % u32::from(group) != u32::from(number) {
-        return Came::ToRest;
+        return TurnOutcome::ToRest;
     }
     match controller.full() {
-        Some(limit) => Came::ToTheLimit(limit),
-        None => Came::ToRest,
+        Some(limit) => TurnOutcome::ToTheLimit(limit),
+        None => TurnOutcome::ToRest,
     }
 }
 
 /// What the turn of an actor came to.
-fn came_at<B: Body, A: App>(world: &World<B, A>, view: u32, actor: Actor) -> Came
+fn came_at<B: Body, A: App>(world: &World<B, A>, view: u32, actor: Actor) -> TurnOutcome
     requires holds { (kinds : List ℕ) × Holds A.law B.sealing world.now kinds }
     requires named { IsActor world.now.setup actor }
     ensures { CameAt view world.now actor result }
@@ -67,7 +67,7 @@ fn came_at<B: Body, A: App>(world: &World<B, A>, view: u32, actor: Actor) -> Cam
             number,
             world.controller(number),
         ),
-        Actor::Switch(_) => Came::ToRest,
+        Actor::Switch(_) => TurnOutcome::ToRest,
     }
 }
 
@@ -105,7 +105,7 @@ pub fn suspect_next<B: Body, A: App, W: Stable>(
     stables: &mut [W],
     view: u32,
     number: u8,
-) -> Result<Came, Stop>
+) -> Result<TurnOutcome, Stop>
     requires rests { world.old.owed ≡ None }
     requires holds { (kinds : List ℕ) × Holds A.law B.sealing world.old kinds }
     requires pairs { PairsStand W.saving stables.old world.old.controllers }
@@ -129,7 +129,7 @@ pub fn draw_first<B: Body, A: App, W: Stable>(
     view: u32,
     quorum: &[u8],
     place: PacketPlace,
-) -> Result<Came, Stop>
+) -> Result<TurnOutcome, Stop>
     requires rests { world.old.owed ≡ None }
     requires holds { (kinds : List ℕ) × Holds A.law B.sealing world.old kinds }
     requires pairs { PairsStand W.saving stables.old world.old.controllers }
@@ -171,7 +171,7 @@ pub fn drain_first<B: Body, A: App, W: Stable>(
     view: u32,
     quorum: &[u8],
     place: PacketPlace,
-) -> Result<Came, Stop>
+) -> Result<TurnOutcome, Stop>
     requires rests { world.old.owed ≡ None }
     requires holds { (kinds : List ℕ) × Holds A.law B.sealing world.old kinds }
     requires pairs { PairsStand W.saving stables.old world.old.controllers }
@@ -187,5 +187,5 @@ pub fn drain_first<B: Body, A: App, W: Stable>(
         return draw_first(world, stables, view, quorum, place);
     }
     lose_first(world, stables, place)?;
-    Ok(Came::ToRest)
+    Ok(TurnOutcome::ToRest)
 }

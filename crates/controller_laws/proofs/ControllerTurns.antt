@@ -29,7 +29,7 @@ use Rattle.vr_core.specs.declared.input.VrInput.{VrInput}
 use Rattle.vr_core.specs.declared.input.VrInput.TheVariants as vr_input
 use Rattle.vr_core.specs.Step.{vr_step}
 use Rattle.app_core.specs.declared.issued.Issued.{Issued}
-use Rattle.dispatcher.specs.declared.answers.Through.{Through}
+use Rattle.dispatcher.specs.declared.answers.AckThrough.{AckThrough}
 use Rattle.dispatcher.specs.Marks.{no_marks, confirmed_by, off_role, settled_commands, is_pending, with_marked_result, wanted, outstanding}
 use Rattle.dispatcher.specs.Folding.{numbered, acknowledges_event, acknowledges_at, clears_at, places_processed, is_done}
 use Rattle.group_controller.specs.declared.messages.ControllerInput.{ControllerInput}
@@ -78,7 +78,7 @@ module _ (kinds : List ℕ) (setup : Setup) (x : ControllerInput) (P : Work → 
         | inr b ↦
             let r = in_map clear_letter (clears_at kinds setup (committed c) j) l b in
             let q = in_map (λ (s : ℕ). record { switch = s; life = life_in s (received (committed c)); through = settled_commands kinds setup (committed c) s (life_in s (received (committed c))) }) _ r.0 r.1 in
-            Clears q.0 (life_in q.0 (received (committed c))) lead (r.2 ∙ ap (λ (t : Through). clear_letter t) q.2)
+            Clears q.0 (life_in q.0 (received (committed c))) lead (r.2 ∙ ap (λ (t : AckThrough). clear_letter t) q.2)
       ]
 
   answered : (before : ℕ) (w : Work) → leads w.state.vr ≡ true → P w → P (with_answers kinds setup before w)

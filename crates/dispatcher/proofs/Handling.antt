@@ -13,7 +13,7 @@ use Rattle.app_core.specs.declared.issued.Issued.{Issued}
 use Rattle.app_core.specs.Chain.{concat, chain_after, chain_next, starting_chain}
 use Rattle.app_core.specs.Issued.{issues, issue_each}
 use Rattle.app_core.proofs.Issuing.{issues_push, length-issues}
-use Rattle.dispatcher.specs.declared.answers.Handled.{Handled}
+use Rattle.dispatcher.specs.declared.answers.HandledEvent.{HandledEvent}
 use Rattle.dispatcher.specs.Folding.{places_processed}
 use Rattle.dispatcher.specs.Ledger.{AreHandledAt, handled_at, handled_by, handled_of}
 use Rattle.dispatcher.proofs.Ledgers.{handled_push, length-handled_of}
@@ -34,21 +34,21 @@ get_within (y ∷ xs) zero h none = cc
 get_within (y ∷ xs) (suc n) h none = get_within xs n (omega (arith, h)) none
 
 module _ (kinds : List ℕ) (setup : Setup) where
-  abbrev beside : List Event → List Handled
+  abbrev beside : List Event → List HandledEvent
   beside es = handled_of es (issues kinds setup es)
 
   -- what was handled at a place stays so as the log grows
-  pub stays_at : (log : List Entry) (entry : Entry) (j : ℕ) (h : Handled) → handled_at kinds setup log j ≡ Some h → handled_at kinds setup (log ++ entry ∷ []) j ≡ Some h
+  pub stays_at : (log : List Entry) (entry : Entry) (j : ℕ) (h : HandledEvent) → handled_at kinds setup log j ≡ Some h → handled_at kinds setup (log ++ entry ∷ []) j ≡ Some h
   stays_at log (Received e) j h at =
       let es = received log in
       let given = issue_each (es ++ e ∷ []) (concat (issues kinds setup es)) (chain_next kinds setup (chain_after kinds setup (starting_chain kinds) es) e).commands in
       let grown : beside (es ++ e ∷ []) ≡ beside es ++ record { switch = e.switch; life = e.life; commands = given } ∷ [] =
       ap (λ (l : List (List Issued)). handled_of (es ++ e ∷ []) l) (issues_push kinds setup es e) ∙ handled_push kinds setup es (issues kinds setup es) e given (length-issues kinds setup es) in
-      ap (λ (l : List Event). slice_get (beside l) j) (received-append log (Received e ∷ [])) ∙ ap (λ (l : List Handled). slice_get l j) grown
+      ap (λ (l : List Event). slice_get (beside l) j) (received-append log (Received e ∷ [])) ∙ ap (λ (l : List HandledEvent). slice_get l j) grown
       ∙ get_left (beside es) (record { switch = e.switch; life = e.life; commands = given } ∷ []) j h at
   stays_at log (Processed i) j h at = ap (λ (l : List Event). slice_get (beside l) j) (received-append log (Processed i ∷ []) ∙ append-nil (received log)) ∙ at
 
-  all_stay : (log : List Entry) (entry : Entry) (places : List ℕ) (list : List Handled) → AreHandledAt kinds setup log places list → AreHandledAt kinds setup (log ++ entry ∷ []) places list
+  all_stay : (log : List Entry) (entry : Entry) (places : List ℕ) (list : List HandledEvent) → AreHandledAt kinds setup log places list → AreHandledAt kinds setup (log ++ entry ∷ []) places list
   all_stay log entry [] [] h = refl
   all_stay log entry [] (x ∷ list) h = absurd cc h
   all_stay log entry (j ∷ places) [] h = absurd cc h
@@ -57,7 +57,7 @@ module _ (kinds : List ℕ) (setup : Setup) where
       let rest : map (handled_at kinds setup log) places ≡ map Some list = cc in
       let a = stays_at log entry j x first in
       let b = all_stay log entry places list rest in
-      ap (λ (o : Option Handled). o ∷ map (handled_at kinds setup (log ++ entry ∷ [])) places) a ∙ ap (λ (l : List (Option Handled)). Some x ∷ l) b
+      ap (λ (o : Option HandledEvent). o ∷ map (handled_at kinds setup (log ++ entry ∷ [])) places) a ∙ ap (λ (l : List (Option HandledEvent)). Some x ∷ l) b
 
   -- an event that fits as processed is there
   pub is_there : (log : List Entry) (j : ℕ) → fits log (Processed j) ≡ true → handled_at kinds setup log j ≡ None → ⊥
@@ -67,19 +67,19 @@ module _ (kinds : List ℕ) (setup : Setup) where
       let long = length-handled_of kinds setup (received log) (issues kinds setup (received log)) (length-issues kinds setup (received log)) in
       get_within (beside (received log)) j (omega (arith, low, long)) none
 
-  with_none : (log : List Entry) (e : Entry) (places : List ℕ) (list : List Handled) → fits log e ≡ true → None ≡ handled_by kinds setup log e → AreHandledAt kinds setup log places list →
+  with_none : (log : List Entry) (e : Entry) (places : List ℕ) (list : List HandledEvent) → fits log e ≡ true → None ≡ handled_by kinds setup log e → AreHandledAt kinds setup log places list →
       AreHandledAt kinds setup (log ++ e ∷ []) (places ++ places_processed (e ∷ [])) list
   with_none log (Received e) places list fit none h = subst (λ (l : List ℕ). AreHandledAt kinds setup (log ++ Received e ∷ []) l list) (sym (append-nil places)) (all_stay log (Received e) places list h)
   with_none log (Processed j) places list fit none h = absurd (is_there log j fit (sym none))
 
-  with_some : (log : List Entry) (e : Entry) (x : Handled) (places : List ℕ) (list : List Handled) → Some x ≡ handled_by kinds setup log e → AreHandledAt kinds setup log places list →
+  with_some : (log : List Entry) (e : Entry) (x : HandledEvent) (places : List ℕ) (list : List HandledEvent) → Some x ≡ handled_by kinds setup log e → AreHandledAt kinds setup log places list →
       AreHandledAt kinds setup (log ++ e ∷ []) (places ++ places_processed (e ∷ [])) (list ++ x ∷ [])
   with_some log (Received e) x places list some h = absurd cc some
   with_some log (Processed j) x places list some h =
       let log' = log ++ Processed j ∷ [] in
       map-append (handled_at kinds setup log') places (j ∷ [])
-      ∙ ap (λ (l : List (Option Handled)). l ++ handled_at kinds setup log' j ∷ []) (all_stay log (Processed j) places list h)
-      ∙ ap (λ (o : Option Handled). map Some list ++ o ∷ []) (stays_at log (Processed j) j x (sym some))
+      ∙ ap (λ (l : List (Option HandledEvent)). l ++ handled_at kinds setup log' j ∷ []) (all_stay log (Processed j) places list h)
+      ∙ ap (λ (o : Option HandledEvent). map Some list ++ o ∷ []) (stays_at log (Processed j) j x (sym some))
       ∙ sym (map-append Some list (x ∷ []))
 
   -- the entries up to a place, and the one that stands there
@@ -89,7 +89,7 @@ module _ (kinds : List ℕ) (setup : Setup) where
       let both = and_parts (follows log (take i entries)) (follows (log ++ take i entries) (e ∷ [])) (sym (follows-append log (take i entries) (e ∷ [])) ∙ ap (λ (l : List Entry). follows log l) (sym more) ∙ front) in
       sym (follows_one (log ++ take i entries) e) ∙ both.1
 
-  pub goes_on_none : (log entries : List Entry) (i : ℕ) (e : Entry) (list : List Handled) → follows log entries ≡ true → take (i + 1) entries ≡ take i entries ++ e ∷ [] →
+  pub goes_on_none : (log entries : List Entry) (i : ℕ) (e : Entry) (list : List HandledEvent) → follows log entries ≡ true → take (i + 1) entries ≡ take i entries ++ e ∷ [] →
       None ≡ handled_by kinds setup (log ++ take i entries) e → AreHandledAt kinds setup (log ++ take i entries) (places_processed (take i entries)) list →
       AreHandledAt kinds setup (log ++ take (i + 1) entries) (places_processed (take (i + 1) entries)) list
   goes_on_none log entries i e list h more none at =
@@ -98,7 +98,7 @@ module _ (kinds : List ℕ) (setup : Setup) where
       (subst (λ (p : List ℕ). AreHandledAt kinds setup ((log ++ take i entries) ++ e ∷ []) p list) (sym (places-append (take i entries) (e ∷ [])))
       (with_none (log ++ take i entries) e (places_processed (take i entries)) list (fits_at log entries i e h more) none at)))
 
-  pub goes_on_some : (log entries : List Entry) (i : ℕ) (e : Entry) (x : Handled) (list : List Handled) → take (i + 1) entries ≡ take i entries ++ e ∷ [] →
+  pub goes_on_some : (log entries : List Entry) (i : ℕ) (e : Entry) (x : HandledEvent) (list : List HandledEvent) → take (i + 1) entries ≡ take i entries ++ e ∷ [] →
       Some x ≡ handled_by kinds setup (log ++ take i entries) e → AreHandledAt kinds setup (log ++ take i entries) (places_processed (take i entries)) list →
       AreHandledAt kinds setup (log ++ take (i + 1) entries) (places_processed (take (i + 1) entries)) (list ++ x ∷ [])
   goes_on_some log entries i e x list more some at =

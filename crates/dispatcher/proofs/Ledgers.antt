@@ -20,7 +20,7 @@ use Rattle.app_core.specs.declared.issued.Issued.{Issued}
 use Rattle.app_core.specs.Chain.{concat, chain_next, chain_after, starting_chain, reactions}
 use Rattle.app_core.specs.Issued.{count_issued, issue, issue_each, issues}
 use Rattle.app_core.proofs.Issuing.{concat_push, length-issues, issues_push}
-use Rattle.dispatcher.specs.declared.answers.Handled.{Handled}
+use Rattle.dispatcher.specs.declared.answers.HandledEvent.{HandledEvent}
 use Rattle.dispatcher.specs.declared.counts.Counts.{Counts}
 use Rattle.dispatcher.specs.declared.ledger.Ledger.{Ledger}
 use Rattle.dispatcher.specs.Counted.{Counted, counts_of}
@@ -190,7 +190,7 @@ module _ (kinds : List ℕ) (setup : Setup) where
   handled_push [] [] e given h = refl
   handled_push [] (i ∷ is) e given h = absurd (omega (arith, h))
   handled_push (d ∷ es) [] e given h = absurd (omega (arith, h))
-  handled_push (d ∷ es) (i ∷ is) e given h = ap (λ (z : List Handled). record { switch = d.switch; life = d.life; commands = i } ∷ z) (handled_push es is e given (omega (arith, h)))
+  handled_push (d ∷ es) (i ∷ is) e given h = ap (λ (z : List HandledEvent). record { switch = d.switch; life = d.life; commands = i } ∷ z) (handled_push es is e given (omega (arith, h)))
 
   pub length-handled_of : (es : List Event) (is : List (List Issued)) → length is ≡ length es → length (handled_of es is) ≡ length es
   length-handled_of [] [] h = refl
@@ -232,9 +232,9 @@ module _ (kinds : List ℕ) (setup : Setup) where
             (subst (λ (z : List Event). AreCounts z (concat (all ++ given ∷ [])) (concat (take done (all ++ given ∷ []))) new.counts) (sym events)
             (subst (λ (z : List Issued). AreCounts (take done es) z (concat (take done (all ++ given ∷ []))) new.counts) (sym joined)
             (subst (λ (z : List (List Issued)). AreCounts (take done es) (concat all ++ given) (concat z) new.counts) (sym front) counts)));
-        pending = pending ∙ ap (λ (l : List Handled). l ++ record { switch = e.switch; life = e.life; commands = given } ∷ []) kept.pending
+        pending = pending ∙ ap (λ (l : List HandledEvent). l ++ record { switch = e.switch; life = e.life; commands = given } ∷ []) kept.pending
             ∙ sym (drop-append-le done (handled_of es all) (record { switch = e.switch; life = e.life; commands = given } ∷ []) (omega (arith, ordered, hs)))
-            ∙ ap (λ (l : List Handled). drop done l) (sym (handled_push es all e given long))
+            ∙ ap (λ (l : List HandledEvent). drop done l) (sym (handled_push es all e given long))
             ∙ ap (λ (z : List (List Issued)). drop done (handled_of (es ++ e ∷ []) z)) (sym grown);
         processed_is = same ∙ kept.processed_is;
         unsettled_are = let a = kept.unsettled_are in let b = concat_behind done all in let few = kept.few in let c = length-append (concat (drop done all)) given in
@@ -272,19 +272,19 @@ module _ (kinds : List ℕ) (setup : Setup) where
       drop_there n xs x h ∙ ap (λ (k : ℕ). x ∷ drop k (y ∷ xs)) (sym e)
 
   -- an event beside what is issued for it
-  pub record IsHandled (es : List Event) (is : List (List Issued)) (n : ℕ) (h : Handled) : Type 0 where
+  pub record IsHandled (es : List Event) (is : List (List Issued)) (n : ℕ) (h : HandledEvent) : Type 0 where
     pub event : Event
     pub stands : slice_get es n ≡ Some event
     pub commands : slice_get is n ≡ Some h.commands
     pub switch_is : event.switch ≡ h.switch
     pub life_is : event.life ≡ h.life
 
-  pub is_handled : (es : List Event) (is : List (List Issued)) (n : ℕ) (h : Handled) → slice_get (handled_of es is) n ≡ Some h → IsHandled es is n h
+  pub is_handled : (es : List Event) (is : List (List Issued)) (n : ℕ) (h : HandledEvent) → slice_get (handled_of es is) n ≡ Some h → IsHandled es is n h
   is_handled [] is n h e = absurd cc e
   is_handled (d ∷ es) [] n h e = absurd cc e
   is_handled (d ∷ es) (i ∷ is) zero h e =
       let s : record { switch = d.switch; life = d.life; commands = i } ≡ h = cc e in
-      record { event = d; stands = refl; commands = ap (λ (x : Handled). Some x.commands) s; switch_is = ap (λ (x : Handled). x.switch) s; life_is = ap (λ (x : Handled). x.life) s }
+      record { event = d; stands = refl; commands = ap (λ (x : HandledEvent). Some x.commands) s; switch_is = ap (λ (x : HandledEvent). x.switch) s; life_is = ap (λ (x : HandledEvent). x.life) s }
   is_handled (d ∷ es) (i ∷ is) (suc n) h e = let r = is_handled es is n h e in record { event = r.event; stands = r.stands; commands = r.commands; switch_is = r.switch_is; life_is = r.life_is }
 
   concat_front : (n : ℕ) (xs : List (List Issued)) → length (concat (take n xs)) ≤ length (concat xs)
@@ -293,7 +293,7 @@ module _ (kinds : List ℕ) (setup : Setup) where
   concat_front (suc n) (x ∷ xs) = let h = concat_front n xs in let a = length-append x (concat (take n xs)) in let b = length-append x (concat xs) in omega (arith, h, a, b)
 
   -- the first event that is not processed is processed: it was counted, and then its commands were settled
-  pub one_done : (es : List Event) (done : ℕ) (h : Handled) (rest : List Handled) (old new : Ledger) (counted : Counted) → IsLedgerOf kinds setup es done old → length es ≤ 4096 →
+  pub one_done : (es : List Event) (done : ℕ) (h : HandledEvent) (rest : List HandledEvent) (old new : Ledger) (counted : Counted) → IsLedgerOf kinds setup es done old → length es ≤ 4096 →
       old.pending.items ≡ h ∷ rest → IsCountedAs old.counts h.switch h.life (one_processed (counts_of old.counts h.switch h.life)) counted →
       ((events : List Event) (issued settled : List Issued) → AreCounts events issued settled counted → length settled + length h.commands < 2 ^ 64 → AreCounts events issued (settled ++ h.commands) new.counts) →
       new.pending.items ≡ rest → new.processed ≡ min (old.processed + 1) most_count → new.lives ≡ old.lives → new.unsettled ≡ old.unsettled - length h.commands →
@@ -334,7 +334,7 @@ module _ (kinds : List ℕ) (setup : Setup) where
       let all = issues kinds setup es in
       let hs : length (handled_of es all) ≡ length es = length-handled_of es all (length-issues kinds setup es) in
       let d = length-drop done (handled_of es all) in
-      let z : length (drop done (handled_of es all)) ≡ 0 = ap (λ (l : List Handled). length l) (sym kept.pending ∙ none) in
+      let z : length (drop done (handled_of es all)) ≡ 0 = ap (λ (l : List HandledEvent). length l) (sym kept.pending ∙ none) in
       omega (arith, hs, d, z, there)
 
   -- a log grows by an event
@@ -387,7 +387,7 @@ module _ (kinds : List ℕ) (setup : Setup) where
   pub stays_pending : (log : List Entry) (j : ℕ) (ledger : Ledger) → IsLedgerOfLog kinds setup log ledger → fits log (Processed j) ≡ true → ledger.pending.items ≡ [] → ⊥
   stays_pending log j ledger kept fit none = none_pending (received log) (processed log) ledger kept none (next_done log j fit).there
 
-  pub processed_is : (log : List Entry) (j : ℕ) (h : Handled) (rest : List Handled) (old new : Ledger) (counted : Counted) → IsLedgerOfLog kinds setup log old → fits log (Processed j) ≡ true →
+  pub processed_is : (log : List Entry) (j : ℕ) (h : HandledEvent) (rest : List HandledEvent) (old new : Ledger) (counted : Counted) → IsLedgerOfLog kinds setup log old → fits log (Processed j) ≡ true →
       old.pending.items ≡ h ∷ rest → IsCountedAs old.counts h.switch h.life (one_processed (counts_of old.counts h.switch h.life)) counted →
       ((events : List Event) (issued settled : List Issued) → AreCounts events issued settled counted → length settled + length h.commands < 2 ^ 64 → AreCounts events issued (settled ++ h.commands) new.counts) →
       new.pending.items ≡ rest → new.processed ≡ min (old.processed + 1) most_count → new.lives ≡ old.lives → new.unsettled ≡ old.unsettled - length h.commands →

@@ -21,7 +21,7 @@ use Rattle.of_types.specs.declared.message.Command.{Command}
 use Rattle.vr_log.specs.declared.entry.Entry.TheVariants.{Received, Processed}
 use Rattle.vr_log.proofs.Logs.{received-append}
 use Rattle.app_core.specs.Law.{AppLaw}
-use Rattle.dispatcher.specs.declared.answers.Handled.{Handled}
+use Rattle.dispatcher.specs.declared.answers.HandledEvent.{HandledEvent}
 use Rattle.dispatcher.specs.declared.counts.Counts.{Counts}
 use Rattle.dispatcher.specs.declared.ledger.Ledger.{Ledger}
 use Rattle.dispatcher.specs.Folding.{numbered, is_told, clears}
@@ -117,7 +117,7 @@ module _ (kinds : List ℕ) (setup : Setup) (log : List Entry) (ledger : Ledger)
       let all = issues kinds setup (received log) in
       let hs = length-handled_of kinds setup (received log) all (length-issues kinds setup (received log)) in
       let d = length-drop (processed log) (handled_of (received log) all) in
-      let p = ap (λ (l : List Handled). length l) kept.pending in
+      let p = ap (λ (l : List HandledEvent). length l) kept.pending in
       let o = kept.ordered in
       omega (arith, hs, d, p, o)
 

@@ -12,11 +12,11 @@ use Rattle.app_core.specs.Chain.{concat, chain_after, starting_chain, given_by}
 use Rattle.app_core.specs.Issued.{count_issued, issues}
 use Rattle.app_core.specs.Law.{AppLaw}
 use Rattle.dispatcher.specs.Counted.{Counted, counts_of}
-use Rattle.dispatcher.specs.declared.answers.Handled.{Handled}
-use Rattle.dispatcher.specs.declared.answers.Through.{Through}
+use Rattle.dispatcher.specs.declared.answers.HandledEvent.{HandledEvent}
+use Rattle.dispatcher.specs.declared.answers.AckThrough.{AckThrough}
 use Rattle.dispatcher.specs.declared.counts.Counts.{Counts}
 use Rattle.dispatcher.specs.declared.ledger.Ledger.{Ledger}
-use Rattle.dispatcher.specs.declared.numbered.Numbered.{Numbered}
+use Rattle.dispatcher.specs.declared.numbered.NumberedOrder.{NumberedOrder}
 use Rattle.dispatcher.specs.Marks.{Marks, has_result, is_confirmed, unsettled}
 
 -- one life has these counts from now on
@@ -54,7 +54,7 @@ has_pending ledger switch life number =
     nat_le c.settled number && nat_lt number c.issued
 
 -- events beside what is issued for them
-abbrev pub handled_of : List Event → List (List Issued) → List Handled
+abbrev pub handled_of : List Event → List (List Issued) → List HandledEvent
 handled_of (event ∷ events) (commands ∷ lists) =
     record { switch = event.switch; life = event.life; commands = commands } ∷ handled_of events lists
 handled_of _ _ = []
@@ -77,7 +77,7 @@ abbrev pub IsLedgerOfLog : List ℕ → Setup → List Entry → Ledger → Type
 IsLedgerOfLog kinds setup log ledger = IsLedgerOf kinds setup (received log) (processed log) ledger
 
 -- the commands of the first of these
-abbrev pub first_commands : List Handled → List Issued
+abbrev pub first_commands : List HandledEvent → List Issued
 first_commands [] = []
 first_commands (h ∷ pending) = h.commands
 
@@ -119,7 +119,7 @@ abbrev pub is_outstanding : Ledger → Marks → Issued → Bool
 is_outstanding ledger marks x = wants ledger marks x && is_confirmed marks x.switch
 
 -- a command as it is sent
-abbrev pub as_numbered : Ledger → Issued → Numbered
+abbrev pub as_numbered : Ledger → Issued → NumberedOrder
 as_numbered ledger x =
     record { switch = x.switch; life = x.life; number = x.number; settled = (counts_of ledger.counts x.switch x.life).settled; order = x.order }
 
@@ -128,7 +128,7 @@ abbrev pub has_told : Ledger → List Issued → ℕ → Bool
 has_told ledger commands switch = list_any (λ x. nat_eq x.switch switch && not (nat_lt x.life (get_or ledger.lives x.switch 0))) commands
 
 -- what is settled of the present life of a switch
-abbrev pub cleared_of_life : Ledger → ℕ → Through
+abbrev pub cleared_of_life : Ledger → ℕ → AckThrough
 cleared_of_life ledger switch =
     let life = get_or ledger.lives switch 0 in
     record { switch = switch; life = life; through = (counts_of ledger.counts switch life).settled }
@@ -138,14 +138,14 @@ abbrev pub ForEachLog : (List ℕ → Setup → List Entry → Type 0) → (List
 ForEachLog stands says = (kinds : List ℕ) (setup : Setup) (log : List Entry) → stands kinds setup log → says kinds setup log
 
 -- the event that a log has as received at a place, beside what is issued for it
-abbrev pub handled_at : List ℕ → Setup → List Entry → ℕ → Option Handled
+abbrev pub handled_at : List ℕ → Setup → List Entry → ℕ → Option HandledEvent
 handled_at kinds setup log j = slice_get (handled_of (received log) (issues kinds setup (received log))) j
 
 -- what an entry tells of an event that it has as processed
-abbrev pub handled_by : List ℕ → Setup → List Entry → Entry → Option Handled
+abbrev pub handled_by : List ℕ → Setup → List Entry → Entry → Option HandledEvent
 handled_by kinds setup log (Received event) = None
 handled_by kinds setup log (Processed j) = handled_at kinds setup log j
 
 -- these are the events that a log has as received at these places, beside what is issued for them
-abbrev pub AreHandledAt : List ℕ → Setup → List Entry → List ℕ → List Handled → Type 0
+abbrev pub AreHandledAt : List ℕ → Setup → List Entry → List ℕ → List HandledEvent → Type 0
 AreHandledAt kinds setup log places handled = map (handled_at kinds setup log) places ≡ map Some handled

@@ -4,7 +4,7 @@ use of_types::Items;
 
 /// A switch in one of its lives is told up to where its events, or the results of its commands, are done with.
 #[derive(Clone, Copy, PartialEq, Eq, Debug)]
-pub struct Through {
+pub struct AckThrough {
     pub switch: u8,
     pub life: u32,
     pub through: u64,
@@ -12,7 +12,7 @@ pub struct Through {
 
 /// What is done with an event from a switch.
 #[derive(Clone, Copy, PartialEq, Eq, Debug)]
-pub enum Wish {
+pub enum EventAction {
     /// It is proposed as received.
     Propose,
     /// It was processed: so many events of its life are acknowledged.
@@ -22,7 +22,7 @@ pub enum Wish {
 
 /// A committed event: its switch and the life that made it, and the commands that are issued for it.
 #[derive(Drop)]
-pub struct Handled {
+pub struct HandledEvent {
     pub switch: u8,
     pub life: u32,
     pub commands: Items<Issued>,

@@ -3,10 +3,10 @@ ghost use Rattle.std.specs.Prelude.{◌≡◌, ◌&&◌, map, filter, count_by, 
 ghost use Rattle.std.specs.List.{range_with_len};
 ghost use Rattle.dispatcher.specs.Ledger.{as_numbered, cleared_of_life, first_commands, has_told, is_outstanding, wants};
 
-use crate::answers::Through;
+use crate::answers::AckThrough;
 use crate::ledger::Ledger;
 use crate::marks::ViewMarks;
-use crate::numbered::Numbered;
+use crate::numbered::NumberedOrder;
 use app_core::Issued;
 use std::alloc::{AllocError, Global};
 
@@ -37,11 +37,11 @@ fn is_outstanding(ledger: &Ledger, marks: &ViewMarks, command: &Issued) -> bool
 }
 
 /// A command as it is sent.
-fn number(ledger: &Ledger, command: &Issued) -> Result<Numbered, AllocError>
+fn number(ledger: &Ledger, command: &Issued) -> Result<NumberedOrder, AllocError>
     ensures { IfOk result (λ n. n ≡ as_numbered ledger.now command.now) }
 {
     let counts = ledger.counts_of(command.switch, command.life);
-    Ok(Numbered {
+    Ok(NumberedOrder {
         switch: command.switch,
         life: command.life,
         number: command.number,
@@ -56,7 +56,7 @@ pub(crate) fn outstanding(
     alloc: Global,
     ledger: &Ledger,
     marks: &ViewMarks,
-) -> Result<Vec<Numbered>, AllocError>
+) -> Result<Vec<NumberedOrder>, AllocError>
     ensures { IfOk result (λ list. list.items ≡ map (as_numbered ledger.now) (filter (is_outstanding ledger.now marks.now.marks) (first_commands ledger.now.pending.items))) }
 {
     let mut list = Vec::new(alloc);
@@ -74,7 +74,7 @@ pub(crate) fn outstanding_on(
     switch: u8,
     ledger: &Ledger,
     marks: &ViewMarks,
-) -> Result<Vec<Numbered>, AllocError>
+) -> Result<Vec<NumberedOrder>, AllocError>
     ensures { IfOk result (λ list. list.items ≡ map (as_numbered ledger.now) (filter (λ x. is_outstanding ledger.now marks.now.marks x && nat_eq x.switch switch) (first_commands ledger.now.pending.items))) }
 {
     let mut list = Vec::new(alloc);
@@ -94,11 +94,11 @@ fn has_told(ledger: &Ledger, switch: u8, commands: &[Issued]) -> bool
 }
 
 /// How many commands of the present life of a switch are settled.
-fn cleared(ledger: &Ledger, switch: u8) -> Through
+fn cleared(ledger: &Ledger, switch: u8) -> AckThrough
     ensures { result ≡ cleared_of_life ledger.now switch }
 {
     let life = ledger.life_of(switch);
-    Through {
+    AckThrough {
         switch,
         life,
         through: ledger.counts_of(switch, life).settled,
@@ -111,7 +111,7 @@ pub(crate) fn clears(
     switches: u8,
     ledger: &Ledger,
     commands: &[Issued],
-) -> Result<Vec<Through>, AllocError>
+) -> Result<Vec<AckThrough>, AllocError>
     ensures { IfOk result (λ list. list.items ≡ map (cleared_of_life ledger.now) (filter (has_told ledger.now commands.now) (range_with_len 0 switches))) }
 {
     let mut list = Vec::new(alloc);

@@ -13,11 +13,11 @@ ghost use Rattle.dispatcher.specs.Ledger.{AreHandledAt, ForEachLog, StandsFor, h
 ghost use Rattle.dispatcher.specs.Marks as marks;
 ghost use Rattle.dispatcher.specs.Marks.{confirmed_by, is_confirmed, is_finished, is_pending, no_marks, with_marked_result};
 
-use crate::answers::{Handled, Through, Wish};
+use crate::answers::{HandledEvent, AckThrough, EventAction};
 use crate::commands;
 use crate::ledger::Ledger;
 use crate::marks::ViewMarks;
-use crate::numbered::Numbered;
+use crate::numbered::NumberedOrder;
 use app_core::App;
 use of_types::{Event, Setup};
 use std::alloc::{AllocError, Global};
@@ -73,7 +73,7 @@ impl<A: App> Dispatcher<A> {
 
     /// One entry more is committed: the application reacts to an event that is received, and room is made for the
     /// results of its commands. What is processed comes back.
-    pub fn fold(&mut self, entry: &Entry) -> Result<Option<Handled>, AllocError>
+    pub fn fold(&mut self, entry: &Entry) -> Result<Option<HandledEvent>, AllocError>
         ensures folds { ForEachLog (StandsFor A.law self.old) (λ kinds setup log. fits log entry.now ≡ true →
             IfOk result (λ handled. (handled ≡ handled_by kinds setup log entry.now) × StandsFor A.law self.new kinds setup (log ++ entry.now ∷ []))) }
         ensures marks { self.new.marks ≡ self.old.marks }
@@ -90,7 +90,7 @@ impl<A: App> Dispatcher<A> {
     }
 
     /// These entries more are committed. What they have as processed comes back, in order.
-    pub fn fold_each(&mut self, entries: &[Entry]) -> Result<Vec<Handled>, AllocError>
+    pub fn fold_each(&mut self, entries: &[Entry]) -> Result<Vec<HandledEvent>, AllocError>
         ensures folds { ForEachLog (StandsFor A.law self.old) (λ kinds setup log. follows log entries.now ≡ true →
             IfOk result (λ list. AreHandledAt kinds setup (log ++ entries.now) (places_processed entries.now) list.items × StandsFor A.law self.new kinds setup (log ++ entries.now))) }
         ensures marks { self.new.marks ≡ self.old.marks }
@@ -112,18 +112,18 @@ impl<A: App> Dispatcher<A> {
     }
 
     /// What is done with an event from a switch, by the log and what is committed of it.
-    pub fn on_event(&self, event: &Event, log: &Log) -> Wish
+    pub fn on_event(&self, event: &Event, log: &Log) -> EventAction
         ensures { ForEachLog (StandsFor A.law self.now) (λ kinds setup committed. result ≡ wish log.now committed event.now) }
     {
         let (life, next) = log.next_place(event.switch);
         if may_come(event, life, next) {
-            return Wish::Propose;
+            return EventAction::Propose;
         }
         let through = self.ledger.counts_of(event.switch, event.life).processed;
         if is_processed_by(event, life, through) {
-            Wish::Acknowledge { through }
+            EventAction::Acknowledge { through }
         } else {
-            Wish::Nothing
+            EventAction::Nothing
         }
     }
 
@@ -188,7 +188,7 @@ impl<A: App> Dispatcher<A> {
     }
 
     /// The commands of the first unprocessed event that want a result, on confirmed switches, in the order of issue.
-    pub fn outstanding(&self) -> Result<Vec<Numbered>, AllocError>
+    pub fn outstanding(&self) -> Result<Vec<NumberedOrder>, AllocError>
         ensures { ForEachLog (StandsFor A.law self.now) (λ kinds setup log.
             IfOk result (λ list. list.items ≡ map (numbered kinds setup log) (marks.outstanding kinds setup log self.now.marks))) }
     {
@@ -196,7 +196,7 @@ impl<A: App> Dispatcher<A> {
     }
 
     /// Those of them on one switch.
-    pub fn outstanding_on(&self, switch: u8) -> Result<Vec<Numbered>, AllocError>
+    pub fn outstanding_on(&self, switch: u8) -> Result<Vec<NumberedOrder>, AllocError>
         ensures { ForEachLog (StandsFor A.law self.now) (λ kinds setup log.
             IfOk result (λ list. list.items ≡ map (numbered kinds setup log) (filter (λ x. nat_eq x.switch switch) (marks.outstanding kinds setup log self.now.marks)))) }
     {
@@ -212,14 +212,14 @@ impl<A: App> Dispatcher<A> {
     }
 
     /// What acknowledges an event that is processed: so many events of its life are, while that life goes on.
-    pub fn acknowledgement(&self, handled: &Handled) -> Option<Through>
+    pub fn acknowledgement(&self, handled: &HandledEvent) -> Option<AckThrough>
         ensures { ForEachLog (StandsFor A.law self.now) (λ kinds setup log.
             result ≡ (if has_ended handled.now.switch handled.now.life (received log) then None else Some (folding.acknowledgement log handled.now.switch handled.now.life))) }
     {
         if self.ledger.has_ended(handled.switch, handled.life) {
             return None;
         }
-        Some(Through {
+        Some(AckThrough {
             switch: handled.switch,
             life: handled.life,
             through: self
@@ -231,7 +231,7 @@ impl<A: App> Dispatcher<A> {
 
     /// What is told to each switch whose present life has a command of an event that is processed, ascending: so
     /// many commands of that life are settled.
-    pub fn clears(&self, handled: &Handled) -> Result<Vec<Through>, AllocError>
+    pub fn clears(&self, handled: &HandledEvent) -> Result<Vec<AckThrough>, AllocError>
         ensures { ForEachLog (StandsFor A.law self.now) (λ kinds setup log.
             IfOk result (λ list. list.items ≡ folding.clears kinds setup log handled.now.commands)) }
     {

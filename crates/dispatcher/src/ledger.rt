@@ -11,7 +11,7 @@ ghost use Rattle.app_core.specs.Issued.{issue_each};
 ghost use Rattle.dispatcher.specs.Counted.{counts_of};
 ghost use Rattle.dispatcher.specs.Ledger.{AreCounts, AreLives, IsCountedAs, IsLedgerOfLog, first_commands, handled_by, has_pending, most_commands, one_issued, one_processed, one_settled};
 
-use crate::answers::Handled;
+use crate::answers::HandledEvent;
 use crate::counts::{Counts, LifeCounts};
 use crate::lives::Lives;
 use app_core::Issued;
@@ -26,7 +26,7 @@ pub(crate) struct Ledger {
     alloc: Global,
     lives: Lives,
     counts: LifeCounts,
-    pending: VecDeque<Handled>,
+    pending: VecDeque<HandledEvent>,
     processed: u64,
     unsettled: usize,
 }
@@ -147,7 +147,7 @@ impl Ledger {
         self.lives.begin(event.switch, event.life);
         let commands = self.issue_each(commands)?;
         self.unsettled = self.unsettled.saturating_add(commands.len());
-        self.pending.push_back(Handled {
+        self.pending.push_back(HandledEvent {
             switch: event.switch,
             life: event.life,
             commands,
@@ -185,7 +185,7 @@ impl Ledger {
     }
 
     /// The first event that is not processed is committed as processed, and its commands are settled.
-    pub(crate) fn process(&mut self) -> Result<Option<Handled>, AllocError>
+    pub(crate) fn process(&mut self) -> Result<Option<HandledEvent>, AllocError>
         ensures { (kinds : List ℕ) (setup : Setup) (log : List Entry) (j : ℕ) → IsLedgerOfLog kinds setup log self.old → fits log (Processed j) ≡ true →
             IfOk result (λ handled. (handled ≡ handled_by kinds setup log (Processed j)) × IsLedgerOfLog kinds setup (log ++ Processed j ∷ []) self.new) }
     {

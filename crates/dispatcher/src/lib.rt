@@ -11,6 +11,6 @@ mod lives;
 mod marks;
 mod numbered;
 
-pub use answers::{Handled, Through, Wish};
+pub use answers::{HandledEvent, AckThrough, EventAction};
 pub use dispatcher::Dispatcher;
-pub use numbered::Numbered;
+pub use numbered::NumberedOrder;

@@ -4,7 +4,7 @@ use of_types::Order;
 /// A command that is to be sent: its switch, the life and the number that it has there, how many commands of
 /// that life are settled, and the order.
 #[derive(Drop)]
-pub struct Numbered {
+pub struct NumberedOrder {
     pub switch: u8,
     pub life: u32,
     pub number: u64,

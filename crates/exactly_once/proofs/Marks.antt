@@ -23,8 +23,8 @@ use Rattle.vr_log.specs.Log.{received, processed, is_past_limits}
 use Rattle.vr_log.specs.Members.{is_up, leads}
 use Rattle.vr_log.specs.Steps.{VrStep}
 use Rattle.vr_recovery.specs.Recovering.{restarted}
-use Rattle.dispatcher.specs.declared.answers.Wish.{Wish}
-use Rattle.dispatcher.specs.declared.answers.Wish.TheVariants.{Propose, Acknowledge, Nothing}
+use Rattle.dispatcher.specs.declared.answers.EventAction.{EventAction}
+use Rattle.dispatcher.specs.declared.answers.EventAction.TheVariants.{Propose, Acknowledge, Nothing}
 use Rattle.dispatcher.specs.Folding.{wish}
 use Rattle.dispatcher.specs.Marks.{Marks, no_marks, outstanding, has_result, is_pending, with_mark, with_marked_result}
 use Rattle.group_controller.specs.declared.messages.ControllerInput.{ControllerInput}
@@ -83,7 +83,7 @@ module _ (kinds : List ℕ) (setup : Setup) where
       (λ _. inr (ap (λ (m : Marks). m.acked) (settling_marks fresh_one.vr.commit asked)))
       (λ _. cond_both (leads step.state && nat_lt c.vr.commit step.state.commit) more work (λ (y : Work). NoneNew c y) (λ _. inl (ap (λ (m : Marks). m.acked) (settling_marks c.vr.commit work))) (λ _. inl refl))
 
-  wish_marks : (c : ControllerState) (event : Event) (w : Wish) → NoneNew c (on_wish kinds setup c event w)
+  wish_marks : (c : ControllerState) (event : Event) (w : EventAction) → NoneNew c (on_wish kinds setup c event w)
   wish_marks c event Propose = inl (ap (λ (m : Marks). m.acked) (proposing_marks c (Received event)))
   wish_marks c event (Acknowledge through) = inl refl
   wish_marks c event Nothing = inl refl

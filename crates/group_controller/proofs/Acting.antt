@@ -26,8 +26,8 @@ use Rattle.vr_core.proofs.Keeping.{lasts_on, lasts_same, later_than_none}
 use Rattle.vr_core.proofs.Lasting.{later_of_three, proposal_stays, step_stays, tick_same}
 use Rattle.two_stage_log.specs.Counts.{has_unprocessed}
 use Rattle.app_core.specs.Law.{AppLaw}
-use Rattle.dispatcher.specs.declared.answers.Handled.{Handled}
-use Rattle.dispatcher.specs.declared.numbered.Numbered.{Numbered}
+use Rattle.dispatcher.specs.declared.answers.HandledEvent.{HandledEvent}
+use Rattle.dispatcher.specs.declared.numbered.NumberedOrder.{NumberedOrder}
 use Rattle.dispatcher.specs.Folding.{numbered}
 use Rattle.dispatcher.specs.Ledger.{Dispatching, ForEachLog, StandsFor}
 use Rattle.dispatcher.specs.Marks.{Marks, confirmed_by, is_confirmed, outstanding}
@@ -119,12 +119,12 @@ module _ {A : Type 0} (law : AppLaw A) (kinds : List ℕ) (setup : Setup) where
   posts_acts a b letters h is = (posts_does a b letters h is).acts
 
   -- one event more was answered
-  pub answered : (f : Handled → List (Letter ControllerSays)) (start now new : Acting A) (list : List Handled) (i : ℕ) (h : Handled) → i < length list → h ≡ get_or list i h →
+  pub answered : (f : HandledEvent → List (Letter ControllerSays)) (start now new : Acting A) (list : List HandledEvent) (i : ℕ) (h : HandledEvent) → i < length list → h ≡ get_or list i h →
       now ≡ posts_letters start (flat_map f (take i list)) → new ≡ posts_letters now (f h) → new ≡ posts_letters start (flat_map f (take (i + 1) list))
   answered f start now new list i h low at before this =
-      let more : take (i + 1) list ≡ take i list ++ h ∷ [] = take_more list i h low ∙ ap (λ (y : Handled). take i list ++ y ∷ []) (sym at) in
+      let more : take (i + 1) list ≡ take i list ++ h ∷ [] = take_more list i h low ∙ ap (λ (y : HandledEvent). take i list ++ y ∷ []) (sym at) in
       let grown : flat_map f (take (i + 1) list) ≡ flat_map f (take i list) ++ f h =
-      ap (λ (l : List Handled). flat_map f l) more ∙ flat_map-append f (take i list) (h ∷ []) ∙ ap (λ (l : List (Letter ControllerSays)). flat_map f (take i list) ++ l) (append-nil (f h)) in
+      ap (λ (l : List HandledEvent). flat_map f l) more ∙ flat_map-append f (take i list) (h ∷ []) ∙ ap (λ (l : List (Letter ControllerSays)). flat_map f (take i list) ++ l) (append-nil (f h)) in
       this ∙ ap (λ (x : Acting A). posts_letters x (f h)) before ∙ posts_twice start (flat_map f (take i list)) (f h) ∙ ap (λ (l : List (Letter ControllerSays)). posts_letters start l) (sym grown)
 
   -- the commands of the first unprocessed event went out
@@ -135,13 +135,13 @@ module _ {A : Type 0} (law : AppLaw A) (kinds : List ℕ) (setup : Setup) where
       let y : not (is_some_of (processed (committed c)) c.last_told) ≡ true = ap (λ (n : ℕ). not (is_some_of n c.last_told)) (sym is) ∙ ap not (sym b ∙ no_b) in
       rw (x, y) refl
 
-  pub untold_does : (a b : Acting A) (place : ℕ) (commands : List Numbered) → IsActing a → is_untold a.work.state ≡ true → place ≡ processed (committed a.work.state) →
+  pub untold_does : (a b : Acting A) (place : ℕ) (commands : List NumberedOrder) → IsActing a → is_untold a.work.state ≡ true → place ≡ processed (committed a.work.state) →
       commands ≡ map (numbered kinds setup (committed a.work.state)) (outstanding kinds setup (committed a.work.state) a.work.state.marks) → b ≡ posts_letters a (map (command_letter a.work.state.vr.view) commands) →
       Does a (with_commands kinds setup a.work) (record b { work = record b.work { state = record b.work.state { last_told = Some place } } })
   untold_does a b place commands h is at are posted =
       let c = a.work.state in
       let letters = command_letters kinds setup c (outstanding kinds setup (committed c) c.marks) in
-      let sent = posted ∙ ap (λ (l : List (Letter ControllerSays)). posts_letters a l) (ap (λ (l : List Numbered). map (command_letter c.vr.view) l) are ∙ letters_are kinds setup c (outstanding kinds setup (committed c) c.marks)) in
+      let sent = posted ∙ ap (λ (l : List (Letter ControllerSays)). posts_letters a l) (ap (λ (l : List NumberedOrder). map (command_letter c.vr.view) l) are ∙ letters_are kinds setup c (outstanding kinds setup (committed c) c.marks)) in
       let work : Work = leaving (posting_work a.work letters) (record c { last_told = Some (processed (committed c)) }) in
       let rule : with_commands kinds setup a.work ≡ work = ap (λ (b : Bool). if b then work else a.work) is in
       subst (λ (x : Acting A). Does a (with_commands kinds setup a.work) (record x { work = record x.work { state = record x.work.state { last_told = Some place } } })) (sym sent)
@@ -251,7 +251,7 @@ module _ {A : Type 0} (law : AppLaw A) (kinds : List ℕ) (setup : Setup) where
       ∙ ap (λ (m : Marks). posts_letters start (map (role_letter start.work.state.vr.view) (filter (λ s. not (is_confirmed m s)) (range_with_len 0 (length setup.ports))))) (sym h.marks)
 
   -- a switch takes this controller as master
-  pub master_does : (a b : Acting A) (d : Dispatching A) (switch role generation : ℕ) (commands : List Numbered) → BeginsTurn law a kinds setup →
+  pub master_does : (a b : Acting A) (d : Dispatching A) (switch role generation : ℕ) (commands : List NumberedOrder) → BeginsTurn law a kinds setup →
       role ≡ MASTER → generation ≡ a.work.state.vr.view → d ≡ record a.dispatcher { marks = confirmed_by a.dispatcher.marks switch } →
       ForEachLog (StandsFor law a.dispatcher) (StandsFor law d) →
       commands ≡ map (numbered kinds setup (committed a.work.state)) (filter (λ x. nat_eq x.switch switch) (outstanding kinds setup (committed a.work.state) d.marks)) →
@@ -264,7 +264,7 @@ module _ {A : Type 0} (law : AppLaw A) (kinds : List ℕ) (setup : Setup) where
       let letters = commands_for kinds setup now switch in
       let marks : d.marks ≡ now.marks = ap (λ (x : Dispatching A). x.marks) marked ∙ ap (λ (m : Marks). confirmed_by m switch) (sym h.acts.marks) in
       let sent : map (command_letter c.vr.view) commands ≡ letters =
-      ap (λ (l : List Numbered). map (command_letter c.vr.view) l) (are ∙ ap (λ (m : Marks). map (numbered kinds setup (committed c)) (filter (λ x. nat_eq x.switch switch) (outstanding kinds setup (committed c) m))) marks)
+      ap (λ (l : List NumberedOrder). map (command_letter c.vr.view) l) (are ∙ ap (λ (m : Marks). map (numbered kinds setup (committed c)) (filter (λ x. nat_eq x.switch switch) (outstanding kinds setup (committed c) m))) marks)
       ∙ letters_are kinds setup now (filter (λ x. nat_eq x.switch switch) (outstanding kinds setup (committed c) now.marks)) in
       let base : Acting A = record a { work = record a.work { state = record c { marks = d.marks } }; dispatcher = d } in
       let acts : IsActing base = record {
@@ -284,7 +284,7 @@ module _ {A : Type 0} (law : AppLaw A) (kinds : List ℕ) (setup : Setup) where
       (record { acts = done.acts; work_is = done.work_is; saved = done.saved; lasts = done.lasts; promise_is = done.promise_is })
 
   -- time passes
-  pub tick_does : (a b n1 n2 : Acting A) (commands : List Numbered) → Stepping a b (vr_step a.work.state.vr vr_input.Tick) → leads b.work.state.vr ≡ true →
+  pub tick_does : (a b n1 n2 : Acting A) (commands : List NumberedOrder) → Stepping a b (vr_step a.work.state.vr vr_input.Tick) → leads b.work.state.vr ≡ true →
       n1 ≡ posts_letters b (map (role_letter b.work.state.vr.view) (unconfirmed setup b.work.state)) →
       commands ≡ map (numbered kinds setup (committed b.work.state)) (outstanding kinds setup (committed b.work.state) b.work.state.marks) →
       n2 ≡ posts_letters n1 (map (command_letter b.work.state.vr.view) commands) → Does a (on_tick kinds setup a.work.state) n2
@@ -299,7 +299,7 @@ module _ {A : Type 0} (law : AppLaw A) (kinds : List ℕ) (setup : Setup) where
       let all : n2 ≡ posts_letters b letters =
       sent ∙ ap (λ (x : Acting A). posts_letters x (map (command_letter d.vr.view) commands)) asked ∙ posts_twice b (map (role_letter d.vr.view) (unconfirmed setup d)) (map (command_letter d.vr.view) commands)
       ∙ ap (λ (l : List (Letter ControllerSays)). posts_letters b (map (role_letter d.vr.view) (unconfirmed setup d) ++ l))
-      (ap (λ (l : List Numbered). map (command_letter d.vr.view) l) are ∙ letters_are kinds setup d (outstanding kinds setup (committed d) d.marks)) in
+      (ap (λ (l : List NumberedOrder). map (command_letter d.vr.view) l) are ∙ letters_are kinds setup d (outstanding kinds setup (committed d) d.marks)) in
       does_as a n2 (posting_work b.work letters) (on_tick kinds setup c)
       (ap (λ (w : Work). posting_work w letters) s.work_is ∙ ap (λ (x : ControllerState). posting_work (stepped c step) (tick_letters kinds setup x)) state
       ∙ ap (λ (b : Bool). posting_work (stepped c step) (if b then tick_letters kinds setup c else [])) (sym leading ∙ ap (λ (x : ControllerState). leads x.vr) state))

@@ -10,8 +10,8 @@ use Rattle.vr_log.specs.declared.entry.Entry.{Entry}
 use Rattle.vr_log.specs.Log.{follows}
 use Rattle.vr_log.specs.Log.{received}
 use Rattle.vr_log.proofs.Logs.{follows-append, follows_take}
-use Rattle.dispatcher.specs.declared.answers.Handled.{Handled}
-use Rattle.dispatcher.specs.declared.answers.Through.{Through}
+use Rattle.dispatcher.specs.declared.answers.HandledEvent.{HandledEvent}
+use Rattle.dispatcher.specs.declared.answers.AckThrough.{AckThrough}
 use Rattle.dispatcher.specs.Folding.{acknowledgement, acknowledges_event, acknowledges_at, clears, clears_at, numbered, places_processed}
 use Rattle.dispatcher.specs.Ledger.{AreHandledAt, handled_at}
 use Rattle.dispatcher.proofs.Ledgers.{is_handled}
@@ -64,7 +64,7 @@ asked_more p view n =
 
 -- what answers an event is what answers that the event at its place is processed
 module _ (kinds : List ℕ) (setup : Setup) (c : ControllerState) where
-  answers_one : (j : ℕ) (h : Handled) → handled_at kinds setup (committed c) j ≡ Some h → answers_to kinds setup c h ≡ answers_at kinds setup c j
+  answers_one : (j : ℕ) (h : HandledEvent) → handled_at kinds setup (committed c) j ≡ Some h → answers_to kinds setup c h ≡ answers_at kinds setup c j
   answers_one j h at =
       let log = committed c in
       let all = issues kinds setup (received log) in
@@ -73,9 +73,9 @@ module _ (kinds : List ℕ) (setup : Setup) (c : ControllerState) where
       ap (λ (s : ℕ). if has_ended s h.life (received log) then [] else acknowledgement log s h.life ∷ []) (sym r.switch_is)
       ∙ ap (λ (l : ℕ). if has_ended r.event.switch l (received log) then [] else acknowledgement log r.event.switch l ∷ []) (sym r.life_is) ∙ ap (λ (o : Option Event). acknowledges_event log o) (sym r.stands) in
       let told : clears kinds setup log h.commands ≡ clears_at kinds setup log j = ap (λ (l : List Issued). clears kinds setup log l) (sym (get_or_from_slice_get all j h.commands [] r.commands)) in
-      ap (λ (l : List Through). map ack_letter l ++ map clear_letter (clears kinds setup log h.commands)) acks ∙ ap (λ (l : List Through). map ack_letter (acknowledges_at log j) ++ map clear_letter l) told
+      ap (λ (l : List AckThrough). map ack_letter l ++ map clear_letter (clears kinds setup log h.commands)) acks ∙ ap (λ (l : List AckThrough). map ack_letter (acknowledges_at log j) ++ map clear_letter l) told
 
-  answers_each : (places : List ℕ) (list : List Handled) → AreHandledAt kinds setup (committed c) places list → flat_map (answers_to kinds setup c) list ≡ flat_map (answers_at kinds setup c) places
+  answers_each : (places : List ℕ) (list : List HandledEvent) → AreHandledAt kinds setup (committed c) places list → flat_map (answers_to kinds setup c) list ≡ flat_map (answers_at kinds setup c) places
   answers_each [] [] h = refl
   answers_each [] (x ∷ list) h = absurd cc h
   answers_each (j ∷ places) [] h = absurd cc h
@@ -84,5 +84,5 @@ module _ (kinds : List ℕ) (setup : Setup) (c : ControllerState) where
       let rest : map (handled_at kinds setup (committed c)) places ≡ map Some list = cc in
       ap (λ (l : List (Letter ControllerSays)). l ++ flat_map (answers_to kinds setup c) list) (answers_one j x first) ∙ ap (λ (l : List (Letter ControllerSays)). answers_at kinds setup c j ++ l) (answers_each places list rest)
 
-  pub answers_new : (before : ℕ) (list : List Handled) → AreNewlyHandled kinds setup c before list → flat_map (answers_to kinds setup c) list ≡ flat_map (answers_at kinds setup c) (places_processed (drop before (committed c)))
+  pub answers_new : (before : ℕ) (list : List HandledEvent) → AreNewlyHandled kinds setup c before list → flat_map (answers_to kinds setup c) list ≡ flat_map (answers_at kinds setup c) (places_processed (drop before (committed c)))
   answers_new before list h = answers_each (places_processed (drop before (committed c))) list h

@@ -8,8 +8,8 @@ use Rattle.vr_log.specs.declared.entry.Entry.TheVariants.{Received}
 use Rattle.dispatcher.specs.Folding.{wish}
 use Rattle.of_types.specs.declared.message.Event.{Event}
 use Rattle.app_core.specs.Law.{AppLaw}
-use Rattle.dispatcher.specs.declared.answers.Wish.{Wish}
-use Rattle.dispatcher.specs.declared.answers.Wish.TheVariants.{Propose, Acknowledge, Nothing}
+use Rattle.dispatcher.specs.declared.answers.EventAction.{EventAction}
+use Rattle.dispatcher.specs.declared.answers.EventAction.TheVariants.{Propose, Acknowledge, Nothing}
 use Rattle.group_controller.specs.Acting.{Acting, Acts, BeginsTurn, posts_letters, Works}
 use Rattle.group_controller.specs.Rules.{after_step, has_started, on_event, on_wish, starting_view}
 use Rattle.group_controller.specs.Settling.{after_finishing, settling, ack_letter, after_proposal, goes_on}
@@ -24,8 +24,8 @@ module _ {A : Type 0} (law : AppLaw A) (kinds : List ℕ) (setup : Setup) where
   Does a work b = Works law kinds setup a work b
 
   -- an event
-  event_rule : (a : Acting A) (event : Event) (w : Wish) → wish a.work.state.vr.log (committed a.work.state) event ≡ w → on_event kinds setup a.work.state event ≡ on_wish kinds setup a.work.state event w
-  event_rule a event w is = ap (λ (x : Wish). on_wish kinds setup a.work.state event x) is
+  event_rule : (a : Acting A) (event : Event) (w : EventAction) → wish a.work.state.vr.log (committed a.work.state) event ≡ w → on_event kinds setup a.work.state event ≡ on_wish kinds setup a.work.state event w
+  event_rule a event w is = ap (λ (x : EventAction). on_wish kinds setup a.work.state event x) is
 
   pub event_more : (a b n : Acting A) (event : Event) → BeginsTurn law a kinds setup → wish a.work.state.vr.log (committed a.work.state) event ≡ Propose → goes_on a.work.state (Received event) ≡ true →
       Does a (after_proposal kinds setup a.work (Received event)) b → Does b (after_finishing kinds setup b.work) n → Does a (on_event kinds setup a.work.state event) n

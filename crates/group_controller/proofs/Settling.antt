@@ -12,7 +12,7 @@ use Rattle.vr_core.specs.Lasting.{Lasts}
 use Rattle.vr_core.proofs.Keeping.{lasts_on, lasts_same}
 use Rattle.vr_core.proofs.Lasting.{later_of_three}
 use Rattle.app_core.specs.Law.{AppLaw}
-use Rattle.dispatcher.specs.declared.answers.Handled.{Handled}
+use Rattle.dispatcher.specs.declared.answers.HandledEvent.{HandledEvent}
 use Rattle.dispatcher.specs.Folding.{places_processed}
 use Rattle.dispatcher.specs.Ledger.{Dispatching, ForEachLog, StandsFor}
 use Rattle.dispatcher.specs.Marks.{Marks, no_marks}
@@ -38,7 +38,7 @@ module _ {A : Type 0} (law : AppLaw A) (kinds : List ℕ) (setup : Setup) where
       record { acts = h; work_is = work; saved = None; lasts = subst (λ (w : Work). Lasts a.work.state.vr None w.state.vr) (sym work) (lasts_same a.work.state.vr); promise_is = promise }
 
   -- events that are newly processed were answered
-  pub answers_do : (f b : Acting A) (before : ℕ) (list : List Handled) → IsActing f → AreNewlyHandled kinds setup f.work.state before list → b ≡ posts_letters f (flat_map (answers_to kinds setup f.work.state) list) →
+  pub answers_do : (f b : Acting A) (before : ℕ) (list : List HandledEvent) → IsActing f → AreNewlyHandled kinds setup f.work.state before list → b ≡ posts_letters f (flat_map (answers_to kinds setup f.work.state) list) →
       Does f (with_answers kinds setup before f.work) b
   answers_do f b before list h new is =
       posts_does law kinds setup f b (flat_map (answers_at kinds setup f.work.state) (places_processed (drop before (committed f.work.state)))) h

@@ -9,8 +9,8 @@ use Rattle.vr_log.specs.Steps.{later_of}
 use Rattle.vr_log.specs.Valid.{IsValidState}
 use Rattle.vr_core.specs.Lasting.{CollectsItsOwn, Lasts}
 use Rattle.app_core.specs.Law.{AppLaw}
-use Rattle.dispatcher.specs.declared.answers.Handled.{Handled}
-use Rattle.dispatcher.specs.declared.answers.Through.{Through}
+use Rattle.dispatcher.specs.declared.answers.HandledEvent.{HandledEvent}
+use Rattle.dispatcher.specs.declared.answers.AckThrough.{AckThrough}
 use Rattle.dispatcher.specs.Folding.{acknowledgement, clears, places_processed}
 use Rattle.dispatcher.specs.Ledger.{AreHandledAt, Dispatching, StandsFor}
 use Rattle.group_controller.specs.declared.messages.ControllerSays.{ControllerSays}
@@ -43,14 +43,14 @@ with_out a out =
     }
 
 -- what answers an event that is processed, once so much is committed
-abbrev pub acknowledges_of : ControllerState → Handled → List Through
+abbrev pub acknowledges_of : ControllerState → HandledEvent → List AckThrough
 acknowledges_of c h = if has_ended h.switch h.life (received (committed c)) then [] else acknowledgement (committed c) h.switch h.life ∷ []
 
-abbrev pub answers_to : List ℕ → Setup → ControllerState → Handled → List (Letter ControllerSays)
+abbrev pub answers_to : List ℕ → Setup → ControllerState → HandledEvent → List (Letter ControllerSays)
 answers_to kinds setup c h = map ack_letter (acknowledges_of c h) ++ map clear_letter (clears kinds setup (committed c) h.commands)
 
 -- these were newly committed as processed, behind so many entries
-abbrev pub AreNewlyHandled : List ℕ → Setup → ControllerState → ℕ → List Handled → Type 0
+abbrev pub AreNewlyHandled : List ℕ → Setup → ControllerState → ℕ → List HandledEvent → Type 0
 AreNewlyHandled kinds setup c before handled = AreHandledAt kinds setup (committed c) (places_processed (drop before (committed c))) handled
 
 -- The member is valid, and the dispatcher stands for its log up to a place.

@@ -23,8 +23,8 @@ use Rattle.vr_log.specs.Steps.{VrStep}
 use Rattle.vr_recovery.specs.Recovering.{restarted}
 use Rattle.vr_core.specs.declared.input.VrInput.TheVariants as vr_input
 use Rattle.vr_core.specs.Step.{vr_step}
-use Rattle.dispatcher.specs.declared.answers.Wish.{Wish}
-use Rattle.dispatcher.specs.declared.answers.Wish.TheVariants.{Propose, Acknowledge, Nothing}
+use Rattle.dispatcher.specs.declared.answers.EventAction.{EventAction}
+use Rattle.dispatcher.specs.declared.answers.EventAction.TheVariants.{Propose, Acknowledge, Nothing}
 use Rattle.dispatcher.specs.Marks.{no_marks, is_confirmed, confirmed_by, off_role, is_pending, with_marked_result, outstanding}
 use Rattle.dispatcher.specs.Folding.{wish}
 use Rattle.group_controller.specs.declared.messages.ControllerInput.{ControllerInput}
@@ -69,7 +69,7 @@ on_tick kinds setup c =
     posting_work (stepped c (vr_step c.vr vr_input.Tick)) (if leads c.vr then tick_letters kinds setup c else [])
 
 -- an event comes: one that may follow is proposed, and one that was processed is acknowledged
-abbrev pub on_wish : List ℕ → Setup → ControllerState → Event → Wish → Work
+abbrev pub on_wish : List ℕ → Setup → ControllerState → Event → EventAction → Work
 on_wish kinds setup c event Propose = proposing kinds setup c (Received event)
 on_wish kinds setup c event (Acknowledge through) =
     posting_work (resting c) (ack_letter (record { switch = event.switch; life = event.life; through = through }) ∷ [])

@@ -15,8 +15,8 @@ use Rattle.vr_log.specs.Members.{most_failures}
 use Rattle.vr_normal.specs.Proposing.{proposed}
 use Rattle.two_stage_log.specs.Counts.{has_unprocessed}
 use Rattle.app_core.specs.declared.issued.Issued.{Issued}
-use Rattle.dispatcher.specs.declared.numbered.Numbered.{Numbered}
-use Rattle.dispatcher.specs.declared.answers.Through.{Through}
+use Rattle.dispatcher.specs.declared.numbered.NumberedOrder.{NumberedOrder}
+use Rattle.dispatcher.specs.declared.answers.AckThrough.{AckThrough}
 use Rattle.dispatcher.specs.Marks.{outstanding, is_finished}
 use Rattle.dispatcher.specs.Folding.{numbered, acknowledges_at, clears_at, places_processed}
 use Rattle.group_controller.specs.declared.messages.ControllerSays.{ControllerSays}
@@ -27,17 +27,17 @@ abbrev pub role_letter : ℕ → ℕ → Letter ControllerSays
 role_letter view s = to_switch s 0 (spoken.Plain (plain.RoleRequest MASTER view))
 
 -- a command to its switch, with the view as its generation
-abbrev pub command_letter : ℕ → Numbered → Letter ControllerSays
+abbrev pub command_letter : ℕ → NumberedOrder → Letter ControllerSays
 command_letter view n = to_switch n.switch 0 (spoken.Ravana (extension.Command n.life view n.number n.settled n.order))
 
 abbrev pub command_letters : List ℕ → Setup → ControllerState → List Issued → List (Letter ControllerSays)
 command_letters kinds setup c commands = map (λ x. command_letter c.vr.view (numbered kinds setup (committed c) x)) commands
 
 -- a switch is told how many events, and how many commands, of a life are done with
-abbrev pub ack_letter : Through → Letter ControllerSays
+abbrev pub ack_letter : AckThrough → Letter ControllerSays
 ack_letter t = to_switch t.switch 0 (spoken.Ravana (extension.EventAck t.life t.through))
 
-abbrev pub clear_letter : Through → Letter ControllerSays
+abbrev pub clear_letter : AckThrough → Letter ControllerSays
 clear_letter t = to_switch t.switch 0 (spoken.Ravana (extension.Clear t.life t.through))
 
 -- what answers that the event at a place is processed

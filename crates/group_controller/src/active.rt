@@ -20,7 +20,7 @@ ghost use Rattle.group_controller.specs.declared.messages.ControllerInput.TheVar
 use crate::letters::{ack_letter, add_clears, add_commands, add_members, role_letter, to_switch};
 use crate::messages::{ControllerInput, ControllerSays};
 use app_core::App;
-use dispatcher::{Dispatcher, Handled, Numbered, Through, Wish};
+use dispatcher::{Dispatcher, HandledEvent, NumberedOrder, AckThrough, EventAction};
 use of_types::{Event, Extension, MASTER, Octets, OfMessage, Setup, Spoken};
 use journal::{Letter, Letters, Local};
 use std::alloc::{AllocError, Global};
@@ -126,7 +126,7 @@ impl<A: App> Active<A> {
     }
 
     /// The application takes what was committed behind so many entries. What is processed of it comes back.
-    fn fold_behind(&mut self, before: u64) -> Result<Vec<Handled>, AllocError>
+    fn fold_behind(&mut self, before: u64) -> Result<Vec<HandledEvent>, AllocError>
         requires valid { IsValidState self.old.work.state.vr }
         requires reach { before ≤ self.old.work.state.vr.commit }
         ensures folds { ForEachGroup (ActsUpTo A.law before self.old) (λ kinds setup.
@@ -140,7 +140,7 @@ impl<A: App> Active<A> {
     }
 
     /// An event that is processed is answered.
-    fn answer(&mut self, handled: &Handled) -> Result<(), AllocError>
+    fn answer(&mut self, handled: &HandledEvent) -> Result<(), AllocError>
         ensures { ForEachGroup (Acts A.law self.old) (λ kinds setup. OnOk result (self.new ≡ posts_letters self.old (answers_to kinds setup self.old.work.state handled.now))) }
     {
         if let Some(told) = self.dispatcher.acknowledgement(handled) {
@@ -151,7 +151,7 @@ impl<A: App> Active<A> {
     }
 
     /// Settle, first step: events that are processed are answered.
-    fn answer_each(&mut self, processed: &[Handled]) -> Result<(), AllocError>
+    fn answer_each(&mut self, processed: &[HandledEvent]) -> Result<(), AllocError>
         ensures { ForEachGroup (Acts A.law self.old) (λ kinds setup. OnOk result (self.new ≡ posts_letters self.old (flat_map (answers_to kinds setup self.old.work.state) processed.now))) }
     {
         'processed: for handled in processed {
@@ -160,7 +160,7 @@ impl<A: App> Active<A> {
         Ok(())
     }
 
-    fn send(&mut self, commands: Vec<Numbered>) -> Result<(), AllocError>
+    fn send(&mut self, commands: Vec<NumberedOrder>) -> Result<(), AllocError>
         ensures { OnOk result (self.new ≡ posts_letters self.old (map (command_letter self.old.work.state.vr.view) commands.items)) }
     {
         add_commands(&mut self.letters, self.replica.view(), commands)
@@ -260,7 +260,7 @@ impl<A: App> Active<A> {
     }
 
     /// Settle: these events were newly committed as processed.
-    fn settle(&mut self, processed: &[Handled]) -> Result<(), AllocError>
+    fn settle(&mut self, processed: &[HandledEvent]) -> Result<(), AllocError>
         requires acts { InSomeGroup (Acts A.law self.old) }
         requires leads { members.leads self.old.work.state.vr ≡ true }
         ensures { ForEachGroup (Acts A.law self.old) (λ kinds setup. (before : ℕ) → AreNewlyHandled kinds setup self.old.work.state before processed.now →
@@ -346,19 +346,19 @@ impl<A: App> Active<A> {
         ensures { ForEachGroup (BeginsTurn A.law self.old) (λ kinds setup. OnOk result (Works A.law kinds setup self.old (rules.on_event kinds setup self.old.work.state event) self.new)) }
     {
         match self.dispatcher.on_event(&event, self.replica.log()) {
-            Wish::Propose => {
+            EventAction::Propose => {
                 if self.propose(Entry::Received(event))? {
                     self.finish_all()
                 } else {
                     Ok(())
                 }
             }
-            Wish::Acknowledge { through } => self.post(ack_letter(Through {
+            EventAction::Acknowledge { through } => self.post(ack_letter(AckThrough {
                 switch: event.switch,
                 life: event.life,
                 through,
             })),
-            Wish::Nothing => Ok(()),
+            EventAction::Nothing => Ok(()),
         }
     }
 

@@ -5,7 +5,7 @@ ghost use Rattle.group_controller.specs.State as state;
 ghost use Rattle.group_controller.specs.State.{to_members};
 
 use crate::messages::ControllerSays;
-use dispatcher::{Numbered, Through};
+use dispatcher::{NumberedOrder, AckThrough};
 use of_types::{Extension, Items, MASTER, OfMessage, Spoken};
 use journal::{Actor, Letter, Letters};
 use std::alloc::AllocError;
@@ -33,7 +33,7 @@ pub(crate) fn role_letter(view: u32, switch: u8) -> Letter<ControllerSays>
 }
 
 /// A command to its switch, with the view as its generation.
-pub(crate) fn command_letter(view: u32, numbered: Numbered) -> Letter<ControllerSays>
+pub(crate) fn command_letter(view: u32, numbered: NumberedOrder) -> Letter<ControllerSays>
     ensures { result ≡ settling.command_letter view numbered }
 {
     let command = Extension::Command {
@@ -47,7 +47,7 @@ pub(crate) fn command_letter(view: u32, numbered: Numbered) -> Letter<Controller
 }
 
 /// A switch is told how many events of a life are done with.
-pub(crate) fn ack_letter(told: Through) -> Letter<ControllerSays>
+pub(crate) fn ack_letter(told: AckThrough) -> Letter<ControllerSays>
     ensures { result ≡ settling.ack_letter told }
 {
     let ack = Extension::EventAck {
@@ -58,7 +58,7 @@ pub(crate) fn ack_letter(told: Through) -> Letter<ControllerSays>
 }
 
 /// A switch is told how many commands of a life are done with.
-pub(crate) fn clear_letter(told: Through) -> Letter<ControllerSays>
+pub(crate) fn clear_letter(told: AckThrough) -> Letter<ControllerSays>
     ensures { result ≡ settling.clear_letter told }
 {
     let clear = Extension::Clear {
@@ -95,7 +95,7 @@ pub(crate) fn add_members(
 pub(crate) fn add_commands(
     letters: &mut Letters<ControllerSays>,
     view: u32,
-    commands: Vec<Numbered>,
+    commands: Vec<NumberedOrder>,
 ) -> Result<(), AllocError>
     ensures { OnOk result (letters.new ≡ letters.old ++ map (settling.command_letter view) commands.items) }
 {
@@ -108,7 +108,7 @@ pub(crate) fn add_commands(
 /// And what is done with.
 pub(crate) fn add_clears(
     letters: &mut Letters<ControllerSays>,
-    clears: Vec<Through>,
+    clears: Vec<AckThrough>,
 ) -> Result<(), AllocError>
     ensures { OnOk result (letters.new ≡ letters.old ++ map settling.clear_letter clears.items) }
 {

@@ -27,8 +27,8 @@ use Rattle.journal.specs.declared.wire.Stop.{Stop}
 use Rattle.journal.specs.declared.wire.Stop.TheVariants.{OutOfMemory, JournalFull}
 use Rattle.journal.specs.Stables.{Saving}
 use Rattle.world.specs.World.{AreMore, Holds, Keeps, Worlding, results_in, scene_in}
-use Rattle.closing.specs.declared.closed.Closed.{Closed}
-use Rattle.closing.specs.declared.closed.Closed.TheVariants as closed
+use Rattle.closing.specs.declared.closed.ClosingOutcome.{ClosingOutcome}
+use Rattle.closing.specs.declared.closed.ClosingOutcome.TheVariants as closed
 use Rattle.closing.specs.Closing.{HasMajority, up_in}
 use Rattle.running.specs.declared.run.Played.{Played}
 use Rattle.running.specs.Apart.{FollowsAlone, FollowsApart, In_the_script, IsStepAt, TakesOwn, inputs_of, steps_of}
@@ -114,7 +114,7 @@ thread_halts law saving sealing steps kinds first stables stables_after left Out
 thread_halts law saving sealing steps kinds first stables stables_after left (JournalFull bytes letters) h = (h.0, In_the_script h.1)
 
 -- a majority of the group that began
-pub majority_then : {B A : Type 0} (first now last : Worlding B A) (ended : Closed) → now.setup ≡ first.setup → HasMajority ended now last → HasMajority ended first last
+pub majority_then : {B A : Type 0} (first now last : Worlding B A) (ended : ClosingOutcome) → now.setup ≡ first.setup → HasMajority ended now last → HasMajority ended first last
 majority_then first now last (closed.Done primary) same m =
     (subst (λ (s : Setup). primary < s.controllers) same m.0, subst (λ (s : Setup). majority s.controllers ≤ length (up_in last)) same m.1)
 majority_then first now last (closed.NoQuorum up needed) same m = tt

@@ -15,7 +15,7 @@ use Rattle.run_spec.specs.States.{Scene, Sealing}
 use Rattle.world.specs.World.{AreMore, Holds, Keeps, Worlding, results_in, scene_in}
 use Rattle.world.proofs.Growing.{more_then, no_more}
 use Rattle.world.proofs.Turning.{keeps_then}
-use Rattle.closing.specs.declared.closed.Closed.{Closed}
+use Rattle.closing.specs.declared.closed.ClosingOutcome.{ClosingOutcome}
 use Rattle.closing.specs.Closing.{ClosingStops, HasEnded, HasReason, IsBounded, IsCutAt, closing_answer_of}
 use Rattle.closing.proofs.Leading.{runs_again}
 use Rattle.closing.proofs.Turned.{more_told, past_joined}
@@ -50,7 +50,7 @@ module _ {B A W : Type 0} (law : AppLaw A) (saving : Saving W) (sealing : Sealin
     more_now later more = more_then now.setup.controllers (results_in now.controllers) (results_in last.controllers) later
         (more_told law (scene_in sealing now kinds) saving now last stables_now stables_last (keeps.holds kinds holds).run keeps.pairs goes_on.told) more
 
-    pub played : (script : ℕ) → script ≡ length now.journal → (ended : Closed) → HasEnded (scene_in sealing now kinds) now last ended → HasPlayed manner (scene_in sealing first kinds) steps script ended last
+    pub played : (script : ℕ) → script ≡ length now.journal → (ended : ClosingOutcome) → HasEnded (scene_in sealing now kinds) now last ended → HasPlayed manner (scene_in sealing first kinds) steps script ended last
     played script counted ended h = record {
       front = now.journal;
       rest = h.closed.entries;

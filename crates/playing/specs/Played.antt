@@ -17,7 +17,7 @@ use Rattle.world.specs.Refusals.{IsRefusalBehind}
 use Rattle.world.specs.World.{AreMore, Worlding, results_in, scene_in}
 use Rattle.running.specs.declared.run.Played.{Played}
 use Rattle.running.specs.Threads.{IsLeftLegal, IsLeftPaired}
-use Rattle.closing.specs.declared.closed.Closed.{Closed}
+use Rattle.closing.specs.declared.closed.ClosingOutcome.{ClosingOutcome}
 use Rattle.closing.specs.Closing.{HasReason, IsBounded, closing_answer_of}
 use Rattle.playing.specs.Manners.{Manner, In_order, Apart, Begins, FollowsManner}
 
@@ -35,7 +35,7 @@ abbrev pub HasFollowed : {B A : Type 0} → Manner → Scene B → List Turn →
 HasFollowed manner scene steps w = Lastingly w (λ later. FollowsManner manner scene later steps (past w.journal))
 
 -- a script was followed in this manner, and a closing has ended as a call tells: by its schedule, for a reason, within its bounds
-pub record HasPlayed {B A : Type 0} (manner : Manner) (scene : Scene B) (steps : List Turn) (script : ℕ) (ended : Closed) (w : Worlding B A) : Type 0 where
+pub record HasPlayed {B A : Type 0} (manner : Manner) (scene : Scene B) (steps : List Turn) (script : ℕ) (ended : ClosingOutcome) (w : Worlding B A) : Type 0 where
   pub front : List (JournalEntry B)
   pub rest : List (JournalEntry B)
   pub joined : w.journal ≡ front ++ rest
@@ -46,7 +46,7 @@ pub record HasPlayed {B A : Type 0} (manner : Manner) (scene : Scene B) (steps :
   pub bounded : IsBounded scene (results_in w.controllers) (past front) rest
 
 -- and so by what a call tells: how the closing ended, and how many entries the script made
-abbrev pub HasPlayedTo : {B A : Type 0} → Scene B → List Turn → Worlding B A → Closed × ℕ → Type 0
+abbrev pub HasPlayedTo : {B A : Type 0} → Scene B → List Turn → Worlding B A → ClosingOutcome × ℕ → Type 0
 HasPlayedTo scene steps w played = HasPlayed In_order scene steps played.1 played.0 w
 
 -- Playing that found no memory: the first steps of the script were taken in order, or all of them and the first entries of a closing.

@@ -11,7 +11,7 @@ ghost use Rattle.playing.specs.Manners.{Apart};
 ghost use Rattle.playing.specs.Played.{HaltsAs, HasPlayed, StepSuspectsUpTo};
 
 use app_core::App;
-use closing::Closed;
+use closing::ClosingOutcome;
 use running::{Halt, run_threads};
 use journal::{Gate, Stable, Turn};
 use players::Body;
@@ -24,7 +24,7 @@ use std::thread::Threads;
 #[derive(Drop)]
 pub struct Rested<B: Body, A: App> {
     pub world: World<B, A>,
-    pub closed: Closed,
+    pub closed: ClosingOutcome,
     pub script: usize,
 }
 

@@ -12,7 +12,7 @@ ghost use Rattle.playing.specs.Manners.{In_order};
 ghost use Rattle.playing.specs.Played.{HasFollowed, HasPlayedTo, RunStops, StepSuspectsUpTo};
 
 use app_core::App;
-use closing::Closed;
+use closing::ClosingOutcome;
 use journal::{Stable, Stop, Turn};
 use players::Body;
 use world::World;
@@ -51,7 +51,7 @@ pub fn play<B: Body, A: App, W: Stable>(
     world: &mut World<B, A>,
     stables: &mut [W],
     steps: &[Turn],
-) -> Result<(Closed, usize), Stop>
+) -> Result<(ClosingOutcome, usize), Stop>
     requires holds { (kinds : List ℕ) × Holds A.law B.sealing world.old kinds }
     requires pairs { PairsStand W.saving stables.old world.old.controllers }
     requires rests { world.old.owed ≡ None }

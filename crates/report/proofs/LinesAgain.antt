@@ -16,7 +16,7 @@ use Rattle.of_ravana.specs.Canonical.{canonical_happening, canonical_order}
 use Rattle.vr_log.specs.declared.entry.Entry.{Entry}
 use Rattle.vr_log.specs.declared.entry.Entry.TheVariants.{Received, Processed}
 use Rattle.report.specs.declared.journal_lines.PostLine.{PostLine}
-use Rattle.report.specs.declared.record.Shown.{Shown}
+use Rattle.report.specs.declared.record.RowRecord.{RowRecord}
 use Rattle.report.specs.OneLine.{letter_at, post_line_at, draw_at, lose_at, idle_at, local_at, input_at, frame_in_text, port_at, suspect_at, bare_at, event_words_at, received_in_text, processed_in_text, log_entry_at, event_in_text, executed_words_at, executed_at, row_at, of_at}
 use Rattle.report.specs.Records.{AreOctets, FitsActor, FitsLetter, FitsInput, IsToldEvent, IsLogEntry, IsToldExecuted, IsShown, IsEventOf}
 use Rattle.report.specs.Report.{word, newline, line, number_text, actor_word, flag, hex, letter_line, input_words, entry_lines, event_words, log_line, event_line, executed_line, row_line}
@@ -196,7 +196,7 @@ executed_is s x rest small told =
     (again_then orders x.order _ _ _ told.order (parted_end rest)
     (end_then rest _ _ refl)))))))
 
-pub row_is : (s : ℕ) (r : Shown) (rest : List ℕ) → s < 2 ^ 8 → IsShown r → row_at s (row_line s r ++ rest) ≡ Some (r, rest)
+pub row_is : (s : ℕ) (r : RowRecord) (rest : List ℕ) → s < 2 ^ 8 → IsShown r → row_at s (row_line s r ++ rest) ≡ Some (r, rest)
 unfolding row_at
 row_is s r rest small shown =
     ap (row_at s) (line_is (codes "row") (number_text s ∷ number_text r.priority ∷ hex (canonical_bare_match r.matching) ∷ hex (actions_of r.actions) ∷ []) rest)

@@ -16,7 +16,7 @@ use Rattle.of_ravana.specs.Canonical.{canonical_order}
 use Rattle.vr_log.specs.declared.entry.Entry.{Entry}
 use Rattle.vr_log.specs.declared.entry.Entry.TheVariants.{Received, Processed}
 use Rattle.report.specs.declared.journal_lines.PostLine.{PostLine}
-use Rattle.report.specs.declared.record.Shown.{Shown}
+use Rattle.report.specs.declared.record.RowRecord.{RowRecord}
 use Rattle.report.specs.OneLine.{begins, letter_at, post_line_at, draw_at, lose_at, idle_at, local_at, input_at, frame_in_text, port_at, suspect_at, bare_at, short_entry_at, event_words_at, received_in_text, processed_in_text, log_entry_at, event_in_text, executed_words_at, executed_at, row_at, of_at}
 use Rattle.report.specs.Records.{FitsLetter, FitsInput, IsToldEntry, IsToldEvent, IsLogEntry, IsToldExecuted, IsShown, IsEventOf}
 use Rattle.report.specs.Report.{word, newline, line, number_text, actor_word, flag, hex, letter_line, input_words, entry_lines, event_words, log_line, event_line, executed_line, row_line}
@@ -237,7 +237,7 @@ executed_is s bytes x rest e =
 pub executed_takes : (s : ℕ) → Takes (executed_at s) (executed_line s) IsToldExecuted
 executed_takes s = record { takes = executed_is s }
 
-row_is : (s : ℕ) (bytes : List ℕ) (x : Shown) (rest : List ℕ) → row_at s bytes ≡ Some (x, rest) → Spelt (row_line s) IsShown bytes x rest
+row_is : (s : ℕ) (bytes : List ℕ) (x : RowRecord) (rest : List ℕ) → row_at s bytes ≡ Some (x, rest) → Spelt (row_line s) IsShown bytes x rest
 unfolding row_at
 row_is s bytes x rest e =
     took_text (codes "row") bytes _ _ e (λ b0 e0 e.

@@ -8,7 +8,7 @@ use Rattle.journal.specs.declared.journal.JournalEntry.TheVariants as entry
 use Rattle.journal.specs.declared.journal.Letter.{Letter}
 use Rattle.vr_log.specs.declared.entry.Entry.{Entry}
 use Rattle.report.specs.declared.record.Record.{Record}
-use Rattle.report.specs.declared.record.Told.{Told}
+use Rattle.report.specs.declared.record.SwitchRecord.{SwitchRecord}
 use Rattle.report.specs.declared.switch_lines.SwitchLine.{SwitchLine}
 use Rattle.report.specs.OneLine.{begins, letter_at, short_entry_at, role_words_at, switch_counts_at, switch_line_at, event_in_text, executed_at, row_at, first_line_at, last_line_at}
 use Rattle.report.specs.Reading.{post_at, journal_entry_at, journal_at, told_in_text, switches_at, history_at, outcome_in_text, record_at, report_at}
@@ -101,7 +101,7 @@ no_deny (x ∷ journal) rest told e = ap (begins (codes "deny")) (more_lines ent
 three_labels : (a b c d e f rest : List ℕ) → ((a ++ b) ++ ((c ++ d) ++ (e ++ f))) ++ rest ≡ a ++ (b ++ (c ++ (d ++ (e ++ (f ++ rest)))))
 three_labels a b c d e f rest = simp append_assoc refl
 
-pub role_parts : (t : Told) (rest : List ℕ) → role_words t ++ rest ≡ word (codes "generation") ++ (word (number_or_dash t.generation) ++ (word (codes "master") ++ (word (master_word t.master) ++ (word (codes "life") ++ (word (number_text t.life) ++ rest)))))
+pub role_parts : (t : SwitchRecord) (rest : List ℕ) → role_words t ++ rest ≡ word (codes "generation") ++ (word (number_or_dash t.generation) ++ (word (codes "master") ++ (word (master_word t.master) ++ (word (codes "life") ++ (word (number_text t.life) ++ rest)))))
 unfolding role_words labelled
 role_parts t rest = three_labels (word (codes "generation")) (word (number_or_dash t.generation)) (word (codes "master")) (word (master_word t.master)) (word (codes "life")) (word (number_text t.life)) rest
 
@@ -125,7 +125,7 @@ master_then : {R : Type 0} (c : Option ℕ) (rest : List ℕ) (more : Option ℕ
 master_then c rest more y fits follows e =
     subst (λ t. (dash_or controller_in_text (word t ++ rest) >>= more) ≡ y) (sym (master_is c)) (again_then controller_or_dash c rest more y fits follows e)
 
-role_is : (s : ℕ) (t : Told) (rest : List ℕ) → IsToldSwitch s t → IsParted rest → role_words_at (role_words t ++ rest) ≡ Some ((t.generation, t.master, t.life), rest)
+role_is : (s : ℕ) (t : SwitchRecord) (rest : List ℕ) → IsToldSwitch s t → IsParted rest → role_words_at (role_words t ++ rest) ≡ Some ((t.generation, t.master, t.life), rest)
 unfolding role_words_at
 role_is s t rest told follows =
     ap role_words_at (role_parts t rest)
@@ -136,11 +136,11 @@ role_is s t rest told follows =
     (known_then (codes "life") _ _ _
     (again_then number32 t.life _ _ _ told.life follows refl)))))
 
-role_then : {R : Type 0} (s : ℕ) (t : Told) (rest : List ℕ) (more : (Option ℕ × Option ℕ × ℕ) × List ℕ → Option R) (y : Option R) → IsToldSwitch s t → IsParted rest → more ((t.generation, t.master, t.life), rest) ≡ y →
+role_then : {R : Type 0} (s : ℕ) (t : SwitchRecord) (rest : List ℕ) (more : (Option ℕ × Option ℕ × ℕ) × List ℕ → Option R) (y : Option R) → IsToldSwitch s t → IsParted rest → more ((t.generation, t.master, t.life), rest) ≡ y →
     (role_words_at (role_words t ++ rest) >>= more) ≡ y
 role_then s t rest more y told follows e = rw (role_is s t rest told follows) e
 
-parted_role : (t : Told) (rest : List ℕ) → IsParted (role_words t ++ rest)
+parted_role : (t : SwitchRecord) (rest : List ℕ) → IsParted (role_words t ++ rest)
 unfolding role_words labelled word
 parted_role t rest = refl
 
@@ -148,7 +148,7 @@ parted_role t rest = refl
 five_parts : (first of role a b c d e end rest : List ℕ) → (first ++ (of ++ (role ++ ((a ++ (b ++ (c ++ (d ++ e)))) ++ end)))) ++ rest ≡ first ++ (of ++ (role ++ (a ++ (b ++ (c ++ (d ++ (e ++ (end ++ rest))))))))
 five_parts first of role a b c d e end rest = simp append_assoc refl
 
-pub switch_parts : (s : ℕ) (t : Told) (rest : List ℕ) → switch_line s t ++ rest ≡
+pub switch_parts : (s : ℕ) (t : SwitchRecord) (rest : List ℕ) → switch_line s t ++ rest ≡
     codes "switch" ++ (word (number_text s) ++ (role_words t ++ (labelled (codes "events") (number_text (length t.events)) ++ (labelled (codes "held") (number_text t.held) ++ (labelled (codes "executed") (number_text (length t.executed))
     ++ (labelled (codes "rows") (number_text (length t.rows)) ++ (labelled (codes "sent") (number_text t.sent) ++ (newline ++ rest))))))))
 unfolding switch_line count_words
@@ -156,10 +156,10 @@ switch_parts s t rest =
     five_parts (codes "switch") (word (number_text s)) (role_words t) (labelled (codes "events") (number_text (length t.events))) (labelled (codes "held") (number_text t.held)) (labelled (codes "executed") (number_text (length t.executed)))
     (labelled (codes "rows") (number_text (length t.rows))) (labelled (codes "sent") (number_text t.sent)) newline rest
 
-abbrev pub line_of : Told → SwitchLine
+abbrev pub line_of : SwitchRecord → SwitchLine
 line_of t = record { generation = t.generation; master = t.master; life = t.life; events = length t.events; held = t.held; executed = length t.executed; rows = length t.rows; sent = t.sent }
 
-switch_line_is : (s : ℕ) (t : Told) (rest : List ℕ) → s < 2 ^ 8 → IsToldSwitch s t → switch_line_at s (switch_line s t ++ rest) ≡ Some (line_of t, rest)
+switch_line_is : (s : ℕ) (t : SwitchRecord) (rest : List ℕ) → s < 2 ^ 8 → IsToldSwitch s t → switch_line_at s (switch_line s t ++ rest) ≡ Some (line_of t, rest)
 unfolding switch_line_at switch_counts_at
 switch_line_is s t rest small told =
     ap (switch_line_at s) (switch_parts s t rest)
@@ -176,11 +176,11 @@ switch_line_is s t rest small told =
 four_parts : (a b c d rest : List ℕ) → (a ++ (b ++ (c ++ d))) ++ rest ≡ a ++ (b ++ (c ++ (d ++ rest)))
 four_parts a b c d rest = simp append_assoc refl
 
-pub told_parts : (s : ℕ) (t : Told) (rest : List ℕ) → told_lines s t ++ rest ≡ switch_line s t ++ (lines_of event_line t.events ++ (lines_of (executed_line s) t.executed ++ (lines_of (row_line s) t.rows ++ rest)))
+pub told_parts : (s : ℕ) (t : SwitchRecord) (rest : List ℕ) → told_lines s t ++ rest ≡ switch_line s t ++ (lines_of event_line t.events ++ (lines_of (executed_line s) t.executed ++ (lines_of (row_line s) t.rows ++ rest)))
 unfolding told_lines
 told_parts s t rest = four_parts (switch_line s t) (lines_of event_line t.events) (lines_of (executed_line s) t.executed) (lines_of (row_line s) t.rows) rest
 
-told_is : (s : ℕ) (t : Told) (rest : List ℕ) → s < 2 ^ 8 → IsToldSwitch s t → told_in_text s (told_lines s t ++ rest) ≡ Ok (t, rest)
+told_is : (s : ℕ) (t : SwitchRecord) (rest : List ℕ) → s < 2 ^ 8 → IsToldSwitch s t → told_in_text s (told_lines s t ++ rest) ≡ Ok (t, rest)
 unfolding told_in_text
 told_is s t rest small told =
     ap (told_in_text s) (told_parts s t rest)
@@ -189,7 +189,7 @@ told_is s t rest small told =
     (lines_then _ _ _ _ (each_again (executed_at s) (executed_line s) IsToldExecuted (λ x rest is. again.executed_is s x rest small is) t.executed _ told.executed)
     (lines_then _ _ _ _ (each_again (row_at s) (row_line s) IsShown (λ r rest is. again.row_is s r rest small is) t.rows _ told.rows) refl)))
 
-pub more_switches : (s : ℕ) (t : Told) (switches : List Told) (rest : List ℕ) → switch_lines s (t ∷ switches) ++ rest ≡ told_lines s t ++ (switch_lines (s + 1) switches ++ rest)
+pub more_switches : (s : ℕ) (t : SwitchRecord) (switches : List SwitchRecord) (rest : List ℕ) → switch_lines s (t ∷ switches) ++ rest ≡ told_lines s t ++ (switch_lines (s + 1) switches ++ rest)
 unfolding switch_lines
 more_switches s t switches rest = append_assoc (told_lines s t) (switch_lines (s + 1) switches) rest
 
@@ -197,7 +197,7 @@ pub no_switches : (s : ℕ) (rest : List ℕ) → switch_lines s [] ++ rest ≡ 
 unfolding switch_lines
 no_switches s rest = refl
 
-switches_again : (switches : List Told) (s : ℕ) (rest : List ℕ) → s + length switches ≤ 2 ^ 8 → AreToldSwitches s switches → switches_at (length switches) s (switch_lines s switches ++ rest) ≡ Ok (switches, rest)
+switches_again : (switches : List SwitchRecord) (s : ℕ) (rest : List ℕ) → s + length switches ≤ 2 ^ 8 → AreToldSwitches s switches → switches_at (length switches) s (switch_lines s switches ++ rest) ≡ Ok (switches, rest)
 unfolding switches_at
 switches_again [] s rest small told = ap (λ (l : List ℕ). Ok ([], l)) (no_switches s rest)
 switches_again (t ∷ switches) s rest small told =
@@ -205,12 +205,12 @@ switches_again (t ∷ switches) s rest small told =
     ∙ lines_then _ _ _ _ (told_is s t _ (omega (arith, small)) told.0)
     (lines_then _ _ _ _ (switches_again switches (s + 1) rest (omega (arith, small)) told.1) refl)
 
-all_switches : (ports : List ℕ) (switches : List Told) (rest : List ℕ) → length switches ≡ length ports → length ports ≤ 64 → AreToldSwitches 0 switches → switches_at (length ports) 0 (switch_lines 0 switches ++ rest) ≡ Ok (switches, rest)
+all_switches : (ports : List ℕ) (switches : List SwitchRecord) (rest : List ℕ) → length switches ≡ length ports → length ports ≤ 64 → AreToldSwitches 0 switches → switches_at (length ports) 0 (switch_lines 0 switches ++ rest) ≡ Ok (switches, rest)
 all_switches ports switches rest same few told = ap (λ n. switches_at n 0 (switch_lines 0 switches ++ rest)) (sym same) ∙ switches_again switches 0 rest (omega (arith, same, few)) told
 
 -- ---- the report
 
-sums_parted : (entries : ℕ) (switches : List Told) (rest : List ℕ) → IsParted (sum_words entries switches ++ rest)
+sums_parted : (entries : ℕ) (switches : List SwitchRecord) (rest : List ℕ) → IsParted (sum_words entries switches ++ rest)
 unfolding sum_words labelled word
 sums_parted entries switches rest = refl
 

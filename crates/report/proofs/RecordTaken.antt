@@ -13,7 +13,7 @@ use Rattle.vr_log.specs.Same.{same_numbers}
 use Rattle.vr_log.proofs.Equal.{numbers_equal}
 use Rattle.report.specs.declared.fault.ReportFault.{ReportFault}
 use Rattle.report.specs.declared.record.Record.{Record}
-use Rattle.report.specs.declared.record.Told.{Told}
+use Rattle.report.specs.declared.record.SwitchRecord.{SwitchRecord}
 use Rattle.report.specs.declared.switch_lines.SwitchLine.{SwitchLine}
 use Rattle.report.specs.Lines.{line_at, each_at}
 use Rattle.report.specs.OneLine.{begins, letter_at, post_line_at, short_entry_at, log_line_at, log_entry_at, role_words_at, switch_counts_at, switch_line_at, event_in_text, executed_at, row_at, first_line_at, last_line_at}
@@ -177,10 +177,10 @@ switch_line_is s bytes x rest e =
       sent_is = f7;
     })))))))))
 
-switch_again : (s : ℕ) (t : Told) (rest : List ℕ) → switch_line s t ++ rest ≡ switch_text s (line_of t) rest
+switch_again : (s : ℕ) (t : SwitchRecord) (rest : List ℕ) → switch_line s t ++ rest ≡ switch_text s (line_of t) rest
 switch_again s t rest = switch_parts s t rest ∙ ap (λ l. codes "switch" ++ (word (number_text s) ++ l)) (role_parts t _)
 
-record IsToldText (s : ℕ) (bytes : List ℕ) (t : Told) (rest : List ℕ) : Type 0 where
+record IsToldText (s : ℕ) (bytes : List ℕ) (t : SwitchRecord) (rest : List ℕ) : Type 0 where
   pub spelled : bytes ≡ told_lines s t ++ rest
   pub is : IsToldSwitch s t
 
@@ -188,7 +188,7 @@ counts_same : (l : SwitchLine) (events executed rows : ℕ) → events ≡ l.eve
     l ≡ (record { generation = l.generation; master = l.master; life = l.life; events = events; held = l.held; executed = executed; rows = rows; sent = l.sent })
 counts_same l events executed rows a b c = rw (a, b, c) refl
 
-told_is : (s : ℕ) (bytes : List ℕ) (x : Told) (rest : List ℕ) → told_in_text s bytes ≡ Ok (x, rest) → IsToldText s bytes x rest
+told_is : (s : ℕ) (bytes : List ℕ) (x : SwitchRecord) (rest : List ℕ) → told_in_text s bytes ≡ Ok (x, rest) → IsToldText s bytes x rest
 unfolding told_in_text
 told_is s bytes x rest e =
     then_lines (line_at bytes (switch_line_at s bytes)) _ _ e (λ l here e.
@@ -199,7 +199,7 @@ told_is s bytes x rest e =
     let one = each_takes (event_takes s) l.0.events l.1 events.0 events.1 events_e in
     let two = each_takes (executed_takes s) l.0.executed events.1 executed.0 executed.1 executed_e in
     let three = each_takes (row_takes s) l.0.rows executed.1 rows.0 rows.1 rows_e in
-    let made : Told = record { generation = l.0.generation; master = l.0.master; life = l.0.life; held = l.0.held; sent = l.0.sent; events = events.0; executed = executed.0; rows = rows.0 } in
+    let made : SwitchRecord = record { generation = l.0.generation; master = l.0.master; life = l.0.life; held = l.0.held; sent = l.0.sent; events = events.0; executed = executed.0; rows = rows.0 } in
     let same = counts_same l.0 (length events.0) (length executed.0) (length rows.0) one.many two.many three.many in
     let many_events = one.many in
     let many_executed = two.many in
@@ -227,12 +227,12 @@ told_is s bytes x rest e =
       };
     })))))
 
-record AreSwitches (count s : ℕ) (bytes : List ℕ) (switches : List Told) (rest : List ℕ) : Type 0 where
+record AreSwitches (count s : ℕ) (bytes : List ℕ) (switches : List SwitchRecord) (rest : List ℕ) : Type 0 where
   pub spelled : bytes ≡ switch_lines s switches ++ rest
   pub many : length switches ≡ count
   pub told : AreToldSwitches s switches
 
-switches_are : (count s : ℕ) (bytes : List ℕ) (switches : List Told) (rest : List ℕ) → switches_at count s bytes ≡ Ok (switches, rest) → AreSwitches count s bytes switches rest
+switches_are : (count s : ℕ) (bytes : List ℕ) (switches : List SwitchRecord) (rest : List ℕ) → switches_at count s bytes ≡ Ok (switches, rest) → AreSwitches count s bytes switches rest
 unfolding switches_at
 switches_are zero s bytes switches rest e =
     both_are (AreSwitches 0 s bytes) [] switches bytes rest e (record { spelled = sym (no_switches s bytes); many = refl; told = tt })
@@ -295,14 +295,14 @@ history_is bytes x rest e =
       log = two.each;
     })))
 
-record IsOutcome (count entries : ℕ) (bytes : List ℕ) (x : List Told × (ℕ × ℕ)) (rest : List ℕ) : Type 0 where
+record IsOutcome (count entries : ℕ) (bytes : List ℕ) (x : List SwitchRecord × (ℕ × ℕ)) (rest : List ℕ) : Type 0 where
   pub spelled : bytes ≡ switch_lines 0 x.0 ++ end_text (sum_words entries x.0) x.1.0 x.1.1 rest
   pub many : length x.0 ≡ count
   pub told : AreToldSwitches 0 x.0
   pub script : x.1.0 < 2 ^ 64
   pub closing_is : x.1.1 < 2 ^ 64
 
-outcome_is : (count entries : ℕ) (bytes : List ℕ) (x : List Told × (ℕ × ℕ)) (rest : List ℕ) → outcome_in_text count entries bytes ≡ Ok (x, rest) → IsOutcome count entries bytes x rest
+outcome_is : (count entries : ℕ) (bytes : List ℕ) (x : List SwitchRecord × (ℕ × ℕ)) (rest : List ℕ) → outcome_in_text count entries bytes ≡ Ok (x, rest) → IsOutcome count entries bytes x rest
 unfolding outcome_in_text
 outcome_is count entries bytes x rest e =
     then_lines (switches_at count 0 bytes) _ _ e (λ switches switches_e e.

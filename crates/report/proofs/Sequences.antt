@@ -5,7 +5,7 @@ use Rattle.of_bytes.specs.Reading.{◌>>=◌}
 use Rattle.report.specs.declared.fault.Misfit.{Misfit}
 use Rattle.report.specs.declared.fault.Broken.{Broken}
 use Rattle.report.specs.declared.fault.Broken.TheVariants as broken
-use Rattle.report.specs.declared.record.Told.{Told}
+use Rattle.report.specs.declared.record.SwitchRecord.{SwitchRecord}
 use Rattle.report.specs.Lines.{LineStopsAt, line_at, each_at, while_at}
 use Rattle.report.specs.OneLine.{ports_in_text}
 use Rattle.report.specs.Reading.{port_counts_at, told_in_text, switches_at}
@@ -48,7 +48,7 @@ ports_more count place front x rest after whole less e so_far =
     let now = rw left at so_far in
     front_more front x (port_counts_at (count - (place + 1)) (place + 1) after) ∙ rw e at now
 
-pub told_more : (count place : ℕ) (front : List Told) (x : Told) (rest after : List ℕ) (whole : Result (List Told × List ℕ) ℕ) →
+pub told_more : (count place : ℕ) (front : List SwitchRecord) (x : SwitchRecord) (rest after : List ℕ) (whole : Result (List SwitchRecord × List ℕ) ℕ) →
     place < count → told_in_text place rest ≡ Ok (x, after) → with_front front (switches_at (count - place) place rest) ≡ whole →
     with_front (front ++ x ∷ []) (switches_at (count - (place + 1)) (place + 1) after) ≡ whole
 unfolding switches_at

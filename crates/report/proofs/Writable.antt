@@ -19,8 +19,8 @@ use Rattle.vr_log.specs.declared.entry.Entry.{Entry}
 use Rattle.vr_log.specs.declared.entry.Entry.TheVariants.{Received, Processed}
 use Rattle.vr_log.specs.Sizes.{IsValidEntry}
 use Rattle.report.specs.declared.record.Record.{Record}
-use Rattle.report.specs.declared.record.Shown.{Shown}
-use Rattle.report.specs.declared.record.Told.{Told}
+use Rattle.report.specs.declared.record.RowRecord.{RowRecord}
+use Rattle.report.specs.declared.record.SwitchRecord.{SwitchRecord}
 use Rattle.report.specs.Fits.{FitsEntry, FitsOfMessage, FitsEvent, FitsLogEntry, FitsExecuted, FitsShown, FitsTold, FitsRecord}
 use Rattle.report.specs.Records.{IsToldEntry, IsTellable, IsToldEvent, IsLogEntry, IsToldExecuted, IsShown, IsEventOf, IsToldSwitch, AreToldSwitches, IsRecord}
 use Rattle.report.specs.Writable.{HasLine, IsWritableEvent, IsWritableExecuted, IsWritableRow, IsWritableTold, AreWritable, IsWritable}
@@ -70,14 +70,14 @@ event_of switch e f s = record { told = told_event e f s.valid s.small; of = s.o
 told_executed : (x : Executed) → FitsExecuted x → IsWritableExecuted x → IsToldExecuted x
 told_executed x f s = record { life = f.life; number = f.number; generation = f.generation; from = f.from; order = order_tellable x.order s.valid s.small f.order }
 
-shown : (r : Shown) → FitsShown r → IsWritableRow r → IsShown r
+shown : (r : RowRecord) → FitsShown r → IsWritableRow r → IsShown r
 shown r f s = record {
   priority = f.priority;
   matching = record { spelled = is_form r.matching s.matching f.matching; bytes = bare_match_bytes r.matching };
   actions = record { few = s.few; ports = f.actions; bytes = actions_bytes r.actions };
 }
 
-told : (switch : ℕ) (t : Told) → FitsTold t → IsWritableTold switch t → IsToldSwitch switch t
+told : (switch : ℕ) (t : SwitchRecord) → FitsTold t → IsWritableTold switch t → IsToldSwitch switch t
 told switch t f s = record {
   generation = f.generation;
   master = f.master;
@@ -92,7 +92,7 @@ told switch t f s = record {
   rows = both_all FitsShown IsWritableRow IsShown shown t.rows f.rows s.rows;
 }
 
-all_told : (switch : ℕ) (switches : List Told) → AllByRecursion FitsTold switches → AreWritable switch switches → AreToldSwitches switch switches
+all_told : (switch : ℕ) (switches : List SwitchRecord) → AllByRecursion FitsTold switches → AreWritable switch switches → AreToldSwitches switch switches
 all_told switch [] f s = tt
 all_told switch (t ∷ switches) (f, fs) (s, ss) = (told switch t f s, all_told (switch + 1) switches fs ss)
 

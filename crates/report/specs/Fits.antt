@@ -14,8 +14,8 @@ use Rattle.vr_log.specs.declared.entry.Entry.{Entry}
 use Rattle.vr_log.specs.declared.entry.Entry.TheVariants.{Received, Processed}
 use Rattle.report.specs.Records.{AreOctets, FitsRule, FitsActor, FitsLetter, FitsInput}
 use Rattle.report.specs.declared.record.Record.{Record}
-use Rattle.report.specs.declared.record.Shown.{Shown}
-use Rattle.report.specs.declared.record.Told.{Told}
+use Rattle.report.specs.declared.record.RowRecord.{RowRecord}
+use Rattle.report.specs.declared.record.SwitchRecord.{SwitchRecord}
 
 abbrev pub FitsEntry : JournalEntry (List ℕ) → Type 0
 FitsEntry (entry.Post a first letters lost) =
@@ -57,12 +57,12 @@ pub record FitsExecuted (x : Executed) : Type 0 where
   pub from : x.from < 2 ^ 8
   pub order : FitsOfMessage (order_message x.order)
 
-pub record FitsShown (r : Shown) : Type 0 where
+pub record FitsShown (r : RowRecord) : Type 0 where
   pub priority : r.priority < 2 ^ 16
   pub matching : Fits r.matching
   pub actions : FitPorts r.actions
 
-pub record FitsTold (t : Told) : Type 0 where
+pub record FitsTold (t : SwitchRecord) : Type 0 where
   pub generation : IfSome t.generation (λ g. g < 2 ^ 64)
   pub master : IfSome t.master (λ c. c < 2 ^ 8)
   pub life : t.life < 2 ^ 32

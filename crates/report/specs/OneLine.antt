@@ -16,7 +16,7 @@ use Rattle.journal.specs.declared.journal.Local.TheVariants as local
 use Rattle.vr_log.specs.declared.entry.Entry.{Entry}
 use Rattle.vr_log.specs.declared.entry.Entry.TheVariants.{Received, Processed}
 use Rattle.report.specs.declared.journal_lines.PostLine.{PostLine}
-use Rattle.report.specs.declared.record.Shown.{Shown}
+use Rattle.report.specs.declared.record.RowRecord.{RowRecord}
 use Rattle.report.specs.declared.switch_lines.SwitchLine.{SwitchLine}
 use Rattle.report.specs.Canonical.{happening_in_text, order_in_text, matching_at, actions_told}
 use Rattle.report.specs.Spelled.{◌>>=◌, after_at, end_at, known_at, word_at, number8_at, number16_at, number32_at, number64_at, labelled_at, actor_in_text, controller_in_text, dash_or, flag_in_text, address_at, hex_at}
@@ -290,7 +290,7 @@ executed_at switch bytes = do
   rest ← of_at switch rest
   executed_words_at rest
 
-unfoldable pub row_at : ℕ → List ℕ → Option (Shown × List ℕ)
+unfoldable pub row_at : ℕ → List ℕ → Option (RowRecord × List ℕ)
 row_at switch bytes = do
   rest ← after_at (codes "row") bytes
   rest ← of_at switch rest

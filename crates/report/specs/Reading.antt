@@ -12,7 +12,7 @@ use Rattle.vr_log.specs.Same.{same_numbers}
 use Rattle.report.specs.declared.fault.ReportFault.{ReportFault}
 use Rattle.report.specs.declared.fault.ReportFault.TheVariants as fault
 use Rattle.report.specs.declared.record.Record.{Record}
-use Rattle.report.specs.declared.record.Told.{Told}
+use Rattle.report.specs.declared.record.SwitchRecord.{SwitchRecord}
 use Rattle.report.specs.Lines.{line_at, each_at, while_at}
 use Rattle.report.specs.OneLine.{begins, counts_at, ports_in_text, link_in_text, rule_at, letter_at, post_line_at, short_entry_at, log_line_at, log_entry_at, switch_line_at, event_in_text, executed_at, row_at, first_line_at, last_line_at}
 use Rattle.report.specs.Report.{number_text, sum_words}
@@ -61,7 +61,7 @@ log_in_text bytes = do
   entries ← each_at log_entry_at line.0.0 line.1
   if same_numbers (number_text (log_size entries.0)) line.0.1 then Ok entries else Err (length bytes)
 
-unfoldable pub told_in_text : ℕ → List ℕ → Result (Told × List ℕ) ℕ
+unfoldable pub told_in_text : ℕ → List ℕ → Result (SwitchRecord × List ℕ) ℕ
 told_in_text switch bytes = do
   line ← line_at bytes (switch_line_at switch bytes)
   events ← each_at (event_in_text switch) line.0.events line.1
@@ -82,7 +82,7 @@ told_in_text switch bytes = do
   )
 
 -- what is told of so many switches, from this one on
-unfoldable pub switches_at : ℕ → ℕ → List ℕ → Result (List Told × List ℕ) ℕ
+unfoldable pub switches_at : ℕ → ℕ → List ℕ → Result (List SwitchRecord × List ℕ) ℕ
 switches_at zero switch bytes = Ok ([], bytes)
 switches_at (suc n) switch bytes = do
   first ← told_in_text switch bytes
@@ -97,7 +97,7 @@ history_at bytes = do
   Ok ((journal.0, log.0), log.1)
 
 -- so many switches behind a log of so many entries, and the turns of the script and of the closing
-unfoldable pub outcome_in_text : ℕ → ℕ → List ℕ → Result ((List Told × (ℕ × ℕ)) × List ℕ) ℕ
+unfoldable pub outcome_in_text : ℕ → ℕ → List ℕ → Result ((List SwitchRecord × (ℕ × ℕ)) × List ℕ) ℕ
 outcome_in_text count entries bytes = do
   switches ← switches_at count 0 bytes
   turns ← line_at switches.1 (last_line_at (sum_words entries switches.0) switches.1)

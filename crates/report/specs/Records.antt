@@ -23,8 +23,8 @@ use Rattle.journal.specs.declared.journal.Local.TheVariants as local
 use Rattle.vr_log.specs.declared.entry.Entry.{Entry}
 use Rattle.vr_log.specs.declared.entry.Entry.TheVariants.{Received, Processed}
 use Rattle.report.specs.declared.record.Record.{Record}
-use Rattle.report.specs.declared.record.Shown.{Shown}
-use Rattle.report.specs.declared.record.Told.{Told}
+use Rattle.report.specs.declared.record.RowRecord.{RowRecord}
+use Rattle.report.specs.declared.record.SwitchRecord.{SwitchRecord}
 
 -- an entry of a journal of bytes
 abbrev pub ByteEntry : Type 0
@@ -103,7 +103,7 @@ pub record IsToldExecuted (x : Executed) : Type 0 where
   pub from : x.from < 2 ^ 8
   pub order : IsTellable (order_message x.order)
 
-pub record IsShown (r : Shown) : Type 0 where
+pub record IsShown (r : RowRecord) : Type 0 where
   pub priority : r.priority < 2 ^ 16
   pub matching : IsMatch r.matching
   pub actions : AreOutputs r.actions
@@ -114,7 +114,7 @@ pub record IsEventOf (switch : ℕ) (e : Event) : Type 0 where
   pub of : e.switch ≡ switch
 
 -- what is told of a switch
-pub record IsToldSwitch (switch : ℕ) (t : Told) : Type 0 where
+pub record IsToldSwitch (switch : ℕ) (t : SwitchRecord) : Type 0 where
   pub generation : IfSome t.generation (λ g. g < 2 ^ 64)
   pub master : IfSome t.master (λ c. c < 2 ^ 8)
   pub life : t.life < 2 ^ 32
@@ -128,7 +128,7 @@ pub record IsToldSwitch (switch : ℕ) (t : Told) : Type 0 where
   pub rows : AllByRecursion IsShown t.rows
 
 -- the switches from this one on
-abbrev pub AreToldSwitches : ℕ → List Told → Type 0
+abbrev pub AreToldSwitches : ℕ → List SwitchRecord → Type 0
 AreToldSwitches switch [] = Unit {0}
 AreToldSwitches switch (t ∷ switches) = IsToldSwitch switch t × AreToldSwitches (switch + 1) switches
 

@@ -17,8 +17,8 @@ use Rattle.vr_log.specs.declared.entry.Entry.{Entry}
 use Rattle.vr_log.specs.declared.entry.Entry.TheVariants.{Received, Processed}
 use Rattle.vr_log.specs.Log.{log_size}
 use Rattle.report.specs.declared.record.Record.{Record}
-use Rattle.report.specs.declared.record.Shown.{Shown}
-use Rattle.report.specs.declared.record.Told.{Told}
+use Rattle.report.specs.declared.record.RowRecord.{RowRecord}
+use Rattle.report.specs.declared.record.SwitchRecord.{SwitchRecord}
 use Rattle.of_match.specs.Writing.{canonical_bare_match}
 use Rattle.of_messages.specs.Canonical.{actions_of}
 use Rattle.of_ravana.specs.Canonical.{canonical_happening, canonical_order}
@@ -147,32 +147,32 @@ executed_line s x =
     line (codes "executed") (number_text s ∷ number_text x.life ∷ number_text x.number ∷ number_text x.generation ∷ actor_word (Controller x.from)
     ∷ hex (canonical_order x.order) ∷ [])
 
-abbrev pub row_line : ℕ → Shown → List ℕ
+abbrev pub row_line : ℕ → RowRecord → List ℕ
 row_line s r = line (codes "row") (number_text s ∷ number_text r.priority ∷ hex (canonical_bare_match r.matching) ∷ hex (actions_of r.actions) ∷ [])
 
 -- a name, and what stands behind it
 unfoldable pub labelled : List ℕ → List ℕ → List ℕ
 labelled name text = word name ++ word text
 
-unfoldable pub role_words : Told → List ℕ
+unfoldable pub role_words : SwitchRecord → List ℕ
 role_words t =
     labelled (codes "generation") (number_or_dash t.generation)
     ++ (labelled (codes "master") (master_word t.master) ++ labelled (codes "life") (number_text t.life))
 
-unfoldable pub count_words : Told → List ℕ
+unfoldable pub count_words : SwitchRecord → List ℕ
 count_words t =
     labelled (codes "events") (number_text (length t.events)) ++ (labelled (codes "held") (number_text t.held)
     ++ (labelled (codes "executed") (number_text (length t.executed)) ++ (labelled (codes "rows") (number_text (length t.rows))
     ++ labelled (codes "sent") (number_text t.sent))))
 
-unfoldable pub switch_line : ℕ → Told → List ℕ
+unfoldable pub switch_line : ℕ → SwitchRecord → List ℕ
 switch_line s t = codes "switch" ++ (word (number_text s) ++ (role_words t ++ (count_words t ++ newline)))
 
-unfoldable pub told_lines : ℕ → Told → List ℕ
+unfoldable pub told_lines : ℕ → SwitchRecord → List ℕ
 told_lines s t =
     switch_line s t ++ (lines_of event_line t.events ++ (lines_of (executed_line s) t.executed ++ lines_of (row_line s) t.rows))
 
-unfoldable pub switch_lines : ℕ → List Told → List ℕ
+unfoldable pub switch_lines : ℕ → List SwitchRecord → List ℕ
 switch_lines s [] = []
 switch_lines s (t ∷ switches) = told_lines s t ++ switch_lines (s + 1) switches
 
@@ -183,7 +183,7 @@ sums_words events entries executed rows =
     ++ (labelled (codes "commands") (number_text executed) ++ labelled (codes "rows") (number_text rows)))
 
 -- the same of the log and the switches
-unfoldable pub sum_words : ℕ → List Told → List ℕ
+unfoldable pub sum_words : ℕ → List SwitchRecord → List ℕ
 sum_words entries switches =
     sums_words (sum_by (λ t. length t.events) switches) entries (sum_by (λ t. length t.executed) switches) (sum_by (λ t. length t.rows) switches)
 

@@ -11,8 +11,8 @@ use Rattle.journal.specs.declared.journal.JournalEntry.{JournalEntry}
 use Rattle.journal.specs.declared.journal.JournalEntry.TheVariants as entry
 use Rattle.vr_log.specs.Sizes.{IsValidEntry}
 use Rattle.report.specs.declared.record.Record.{Record}
-use Rattle.report.specs.declared.record.Shown.{Shown}
-use Rattle.report.specs.declared.record.Told.{Told}
+use Rattle.report.specs.declared.record.RowRecord.{RowRecord}
+use Rattle.report.specs.declared.record.SwitchRecord.{SwitchRecord}
 
 -- an entry that has a line: there is none for an input that found no memory
 abbrev pub HasLine : JournalEntry (List ℕ) → Type 0
@@ -31,17 +31,17 @@ pub record IsWritableExecuted (x : Executed) : Type 0 where
   pub small : order_size x.order ≤ 65535
 
 -- a row whose match is valid, and whose actions fit one message
-pub record IsWritableRow (r : Shown) : Type 0 where
+pub record IsWritableRow (r : RowRecord) : Type 0 where
   pub matching : IsValidMatch r.matching
   pub few : length r.actions ≤ 4095
 
-pub record IsWritableTold (switch : ℕ) (t : Told) : Type 0 where
+pub record IsWritableTold (switch : ℕ) (t : SwitchRecord) : Type 0 where
   pub events : AllByRecursion (IsWritableEvent switch) t.events
   pub executed : AllByRecursion IsWritableExecuted t.executed
   pub rows : AllByRecursion IsWritableRow t.rows
 
 -- the switches from this one on
-abbrev pub AreWritable : ℕ → List Told → Type 0
+abbrev pub AreWritable : ℕ → List SwitchRecord → Type 0
 AreWritable switch [] = Unit {0}
 AreWritable switch (t ∷ switches) = IsWritableTold switch t × AreWritable (switch + 1) switches
 

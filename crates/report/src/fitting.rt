@@ -7,7 +7,7 @@ ghost use Rattle.of_ravana.specs.Canonical.{happening_message, order_message};
 ghost use Rattle.report.specs.Fits.{FitsEntry, FitsOfMessage, FitsEvent, FitsLogEntry, FitsExecuted, FitsShown, FitsTold, FitsRecord};
 ghost use Rattle.report.specs.Records.{AreOctets, FitsRule, FitsActor, FitsLetter, FitsInput};
 
-use crate::record::{Record, Shown, Told};
+use crate::record::{Record, RowRecord, SwitchRecord};
 use of_bytes::{u8_fits, u16_fits, u32_fits, u64_fits};
 use of_messages::{
     flow_mod_fits, flow_removed_fits, packet_in_fits, packet_out_fits, port_status_fits,
@@ -190,7 +190,7 @@ impl Fitting for Executed {
     }
 }
 
-impl Fitting for Shown {
+impl Fitting for RowRecord {
     ghost fits = { FitsShown };
 
     fn fit(&self) {
@@ -200,7 +200,7 @@ impl Fitting for Shown {
     }
 }
 
-impl Fitting for Told {
+impl Fitting for SwitchRecord {
     ghost fits = { FitsTold };
 
     fn fit(&self) {

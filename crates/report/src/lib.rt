@@ -25,7 +25,7 @@ pub use fault::ReportFault;
 pub use fitting::record_fits;
 pub use laws::{record_law, report_law};
 pub use reading::{REPORT_LIMIT, read_report};
-pub use record::{Record, Shown, Told};
+pub use record::{Record, RowRecord, SwitchRecord};
 pub use report_text::text;
 pub use sums::{Sums, last_line};
 pub use words::{write_actor, write_digits, write_newline, write_number, write_word};

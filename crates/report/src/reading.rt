@@ -11,7 +11,7 @@ ghost use Rattle.report.specs.Spelled.{GivesText};
 use crate::fault::{Broken, Misfit, ReportFault, on_line};
 use crate::journal_lines::journal;
 use crate::log_lines::log;
-use crate::record::{Record, Told};
+use crate::record::{Record, SwitchRecord};
 use crate::setup_lines::setup;
 use crate::spelled::{after, end_of_line, ended, labelled};
 use crate::sums::write_sum_words;
@@ -45,7 +45,7 @@ fn last_line<'a>(sums: &[u8], bytes: &'a [u8]) -> Result<((u64, u64), &'a [u8]),
 }
 
 /// The words of the sums.
-fn sum_words(alloc: Global, entries: usize, switches: &[Told]) -> Result<Octets, AllocError>
+fn sum_words(alloc: Global, entries: usize, switches: &[SwitchRecord]) -> Result<Octets, AllocError>
     ensures { IfOk result (λ words. words ≡ report.sum_words entries switches.now) }
 {
     let mut words = Octets::new(alloc);
@@ -57,7 +57,7 @@ fn sum_words(alloc: Global, entries: usize, switches: &[Told]) -> Result<Octets,
 fn turns<'a>(
     alloc: Global,
     entries: usize,
-    switches: &[Told],
+    switches: &[SwitchRecord],
     bytes: &'a [u8],
 ) -> Result<((u64, u64), &'a [u8]), Broken>
     ensures { GivesLines (λ x. (x.0, x.1.now)) result (line_at bytes.now (last_line_at (report.sum_words entries switches.now) bytes.now)) }
@@ -83,7 +83,7 @@ fn outcome(
     count: usize,
     entries: usize,
     bytes: &[u8],
-) -> Result<((Items<Told>, (u64, u64)), &[u8]), Broken>
+) -> Result<((Items<SwitchRecord>, (u64, u64)), &[u8]), Broken>
     ensures { GivesLines (λ x. (x.0, x.1.now)) result (outcome_in_text count entries bytes.now) }
 {
     let (switches, rest) = switches(alloc, count, bytes)?;

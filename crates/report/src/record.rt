@@ -6,7 +6,7 @@ use vr_log::Entries;
 
 /// A row of a flow table, without its cookie.
 #[derive(Drop)]
-pub struct Shown {
+pub struct RowRecord {
     pub priority: u16,
     pub matching: Match,
     pub actions: Actions,
@@ -15,7 +15,7 @@ pub struct Shown {
 /// What a report tells of a switch: the generation and the master that it accepted, how many events it
 /// holds, how many frames it sent, and its events, executed commands and rows.
 #[derive(Drop)]
-pub struct Told {
+pub struct SwitchRecord {
     pub generation: Option<u64>,
     pub master: Option<u8>,
     pub life: u32,
@@ -23,7 +23,7 @@ pub struct Told {
     pub sent: u64,
     pub events: Items<Event>,
     pub executed: Items<Executed>,
-    pub rows: Items<Shown>,
+    pub rows: Items<RowRecord>,
 }
 
 /// What a report holds: the setup, the journal with each body as its bytes, the committed log, the
@@ -33,7 +33,7 @@ pub struct Record {
     pub setup: Setup,
     pub journal: Journal<Octets>,
     pub log: Entries,
-    pub switches: Items<Told>,
+    pub switches: Items<SwitchRecord>,
     pub script: u64,
     pub closing: u64,
 }

@@ -3,7 +3,7 @@ ghost use Rattle.std.specs.Prelude.{◌≡◌, ◌++◌, length, sum_by, IfOk, O
 ghost use Rattle.report.specs.Report.{end_line, sum_words, sums_words};
 ghost use Rattle.report.specs.Sums.{sums_in, sums_line};
 
-use crate::record::{Record, Told};
+use crate::record::{Record, SwitchRecord};
 use crate::word::{Word, write_words};
 use crate::words::write_newline;
 use of_types::Octets;
@@ -22,7 +22,7 @@ pub struct Sums {
 }
 
 /// How many events, executed commands and rows the switches have.
-fn counts(switches: &[Told]) -> (u128, u128, u128)
+fn counts(switches: &[SwitchRecord]) -> (u128, u128, u128)
     ensures events { result.0 ≡ sum_by (λ t. length t.events) switches.now }
     ensures executed { result.1 ≡ sum_by (λ t. length t.executed) switches.now }
     ensures rows { result.2 ≡ sum_by (λ t. length t.rows) switches.now }
@@ -63,7 +63,7 @@ fn write_counts(
 pub fn write_sum_words(
     out: &mut Octets,
     entries: usize,
-    switches: &[Told],
+    switches: &[SwitchRecord],
 ) -> Result<(), AllocError>
     ensures { OnOk result (out.new ≡ out.old ++ sum_words entries switches.now) }
 {

@@ -9,7 +9,7 @@ use crate::canonical::{actions, matching, order};
 use crate::counted::{CountedLine, read_each};
 use crate::fault::{Broken, Misfit, on_line};
 use crate::log_lines::event_words;
-use crate::record::{Shown, Told};
+use crate::record::{RowRecord, SwitchRecord};
 use crate::spelled::{
     after, controller, ended, known, labelled, master, number8, number16, number32, number64,
     number64_or_dash,
@@ -149,20 +149,20 @@ impl CountedLine for Executed {
     }
 }
 
-impl CountedLine for Shown {
+impl CountedLine for RowRecord {
     ghost use Rattle.report.specs.OneLine.{row_at};
 
     ghost line_at = { row_at };
 
     #[tactic(auto, unfolding(crate::specs::OneLine::row_at))]
-    fn read_line(alloc: Global, switch: usize, bytes: &[u8]) -> Result<(Shown, &[u8]), Misfit> {
+    fn read_line(alloc: Global, switch: usize, bytes: &[u8]) -> Result<(RowRecord, &[u8]), Misfit> {
         let rest = after(b"row", bytes)?;
         let rest = is_of(switch, rest)?;
         let (priority, rest) = number16(rest)?;
         let (matching, rest) = matching(alloc, rest)?;
         let (actions, rest) = actions(alloc, rest)?;
         ended(
-            Shown {
+            RowRecord {
                 priority,
                 matching,
                 actions,
@@ -173,7 +173,7 @@ impl CountedLine for Shown {
 }
 
 #[tactic(auto, unfolding(crate::specs::Reading::told_in_text))]
-fn told(alloc: Global, switch: usize, bytes: &[u8]) -> Result<(Told, &[u8]), Broken>
+fn told(alloc: Global, switch: usize, bytes: &[u8]) -> Result<(SwitchRecord, &[u8]), Broken>
     ensures { GivesLines (λ x. (x.0, x.1.now)) result (told_in_text switch bytes.now) }
 {
     let (line, rest) = on_line(bytes, switch_line(switch, bytes))?;
@@ -191,7 +191,7 @@ fn told(alloc: Global, switch: usize, bytes: &[u8]) -> Result<(Told, &[u8]), Bro
     let (executed, rest) = read_each(alloc, switch, executed, rest)?;
     let (rows, rest) = read_each(alloc, switch, rows, rest)?;
     Ok((
-        Told {
+        SwitchRecord {
             generation,
             master,
             life,
@@ -207,7 +207,7 @@ fn told(alloc: Global, switch: usize, bytes: &[u8]) -> Result<(Told, &[u8]), Bro
 
 /// What is told of so many switches.
 #[tactic(auto, unfolding(crate::specs::Reading::switches_at))]
-pub fn switches(alloc: Global, count: usize, bytes: &[u8]) -> Result<(Items<Told>, &[u8]), Broken>
+pub fn switches(alloc: Global, count: usize, bytes: &[u8]) -> Result<(Items<SwitchRecord>, &[u8]), Broken>
     ensures { GivesLines (λ x. (x.0, x.1.now)) result (switches_at count 0 bytes.now) }
 {
     let mut switches = Items::new(alloc);

@@ -3,7 +3,7 @@ ghost use Rattle.std.specs.Prelude.{◌≡◌, ◌++◌, OnOk};
 ghost use Rattle.report.specs.Report.{lines_of, executed_line, row_line, role_words, count_words, switch_line, told_lines, switch_lines};
 
 use crate::lines::write_each;
-use crate::record::{Shown, Told};
+use crate::record::{RowRecord, SwitchRecord};
 use crate::word::{Word, write_line, write_words};
 use crate::words::{write_newline, write_number};
 use of_match::bare_match;
@@ -48,7 +48,7 @@ fn write_executed_all(
     Ok(())
 }
 
-fn write_row(alloc: Global, out: &mut Octets, switch: usize, row: &Shown) -> Result<(), AllocError>
+fn write_row(alloc: Global, out: &mut Octets, switch: usize, row: &RowRecord) -> Result<(), AllocError>
     ensures { OnOk result (out.new ≡ out.old ++ row_line switch row.now) }
 {
     let matching = bare_match(alloc, &row.matching)?;
@@ -67,7 +67,7 @@ fn write_rows(
     alloc: Global,
     out: &mut Octets,
     switch: usize,
-    rows: &[Shown],
+    rows: &[RowRecord],
 ) -> Result<(), AllocError>
     ensures { OnOk result (out.new ≡ out.old ++ lines_of (row_line switch) rows.now) }
 {
@@ -78,7 +78,7 @@ fn write_rows(
 }
 
 #[tactic(auto, unfolding(crate::specs::Report::labelled, crate::specs::Report::role_words))]
-fn write_role_words(out: &mut Octets, told: &Told) -> Result<(), AllocError>
+fn write_role_words(out: &mut Octets, told: &SwitchRecord) -> Result<(), AllocError>
     ensures { OnOk result (out.new ≡ out.old ++ role_words told.now) }
 {
     let words = [
@@ -93,7 +93,7 @@ fn write_role_words(out: &mut Octets, told: &Told) -> Result<(), AllocError>
 }
 
 #[tactic(auto, unfolding(crate::specs::Report::labelled, crate::specs::Report::count_words))]
-fn write_count_words(out: &mut Octets, told: &Told) -> Result<(), AllocError>
+fn write_count_words(out: &mut Octets, told: &SwitchRecord) -> Result<(), AllocError>
     ensures { OnOk result (out.new ≡ out.old ++ count_words told.now) }
 {
     let words = [
@@ -112,7 +112,7 @@ fn write_count_words(out: &mut Octets, told: &Told) -> Result<(), AllocError>
 }
 
 #[tactic(auto, unfolding(crate::specs::Report::number_text, crate::specs::Report::switch_line))]
-fn write_switch_line(out: &mut Octets, switch: usize, told: &Told) -> Result<(), AllocError>
+fn write_switch_line(out: &mut Octets, switch: usize, told: &SwitchRecord) -> Result<(), AllocError>
     ensures { OnOk result (out.new ≡ out.old ++ switch_line switch told.now) }
 {
     out.append(b"switch")?;
@@ -123,7 +123,7 @@ fn write_switch_line(out: &mut Octets, switch: usize, told: &Told) -> Result<(),
 }
 
 #[tactic(auto, unfolding(crate::specs::Report::told_lines))]
-fn write_told(alloc: Global, out: &mut Octets, switch: usize, told: &Told) -> Result<(), AllocError>
+fn write_told(alloc: Global, out: &mut Octets, switch: usize, told: &SwitchRecord) -> Result<(), AllocError>
     ensures { OnOk result (out.new ≡ out.old ++ told_lines switch told.now) }
 {
     write_switch_line(out, switch, told)?;
@@ -133,7 +133,7 @@ fn write_told(alloc: Global, out: &mut Octets, switch: usize, told: &Told) -> Re
 }
 
 #[tactic(auto, unfolding(crate::specs::Report::switch_lines))]
-pub fn write_switches(alloc: Global, out: &mut Octets, switches: &[Told]) -> Result<(), AllocError>
+pub fn write_switches(alloc: Global, out: &mut Octets, switches: &[SwitchRecord]) -> Result<(), AllocError>
     ensures { OnOk result (out.new ≡ out.old ++ switch_lines 0 switches.now) }
 {
     for (switch, told) in switches.iter().enumerate() {

@@ -11,7 +11,7 @@ use crate::wanting::{Wanting, app_of, shelves_of};
 use app_core::App;
 use audit::{Verdict, check};
 use cases::Difference;
-use closing::{Closed, may_close};
+use closing::{ClosingOutcome, may_close};
 use report::text;
 use byte_bodies::Bytes;
 use journal::{JournalEntry, MemoryStable, Stable, Stop, Turn};
@@ -74,7 +74,7 @@ fn come_to_rest<B: Body, A: App, W: Stable>(
             return None;
         }
         match closing::run(alloc, world, stables) {
-            Ok(Closed::Done { primary }) => return Some(primary),
+            Ok(ClosingOutcome::Done { primary }) => return Some(primary),
             Err(Stop::OutOfMemory) => {}
             _ => return None,
         }

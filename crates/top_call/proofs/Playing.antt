@@ -7,13 +7,13 @@ use Rattle.journal.specs.declared.journal.Turn.{Turn}
 use Rattle.journal.specs.declared.journal.Turn.TheVariants as turn
 use Rattle.run_spec.specs.States.{Scene}
 use Rattle.world.specs.World.{Worlding}
-use Rattle.closing.specs.declared.closed.Closed.{Closed}
+use Rattle.closing.specs.declared.closed.ClosingOutcome.{ClosingOutcome}
 use Rattle.closing.specs.Views.{most_view_of_a_script}
 use Rattle.playing.specs.Manners.{Manner}
 use Rattle.playing.specs.Played.{HasPlayed, StepSuspectsUpTo}
 use Rattle.scenario.specs.Scenario.{HasView}
 
-module _ {B A : Type 0} (manner : Manner) (scene : Scene B) (steps : List Turn) (count : ℕ) (ended : Closed) (w : Worlding B A) (h : HasPlayed manner scene steps count ended w) where
+module _ {B A : Type 0} (manner : Manner) (scene : Scene B) (steps : List Turn) (count : ℕ) (ended : ClosingOutcome) (w : Worlding B A) (h : HasPlayed manner scene steps count ended w) where
   pub rest_is : drop count w.journal ≡ h.rest
   rest_is = rw (h.counted, h.joined) (drop-append_seam h.front h.rest)
 

@@ -39,8 +39,8 @@ use Rattle.top_call.specs.declared.sim.Output.TheVariants as told_as
 use Rattle.world.specs.World.{AreMore, Holds, IsMember, Keeps, PairsStand, StartsAs, Worlding, is_failed, results_in, scene_in}
 use Rattle.world.proofs.Growing.{no_more}
 use Rattle.world.proofs.Places.{results_at}
-use Rattle.closing.specs.declared.closed.Closed.{Closed}
-use Rattle.closing.specs.declared.closed.Closed.TheVariants as closed
+use Rattle.closing.specs.declared.closed.ClosingOutcome.{ClosingOutcome}
+use Rattle.closing.specs.declared.closed.ClosingOutcome.TheVariants as closed
 use Rattle.closing.specs.Closing.{HasMajority, HasReason, IsBounded, closing_answer_of}
 use Rattle.closing.proofs.Lists.{map_range}
 use Rattle.closing.proofs.Parts.{few_members}
@@ -170,7 +170,7 @@ module _ {A W : Type 0} (law : AppLaw A) (saving : Saving W) (scenario : Scenari
   each_saved (r ∷ rs) all zero = all.0
   each_saved (r ∷ rs) all (suc i) = each_saved rs all.1 i
 
-  module _ (manner : Manner) (count : ℕ) (ended : Closed) (played : HasPlayed manner (scene_in byte_bodies start kinds) scenario.steps count ended w) where
+  module _ (manner : Manner) (count : ℕ) (ended : ClosingOutcome) (played : HasPlayed manner (scene_in byte_bodies start kinds) scenario.steps count ended w) where
     abbrev answer : ClosingAnswer
     answer = closing_answer_of ended
 
@@ -239,7 +239,7 @@ module _ {A W : Type 0} (law : AppLaw A) (saving : Saving W) (scenario : Scenari
             ap (λ n. told_of (switch_state OfRun n (past w.journal))) number ∙ ap told_of (from_some (switch_state OfRun i (past w.journal)) x (sym (runs.switches i there) ∙ found))
 
   -- where the steps were done in order it is the one journal of the scenario
-  module _ (count : ℕ) (ended : Closed) (played : HasPlayed In_order (scene_in byte_bodies start kinds) scenario.steps count ended w) where
+  module _ (count : ℕ) (ended : ClosingOutcome) (played : HasPlayed In_order (scene_in byte_bodies start kinds) scenario.steps count ended w) where
     -- a run of the scenario in which every save is made is one whole run
     is_whole : (results : List (List SaveResult)) (script closing journal : List (JournalEntry (List ℕ))) (end : ClosingAnswer) → IsRun In_order kinds scenario results script closing journal end →
         AllByRecursion (λ saves. AllByRecursion (λ r. r ≡ Saved) saves) results → IsWholeRun OfRun scenario.steps (past script) closing end
@@ -270,7 +270,7 @@ module _ {A W : Type 0} (law : AppLaw A) (saving : Saving W) (scenario : Scenari
               (one_past other w.journal (ap past ran.joined ∙ past_joined script closing ∙ same.0 ∙ sym (whole In_order count ended played)), same.1);
         }
 
-  one_of : (manner : Manner) (count : ℕ) (ended : Closed) → HasPlayed manner (scene_in byte_bodies start kinds) scenario.steps count ended w →
+  one_of : (manner : Manner) (count : ℕ) (ended : ClosingOutcome) → HasPlayed manner (scene_in byte_bodies start kinds) scenario.steps count ended w →
       IfInOrder manner (AreSaved scenario.setup.controllers Results → IsTheOne kinds scenario w.journal (closing_answer_of ended))
   one_of In_order count ended played = one count ended played
   one_of Apart count ended played = tt
@@ -280,7 +280,7 @@ module _ {A W : Type 0} (law : AppLaw A) (saving : Saving W) (scenario : Scenari
       IsDone manner kinds (StablesTell saving stables stables_after) scenario output written
   unfolding has_run
   is_done manner count primary output told written played up is wrote fits =
-      let end : Closed = closed.Done primary in
+      let end : ClosingOutcome = closed.Done primary in
       let group : start.setup.controllers ≡ scenario.setup.controllers = ap (λ (s : Setup). s.controllers) begins.setup_is in
       let there : primary < scenario.setup.controllers = subst (λ (n : ℕ). primary < n) group up.0 in
       let same = states_are law OfRun w runs Results none_yet in
@@ -304,14 +304,14 @@ module _ {A W : Type 0} (law : AppLaw A) (saving : Saving W) (scenario : Scenari
   pub is_left : (manner : Manner) (count up needed : ℕ) (played : HasPlayed manner (scene_in byte_bodies start kinds) scenario.steps count (closed.NoQuorum up needed) w) → IsLeft manner kinds (StablesTell saving stables stables_after) scenario up needed
   unfolding has_run
   is_left manner count up needed played =
-      let end : Closed = closed.NoQuorum up needed in
+      let end : ClosingOutcome = closed.NoQuorum up needed in
       let few = reason manner count end played in
       record { ran = has_run manner count end played (one_of manner count end played); few = λ saved. few (saves_succeed manner count end played saved) }
 
   pub is_overfull : (manner : Manner) (count : ℕ) (limit : LogFull) (played : HasPlayed manner (scene_in byte_bodies start kinds) scenario.steps count (closed.Overfull limit) w) → IsOverfull manner kinds (StablesTell saving stables stables_after) scenario limit
   unfolding has_run
   is_overfull manner count limit played =
-      let end : Closed = closed.Overfull limit in
+      let end : ClosingOutcome = closed.Overfull limit in
       let at = reason manner count end played in
       record { ran = has_run manner count end played (one_of manner count end played); controller = at.0; entry = at.1; full = at.2 }
 
@@ -339,7 +339,7 @@ module _ {A W : Type 0} (law : AppLaw A) (saving : Saving W) (scenario : Scenari
   abbrev Ends : Output → Ending → Type 0
   Ends output e = EndsRun manner kinds (StablesTell saving stables stables_after) output scenario e
 
-  one_ending : (closed : Closed) (count : ℕ) (output : Output) → Kept → HasPlayed manner (scene_in byte_bodies start kinds) scenario.steps count closed w →
+  one_ending : (closed : ClosingOutcome) (count : ℕ) (output : Output) → Kept → HasPlayed manner (scene_in byte_bodies start kinds) scenario.steps count closed w →
       HasMajority closed start w → IfDone closed (λ p. IfReport output (FitsRecord (told_by w p (length scenario.steps) count))) →
       Ends output (ending_by closed (λ p. told_text output (told_by w p (length scenario.steps) count)))
   one_ending (closed.Done primary) count output k played up fits =
@@ -347,7 +347,7 @@ module _ {A W : Type 0} (law : AppLaw A) (saving : Saving W) (scenario : Scenari
   one_ending (closed.NoQuorum up needed) count output k played most fits = is_left law saving scenario kinds start stables w stables_after begins holds pairs k within manner count up needed played
   one_ending (closed.Overfull limit) count output k played most fits = is_overfull law saving scenario kinds start stables w stables_after begins holds pairs k within manner count limit played
 
-  pub ok_ending : {X : Type 0} (closed : Closed) (count : ℕ) (output : Output) (steps : ℕ) (ended : Result Ending X) → steps ≡ length scenario.steps → Kept → HasPlayed manner (scene_in byte_bodies start kinds) taken count closed w →
+  pub ok_ending : {X : Type 0} (closed : ClosingOutcome) (count : ℕ) (output : Output) (steps : ℕ) (ended : Result Ending X) → steps ≡ length scenario.steps → Kept → HasPlayed manner (scene_in byte_bodies start kinds) taken count closed w →
       HasMajority closed start w → IfOk ended (λ e. e ≡ ending_by closed (λ p. told_text output (told_by w p steps count))) → IfOk ended (λ _. IfDone closed (λ p. IfReport output (FitsRecord (told_by w p steps count)))) → IfOk ended (λ e. Ends output e)
   ok_ending closed count output steps (Err x) long k played up is fits = tt
   ok_ending closed count output steps (Ok e) long k played up is fits =
@@ -366,13 +366,13 @@ module _ {A W : Type 0} (law : AppLaw A) (saving : Saving W) (scenario : Scenari
   EndsInOrder output e = EndsRun In_order kinds (StablesTell saving stables stables_after) output scenario e
 
   -- it came to the end of its closing
-  pub ends_closed : {X : Type 0} (result : Result (Closed × ℕ) Stop) (closed : Closed) (count : ℕ) (output : Output) (steps : ℕ) (ended : Result Ending X) → result ≡ Ok (closed, count) → steps ≡ length scenario.steps →
+  pub ends_closed : {X : Type 0} (result : Result (ClosingOutcome × ℕ) Stop) (closed : ClosingOutcome) (count : ℕ) (output : Output) (steps : ℕ) (ended : Result Ending X) → result ≡ Ok (closed, count) → steps ≡ length scenario.steps →
       KeptInOrder → IfOk result (λ played. HasPlayed In_order (scene_in byte_bodies start kinds) taken played.1 played.0 w) → IfOk result (λ played. HasMajority played.0 start w) →
       IfOk ended (λ e. e ≡ ending_by closed (λ p. told_text output (told_by w p steps count))) → IfOk ended (λ _. IfDone closed (λ p. IfReport output (FitsRecord (told_by w p steps count)))) → IfOk ended (λ e. EndsInOrder output e)
   ends_closed result closed count output steps ended is long k played up ending_is fits =
       ok_ending law saving scenario kinds start stables w stables_after begins holds pairs within In_order taken same closed count output steps ended long k
-      (subst (λ (r : Result (Closed × ℕ) Stop). IfOk r (λ played. HasPlayed In_order (scene_in byte_bodies start kinds) taken played.1 played.0 w)) is played)
-      (subst (λ (r : Result (Closed × ℕ) Stop). IfOk r (λ played. HasMajority played.0 start w)) is up)
+      (subst (λ (r : Result (ClosingOutcome × ℕ) Stop). IfOk r (λ played. HasPlayed In_order (scene_in byte_bodies start kinds) taken played.1 played.0 w)) is played)
+      (subst (λ (r : Result (ClosingOutcome × ℕ) Stop). IfOk r (λ played. HasMajority played.0 start w)) is up)
       ending_is fits
 
   one_stop : {X : Type 0} (stop : Stop) (output : Output) (ended : Result Ending X) → KeptInOrder → RunStops (scene_in byte_bodies start kinds) taken w stop →
@@ -385,11 +385,11 @@ module _ {A W : Type 0} (law : AppLaw A) (saving : Saving W) (scenario : Scenari
       (subst (λ (l : List Turn). Begins In_order (scene_in byte_bodies start kinds) (results_in w.controllers) l bytes letters (past w.journal)) same stops))
 
   -- or it stopped
-  pub ends_stopped : {X : Type 0} (result : Result (Closed × ℕ) Stop) (stop : Stop) (output : Output) (ended : Result Ending X) → result ≡ Err stop → KeptInOrder →
+  pub ends_stopped : {X : Type 0} (result : Result (ClosingOutcome × ℕ) Stop) (stop : Stop) (output : Output) (ended : Result Ending X) → result ≡ Err stop → KeptInOrder →
       IfErr result (RunStops (scene_in byte_bodies start kinds) taken w) → IfOk ended (λ e. StopsAs stop e) → IfOk ended (λ e. EndsInOrder output e)
   ends_stopped result stop output ended is k stops ending_is =
       one_stop stop output ended k
-      (subst (λ (r : Result (Closed × ℕ) Stop). IfErr r (RunStops (scene_in byte_bodies start kinds) taken w)) is stops) ending_is
+      (subst (λ (r : Result (ClosingOutcome × ℕ) Stop). IfErr r (RunStops (scene_in byte_bodies start kinds) taken w)) is stops) ending_is
 
 -- ---- where actors played apart, and the run was cut short
 
@@ -447,13 +447,13 @@ module _ {A W : Type 0} (law : AppLaw A) (saving : Saving W) (scenario : Scenari
       (subst (λ (s : Setup). Begins Apart (record { setup = s; kinds = kinds; sealing = byte_bodies }) (results_in left.controllers.items) taken bytes letters (past left.wire)) begins.setup_is halts.1)))
 
 -- the script's part is not longer than the journal
-pub script_within : {A : Type 0} (scene : Scene (List ℕ)) (taken : List Turn) (w : Worlding (List ℕ) A) (result : Result (Closed × ℕ) Stop) (closed : Closed) (count : ℕ) → result ≡ Ok (closed, count) →
+pub script_within : {A : Type 0} (scene : Scene (List ℕ)) (taken : List Turn) (w : Worlding (List ℕ) A) (result : Result (ClosingOutcome × ℕ) Stop) (closed : ClosingOutcome) (count : ℕ) → result ≡ Ok (closed, count) →
     IfOk result (λ played. HasPlayed In_order scene taken played.1 played.0 w) → count ≤ length w.journal
 script_within scene taken w result closed count is played =
-    within_journal In_order scene taken count closed w (subst (λ (r : Result (Closed × ℕ) Stop). IfOk r (λ p. HasPlayed In_order scene taken p.1 p.0 w)) is played)
+    within_journal In_order scene taken count closed w (subst (λ (r : Result (ClosingOutcome × ℕ) Stop). IfOk r (λ p. HasPlayed In_order scene taken p.1 p.0 w)) is played)
 
 -- and the primary of a closing is one of its controllers
-pub primary_of : {B A : Type 0} (law : AppLaw A) (scene : Scene B) (start w : Worlding B A) → Runs law scene w → start.setup ≡ scene.setup → (ended : Closed) → HasMajority ended start w →
+pub primary_of : {B A : Type 0} (law : AppLaw A) (scene : Scene B) (start w : Worlding B A) → Runs law scene w → start.setup ≡ scene.setup → (ended : ClosingOutcome) → HasMajority ended start w →
     IfDone ended (λ primary. primary < length w.controllers)
 primary_of law scene start w runs same (closed.Done primary) m =
     let group : start.setup.controllers ≡ length w.controllers = ap (λ (s : Setup). s.controllers) same ∙ sym runs.group in
@@ -461,7 +461,7 @@ primary_of law scene start w runs same (closed.Done primary) m =
 primary_of law scene start w runs same (closed.NoQuorum up needed) m = tt
 primary_of law scene start w runs same (closed.Overfull limit) m = tt
 
-pub primary_there : {B A : Type 0} (law : AppLaw A) (scene : Scene B) (start w : Worlding B A) → Runs law scene w → start.setup ≡ scene.setup → (result : Result (Closed × ℕ) Stop) (ended : Closed) (count : ℕ) → result ≡ Ok (ended, count) →
+pub primary_there : {B A : Type 0} (law : AppLaw A) (scene : Scene B) (start w : Worlding B A) → Runs law scene w → start.setup ≡ scene.setup → (result : Result (ClosingOutcome × ℕ) Stop) (ended : ClosingOutcome) (count : ℕ) → result ≡ Ok (ended, count) →
     IfOk result (λ played. HasMajority played.0 start w) → IfDone ended (λ primary. primary < length w.controllers)
 primary_there law scene start w runs same result ended count is up =
-    primary_of law scene start w runs same ended (subst (λ (r : Result (Closed × ℕ) Stop). IfOk r (λ played. HasMajority played.0 start w)) is up)
+    primary_of law scene start w runs same ended (subst (λ (r : Result (ClosingOutcome × ℕ) Stop). IfOk r (λ played. HasMajority played.0 start w)) is up)

@@ -10,8 +10,8 @@ use Rattle.app_core.specs.Law.{AppLaw}
 use Rattle.group_controller.specs.Turns.{AreAlike}
 use Rattle.report.specs.declared.record.Record.{Record}
 use Rattle.report.specs.Report.{end_line, text}
-use Rattle.closing.specs.declared.closed.Closed.{Closed}
-use Rattle.closing.specs.declared.closed.Closed.TheVariants as closed
+use Rattle.closing.specs.declared.closed.ClosingOutcome.{ClosingOutcome}
+use Rattle.closing.specs.declared.closed.ClosingOutcome.TheVariants as closed
 use Rattle.top_call.specs.declared.ending.Ending.{Ending}
 use Rattle.top_call.specs.declared.ending.Ending.TheVariants as ending
 use Rattle.top_call.specs.declared.sim.Output.{Output}
@@ -42,13 +42,13 @@ IfReport Report claim = claim
 IfReport LastLine claim = Unit {0}
 
 -- a claim on the primary of a closing that came to rest
-abbrev pub IfDone : Closed → (ℕ → Type 0) → Type 0
+abbrev pub IfDone : ClosingOutcome → (ℕ → Type 0) → Type 0
 IfDone (closed.Done primary) claim = claim primary
 IfDone (closed.NoQuorum up needed) claim = Unit {0}
 IfDone (closed.Overfull limit) claim = Unit {0}
 
 -- how a call ends by the end of a closing, with what is told of a run at rest, by the primary that closed it
-abbrev pub ending_by : Closed → (ℕ → List ℕ) → Ending
+abbrev pub ending_by : ClosingOutcome → (ℕ → List ℕ) → Ending
 ending_by (closed.Done primary) told = ending.Report (told primary)
 ending_by (closed.NoQuorum up needed) told = ending.NoQuorum up needed
 ending_by (closed.Overfull limit) told = ending.Overfull limit

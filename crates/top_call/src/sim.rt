@@ -12,7 +12,7 @@ ghost use Rattle.top_call.specs.Runs.{StablesTell};
 
 use crate::ending::Ending;
 use app_core::App;
-use closing::Closed;
+use closing::ClosingOutcome;
 use of_types::Octets;
 use playing::{play, play_apart};
 use report::{last_line, record_fits, text};
@@ -71,7 +71,7 @@ fn rested<A: App>(
     alloc: Global,
     world: World<Bytes, A>,
     output: Output,
-    ended: Closed,
+    ended: ClosingOutcome,
     steps: usize,
     script: usize,
 ) -> Result<Ending, AllocError>
@@ -81,15 +81,15 @@ fn rested<A: App>(
     ensures fits { IfOk result (λ _. IfDone ended (λ primary. IfReport output (FitsRecord (told_by world primary steps script)))) }
 {
     match ended {
-        Closed::Done { primary } => {
+        ClosingOutcome::Done { primary } => {
             let words = output.text_of(alloc, world, primary, steps, script)?;
             Ok(Ending::Report(words))
         }
-        Closed::NoQuorum { up, needed } => {
+        ClosingOutcome::NoQuorum { up, needed } => {
             drop(world);
             Ok(Ending::NoQuorum { up, needed })
         }
-        Closed::Overfull(limit) => {
+        ClosingOutcome::Overfull(limit) => {
             drop(world);
             Ok(Ending::Overfull(limit))
         }

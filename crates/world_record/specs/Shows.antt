@@ -13,15 +13,15 @@ use Rattle.run_spec.specs.Committed.{kept, kept_of, switch_state}
 use Rattle.run_spec.specs.Closing.{count_turns}
 use Rattle.world.specs.World.{Worlding}
 use Rattle.report.specs.declared.record.Record.{Record}
-use Rattle.report.specs.declared.record.Shown.{Shown}
-use Rattle.report.specs.declared.record.Told.{Told}
+use Rattle.report.specs.declared.record.RowRecord.{RowRecord}
+use Rattle.report.specs.declared.record.SwitchRecord.{SwitchRecord}
 
 -- a row without its cookie
-abbrev pub shown_row : Row → Shown
+abbrev pub shown_row : Row → RowRecord
 shown_row r = record { priority = r.priority; matching = r.matching; actions = r.actions }
 
 -- what is told of a switch
-abbrev pub told_of : SwitchState → Told
+abbrev pub told_of : SwitchState → SwitchRecord
 told_of s =
     record {
       generation = s.fence.generation;

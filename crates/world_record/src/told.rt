@@ -5,23 +5,23 @@ ghost use Rattle.world_record.specs.Shows as shows;
 use app_core::App;
 use of_switch::Switch;
 use of_types::{Items, Row};
-use report::{Shown, Told};
+use report::{RowRecord, SwitchRecord};
 use byte_bodies::Bytes;
 use world::World;
 use std::alloc::{AllocError, Global};
 
 /// A row without its cookie.
-fn shown_row(row: Row) -> Shown
+fn shown_row(row: Row) -> RowRecord
     ensures { result ≡ shows.shown_row row }
 {
-    Shown {
+    RowRecord {
         priority: row.priority,
         matching: row.matching,
         actions: row.actions,
     }
 }
 
-fn shown_rows(alloc: Global, rows: Vec<Row>) -> Result<Items<Shown>, AllocError>
+fn shown_rows(alloc: Global, rows: Vec<Row>) -> Result<Items<RowRecord>, AllocError>
     ensures { IfOk result (λ shown. shown ≡ map shows.shown_row rows.items) }
 {
     let mut shown = Items::from_vec(Vec::with_capacity(alloc, rows.len())?);
@@ -32,13 +32,13 @@ fn shown_rows(alloc: Global, rows: Vec<Row>) -> Result<Items<Shown>, AllocError>
 }
 
 /// What is told of a switch.
-fn told_of(alloc: Global, switch: &Switch) -> Result<Told, AllocError>
+fn told_of(alloc: Global, switch: &Switch) -> Result<SwitchRecord, AllocError>
     ensures { IfOk result (λ told. told ≡ shows.told_of switch.now) }
 {
     let events = Items::from_vec(switch.events().to_vec(alloc)?);
     let executed = Items::from_vec(switch.executed().to_vec(alloc)?);
     let rows = shown_rows(alloc, switch.rows()?)?;
-    Ok(Told {
+    Ok(SwitchRecord {
         generation: switch.fence().generation(),
         master: switch.fence().master(),
         life: switch.life(),
@@ -66,7 +66,7 @@ pub fn told_counts<A: App>(world: &World<Bytes, A>) -> Result<(u128, u128, u128)
 }
 
 /// What is told of each switch, by number.
-pub fn told_all<A: App>(alloc: Global, world: &World<Bytes, A>) -> Result<Items<Told>, AllocError>
+pub fn told_all<A: App>(alloc: Global, world: &World<Bytes, A>) -> Result<Items<SwitchRecord>, AllocError>
     ensures { IfOk result (λ told. told ≡ map shows.told_of world.now.switches) }
 {
     let mut told = Items::from_vec(Vec::with_capacity(alloc, world.switches().len())?);

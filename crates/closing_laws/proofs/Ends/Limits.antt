@@ -44,8 +44,8 @@ use Rattle.vr_log.specs.Members.{is_up, leads}
 use Rattle.vr_log.specs.Steps.{VrStep}
 use Rattle.vr_core.specs.declared.input.VrInput.TheVariants as vr_input
 use Rattle.vr_core.specs.Step.{vr_step}
-use Rattle.dispatcher.specs.declared.answers.Wish.{Wish}
-use Rattle.dispatcher.specs.declared.answers.Wish.TheVariants.{Propose, Acknowledge, Nothing}
+use Rattle.dispatcher.specs.declared.answers.EventAction.{EventAction}
+use Rattle.dispatcher.specs.declared.answers.EventAction.TheVariants.{Propose, Acknowledge, Nothing}
 use Rattle.dispatcher.specs.Folding.{is_done, wish}
 use Rattle.group_controller.specs.declared.messages.ControllerInput.{ControllerInput}
 use Rattle.group_controller.specs.declared.messages.ControllerInput.TheVariants as controller_input
@@ -175,8 +175,8 @@ module _ (IsKnown : Event → Type 0) (kinds : List ℕ) (setup : Setup) where
   wish_met : (c : ControllerState) (e : Event) → leads c.vr ≡ true → IsKnown e → c.full ≡ None → MetsItsLimit IsKnown (on_wish kinds setup c e (wish c.vr.log (committed c) e)).state
   wish_met c e lead is none =
       cond_both (may_be_received e (received c.vr.log)) Propose (if is_done c.vr.log (committed c) e then Acknowledge (processed_of (committed c) e.switch e.life) else Nothing)
-      (λ (w : Wish). MetsItsLimit IsKnown (on_wish kinds setup c e w).state) (λ may. proposing_met c (Received e) lead (Comes e is may) none)
-      (λ _. cond_both (is_done c.vr.log (committed c) e) (Acknowledge (processed_of (committed c) e.switch e.life)) Nothing (λ (w : Wish). MetsItsLimit IsKnown (on_wish kinds setup c e w).state)
+      (λ (w : EventAction). MetsItsLimit IsKnown (on_wish kinds setup c e w).state) (λ may. proposing_met c (Received e) lead (Comes e is may) none)
+      (λ _. cond_both (is_done c.vr.log (committed c) e) (Acknowledge (processed_of (committed c) e.switch e.life)) Nothing (λ (w : EventAction). MetsItsLimit IsKnown (on_wish kinds setup c e w).state)
       (λ _. none_met IsKnown c none) (λ _. none_met IsKnown c none))
 
   result_met : (c : ControllerState) (s life number : ℕ) → leads c.vr ≡ true → c.full ≡ None → MetsItsLimit IsKnown (on_result kinds setup c s life number).state

@@ -15,7 +15,7 @@ use Rattle.vr_log.specs.Log.{received}
 use Rattle.vr_log.specs.Steps.{letter}
 use Rattle.app_core.specs.declared.issued.Issued.{Issued}
 use Rattle.app_core.specs.Issued.{commands_of}
-use Rattle.dispatcher.specs.declared.answers.Through.{Through}
+use Rattle.dispatcher.specs.declared.answers.AckThrough.{AckThrough}
 use Rattle.dispatcher.specs.Folding.{acknowledgement, acknowledges_event, acknowledges_at, clears, clears_at, is_told, numbered}
 use Rattle.dispatcher.specs.Marks.{settled_commands}
 use Rattle.group_controller.specs.declared.messages.ControllerSays.{ControllerSays}
@@ -69,14 +69,14 @@ switches_few lasts (x ∷ commands) from count =
 
 clears_few : (kinds : List ℕ) (setup : Setup) (log : List Entry) (commands : List Issued) → length (clears kinds setup log commands) ≤ length commands
 clears_few kinds setup log commands =
-    let named : ℕ → Through = λ s. record { switch = s; life = life_in s (received log); through = settled_commands kinds setup log s (life_in s (received log)) } in
+    let named : ℕ → AckThrough = λ s. record { switch = s; life = life_in s (received log); through = settled_commands kinds setup log s (life_in s (received log)) } in
     let same = length-map (filter (is_told log commands) (range_with_len 0 (length setup.ports))) named in
     let few = switches_few (λ x. not (has_ended x.switch x.life (received log))) commands 0 (length setup.ports) in
     omega (arith, same, few)
 
 pub acknowledges_few : (log : List Entry) (o : Option Event) → length (acknowledges_event log o) ≤ 1
 acknowledges_few log None = omega arith
-acknowledges_few log (Some event) = cond_both (has_ended event.switch event.life (received log)) [] (acknowledgement log event.switch event.life ∷ []) (λ (l : List Through). length l ≤ 1) (λ e. omega arith) (λ e. omega arith)
+acknowledges_few log (Some event) = cond_both (has_ended event.switch event.life (received log)) [] (acknowledgement log event.switch event.life ∷ []) (λ (l : List AckThrough). length l ≤ 1) (λ e. omega arith) (λ e. omega arith)
 
 -- ---- letters
 
@@ -87,10 +87,10 @@ module _ (quorum : List ℕ) (me : ℕ) where
   pub letters-append : (xs ys : List (Letter ControllerSays)) → primary_worths (xs ++ ys) ≡ primary_worths xs + primary_worths ys
   letters-append xs ys = worths-append quorum controller_message (actor.Controller me) xs ys
 
-  pub acks_worth : (ts : List Through) → primary_worths (map ack_letter ts) ≡ length ts
+  pub acks_worth : (ts : List AckThrough) → primary_worths (map ack_letter ts) ≡ length ts
   acks_worth ts = worths_one quorum controller_message (actor.Controller me) ack_letter (λ t. refl) ts
 
-  clears_worth : (ts : List Through) → primary_worths (map clear_letter ts) ≡ length ts
+  clears_worth : (ts : List AckThrough) → primary_worths (map clear_letter ts) ≡ length ts
   clears_worth ts = worths_one quorum controller_message (actor.Controller me) clear_letter (λ t. refl) ts
 
   pub commands_worth : (kinds : List ℕ) (setup : Setup) (c : ControllerState) (xs : List Issued) → primary_worths (command_letters kinds setup c xs) ≡ 2 * length xs

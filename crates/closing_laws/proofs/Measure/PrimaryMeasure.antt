@@ -17,8 +17,8 @@ use Rattle.vr_log.specs.Steps.{quiet}
 use Rattle.two_stage_log.specs.Counts.{has_unprocessed}
 use Rattle.app_core.specs.declared.issued.Issued.{Issued}
 use Rattle.controller_laws.proofs.Logs.{processed_prefix}
-use Rattle.dispatcher.specs.declared.answers.Wish.{Wish}
-use Rattle.dispatcher.specs.declared.answers.Wish.TheVariants.{Propose, Acknowledge, Nothing}
+use Rattle.dispatcher.specs.declared.answers.EventAction.{EventAction}
+use Rattle.dispatcher.specs.declared.answers.EventAction.TheVariants.{Propose, Acknowledge, Nothing}
 use Rattle.dispatcher.specs.Marks.{Marks, confirmed_by, has_result, is_confirmed, is_pending, is_wanted, outstanding, with_mark, with_marked_result}
 use Rattle.of_switch.specs.State.{SwitchState, life_of}
 use Rattle.event_buffer.specs.Buffer.{next_number}
@@ -225,7 +225,7 @@ module _ (kinds : List ℕ) (setup : Setup) (quorum : List ℕ) (f : ℕ) (sw : 
           whole_falls kinds setup quorum c.vr.me f sw c d (through_letter through ∷ []) 1 2 place (omega (arith, said)) (prefix_refl (committed c)) p.one early
           (let kept = same_left setup f sw c d refl refl in omega (arith, kept))
 
-      pub wish_lowers : (w : Wish) → logged_of (on_wish kinds setup d e w).state s (sw s) ≤ next_number (sw s).buffer → Lowers (on_wish kinds setup d e w) 2
+      pub wish_lowers : (w : EventAction) → logged_of (on_wish kinds setup d e w).state s (sw s) ≤ next_number (sw s).buffer → Lowers (on_wish kinds setup d e w) 2
       wish_lowers Propose within = proposing_lowers within
       wish_lowers (Acknowledge through) within = acknowledged_lowers through
       wish_lowers Nothing within = lowers_rest 2 (omega arith)

@@ -24,8 +24,8 @@ use Rattle.two_stage_log.specs.Counts.{processed_of}
 use Rattle.app_core.specs.Chain.{concat}
 use Rattle.app_core.specs.Issued.{count_issued, issues}
 use Rattle.controller_laws.proofs.Logs.{processed-append, processed_prefix}
-use Rattle.dispatcher.specs.declared.answers.Through.{Through}
-use Rattle.dispatcher.specs.declared.answers.Wish.TheVariants.{Propose, Acknowledge, Nothing}
+use Rattle.dispatcher.specs.declared.answers.AckThrough.{AckThrough}
+use Rattle.dispatcher.specs.declared.answers.EventAction.TheVariants.{Propose, Acknowledge, Nothing}
 use Rattle.dispatcher.specs.Folding.{is_done, places_processed}
 use Rattle.dispatcher.specs.Marks.{Marks, confirmed_by, has_result, is_pending, outstanding, settled_commands, wanted, with_mark, with_marked_result}
 use Rattle.of_switch.specs.State.{SwitchState, SwitchTurn, life_of}
@@ -228,7 +228,7 @@ module _ (kinds : List ℕ) (setup : Setup) (few : AreFew kinds setup) (w p : �
       wish_clear : (e : Event) (a b : Bool) → IsClearing (on_wish kinds setup (with_no_met_limit c) e (if a then Propose else if b then Acknowledge (processed_of (committed c) e.switch e.life) else Nothing))
       wish_clear e true b = works.proposing_clear kinds setup p life early rest (with_no_met_limit c) e rests
       wish_clear e false true =
-          let through : Through = record { switch = e.switch; life = e.life; through = processed_of (committed c) e.switch e.life } in
+          let through : AckThrough = record { switch = e.switch; life = e.life; through = processed_of (committed c) e.switch e.life } in
           record {
             front = works.front_posted kinds setup p life early rest (committed c) c.marks (resting (with_no_met_limit c)) (ack_letter through ∷ [])
                 (posts_cons is_clear controller_message (actor.Controller p) (ack_letter through) []) rests.front;

@@ -19,7 +19,7 @@ use Rattle.vr_log.specs.Log.{processed, received}
 use Rattle.app_core.specs.Chain.{concat}
 use Rattle.app_core.specs.declared.issued.Issued.{Issued}
 use Rattle.app_core.specs.Issued.{commands_of, count_issued}
-use Rattle.dispatcher.specs.declared.answers.Through.{Through}
+use Rattle.dispatcher.specs.declared.answers.AckThrough.{AckThrough}
 use Rattle.dispatcher.specs.Folding.{acknowledges_at, clears_at, is_told}
 use Rattle.dispatcher.specs.Marks.{Marks, has_result, is_wanted, settled_commands, wanted}
 use Rattle.controller_laws.proofs.Issued.{issues-take}
@@ -246,13 +246,13 @@ module _ (kinds : List ℕ) (setup : Setup) (p : ℕ) where
       abbrev due : List Issued
       due = commands_of kinds setup (received log) (processed log)
 
-      abbrev words : List Through
+      abbrev words : List AckThrough
       words = clears_at kinds setup (committed c) (processed log)
 
       words_few : length words ≤ length setup.ports
       words_few =
           let told = is_told (committed c) (commands_of kinds setup (received (committed c)) (processed log)) in
-          let same = length-map {B = Through} (filter told (range_with_len 0 (length setup.ports))) (λ s. record {
+          let same = length-map {B = AckThrough} (filter told (range_with_len 0 (length setup.ports))) (λ s. record {
             switch = s;
             life = life_in s (received (committed c));
             through = settled_commands kinds setup (committed c) s (life_in s (received (committed c)));
@@ -299,7 +299,7 @@ module _ (kinds : List ℕ) (setup : Setup) (p : ℕ) where
           let clears = posts_always is_clear controller_message (actor.Controller p) clear_letter (λ x. refl) words in
           let before = held_few early log marks waiting h in
           elim (cases_lt 0 (waits is_clear waiting)) [
-            | inl some ↦ let none = ap (λ (l : List Through). length l) (words_none some) in omega (arith, parts, acks, clears, before, none)
+            | inl some ↦ let none = ap (λ (l : List AckThrough). length l) (words_none some) in omega (arith, parts, acks, clears, before, none)
             | inr zero_it ↦ let few = words_few in omega (arith, parts, acks, clears, few, zero_it)
           ]
 

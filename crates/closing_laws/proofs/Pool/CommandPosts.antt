@@ -22,7 +22,7 @@ use Rattle.vr_log.specs.Members.{most_failures}
 use Rattle.vr_log.specs.Steps.{to_others}
 use Rattle.vr_log.proofs.Logs.{received-append}
 use Rattle.app_core.specs.declared.issued.Issued.{Issued}
-use Rattle.dispatcher.specs.declared.answers.Through.{Through}
+use Rattle.dispatcher.specs.declared.answers.AckThrough.{AckThrough}
 use Rattle.dispatcher.specs.Folding.{acknowledges_at, clears_at, numbered, places_processed}
 use Rattle.dispatcher.specs.Marks.{Marks, confirmed_by, is_confirmed, is_wanted, outstanding, settled_commands}
 use Rattle.group_controller.specs.declared.messages.ControllerSays.{ControllerSays}
@@ -57,10 +57,10 @@ module _ (is : Actor → Message → Bool) (sel : Issued → Bool) (of : IsOfCom
   pub members_post : (letters : List VrLetter) → primary_posts (to_members letters) ≡ 0
   members_post letters = posted_never is controller_message from to_member (λ l. of.member (actor.Controller l.to) l.message) letters
 
-  pub acks_post : (xs : List Through) → primary_posts (map ack_letter xs) ≡ 0
+  pub acks_post : (xs : List AckThrough) → primary_posts (map ack_letter xs) ≡ 0
   acks_post xs = posted_never is controller_message from ack_letter (λ x. of.ack (actor.Switch x.switch) x.life x.through) xs
 
-  clears_post : (xs : List Through) → primary_posts (map clear_letter xs) ≡ 0
+  clears_post : (xs : List AckThrough) → primary_posts (map clear_letter xs) ≡ 0
   clears_post xs = posted_never is controller_message from clear_letter (λ x. of.clear (actor.Switch x.switch) x.life x.through) xs
 
   pub roles_post : (view : ℕ) (xs : List ℕ) → primary_posts (map (role_letter view) xs) ≡ 0

@@ -32,8 +32,8 @@ use Rattle.vr_core.specs.declared.input.VrInput.TheVariants as vr_input
 use Rattle.vr_core.specs.Step.{vr_step}
 use Rattle.app_core.specs.declared.issued.Issued.{Issued}
 use Rattle.controller_laws.proofs.Logs.{processed-append, processed_prefix}
-use Rattle.dispatcher.specs.declared.answers.Wish.{Wish}
-use Rattle.dispatcher.specs.declared.answers.Wish.TheVariants.{Propose, Acknowledge, Nothing}
+use Rattle.dispatcher.specs.declared.answers.EventAction.{EventAction}
+use Rattle.dispatcher.specs.declared.answers.EventAction.TheVariants.{Propose, Acknowledge, Nothing}
 use Rattle.dispatcher.specs.Marks.{Marks, is_pending, with_mark, with_marked_result}
 use Rattle.of_switch.specs.State.{SwitchState, SwitchTurn, life_of}
 use Rattle.group_controller.specs.declared.messages.ControllerSays.{ControllerSays}
@@ -317,7 +317,7 @@ module _ (kinds : List ℕ) (setup : Setup) (few : AreFew kinds setup) (w p : �
             (let is = ap (λ (n : ℕ). sent_in kinds setup sel (take n c.vr.log) c.marks c.last_told + pay n (received (take n c.vr.log))) same in omega (arith, is));
       }
         where
-          by_wish : (k number : ℕ) (what : Happening) (wish : Wish) → k < length setup.ports → Fits (on_wish kinds setup begun (record { switch = k; life = life k; number = number; what = what }) wish)
+          by_wish : (k number : ℕ) (what : Happening) (wish : EventAction) → k < length setup.ports → Fits (on_wish kinds setup begun (record { switch = k; life = life k; number = number; what = what }) wish)
           by_wish k number what Propose there committed_now =
               let e : Event = record { switch = k; life = life k; number = number; what = what } in
               from_pays (resting begun) _ refl (omega arith) (proposing_pays is sel of (actor.Controller p) kinds setup start life pay up begun e refl finishes

@@ -19,8 +19,8 @@ use Rattle.vr_log.specs.Members.{most_failures}
 use Rattle.vr_log.specs.Steps.{quiet}
 use Rattle.vr_log.proofs.Logs.{received-append}
 use Rattle.controller_laws.proofs.Logs.{processed-append, processed_prefix}
-use Rattle.dispatcher.specs.declared.answers.Wish.{Wish}
-use Rattle.dispatcher.specs.declared.answers.Wish.TheVariants.{Propose, Acknowledge, Nothing}
+use Rattle.dispatcher.specs.declared.answers.EventAction.{EventAction}
+use Rattle.dispatcher.specs.declared.answers.EventAction.TheVariants.{Propose, Acknowledge, Nothing}
 use Rattle.dispatcher.specs.Marks.{Marks, confirmed_by, has_result, is_finished, is_pending, no_marks, outstanding, wanted, with_mark, with_marked_result}
 use Rattle.two_stage_log.specs.Counts.{has_unprocessed}
 use Rattle.of_switch.specs.State.{SwitchState, life_of}
@@ -271,7 +271,7 @@ module _ (kinds : List ℕ) (setup : Setup) (few : AreFew kinds setup) (w p : �
         now_confirmed : (k : ℕ) → Finishes kinds setup start life c.vr (confirmed_by c.marks k)
         now_confirmed k = record { finished = before.finished; present = before.present; within = finishes_now.within; whole = finishes_now.whole; long = finishes_now.long }
 
-        by_wish : (k number : ℕ) (what : Happening) (wish : Wish) → IsNow (on_wish kinds setup begun (record { switch = k; life = life k; number = number; what = what }) wish)
+        by_wish : (k number : ℕ) (what : Happening) (wish : EventAction) → IsNow (on_wish kinds setup begun (record { switch = k; life = life k; number = number; what = what }) wish)
         by_wish k number what Propose = proposing_finishes kinds setup start life begun (record { switch = k; life = life k; number = number; what = what }) refl finishes_now
         by_wish k number what (Acknowledge through) = finishes_now
         by_wish k number what Nothing = finishes_now

@@ -23,8 +23,8 @@ use Rattle.vr_log.specs.Steps.{letter, quiet}
 use Rattle.vr_normal.specs.Cases.{acked_by, agreed, greatest, is_agreed, ops}
 use Rattle.vr_core.specs.declared.input.VrInput.TheVariants as vr_input
 use Rattle.vr_core.specs.Step.{vr_step}
-use Rattle.dispatcher.specs.declared.answers.Wish.{Wish}
-use Rattle.dispatcher.specs.declared.answers.Wish.TheVariants.{Propose, Acknowledge, Nothing}
+use Rattle.dispatcher.specs.declared.answers.EventAction.{EventAction}
+use Rattle.dispatcher.specs.declared.answers.EventAction.TheVariants.{Propose, Acknowledge, Nothing}
 use Rattle.dispatcher.specs.Folding.{is_done, wish}
 use Rattle.two_stage_log.specs.Counts.{processed_of}
 use Rattle.of_switch.specs.declared.says.SwitchSays.{SwitchSays}
@@ -333,7 +333,7 @@ module _ (kinds : List ℕ) (setup : Setup) (w p : ℕ) (quorum : List ℕ) (sta
             | inr (inr younger) ↦ absurd (let most = (truths.each k there).life in omega (arith, most, younger))
           ]
 
-          rests : (w : Wish) → (w ≡ Propose → AreFewLogged (e ∷ [])) → HasPosted (on_wish kinds setup c1 e w)
+          rests : (w : EventAction) → (w ≡ Propose → AreFewLogged (e ∷ [])) → HasPosted (on_wish kinds setup c1 e w)
           rests Propose logs =
               let r = broadcasts.proposing_posts quorum first kinds setup c1 e in
               record { old = c1; same = refl; more = r.0; few_logged = elim r.1 [ inl none ↦ subst AreFewLogged (sym none) none_logged | inr one ↦ subst AreFewLogged (sym one) (logs refl) ]; posts = r.2 }

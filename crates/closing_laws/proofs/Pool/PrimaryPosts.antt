@@ -26,9 +26,9 @@ use Rattle.app_core.specs.declared.issued.Issued.{Issued}
 use Rattle.app_core.specs.Issued.{commands_of}
 use Rattle.app_core.specs.Orders.{HasFewOutputs}
 use Rattle.controller_laws.proofs.Logs.{processed-append, processed_count, processed_prefix}
-use Rattle.dispatcher.specs.declared.answers.Through.{Through}
-use Rattle.dispatcher.specs.declared.answers.Wish.TheVariants.{Propose, Acknowledge, Nothing}
-use Rattle.dispatcher.specs.declared.numbered.Numbered.{Numbered}
+use Rattle.dispatcher.specs.declared.answers.AckThrough.{AckThrough}
+use Rattle.dispatcher.specs.declared.answers.EventAction.TheVariants.{Propose, Acknowledge, Nothing}
+use Rattle.dispatcher.specs.declared.numbered.NumberedOrder.{NumberedOrder}
 use Rattle.dispatcher.specs.Folding.{acknowledgement, acknowledges_event, acknowledges_at, clears_at, is_done, numbered, places_processed, wish}
 use Rattle.dispatcher.specs.Marks.{confirmed_by, is_confirmed, is_pending, is_wanted, outstanding, wanted, with_marked_result}
 use Rattle.group_controller.specs.declared.messages.ControllerSays.{ControllerSays}
@@ -46,9 +46,9 @@ use Rattle.closing_laws.proofs.Primary.Proposing.{commands_vr, committed_same, p
 
 -- a letter, by what is committed: an acknowledgement names processed events alone, and a command has few outputs
 pub data IsPosted (log : List Entry) : Letter ControllerSays → Type 0 where
-  Ack : (t : Through) → t.through ≤ processed_of log t.switch t.life → IsPosted log (ack_letter t)
-  Clear : (t : Through) → IsPosted log (clear_letter t)
-  Command : (view : ℕ) (n : Numbered) → HasFewOutputs n.order → IsPosted log (command_letter view n)
+  Ack : (t : AckThrough) → t.through ≤ processed_of log t.switch t.life → IsPosted log (ack_letter t)
+  Clear : (t : AckThrough) → IsPosted log (clear_letter t)
+  Command : (view : ℕ) (n : NumberedOrder) → HasFewOutputs n.order → IsPosted log (command_letter view n)
   Prepare : (to view op commit : ℕ) (entry : Entry) → IsPosted log (to_member (letter (vr.Prepare view op commit entry) to))
 
 pub posted_more : {front log : List Entry} → IsPrefix front log → (l : Letter ControllerSays) → IsPosted front l → IsPosted log l
@@ -57,13 +57,13 @@ posted_more p _ (Clear t) = Clear t
 posted_more p _ (Command view n few) = Command view n few
 posted_more p _ (Prepare to view op commit entry) = Prepare to view op commit entry
 
-acknowledges_in : (log : List Entry) (o : Option Event) (t : Through) → IsIn t (acknowledges_event log o) → t.through ≤ processed_of log t.switch t.life
+acknowledges_in : (log : List Entry) (o : Option Event) (t : AckThrough) → IsIn t (acknowledges_event log o) → t.through ≤ processed_of log t.switch t.life
 acknowledges_in log None t among = absurd among
 acknowledges_in log (Some e) t among = by_life (has_ended e.switch e.life (received log)) among
   where
     by_life : (b : Bool) → IsIn t (if b then [] else acknowledgement log e.switch e.life ∷ []) → t.through ≤ processed_of log t.switch t.life
     by_life true none = absurd none
-    by_life false (inl is) = subst (λ (x : Through). x.through ≤ processed_of log x.switch x.life) (sym is) (omega arith)
+    by_life false (inl is) = subst (λ (x : AckThrough). x.through ≤ processed_of log x.switch x.life) (sym is) (omega arith)
     by_life false (inr none) = absurd none
 
 places_count : (log : List Entry) → length (places_processed log) ≡ processed log
@@ -323,7 +323,7 @@ module _ (me : ℕ) where
       wish_posts : (e : Event) (a b : Bool) → HasPosted c 1 (on_wish kinds setup d e (if a then Propose else if b then Acknowledge (processed_of (committed d) e.switch e.life) else Nothing))
       wish_posts e true b = from_posts c (resting d) (proposing kinds setup d (Received e)) refl refl 1 (proposing_posts d (Received e) within)
       wish_posts e false true =
-          let t : Through = record { switch = e.switch; life = e.life; through = processed_of (committed d) e.switch e.life } in
+          let t : AckThrough = record { switch = e.switch; life = e.life; through = processed_of (committed d) e.switch e.life } in
           record {
             each = λ l among. elim among [
               | inl is ↦ subst (λ (z : Letter ControllerSays). IsPosted (committed d) z) (sym is) (Ack t (omega arith))

@@ -21,7 +21,7 @@ use Rattle.vr_log.proofs.Logs.{length_is, received-append}
 use Rattle.app_core.specs.declared.issued.Issued.{Issued}
 use Rattle.app_core.specs.Issued.{commands_of}
 use Rattle.dispatcher.specs.Marks.{Marks, is_finished, no_marks, outstanding, wanted}
-use Rattle.dispatcher.specs.declared.answers.Through.{Through}
+use Rattle.dispatcher.specs.declared.answers.AckThrough.{AckThrough}
 use Rattle.dispatcher.specs.Folding.{acknowledges_at, clears, clears_at, is_told, places_processed}
 use Rattle.group_controller.specs.declared.messages.ControllerSays.{ControllerSays}
 use Rattle.group_controller.specs.State.{ControllerState, Work, committed, fresh, leaving, met_limit, posting_work, stepped, to_member, to_members}
@@ -140,7 +140,7 @@ module _ (kinds : List ℕ) (setup : Setup) where
 
       answer_few : length (answers_at kinds setup c2 (processed (committed c))) ≤ 1
       answer_few =
-          let none = ap (λ (ts : List Through). length ts) (no_clears kinds setup (committed c) (committed c2) c.marks new.marks same_events finished) in
+          let none = ap (λ (ts : List AckThrough). length ts) (no_clears kinds setup (committed c) (committed c2) c.marks new.marks same_events finished) in
           let acks = acknowledges_few (committed c2) (slice_get (received (committed c2)) (processed (committed c))) in
           let a = length-map (acknowledges_at (committed c2) (processed (committed c))) ack_letter in
           let b = length-map (clears_at kinds setup (committed c2) (processed (committed c))) clear_letter in

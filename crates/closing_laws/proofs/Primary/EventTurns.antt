@@ -17,9 +17,9 @@ use Rattle.vr_log.specs.declared.state.VrState.{VrState}
 use Rattle.vr_log.specs.Log.{is_past_limits, is_processed, may_be_received, processed, received}
 use Rattle.vr_log.specs.Members.{most_failures}
 use Rattle.vr_log.proofs.Logs.{received-append}
-use Rattle.dispatcher.specs.declared.answers.Through.{Through}
-use Rattle.dispatcher.specs.declared.answers.Wish.{Wish}
-use Rattle.dispatcher.specs.declared.answers.Wish.TheVariants.{Propose, Acknowledge, Nothing}
+use Rattle.dispatcher.specs.declared.answers.AckThrough.{AckThrough}
+use Rattle.dispatcher.specs.declared.answers.EventAction.{EventAction}
+use Rattle.dispatcher.specs.declared.answers.EventAction.TheVariants.{Propose, Acknowledge, Nothing}
 use Rattle.dispatcher.specs.Folding.{is_done, wish}
 use Rattle.dispatcher.specs.Marks.{Marks, is_finished}
 use Rattle.of_switch.specs.State.{SwitchState, life_of}
@@ -179,7 +179,7 @@ module _ (kinds : List ℕ) (setup : Setup) (few : AreFew kinds setup) (sw : ℕ
         ∙ ap (λ (b : Bool). if b && nat_lt number (processed_by c s (sw s)) then Acknowledge (processed_by c s (sw s)) else Nothing) here
 
     early : HasTurned kinds setup sw in' c out c.marks (on_wish kinds setup c1 e (wish c.vr.log (committed c) e))
-    early = subst (λ (w : Wish). HasTurned kinds setup sw in' c out c.marks (on_wish kinds setup c1 e w)) (sym wish_is) (by_place (nat_lt number (processed_by c s (sw s))) refl)
+    early = subst (λ (w : EventAction). HasTurned kinds setup sw in' c out c.marks (on_wish kinds setup c1 e w)) (sym wish_is) (by_place (nat_lt number (processed_by c s (sw s))) refl)
       where
         by_place : (b : Bool) → nat_lt number (processed_by c s (sw s)) ≡ b →
             HasTurned kinds setup sw in' c out c.marks (on_wish kinds setup c1 e (if b then Acknowledge (processed_by c s (sw s)) else Nothing))
@@ -190,7 +190,7 @@ module _ (kinds : List ℕ) (setup : Setup) (few : AreFew kinds setup) (sw : ℕ
             (subst (λ (z : List Message). AreQuiet c.vr.view z) own_told (quiet_acks c.vr.view s (through ∷ []))) (told_again kinds setup c s (sw s) xid number what (out s) (in' s) was before)))
             (λ t below other. other_served c.vr.log (told t (ack_letter through ∷ [])) t below other refl refl (quiet_acks c.vr.view t (through ∷ []))))
           where
-            through : Through
+            through : AckThrough
             through = record { switch = s; life = life_of (sw s); through = processed_by c s (sw s) }
 
             own_told : told s (ack_letter through ∷ []) ≡ acknowledges_events (life_of (sw s)) (processed_by c s (sw s)) ∷ []

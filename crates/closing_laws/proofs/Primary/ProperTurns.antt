@@ -29,8 +29,8 @@ use Rattle.vr_log.specs.Steps.{VrStep, letter, quiet, to_others}
 use Rattle.vr_normal.specs.Cases.{acked_by, counted, is_counted}
 use Rattle.vr_core.specs.Step.{on_vr, vr_step}
 use Rattle.vr_core.specs.declared.input.VrInput.TheVariants as vr_input
-use Rattle.dispatcher.specs.declared.answers.Wish.{Wish}
-use Rattle.dispatcher.specs.declared.answers.Wish.TheVariants.{Propose, Acknowledge, Nothing}
+use Rattle.dispatcher.specs.declared.answers.EventAction.{EventAction}
+use Rattle.dispatcher.specs.declared.answers.EventAction.TheVariants.{Propose, Acknowledge, Nothing}
 use Rattle.dispatcher.specs.Folding.{acknowledges_at, clears_at, numbered, places_processed, wish}
 use Rattle.dispatcher.specs.Marks.{confirmed_by, is_pending, outstanding, with_marked_result}
 use Rattle.app_core.specs.declared.issued.Issued.{Issued}
@@ -233,7 +233,7 @@ module _ (kinds : List ℕ) (setup : Setup) where
         one l (inl k) = (e.switch, ap (λ (x : Letter ControllerSays). x.to) k)
         one l (inr k) = absurd k
 
-    wish_proper : (e : Event) (w : Wish) → IsProper c (on_wish kinds setup d e w)
+    wish_proper : (e : Event) (w : EventAction) → IsProper c (on_wish kinds setup d e w)
     wish_proper e Propose = of_rest c d (proposing kinds setup d (Received e)) refl (proposing_proceeds d (Received e))
     wish_proper e (Acknowledge through) = of_rest c d (posting_work (resting d) (ack e through ∷ [])) refl (posts_to_switch d (ack e through ∷ []) (ack_for e through))
     wish_proper e Nothing = of_rest c d (resting d) refl (stays (resting d))

@@ -13,7 +13,7 @@ use Rattle.vr_log.specs.Log.{is_log, processed, received}
 use Rattle.app_core.specs.Chain.{concat}
 use Rattle.app_core.specs.Issued.{count_issued}
 use Rattle.app_core.specs.declared.issued.Issued.{Issued}
-use Rattle.dispatcher.specs.declared.answers.Through.{Through}
+use Rattle.dispatcher.specs.declared.answers.AckThrough.{AckThrough}
 use Rattle.dispatcher.specs.Folding.{acknowledges_at, clears_at, places_processed}
 use Rattle.dispatcher.specs.Marks.{outstanding, settled_commands}
 use Rattle.of_switch.specs.State.{SwitchState, life_of}
@@ -39,11 +39,11 @@ pub to_switches_append : (xs ys : List (Letter ControllerSays)) → AreToSwitche
 to_switches_append xs ys a d b =
     told_to-append controller_message (actor.Controller b) xs ys ∙ ap (λ (z : List Message). z ++ told_to controller_message (actor.Controller b) ys) (a b) ∙ d b
 
-acks_to_switches : (xs : List Through) → AreToSwitches (map ack_letter xs)
+acks_to_switches : (xs : List AckThrough) → AreToSwitches (map ack_letter xs)
 acks_to_switches [] b = refl
 acks_to_switches (x ∷ xs) b = acks_to_switches xs b
 
-clears_to_switches : (xs : List Through) → AreToSwitches (map clear_letter xs)
+clears_to_switches : (xs : List AckThrough) → AreToSwitches (map clear_letter xs)
 clears_to_switches [] b = refl
 clears_to_switches (x ∷ xs) b = clears_to_switches xs b
 

@@ -16,7 +16,7 @@ use Rattle.journal.proofs.All.{all_append}
 use Rattle.vr_log.specs.declared.entry.Entry.{Entry}
 use Rattle.vr_log.specs.declared.message.VrLetter.{VrLetter}
 use Rattle.app_core.specs.declared.issued.Issued.{Issued}
-use Rattle.dispatcher.specs.declared.answers.Through.{Through}
+use Rattle.dispatcher.specs.declared.answers.AckThrough.{AckThrough}
 use Rattle.dispatcher.specs.Folding.{numbered}
 use Rattle.dispatcher.specs.Ledger.{most_commands}
 use Rattle.dispatcher.specs.Marks.{settled_commands}
@@ -80,12 +80,12 @@ told t letters = told_to controller_message (actor.Switch t) letters
 pub told-append : (t : ℕ) (xs ys : List (Letter ControllerSays)) → told t (xs ++ ys) ≡ told t xs ++ told t ys
 told-append t xs ys = told_to-append controller_message (actor.Switch t) xs ys
 
-pub quiet_acks : (view t : ℕ) (xs : List Through) → AreQuiet view (told t (map ack_letter xs))
+pub quiet_acks : (view t : ℕ) (xs : List AckThrough) → AreQuiet view (told t (map ack_letter xs))
 quiet_acks view t [] = quiet_nil view
 quiet_acks view t (x ∷ xs) =
     quiet_choice view (nat_eq x.switch t) (acknowledges_events x.life x.through) (told t (map ack_letter xs)) (quiet_acks view t xs) (quiet_ack view x.life x.through (told t (map ack_letter xs)) (quiet_acks view t xs))
 
-pub quiet_clears : (view t : ℕ) (xs : List Through) → AreQuiet view (told t (map clear_letter xs))
+pub quiet_clears : (view t : ℕ) (xs : List AckThrough) → AreQuiet view (told t (map clear_letter xs))
 quiet_clears view t [] = quiet_nil view
 quiet_clears view t (x ∷ xs) =
     quiet_choice view (nat_eq x.switch t) (message.Of 0 (spoken.Ravana (extension.Clear x.life x.through))) (told t (map clear_letter xs)) (quiet_clears view t xs)

@@ -2,7 +2,7 @@ use Rattle.std.proofs.Common.{◌≡◌, ℕ, List, length, ap, ◌∙◌, arith
 use Rattle.of_types.specs.declared.message.Event.{Event}
 use Rattle.vr_log.specs.Log.{received}
 use Rattle.vr_log.proofs.Logs.{length_is}
-use Rattle.report.specs.declared.record.Told.{Told}
+use Rattle.report.specs.declared.record.SwitchRecord.{SwitchRecord}
 use Rattle.app_core.specs.Chain.{reactions}
 use Rattle.audit.specs.Judging.{is_told_as_executed, is_executed}
 use Rattle.audit.proofs.Judged.{gathered_names, gathered_orders}
@@ -25,8 +25,8 @@ returns-clause-evidence g c =
     ∙ ap (λ (ks : List ℕ). reactions ks r.setup c.as_slice-2.result.now) c.in_ok-start.ensures.kinds
     ∙ ap (λ (l : List Event). reactions kinds r.setup l) (c.as_slice-2.ensures ∙ events) in
     record {
-      told = λ i. c.in_ok-told.ensures i ∙ ap (λ (l : List Event). is_told_as_executed l c.as_slice-4.result.now i) events ∙ ap (λ (l : List Told). is_told_as_executed (received r.log) l i) c.as_slice-4.ensures;
-      executed = λ q. c.in_ok-executed.ensures q ∙ ap (λ (l : List Told). is_executed 0 l q) c.as_slice-5.ensures;
+      told = λ i. c.in_ok-told.ensures i ∙ ap (λ (l : List Event). is_told_as_executed l c.as_slice-4.result.now i) events ∙ ap (λ (l : List SwitchRecord). is_told_as_executed (received r.log) l i) c.as_slice-4.ensures;
+      executed = λ q. c.in_ok-executed.ensures q ∙ ap (λ (l : List SwitchRecord). is_executed 0 l q) c.as_slice-5.ensures;
       names = gathered_names kinds r.setup (received r.log) c.as_slice-3.result.now c.in_ok-lists.lists.items c.in_ok-issued.issued.names (c.as_slice-3.ensures ∙ events) lists c.in_ok-issued.ensures.names;
     }
 

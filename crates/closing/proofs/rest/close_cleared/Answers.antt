@@ -1,11 +1,11 @@
-use Rattle.closing.specs.declared.closed.Came.{Came}
+use Rattle.closing.specs.declared.closed.TurnOutcome.{TurnOutcome}
 use Rattle.std.proofs.Common.{◌≡◌, ◌+◌, true, ◌∙◌, ap, subst, arith}
 use Rattle.std.proofs.lemmas.Result.{err_from_is_err_and}
 use Rattle.journal.specs.Pool.{past}
 use Rattle.world.specs.World.{scene_in}
 use Rattle.std.specs.Prelude.{Option, ◌%◌, ◌/◌}
 use Rattle.run_spec.specs.Closing.{Losing, quorum_of}
-use Rattle.closing.specs.declared.closed.Closed.{Closed}
+use Rattle.closing.specs.declared.closed.ClosingOutcome.{ClosingOutcome}
 use Rattle.closing_laws.specs.Quorum.{has}
 use Rattle.closing.specs.Closing.{CameTo, Drained, EndsBy}
 use Rattle.closing.specs.Views.{most_view_of_a_closing, views_of_an_attempt}
@@ -45,7 +45,7 @@ returns-in_err-close_by-clause-closes g c =
     c.as_slice.ensures.value ∙ c.in_ok-quorum.ensures ∙ ap (λ m. quorum_of (c.closing_view-view.result % m) (c.setup.result.now.controllers / 2) c.args.up.now) named ∙ ap (λ m. quorum_of (c.closing_view-view.result % c.args.world.now.setup.controllers) (m / 2) c.args.up.now) whole in
     let p = err_from_is_err_and c.from_residual-in_err-close_by.result c.from_residual-in_err-close_by.ensures.1 in
     rw (p.1, p.2) (λ kinds holds start s.
-    same_stop Came (Option Closed) (CameTo (Drained c.closing_view-view.result c.as_slice.result.now)) EndsBy c.in_err-close_by.field-0.0 (scene_in sealing c.args.world.now kinds) start c.close_by.new.world (c.in_err-close_by.ensures.closes kinds holds start (begins law (scene_in sealing c.args.world.now kinds) start c.args.world.now holds.run c.closing_view-view.result c.args.up.now c.as_slice.result.now c.requires.empty c.requires.up c.requires.most c.closing_view-view.ensures.view quorum_is s)))
+    same_stop TurnOutcome (Option ClosingOutcome) (CameTo (Drained c.closing_view-view.result c.as_slice.result.now)) EndsBy c.in_err-close_by.field-0.0 (scene_in sealing c.args.world.now kinds) start c.close_by.new.world (c.in_err-close_by.ensures.closes kinds holds start (begins law (scene_in sealing c.args.world.now kinds) start c.args.world.now holds.run c.closing_view-view.result c.args.up.now c.as_slice.result.now c.requires.empty c.requires.up c.requires.most c.closing_view-view.ensures.view quorum_is s)))
 
 pub returns-in-ToRest-clause-views : goal.returns-in-ToRest-clause-views
 returns-in-ToRest-clause-views g c =

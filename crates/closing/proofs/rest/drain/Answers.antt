@@ -1,4 +1,4 @@
-use Rattle.closing.specs.declared.closed.Came.{Came}
+use Rattle.closing.specs.declared.closed.TurnOutcome.{TurnOutcome}
 use Rattle.std.proofs.Common.{sym, ◌∙◌, subst, arith, Err}
 use Rattle.std.proofs.lemmas.Result.{err_from_is_err_and}
 use Rattle.world.specs.World.{scene_in}
@@ -22,7 +22,7 @@ returns-in_err-came-clause-drains g c =
     let sealing = g.B.Body.sealing in
     let p = err_from_is_err_and c.from_residual.result c.from_residual.ensures.1 in
     rw (p.1, p.2) (λ kinds holds start s.
-    same_stop Came Came (CameTo (Drains c.args.view c.args.quorum.now)) (CameTo (Drained c.args.view c.args.quorum.now)) c.in_err-came.field-0.0 (scene_in sealing c.args.world.now kinds) start c.drain_first.new.world
+    same_stop TurnOutcome TurnOutcome (CameTo (Drains c.args.view c.args.quorum.now)) (CameTo (Drained c.args.view c.args.quorum.now)) c.in_err-came.field-0.0 (scene_in sealing c.args.world.now kinds) start c.drain_first.new.world
     (leads_then law sealing (Drains c.args.view c.args.quorum.now) (Drains c.args.view c.args.quorum.now) (ClosingStandsAt (CameTo (Drains c.args.view c.args.quorum.now)) (Err c.in_err-came.field-0.0)) c.args.world.now c.draining.world c.drain_first.new.world c.draining.invariant.keeps.setup c.draining.invariant.keeps.holds c.draining.invariant.drains c.in_err-came.ensures.drains kinds holds start s))
 
 pub returns-then-is_over-clause-keeps : goal.returns-then-is_over-clause-keeps

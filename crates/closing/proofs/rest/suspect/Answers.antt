@@ -1,4 +1,4 @@
-use Rattle.closing.specs.declared.closed.Came.{Came}
+use Rattle.closing.specs.declared.closed.TurnOutcome.{TurnOutcome}
 use Rattle.std.proofs.Common.{◌+◌, drop, sym, ◌∙◌, subst, arith, Err}
 use Rattle.std.proofs.lemmas.Result.{err_from_is_err_and}
 use Rattle.world.specs.World.{scene_in}
@@ -26,7 +26,7 @@ returns-in_err-came-clause-suspects g c =
     let behind = drop (c.suspecting.number-index + 1) c.args.quorum.now in
     let step = subst (λ l. LeadsTo law sealing (Suspects c.args.view c.args.quorum.now l) (ClosingStandsAt (CameTo (Suspects c.args.view c.args.quorum.now behind)) (Err c.in_err-came.field-0.0)) c.suspecting.world c.suspect_next.new.world) (sym (drop_at c.args.quorum.now c.suspecting.number-index c.suspecting-test.true)) (c.in_err-came.ensures.suspects c.args.quorum.now behind) in
     rw (p.1, p.2) (λ kinds holds start s.
-    same_stop Came Came (CameTo (Suspects c.args.view c.args.quorum.now behind)) (CameTo (Drains c.args.view c.args.quorum.now)) c.in_err-came.field-0.0 (scene_in sealing c.args.world.now kinds) start c.suspect_next.new.world
+    same_stop TurnOutcome TurnOutcome (CameTo (Suspects c.args.view c.args.quorum.now behind)) (CameTo (Drains c.args.view c.args.quorum.now)) c.in_err-came.field-0.0 (scene_in sealing c.args.world.now kinds) start c.suspect_next.new.world
     (leads_then law sealing (Suspects c.args.view c.args.quorum.now c.args.quorum.now) (Suspects c.args.view c.args.quorum.now (drop c.suspecting.number-index c.args.quorum.now)) (ClosingStandsAt (CameTo (Suspects c.args.view c.args.quorum.now behind)) (Err c.in_err-came.field-0.0)) c.args.world.now c.suspecting.world c.suspect_next.new.world c.suspecting.invariant.keeps.setup c.suspecting.invariant.keeps.holds c.suspecting.invariant.suspects step kinds holds start s))
 
 pub returns-then-is_over-clause-keeps : goal.returns-then-is_over-clause-keeps

@@ -13,6 +13,27 @@ use crate::named::Name;
 use std::alloc::AllocError;
 use vr_log::Entry;
 
+/// The first line of a log that fails. They are numbered from this line on.
+pub fn first_of_log(
+    line: u64,
+    log: &[Entry],
+    evidence: &Evidence,
+) -> Result<Option<u64>, AllocError>
+    ensures { (kinds : List ℕ) (r : Record) → IsEvidence kinds r evidence.now → r.log ≡ log.now →
+        IfOk result (λ first. first ≡ first_failing line (log_fails kinds r [] log.now)) }
+{
+    let mut so_far = Following::new();
+    let mut number = line;
+    for entry in log {
+        if fails(entry, &so_far, evidence) {
+            return Ok(Some(number));
+        }
+        so_far.join(entry)?;
+        number = add(number, 1)?;
+    }
+    Ok(None)
+}
+
 fn is_settled(name: Name, so_far: &Following, evidence: &Evidence) -> bool
     ensures { result ≡ is_settled_by evidence.now so_far.now name }
 {
@@ -50,25 +71,4 @@ fn fails(entry: &Entry, so_far: &Following, evidence: &Evidence) -> bool
             Entry::Processed(place) => are_settled(*place as usize, so_far, evidence),
         };
     !holds
-}
-
-/// The first line of a log that fails. They are numbered from this line on.
-pub fn first_of_log(
-    line: u64,
-    log: &[Entry],
-    evidence: &Evidence,
-) -> Result<Option<u64>, AllocError>
-    ensures { (kinds : List ℕ) (r : Record) → IsEvidence kinds r evidence.now → r.log ≡ log.now →
-        IfOk result (λ first. first ≡ first_failing line (log_fails kinds r [] log.now)) }
-{
-    let mut so_far = Following::new();
-    let mut number = line;
-    for entry in log {
-        if fails(entry, &so_far, evidence) {
-            return Ok(Some(number));
-        }
-        so_far.join(entry)?;
-        number = add(number, 1)?;
-    }
-    Ok(None)
 }

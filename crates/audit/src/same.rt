@@ -5,6 +5,17 @@ ghost use Rattle.vr_log.specs.Same as same;
 
 use of_types::{FlowCommand, FlowMod, Order, PacketOut, same_match};
 
+/// Whether two orders are equal.
+pub fn same_order(a: &Order, b: &Order) -> bool
+    ensures { result ≡ orders.same_order a.now b.now }
+{
+    match (a, b) {
+        (Order::FlowMod(a), Order::FlowMod(b)) => same_flow_mod(a, b),
+        (Order::PacketOut(a), Order::PacketOut(b)) => same_packet_out(a, b),
+        _ => false,
+    }
+}
+
 fn same_bytes(a: &[u8], b: &[u8]) -> bool
     ensures { result ≡ same.same_numbers a.now b.now }
 {
@@ -60,15 +71,4 @@ fn same_packet_out(a: &PacketOut, b: &PacketOut) -> bool
         && a.in_port == b.in_port
         && same_actions(a.actions.as_slice(), b.actions.as_slice())
         && same_bytes(a.payload.as_slice(), b.payload.as_slice())
-}
-
-/// Whether two orders are equal.
-pub fn same_order(a: &Order, b: &Order) -> bool
-    ensures { result ≡ orders.same_order a.now b.now }
-{
-    match (a, b) {
-        (Order::FlowMod(a), Order::FlowMod(b)) => same_flow_mod(a, b),
-        (Order::PacketOut(a), Order::PacketOut(b)) => same_packet_out(a, b),
-        _ => false,
-    }
 }

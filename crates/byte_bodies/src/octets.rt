@@ -6,6 +6,18 @@ use of_types::{Items, Octets};
 use journal::{Journal, JournalEntry, Letter, Letters};
 use std::alloc::{AllocError, Global};
 
+/// The same journal, each body as its bytes, which are moved.
+pub fn bare(alloc: Global, journal: Journal<Bytes>) -> Result<Journal<Octets>, AllocError>
+    ensures { IfOk result (λ bare. bare ≡ journal) }
+{
+    let journal = journal.into_vec();
+    let mut entries = Items::from_vec(Vec::with_capacity(alloc, journal.len())?);
+    for entry in journal {
+        entries.push(bare_entry(alloc, entry)?)?;
+    }
+    Ok(entries)
+}
+
 fn bare_letters(alloc: Global, letters: Letters<Bytes>) -> Result<Letters<Octets>, AllocError>
     ensures { IfOk result (λ bare. bare ≡ letters) }
 {
@@ -41,16 +53,4 @@ fn bare_entry(alloc: Global, entry: JournalEntry<Bytes>) -> Result<JournalEntry<
         JournalEntry::Idle { actor } => Ok(JournalEntry::Idle { actor }),
         JournalEntry::Refused { actor } => Ok(JournalEntry::Refused { actor }),
     }
-}
-
-/// The same journal, each body as its bytes, which are moved.
-pub fn bare(alloc: Global, journal: Journal<Bytes>) -> Result<Journal<Octets>, AllocError>
-    ensures { IfOk result (λ bare. bare ≡ journal) }
-{
-    let journal = journal.into_vec();
-    let mut entries = Items::from_vec(Vec::with_capacity(alloc, journal.len())?);
-    for entry in journal {
-        entries.push(bare_entry(alloc, entry)?)?;
-    }
-    Ok(entries)
 }

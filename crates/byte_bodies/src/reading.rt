@@ -21,6 +21,48 @@ const HEAD: usize = 64;
 /// How many bytes the number of a port has in front of a frame on a link.
 const PORT: usize = 4;
 
+/// What bytes say between a controller and a switch. They are one message, no more and no less.
+pub fn read_spoken(alloc: Global, bytes: &[u8]) -> Result<Unsealed, AllocError>
+    ensures { IfOk result (λ said. said ≡ spoken_said bytes.now (message_at bytes.now)) }
+{
+    match decode(alloc, bytes) {
+        Ok((xid, OfMessage::Experimenter { body })) => {
+            read_extension(alloc, xid, bytes, body.as_slice())
+        }
+        Ok((xid, message)) => Ok(Unsealed::Message(Message::Of {
+            xid,
+            message: Spoken::Plain(message),
+        })),
+        Err(OfFault::Wire { kind, code, xid }) => malformed(alloc, kind, code, xid, bytes),
+        Err(OfFault::OutOfMemory) => Err(AllocError),
+    }
+}
+
+/// What bytes say between two controllers.
+pub fn read_vr(alloc: Global, bytes: &[u8]) -> Result<Unsealed, AllocError>
+    ensures { IfOk result (λ said. said ≡ vr_said (vr_at bytes.now)) }
+{
+    match decode_vr(alloc, bytes) {
+        Ok(message) => Ok(Unsealed::Message(Message::Vr(message))),
+        Err(VrFault::Refused(_)) => Ok(nothing_said(alloc)),
+        Err(VrFault::OutOfMemory) => Err(AllocError),
+    }
+}
+
+/// What bytes say between two switches: a port, and a frame of a length that a link carries.
+pub fn read_frame(alloc: Global, bytes: &[u8]) -> Result<Unsealed, AllocError>
+    ensures { IfOk result (λ said. said ≡ frame_said bytes.now) }
+{
+    if bytes.len() < PORT + SHORTEST_FRAME || bytes.len() > PORT + LONGEST_FRAME {
+        return Ok(nothing_said(alloc));
+    }
+    let frame = Octets::from_slice(alloc, &bytes[PORT..])?;
+    Ok(Unsealed::Message(Message::Frame {
+        port: u32_at(bytes, 0),
+        bytes: frame,
+    }))
+}
+
 /// What bytes say that spell no message of OpenFlow: the type and the code of the error, the number of the request, and the
 /// beginning of the bytes.
 fn malformed(
@@ -71,46 +113,4 @@ fn read_extension(
         Err(OfFault::Wire { kind, code, .. }) => malformed(alloc, kind, code, xid, bytes),
         Err(OfFault::OutOfMemory) => Err(AllocError),
     }
-}
-
-/// What bytes say between a controller and a switch. They are one message, no more and no less.
-pub fn read_spoken(alloc: Global, bytes: &[u8]) -> Result<Unsealed, AllocError>
-    ensures { IfOk result (λ said. said ≡ spoken_said bytes.now (message_at bytes.now)) }
-{
-    match decode(alloc, bytes) {
-        Ok((xid, OfMessage::Experimenter { body })) => {
-            read_extension(alloc, xid, bytes, body.as_slice())
-        }
-        Ok((xid, message)) => Ok(Unsealed::Message(Message::Of {
-            xid,
-            message: Spoken::Plain(message),
-        })),
-        Err(OfFault::Wire { kind, code, xid }) => malformed(alloc, kind, code, xid, bytes),
-        Err(OfFault::OutOfMemory) => Err(AllocError),
-    }
-}
-
-/// What bytes say between two controllers.
-pub fn read_vr(alloc: Global, bytes: &[u8]) -> Result<Unsealed, AllocError>
-    ensures { IfOk result (λ said. said ≡ vr_said (vr_at bytes.now)) }
-{
-    match decode_vr(alloc, bytes) {
-        Ok(message) => Ok(Unsealed::Message(Message::Vr(message))),
-        Err(VrFault::Refused(_)) => Ok(nothing_said(alloc)),
-        Err(VrFault::OutOfMemory) => Err(AllocError),
-    }
-}
-
-/// What bytes say between two switches: a port, and a frame of a length that a link carries.
-pub fn read_frame(alloc: Global, bytes: &[u8]) -> Result<Unsealed, AllocError>
-    ensures { IfOk result (λ said. said ≡ frame_said bytes.now) }
-{
-    if bytes.len() < PORT + SHORTEST_FRAME || bytes.len() > PORT + LONGEST_FRAME {
-        return Ok(nothing_said(alloc));
-    }
-    let frame = Octets::from_slice(alloc, &bytes[PORT..])?;
-    Ok(Unsealed::Message(Message::Frame {
-        port: u32_at(bytes, 0),
-        bytes: frame,
-    }))
 }

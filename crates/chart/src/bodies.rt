@@ -17,6 +17,23 @@ use vr_codec::{VrFault, decode_vr};
 /// How many bytes the number of a port has in front of a frame on a link.
 const PORT: usize = 4;
 
+/// What a body says that one actor sends to another.
+#[tactic(auto, unfolding(crate::specs::Carried::carried_by))]
+pub fn carried(
+    alloc: Global,
+    sender: Actor,
+    receiver: Actor,
+    body: &[u8],
+) -> Result<Carried, AllocError>
+    ensures { IfOk result (λ carried. carried ≡ carried_by sender receiver body.now) }
+{
+    match (sender, receiver) {
+        (Actor::Controller(_), Actor::Controller(_)) => member(alloc, body),
+        (Actor::Switch(_), Actor::Switch(_)) => Ok(on_link(body)),
+        _ => spoken(alloc, body),
+    }
+}
+
 /// What an EXPERIMENTER of so many bytes says with this body.
 fn experimenter(alloc: Global, body: &[u8], bytes: usize) -> Result<Carried, AllocError>
     ensures { IfOk result (λ carried. carried ≡ carried_extension bytes (extension_at body.now)) }
@@ -60,22 +77,5 @@ fn on_link(body: &[u8]) -> Carried
     Carried::Frame {
         port: u32_at(body, 0),
         bytes: body.len() - PORT,
-    }
-}
-
-/// What a body says that one actor sends to another.
-#[tactic(auto, unfolding(crate::specs::Carried::carried_by))]
-pub fn carried(
-    alloc: Global,
-    sender: Actor,
-    receiver: Actor,
-    body: &[u8],
-) -> Result<Carried, AllocError>
-    ensures { IfOk result (λ carried. carried ≡ carried_by sender receiver body.now) }
-{
-    match (sender, receiver) {
-        (Actor::Controller(_), Actor::Controller(_)) => member(alloc, body),
-        (Actor::Switch(_), Actor::Switch(_)) => Ok(on_link(body)),
-        _ => spoken(alloc, body),
     }
 }

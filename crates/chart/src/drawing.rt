@@ -12,16 +12,6 @@ use report::Record;
 use journal::JournalEntry;
 use std::alloc::{AllocError, Global};
 
-/// Whether the next arrow ends at a place.
-fn is_ended_at(arrows: &[Arrow], next: usize, place: usize) -> bool
-    ensures { IsTrue result → next < length arrows.now }
-{
-    match arrows.get(next) {
-        Some(arrow) => arrow.ended == place,
-        None => false,
-    }
-}
-
 /// What is marked beside the arrows.
 #[derive(Drop)]
 struct Marked {
@@ -49,6 +39,51 @@ impl Marked {
             self.log.push(Logged { place, text: log })?;
         }
         Ok(())
+    }
+}
+
+/// The shapes of the entries of a window.
+pub fn draw(alloc: Global, told: &Record, window: Window) -> Result<Drawing, AllocError>
+    // There is an arrow for exactly the draws and losses whose post is shown, from who posted the packet to who draws or loses it.
+    ensures arrows { IfOk result (λ d. (a : Arrow) → Contains d.arrows a ↔ IsArrow (past (shown_of window told.now.journal)) a) }
+    // They stand in the order of their ends, one for each.
+    ensures exact { IfOk result (λ d. d.arrows ≡ arrows_of (past (shown_of window told.now.journal))) }
+    ensures shown { IfOk result (λ d. d.shown ≡ length (shown_of window told.now.journal)) }
+    ensures before { IfOk result (λ d. d.before ≡ before_of window told.now.journal) }
+    ensures entries { IfOk result (λ d. d.entries ≡ length told.now.journal) }
+    ensures controllers { IfOk result (λ d. d.controllers ≡ told.now.setup.controllers) }
+    ensures switches { length told.now.setup.ports < 256 → IfOk result (λ d. d.switches ≡ length told.now.setup.ports) }
+{
+    let journal = told.journal.as_slice();
+    let (before, shown) = shown_in(window, journal);
+    let arrows = arrows(alloc, shown)?;
+    let mut marks = Marks::new(alloc, told)?;
+    for entry in &journal[..before] {
+        marks.see(0, entry)?;
+    }
+    let Marked { bands, notes, log } = mark(alloc, &mut marks, shown, arrows.as_slice())?;
+    let lives = marks.lifelines.end(shown.len())?;
+    Ok(Drawing {
+        controllers: told.setup.controllers,
+        switches: told.setup.ports.len().min(255) as u8,
+        entries: journal.len(),
+        before,
+        shown: shown.len(),
+        arrows,
+        bands,
+        notes,
+        log,
+        lives,
+    })
+}
+
+/// Whether the next arrow ends at a place.
+fn is_ended_at(arrows: &[Arrow], next: usize, place: usize) -> bool
+    ensures { IsTrue result → next < length arrows.now }
+{
+    match arrows.get(next) {
+        Some(arrow) => arrow.ended == place,
+        None => false,
     }
 }
 
@@ -85,39 +120,4 @@ fn shown_in(window: Window, journal: &[JournalEntry<Octets>]) -> (usize, &[Journ
     let end = journal.len().min(window.last as usize);
     let before = end.min((window.first as usize).saturating_sub(1));
     (before, &journal[before..end])
-}
-
-/// The shapes of the entries of a window.
-pub fn draw(alloc: Global, told: &Record, window: Window) -> Result<Drawing, AllocError>
-    // There is an arrow for exactly the draws and losses whose post is shown, from who posted the packet to who draws or loses it.
-    ensures arrows { IfOk result (λ d. (a : Arrow) → Contains d.arrows a ↔ IsArrow (past (shown_of window told.now.journal)) a) }
-    // They stand in the order of their ends, one for each.
-    ensures exact { IfOk result (λ d. d.arrows ≡ arrows_of (past (shown_of window told.now.journal))) }
-    ensures shown { IfOk result (λ d. d.shown ≡ length (shown_of window told.now.journal)) }
-    ensures before { IfOk result (λ d. d.before ≡ before_of window told.now.journal) }
-    ensures entries { IfOk result (λ d. d.entries ≡ length told.now.journal) }
-    ensures controllers { IfOk result (λ d. d.controllers ≡ told.now.setup.controllers) }
-    ensures switches { length told.now.setup.ports < 256 → IfOk result (λ d. d.switches ≡ length told.now.setup.ports) }
-{
-    let journal = told.journal.as_slice();
-    let (before, shown) = shown_in(window, journal);
-    let arrows = arrows(alloc, shown)?;
-    let mut marks = Marks::new(alloc, told)?;
-    for entry in &journal[..before] {
-        marks.see(0, entry)?;
-    }
-    let Marked { bands, notes, log } = mark(alloc, &mut marks, shown, arrows.as_slice())?;
-    let lives = marks.lifelines.end(shown.len())?;
-    Ok(Drawing {
-        controllers: told.setup.controllers,
-        switches: told.setup.ports.len().min(255) as u8,
-        entries: journal.len(),
-        before,
-        shown: shown.len(),
-        arrows,
-        bands,
-        notes,
-        log,
-        lives,
-    })
 }

@@ -77,6 +77,21 @@ const LEGEND: &[u8] =
 <path class=\"down\" d=\"M680 0H710\"/><text x=\"716\" y=\"4\">down</text></g>
 ";
 
+/// The text of a drawing as SVG.
+pub fn svg(alloc: Global, drawing: &Drawing) -> Result<Octets, AllocError> {
+    let mut svg = Octets::new(alloc);
+    let width = LEFT + SPACING * u128::from(lifelines(drawing)) + RIGHT;
+    write_head(&mut svg, drawing, width, row(drawing.shown) + BOTTOM)?;
+    write_grid(&mut svg, drawing, width)?;
+    for arrow in drawing.arrows.as_slice() {
+        write_line(&mut svg, drawing, arrow)?;
+    }
+    write_rows(&mut svg, drawing)?;
+    write_words(&mut svg, drawing)?;
+    svg.append(b"</svg>\n")?;
+    Ok(svg)
+}
+
 /// How many lifelines there are.
 fn lifelines(drawing: &Drawing) -> u16 {
     u16::from(drawing.controllers) + u16::from(drawing.switches)
@@ -361,19 +376,4 @@ fn write_words(svg: &mut Octets, drawing: &Drawing) -> Result<(), AllocError> {
         write_note(svg, drawing, note)?;
     }
     Ok(())
-}
-
-/// The text of a drawing as SVG.
-pub fn svg(alloc: Global, drawing: &Drawing) -> Result<Octets, AllocError> {
-    let mut svg = Octets::new(alloc);
-    let width = LEFT + SPACING * u128::from(lifelines(drawing)) + RIGHT;
-    write_head(&mut svg, drawing, width, row(drawing.shown) + BOTTOM)?;
-    write_grid(&mut svg, drawing, width)?;
-    for arrow in drawing.arrows.as_slice() {
-        write_line(&mut svg, drawing, arrow)?;
-    }
-    write_rows(&mut svg, drawing)?;
-    write_words(&mut svg, drawing)?;
-    svg.append(b"</svg>\n")?;
-    Ok(svg)
 }

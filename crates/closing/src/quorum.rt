@@ -14,21 +14,6 @@ use players::Body;
 use world::{World, takes_part};
 use std::alloc::{AllocError, Global};
 
-/// The number of a controller goes behind those that are there, if it takes part.
-fn push_member<A: App>(
-    up: &mut Vec<u8>,
-    number: u8,
-    controller: &Controller<A>,
-) -> Result<(), AllocError>
-    requires { (state_of controller.now).vr.me ≡ number }
-    ensures { OnOk result (up.new.items ≡ up.old.items ++ member_in (state_of controller.now)) }
-{
-    if takes_part(controller) {
-        up.push(number)?;
-    }
-    Ok(())
-}
-
 /// The controllers that take part, by number.
 pub fn members_up<B: Body, A: App>(
     alloc: Global,
@@ -42,32 +27,6 @@ pub fn members_up<B: Body, A: App>(
         push_member(&mut up, number, world.controller(number))?;
     }
     Ok(up)
-}
-
-/// The least view above the view and the promise of a controller.
-fn above<A: App>(controller: &Controller<A>) -> u32
-    requires controls { (kinds : List ℕ) × Controls A.law controller.now kinds }
-    requires up { is_up (state_of controller.now).vr ≡ true }
-    requires view { (state_of controller.now).vr.view ≤ most_view_of_a_closing }
-    requires promise { (state_of controller.now).vr.promise ≤ most_view_of_a_closing }
-    ensures { result ≡ view_above (state_of controller.now) }
-{
-    let view = controller.view().unwrap_or(0);
-    view.max(controller.promise()) + 1
-}
-
-/// The bound with one controller more.
-fn bound_with<A: App>(bound: u32, controller: &Controller<A>) -> u32
-    requires controls { (kinds : List ℕ) × Controls A.law controller.now kinds }
-    requires view { (state_of controller.now).vr.view ≤ most_view_of_a_closing }
-    requires promise { (state_of controller.now).vr.promise ≤ most_view_of_a_closing }
-    ensures { result ≡ bound_with bound (state_of controller.now) }
-{
-    if takes_part(controller) {
-        bound.max(above(controller))
-    } else {
-        bound
-    }
 }
 
 /// The least view above all views and promises of the controllers that take part.
@@ -95,4 +54,45 @@ pub fn closing_view<B: Body, A: App>(world: &World<B, A>, up: &[u8]) -> u32
         HaveViewsUpTo limit world.now.controllers → result ≤ limit + views_of_an_attempt }
 {
     first_view(world.setup().controllers, up, bound_of(world))
+}
+
+/// The number of a controller goes behind those that are there, if it takes part.
+fn push_member<A: App>(
+    up: &mut Vec<u8>,
+    number: u8,
+    controller: &Controller<A>,
+) -> Result<(), AllocError>
+    requires { (state_of controller.now).vr.me ≡ number }
+    ensures { OnOk result (up.new.items ≡ up.old.items ++ member_in (state_of controller.now)) }
+{
+    if takes_part(controller) {
+        up.push(number)?;
+    }
+    Ok(())
+}
+
+/// The least view above the view and the promise of a controller.
+fn above<A: App>(controller: &Controller<A>) -> u32
+    requires controls { (kinds : List ℕ) × Controls A.law controller.now kinds }
+    requires up { is_up (state_of controller.now).vr ≡ true }
+    requires view { (state_of controller.now).vr.view ≤ most_view_of_a_closing }
+    requires promise { (state_of controller.now).vr.promise ≤ most_view_of_a_closing }
+    ensures { result ≡ view_above (state_of controller.now) }
+{
+    let view = controller.view().unwrap_or(0);
+    view.max(controller.promise()) + 1
+}
+
+/// The bound with one controller more.
+fn bound_with<A: App>(bound: u32, controller: &Controller<A>) -> u32
+    requires controls { (kinds : List ℕ) × Controls A.law controller.now kinds }
+    requires view { (state_of controller.now).vr.view ≤ most_view_of_a_closing }
+    requires promise { (state_of controller.now).vr.promise ≤ most_view_of_a_closing }
+    ensures { result ≡ bound_with bound (state_of controller.now) }
+{
+    if takes_part(controller) {
+        bound.max(above(controller))
+    } else {
+        bound
+    }
 }

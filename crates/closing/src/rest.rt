@@ -18,6 +18,32 @@ use players::Body;
 use world::World;
 use std::alloc::{AllocError, Global};
 
+/// Brings a world to rest: what waits is lost, the members of a quorum start the least view above all, and what they and
+/// the switches then say is drawn until nothing waits, or until a proposal finds no room in the log. Where a member's
+/// save fails, it begins again. At its end nothing is left undone, and what its primary has committed is what is decided.
+/// Where a turn finds no memory it stops, and the world may be closed again.
+pub fn run<B: Body, A: App, W: Stable>(
+    alloc: Global,
+    world: &mut World<B, A>,
+    stables: &mut [W],
+) -> Result<ClosingOutcome, Stop>
+    requires holds { (kinds : List ℕ) × Holds A.law B.sealing world.old kinds }
+    requires pairs { PairsStand W.saving stables.old world.old.controllers }
+    requires views { IsSuspectedUpTo most_view_of_a_script (past world.old.journal) }
+    ensures keeps { Keeps A.law W.saving B.sealing world.old stables.old world.new stables.new }
+    ensures rests { OnOk result (world.new.owed ≡ None) }
+    ensures closes { ForEachScene A.law B.sealing world.old (λ scene. IfOk result (HasEnded scene world.old world.new)) }
+    ensures up { IfOk result (λ closed. HasMajority closed world.old world.new) }
+    ensures stops { ForEachScene A.law B.sealing world.old (λ scene. IfErr result (ClosingStops scene world.old world.new)) }
+{
+    'closing: loop {
+        if let Some(closed) = close_once(alloc, world, stables)? {
+            world.lawful();
+            return Ok(closed);
+        }
+    }
+}
+
 /// Every packet that waits is lost, by number.
 fn lose_all<B: Body, A: App, W: Stable>(
     world: &mut World<B, A>,
@@ -183,30 +209,4 @@ fn close_once<B: Body, A: App, W: Stable>(
         }));
     }
     close_cleared(alloc, world, stables, up)
-}
-
-/// Brings a world to rest: what waits is lost, the members of a quorum start the least view above all, and what they and
-/// the switches then say is drawn until nothing waits, or until a proposal finds no room in the log. Where a member's
-/// save fails, it begins again. At its end nothing is left undone, and what its primary has committed is what is decided.
-/// Where a turn finds no memory it stops, and the world may be closed again.
-pub fn run<B: Body, A: App, W: Stable>(
-    alloc: Global,
-    world: &mut World<B, A>,
-    stables: &mut [W],
-) -> Result<ClosingOutcome, Stop>
-    requires holds { (kinds : List ℕ) × Holds A.law B.sealing world.old kinds }
-    requires pairs { PairsStand W.saving stables.old world.old.controllers }
-    requires views { IsSuspectedUpTo most_view_of_a_script (past world.old.journal) }
-    ensures keeps { Keeps A.law W.saving B.sealing world.old stables.old world.new stables.new }
-    ensures rests { OnOk result (world.new.owed ≡ None) }
-    ensures closes { ForEachScene A.law B.sealing world.old (λ scene. IfOk result (HasEnded scene world.old world.new)) }
-    ensures up { IfOk result (λ closed. HasMajority closed world.old world.new) }
-    ensures stops { ForEachScene A.law B.sealing world.old (λ scene. IfErr result (ClosingStops scene world.old world.new)) }
-{
-    'closing: loop {
-        if let Some(closed) = close_once(alloc, world, stables)? {
-            world.lawful();
-            return Ok(closed);
-        }
-    }
 }

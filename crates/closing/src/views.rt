@@ -12,6 +12,18 @@ use world::World;
 /// The greatest view that a step of a script suspects.
 const MOST_VIEW_OF_A_SCRIPT: u32 = 4_000_000_000;
 
+/// Whether `run` may close a world: no view above 4,000,000,000 was suspected in it.
+pub fn may_close<B: Body, A: App>(world: &World<B, A>) -> bool
+    ensures { IsTrue result ↔ IsSuspectedUpTo most_view_of_a_script (past world.now.journal) }
+{
+    for entry in world.journal() {
+        if !suspects_within(entry) {
+            return false;
+        }
+    }
+    true
+}
+
 /// Whether an entry suspects no greater view.
 fn suspects_within<B>(entry: &JournalEntry<B>) -> bool
     ensures { IsTrue result ↔ EntrySuspectsUpTo most_view_of_a_script entry.now }
@@ -23,16 +35,4 @@ fn suspects_within<B>(entry: &JournalEntry<B>) -> bool
         },
         _ => true,
     }
-}
-
-/// Whether `run` may close a world: no view above 4,000,000,000 was suspected in it.
-pub fn may_close<B: Body, A: App>(world: &World<B, A>) -> bool
-    ensures { IsTrue result ↔ IsSuspectedUpTo most_view_of_a_script (past world.now.journal) }
-{
-    for entry in world.journal() {
-        if !suspects_within(entry) {
-            return false;
-        }
-    }
-    true
 }

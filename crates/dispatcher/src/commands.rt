@@ -10,14 +10,6 @@ use crate::numbered::NumberedOrder;
 use app_core::Issued;
 use std::alloc::{AllocError, Global};
 
-/// Whether a command still wants a result: none came, and its life goes on.
-fn wants(ledger: &Ledger, marks: &ViewMarks, command: &Issued) -> bool
-    ensures { result ≡ wants ledger.now marks.now.marks command.now }
-{
-    !marks.has_result(command.switch, command.life, command.number)
-        && !ledger.has_ended(command.switch, command.life)
-}
-
 /// How many commands of the first event that is not processed want a result.
 pub(crate) fn count_wanted(ledger: &Ledger, marks: &ViewMarks) -> usize
     ensures { result ≡ count_by (wants ledger.now marks.now.marks) (first_commands ledger.now.pending.items) }
@@ -27,27 +19,6 @@ pub(crate) fn count_wanted(ledger: &Ledger, marks: &ViewMarks) -> usize
         .iter()
         .filter(|command| wants(ledger, marks, command))
         .count()
-}
-
-/// Whether a command wants a result, and its switch took this controller as master.
-fn is_outstanding(ledger: &Ledger, marks: &ViewMarks, command: &Issued) -> bool
-    ensures { result ≡ is_outstanding ledger.now marks.now.marks command.now }
-{
-    wants(ledger, marks, command) && marks.is_confirmed(command.switch)
-}
-
-/// A command as it is sent.
-fn number(ledger: &Ledger, command: &Issued) -> Result<NumberedOrder, AllocError>
-    ensures { IfOk result (λ n. n ≡ as_numbered ledger.now command.now) }
-{
-    let counts = ledger.counts_of(command.switch, command.life);
-    Ok(NumberedOrder {
-        switch: command.switch,
-        life: command.life,
-        number: command.number,
-        settled: counts.settled,
-        order: command.order.copy()?,
-    })
 }
 
 /// The commands of the first event that is not processed that want a result, on switches that took this controller
@@ -86,6 +57,53 @@ pub(crate) fn outstanding_on(
     Ok(list)
 }
 
+/// What each switch whose present life has one of these commands is told, ascending.
+pub(crate) fn clears(
+    alloc: Global,
+    switches: u8,
+    ledger: &Ledger,
+    commands: &[Issued],
+) -> Result<Vec<AckThrough>, AllocError>
+    ensures { IfOk result (λ list. list.items ≡ map (cleared_of_life ledger.now) (filter (has_told ledger.now commands.now) (range_with_len 0 switches))) }
+{
+    let mut list = Vec::new(alloc);
+    for switch in 0..switches {
+        if has_told(ledger, switch, commands) {
+            list.push(cleared(ledger, switch))?;
+        }
+    }
+    Ok(list)
+}
+
+/// Whether a command still wants a result: none came, and its life goes on.
+fn wants(ledger: &Ledger, marks: &ViewMarks, command: &Issued) -> bool
+    ensures { result ≡ wants ledger.now marks.now.marks command.now }
+{
+    !marks.has_result(command.switch, command.life, command.number)
+        && !ledger.has_ended(command.switch, command.life)
+}
+
+/// Whether a command wants a result, and its switch took this controller as master.
+fn is_outstanding(ledger: &Ledger, marks: &ViewMarks, command: &Issued) -> bool
+    ensures { result ≡ is_outstanding ledger.now marks.now.marks command.now }
+{
+    wants(ledger, marks, command) && marks.is_confirmed(command.switch)
+}
+
+/// A command as it is sent.
+fn number(ledger: &Ledger, command: &Issued) -> Result<NumberedOrder, AllocError>
+    ensures { IfOk result (λ n. n ≡ as_numbered ledger.now command.now) }
+{
+    let counts = ledger.counts_of(command.switch, command.life);
+    Ok(NumberedOrder {
+        switch: command.switch,
+        life: command.life,
+        number: command.number,
+        settled: counts.settled,
+        order: command.order.copy()?,
+    })
+}
+
 /// Whether the present life of a switch has one of these commands.
 fn has_told(ledger: &Ledger, switch: u8, commands: &[Issued]) -> bool
     ensures { result ≡ has_told ledger.now commands.now switch }
@@ -103,22 +121,4 @@ fn cleared(ledger: &Ledger, switch: u8) -> AckThrough
         life,
         through: ledger.counts_of(switch, life).settled,
     }
-}
-
-/// What each switch whose present life has one of these commands is told, ascending.
-pub(crate) fn clears(
-    alloc: Global,
-    switches: u8,
-    ledger: &Ledger,
-    commands: &[Issued],
-) -> Result<Vec<AckThrough>, AllocError>
-    ensures { IfOk result (λ list. list.items ≡ map (cleared_of_life ledger.now) (filter (has_told ledger.now commands.now) (range_with_len 0 switches))) }
-{
-    let mut list = Vec::new(alloc);
-    for switch in 0..switches {
-        if has_told(ledger, switch, commands) {
-            list.push(cleared(ledger, switch))?;
-        }
-    }
-    Ok(list)
 }

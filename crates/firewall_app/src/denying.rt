@@ -15,6 +15,53 @@ use of_types::{
 };
 use std::alloc::{AllocError, Global};
 
+/// The place of the first rule that denies what happened.
+pub fn first_hit(rules: &[Rule], what: &Happening) -> Option<usize>
+    ensures { result ≡ first_hit rules.now what.now }
+{
+    match what {
+        Happening::PacketIn(packet) => first_denying(&fields(packet.payload.as_slice()), rules),
+        Happening::PortStatus(_) | Happening::FlowRemoved(_) => None,
+    }
+}
+
+/// Each of so many switches drops what the rule at a place denies.
+pub fn drop_denied_at(
+    alloc: Global,
+    rules: &[Rule],
+    place: usize,
+    switches: u8,
+    out: &mut Commands,
+) -> Result<(), AllocError>
+    ensures { OnOk result (out.new ≡ out.old ++ dropping_rows switches (slice_get rules.now place)) }
+{
+    match rules.get(place) {
+        Some(rule) => drop_denied(alloc, rule, switches, out),
+        None => Ok(()),
+    }
+}
+
+/// A switch drops what each of the installed rules denies, in the order in which they were installed.
+pub fn drop_installed(
+    alloc: Global,
+    rules: &[Rule],
+    installed: &[usize],
+    switch: u8,
+    out: &mut Commands,
+) -> Result<(), AllocError>
+    ensures { (s : Setup) → s.deny ≡ rules.now → OnOk result (out.new ≡ out.old ++ rows_at s switch installed.now) }
+{
+    'places: for place in installed {
+        drop_at(alloc, rules, *place, switch, out)?;
+    }
+    Ok(())
+}
+
+/// An installed row meets exactly the frames that its rule denies, and drops them, since it has no action.
+pub fn drops_denied()
+    ensures { (rule : Rule) (frame : List ℕ) → IsRule rule → matches (denied_match rule) (fields_of frame) ≡ denies (fields_of frame) rule }
+{}
+
 /// The protocol that a rule names, if any.
 fn asked_protocol(rule: &Rule) -> Option<u8>
     ensures { result ≡ asked_protocol rule.now }
@@ -74,16 +121,6 @@ fn first_denying(found: &Fields, rules: &[Rule]) -> Option<usize>
     rules.iter().position(|rule| denies(found, rule))
 }
 
-/// The place of the first rule that denies what happened.
-pub fn first_hit(rules: &[Rule], what: &Happening) -> Option<usize>
-    ensures { result ≡ first_hit rules.now what.now }
-{
-    match what {
-        Happening::PacketIn(packet) => first_denying(&fields(packet.payload.as_slice()), rules),
-        Happening::PortStatus(_) | Happening::FlowRemoved(_) => None,
-    }
-}
-
 /// What a rule denies, as a match.
 fn denied_match(rule: &Rule) -> Match
     ensures { result ≡ denied_match rule.now }
@@ -130,22 +167,6 @@ fn drop_denied(
     Ok(())
 }
 
-/// Each of so many switches drops what the rule at a place denies.
-pub fn drop_denied_at(
-    alloc: Global,
-    rules: &[Rule],
-    place: usize,
-    switches: u8,
-    out: &mut Commands,
-) -> Result<(), AllocError>
-    ensures { OnOk result (out.new ≡ out.old ++ dropping_rows switches (slice_get rules.now place)) }
-{
-    match rules.get(place) {
-        Some(rule) => drop_denied(alloc, rule, switches, out),
-        None => Ok(()),
-    }
-}
-
 /// A switch drops what the rule at a place denies.
 fn drop_at(
     alloc: Global,
@@ -164,24 +185,3 @@ fn drop_at(
         None => Ok(()),
     }
 }
-
-/// A switch drops what each of the installed rules denies, in the order in which they were installed.
-pub fn drop_installed(
-    alloc: Global,
-    rules: &[Rule],
-    installed: &[usize],
-    switch: u8,
-    out: &mut Commands,
-) -> Result<(), AllocError>
-    ensures { (s : Setup) → s.deny ≡ rules.now → OnOk result (out.new ≡ out.old ++ rows_at s switch installed.now) }
-{
-    'places: for place in installed {
-        drop_at(alloc, rules, *place, switch, out)?;
-    }
-    Ok(())
-}
-
-/// An installed row meets exactly the frames that its rule denies, and drops them, since it has no action.
-pub fn drops_denied()
-    ensures { (rule : Rule) (frame : List ℕ) → IsRule rule → matches (denied_match rule) (fields_of frame) ≡ denies (fields_of frame) rule }
-{}

@@ -4,14 +4,6 @@ ghost use Rattle.app_core.specs.Firewall.{prefix_mask, is_prefix_within, matched
 
 use of_types::{Masked32, Prefix};
 
-/// So many ones in front.
-fn prefix_mask(bits: u8) -> u32
-    ensures { result ≡ prefix_mask bits }
-{
-    let free = 32u8.saturating_sub(bits);
-    ((1u64 << 32) - (1u64 << free)) as u32
-}
-
 /// Whether an address lies in a prefix. One that a frame does not have lies in the prefix of no bits alone.
 pub fn is_within(prefix: &Prefix, address: Option<u32>) -> bool
     ensures { result ≡ is_prefix_within prefix.now address }
@@ -37,4 +29,12 @@ pub fn matched_prefix(prefix: &Prefix) -> Option<Masked32>
         value: prefix.address & mask,
         mask,
     })
+}
+
+/// So many ones in front.
+fn prefix_mask(bits: u8) -> u32
+    ensures { result ≡ prefix_mask bits }
+{
+    let free = 32u8.saturating_sub(bits);
+    ((1u64 << 32) - (1u64 << free)) as u32
 }

@@ -19,6 +19,32 @@ use of_types::{
     any_match,
 };
 
+/// Reads one match with its padding, and tells how many bytes it takes. Bytes may follow it.
+pub fn read_match(bytes: &[u8]) -> Result<(Match, usize), MatchFault>
+    // What is read is spelled so.
+    ensures found { IfOk result (λ x. (x.1 ≤ length bytes.now) × IsSpelled (take x.1 bytes.now) x.0) }
+    // What is spelled so is read, whatever follows.
+    ensures only { (m : Match) (text rest : List ℕ) → bytes.now ≡ text ++ rest → IsSpelled text m → result ≡ Ok (m, length text) }
+    // Which fault it is.
+    ensures exact { result ≡ match_at bytes.now }
+    // What is read is valid.
+    ensures valid { IfOk result (λ x. IsValidMatch x.0) }
+    // It is written in no more bytes than it was read from.
+    ensures short { IfOk result (λ x. match_size x.0 ≤ x.1) }
+{
+    first_match(bytes)
+}
+
+/// Laws of the one written form of a match.
+pub fn match_law()
+    // It is read again, whatever follows it.
+    ensures again { (m : Match) (rest : List ℕ) → IsValidMatch m → Fits m → match_at (canonical_match m ++ rest) ≡ Ok (m, match_size m) }
+    // It is one of the forms that spell the match.
+    ensures spelled { (m : Match) → IsValidMatch m → Fits m → IsSpelled (canonical_match m) m }
+    // It has the stated size.
+    ensures size { (m : Match) → length (canonical_match m) ≡ match_size m }
+{}
+
 /// The next field's header, its value and mask, and what comes after it.
 #[tactic(auto, unfolding(crate::specs::Reading::header_at))]
 fn header_at(bytes: &[u8]) -> Result<(FieldHeader, &[u8], &[u8]), MatchFault>
@@ -201,29 +227,3 @@ fn first_match(bytes: &[u8]) -> Result<(Match, usize), MatchFault>
     }
     Ok((matching, taken))
 }
-
-/// Reads one match with its padding, and tells how many bytes it takes. Bytes may follow it.
-pub fn read_match(bytes: &[u8]) -> Result<(Match, usize), MatchFault>
-    // What is read is spelled so.
-    ensures found { IfOk result (λ x. (x.1 ≤ length bytes.now) × IsSpelled (take x.1 bytes.now) x.0) }
-    // What is spelled so is read, whatever follows.
-    ensures only { (m : Match) (text rest : List ℕ) → bytes.now ≡ text ++ rest → IsSpelled text m → result ≡ Ok (m, length text) }
-    // Which fault it is.
-    ensures exact { result ≡ match_at bytes.now }
-    // What is read is valid.
-    ensures valid { IfOk result (λ x. IsValidMatch x.0) }
-    // It is written in no more bytes than it was read from.
-    ensures short { IfOk result (λ x. match_size x.0 ≤ x.1) }
-{
-    first_match(bytes)
-}
-
-/// Laws of the one written form of a match.
-pub fn match_law()
-    // It is read again, whatever follows it.
-    ensures again { (m : Match) (rest : List ℕ) → IsValidMatch m → Fits m → match_at (canonical_match m ++ rest) ≡ Ok (m, match_size m) }
-    // It is one of the forms that spell the match.
-    ensures spelled { (m : Match) → IsValidMatch m → Fits m → IsSpelled (canonical_match m) m }
-    // It has the stated size.
-    ensures size { (m : Match) → length (canonical_match m) ≡ match_size m }
-{}

@@ -21,6 +21,37 @@ const ROOM: usize = 192;
 /// A match as it is written, or a part of it.
 pub type MatchFront = Front<ROOM>;
 
+/// A match in its canonical form, padding included: fields by ascending number, and a mask of ones written as no mask.
+/// It takes no memory.
+#[tactic(auto, unfolding(crate::specs::Writing::canonical_match))]
+pub fn match_front(matching: &Match) -> MatchFront
+    ensures { result ≡ canonical_match matching.now }
+{
+    let mut front = bare_front(matching);
+    let len = front.as_slice().len();
+    put_padding(&mut front, len);
+    front
+}
+
+/// The canonical form of a match without its padding.
+pub fn bare_match(alloc: Global, matching: &Match) -> Result<Octets, AllocError>
+    ensures { IfOk result (λ bytes. bytes ≡ canonical_bare_match matching.now) }
+{
+    Octets::from_slice(alloc, bare_front(matching).as_slice())
+}
+
+/// Adds the match in its canonical form, padding included: fields by ascending number, and a mask of
+/// ones written as no mask. An `Err` changes nothing.
+pub fn write_match(_alloc: Global, matching: &Match, out: &mut Octets) -> Result<(), AllocError>
+    ensures ok { OnOk result (out.new ≡ out.old ++ canonical_match matching.now) }
+    // Of a valid match that is one of the forms that spell it.
+    ensures spelled { IsValidMatch matching.now → IsSpelled (canonical_match matching.now) matching.now }
+    ensures err { OnErr result (out.new ≡ out.old) }
+{
+    fits(*matching);
+    out.append(match_front(matching).as_slice())
+}
+
 /// Adds the lowest bytes of a number, as many as the kind's values have.
 fn put_number(front: &mut MatchFront, kind: FieldKind, number: u64)
     requires { length front.old + 8 ≤ ROOM }
@@ -172,38 +203,7 @@ fn put_padding(front: &mut MatchFront, len: usize)
     front.put_slice(&[0; 8][..(8 - len % 8) % 8]);
 }
 
-/// A match in its canonical form, padding included: fields by ascending number, and a mask of ones written as no mask.
-/// It takes no memory.
-#[tactic(auto, unfolding(crate::specs::Writing::canonical_match))]
-pub fn match_front(matching: &Match) -> MatchFront
-    ensures { result ≡ canonical_match matching.now }
-{
-    let mut front = bare_front(matching);
-    let len = front.as_slice().len();
-    put_padding(&mut front, len);
-    front
-}
-
-/// The canonical form of a match without its padding.
-pub fn bare_match(alloc: Global, matching: &Match) -> Result<Octets, AllocError>
-    ensures { IfOk result (λ bytes. bytes ≡ canonical_bare_match matching.now) }
-{
-    Octets::from_slice(alloc, bare_front(matching).as_slice())
-}
-
 /// What the types of a match say of its numbers.
 fn fits(matching: Match)
     ensures { Fits matching }
 {}
-
-/// Adds the match in its canonical form, padding included: fields by ascending number, and a mask of
-/// ones written as no mask. An `Err` changes nothing.
-pub fn write_match(_alloc: Global, matching: &Match, out: &mut Octets) -> Result<(), AllocError>
-    ensures ok { OnOk result (out.new ≡ out.old ++ canonical_match matching.now) }
-    // Of a valid match that is one of the forms that spell it.
-    ensures spelled { IsValidMatch matching.now → IsSpelled (canonical_match matching.now) matching.now }
-    ensures err { OnErr result (out.new ≡ out.old) }
-{
-    fits(*matching);
-    out.append(match_front(matching).as_slice())
-}

@@ -12,6 +12,34 @@ use of_types::{
 };
 use std::alloc::Global;
 
+/// The ports of all actions.
+pub fn read_actions(alloc: Global, bytes: &[u8]) -> Result<Actions, BodyFault>
+    ensures { GivesBody (λ ports. ports) result (actions_at bytes.now) }
+{
+    let mut ports = Actions::new(alloc);
+    let mut rest = bytes;
+    'actions: while !rest.is_empty() {
+        let port = output(rest)?;
+        ports.push(port)?;
+        let (_, after) = rest.split_at(usize::from(OUTPUT_LENGTH));
+        rest = after;
+    }
+    Ok(ports)
+}
+
+/// The ports that the instructions of a FLOW_MOD output to.
+#[tactic(auto, unfolding(crate::specs::Reading::instructions_at))]
+pub fn read_instructions(alloc: Global, bytes: &[u8]) -> Result<Actions, BodyFault>
+    ensures { GivesBody (λ ports. ports) result (instructions_at bytes.now) }
+{
+    if bytes.is_empty() {
+        return Ok(Actions::new(alloc));
+    }
+    let (actions, rest) = instruction(bytes)?;
+    let ports = read_actions(alloc, actions)?;
+    with_no_second(ports, rest)
+}
+
 fn is_bad_action_length(bytes: &[u8]) -> bool
     ensures { result ≡ is_bad_action_length bytes.now }
 {
@@ -38,21 +66,6 @@ fn output(bytes: &[u8]) -> Result<u32, Refusal>
         return Err(BAD_ACTION_LENGTH);
     }
     Ok(u32_at(bytes, 4))
-}
-
-/// The ports of all actions.
-pub fn read_actions(alloc: Global, bytes: &[u8]) -> Result<Actions, BodyFault>
-    ensures { GivesBody (λ ports. ports) result (actions_at bytes.now) }
-{
-    let mut ports = Actions::new(alloc);
-    let mut rest = bytes;
-    'actions: while !rest.is_empty() {
-        let port = output(rest)?;
-        ports.push(port)?;
-        let (_, after) = rest.split_at(usize::from(OUTPUT_LENGTH));
-        rest = after;
-    }
-    Ok(ports)
 }
 
 /// The length of the instruction at the front.
@@ -93,17 +106,4 @@ fn with_no_second(ports: Actions, rest: &[u8]) -> Result<Actions, BodyFault>
     }
     instruction_length(rest)?;
     Err(BodyFault::Wire(BAD_INSTRUCTION))
-}
-
-/// The ports that the instructions of a FLOW_MOD output to.
-#[tactic(auto, unfolding(crate::specs::Reading::instructions_at))]
-pub fn read_instructions(alloc: Global, bytes: &[u8]) -> Result<Actions, BodyFault>
-    ensures { GivesBody (λ ports. ports) result (instructions_at bytes.now) }
-{
-    if bytes.is_empty() {
-        return Ok(Actions::new(alloc));
-    }
-    let (actions, rest) = instruction(bytes)?;
-    let ports = read_actions(alloc, actions)?;
-    with_no_second(ports, rest)
 }

@@ -6,16 +6,6 @@ ghost use Rattle.of_messages.specs.Fits.{FitPorts, FitsPacketIn, FitsFlowRemoved
 use of_bytes::{u8_fits, u16_fits, u32_fits, u64_fits};
 use of_types::{FlowMod, FlowRemoved, Match, OfMessage, PacketIn, PacketOut, PortStatus};
 
-fn match_fits(matching: Match)
-    ensures { Fits matching }
-{}
-
-fn ports_fit(ports: &[u32])
-    ensures { FitPorts ports.now }
-{
-    let _first = ports.first().copied();
-}
-
 /// A PACKET_IN: each number fits its field.
 pub fn packet_in_fits(packet: &PacketIn)
     ensures { FitsPacketIn packet.now }
@@ -99,4 +89,14 @@ pub fn message_fits(message: &OfMessage)
         | OfMessage::BarrierRequest
         | OfMessage::BarrierReply => {}
     }
+}
+
+fn match_fits(matching: Match)
+    ensures { Fits matching }
+{}
+
+fn ports_fit(ports: &[u32])
+    ensures { FitPorts ports.now }
+{
+    let _first = ports.first().copied();
 }

@@ -24,6 +24,62 @@ use std::alloc::Global;
 /// The length of a header.
 const HEADER: usize = 8;
 
+/// Reads a message without the number of its request, with the errors of `decode`.
+#[tactic(auto, unfolding(crate::specs::Reading::message_at))]
+pub fn read_message(alloc: Global, bytes: &[u8]) -> Result<OfMessage, BodyFault>
+    ensures { GivesBody (λ m. m) result (message_at bytes.now) }
+{
+    if !bytes.is_empty() && u8_at(bytes, 0) != VERSION {
+        return Err(BodyFault::Wire(BAD_VERSION));
+    }
+    if bytes.len() < HEADER || usize::from(u16_at(bytes, 2)) != bytes.len() {
+        return Err(BodyFault::Wire(BAD_LENGTH));
+    }
+    read_body(alloc, u8_at(bytes, 1), &bytes[HEADER..])
+}
+
+/// The number of a request, and 0 where there is no header.
+#[tactic(auto, unfolding(crate::specs::Reading::xid_of))]
+pub fn xid_of(bytes: &[u8]) -> u32
+    ensures { result ≡ xid_of bytes.now }
+{
+    if bytes.len() < HEADER {
+        return 0;
+    }
+    u32_at(bytes, 4)
+}
+
+/// Reads a message, which is all of the frame, and the number of its request. The first error that
+/// holds is the answer, in this order: the version; the length of the whole; the type; the length of
+/// the body; and then what the body has, from left to right. What stands behind the header of an
+/// EXPERIMENTER is passed on unread.
+pub fn decode(alloc: Global, frame: &[u8]) -> Result<(u32, OfMessage), OfFault>
+    // What is read is spelled so.
+    ensures found { IfOk result (λ x. Spells frame.now x.0 x.1) }
+    // What is spelled so is read, unless memory runs out.
+    ensures only { (xid : ℕ) (m : OfMessage) → Spells frame.now xid m → IsRead (xid, m) result }
+    // Which answer it is.
+    ensures exact { IsFirstMessage frame.now result }
+    // What is read is valid.
+    ensures valid { IfOk result (λ x. IsValidPlain x.1) }
+    // It is written in no more bytes than it was read from, and so its length fits the header.
+    ensures short { IfOk result (λ x. (plain_size x.1 ≤ length frame.now) × (length frame.now ≤ 65535)) }
+{
+    first_answer(alloc, frame)
+}
+
+/// Laws of messages as bytes.
+pub fn message_law()
+    // What is written is read again.
+    ensures again { (xid : ℕ) (m : OfMessage) → IsValidPlain m → FitsPlain m → plain_size m ≤ 65535 → xid < 2 ^ 32 → message_at (canonical xid m) ≡ Ok m }
+    // Bytes spell at most one message.
+    ensures one { (bytes : List ℕ) (xid other : ℕ) (m n : OfMessage) → Spells bytes xid m → Spells bytes other n → (xid ≡ other) × (m ≡ n) }
+    // With the number of the request.
+    ensures xid { (xid : ℕ) (m : OfMessage) → xid < 2 ^ 32 → xid_of (canonical xid m) ≡ xid }
+    // A message is written in as many bytes as its size tells.
+    ensures size { (xid : ℕ) (m : OfMessage) → length (canonical xid m) ≡ plain_size m }
+{}
+
 /// A role and a generation.
 #[tactic(auto, unfolding(crate::specs::Reading::role_at))]
 fn read_role(body: &[u8]) -> Result<(u32, u64), Refusal>
@@ -71,31 +127,6 @@ fn read_body(alloc: Global, kind: u8, body: &[u8]) -> Result<OfMessage, BodyFaul
     }
 }
 
-/// Reads a message without the number of its request, with the errors of `decode`.
-#[tactic(auto, unfolding(crate::specs::Reading::message_at))]
-pub fn read_message(alloc: Global, bytes: &[u8]) -> Result<OfMessage, BodyFault>
-    ensures { GivesBody (λ m. m) result (message_at bytes.now) }
-{
-    if !bytes.is_empty() && u8_at(bytes, 0) != VERSION {
-        return Err(BodyFault::Wire(BAD_VERSION));
-    }
-    if bytes.len() < HEADER || usize::from(u16_at(bytes, 2)) != bytes.len() {
-        return Err(BodyFault::Wire(BAD_LENGTH));
-    }
-    read_body(alloc, u8_at(bytes, 1), &bytes[HEADER..])
-}
-
-/// The number of a request, and 0 where there is no header.
-#[tactic(auto, unfolding(crate::specs::Reading::xid_of))]
-pub fn xid_of(bytes: &[u8]) -> u32
-    ensures { result ≡ xid_of bytes.now }
-{
-    if bytes.len() < HEADER {
-        return 0;
-    }
-    u32_at(bytes, 4)
-}
-
 fn first_answer(alloc: Global, frame: &[u8]) -> Result<(u32, OfMessage), OfFault>
     ensures { IsFirstMessage frame.now result }
 {
@@ -106,34 +137,3 @@ fn first_answer(alloc: Global, frame: &[u8]) -> Result<(u32, OfMessage), OfFault
         Err(BodyFault::OutOfMemory) => Err(OfFault::OutOfMemory),
     }
 }
-
-/// Reads a message, which is all of the frame, and the number of its request. The first error that
-/// holds is the answer, in this order: the version; the length of the whole; the type; the length of
-/// the body; and then what the body has, from left to right. What stands behind the header of an
-/// EXPERIMENTER is passed on unread.
-pub fn decode(alloc: Global, frame: &[u8]) -> Result<(u32, OfMessage), OfFault>
-    // What is read is spelled so.
-    ensures found { IfOk result (λ x. Spells frame.now x.0 x.1) }
-    // What is spelled so is read, unless memory runs out.
-    ensures only { (xid : ℕ) (m : OfMessage) → Spells frame.now xid m → IsRead (xid, m) result }
-    // Which answer it is.
-    ensures exact { IsFirstMessage frame.now result }
-    // What is read is valid.
-    ensures valid { IfOk result (λ x. IsValidPlain x.1) }
-    // It is written in no more bytes than it was read from, and so its length fits the header.
-    ensures short { IfOk result (λ x. (plain_size x.1 ≤ length frame.now) × (length frame.now ≤ 65535)) }
-{
-    first_answer(alloc, frame)
-}
-
-/// Laws of messages as bytes.
-pub fn message_law()
-    // What is written is read again.
-    ensures again { (xid : ℕ) (m : OfMessage) → IsValidPlain m → FitsPlain m → plain_size m ≤ 65535 → xid < 2 ^ 32 → message_at (canonical xid m) ≡ Ok m }
-    // Bytes spell at most one message.
-    ensures one { (bytes : List ℕ) (xid other : ℕ) (m n : OfMessage) → Spells bytes xid m → Spells bytes other n → (xid ≡ other) × (m ≡ n) }
-    // With the number of the request.
-    ensures xid { (xid : ℕ) (m : OfMessage) → xid < 2 ^ 32 → xid_of (canonical xid m) ≡ xid }
-    // A message is written in as many bytes as its size tells.
-    ensures size { (xid : ℕ) (m : OfMessage) → length (canonical xid m) ≡ plain_size m }
-{}

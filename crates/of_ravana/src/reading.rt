@@ -23,6 +23,38 @@ use of_types::{
 };
 use std::alloc::Global;
 
+/// Reads what stands behind the header of an EXPERIMENTER. The first error that holds is the answer, in
+/// this order: the number and the type of the experimenter; the length of the body; and of a message
+/// inside it the length, the type, and then its own first error. Errors have no number of a request.
+pub fn decode_extension(alloc: Global, body: &[u8]) -> Result<Extension, OfFault>
+    // What is read is spelled so.
+    ensures found { IfOk result (λ said. SpellsExtension body.now said) }
+    // What is spelled so is read, unless memory runs out.
+    ensures only { (said : Extension) → SpellsExtension body.now said → IsRead said result }
+    // Which answer it is.
+    ensures exact { IsFirstExtension body.now result }
+    // What is read is valid.
+    ensures valid { IfOk result (λ said. IsValidExtension said) }
+    // With a header it is written in no more bytes than it was read from.
+    ensures short { IfOk result (λ said. extension_size said ≤ 8 + length body.now) }
+{
+    first_answer(alloc, body)
+}
+
+/// Laws of the extension's messages as bytes.
+pub fn extension_law()
+    // What is written is read again.
+    ensures again { (said : Extension) → IsValidExtension said → FitsExtension said → extension_size said ≤ 65535 → extension_at (canonical_extension said) ≡ Ok said }
+    // Bytes spell at most one message.
+    ensures one { (body : List ℕ) (said other : Extension) → SpellsExtension body said → SpellsExtension body other → said ≡ other }
+    // Bytes spell at most one of what a controller and a switch say, and one number of a request.
+    ensures one_spoken { (bytes : List ℕ) (xid other : ℕ) (said told : Spoken) → SpellsSpoken bytes xid said → SpellsSpoken bytes other told → (xid ≡ other) × (said ≡ told) }
+    // The bytes of a message of the extension spell no plain message.
+    ensures no_plain { (bytes : List ℕ) (xid other : ℕ) (said : Extension) (m : OfMessage) → SpellsSpoken bytes xid (spoken.Ravana said) → SpellsSpoken bytes other (spoken.Plain m) → ⊥ }
+    // What is written has its size.
+    ensures size { (said : Extension) → 8 + length (canonical_extension said) ≡ extension_size said }
+{}
+
 /// A message inside another one, which has one of these types.
 #[tactic(auto, unfolding(crate::specs::Reading::inner_at))]
 fn read_inner(
@@ -217,35 +249,3 @@ fn first_answer(alloc: Global, body: &[u8]) -> Result<Extension, OfFault>
         Err(BodyFault::OutOfMemory) => Err(OfFault::OutOfMemory),
     }
 }
-
-/// Reads what stands behind the header of an EXPERIMENTER. The first error that holds is the answer, in
-/// this order: the number and the type of the experimenter; the length of the body; and of a message
-/// inside it the length, the type, and then its own first error. Errors have no number of a request.
-pub fn decode_extension(alloc: Global, body: &[u8]) -> Result<Extension, OfFault>
-    // What is read is spelled so.
-    ensures found { IfOk result (λ said. SpellsExtension body.now said) }
-    // What is spelled so is read, unless memory runs out.
-    ensures only { (said : Extension) → SpellsExtension body.now said → IsRead said result }
-    // Which answer it is.
-    ensures exact { IsFirstExtension body.now result }
-    // What is read is valid.
-    ensures valid { IfOk result (λ said. IsValidExtension said) }
-    // With a header it is written in no more bytes than it was read from.
-    ensures short { IfOk result (λ said. extension_size said ≤ 8 + length body.now) }
-{
-    first_answer(alloc, body)
-}
-
-/// Laws of the extension's messages as bytes.
-pub fn extension_law()
-    // What is written is read again.
-    ensures again { (said : Extension) → IsValidExtension said → FitsExtension said → extension_size said ≤ 65535 → extension_at (canonical_extension said) ≡ Ok said }
-    // Bytes spell at most one message.
-    ensures one { (body : List ℕ) (said other : Extension) → SpellsExtension body said → SpellsExtension body other → said ≡ other }
-    // Bytes spell at most one of what a controller and a switch say, and one number of a request.
-    ensures one_spoken { (bytes : List ℕ) (xid other : ℕ) (said told : Spoken) → SpellsSpoken bytes xid said → SpellsSpoken bytes other told → (xid ≡ other) × (said ≡ told) }
-    // The bytes of a message of the extension spell no plain message.
-    ensures no_plain { (bytes : List ℕ) (xid other : ℕ) (said : Extension) (m : OfMessage) → SpellsSpoken bytes xid (spoken.Ravana said) → SpellsSpoken bytes other (spoken.Plain m) → ⊥ }
-    // What is written has its size.
-    ensures size { (said : Extension) → 8 + length (canonical_extension said) ≡ extension_size said }
-{}

@@ -26,13 +26,6 @@ use std::marker::Model;
 /// The table of a switch, beside its clock.
 type Table = TimedRows<FlowIndex>;
 
-/// A table as a life begins.
-fn new_table(alloc: Global) -> Result<Table, AllocError>
-    ensures { IfOk result (λ table. table ≡ clocked_of []) }
-{
-    Ok(TimedRows::new(alloc, FlowIndex::new(alloc)?))
-}
-
 /// A switch of the run.
 #[derive(Drop)]
 pub struct Switch {
@@ -211,6 +204,13 @@ impl Switch {
     {
         self.buffer.switch()
     }
+}
+
+/// A table as a life begins.
+fn new_table(alloc: Global) -> Result<Table, AllocError>
+    ensures { IfOk result (λ table. table ≡ clocked_of []) }
+{
+    Ok(TimedRows::new(alloc, FlowIndex::new(alloc)?))
 }
 
 /// How many ports a switch has.

@@ -6,6 +6,16 @@ ghost use Rattle.of_types.specs.Matching.{covers_address48, covers_address32, co
 use crate::matching::{has_u8, has_u16, has_u32};
 use crate::message::{Masked32, Masked48, Match};
 
+/// Whether every field of the wide match stands in the narrow one, with at least its mask and equal
+/// under it (OpenFlow 1.3, 6.4).
+pub fn covers(wide: &Match, narrow: &Match) -> bool
+    ensures exact { result ≡ is_covering wide.now narrow.now }
+    // Then each frame that the narrow one takes, the wide one takes.
+    ensures taken { (found : Fields) → result ≡ true → is_match narrow.now found ≡ true → is_match wide.now found ≡ true }
+{
+    covers_each_field(wide, narrow)
+}
+
 fn covers_address48(wide: Option<Masked48>, narrow: Option<Masked48>) -> bool
     ensures { result ≡ covers_address48 wide narrow }
 {
@@ -46,14 +56,4 @@ fn covers_each_field(wide: &Match, narrow: &Match) -> bool
         && has_u16(wide.tcp_dst, narrow.tcp_dst)
         && has_u16(wide.udp_src, narrow.udp_src)
         && has_u16(wide.udp_dst, narrow.udp_dst)
-}
-
-/// Whether every field of the wide match stands in the narrow one, with at least its mask and equal
-/// under it (OpenFlow 1.3, 6.4).
-pub fn covers(wide: &Match, narrow: &Match) -> bool
-    ensures exact { result ≡ is_covering wide.now narrow.now }
-    // Then each frame that the narrow one takes, the wide one takes.
-    ensures taken { (found : Fields) → result ≡ true → is_match narrow.now found ≡ true → is_match wide.now found ≡ true }
-{
-    covers_each_field(wide, narrow)
 }

@@ -8,6 +8,28 @@ use crate::message::Fields;
 use crate::numbers::{IPV4, TCP, UDP};
 use byteorder::{BigEndian, ByteOrder};
 
+/// The header fields of a frame. The caller sets the port that it came in by.
+pub fn fields(frame: &[u8]) -> Fields
+    ensures { result ≡ fields_of frame.now }
+{
+    let (ip_proto, ipv4_src, ipv4_dst) = ipv4(frame);
+    let (tcp_src, tcp_dst) = ports(TCP, frame);
+    let (udp_src, udp_dst) = ports(UDP, frame);
+    Fields {
+        in_port: None,
+        eth_dst: u48_at(frame, 0),
+        eth_src: u48_at(frame, 6),
+        eth_type: u16_at(frame, 12),
+        ip_proto,
+        ipv4_src,
+        ipv4_dst,
+        tcp_src,
+        tcp_dst,
+        udp_src,
+        udp_dst,
+    }
+}
+
 fn u8_at(frame: &[u8], place: usize) -> Option<u8>
     ensures { result ≡ number_at 1 place frame.now }
 {
@@ -111,26 +133,4 @@ fn ipv4(frame: &[u8]) -> (Option<u8>, Option<u32>, Option<u32>)
         return (None, None, None);
     }
     (u8_at(frame, 23), u32_at(frame, 26), u32_at(frame, 30))
-}
-
-/// The header fields of a frame. The caller sets the port that it came in by.
-pub fn fields(frame: &[u8]) -> Fields
-    ensures { result ≡ fields_of frame.now }
-{
-    let (ip_proto, ipv4_src, ipv4_dst) = ipv4(frame);
-    let (tcp_src, tcp_dst) = ports(TCP, frame);
-    let (udp_src, udp_dst) = ports(UDP, frame);
-    Fields {
-        in_port: None,
-        eth_dst: u48_at(frame, 0),
-        eth_src: u48_at(frame, 6),
-        eth_type: u16_at(frame, 12),
-        ip_proto,
-        ipv4_src,
-        ipv4_dst,
-        tcp_src,
-        tcp_dst,
-        udp_src,
-        udp_dst,
-    }
 }

@@ -4,26 +4,6 @@ ghost use Rattle.of_types.specs.Matching.{has_value, has_address48, has_address3
 
 use crate::message::{Fields, Masked32, Masked48, Match};
 
-fn has_address48(asked: Option<Masked48>, found: Option<u64>) -> bool
-    ensures { result ≡ has_address48 asked found }
-{
-    match (asked, found) {
-        (None, _) => true,
-        (Some(_), None) => false,
-        (Some(asked), Some(found)) => found & asked.mask == asked.value & asked.mask,
-    }
-}
-
-fn has_address32(asked: Option<Masked32>, found: Option<u32>) -> bool
-    ensures { result ≡ has_address32 asked found }
-{
-    match (asked, found) {
-        (None, _) => true,
-        (Some(_), None) => false,
-        (Some(asked), Some(found)) => found & asked.mask == asked.value & asked.mask,
-    }
-}
-
 pub fn has_u8(asked: Option<u8>, found: Option<u8>) -> bool
     ensures { result ≡ has_value asked found }
 {
@@ -103,4 +83,24 @@ pub fn same_match(a: &Match, b: &Match) -> bool
     ensures { result ≡ is_same a.now b.now }
 {
     a == b
+}
+
+fn has_address48(asked: Option<Masked48>, found: Option<u64>) -> bool
+    ensures { result ≡ has_address48 asked found }
+{
+    match (asked, found) {
+        (None, _) => true,
+        (Some(_), None) => false,
+        (Some(asked), Some(found)) => found & asked.mask == asked.value & asked.mask,
+    }
+}
+
+fn has_address32(asked: Option<Masked32>, found: Option<u32>) -> bool
+    ensures { result ≡ has_address32 asked found }
+{
+    match (asked, found) {
+        (None, _) => true,
+        (Some(_), None) => false,
+        (Some(asked), Some(found)) => found & asked.mask == asked.value & asked.mask,
+    }
 }

@@ -7,6 +7,63 @@ use crate::message::{
 };
 use crate::numbers::{ONES32, ONES48};
 
+/// The bytes of a match: a header, its fields, and no padding but up to the next multiple of eight.
+pub fn size_of_match(matching: &Match) -> usize
+    ensures exact { result ≡ match_size matching.now }
+    ensures small { result ≤ 208 }
+{
+    let fields = size_of_ethernet(matching) + size_of_ipv4(matching) + size_of_ports(matching);
+    (4 + fields + 7) / 8 * 8
+}
+
+/// The bytes of the message that an event tells.
+pub fn size_of_happening(what: &Happening) -> u64
+    ensures { result ≡ min (2 ^ 64 - 1) (happening_size what.now) }
+{
+    match what {
+        Happening::PacketIn(packet) => (packet.payload.len() as u64).saturating_add(42),
+        Happening::PortStatus(_) => 80,
+        Happening::FlowRemoved(removed) => size_of_match(&removed.get().matching) as u64 + 48,
+    }
+}
+
+/// The bytes of a message of OpenFlow.
+pub fn size_of_plain(message: &OfMessage) -> u64
+    ensures { result ≡ min (2 ^ 64 - 1) (plain_size message.now) }
+{
+    match message {
+        OfMessage::Error { head, .. } => (head.len() as u64).saturating_add(12),
+        OfMessage::EchoRequest { body } => (body.len() as u64).saturating_add(8),
+        OfMessage::EchoReply { body } => (body.len() as u64).saturating_add(8),
+        OfMessage::Experimenter { body } => (body.len() as u64).saturating_add(8),
+        OfMessage::FeaturesReply { .. } => 32,
+        OfMessage::PacketIn(packet) => (packet.payload.len() as u64).saturating_add(42),
+        OfMessage::PortStatus(_) => 80,
+        OfMessage::FlowRemoved(removed) => size_of_match(&removed.get().matching) as u64 + 48,
+        OfMessage::PacketOut(out) => size_of_packet_out(out),
+        OfMessage::FlowMod(change) => size_of_flow_mod(change),
+        OfMessage::RoleRequest { .. } => 24,
+        OfMessage::RoleReply { .. } => 24,
+        OfMessage::Hello => 8,
+        OfMessage::FeaturesRequest => 8,
+        OfMessage::BarrierRequest => 8,
+        OfMessage::BarrierReply => 8,
+    }
+}
+
+/// The bytes of a message of the extension.
+pub fn size_of_extension(message: &Extension) -> u64
+    ensures { result ≡ min (2 ^ 64 - 1) (extension_size message.now) }
+{
+    match message {
+        Extension::Event { what, .. } => size_of_happening(what).saturating_add(32),
+        Extension::EventAck { .. } => 32,
+        Extension::Command { order, .. } => size_of_order(order).saturating_add(48),
+        Extension::CmdAck { .. } => 40,
+        Extension::Clear { .. } => 32,
+    }
+}
+
 fn size_of_u8(field: Option<u8>) -> usize
     ensures { result ≡ field_size 1 field }
 {
@@ -86,15 +143,6 @@ fn size_of_ports(matching: &Match) -> usize
         + size_of_u16(matching.udp_dst)
 }
 
-/// The bytes of a match: a header, its fields, and no padding but up to the next multiple of eight.
-pub fn size_of_match(matching: &Match) -> usize
-    ensures exact { result ≡ match_size matching.now }
-    ensures small { result ≤ 208 }
-{
-    let fields = size_of_ethernet(matching) + size_of_ipv4(matching) + size_of_ports(matching);
-    (4 + fields + 7) / 8 * 8
-}
-
 /// The bytes of so many actions.
 fn size_of_actions(count: usize) -> u64
     ensures { result ≡ min (2 ^ 64 - 1) (16 * count) }
@@ -122,59 +170,11 @@ fn size_of_flow_mod(change: &FlowMod) -> u64
     }
 }
 
-/// The bytes of the message that an event tells.
-pub fn size_of_happening(what: &Happening) -> u64
-    ensures { result ≡ min (2 ^ 64 - 1) (happening_size what.now) }
-{
-    match what {
-        Happening::PacketIn(packet) => (packet.payload.len() as u64).saturating_add(42),
-        Happening::PortStatus(_) => 80,
-        Happening::FlowRemoved(removed) => size_of_match(&removed.get().matching) as u64 + 48,
-    }
-}
-
 fn size_of_order(what: &Order) -> u64
     ensures { result ≡ min (2 ^ 64 - 1) (order_size what.now) }
 {
     match what {
         Order::PacketOut(out) => size_of_packet_out(out),
         Order::FlowMod(change) => size_of_flow_mod(change),
-    }
-}
-
-/// The bytes of a message of OpenFlow.
-pub fn size_of_plain(message: &OfMessage) -> u64
-    ensures { result ≡ min (2 ^ 64 - 1) (plain_size message.now) }
-{
-    match message {
-        OfMessage::Error { head, .. } => (head.len() as u64).saturating_add(12),
-        OfMessage::EchoRequest { body } => (body.len() as u64).saturating_add(8),
-        OfMessage::EchoReply { body } => (body.len() as u64).saturating_add(8),
-        OfMessage::Experimenter { body } => (body.len() as u64).saturating_add(8),
-        OfMessage::FeaturesReply { .. } => 32,
-        OfMessage::PacketIn(packet) => (packet.payload.len() as u64).saturating_add(42),
-        OfMessage::PortStatus(_) => 80,
-        OfMessage::FlowRemoved(removed) => size_of_match(&removed.get().matching) as u64 + 48,
-        OfMessage::PacketOut(out) => size_of_packet_out(out),
-        OfMessage::FlowMod(change) => size_of_flow_mod(change),
-        OfMessage::RoleRequest { .. } => 24,
-        OfMessage::RoleReply { .. } => 24,
-        OfMessage::Hello => 8,
-        OfMessage::FeaturesRequest => 8,
-        OfMessage::BarrierRequest => 8,
-        OfMessage::BarrierReply => 8,
-    }
-}
-
-/// The bytes of a message of the extension.
-pub fn size_of_extension(message: &Extension) -> u64
-    ensures { result ≡ min (2 ^ 64 - 1) (extension_size message.now) }
-{
-    match message {
-        Extension::Event { what, .. } => size_of_happening(what).saturating_add(32),
-        Extension::EventAck { .. } => 32,
-        Extension::Command { order, .. } => size_of_order(order).saturating_add(48),
-        Extension::CmdAck { .. } => 40,
-        Extension::Clear { .. } => 32,
     }
 }

@@ -8,18 +8,6 @@ use crate::body::Body;
 use run_spec::Way;
 use std::alloc::{AllocError, Global};
 
-/// Between whom a packet goes.
-fn way_between(from: Actor, to: Actor) -> Way
-    ensures { result ≡ way_of from to }
-{
-    match (from, to) {
-        (Actor::Controller(_), Actor::Controller(_)) => Way::Vr,
-        (Actor::Switch(_), Actor::Switch(_)) => Way::Link,
-        (Actor::Controller(_), Actor::Switch(_)) => Way::Of,
-        (Actor::Switch(_), Actor::Controller(_)) => Way::Of,
-    }
-}
-
 /// What the body of a packet is for the actor that it goes to.
 pub fn heard<P: Player, B: Body>(
     alloc: Global,
@@ -31,4 +19,16 @@ pub fn heard<P: Player, B: Body>(
 {
     let unsealed = body.unseal(alloc, way_between(from, to))?;
     Ok(P::hear(alloc, from, unsealed))
+}
+
+/// Between whom a packet goes.
+fn way_between(from: Actor, to: Actor) -> Way
+    ensures { result ≡ way_of from to }
+{
+    match (from, to) {
+        (Actor::Controller(_), Actor::Controller(_)) => Way::Vr,
+        (Actor::Switch(_), Actor::Switch(_)) => Way::Link,
+        (Actor::Controller(_), Actor::Switch(_)) => Way::Of,
+        (Actor::Switch(_), Actor::Controller(_)) => Way::Of,
+    }
 }

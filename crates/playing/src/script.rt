@@ -18,32 +18,6 @@ use players::Body;
 use world::World;
 use std::alloc::Global;
 
-/// Does the steps of a script in order.
-fn do_steps<B: Body, A: App, W: Stable>(
-    world: &mut World<B, A>,
-    stables: &mut [W],
-    steps: &[Turn],
-) -> Result<(), Stop>
-    requires holds { (kinds : List ℕ) × Holds A.law B.sealing world.old kinds }
-    requires pairs { PairsStand W.saving stables.old world.old.controllers }
-    requires rests { world.old.owed ≡ None }
-    requires fresh { world.old.journal ≡ [] }
-    requires named { AllByRecursion (λ t. IsActor world.old.setup (turn_actor t)) steps.now }
-    requires views { AllByRecursion (λ t. StepSuspectsUpTo most_view_of_a_script t) steps.now }
-    ensures keeps { Keeps A.law W.saving B.sealing world.old stables.old world.new stables.new }
-    ensures rests { OnOk result (world.new.owed ≡ None) }
-    ensures views { OnOk result (IsSuspectedUpTo most_view_of_a_script (past world.new.journal)) }
-    ensures follows { ForEachScene A.law B.sealing world.old (λ scene.
-        OnOk result (HasFollowed In_order scene steps.now world.new)) }
-    ensures stops { ForEachScene A.law B.sealing world.old (λ scene.
-        IfErr result (RunStops scene steps.now world.new)) }
-{
-    for step in steps {
-        world.apply(stables, step)?;
-    }
-    Ok(())
-}
-
 /// Does the steps of a script in a world with an empty journal, and brings it to rest. Tells how the closing ended, and how
 /// many entries the script made. No step suspects a view above 4,000,000,000 (`most_view_of_a_script`).
 pub fn play<B: Body, A: App, W: Stable>(
@@ -68,4 +42,30 @@ pub fn play<B: Body, A: App, W: Stable>(
     let script = world.journal().len();
     let closed = closing::run(alloc, world, stables)?;
     Ok((closed, script))
+}
+
+/// Does the steps of a script in order.
+fn do_steps<B: Body, A: App, W: Stable>(
+    world: &mut World<B, A>,
+    stables: &mut [W],
+    steps: &[Turn],
+) -> Result<(), Stop>
+    requires holds { (kinds : List ℕ) × Holds A.law B.sealing world.old kinds }
+    requires pairs { PairsStand W.saving stables.old world.old.controllers }
+    requires rests { world.old.owed ≡ None }
+    requires fresh { world.old.journal ≡ [] }
+    requires named { AllByRecursion (λ t. IsActor world.old.setup (turn_actor t)) steps.now }
+    requires views { AllByRecursion (λ t. StepSuspectsUpTo most_view_of_a_script t) steps.now }
+    ensures keeps { Keeps A.law W.saving B.sealing world.old stables.old world.new stables.new }
+    ensures rests { OnOk result (world.new.owed ≡ None) }
+    ensures views { OnOk result (IsSuspectedUpTo most_view_of_a_script (past world.new.journal)) }
+    ensures follows { ForEachScene A.law B.sealing world.old (λ scene.
+        OnOk result (HasFollowed In_order scene steps.now world.new)) }
+    ensures stops { ForEachScene A.law B.sealing world.old (λ scene.
+        IfErr result (RunStops scene steps.now world.new)) }
+{
+    for step in steps {
+        world.apply(stables, step)?;
+    }
+    Ok(())
 }

@@ -24,6 +24,16 @@ use vr_log::Entries;
 /// The most bytes of a report.
 pub const REPORT_LIMIT: usize = 268_435_456;
 
+/// The record that bytes are the text of.
+pub fn read_report(alloc: Global, bytes: &[u8]) -> Result<Record, ReportFault>
+    // It is what reading gives, or the first line that does not fit.
+    ensures exact { IsReadAs bytes.now result }
+    // What is read is a record, and the bytes are its text.
+    ensures found { IfOk result (λ r. IsRecord r × (text r ≡ bytes.now)) }
+{
+    whole(alloc, bytes)
+}
+
 #[tactic(auto, unfolding(crate::specs::OneLine::first_line_at))]
 fn first_line(bytes: &[u8]) -> Result<&[u8], Misfit>
     ensures { GivesText (λ x. x.now) result (first_line_at bytes.now) }
@@ -141,14 +151,4 @@ fn whole(alloc: Global, bytes: &[u8]) -> Result<Record, ReportFault>
         }),
         Err(Broken::OutOfMemory) => Err(ReportFault::OutOfMemory),
     }
-}
-
-/// The record that bytes are the text of.
-pub fn read_report(alloc: Global, bytes: &[u8]) -> Result<Record, ReportFault>
-    // It is what reading gives, or the first line that does not fit.
-    ensures exact { IsReadAs bytes.now result }
-    // What is read is a record, and the bytes are its text.
-    ensures found { IfOk result (λ r. IsRecord r × (text r ≡ bytes.now)) }
-{
-    whole(alloc, bytes)
 }

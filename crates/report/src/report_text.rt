@@ -12,6 +12,32 @@ use of_types::{Happening, Octets, Setup, size_of_match};
 use std::alloc::{AllocError, Global};
 use vr_log::Entry;
 
+/// The bytes of a log.
+pub fn size_of_log(log: &[Entry]) -> u128
+    ensures { result ≡ log_size log.now }
+{
+    let mut size = 0u128;
+    for entry in log {
+        size += size_of_entry(entry);
+    }
+    size
+}
+
+/// The text of a report. It is made in a fixed number of passes over the record.
+#[tactic(auto, unfolding(crate::specs::Report::line, crate::specs::Report::text))]
+pub fn text(alloc: Global, told: &Record) -> Result<Octets, AllocError>
+    ensures { IfOk result (λ bytes. bytes ≡ text told.now) }
+{
+    let mut out = Octets::new(alloc);
+    write_line(&mut out, b"ravana report 1", &[])?;
+    write_setup(alloc, &mut out, &told.setup)?;
+    write_each(alloc, &mut out, told.journal.as_slice())?;
+    write_log(alloc, &mut out, told.log.as_slice())?;
+    write_switches(alloc, &mut out, told.switches.as_slice())?;
+    write_end(&mut out, told)?;
+    Ok(out)
+}
+
 #[tactic(auto, unfolding(crate::specs::Report::port_line))]
 fn write_port_line(out: &mut Octets, switch: usize, count: u32) -> Result<(), AllocError>
     ensures { OnOk result (out.new ≡ out.old ++ port_line switch count) }
@@ -67,17 +93,6 @@ fn size_of_entry(entry: &Entry) -> u128
     }
 }
 
-/// The bytes of a log.
-pub fn size_of_log(log: &[Entry]) -> u128
-    ensures { result ≡ log_size log.now }
-{
-    let mut size = 0u128;
-    for entry in log {
-        size += size_of_entry(entry);
-    }
-    size
-}
-
 #[tactic(auto, unfolding(crate::specs::Report::log_lines))]
 fn write_log(alloc: Global, out: &mut Octets, log: &[Entry]) -> Result<(), AllocError>
     ensures { OnOk result (out.new ≡ out.old ++ log_lines log.now) }
@@ -85,19 +100,4 @@ fn write_log(alloc: Global, out: &mut Octets, log: &[Entry]) -> Result<(), Alloc
     let words = [Word::Number(log.len() as u64), Word::Sum(size_of_log(log))];
     write_line(out, b"log", &words)?;
     write_each(alloc, out, log)
-}
-
-/// The text of a report. It is made in a fixed number of passes over the record.
-#[tactic(auto, unfolding(crate::specs::Report::line, crate::specs::Report::text))]
-pub fn text(alloc: Global, told: &Record) -> Result<Octets, AllocError>
-    ensures { IfOk result (λ bytes. bytes ≡ text told.now) }
-{
-    let mut out = Octets::new(alloc);
-    write_line(&mut out, b"ravana report 1", &[])?;
-    write_setup(alloc, &mut out, &told.setup)?;
-    write_each(alloc, &mut out, told.journal.as_slice())?;
-    write_log(alloc, &mut out, told.log.as_slice())?;
-    write_switches(alloc, &mut out, told.switches.as_slice())?;
-    write_end(&mut out, told)?;
-    Ok(out)
 }

@@ -25,6 +25,26 @@ const MOST_LINKS: usize = 1024;
 /// The most rules of the firewall.
 const MOST_RULES: usize = 16;
 
+/// A setup.
+#[tactic(auto, unfolding(crate::specs::Reading::setup_at))]
+pub fn setup(alloc: Global, bytes: &[u8]) -> Result<(Setup, &[u8]), Broken>
+    ensures { GivesLines (λ x. (x.0, x.1.now)) result (setup_at bytes.now) }
+{
+    let ((controllers, switches), rest) = on_line(bytes, counts(bytes))?;
+    let (ports, rest) = port_counts(alloc, switches, rest)?;
+    let (links, rest) = links(alloc, ports.as_slice(), rest)?;
+    let (deny, rest) = rules(alloc, rest)?;
+    Ok((
+        Setup {
+            controllers,
+            ports,
+            links,
+            deny,
+        },
+        rest,
+    ))
+}
+
 /// How many controllers and switches there are.
 #[tactic(auto, unfolding(crate::specs::OneLine::counts_at))]
 fn counts(bytes: &[u8]) -> Result<((u8, u64), &[u8]), Misfit>
@@ -231,24 +251,4 @@ fn rules(alloc: Global, bytes: &[u8]) -> Result<(Rules, &[u8]), Broken>
         return Err(Broken::Line { left: rest.len() });
     }
     Ok((rules, rest))
-}
-
-/// A setup.
-#[tactic(auto, unfolding(crate::specs::Reading::setup_at))]
-pub fn setup(alloc: Global, bytes: &[u8]) -> Result<(Setup, &[u8]), Broken>
-    ensures { GivesLines (λ x. (x.0, x.1.now)) result (setup_at bytes.now) }
-{
-    let ((controllers, switches), rest) = on_line(bytes, counts(bytes))?;
-    let (ports, rest) = port_counts(alloc, switches, rest)?;
-    let (links, rest) = links(alloc, ports.as_slice(), rest)?;
-    let (deny, rest) = rules(alloc, rest)?;
-    Ok((
-        Setup {
-            controllers,
-            ports,
-            links,
-            deny,
-        },
-        rest,
-    ))
 }

@@ -13,6 +13,16 @@ use of_types::{Executed, Octets};
 use journal::Actor;
 use std::alloc::{AllocError, Global};
 
+#[tactic(auto, unfolding(crate::specs::Report::switch_lines))]
+pub fn write_switches(alloc: Global, out: &mut Octets, switches: &[SwitchRecord]) -> Result<(), AllocError>
+    ensures { OnOk result (out.new ≡ out.old ++ switch_lines 0 switches.now) }
+{
+    for (switch, told) in switches.iter().enumerate() {
+        write_told(alloc, out, switch, told)?;
+    }
+    Ok(())
+}
+
 fn write_executed(
     alloc: Global,
     out: &mut Octets,
@@ -130,14 +140,4 @@ fn write_told(alloc: Global, out: &mut Octets, switch: usize, told: &SwitchRecor
     write_each(alloc, out, told.events.as_slice())?;
     write_executed_all(alloc, out, switch, told.executed.as_slice())?;
     write_rows(alloc, out, switch, told.rows.as_slice())
-}
-
-#[tactic(auto, unfolding(crate::specs::Report::switch_lines))]
-pub fn write_switches(alloc: Global, out: &mut Octets, switches: &[SwitchRecord]) -> Result<(), AllocError>
-    ensures { OnOk result (out.new ≡ out.old ++ switch_lines 0 switches.now) }
-{
-    for (switch, told) in switches.iter().enumerate() {
-        write_told(alloc, out, switch, told)?;
-    }
-    Ok(())
 }

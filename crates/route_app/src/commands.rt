@@ -18,6 +18,60 @@ use std::alloc::{AllocError, Global};
 /// Of so many switches of a path, numbered from the first, rows are installed at once.
 const MOST_ROWS: usize = 63;
 
+/// The same, where these ports are down.
+pub fn flood(
+    alloc: Global,
+    wires: &Wires,
+    down: &[SwitchPort],
+    at: SwitchPort,
+    frame: &Octets,
+    out: &mut Commands,
+) -> Result<(), AllocError>
+    ensures { (setup : Setup) → IsWires setup wires.now → OnOk result (out.new ≡ out.old ++ flooded setup down.now at frame.now) }
+{
+    let flags = down_table(alloc, wires.ends.len(), down)?;
+    flood_over(alloc, wires, flags.as_slice(), at, frame, out)
+}
+
+/// The rows of a walk, and then the frame goes its way.
+#[tactic(auto, using(std::proofs::Common::append_assoc))]
+pub fn install(
+    alloc: Global,
+    wires: &Wires,
+    at: SwitchPort,
+    frame: &Octets,
+    target: SwitchPort,
+    walk: &[SwitchPort],
+    out: &mut Commands,
+) -> Result<(), AllocError>
+    ensures { OnOk result (out.new ≡ out.old ++ installed_over wires.now at frame.now target walk.now) }
+{
+    let mut path = Vec::new(alloc);
+    add_legs(wires, at.port, walk, target, &mut path)?;
+    add_rows(alloc, destination(frame), first_legs(path.as_slice()), out)?;
+    let sent = packet_out(alloc, at.switch, at.port, frame, first_output(walk, target))?;
+    out.push(sent)?;
+    Ok(())
+}
+
+/// The rows that send to a port that went down go, at both ends of its link if it is in one.
+#[tactic(auto, using(std::proofs::Common::append_assoc))]
+pub fn forget_ends(
+    alloc: Global,
+    switch: u8,
+    port: u32,
+    end: Option<SwitchPort>,
+    out: &mut Commands,
+) -> Result<(), AllocError>
+    ensures { OnOk result (out.new ≡ out.old ++ forgetting_ends switch port end) }
+{
+    out.push(forgetting_rows(alloc, switch, port))?;
+    if let Some(end) = end {
+        out.push(forgetting_rows(alloc, end.switch, end.port))?;
+    }
+    Ok(())
+}
+
 /// A switch sends a frame out by its open ports, if it has one.
 fn send_out(
     switch: u8,
@@ -96,21 +150,6 @@ fn flood_over(
         send_out(switch, frame, ports, out)?;
     }
     Ok(())
-}
-
-/// The same, where these ports are down.
-pub fn flood(
-    alloc: Global,
-    wires: &Wires,
-    down: &[SwitchPort],
-    at: SwitchPort,
-    frame: &Octets,
-    out: &mut Commands,
-) -> Result<(), AllocError>
-    ensures { (setup : Setup) → IsWires setup wires.now → OnOk result (out.new ≡ out.old ++ flooded setup down.now at frame.now) }
-{
-    let flags = down_table(alloc, wires.ends.len(), down)?;
-    flood_over(alloc, wires, flags.as_slice(), at, frame, out)
 }
 
 /// The port by which a hop arrives.
@@ -202,43 +241,4 @@ fn destination(frame: &Octets) -> u64
     ensures { result ≡ unwrap_or (number_at 6 0 frame.now) 0 }
 {
     fields(frame.as_slice()).eth_dst.unwrap_or(0)
-}
-
-/// The rows of a walk, and then the frame goes its way.
-#[tactic(auto, using(std::proofs::Common::append_assoc))]
-pub fn install(
-    alloc: Global,
-    wires: &Wires,
-    at: SwitchPort,
-    frame: &Octets,
-    target: SwitchPort,
-    walk: &[SwitchPort],
-    out: &mut Commands,
-) -> Result<(), AllocError>
-    ensures { OnOk result (out.new ≡ out.old ++ installed_over wires.now at frame.now target walk.now) }
-{
-    let mut path = Vec::new(alloc);
-    add_legs(wires, at.port, walk, target, &mut path)?;
-    add_rows(alloc, destination(frame), first_legs(path.as_slice()), out)?;
-    let sent = packet_out(alloc, at.switch, at.port, frame, first_output(walk, target))?;
-    out.push(sent)?;
-    Ok(())
-}
-
-/// The rows that send to a port that went down go, at both ends of its link if it is in one.
-#[tactic(auto, using(std::proofs::Common::append_assoc))]
-pub fn forget_ends(
-    alloc: Global,
-    switch: u8,
-    port: u32,
-    end: Option<SwitchPort>,
-    out: &mut Commands,
-) -> Result<(), AllocError>
-    ensures { OnOk result (out.new ≡ out.old ++ forgetting_ends switch port end) }
-{
-    out.push(forgetting_rows(alloc, switch, port))?;
-    if let Some(end) = end {
-        out.push(forgetting_rows(alloc, end.switch, end.port))?;
-    }
-    Ok(())
 }

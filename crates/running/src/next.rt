@@ -18,6 +18,32 @@ use std::mem;
 use std::sync::Wait;
 use shared_wire::{Board, Place};
 
+/// Posts what an actor owes and goes on to its next step, in one exchange of the wire. Tells what it hears there. (A body is
+/// copied in an exchange of its own, which adds nothing.)
+pub fn next_input<P: Player, B: Body, R: Wait>(
+    rt: &R,
+    alloc: Global,
+    board: &Board<B>,
+    place: &mut Place<B>,
+    owed: &mut Letters<B>,
+    step: &Turn,
+) -> Result<Option<P::Input>, Stop>
+    requires board { place.old.board ≡ board.now.id }
+    requires mine { turn_actor step.now ≡ place.old.actor }
+    ensures place { IsSamePlace place.old place.new }
+    ensures owed { IfOk result (λ _. owed.new ≡ []) }
+    ensures ok { IfOk result (Advances B.sealing P.hears P.locally place.old place.new owed.old step.now) }
+    ensures err { IfErr result (StopsAt B.sealing.size place.old place.new owed.old owed.new) }
+{
+    match step {
+        Turn::Draw { choice, keep, .. } => {
+            draws::<P, B, R>(rt, alloc, board, place, owed, *choice, *keep)
+        }
+        Turn::Lose { choice, .. } => loses::<P, B, R>(rt, alloc, board, place, owed, *choice),
+        Turn::Local { input, .. } => takes_local::<P, B, R>(rt, alloc, board, place, owed, input),
+    }
+}
+
 /// Posts what is owed and draws, in one exchange. At a refusal it is owed as before.
 fn draw_next<B: Body, R: Wait>(
     rt: &R,
@@ -120,31 +146,5 @@ fn takes_local<P: Player, B: Body, R: Wait>(
             *owed = refused.post;
             Err(refused.cause)
         }
-    }
-}
-
-/// Posts what an actor owes and goes on to its next step, in one exchange of the wire. Tells what it hears there. (A body is
-/// copied in an exchange of its own, which adds nothing.)
-pub fn next_input<P: Player, B: Body, R: Wait>(
-    rt: &R,
-    alloc: Global,
-    board: &Board<B>,
-    place: &mut Place<B>,
-    owed: &mut Letters<B>,
-    step: &Turn,
-) -> Result<Option<P::Input>, Stop>
-    requires board { place.old.board ≡ board.now.id }
-    requires mine { turn_actor step.now ≡ place.old.actor }
-    ensures place { IsSamePlace place.old place.new }
-    ensures owed { IfOk result (λ _. owed.new ≡ []) }
-    ensures ok { IfOk result (Advances B.sealing P.hears P.locally place.old place.new owed.old step.now) }
-    ensures err { IfErr result (StopsAt B.sealing.size place.old place.new owed.old owed.new) }
-{
-    match step {
-        Turn::Draw { choice, keep, .. } => {
-            draws::<P, B, R>(rt, alloc, board, place, owed, *choice, *keep)
-        }
-        Turn::Lose { choice, .. } => loses::<P, B, R>(rt, alloc, board, place, owed, *choice),
-        Turn::Local { input, .. } => takes_local::<P, B, R>(rt, alloc, board, place, owed, input),
     }
 }

@@ -14,50 +14,6 @@ use players::Body;
 use std::alloc::{AllocError, Global};
 use shared_wire::{Board, Place};
 
-/// The actors of a group, the controllers before the switches and each ascending.
-fn actors_of(alloc: Global, controllers: usize, switches: usize) -> Result<Vec<Actor>, AllocError>
-    requires { (controllers < 256) × (switches < 256) }
-    ensures { IfOk result (λ actors. actors.items ≡ actors_up_to controllers switches) }
-{
-    let mut actors = Vec::new(alloc);
-    for number in 0..controllers {
-        actors.push(Actor::Controller(number as u8))?;
-    }
-    for number in 0..switches {
-        actors.push(Actor::Switch(number as u8))?;
-    }
-    Ok(actors)
-}
-
-/// A board for a group of so many controllers and so many switches, with its places.
-fn board_of<B: Body>(
-    alloc: Global,
-    group: usize,
-    count: usize,
-) -> Result<(Board<B>, Vec<Place<B>>), AllocError>
-    requires { (0 < group) × (group < 256) × (count < 256) }
-    ensures board { IfOk result (λ r. r.0.actors ≡ actors_up_to group count) }
-    ensures places { IfOk result (λ r. r.1.items ≡ map (fresh r.0.id) (actors_up_to group count)) }
-{
-    let actors = actors_of(alloc, group, count)?;
-    let (board, places) = Board::new(alloc, actors.as_slice())?;
-    Ok((board, places))
-}
-
-/// Two empty lists, with room for so many in each.
-fn rooms<X: Drop, Y: Drop>(
-    alloc: Global,
-    first: usize,
-    second: usize,
-) -> Result<(Vec<X>, Vec<Y>), AllocError>
-    ensures none { IfOk result (λ r. (vec_len r.0 ≡ 0) × (vec_len r.1 ≡ 0)) }
-    ensures room { IfOk result (λ r. (first ≤ vec_capacity r.0) × (second ≤ vec_capacity r.1)) }
-{
-    let one = Vec::with_capacity(alloc, first)?;
-    let other = Vec::with_capacity(alloc, second)?;
-    Ok((one, other))
-}
-
 /// A board with its places, and room for those who take them and for what they leave.
 #[derive(Drop)]
 pub struct Ready<B: Body, A: App, W: Stable + Drop> {
@@ -104,4 +60,48 @@ impl<B: Body, A: App, W: Stable + Drop> Ready<B, A, W> {
             left_stables,
         })
     }
+}
+
+/// The actors of a group, the controllers before the switches and each ascending.
+fn actors_of(alloc: Global, controllers: usize, switches: usize) -> Result<Vec<Actor>, AllocError>
+    requires { (controllers < 256) × (switches < 256) }
+    ensures { IfOk result (λ actors. actors.items ≡ actors_up_to controllers switches) }
+{
+    let mut actors = Vec::new(alloc);
+    for number in 0..controllers {
+        actors.push(Actor::Controller(number as u8))?;
+    }
+    for number in 0..switches {
+        actors.push(Actor::Switch(number as u8))?;
+    }
+    Ok(actors)
+}
+
+/// A board for a group of so many controllers and so many switches, with its places.
+fn board_of<B: Body>(
+    alloc: Global,
+    group: usize,
+    count: usize,
+) -> Result<(Board<B>, Vec<Place<B>>), AllocError>
+    requires { (0 < group) × (group < 256) × (count < 256) }
+    ensures board { IfOk result (λ r. r.0.actors ≡ actors_up_to group count) }
+    ensures places { IfOk result (λ r. r.1.items ≡ map (fresh r.0.id) (actors_up_to group count)) }
+{
+    let actors = actors_of(alloc, group, count)?;
+    let (board, places) = Board::new(alloc, actors.as_slice())?;
+    Ok((board, places))
+}
+
+/// Two empty lists, with room for so many in each.
+fn rooms<X: Drop, Y: Drop>(
+    alloc: Global,
+    first: usize,
+    second: usize,
+) -> Result<(Vec<X>, Vec<Y>), AllocError>
+    ensures none { IfOk result (λ r. (vec_len r.0 ≡ 0) × (vec_len r.1 ≡ 0)) }
+    ensures room { IfOk result (λ r. (first ≤ vec_capacity r.0) × (second ≤ vec_capacity r.1)) }
+{
+    let one = Vec::with_capacity(alloc, first)?;
+    let other = Vec::with_capacity(alloc, second)?;
+    Ok((one, other))
 }

@@ -15,20 +15,6 @@ use std::alloc::Global;
 use std::vec::IntoIter;
 use shared_wire::Place;
 
-/// A player at its place, with nothing owed.
-fn task_at<B: Body, P: Drop>(alloc: Global, place: Place<B>, player: P) -> Task<B, P>
-    ensures { result ≡ task_of place player }
-{
-    Task {
-        job: Job {
-            place,
-            player,
-            owed: Items::new(alloc),
-        },
-        stop: None,
-    }
-}
-
 /// Players take the first of the places that are left, in order. There is room for their tasks.
 pub fn seat<B: Body, P: Drop>(
     alloc: Global,
@@ -69,5 +55,19 @@ pub fn serve<A: App, W: Stable + Drop>(
             Some(stable) => beside.push_reserved(Served { controller, stable }),
             None => unreachable!(),
         }
+    }
+}
+
+/// A player at its place, with nothing owed.
+fn task_at<B: Body, P: Drop>(alloc: Global, place: Place<B>, player: P) -> Task<B, P>
+    ensures { result ≡ task_of place player }
+{
+    Task {
+        job: Job {
+            place,
+            player,
+            owed: Items::new(alloc),
+        },
+        stop: None,
     }
 }

@@ -15,6 +15,37 @@ const PORTS: u32 = 4;
 /// The type of a frame of a local experiment (IEEE 802).
 const LOCAL_TYPE: u16 = 0x88b5;
 
+/// The scenario that four numbers make: so many controllers and switches of four ports, and so many
+/// frames, each at the next switch. Each round of the switches takes the next pair of ports, beginning with
+/// the one that `number` names. Behind the frames, where there are three controllers or more, the one that
+/// `number` names crashes.
+pub fn generate(
+    alloc: Global,
+    number: u32,
+    controllers: u8,
+    switches: u8,
+    frames: u32,
+) -> Result<Scenario, AllocError>
+    requires group { Contains (1 ∷ 3 ∷ 5 ∷ 7 ∷ []) controllers }
+    requires some { 1 ≤ switches }
+    requires few { switches ≤ 64 }
+    requires short { frames ≤ 2048 }
+    ensures exact { IfOk result (λ scenario. scenario ≡ generator.generated number controllers switches frames) }
+    ensures form { IfOk result (λ scenario. IsScenario scenario) }
+{
+    let ports = port_counts(alloc, switches)?;
+    let steps = script(alloc, number, controllers, switches, frames)?;
+    Ok(Scenario {
+        setup: Setup {
+            controllers,
+            ports,
+            links: Links::new(alloc),
+            deny: Rules::new(alloc),
+        },
+        steps,
+    })
+}
+
 /// The port that a frame of a round goes from, counted from 0.
 fn from_port(number: u32, round: u32) -> u32
     ensures { result ≡ generator.from_port number round }
@@ -108,35 +139,4 @@ fn port_counts(alloc: Global, switches: u8) -> Result<PortCounts, AllocError>
     ensures { IfOk result (λ counts. counts ≡ replicate switches 4) }
 {
     Ok(PortCounts::from_vec(vec![in alloc; PORTS; usize::from(switches)]?))
-}
-
-/// The scenario that four numbers make: so many controllers and switches of four ports, and so many
-/// frames, each at the next switch. Each round of the switches takes the next pair of ports, beginning with
-/// the one that `number` names. Behind the frames, where there are three controllers or more, the one that
-/// `number` names crashes.
-pub fn generate(
-    alloc: Global,
-    number: u32,
-    controllers: u8,
-    switches: u8,
-    frames: u32,
-) -> Result<Scenario, AllocError>
-    requires group { Contains (1 ∷ 3 ∷ 5 ∷ 7 ∷ []) controllers }
-    requires some { 1 ≤ switches }
-    requires few { switches ≤ 64 }
-    requires short { frames ≤ 2048 }
-    ensures exact { IfOk result (λ scenario. scenario ≡ generator.generated number controllers switches frames) }
-    ensures form { IfOk result (λ scenario. IsScenario scenario) }
-{
-    let ports = port_counts(alloc, switches)?;
-    let steps = script(alloc, number, controllers, switches, frames)?;
-    Ok(Scenario {
-        setup: Setup {
-            controllers,
-            ports,
-            links: Links::new(alloc),
-            deny: Rules::new(alloc),
-        },
-        steps,
-    })
 }

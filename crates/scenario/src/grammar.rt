@@ -21,6 +21,92 @@ use std::alloc::{AllocError, Global};
 /// A number that no setup has.
 pub const NO_ACTOR: u64 = 255;
 
+/// How a switch is written: `{"ports": number}`.
+pub fn switch_of(value: &Value) -> Option<WrittenSwitch>
+    ensures { result ≡ grammar.switch_of (view value.now) }
+{
+    let ports = number_at("ports", value)?;
+    only(1, value, WrittenSwitch { ports })
+}
+
+/// How a link is written: `[switch, port, switch, port]`.
+pub fn link_of(value: &Value) -> Option<WrittenLink>
+    ensures { result ≡ grammar.link_of (view value.now) }
+{
+    let [switch, port, peer, peer_port] = list(value)? else {
+        return None;
+    };
+    Some(WrittenLink {
+        switch: number(switch)?,
+        port: number(port)?,
+        peer: number(peer)?,
+        peer_port: number(peer_port)?,
+    })
+}
+
+/// How a rule of the firewall is written: `{"proto", "src", "dst"}`, and `"port"` if any.
+pub fn rule_of(value: &Value) -> Option<WrittenRule>
+    ensures { result ≡ grammar.rule_of_json (view value.now) }
+{
+    let proto = number_at("proto", value)?;
+    let src = prefix_at("src", value)?;
+    let dst = prefix_at("dst", value)?;
+    let port = number_if_any("port", value)?;
+    only(
+        3 + counted("port", value),
+        value,
+        WrittenRule {
+            proto,
+            src,
+            dst,
+            port,
+        },
+    )
+}
+
+/// How a step is written, by what it does.
+pub fn step_of(alloc: Global, value: &Value) -> Result<Option<WrittenStep>, AllocError>
+    ensures { IfOk result (λ found. found ≡ grammar.step_of_json (view value.now)) }
+{
+    match text_at("do", value) {
+        Some("frame") => frame_of(alloc, value),
+        Some(word) => Ok(plain_step(word, value)),
+        None => Ok(None),
+    }
+}
+
+/// The members of a scenario, with its lists unread.
+#[derive(Drop)]
+pub struct Lists<'v> {
+    pub controllers: u64,
+    pub switches: &'v [Value],
+    pub links: &'v [Value],
+    pub deny: &'v [Value],
+    pub steps: &'v [Value],
+}
+
+/// What stands at the top of a scenario. `links` and `deny` may be left out.
+pub fn lists_of(value: &Value) -> Option<Lists<'_>>
+    ensures { option_map (λ lists. grammar.seen lists) result ≡ grammar.lists_of (view value.now) }
+{
+    let controllers = number_at("controllers", value)?;
+    let switches = list_at("switches", value)?;
+    let links = list_or_none("links", value)?;
+    let deny = list_or_none("deny", value)?;
+    let steps = list_at("steps", value)?;
+    only(
+        3 + counted("links", value) + counted("deny", value),
+        value,
+        Lists {
+            controllers,
+            switches,
+            links,
+            deny,
+            steps,
+        },
+    )
+}
+
 /// The bytes that pairs of hexadecimal digits spell.
 fn hex_bytes(alloc: Global, text: &str) -> Result<Option<Octets>, AllocError>
     ensures { IfOk result (λ found. found ≡ result_ok (decode_of text.now)) }
@@ -71,29 +157,6 @@ fn actor_at(name: &str, value: &Value) -> Option<Actor>
     actor_named(text_at(name, value)?)
 }
 
-/// How a switch is written: `{"ports": number}`.
-pub fn switch_of(value: &Value) -> Option<WrittenSwitch>
-    ensures { result ≡ grammar.switch_of (view value.now) }
-{
-    let ports = number_at("ports", value)?;
-    only(1, value, WrittenSwitch { ports })
-}
-
-/// How a link is written: `[switch, port, switch, port]`.
-pub fn link_of(value: &Value) -> Option<WrittenLink>
-    ensures { result ≡ grammar.link_of (view value.now) }
-{
-    let [switch, port, peer, peer_port] = list(value)? else {
-        return None;
-    };
-    Some(WrittenLink {
-        switch: number(switch)?,
-        port: number(port)?,
-        peer: number(peer)?,
-        peer_port: number(peer_port)?,
-    })
-}
-
 /// A prefix: four bytes of an address and a length.
 fn prefix_of(values: &[Value]) -> Option<WrittenPrefix>
     ensures { result ≡ grammar.five_numbers (map view values.now) }
@@ -127,26 +190,6 @@ fn number_if_any(name: &str, value: &Value) -> Option<Option<u64>>
         Some(said) => Some(Some(number(said)?)),
         None => Some(None),
     }
-}
-
-/// How a rule of the firewall is written: `{"proto", "src", "dst"}`, and `"port"` if any.
-pub fn rule_of(value: &Value) -> Option<WrittenRule>
-    ensures { result ≡ grammar.rule_of_json (view value.now) }
-{
-    let proto = number_at("proto", value)?;
-    let src = prefix_at("src", value)?;
-    let dst = prefix_at("dst", value)?;
-    let port = number_if_any("port", value)?;
-    only(
-        3 + counted("port", value),
-        value,
-        WrittenRule {
-            proto,
-            src,
-            dst,
-            port,
-        },
-    )
 }
 
 fn frame_of(alloc: Global, value: &Value) -> Result<Option<WrittenStep>, AllocError>
@@ -273,47 +316,4 @@ fn plain_step(word: &str, value: &Value) -> Option<WrittenStep>
         "restart" => restart_of(value),
         _ => None,
     }
-}
-
-/// How a step is written, by what it does.
-pub fn step_of(alloc: Global, value: &Value) -> Result<Option<WrittenStep>, AllocError>
-    ensures { IfOk result (λ found. found ≡ grammar.step_of_json (view value.now)) }
-{
-    match text_at("do", value) {
-        Some("frame") => frame_of(alloc, value),
-        Some(word) => Ok(plain_step(word, value)),
-        None => Ok(None),
-    }
-}
-
-/// The members of a scenario, with its lists unread.
-#[derive(Drop)]
-pub struct Lists<'v> {
-    pub controllers: u64,
-    pub switches: &'v [Value],
-    pub links: &'v [Value],
-    pub deny: &'v [Value],
-    pub steps: &'v [Value],
-}
-
-/// What stands at the top of a scenario. `links` and `deny` may be left out.
-pub fn lists_of(value: &Value) -> Option<Lists<'_>>
-    ensures { option_map (λ lists. grammar.seen lists) result ≡ grammar.lists_of (view value.now) }
-{
-    let controllers = number_at("controllers", value)?;
-    let switches = list_at("switches", value)?;
-    let links = list_or_none("links", value)?;
-    let deny = list_or_none("deny", value)?;
-    let steps = list_at("steps", value)?;
-    only(
-        3 + counted("links", value) + counted("deny", value),
-        value,
-        Lists {
-            controllers,
-            switches,
-            links,
-            deny,
-            steps,
-        },
-    )
 }

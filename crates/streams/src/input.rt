@@ -9,26 +9,6 @@ use of_types::Octets;
 use journal::Source;
 use std::alloc::Global;
 
-/// Reads a piece behind the bytes, and tells its length. 0 is the end.
-fn read_piece<S: Source>(
-    source: &mut S,
-    into: &mut [u8],
-    bytes: &mut Octets,
-) -> Result<usize, StreamFault>
-    requires { 0 < length into.old }
-    ensures later { S.faults source.old ≤ S.faults source.new }
-    ensures cause { result ≡ Err faults.Failed → Rose (S.faults source.old) (S.faults source.new) }
-    ensures served { result ≢ Err faults.Failed → S.faults source.new ≡ S.faults source.old }
-    ensures bound { IfOk result (λ count. count ≤ length into.old) }
-    ensures grown { IfOk result (λ count. (bytes.new ≡ bytes.old ++ take count into.new) × (length bytes.new ≡ length bytes.old + count)) }
-    ensures consumed { IfOk result (λ count. Consumes (S.left source.old) (S.left source.new) (take count into.new)) }
-    ensures ended { IfOk result (λ count. count ≡ 0 → IsAtEnd (S.left source.new)) }
-{
-    let count = source.read(into)?;
-    bytes.append(&into[..count])?;
-    Ok(count)
-}
-
 /// Reads a source to its end, or one byte past a limit.
 pub fn read_input<S: Source>(
     alloc: Global,
@@ -52,4 +32,24 @@ pub fn read_input<S: Source>(
         }
     }
     Ok(bytes)
+}
+
+/// Reads a piece behind the bytes, and tells its length. 0 is the end.
+fn read_piece<S: Source>(
+    source: &mut S,
+    into: &mut [u8],
+    bytes: &mut Octets,
+) -> Result<usize, StreamFault>
+    requires { 0 < length into.old }
+    ensures later { S.faults source.old ≤ S.faults source.new }
+    ensures cause { result ≡ Err faults.Failed → Rose (S.faults source.old) (S.faults source.new) }
+    ensures served { result ≢ Err faults.Failed → S.faults source.new ≡ S.faults source.old }
+    ensures bound { IfOk result (λ count. count ≤ length into.old) }
+    ensures grown { IfOk result (λ count. (bytes.new ≡ bytes.old ++ take count into.new) × (length bytes.new ≡ length bytes.old + count)) }
+    ensures consumed { IfOk result (λ count. Consumes (S.left source.old) (S.left source.new) (take count into.new)) }
+    ensures ended { IfOk result (λ count. count ≡ 0 → IsAtEnd (S.left source.new)) }
+{
+    let count = source.read(into)?;
+    bytes.append(&into[..count])?;
+    Ok(count)
 }

@@ -17,16 +17,6 @@ const TOO_LARGE: Fault = Fault {
     place: FaultPlace::Top,
 };
 
-/// What the audit of a report finds, by the applications of the first life of the first controller.
-fn verdict_on<A: App>(alloc: Global, bytes: &[u8], chains: Vec<A>) -> Result<Verdict, AllocError>
-    requires chains { (kinds : List ℕ) × AreChains A.law kinds chains.items }
-    ensures { (kinds : List ℕ) → AreChains A.law kinds chains.items →
-        IfOk result (λ verdict. verdict ≡ verdict_of (differs kinds bytes.now)) }
-{
-    let mut chains = chains;
-    check(alloc, bytes, &mut chains[0])
-}
-
 /// How the bytes of a report end.
 pub fn audited<A: App>(alloc: Global, bytes: &[u8], chains: Vec<A>) -> Result<Ending, AllocError>
     requires chains { (kinds : List ℕ) × AreChains A.law kinds chains.items }
@@ -40,4 +30,14 @@ pub fn audited<A: App>(alloc: Global, bytes: &[u8], chains: Vec<A>) -> Result<En
         Verdict::Same => Ok(Ending::Same),
         Verdict::Differs { line } => Ok(Ending::Differs { line }),
     }
+}
+
+/// What the audit of a report finds, by the applications of the first life of the first controller.
+fn verdict_on<A: App>(alloc: Global, bytes: &[u8], chains: Vec<A>) -> Result<Verdict, AllocError>
+    requires chains { (kinds : List ℕ) × AreChains A.law kinds chains.items }
+    ensures { (kinds : List ℕ) → AreChains A.law kinds chains.items →
+        IfOk result (λ verdict. verdict ≡ verdict_of (differs kinds bytes.now)) }
+{
+    let mut chains = chains;
+    check(alloc, bytes, &mut chains[0])
 }

@@ -28,6 +28,74 @@ use std::thread::Threads;
 use streams::{StreamFault, read_input, write_all};
 use command_line::read_words;
 
+/// Serves one call. `sim` reads a scenario from the source, plays it turn by turn, brings it to rest and writes its report;
+/// `run` does the same with a thread for each actor, which passes the gate before each of its turns; `gen` does it with the
+/// scenario that its numbers make, turn by turn, and writes the report's last line; `audit` reads a report and tells whether a
+/// line differs, and which. Else one line tells why not. It answers the status.
+///
+/// The words are those behind the program's name. There are seven stable pairs, and the applications of the sixteen lives
+/// of seven controllers, in order and all of the same kinds: a group of fewer leaves the rest alone. Only at the word `run` does
+/// it start threads or wait.
+pub fn ravana<
+    A: App + Send,
+    S: Source,
+    K: Sink,
+    W: Stable + Drop + Send,
+    G: Gate + Sync,
+    R: Threads + Wait + Sync,
+>(
+    rt: &R,
+    alloc: Global,
+    gate: &G,
+    words: &[String],
+    source: &mut S,
+    sink: &mut K,
+    stables: &mut Vec<W>,
+    chains: Vec<A>,
+) -> u8
+    requires chains { (kinds : List ℕ) × AreChains A.law kinds chains.items }
+    requires fresh { AreFresh W.saving stables.old.items }
+    ensures answer { ForChains A.law chains.items (λ kinds. IsAnswered kinds (StablesTell W.saving stables.old.items stables.new.items)
+        (map string_bytes words.now) (stream S.left S.faults source.old source.new) (stream K.taken K.faults sink.old sink.new) result) }
+    ensures usage { result ≡ 2 → IsUnserved (map string_bytes words.now) }
+    ensures words { IsUnserved (map string_bytes words.now) → Contains statuses_of_usage result }
+    ensures audit { IsAudit (map string_bytes words.now) → Contains statuses_of_audit result }
+    ensures complete { ForChains A.law chains.items (λ kinds. IsCompleted kinds (map string_bytes words.now)
+        (stream S.left S.faults source.old source.new) (stream K.taken K.faults sink.old sink.new) (AreCalm W.saving stables.old.items stables.new.items) result) }
+    ensures made { IsOfFourNumbers (map string_bytes words.now) → Contains statuses_of_made result }
+    ensures unread { result ≡ 4 → Rose (S.faults source.old) (S.faults source.new) }
+    ensures unwritten { result ≡ 5 → Rose (K.faults sink.old) (K.faults sink.new) }
+    ensures range { Contains statuses result }
+    ensures later_read { S.faults source.old ≤ S.faults source.new }
+    ensures later_write { K.faults sink.old ≤ K.faults sink.new }
+
+    // A call that failed is not tried again.
+    ensures every_write { result ≢ 5 → K.faults sink.new ≡ K.faults sink.old }
+    ensures every_read { result ≢ 4 → result ≢ 5 → S.faults source.new ≡ S.faults source.old }
+
+    // What is not asked for is not touched.
+    ensures unasked { ReadsNothing (map string_bytes words.now) → source.new ≡ source.old }
+    ensures unplayed { PlaysNothing (map string_bytes words.now) → stables.new.items ≡ stables.old.items }
+    ensures untouched { IsUnplayed result → stables.new.items ≡ stables.old.items }
+
+    // What needs no source is told by the sink alone.
+    ensures lines { IsWritten (K.taken sink.old) (K.taken sink.new) (IsOneLine result) }
+    ensures numbers { ForChains A.law chains.items (λ kinds. IsMadeOfNumbers kinds (StablesTell W.saving stables.old.items stables.new.items)
+        (map string_bytes words.now) (stream S.left S.faults source.old source.new) (stream K.taken K.faults sink.old sink.new) result) }
+{
+    let Ok(ending) = outcome(rt, alloc, gate, words, source, stables, chains) else {
+        return NO_MEMORY;
+    };
+    let status = ending.status();
+    let Ok(text) = ending.into_text(alloc) else {
+        return NO_MEMORY;
+    };
+    match write_all(sink, text.as_slice()) {
+        Ok(()) => status,
+        Err(_) => WRITE_FAILED,
+    }
+}
+
 /// What serves the job that words ask for.
 fn service_for(words: &[String]) -> Option<Service>
     ensures { result ≡ service_for (job_of (map string_bytes words.now)) }
@@ -207,73 +275,5 @@ fn outcome<
             Err(StreamFault::Failed) => Ok(Ending::Unread),
             Err(StreamFault::OutOfMemory) => Err(AllocError),
         },
-    }
-}
-
-/// Serves one call. `sim` reads a scenario from the source, plays it turn by turn, brings it to rest and writes its report;
-/// `run` does the same with a thread for each actor, which passes the gate before each of its turns; `gen` does it with the
-/// scenario that its numbers make, turn by turn, and writes the report's last line; `audit` reads a report and tells whether a
-/// line differs, and which. Else one line tells why not. It answers the status.
-///
-/// The words are those behind the program's name. There are seven stable pairs, and the applications of the sixteen lives
-/// of seven controllers, in order and all of the same kinds: a group of fewer leaves the rest alone. Only at the word `run` does
-/// it start threads or wait.
-pub fn ravana<
-    A: App + Send,
-    S: Source,
-    K: Sink,
-    W: Stable + Drop + Send,
-    G: Gate + Sync,
-    R: Threads + Wait + Sync,
->(
-    rt: &R,
-    alloc: Global,
-    gate: &G,
-    words: &[String],
-    source: &mut S,
-    sink: &mut K,
-    stables: &mut Vec<W>,
-    chains: Vec<A>,
-) -> u8
-    requires chains { (kinds : List ℕ) × AreChains A.law kinds chains.items }
-    requires fresh { AreFresh W.saving stables.old.items }
-    ensures answer { ForChains A.law chains.items (λ kinds. IsAnswered kinds (StablesTell W.saving stables.old.items stables.new.items)
-        (map string_bytes words.now) (stream S.left S.faults source.old source.new) (stream K.taken K.faults sink.old sink.new) result) }
-    ensures usage { result ≡ 2 → IsUnserved (map string_bytes words.now) }
-    ensures words { IsUnserved (map string_bytes words.now) → Contains statuses_of_usage result }
-    ensures audit { IsAudit (map string_bytes words.now) → Contains statuses_of_audit result }
-    ensures complete { ForChains A.law chains.items (λ kinds. IsCompleted kinds (map string_bytes words.now)
-        (stream S.left S.faults source.old source.new) (stream K.taken K.faults sink.old sink.new) (AreCalm W.saving stables.old.items stables.new.items) result) }
-    ensures made { IsOfFourNumbers (map string_bytes words.now) → Contains statuses_of_made result }
-    ensures unread { result ≡ 4 → Rose (S.faults source.old) (S.faults source.new) }
-    ensures unwritten { result ≡ 5 → Rose (K.faults sink.old) (K.faults sink.new) }
-    ensures range { Contains statuses result }
-    ensures later_read { S.faults source.old ≤ S.faults source.new }
-    ensures later_write { K.faults sink.old ≤ K.faults sink.new }
-
-    // A call that failed is not tried again.
-    ensures every_write { result ≢ 5 → K.faults sink.new ≡ K.faults sink.old }
-    ensures every_read { result ≢ 4 → result ≢ 5 → S.faults source.new ≡ S.faults source.old }
-
-    // What is not asked for is not touched.
-    ensures unasked { ReadsNothing (map string_bytes words.now) → source.new ≡ source.old }
-    ensures unplayed { PlaysNothing (map string_bytes words.now) → stables.new.items ≡ stables.old.items }
-    ensures untouched { IsUnplayed result → stables.new.items ≡ stables.old.items }
-
-    // What needs no source is told by the sink alone.
-    ensures lines { IsWritten (K.taken sink.old) (K.taken sink.new) (IsOneLine result) }
-    ensures numbers { ForChains A.law chains.items (λ kinds. IsMadeOfNumbers kinds (StablesTell W.saving stables.old.items stables.new.items)
-        (map string_bytes words.now) (stream S.left S.faults source.old source.new) (stream K.taken K.faults sink.old sink.new) result) }
-{
-    let Ok(ending) = outcome(rt, alloc, gate, words, source, stables, chains) else {
-        return NO_MEMORY;
-    };
-    let status = ending.status();
-    let Ok(text) = ending.into_text(alloc) else {
-        return NO_MEMORY;
-    };
-    match write_all(sink, text.as_slice()) {
-        Ok(()) => status,
-        Err(_) => WRITE_FAILED,
     }
 }

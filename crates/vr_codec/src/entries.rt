@@ -10,6 +10,32 @@ use of_types::{Event, Happening, OfMessage};
 use std::alloc::Global;
 use vr_log::{Entries, Entry, LOG_BYTES, LOG_ENTRIES};
 
+/// The entry that stands last in a message.
+#[tactic(auto, unfolding(crate::specs::Reading::last_entry_at))]
+pub fn read_last_entry(alloc: Global, bytes: &[u8]) -> Result<Entry, VrFault>
+    ensures { GivesVr (λ entry. entry) result (last_entry_at bytes.now) }
+{
+    let (entry, rest) = read_entry(alloc, bytes)?;
+    if rest.is_empty() {
+        Ok(entry)
+    } else {
+        Err(VrFault::Refused(VrRefusal::BadLength))
+    }
+}
+
+/// The log that stands last in a message.
+#[tactic(auto, unfolding(crate::specs::Reading::last_log_at))]
+pub fn read_last_log(alloc: Global, bytes: &[u8]) -> Result<Entries, VrFault>
+    ensures { GivesVr (λ log. log) result (last_log_at bytes.now) }
+{
+    let (log, rest) = read_log(alloc, bytes)?;
+    if rest.is_empty() {
+        Ok(log)
+    } else {
+        Err(VrFault::Refused(VrRefusal::BadLength))
+    }
+}
+
 /// The message of an event.
 #[tactic(auto, unfolding(crate::specs::Reading::event_at))]
 fn read_happening(alloc: Global, bytes: &[u8]) -> Result<Happening, VrFault>
@@ -125,30 +151,4 @@ fn read_log(alloc: Global, bytes: &[u8]) -> Result<(Entries, &[u8]), VrFault>
         return Err(VrFault::Refused(VrRefusal::BadLength));
     }
     read_entries(alloc, count, &bytes[4..])
-}
-
-/// The entry that stands last in a message.
-#[tactic(auto, unfolding(crate::specs::Reading::last_entry_at))]
-pub fn read_last_entry(alloc: Global, bytes: &[u8]) -> Result<Entry, VrFault>
-    ensures { GivesVr (λ entry. entry) result (last_entry_at bytes.now) }
-{
-    let (entry, rest) = read_entry(alloc, bytes)?;
-    if rest.is_empty() {
-        Ok(entry)
-    } else {
-        Err(VrFault::Refused(VrRefusal::BadLength))
-    }
-}
-
-/// The log that stands last in a message.
-#[tactic(auto, unfolding(crate::specs::Reading::last_log_at))]
-pub fn read_last_log(alloc: Global, bytes: &[u8]) -> Result<Entries, VrFault>
-    ensures { GivesVr (λ log. log) result (last_log_at bytes.now) }
-{
-    let (log, rest) = read_log(alloc, bytes)?;
-    if rest.is_empty() {
-        Ok(log)
-    } else {
-        Err(VrFault::Refused(VrRefusal::BadLength))
-    }
 }

@@ -10,37 +10,6 @@ use of_bytes::{u8_fits, u32_fits, u64_fits};
 use of_ravana::happening_fits;
 use vr_log::{Entry, Filled, VrMessage};
 
-fn entry_fits(entry: &Entry)
-    ensures { FitsVrEntry entry.now }
-{
-    match entry {
-        Entry::Received(event) => {
-            u8_fits(event.switch);
-            u32_fits(event.life);
-            u64_fits(event.number);
-            happening_fits(&event.what);
-        }
-        Entry::Processed(place) => u64_fits(*place),
-    }
-}
-
-fn log_fits(log: &[Entry])
-    ensures { FitsLog log.now }
-{
-    for entry in log {
-        entry_fits(entry);
-    }
-}
-
-fn filled_fits(filled: &Option<Filled>)
-    ensures { FitsFilled filled.now }
-{
-    if let Some(filled) = filled {
-        u64_fits(filled.commit);
-        log_fits(filled.log.as_slice());
-    }
-}
-
 /// Each number fits its field.
 pub fn vr_fits(message: &VrMessage)
     ensures { FitsVr message.now }
@@ -129,4 +98,35 @@ pub fn reads_back(message: &VrMessage)
     ensures again { IsValidVr message.now → vr_at (canonical_vr message.now) ≡ Ok message.now }
 {
     vr_fits(message);
+}
+
+fn entry_fits(entry: &Entry)
+    ensures { FitsVrEntry entry.now }
+{
+    match entry {
+        Entry::Received(event) => {
+            u8_fits(event.switch);
+            u32_fits(event.life);
+            u64_fits(event.number);
+            happening_fits(&event.what);
+        }
+        Entry::Processed(place) => u64_fits(*place),
+    }
+}
+
+fn log_fits(log: &[Entry])
+    ensures { FitsLog log.now }
+{
+    for entry in log {
+        entry_fits(entry);
+    }
+}
+
+fn filled_fits(filled: &Option<Filled>)
+    ensures { FitsFilled filled.now }
+{
+    if let Some(filled) = filled {
+        u64_fits(filled.commit);
+        log_fits(filled.log.as_slice());
+    }
 }

@@ -16,6 +16,33 @@ use of_bytes::{u8_at, u32_at, u64_at};
 use std::alloc::Global;
 use vr_log::{Entries, Filled, VrMessage};
 
+/// Reads a message between members of a group. The first refusal that holds is the answer, from left to
+/// right: bytes that end too early at a field; a kind that is not known; the limits of a log, on entries
+/// at its count and on bytes behind each entry; the length of an event's message, and then that message;
+/// and last, bytes that are left over.
+pub fn decode_vr(alloc: Global, bytes: &[u8]) -> Result<VrMessage, VrFault>
+    // What is read is spelled so.
+    ensures found { IfOk result (λ m. SpellsVr bytes.now m) }
+    // What is read is valid.
+    ensures valid { IfOk result (λ m. IsValidVr m) }
+    // What is spelled so is read, unless memory runs out.
+    ensures only { (m : VrMessage) → SpellsVr bytes.now m → IsVrRead m result }
+    // Which answer it is.
+    ensures exact { GivesVr (λ m. m) result (vr_at bytes.now) }
+{
+    first_answer(alloc, bytes)
+}
+
+/// Laws of these messages as bytes.
+pub fn vr_law()
+    // What is written is read again.
+    ensures again { (m : VrMessage) → IsValidVr m → FitsVr m → vr_at (canonical_vr m) ≡ Ok m }
+    // Bytes spell at most one message.
+    ensures one { (bytes : List ℕ) (m other : VrMessage) → SpellsVr bytes m → SpellsVr bytes other → m ≡ other }
+    // An entry has as many bytes as its size in a log tells.
+    ensures size { (entry : Entry) → length (canonical_entry entry) ≡ entry_size entry }
+{}
+
 #[tactic(auto, unfolding(crate::specs::Reading::prepare_at))]
 fn read_prepare(alloc: Global, bytes: &[u8]) -> Result<VrMessage, VrFault>
     ensures { GivesVr (λ m. m) result (prepare_at bytes.now) }
@@ -239,30 +266,3 @@ fn first_answer(alloc: Global, bytes: &[u8]) -> Result<VrMessage, VrFault>
     }
     read_body(alloc, u8_at(bytes, 0), bytes)
 }
-
-/// Reads a message between members of a group. The first refusal that holds is the answer, from left to
-/// right: bytes that end too early at a field; a kind that is not known; the limits of a log, on entries
-/// at its count and on bytes behind each entry; the length of an event's message, and then that message;
-/// and last, bytes that are left over.
-pub fn decode_vr(alloc: Global, bytes: &[u8]) -> Result<VrMessage, VrFault>
-    // What is read is spelled so.
-    ensures found { IfOk result (λ m. SpellsVr bytes.now m) }
-    // What is read is valid.
-    ensures valid { IfOk result (λ m. IsValidVr m) }
-    // What is spelled so is read, unless memory runs out.
-    ensures only { (m : VrMessage) → SpellsVr bytes.now m → IsVrRead m result }
-    // Which answer it is.
-    ensures exact { GivesVr (λ m. m) result (vr_at bytes.now) }
-{
-    first_answer(alloc, bytes)
-}
-
-/// Laws of these messages as bytes.
-pub fn vr_law()
-    // What is written is read again.
-    ensures again { (m : VrMessage) → IsValidVr m → FitsVr m → vr_at (canonical_vr m) ≡ Ok m }
-    // Bytes spell at most one message.
-    ensures one { (bytes : List ℕ) (m other : VrMessage) → SpellsVr bytes m → SpellsVr bytes other → m ≡ other }
-    // An entry has as many bytes as its size in a log tells.
-    ensures size { (entry : Entry) → length (canonical_entry entry) ≡ entry_size entry }
-{}

@@ -14,6 +14,31 @@ use of_types::{Event, Octets};
 use std::alloc::{AllocError, Global};
 use vr_log::{Entry, Filled, VrMessage, size_of_entry};
 
+/// The bytes of a message without an entry or a log, at most.
+const PLAIN: u64 = 14;
+
+/// The bytes of a PREPARE that stand before its entry.
+const PREPARE: u64 = 21;
+
+/// The bytes of other messages that stand before a log, at most, with those of the count.
+const LOG: u64 = 26;
+
+/// The bytes of a message between members of a group. Counts and lengths stand in four bytes; of greater
+/// ones their lowest four bytes stand there.
+#[tactic(auto, using(crate::proofs::Written::vr_length))]
+pub fn encode_vr(alloc: Global, message: &VrMessage) -> Result<Octets, AllocError>
+    ensures bytes { IfOk result (λ bytes. bytes ≡ canonical_vr message.now) }
+    // Those of a valid message spell it.
+    ensures spelled { IsValidVr message.now → SpellsVr (canonical_vr message.now) message.now }
+    // They are as many as its size tells.
+    ensures size { length (canonical_vr message.now) ≡ vr_size message.now }
+{
+    reads_back(message);
+    let mut out = with_room(alloc, room_of(message) as usize)?;
+    write_vr(&mut out, message)?;
+    Ok(out)
+}
+
 /// The lowest four bytes of a length.
 #[tactic(auto, unfolding(of_bytes::specs::Numbers::four))]
 fn length_bytes(len: usize) -> [u8; 4]
@@ -278,15 +303,6 @@ fn size_of_entries(log: &[Entry]) -> u64 {
     size
 }
 
-/// The bytes of a message without an entry or a log, at most.
-const PLAIN: u64 = 14;
-
-/// The bytes of a PREPARE that stand before its entry.
-const PREPARE: u64 = 21;
-
-/// The bytes of other messages that stand before a log, at most, with those of the count.
-const LOG: u64 = 26;
-
 /// How many bytes a message takes, or a few more.
 fn room_of(message: &VrMessage) -> u64 {
     match message {
@@ -301,20 +317,4 @@ fn room_of(message: &VrMessage) -> u64 {
         } => size_of_entries(filled.log.as_slice()).saturating_add(LOG),
         _ => PLAIN,
     }
-}
-
-/// The bytes of a message between members of a group. Counts and lengths stand in four bytes; of greater
-/// ones their lowest four bytes stand there.
-#[tactic(auto, using(crate::proofs::Written::vr_length))]
-pub fn encode_vr(alloc: Global, message: &VrMessage) -> Result<Octets, AllocError>
-    ensures bytes { IfOk result (λ bytes. bytes ≡ canonical_vr message.now) }
-    // Those of a valid message spell it.
-    ensures spelled { IsValidVr message.now → SpellsVr (canonical_vr message.now) message.now }
-    // They are as many as its size tells.
-    ensures size { length (canonical_vr message.now) ≡ vr_size message.now }
-{
-    reads_back(message);
-    let mut out = with_room(alloc, room_of(message) as usize)?;
-    write_vr(&mut out, message)?;
-    Ok(out)
 }

@@ -13,6 +13,19 @@ use vr_log::{VrMessage, VrOut, VrState};
 use vr_normal::{on_commit, on_prepare, on_prepare_ok, tick};
 use vr_recovery::{on_get_state, on_new_state, on_recovery, on_response};
 
+/// The step of an input. After an `Err` the state is to be dropped.
+pub(crate) fn take(state: &mut VrState, input: &VrInput, out: &mut VrOut) -> Result<(), AllocError>
+    requires { IsValidState state.old }
+    ensures step { OnOk result (Did (vr_step state.old input.now) state.new out.old out.new) }
+    ensures valid { OnOk result (IsValidState state.new) }
+{
+    match input {
+        VrInput::From { from, message } => on_message(state, *from, message, out),
+        VrInput::Suspect { view } => suspect(state, *view, out),
+        VrInput::Tick => tick(state, out),
+    }
+}
+
 /// A message of another member.
 fn on_message(
     state: &mut VrState,
@@ -37,18 +50,5 @@ fn on_message(
         VrMessage::NewState { .. } => on_new_state(state, from, message, out),
         VrMessage::Fetch { .. } => on_fetch(state, from, message, out),
         VrMessage::Supply { .. } => on_supply(state, from, message, out),
-    }
-}
-
-/// The step of an input. After an `Err` the state is to be dropped.
-pub(crate) fn take(state: &mut VrState, input: &VrInput, out: &mut VrOut) -> Result<(), AllocError>
-    requires { IsValidState state.old }
-    ensures step { OnOk result (Did (vr_step state.old input.now) state.new out.old out.new) }
-    ensures valid { OnOk result (IsValidState state.new) }
-{
-    match input {
-        VrInput::From { from, message } => on_message(state, *from, message, out),
-        VrInput::Suspect { view } => suspect(state, *view, out),
-        VrInput::Tick => tick(state, out),
     }
 }

@@ -7,27 +7,6 @@ use crate::message::VrMessage;
 use crate::state::{Collected, VrOut, VrState};
 use std::alloc::AllocError;
 
-fn length_of(log: &Collected) -> u128
-    ensures { result ≡ length_of log.now }
-{
-    u128::from(log.commit) + log.log.len() as u128
-}
-
-fn is_better(a: &Collected, b: &Collected) -> bool
-    ensures { result ≡ is_better a.now b.now }
-{
-    if a.normal == b.normal {
-        let (long, short) = (length_of(a), length_of(b));
-        if long == short {
-            a.from < b.from
-        } else {
-            short < long
-        }
-    } else {
-        b.normal < a.normal
-    }
-}
-
 /// The best of some collected logs, of which this is the first.
 pub fn best_of<'a>(first: &'a Collected, rest: &'a [Collected]) -> &'a Collected
     ensures { result.now ≡ best_of first.now rest.now }
@@ -102,5 +81,26 @@ impl VrState {
         } else {
             self.fetch_from(best, out)
         }
+    }
+}
+
+fn length_of(log: &Collected) -> u128
+    ensures { result ≡ length_of log.now }
+{
+    u128::from(log.commit) + log.log.len() as u128
+}
+
+fn is_better(a: &Collected, b: &Collected) -> bool
+    ensures { result ≡ is_better a.now b.now }
+{
+    if a.normal == b.normal {
+        let (long, short) = (length_of(a), length_of(b));
+        if long == short {
+            a.from < b.from
+        } else {
+            short < long
+        }
+    } else {
+        b.normal < a.normal
     }
 }

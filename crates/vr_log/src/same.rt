@@ -5,6 +5,34 @@ ghost use Rattle.vr_log.specs.Same as same;
 use crate::entry::Entry;
 use of_types::{Event, FlowRemoved, Happening, PacketIn, PortStatus, same_match};
 
+/// Whether two events are equal.
+pub fn same_event(a: &Event, b: &Event) -> bool
+    ensures { result ≡ same.same_event a.now b.now }
+{
+    a.switch == b.switch
+        && a.life == b.life
+        && a.number == b.number
+        && same_happening(&a.what, &b.what)
+}
+
+/// Whether two entries are equal.
+#[tactic(auto, using(crate::proofs::Equal::entry_decides))]
+pub fn same_entry(a: &Entry, b: &Entry) -> bool
+    ensures exact { result ≡ same.same_entry a.now b.now }
+    ensures equal { IsTrue result ↔ (a.now ≡ b.now) }
+{
+    is_same(a, b)
+}
+
+/// Whether two lists of entries are equal.
+#[tactic(auto, using(crate::proofs::Equal::entries_decide))]
+pub fn same_entries(a: &[Entry], b: &[Entry]) -> bool
+    ensures exact { result ≡ same.same_entries a.now b.now }
+    ensures equal { IsTrue result ↔ (a.now ≡ b.now) }
+{
+    are_same(a, b)
+}
+
 fn same_bytes(a: &[u8], b: &[u8]) -> bool
     ensures { result ≡ same.same_numbers a.now b.now }
 {
@@ -51,16 +79,6 @@ fn same_happening(a: &Happening, b: &Happening) -> bool
     }
 }
 
-/// Whether two events are equal.
-pub fn same_event(a: &Event, b: &Event) -> bool
-    ensures { result ≡ same.same_event a.now b.now }
-{
-    a.switch == b.switch
-        && a.life == b.life
-        && a.number == b.number
-        && same_happening(&a.what, &b.what)
-}
-
 fn is_same(a: &Entry, b: &Entry) -> bool
     ensures { result ≡ same.same_entry a.now b.now }
 {
@@ -69,15 +87,6 @@ fn is_same(a: &Entry, b: &Entry) -> bool
         (Entry::Processed(i), Entry::Processed(j)) => i == j,
         _ => false,
     }
-}
-
-/// Whether two entries are equal.
-#[tactic(auto, using(crate::proofs::Equal::entry_decides))]
-pub fn same_entry(a: &Entry, b: &Entry) -> bool
-    ensures exact { result ≡ same.same_entry a.now b.now }
-    ensures equal { IsTrue result ↔ (a.now ≡ b.now) }
-{
-    is_same(a, b)
 }
 
 fn are_same(a: &[Entry], b: &[Entry]) -> bool
@@ -96,13 +105,4 @@ fn are_same(a: &[Entry], b: &[Entry]) -> bool
         right = ys;
     }
     right.is_empty()
-}
-
-/// Whether two lists of entries are equal.
-#[tactic(auto, using(crate::proofs::Equal::entries_decide))]
-pub fn same_entries(a: &[Entry], b: &[Entry]) -> bool
-    ensures exact { result ≡ same.same_entries a.now b.now }
-    ensures equal { IsTrue result ↔ (a.now ≡ b.now) }
-{
-    are_same(a, b)
 }

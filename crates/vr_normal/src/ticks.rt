@@ -11,6 +11,26 @@ use vr_log::{Entry, Status, VrMessage, VrOut, VrState};
 /// How many entries are sent again at once.
 const MOST_REPEATED: usize = 8;
 
+/// Sends again what may have been lost. The state stays. After an `Err` it is to be dropped.
+pub fn tick(state: &mut VrState, out: &mut VrOut) -> Result<(), AllocError>
+    requires { IsValidState state.old }
+    ensures step { OnOk result (Did (ticked state.old) state.new out.old out.new) }
+    ensures valid { IsValidState state.new }
+{
+    match state.status {
+        Status::Normal => {
+            if state.is_primary() {
+                tick_as_primary(state, out)
+            } else {
+                Ok(())
+            }
+        }
+        Status::ViewChange => tick_as_changing(state, out),
+        Status::Recovering => tick_as_recovering(state, out),
+        Status::Down => Ok(()),
+    }
+}
+
 /// Entries again for one member, the first of them with this op.
 fn repeat_entries(
     state: &VrState,
@@ -115,24 +135,4 @@ fn tick_as_recovering(state: &VrState, out: &mut VrOut) -> Result<(), AllocError
     out.tell_others(state.me, state.controllers, &message)?;
     drop(message);
     Ok(())
-}
-
-/// Sends again what may have been lost. The state stays. After an `Err` it is to be dropped.
-pub fn tick(state: &mut VrState, out: &mut VrOut) -> Result<(), AllocError>
-    requires { IsValidState state.old }
-    ensures step { OnOk result (Did (ticked state.old) state.new out.old out.new) }
-    ensures valid { IsValidState state.new }
-{
-    match state.status {
-        Status::Normal => {
-            if state.is_primary() {
-                tick_as_primary(state, out)
-            } else {
-                Ok(())
-            }
-        }
-        Status::ViewChange => tick_as_changing(state, out),
-        Status::Recovering => tick_as_recovering(state, out),
-        Status::Down => Ok(()),
-    }
 }

@@ -18,40 +18,6 @@ use players::typed_turn;
 use std::alloc::{AllocError, Global};
 use vr_log::Status;
 
-/// Applications in order, turned round: the next one is the last.
-fn shelf_of<A: App>(alloc: Global, lives: Vec<A>) -> Result<Vec<A>, AllocError>
-    ensures long { IfOk result (λ shelf. length shelf.items ≡ length lives.items) }
-    ensures alike { ForEachKinds (λ kinds. AreAlike A.law kinds lives.items)
-        (λ kinds. IfOk result (λ shelf. AreAlike A.law kinds shelf.items)) }
-{
-    let mut lives = lives;
-    let mut shelf = Vec::new(alloc);
-    'lives: while let Some(life) = lives.pop() {
-        shelf.push(life)?;
-    }
-    Ok(shelf)
-}
-
-/// The controller of a number as its group starts, with the applications of its lives in order.
-fn controller_of<A: App>(
-    alloc: Global,
-    number: u8,
-    setup: &Setup,
-    lives: Vec<A>,
-) -> Result<Controller<A>, AllocError>
-    requires setup { IsSetup setup.now }
-    requires member { number < setup.now.controllers }
-    requires stocked { (kinds : List ℕ) × IsStocked A.law kinds lives.items }
-    ensures { ForEachKinds (λ kinds. IsStocked A.law kinds lives.items)
-        (λ kinds. IfOk result (IsNew A.law setup.now kinds number)) }
-{
-    let mut shelf = shelf_of(alloc, lives)?;
-    match shelf.pop() {
-        Some(first) => Controller::new(alloc, number, setup, first, shelf),
-        None => unreachable!(),
-    }
-}
-
 /// The controllers of a group as it starts, each with the applications of its lives.
 pub fn controllers_of<A: App>(
     alloc: Global,
@@ -91,11 +57,6 @@ pub fn takes_part<A: App>(controller: &Controller<A>) -> bool
 {
     matches!(controller.status(), Status::Normal | Status::ViewChange)
 }
-
-/// Bytes have eight bits.
-fn are_bytes(bytes: &[u8])
-    ensures { AllByRecursion (λ b. b < 2 ^ 8) bytes.now }
-{}
 
 /// The numbers of a local input fit their types.
 pub fn fits_types(input: &Local)
@@ -146,3 +107,42 @@ pub fn controller_takes<A: App, W: Stable>(
         input,
     )
 }
+
+/// Applications in order, turned round: the next one is the last.
+fn shelf_of<A: App>(alloc: Global, lives: Vec<A>) -> Result<Vec<A>, AllocError>
+    ensures long { IfOk result (λ shelf. length shelf.items ≡ length lives.items) }
+    ensures alike { ForEachKinds (λ kinds. AreAlike A.law kinds lives.items)
+        (λ kinds. IfOk result (λ shelf. AreAlike A.law kinds shelf.items)) }
+{
+    let mut lives = lives;
+    let mut shelf = Vec::new(alloc);
+    'lives: while let Some(life) = lives.pop() {
+        shelf.push(life)?;
+    }
+    Ok(shelf)
+}
+
+/// The controller of a number as its group starts, with the applications of its lives in order.
+fn controller_of<A: App>(
+    alloc: Global,
+    number: u8,
+    setup: &Setup,
+    lives: Vec<A>,
+) -> Result<Controller<A>, AllocError>
+    requires setup { IsSetup setup.now }
+    requires member { number < setup.now.controllers }
+    requires stocked { (kinds : List ℕ) × IsStocked A.law kinds lives.items }
+    ensures { ForEachKinds (λ kinds. IsStocked A.law kinds lives.items)
+        (λ kinds. IfOk result (IsNew A.law setup.now kinds number)) }
+{
+    let mut shelf = shelf_of(alloc, lives)?;
+    match shelf.pop() {
+        Some(first) => Controller::new(alloc, number, setup, first, shelf),
+        None => unreachable!(),
+    }
+}
+
+/// Bytes have eight bits.
+fn are_bytes(bytes: &[u8])
+    ensures { AllByRecursion (λ b. b < 2 ^ 8) bytes.now }
+{}

@@ -10,6 +10,32 @@ use byte_bodies::Bytes;
 use world::World;
 use std::alloc::{AllocError, Global};
 
+/// How many events, executed commands and rows are told of the switches.
+pub fn told_counts<A: App>(world: &World<Bytes, A>) -> Result<(u128, u128, u128), AllocError>
+    ensures events { IfOk result (λ counts. counts.0 ≡ sum_by (λ t. length t.events) (map shows.told_of world.now.switches)) }
+    ensures executed { IfOk result (λ counts. counts.1 ≡ sum_by (λ t. length t.executed) (map shows.told_of world.now.switches)) }
+    ensures rows { IfOk result (λ counts. counts.2 ≡ sum_by (λ t. length t.rows) (map shows.told_of world.now.switches)) }
+{
+    let (mut events, mut executed, mut rows) = (0u128, 0u128, 0u128);
+    for switch in world.switches() {
+        events += switch.events().len() as u128;
+        executed += switch.executed().len() as u128;
+        rows += switch.rows()?.len() as u128;
+    }
+    Ok((events, executed, rows))
+}
+
+/// What is told of each switch, by number.
+pub fn told_all<A: App>(alloc: Global, world: &World<Bytes, A>) -> Result<Items<SwitchRecord>, AllocError>
+    ensures { IfOk result (λ told. told ≡ map shows.told_of world.now.switches) }
+{
+    let mut told = Items::from_vec(Vec::with_capacity(alloc, world.switches().len())?);
+    for switch in world.switches() {
+        told.push(told_of(alloc, switch)?)?;
+    }
+    Ok(told)
+}
+
 /// A row without its cookie.
 fn shown_row(row: Row) -> RowRecord
     ensures { result ≡ shows.shown_row row }
@@ -48,30 +74,4 @@ fn told_of(alloc: Global, switch: &Switch) -> Result<SwitchRecord, AllocError>
         executed,
         rows,
     })
-}
-
-/// How many events, executed commands and rows are told of the switches.
-pub fn told_counts<A: App>(world: &World<Bytes, A>) -> Result<(u128, u128, u128), AllocError>
-    ensures events { IfOk result (λ counts. counts.0 ≡ sum_by (λ t. length t.events) (map shows.told_of world.now.switches)) }
-    ensures executed { IfOk result (λ counts. counts.1 ≡ sum_by (λ t. length t.executed) (map shows.told_of world.now.switches)) }
-    ensures rows { IfOk result (λ counts. counts.2 ≡ sum_by (λ t. length t.rows) (map shows.told_of world.now.switches)) }
-{
-    let (mut events, mut executed, mut rows) = (0u128, 0u128, 0u128);
-    for switch in world.switches() {
-        events += switch.events().len() as u128;
-        executed += switch.executed().len() as u128;
-        rows += switch.rows()?.len() as u128;
-    }
-    Ok((events, executed, rows))
-}
-
-/// What is told of each switch, by number.
-pub fn told_all<A: App>(alloc: Global, world: &World<Bytes, A>) -> Result<Items<SwitchRecord>, AllocError>
-    ensures { IfOk result (λ told. told ≡ map shows.told_of world.now.switches) }
-{
-    let mut told = Items::from_vec(Vec::with_capacity(alloc, world.switches().len())?);
-    for switch in world.switches() {
-        told.push(told_of(alloc, switch)?)?;
-    }
-    Ok(told)
 }

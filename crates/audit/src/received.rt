@@ -13,7 +13,9 @@ use vr_log::{Entry, same_event};
 /// The received events of a log in order, and where each stands by its name.
 #[derive(Drop)]
 pub struct Received {
+    /// In the order of the log.
     events: Vec<Event>,
+    /// Where each event stands among them, by its name.
     places: Named<usize>,
 }
 

@@ -28,7 +28,9 @@ pub enum Offer {
 /// How many commands were carried out, and the latest of their results.
 #[derive(Drop)]
 pub struct CommandBuffer {
+    /// How many commands were carried out.
     executed: u64,
+    /// The results of the latest of them, the oldest first.
     outcomes: HeapCircularBuffer<Outcome>,
 }
 

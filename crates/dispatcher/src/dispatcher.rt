@@ -31,9 +31,13 @@ use vr_log::{Entry, Log};
 #[derive(Drop)]
 pub struct Dispatcher<A> {
     alloc: Global,
+    /// It has taken the events of the committed log, each once and in order.
     app: A,
+    /// How many switches the setup has.
     switches: u8,
+    /// What is kept of the committed log.
     ledger: Ledger,
+    /// What came from switches in this view.
     marks: ViewMarks,
 }
 

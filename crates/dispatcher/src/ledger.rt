@@ -24,10 +24,15 @@ use std::collections::VecDeque;
 #[derive(Drop)]
 pub(crate) struct Ledger {
     alloc: Global,
+    /// The present life of each switch.
     lives: Lives,
+    /// What is counted of each life of each switch.
     counts: LifeCounts,
+    /// The events that are received and not processed, in the order of the log, with their commands.
     pending: VecDeque<HandledEvent>,
+    /// How many events are processed.
     processed: u64,
+    /// How many commands of pending events are not settled.
     unsettled: usize,
 }
 

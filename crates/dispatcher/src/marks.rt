@@ -12,7 +12,9 @@ use std::marker::Model;
 /// came, by switch, life and number.
 #[derive(Drop)]
 pub(crate) struct ViewMarks {
+    /// The switches that took this controller as master.
     confirmed: SmallSet,
+    /// The commands of which results came, by switch, life and number.
     acked: IndexSet<(u8, u32, u64)>,
 }
 

@@ -17,10 +17,15 @@ pub struct Full;
 /// The events of one life of a switch that wait to be processed, and the ports whose change found no room.
 #[derive(Drop)]
 pub struct EventBuffer {
+    /// Whose events they are.
     switch: u8,
+    /// The life that makes them.
     life: u32,
+    /// How many events of this life have left the buffer. The first that it holds has this number.
     cleared: u64,
+    /// The events that wait, without a gap in their numbers.
     held: Vec<Event>,
+    /// The ports whose change found no room.
     dirty: SmallSet,
 }
 

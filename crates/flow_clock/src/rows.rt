@@ -20,8 +20,11 @@ use std::marker::Model;
 #[derive(Drop)]
 pub struct TimedRows<R: Rows> {
     alloc: Global,
+    /// The rows, in whatever way they are kept.
     rows: R,
+    /// Of each row that has a timeout, by its match and priority, its times and counts.
     times: BTreeMap<Key, Times>,
+    /// How many ticks there were.
     clock: u64,
 }
 

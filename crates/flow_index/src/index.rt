@@ -15,7 +15,9 @@ use std::marker::Model;
 #[derive(Drop)]
 pub struct FlowIndex {
     alloc: Global,
+    /// Each row at its place, which is made of it and of its number.
     rows: BTreeMap<Place, Row>,
+    /// The number of the next row. That of each row is below.
     next: u64,
 }
 

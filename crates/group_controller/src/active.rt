@@ -35,11 +35,17 @@ use vr_normal::ProposeFault;
 /// this view, and of its turn: the proposal that met the log's limit, the promise that is to be saved before anything is
 /// posted, and what is then posted. At want of memory it is to be dropped.
 pub(crate) struct Active<A> {
+    /// The member of the group.
     pub(crate) replica: Replica,
+    /// It stands for the committed log of the member.
     dispatcher: Dispatcher<A>,
+    /// The place of the event whose commands were last sent in this view.
     last_told: Option<u64>,
+    /// The log's limit that a proposal of this turn met.
     pub(crate) full: Option<LogFull>,
+    /// What this turn has to save before anything is posted.
     pub(crate) promise: Option<u32>,
+    /// What this turn posts.
     letters: Letters<ControllerSays>,
 }
 

@@ -24,13 +24,18 @@ use vr_log::{Log, LogFull, Status};
 /// stable pair alone.
 pub struct Controller<A> {
     alloc: Global,
+    /// Its number in the group.
     me: u8,
     setup: Setup,
     /// Boxed, since it takes almost two thousand bytes, and each turn hands it on by value four times.
     active: Option<Box<Active<A>>>,
+    /// The promise of its stable pair: it takes part in no view below.
     promise: u32,
+    /// How often it has started, as its stable pair has it.
     life: u64,
+    /// The applications of its later lives, the next one last.
     shelf: Vec<A>,
+    /// What each save came to, the first one first.
     results: Vec<SaveResult>,
 }
 

@@ -28,9 +28,13 @@ pub struct Ready {
 /// waits. Bodies stand in the journal alone.
 #[derive(Drop)]
 pub struct Ledger<B> {
+    /// The journal, the oldest entry first.
     pub entries: Vec<JournalEntry<B>>,
+    /// The packets that wait, by the place of their bodies in the journal.
     pub queues: Queues,
+    /// The letters that the entries post, and the bytes of their bodies.
     pub posted: Sums,
+    /// The packets that wait, and the bytes of their bodies.
     pub waiting: Sums,
 }
 

@@ -146,7 +146,9 @@ impl Row {
 /// The packets that wait for each actor, by number.
 #[derive(Drop)]
 pub struct Queues {
+    /// A queue for each controller, by number.
     controllers: Row,
+    /// A queue for each switch, by number.
     switches: Row,
 }
 

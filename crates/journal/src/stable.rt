@@ -18,10 +18,15 @@ pub struct FailingSave {
 /// A stable pair in memory, which contracts see with its faults and its saves.
 #[derive(Drop)]
 pub struct MemoryStable {
+    /// The pair that stands.
     promise: u64,
+    /// The pair that stands.
     life: u64,
+    /// How many saves have failed.
     faults: u64,
+    /// Which saves fail, and how.
     failing: Vec<FailingSave>,
+    /// How many saves were made.
     made: u64,
 }
 

@@ -18,7 +18,9 @@ const VERSION: u8 = 4;
 /// and not yet lent.
 #[derive(Drop)]
 pub struct Framer {
+    /// The bytes that were fed, and of which some may have been lent.
     bytes: Vec<u8>,
+    /// How many of the first bytes were lent with the last message.
     lent: usize,
 }
 

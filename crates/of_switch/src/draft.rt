@@ -23,14 +23,23 @@ pub const WINDOW: usize = 8;
 /// What a turn is to add to a switch: events, frames sent out, and letters.
 #[derive(Drop)]
 pub struct Draft {
+    /// Whose turn it is.
     switch: u8,
+    /// The life of the switch.
     life: u32,
+    /// To whom events are told.
     master: Option<u8>,
+    /// How many events of this life have left the buffer.
     cleared: u64,
+    /// How many events the buffer will hold, those that the turn raised with them.
     held: usize,
+    /// The events that the turn raised, by number.
     raised: Vec<Event>,
+    /// What these tell, as the buffer takes it.
     joining: Vec<Happening>,
+    /// How many frames the turn sends out.
     sent: u64,
+    /// What the turn says.
     letters: Vec<Letter<SwitchSays>>,
 }
 

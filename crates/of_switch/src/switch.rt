@@ -30,16 +30,27 @@ type Table = TimedRows<FlowIndex>;
 #[derive(Drop)]
 pub struct Switch {
     alloc: Global,
+    /// How many controllers the setup has.
     controllers: u8,
+    /// The links of the setup of which an end is here.
     links: Items<Link>,
+    /// Of each port whether it is down, the first port first.
     down: Vec<bool>,
+    /// How many frames it sent out.
     sent: u64,
+    /// The events of this life that wait to be processed.
     buffer: EventBuffer,
+    /// How many commands of this life were carried out, and their latest results.
     results: CommandBuffer,
+    /// The flow table.
     table: Table,
+    /// Which controller may command.
     fence: RoleFence,
+    /// The events of all lives that were made, in order.
     events: Vec<Event>,
+    /// The commands of all lives that were carried out, in order.
     executed: Vec<Executed>,
+    /// Of each life that is over, how many events had left the buffer.
     ended: Vec<u64>,
 }
 

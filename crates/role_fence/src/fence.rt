@@ -20,8 +20,11 @@ pub enum RoleAnswer {
 /// sender is equal. It takes no memory.
 #[derive(Drop)]
 pub struct RoleFence {
+    /// The greatest generation that was accepted.
     generation: Option<u64>,
+    /// The one controller that is master.
     master: Option<u8>,
+    /// Who is a slave.
     slaves: SmallSet,
 }
 

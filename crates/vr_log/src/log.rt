@@ -18,7 +18,9 @@ pub const LOG_BYTES: u64 = 4_194_304;
 /// those before it.
 #[derive(Drop)]
 pub struct Log {
+    /// Each may follow those before it.
     entries: Vec<Entry>,
+    /// What is counted of the entries.
     tally: Tally,
 }
 

@@ -37,9 +37,13 @@ use std::marker::Model;
 pub struct World<B: Body, A> {
     alloc: Global,
     setup: Setup,
+    /// The journal, and the packets that wait.
     wire: Wire<B>,
+    /// By number, as many as the setup has.
     controllers: Vec<Controller<A>>,
+    /// By number, as many as the setup has.
     switches: Vec<Switch>,
+    /// What the actor of the newest input has still to post.
     outbox: Option<Outbox>,
 }
 

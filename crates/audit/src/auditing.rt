@@ -11,10 +11,10 @@ use crate::log_lines::first_of_log;
 use crate::received::events_of;
 use crate::switch_lines::{Committed, first_of_switches};
 use app_core::App;
-use of_types::Octets;
-use report::{Record, ReportFault, read_report};
 use journal::JournalEntry;
+use of_types::Octets;
 use plain_controller::Single;
+use report::{Record, ReportFault, read_report};
 use std::alloc::{AllocError, Global};
 
 /// What an audit finds.

@@ -55,7 +55,11 @@ fn event_fails(left: u64, told: &SwitchRecord, line: &Event, committed: &Committ
 }
 
 /// The first event line that fails. They are numbered from this line on.
-fn first_of_events(line: u64, told: &SwitchRecord, committed: &Committed) -> Result<Option<u64>, AllocError>
+fn first_of_events(
+    line: u64,
+    told: &SwitchRecord,
+    committed: &Committed,
+) -> Result<Option<u64>, AllocError>
     ensures { IfOk result (λ first. first ≡ first_failing line (events_fail_by committed.now told.now.life told.now.held told.now.events)) }
 {
     let mut left = count_of_life(told.life, told.events.as_slice());
@@ -119,7 +123,12 @@ fn first_of_switch(
 }
 
 /// The line behind those of a switch.
-fn behind(line: u64, switch: usize, told: &SwitchRecord, committed: &Committed) -> Result<u64, AllocError>
+fn behind(
+    line: u64,
+    switch: usize,
+    told: &SwitchRecord,
+    committed: &Committed,
+) -> Result<u64, AllocError>
     ensures { IfOk result (λ next. next ≡ line + length (told_fails_by committed.now switch told.now)) }
 {
     let events = add(line, 1)?;

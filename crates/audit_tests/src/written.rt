@@ -1,7 +1,7 @@
 //! Reports as they are written to a sink.
 use crate::reports::NOTHING;
-use report::{read_report, write_report};
 use journal::MemorySink;
+use report::{read_report, write_report};
 use std::alloc::{AllocError, Global};
 use streams::StreamFault;
 

@@ -1,7 +1,7 @@
 //! Bodies on their ways. The answers follow from the rules of reading, by hand; the good ones are vectors.
 
-use of_types::Octets;
 use byte_bodies::Bytes;
+use of_types::Octets;
 use players::{Body, seal};
 use run_spec::{Message, Unsealed, Way};
 use std::alloc::{AllocError, Global};

@@ -5,10 +5,10 @@ ghost use Rattle.run_spec.specs.Bodies.{byte_bodies};
 ghost use Rattle.run_spec.proofs.Bodies.{bytes_again};
 
 use crate::reading::{read_frame, read_spoken, read_vr};
+use journal::Weight;
 use of_bytes::four;
 use of_ravana::canonical;
 use of_types::{Octets, Spoken};
-use journal::Weight;
 use players::Body;
 use run_spec::{Unsealed, Way};
 use std::alloc::{AllocError, Global};

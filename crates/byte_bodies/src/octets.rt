@@ -2,8 +2,8 @@
 ghost use Rattle.std.specs.Prelude.{◌≡◌, IfOk};
 
 use crate::bytes::Bytes;
-use of_types::{Items, Octets};
 use journal::{Journal, JournalEntry, Letter, Letters};
+use of_types::{Items, Octets};
 use std::alloc::{AllocError, Global};
 
 /// The same journal, each body as its bytes, which are moved.

@@ -6,9 +6,9 @@ ghost use Rattle.journal.specs.Pool.{past};
 ghost use Rattle.capture_laws.specs.Fates.{comment_of, fate, fate_or_none, kept_times as told_times, kept_words as told_kept, lost_words as told_lost, noted, roomless_words};
 
 use capture_laws::Fate;
+use journal::JournalEntry;
 use of_types::Octets;
 use report::{write_number, write_word};
-use journal::JournalEntry;
 use std::alloc::{AllocError, Global};
 use std::collections::BTreeMap;
 

@@ -3,9 +3,9 @@ ghost use Rattle.std.specs.Prelude.{◌≡◌, ◌<◌, ◌≤◌, ◌+◌, ◌*
 ghost use Rattle.capture_laws.specs.Frames as frames;
 
 use capture_laws::Way;
+use journal::Actor;
 use of_bytes::{Front, four, long_length, six, two};
 use of_types::Octets;
-use journal::Actor;
 use std::alloc::{AllocError, Global};
 
 /// What the head of a segment tells.

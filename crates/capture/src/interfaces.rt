@@ -4,9 +4,9 @@ ghost use Rattle.capture_laws.specs.Interfaces.{interface_of as number_of, inter
 
 use crate::blocks::write_interface;
 use capture_laws::{Captured, Port, Way};
+use journal::Actor;
 use of_types::{Items, Octets};
 use report::write_digits;
-use journal::Actor;
 use std::alloc::{AllocError, Global};
 
 /// The ports of packets, in the order of their first ones.

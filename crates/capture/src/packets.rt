@@ -9,9 +9,9 @@ ghost use Rattle.capture.specs.Tapes.{IsTape};
 use crate::fates::{comment, fates};
 use crate::tapes::{Heading, Tape, add_body};
 use capture_laws::{Captured, Fate, Piece, Port, Way};
+use journal::{Actor, JournalEntry, Letter, Local};
 use of_bytes::u32_at;
 use of_types::{Items, Octets};
-use journal::{Actor, JournalEntry, Letter, Local};
 use std::alloc::{AllocError, Global};
 use std::collections::BTreeMap;
 

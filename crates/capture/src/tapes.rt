@@ -7,8 +7,8 @@ ghost use Rattle.capture_laws.specs.Streams.{segment, with_body};
 ghost use Rattle.capture.specs.Tapes.{IsTape, next_behind, next_tape};
 
 use capture_laws::{Captured, Piece, Way};
-use of_types::{Items, Octets};
 use journal::Actor;
+use of_types::{Items, Octets};
 use std::alloc::{AllocError, Global};
 use std::collections::BTreeMap;
 

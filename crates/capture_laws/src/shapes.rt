@@ -1,8 +1,8 @@
 //! What a capture holds.
 ghost use Rattle.std.specs.Prelude.{◌≡◌};
 
-use of_types::Octets;
 use journal::Actor;
+use of_types::Octets;
 use std::marker::Model;
 
 /// A packet of a capture. Its time is the number of a journal's entry, from 1 on.

@@ -1,7 +1,7 @@
 //! A call of the program, and its answer.
 
-use of_types::Octets;
 use journal::FailingSave;
+use of_types::Octets;
 use std::alloc::{AllocError, Global};
 
 /// A save that fails, and its controller.

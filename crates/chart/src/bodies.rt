@@ -6,11 +6,11 @@ ghost use Rattle.vr_codec.specs.Reading.{vr_at};
 ghost use Rattle.chart.specs.Carried.{carried_by, carried_extension, carried_frame, member_said, message_said};
 
 use crate::shapes::Carried;
+use journal::Actor;
 use of_bytes::u32_at;
 use of_messages::{OfFault, decode};
 use of_ravana::decode_extension;
 use of_types::{OfMessage, Spoken};
-use journal::Actor;
 use std::alloc::{AllocError, Global};
 use vr_codec::{VrFault, decode_vr};
 

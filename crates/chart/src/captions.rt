@@ -2,9 +2,9 @@
 
 use crate::shapes::Carried;
 use app_core::asked_by;
+use journal::{Actor, Local};
 use of_types::{EQUAL, Extension, MASTER, NO_CHANGE, Octets, OfMessage, Outcome, SLAVE, Spoken};
 use report::write_number;
-use journal::{Actor, Local};
 use std::alloc::AllocError;
 use vr_log::VrMessage;
 

@@ -7,9 +7,9 @@ ghost use Rattle.chart.specs.Arrows.{IsArrow, arrows as arrows_of, before_of, sh
 use crate::marks::{Marks, Seen};
 use crate::packets::arrows;
 use crate::shapes::{Arrow, Band, Drawing, Logged, Note, Window};
+use journal::JournalEntry;
 use of_types::Octets;
 use report::Record;
-use journal::JournalEntry;
 use std::alloc::{AllocError, Global};
 
 /// What is marked beside the arrows.

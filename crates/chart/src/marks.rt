@@ -4,9 +4,9 @@ use crate::bodies::carried;
 use crate::captions::{input_words, named};
 use crate::lifelines::Lifelines;
 use crate::shapes::{Carried, Standing};
+use journal::{Actor, JournalEntry, Letter, Local};
 use of_types::{Extension, MASTER, Octets, OfMessage, Spoken};
 use report::{Record, SwitchRecord, write_number};
-use journal::{Actor, JournalEntry, Letter, Local};
 use std::alloc::{AllocError, Global};
 use vr_log::Entry;
 

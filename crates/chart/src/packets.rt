@@ -9,8 +9,8 @@ ghost use Rattle.chart.specs.Arrows.{arrow_of, arrow_to as arrow_in, arrows as a
 
 use crate::bodies::carried;
 use crate::shapes::{Arrow, End};
-use of_types::{Items, Octets};
 use journal::{Actor, JournalEntry, Letter};
+use of_types::{Items, Octets};
 use std::alloc::{AllocError, Global};
 use std::collections::BTreeMap;
 

@@ -3,9 +3,9 @@ ghost use Rattle.std.specs.Prelude.{◌≤◌, ◌^◌};
 
 use crate::captions::{caption, counted, named};
 use crate::shapes::{Arrow, Band, Carried, Drawing, End, Life, Logged, Note, Standing};
+use journal::Actor;
 use of_types::Octets;
 use report::{write_actor, write_digits, write_number};
-use journal::Actor;
 use std::alloc::{AllocError, Global};
 
 /// Where the name of a view begins, where the number of an entry ends, and where the column of the log begins.

@@ -1,7 +1,7 @@
 //! What is drawn. A place counts the entries that are shown, from 0.
 
-use of_types::{Items, Octets, Spoken};
 use journal::Actor;
+use of_types::{Items, Octets, Spoken};
 use vr_log::VrMessage;
 
 /// Which entries of a journal are shown, counted from 1: both ends are shown, as far as they are there.

@@ -11,8 +11,8 @@ use app_core::App;
 use closing_quorum::first_view;
 use group_controller::Controller;
 use players::Body;
-use world::{World, takes_part};
 use std::alloc::{AllocError, Global};
+use world::{World, takes_part};
 
 /// The controllers that take part, by number.
 pub fn members_up<B: Body, A: App>(

@@ -8,15 +8,15 @@ ghost use Rattle.closing_laws.specs.Quorum.{has};
 ghost use Rattle.closing.specs.Closing.{AllSuspect, Attempts, ClosesBy, ClosesIn, ClosingStops, DrainsAll, HasEnded, HasMajority, RaisesViewsBy, Rests, StaysAt, UpBy, UpTo, up_in};
 ghost use Rattle.closing.specs.Views.{most_view_of_a_closing, most_view_of_a_script, views_of_an_attempt};
 
-use crate::closed::{TurnOutcome, ClosingOutcome};
+use crate::closed::{ClosingOutcome, TurnOutcome};
 use crate::quorum::{closing_view, members_up};
 use crate::steps::{drain_first, is_over, lawful, lose_first, suspect_next};
 use app_core::App;
 use closing_quorum::quorum_of;
 use journal::{Stable, Stop};
 use players::Body;
-use world::World;
 use std::alloc::{AllocError, Global};
+use world::World;
 
 /// Brings a world to rest: what waits is lost, the members of a quorum start the least view above all, and what they and
 /// the switches then say is drawn until nothing waits, or until a proposal finds no room in the log. Where a member's

@@ -7,9 +7,9 @@ ghost use Rattle.command_line.specs.Lines.{text_bytes};
 
 use crate::status::{NO_MEMORY, WRITE_FAILED};
 use crate::text::{Text, differs_line, unread_line};
+use journal::{Sink, Source};
 use of_types::Octets;
 use report::{REPORT_LIMIT, Record, ReportFault, read_report};
-use journal::{Sink, Source};
 use std::alloc::{AllocError, Global};
 use streams::{StreamFault, read_input, write_all};
 

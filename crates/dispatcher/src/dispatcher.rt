@@ -13,7 +13,7 @@ ghost use Rattle.dispatcher.specs.Ledger.{AreHandledAt, ForEachLog, StandsFor, h
 ghost use Rattle.dispatcher.specs.Marks as marks;
 ghost use Rattle.dispatcher.specs.Marks.{confirmed_by, is_confirmed, is_finished, is_pending, no_marks, with_marked_result};
 
-use crate::answers::{HandledEvent, AckThrough, EventAction};
+use crate::answers::{AckThrough, EventAction, HandledEvent};
 use crate::commands;
 use crate::ledger::Ledger;
 use crate::marks::ViewMarks;

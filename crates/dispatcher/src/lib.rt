@@ -11,6 +11,6 @@ mod lives;
 mod marks;
 mod numbered;
 
-pub use answers::{HandledEvent, AckThrough, EventAction};
+pub use answers::{AckThrough, EventAction, HandledEvent};
 pub use dispatcher::Dispatcher;
 pub use numbered::NumberedOrder;

@@ -20,9 +20,9 @@ ghost use Rattle.group_controller.specs.declared.messages.ControllerInput.TheVar
 use crate::letters::{ack_letter, add_clears, add_commands, add_members, role_letter, to_switch};
 use crate::messages::{ControllerInput, ControllerSays};
 use app_core::App;
-use dispatcher::{Dispatcher, HandledEvent, NumberedOrder, AckThrough, EventAction};
-use of_types::{Event, Extension, MASTER, Octets, OfMessage, Setup, Spoken};
+use dispatcher::{AckThrough, Dispatcher, EventAction, HandledEvent, NumberedOrder};
 use journal::{Letter, Letters, Local};
+use of_types::{Event, Extension, MASTER, Octets, OfMessage, Setup, Spoken};
 use std::alloc::{AllocError, Global};
 use std::marker::Model;
 use std::mem::replace;

@@ -5,9 +5,9 @@ ghost use Rattle.group_controller.specs.State as state;
 ghost use Rattle.group_controller.specs.State.{to_members};
 
 use crate::messages::ControllerSays;
-use dispatcher::{NumberedOrder, AckThrough};
-use of_types::{Extension, Items, MASTER, OfMessage, Spoken};
+use dispatcher::{AckThrough, NumberedOrder};
 use journal::{Actor, Letter, Letters};
+use of_types::{Extension, Items, MASTER, OfMessage, Spoken};
 use std::alloc::AllocError;
 use vr_log::VrLetter;
 

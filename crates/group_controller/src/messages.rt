@@ -1,6 +1,6 @@
 //! What a controller hears and says.
-use of_types::Spoken;
 use journal::{Actor, Local};
+use of_types::Spoken;
 use vr_log::VrMessage;
 
 /// What a controller says in a letter: a message to a switch, or one to another controller.

@@ -11,8 +11,8 @@ ghost use Rattle.of_switch.specs.Drafts.{draft_from, with_letters, with_told, wi
 use crate::letters::{push_events, push_greetings};
 use crate::says::SwitchSays;
 use event_buffer::{EventBuffer, MOST_HELD};
-use of_types::{Event, Happening};
 use journal::Letter;
+use of_types::{Event, Happening};
 use std::alloc::{AllocError, Global};
 use std::marker::Model;
 use std::slice;

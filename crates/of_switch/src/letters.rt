@@ -8,8 +8,8 @@ ghost use Rattle.of_switch.specs.Events.{event_letter as letter_of_event, event_
 ghost use Rattle.of_switch.specs.Forwarding.{frame_letter as letter_of_frame};
 
 use crate::says::SwitchSays;
-use of_types::{Event, Extension, Items, Octets, OfMessage, Refusal, Spoken};
 use journal::{Actor, Letter, Letters};
+use of_types::{Event, Extension, Items, Octets, OfMessage, Refusal, Spoken};
 use std::alloc::{AllocError, Global};
 
 /// A letter to a controller.

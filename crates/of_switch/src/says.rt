@@ -1,7 +1,7 @@
 //! What a switch takes, and what it says.
 
-use of_types::{Octets, Spoken};
 use journal::{Actor, Local};
+use of_types::{Octets, Spoken};
 
 /// What a switch says in a letter.
 #[derive(Drop)]

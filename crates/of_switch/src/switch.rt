@@ -17,9 +17,9 @@ use command_buffer::CommandBuffer;
 use event_buffer::EventBuffer;
 use flow_clock::TimedRows;
 use flow_index::FlowIndex;
+use journal::{Letters, Local};
 use of_types::{Event, Executed, Items, Link, Refusal, Row, Setup, Spoken};
 use role_fence::RoleFence;
-use journal::{Letters, Local};
 use std::alloc::{AllocError, Global};
 use std::marker::Model;
 

@@ -2,13 +2,13 @@ ghost use Rattle.std.specs.Prelude.{◌≡◌, ◌∷◌, [], IfOk};
 ghost use Rattle.journal.specs.declared.journal.Actor.TheVariants as actor;
 ghost use Rattle.shared_wire.specs.Places.{fresh, IsSamePlace};
 
-use of_types::{Items, Octets};
 use journal::{Actor, JournalEntry, Letter, Letters, Local, PacketPlace, Weight, Wire};
+use of_types::{Items, Octets};
+use shared_wire::{Board, Place};
 use std::alloc::{AllocError, Global};
 use std::sync::Wait;
 use std::sync::atomic::{AtomicU64, Ordering};
 use std::thread;
-use shared_wire::{Board, Place};
 
 /// A board of a controller and a switch, with their places.
 fn board_of_two<B: Weight>(alloc: Global) -> Result<(Board<B>, Place<B>, Place<B>), AllocError>

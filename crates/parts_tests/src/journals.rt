@@ -1,5 +1,5 @@
-use of_types::Items;
 use journal::{Actor, JournalEntry, Letter, Letters, POOL_PACKETS, Stop, Weight, Wire};
+use of_types::Items;
 use std::alloc::{AllocError, Global};
 
 const CONTROLLER: Actor = Actor::Controller(0);

@@ -1,7 +1,7 @@
 //! Streams in memory, some of whose calls fail, and those of std.
 
-use of_types::Octets;
 use journal::{Failed, MemorySink, MemorySource, Sink, Source, StdSink, StdSource};
+use of_types::Octets;
 use std::alloc::AllocError;
 
 /// Whether reads into four bytes answer so.

@@ -3,8 +3,8 @@ ghost use Rattle.std.specs.Prelude.{◌≡◌, IfOk};
 ghost use Rattle.run_spec.specs.declared.messages.Message.TheVariants as message;
 ghost use Rattle.run_spec.specs.States.{Sealing, IsFaithful};
 
-use of_types::{Octets, Spoken};
 use journal::Weight;
+use of_types::{Octets, Spoken};
 use run_spec::{Message, Unsealed, Way};
 use std::alloc::{AllocError, Global};
 use vr_log::VrMessage;

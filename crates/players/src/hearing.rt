@@ -2,9 +2,9 @@
 ghost use Rattle.std.specs.Prelude.{◌≡◌, IfOk};
 ghost use Rattle.run_spec.specs.Messages.{way_of};
 
+use crate::body::Body;
 use crate::player::Player;
 use journal::Actor;
-use crate::body::Body;
 use run_spec::Way;
 use std::alloc::{AllocError, Global};
 

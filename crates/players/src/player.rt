@@ -9,14 +9,14 @@ ghost use Rattle.run_spec.specs.declared.messages.Unsealed.{Unsealed};
 ghost use Rattle.run_spec.specs.Messages.{FitsMessage};
 ghost use Rattle.run_spec.specs.States.{switch_hears, controller_hears, switch_message, controller_message};
 
+use crate::body::Body;
+use crate::fitting::spoken_fits;
 use app_core::App;
 use group_controller::{Controller, ControllerInput, ControllerSays};
+use journal::{Actor, Local};
 use of_bytes::u32_fits;
 use of_switch::{Switch, SwitchInput, SwitchSays};
 use of_types::Items;
-use journal::{Actor, Local};
-use crate::body::Body;
-use crate::fitting::spoken_fits;
 use run_spec::{Message, Unsealed};
 use std::alloc::{AllocError, Global};
 use vr_codec::vr_fits;

@@ -3,10 +3,10 @@ ghost use Rattle.std.specs.Prelude.{◌≡◌, IfOk};
 ghost use Rattle.run_spec.specs.Legal.{AreTyped};
 ghost use Rattle.run_spec.specs.States.{sealed_letters};
 
-use crate::player::Player;
-use of_types::Items;
-use journal::{Letter, Letters};
 use crate::body::Body;
+use crate::player::Player;
+use journal::{Letter, Letters};
+use of_types::Items;
 use std::alloc::{AllocError, Global};
 
 /// Each number of what an actor says fits its field. This call does nothing when it runs.

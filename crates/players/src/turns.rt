@@ -5,13 +5,13 @@ ghost use Rattle.run_spec.specs.Legal.{AreTyped};
 ghost use Rattle.run_spec.specs.States.{sealed_letters};
 ghost use Rattle.players.specs.Turns.{ControllerTurned, ControllerWanted, IsReadyBeside, SwitchTurned};
 
+use crate::body::Body;
 use crate::player::Player;
 use crate::sealing::{letters_fit, sealed};
 use app_core::App;
 use group_controller::{Controller, ControllerInput, ControllerSays};
-use of_switch::{Switch, SwitchInput, SwitchSays};
 use journal::{Letters, Stable};
-use crate::body::Body;
+use of_switch::{Switch, SwitchInput, SwitchSays};
 use std::alloc::{AllocError, Global};
 
 /// An actor that takes turns beside what it saves to: a controller beside its stable pair, a switch beside nothing.

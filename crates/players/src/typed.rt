@@ -6,8 +6,8 @@ ghost use Rattle.run_spec.specs.Messages.{message_size, said_on};
 ghost use Rattle.run_spec.proofs.Bodies.{own_again};
 
 use crate::body::Body;
-use of_types::{Items, Octets, Spoken, size_of_extension, size_of_plain};
 use journal::Weight;
+use of_types::{Items, Octets, Spoken, size_of_extension, size_of_plain};
 use run_spec::{Message, Unsealed, Way};
 use std::alloc::{AllocError, Global};
 use vr_log::{Entry, Filled, VrMessage, size_of_entry, sizes};

@@ -12,13 +12,13 @@ ghost use Rattle.playing.specs.Played.{HaltsAs, HasPlayed, StepSuspectsUpTo};
 
 use app_core::App;
 use closing::ClosingOutcome;
-use running::{Halt, run_threads};
 use journal::{Gate, Stable, Turn};
 use players::Body;
-use world::World;
+use running::{Halt, run_threads};
 use std::alloc::Global;
 use std::sync::Wait;
 use std::thread::Threads;
+use world::World;
 
 /// A world that has played its script and is at rest, how its closing ended, and how many entries the script made.
 #[derive(Drop)]

@@ -15,8 +15,8 @@ use app_core::App;
 use closing::ClosingOutcome;
 use journal::{Stable, Stop, Turn};
 use players::Body;
-use world::World;
 use std::alloc::Global;
+use world::World;
 
 /// Does the steps of a script in a world with an empty journal, and brings it to rest. Tells how the closing ended, and how
 /// many entries the script made. No step suspects a view above 4,000,000,000 (`most_view_of_a_script`).

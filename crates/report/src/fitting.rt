@@ -8,12 +8,12 @@ ghost use Rattle.report.specs.Fits.{FitsEntry, FitsOfMessage, FitsEvent, FitsLog
 ghost use Rattle.report.specs.Records.{AreOctets, FitsRule, FitsActor, FitsLetter, FitsInput};
 
 use crate::record::{Record, RowRecord, SwitchRecord};
+use journal::{Actor, JournalEntry, Letter, Local};
 use of_bytes::{u8_fits, u16_fits, u32_fits, u64_fits};
 use of_messages::{
     flow_mod_fits, flow_removed_fits, packet_in_fits, packet_out_fits, port_status_fits,
 };
 use of_types::{Event, Executed, Happening, Match, Octets, Order, Rule};
-use journal::{Actor, JournalEntry, Letter, Local};
 use vr_log::Entry;
 
 /// A value of whose numbers and bytes its type says something.

@@ -8,8 +8,8 @@ ghost use Rattle.report.specs.Spelled.{GivesText};
 use crate::counted::{CountedLine, read_each};
 use crate::fault::{Broken, Misfit, on_line};
 use crate::spelled::{actor, after, ended, flag, hex, known, number32, number64};
-use of_types::{Items, Octets};
 use journal::{Actor, Journal, JournalEntry, Letter, Local};
+use of_types::{Items, Octets};
 use std::alloc::Global;
 
 impl CountedLine for Letter<Octets> {

@@ -4,9 +4,9 @@ ghost use Rattle.journal.specs.declared.journal.JournalEntry.TheVariants as entr
 ghost use Rattle.report.specs.Report.{lines_of, line, actor_word, entry_lines, event_words};
 
 use crate::word::{Word, write_line};
+use journal::{Actor, JournalEntry, Letter, Local};
 use of_ravana::canonical_happening;
 use of_types::{Event, Link, Octets, Rule};
-use journal::{Actor, JournalEntry, Letter, Local};
 use std::alloc::{AllocError, Global};
 use vr_log::Entry;
 

@@ -16,8 +16,8 @@ use crate::setup_lines::setup;
 use crate::spelled::{after, end_of_line, ended, labelled};
 use crate::sums::write_sum_words;
 use crate::switch_lines::switches;
-use of_types::{Items, Octets};
 use journal::Journal;
+use of_types::{Items, Octets};
 use std::alloc::{AllocError, Global};
 use vr_log::Entries;
 

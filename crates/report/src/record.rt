@@ -1,7 +1,7 @@
 //! What a report holds.
 
-use of_types::{Actions, Event, Executed, Items, Match, Octets, Setup};
 use journal::Journal;
+use of_types::{Actions, Event, Executed, Items, Match, Octets, Setup};
 use vr_log::Entries;
 
 /// A row of a flow table, without its cookie.

@@ -6,9 +6,9 @@ ghost use Rattle.report.specs.Spelled as spelled;
 ghost use Rattle.report.specs.Spelled.{◌>>=◌ as then_read, GivesText, is_text_digit};
 
 use crate::fault::Misfit;
+use journal::Actor;
 use numerals::numeral_within;
 use of_types::Octets;
-use journal::Actor;
 use std::alloc::Global;
 
 /// What comes behind a text.

@@ -207,7 +207,11 @@ fn told(alloc: Global, switch: usize, bytes: &[u8]) -> Result<(SwitchRecord, &[u
 
 /// What is told of so many switches.
 #[tactic(auto, unfolding(crate::specs::Reading::switches_at))]
-pub fn switches(alloc: Global, count: usize, bytes: &[u8]) -> Result<(Items<SwitchRecord>, &[u8]), Broken>
+pub fn switches(
+    alloc: Global,
+    count: usize,
+    bytes: &[u8],
+) -> Result<(Items<SwitchRecord>, &[u8]), Broken>
     ensures { GivesLines (λ x. (x.0, x.1.now)) result (switches_at count 0 bytes.now) }
 {
     let mut switches = Items::new(alloc);

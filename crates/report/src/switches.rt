@@ -6,15 +6,19 @@ use crate::lines::write_each;
 use crate::record::{RowRecord, SwitchRecord};
 use crate::word::{Word, write_line, write_words};
 use crate::words::{write_newline, write_number};
+use journal::Actor;
 use of_match::bare_match;
 use of_messages::actions_of;
 use of_ravana::canonical_order;
 use of_types::{Executed, Octets};
-use journal::Actor;
 use std::alloc::{AllocError, Global};
 
 #[tactic(auto, unfolding(crate::specs::Report::switch_lines))]
-pub fn write_switches(alloc: Global, out: &mut Octets, switches: &[SwitchRecord]) -> Result<(), AllocError>
+pub fn write_switches(
+    alloc: Global,
+    out: &mut Octets,
+    switches: &[SwitchRecord],
+) -> Result<(), AllocError>
     ensures { OnOk result (out.new ≡ out.old ++ switch_lines 0 switches.now) }
 {
     for (switch, told) in switches.iter().enumerate() {
@@ -58,7 +62,12 @@ fn write_executed_all(
     Ok(())
 }
 
-fn write_row(alloc: Global, out: &mut Octets, switch: usize, row: &RowRecord) -> Result<(), AllocError>
+fn write_row(
+    alloc: Global,
+    out: &mut Octets,
+    switch: usize,
+    row: &RowRecord,
+) -> Result<(), AllocError>
     ensures { OnOk result (out.new ≡ out.old ++ row_line switch row.now) }
 {
     let matching = bare_match(alloc, &row.matching)?;
@@ -133,7 +142,12 @@ fn write_switch_line(out: &mut Octets, switch: usize, told: &SwitchRecord) -> Re
 }
 
 #[tactic(auto, unfolding(crate::specs::Report::told_lines))]
-fn write_told(alloc: Global, out: &mut Octets, switch: usize, told: &SwitchRecord) -> Result<(), AllocError>
+fn write_told(
+    alloc: Global,
+    out: &mut Octets,
+    switch: usize,
+    told: &SwitchRecord,
+) -> Result<(), AllocError>
     ensures { OnOk result (out.new ≡ out.old ++ told_lines switch told.now) }
 {
     write_switch_line(out, switch, told)?;

@@ -7,8 +7,8 @@ use crate::words::{
     write_actor, write_address, write_flag, write_hex, write_master, write_newline, write_number,
     write_number_or_dash, write_word,
 };
-use of_types::Octets;
 use journal::Actor;
+use of_types::Octets;
 use std::alloc::AllocError;
 
 /// A word of a line.

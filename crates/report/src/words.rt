@@ -4,8 +4,8 @@ ghost use Rattle.std.specs.Fmt.{decimal};
 ghost use Rattle.report.specs.Report.{hex_digit, hex_of, hex, word, newline, actor_word, flag, number_or_dash, master_word, address_word};
 
 use itoa::{Buffer, Integer};
-use of_types::Octets;
 use journal::Actor;
+use of_types::Octets;
 use std::alloc::AllocError;
 
 /// Writes the digits of a number.

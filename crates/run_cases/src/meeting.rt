@@ -6,8 +6,8 @@ ghost use Rattle.top_call.specs.Play.{AreFresh};
 
 use crate::serving::{PLAIN, Served, serve_by};
 use cases::{Call, Difference, words_of};
-use of_types::Octets;
 use journal::{Actor, Failed, FreeGate, Gate, MemoryStable, Stable};
+use of_types::Octets;
 use std::alloc::{AllocError, Global};
 use std::sync::Wait;
 use std::sync::atomic::{AtomicU64, Ordering};

@@ -10,17 +10,17 @@ ghost use Rattle.scenario.specs.Scenario.{IsScenario};
 use crate::wanting::{Wanting, app_of, shelves_of};
 use app_core::App;
 use audit::{Verdict, check};
+use byte_bodies::Bytes;
 use cases::Difference;
 use closing::{ClosingOutcome, may_close};
-use report::text;
-use byte_bodies::Bytes;
 use journal::{JournalEntry, MemoryStable, Stable, Stop, Turn};
 use players::Body;
-use world_record::bare_record;
-use world::World;
+use report::text;
 use scenario::{Scenario, read_scenario};
 use std::alloc::{AllocError, Global};
 use top_call::stables;
+use world::World;
+use world_record::bare_record;
 
 /// How a run came out: its switches did what one controller that never fails issues, and so many inputs were refused; or it differs.
 #[derive(Drop)]

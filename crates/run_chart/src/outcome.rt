@@ -9,9 +9,9 @@ ghost use Rattle.run_chart.specs.Outcome as out;
 use crate::window::window_of;
 use chart::{Window, draw, svg};
 use command_line::{Ending, NO_MEMORY, Taken, end_call, take_report};
+use journal::{Sink, Source};
 use of_types::Octets;
 use report::Record;
-use journal::{Sink, Source};
 use std::alloc::{AllocError, Global};
 
 /// The line that tells which words there are.

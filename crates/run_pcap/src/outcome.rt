@@ -8,9 +8,9 @@ ghost use Rattle.run_pcap.specs.Outcome as out;
 
 use capture::{captured, pcapng};
 use command_line::{Ending, NO_MEMORY, Taken, end_call, take_report};
+use journal::{Sink, Source};
 use of_types::Octets;
 use report::Record;
-use journal::{Sink, Source};
 use std::alloc::{AllocError, Global};
 
 /// The line that tells which words there are.

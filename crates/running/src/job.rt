@@ -10,13 +10,13 @@ ghost use Rattle.running.specs.Jobs.{HasDone, PlaysOn, StopsIn};
 
 use crate::next::next_input;
 use crate::seated::Seated;
-use of_types::Items;
 use journal::{Gate, Letters, Stop, Turn};
+use of_types::Items;
 use players::Body;
+use shared_wire::{Board, Place};
 use std::alloc::Global;
 use std::mem;
 use std::sync::Wait;
-use shared_wire::{Board, Place};
 use thread_rules::is_own;
 
 /// An actor at its place, with what it owes.

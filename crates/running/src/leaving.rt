@@ -15,9 +15,9 @@ use app_core::App;
 use group_controller::Controller;
 use journal::{Stable, Stop, Wire};
 use players::Body;
+use shared_wire::{Board, Place};
 use std::alloc::Global;
 use std::vec::IntoIter;
-use shared_wire::{Board, Place};
 use thread_rules::worst;
 
 /// What is left of tasks: the places, the players, and the cause that counts. There is room for them.

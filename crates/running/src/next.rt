@@ -8,15 +8,14 @@ ghost use Rattle.shared_wire.specs.Calls.{Adds};
 ghost use Rattle.shared_wire.specs.Places.{IsSamePlace};
 ghost use Rattle.running.specs.Hearing.{Advances, StopsAt};
 
-use of_types::Items;
 use journal::{Letters, Local, PacketPlace, Stop, Turn};
-use players::Body;
-use players::{Player, heard};
-use world::fits_types;
+use of_types::Items;
+use players::{Body, Player, heard};
+use shared_wire::{Board, Place};
 use std::alloc::Global;
 use std::mem;
 use std::sync::Wait;
-use shared_wire::{Board, Place};
+use world::fits_types;
 
 /// Posts what an actor owes and goes on to its next step, in one exchange of the wire. Tells what it hears there. (A body is
 /// copied in an exchange of its own, which adds nothing.)

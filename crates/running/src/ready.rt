@@ -8,11 +8,11 @@ use crate::seated::Served;
 use crate::task::Task;
 use app_core::App;
 use group_controller::Controller;
-use of_switch::Switch;
 use journal::{Actor, Stable};
+use of_switch::Switch;
 use players::Body;
-use std::alloc::{AllocError, Global};
 use shared_wire::{Board, Place};
+use std::alloc::{AllocError, Global};
 
 /// A board with its places, and room for those who take them and for what they leave.
 #[derive(Drop)]

@@ -20,16 +20,16 @@ use crate::seating::{seat, serve};
 use crate::task::{Task, run_all};
 use app_core::App;
 use group_controller::Controller;
+use journal::{Gate, Stable, Stop, Turn, Wire};
 use of_switch::Switch;
 use of_types::Setup;
-use journal::{Gate, Stable, Stop, Turn, Wire};
 use players::Body;
-use world::World;
+use shared_wire::Board;
 use std::alloc::Global;
 use std::sync::Wait;
 use std::thread::Threads;
 use std::{mem, thread};
-use shared_wire::Board;
+use world::World;
 
 /// What the actors have played: their journal, and they themselves, by number.
 #[derive(Drop)]

@@ -14,10 +14,9 @@ ghost use Rattle.running.specs.Playing.{ServedPlays, SwitchPlays};
 
 use app_core::App;
 use group_controller::{Controller, ControllerInput, ControllerSays};
-use of_switch::{Switch, SwitchInput, SwitchSays};
 use journal::{Letters, Local, Stable};
-use players::Body;
-use players::{Player, sealed_turn};
+use of_switch::{Switch, SwitchInput, SwitchSays};
+use players::{Body, Player, sealed_turn};
 use run_spec::Unsealed;
 use std::alloc::{AllocError, Global};
 

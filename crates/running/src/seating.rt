@@ -8,12 +8,12 @@ use crate::seated::Served;
 use crate::task::Task;
 use app_core::App;
 use group_controller::Controller;
-use of_types::Items;
 use journal::Stable;
+use of_types::Items;
 use players::Body;
+use shared_wire::Place;
 use std::alloc::Global;
 use std::vec::IntoIter;
-use shared_wire::Place;
 
 /// Players take the first of the places that are left, in order. There is room for their tasks.
 pub fn seat<B: Body, P: Drop>(

@@ -6,11 +6,11 @@ use crate::job::{Job, play_alone};
 use crate::seated::Seated;
 use journal::{Gate, Stop, Turn};
 use players::Body;
+use shared_wire::Board;
 use std::alloc::Global;
 use std::sync::Wait;
 use std::thread;
 use std::thread::Threads;
-use shared_wire::Board;
 
 /// The job of an actor, and why it stopped before its end, if it did.
 #[derive(Drop)]

@@ -4,9 +4,9 @@ ghost use Rattle.scenario.specs.Generated as generator;
 ghost use Rattle.scenario.specs.Scenario.{IsScenario};
 
 use crate::scenario::{Scenario, Steps};
+use journal::{Actor, Local, Turn};
 use of_bytes::{four, two, zeros};
 use of_types::{Links, Octets, PortCounts, Rules, Setup};
-use journal::{Actor, Local, Turn};
 use std::alloc::{AllocError, Global};
 
 /// How many ports each switch of a generated scenario has.

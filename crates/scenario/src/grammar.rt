@@ -12,9 +12,9 @@ use crate::json::{
 };
 use crate::written::{WrittenLink, WrittenPrefix, WrittenRule, WrittenStep, WrittenSwitch};
 use hex::FromHexError;
+use journal::Actor;
 use numerals::numeral;
 use of_types::Octets;
-use journal::Actor;
 use serde_json::Value;
 use std::alloc::{AllocError, Global};
 

@@ -10,11 +10,11 @@ use crate::scenario::{FaultKind, FaultPlace, Scenario, ScenarioFault, Steps};
 use crate::written::{
     Written, WrittenLink, WrittenPrefix, WrittenRule, WrittenStep, WrittenSwitch,
 };
+use journal::{Actor, Local, Turn};
 use of_types::{
     Items, LONGEST_FRAME, Link, Links, Octets, PortCounts, Prefix, Rule, Rules, SHORTEST_FRAME,
     Setup,
 };
-use journal::{Actor, Local, Turn};
 use std::alloc::{AllocError, Global};
 use wires::is_taken;
 

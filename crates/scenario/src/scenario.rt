@@ -1,8 +1,8 @@
 //! What a scenario says, and why bytes are none.
 ghost use Rattle.std.specs.Prelude.{◌≡◌};
 
-use of_types::{Items, Setup};
 use journal::Turn;
+use of_types::{Items, Setup};
 use std::alloc::{AllocError, AllocFailed};
 
 /// The steps of a script, in order.

@@ -1,7 +1,7 @@
 //! A scenario as it is written: each part has its shape, and no number has been held against a limit.
 
-use of_types::{Items, Octets};
 use journal::Actor;
+use of_types::{Items, Octets};
 
 /// What is written of a scenario.
 #[derive(Drop)]

@@ -1,8 +1,8 @@
 //! The rule of the board's table, and what its steps tell. Of these types, no value but of a slot, a seat
 //! and a table is made: the others are for proofs alone.
 use atomic_table::{Join, Play, Seat, Shared, Split, TableRule};
-use of_types::Items;
 use journal::{Actor, Journal, JournalEntry, Packet, Weight, Wire};
+use of_types::Items;
 use std::marker::PhantomData;
 
 /// What a seat knows of an actor: its own entries, the newest first and each draw beside its packet, and

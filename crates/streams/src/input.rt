@@ -5,8 +5,8 @@ ghost use Rattle.journal.specs.Causes.{Rose};
 ghost use Rattle.streams.specs.declared.fault.StreamFault.TheVariants as faults;
 
 use crate::fault::StreamFault;
-use of_types::Octets;
 use journal::Source;
+use of_types::Octets;
 use std::alloc::Global;
 
 /// Reads a source to its end, or one byte past a limit.

@@ -2,9 +2,9 @@
 ghost use Rattle.std.specs.Prelude.{◌≡◌};
 ghost use Rattle.top_call.specs.Service.{service_of, limit_of};
 
+use command_line::Job;
 use report::REPORT_LIMIT;
 use scenario::SCENARIO_LIMIT;
-use command_line::Job;
 
 /// A job that reads.
 #[derive(Clone, Copy)]

@@ -12,18 +12,18 @@ ghost use Rattle.top_call.specs.Runs.{StablesTell};
 
 use crate::ending::Ending;
 use app_core::App;
+use byte_bodies::Bytes;
 use closing::ClosingOutcome;
+use journal::{Gate, Stable, Stop};
 use of_types::Octets;
 use playing::{play, play_apart};
 use report::{last_line, record_fits, text};
-use byte_bodies::Bytes;
-use journal::{Gate, Stable, Stop};
-use world_record::{record_of, sums_of};
-use world::World;
 use scenario::Scenario;
 use std::alloc::{AllocError, Global};
 use std::sync::Wait;
 use std::thread::Threads;
+use world::World;
+use world_record::{record_of, sums_of};
 
 /// What is told of a run that came to rest: its report, or the report's last line alone.
 #[derive(Clone, Copy)]

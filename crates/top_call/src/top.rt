@@ -19,14 +19,13 @@ use crate::service::{Reader, Service};
 use crate::shelves::shelves_of;
 use crate::sim::{Output, simulate, simulate_apart};
 use app_core::App;
-use command_line::{NO_MEMORY, WRITE_FAILED};
+use command_line::{NO_MEMORY, WRITE_FAILED, read_words};
 use journal::{Gate, Sink, Source, Stable};
 use scenario::{Scenario, ScenarioFault, generate, read_scenario};
 use std::alloc::{AllocError, Global};
 use std::sync::Wait;
 use std::thread::Threads;
 use streams::{StreamFault, read_input, write_all};
-use command_line::read_words;
 
 /// Serves one call. `sim` reads a scenario from the source, plays it turn by turn, brings it to rest and writes its report;
 /// `run` does the same with a thread for each actor, which passes the gate before each of its turns; `gen` does it with the

@@ -11,9 +11,9 @@ ghost use Rattle.world.specs.Actors.{SwitchTakes, ControllerTakes, ControllerWan
 
 use app_core::App;
 use group_controller::{Controller, ControllerInput, ControllerSays};
+use journal::{Letters, Local, Stable};
 use of_switch::{Switch, SwitchInput, SwitchSays};
 use of_types::Setup;
-use journal::{Letters, Local, Stable};
 use players::typed_turn;
 use std::alloc::{AllocError, Global};
 use vr_log::Status;

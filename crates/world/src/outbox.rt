@@ -4,10 +4,9 @@ ghost use Rattle.world.specs.Debts.{sealed_outbox};
 
 use app_core::App;
 use group_controller::{Controller, ControllerSays};
-use of_switch::{Switch, SwitchSays};
 use journal::{Actor, Letters};
-use players::Body;
-use players::sealed;
+use of_switch::{Switch, SwitchSays};
+use players::{Body, sealed};
 use std::alloc::{AllocError, Global};
 
 /// The outbox of the newest input, as its actor said it, as long as it is not posted. It is sealed as it is posted, so that want

@@ -23,11 +23,10 @@ use crate::actors::{
 use crate::outbox::{Outbox, sealed_outbox};
 use app_core::App;
 use group_controller::{Controller, ControllerInput};
+use journal::{Actor, Journal, JournalEntry, Local, PacketPlace, Stable, Stop, Turn, Wire};
 use of_switch::{Switch, SwitchInput};
 use of_types::{Items, Setup};
-use journal::{Actor, Journal, JournalEntry, Local, PacketPlace, Stable, Stop, Turn, Wire};
-use players::Body;
-use players::{Player, heard};
+use players::{Body, Player, heard};
 use std::alloc::{AllocError, Global};
 use std::marker::Model;
 

@@ -5,9 +5,9 @@ ghost use Rattle.run_spec.specs.Committed.{kept_of};
 
 use app_core::App;
 use group_controller::Controller;
-use world::takes_part;
 use std::alloc::{AllocError, Global};
 use vr_log::{Entries, append_entries};
+use world::takes_part;
 
 /// How many entries a controller that takes part has committed. One that doesn't has none.
 pub fn count_committed<A: App>(controller: &Controller<A>) -> u64

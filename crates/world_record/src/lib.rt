@@ -12,12 +12,12 @@ mod told;
 use crate::committed::{committed_log, count_committed};
 use crate::told::{told_all, told_counts};
 use app_core::App;
-use of_types::Items;
-use report::{Record, Sums};
 use byte_bodies::{Bytes, bare};
 use journal::JournalEntry;
-use world::World;
+use of_types::Items;
+use report::{Record, Sums};
 use std::alloc::{AllocError, Global};
+use world::World;
 
 /// How many turns entries are: suspicions and draws.
 fn count_turns(entries: &[JournalEntry<Bytes>]) -> u64

@@ -3,12 +3,12 @@ ghost use Rattle.std.specs.Prelude.{◌≡◌, length, map, sum_by, IfOk};
 ghost use Rattle.world_record.specs.Shows as shows;
 
 use app_core::App;
+use byte_bodies::Bytes;
 use of_switch::Switch;
 use of_types::{Items, Row};
 use report::{RowRecord, SwitchRecord};
-use byte_bodies::Bytes;
-use world::World;
 use std::alloc::{AllocError, Global};
+use world::World;
 
 /// How many events, executed commands and rows are told of the switches.
 pub fn told_counts<A: App>(world: &World<Bytes, A>) -> Result<(u128, u128, u128), AllocError>
@@ -26,7 +26,10 @@ pub fn told_counts<A: App>(world: &World<Bytes, A>) -> Result<(u128, u128, u128)
 }
 
 /// What is told of each switch, by number.
-pub fn told_all<A: App>(alloc: Global, world: &World<Bytes, A>) -> Result<Items<SwitchRecord>, AllocError>
+pub fn told_all<A: App>(
+    alloc: Global,
+    world: &World<Bytes, A>,
+) -> Result<Items<SwitchRecord>, AllocError>
     ensures { IfOk result (λ told. told ≡ map shows.told_of world.now.switches) }
 {
     let mut told = Items::from_vec(Vec::with_capacity(alloc, world.switches().len())?);

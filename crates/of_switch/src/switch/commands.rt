@@ -17,12 +17,12 @@ use crate::letters::to_controller;
 use crate::says::SwitchSays;
 use command_buffer::{CommandBuffer, MOST_KEPT, Offer};
 use flow_table::TableFault;
+use journal::{Letter, Letters};
 use of_types::{
     ALL_PORTS, BAD_FLAGS, BAD_OUT_PORT, BAD_PACKET, BAD_TABLE, Executed, Extension, FLOOD, FlowMod,
     IN_PORT, Items, NO_BUFFER, NOT_MASTER, Order, Outcome, PacketOut, Refusal, Spoken, TABLE_FULL,
     UNKNOWN_BUFFER,
 };
-use journal::{Letter, Letters};
 use std::alloc::AllocError;
 
 /// Which command it is: who sent it, by which generation, its number, and what is settled.

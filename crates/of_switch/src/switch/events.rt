@@ -13,12 +13,12 @@ use crate::says::SwitchSays;
 use command_buffer::CommandBuffer;
 use event_buffer::EventBuffer;
 use flow_clock::Expired;
+use journal::Letters;
 use of_types::{
     Boxed, Event, FlowRemoved, Happening, Items, LAST_LIFE, PortStatus, REASON_MODIFY,
     SEND_REMOVED, switch_up,
 };
 use role_fence::RoleFence;
-use journal::Letters;
 use std::alloc::{AllocError, Global};
 use std::collections::VecDeque;
 

@@ -10,11 +10,11 @@ use super::Switch;
 use crate::draft::Draft;
 use crate::letters::frame_letter;
 use crate::says::SwitchSays;
+use journal::Letters;
 use of_types::{
     ALL_PORTS, FLOOD, Fields, Happening, IN_PORT, Items, LONGEST_FRAME, Link, Octets, PacketIn,
     REASON_ACTION, REASON_NO_MATCH, Row, SHORTEST_FRAME, TO_CONTROLLER, fields, is_any,
 };
-use journal::Letters;
 use std::alloc::AllocError;
 
 impl Switch {

@@ -9,12 +9,12 @@ use super::Switch;
 use super::commands::Issue;
 use crate::letters::{error_letter, one_letter, push_events, to_controller};
 use crate::says::SwitchSays;
+use journal::{Actor, Letter, Letters};
 use of_types::{
     BAD_ROLE, BAD_TYPE, Extension, Items, MASTER, NOT_PERMITTED, Octets, OfMessage, Refusal,
     STALE_ROLE, Spoken,
 };
 use role_fence::RoleAnswer;
-use journal::{Actor, Letter, Letters};
 use std::alloc::{AllocError, Global};
 
 impl Switch {

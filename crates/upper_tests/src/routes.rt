@@ -1,7 +1,7 @@
 //! Routes over three switches in a ring, and over 64 in a line.
 ghost use Rattle.std.specs.Prelude.{◌≡◌, length, replicate, IfOk};
 ghost use Rattle.of_types.specs.Setups.{IsSetup};
-ghost use Rattle.upgrade_tests.specs.Lines.{line_links};
+ghost use Rattle.upper_tests.specs.Lines.{line_links};
 
 use app_core::{Part, SwitchPort};
 use of_types::{

@@ -2,7 +2,7 @@ ghost use Rattle.std.specs.Prelude.{◌≡◌, ◌∷◌, [], IfOk};
 ghost use Rattle.journal.specs.declared.journal.Actor.TheVariants as actor;
 ghost use Rattle.shared_wire.specs.Places.{fresh, IsSamePlace};
 
-use journal::{Actor, JournalEntry, Letter, Letters, Local, PacketPlace, Weight, Wire};
+use journal::{Actor, JournalEntry, Letter, Letters, Local, PacketPlace, Wire};
 use of_types::{Items, Octets};
 use shared_wire::{Board, Place};
 use std::alloc::{AllocError, Global};
@@ -11,7 +11,7 @@ use std::sync::atomic::{AtomicU64, Ordering};
 use std::thread;
 
 /// A board of a controller and a switch, with their places.
-fn board_of_two<B: Weight>(alloc: Global) -> Result<(Board<B>, Place<B>, Place<B>), AllocError>
+fn board_of_two(alloc: Global) -> Result<(Board<Octets>, Place<Octets>, Place<Octets>), AllocError>
     ensures actors { IfOk result (λ r. r.0.actors ≡ actor.Controller 0 ∷ actor.Switch 0 ∷ []) }
     ensures first { IfOk result (λ r. r.1 ≡ fresh r.0.id (actor.Controller 0)) }
     ensures second { IfOk result (λ r. r.2 ≡ fresh r.0.id (actor.Switch 0)) }
@@ -25,12 +25,12 @@ fn board_of_two<B: Weight>(alloc: Global) -> Result<(Board<B>, Place<B>, Place<B
 }
 
 /// Ends the board of a controller and a switch.
-fn close_two<B: Weight>(
-    board: Board<B>,
-    first: Place<B>,
-    second: Place<B>,
+fn close_two(
+    board: Board<Octets>,
+    first: Place<Octets>,
+    second: Place<Octets>,
     alloc: Global,
-) -> Result<Wire<B>, AllocError>
+) -> Result<Wire<Octets>, AllocError>
     requires actors { board.actors ≡ actor.Controller 0 ∷ actor.Switch 0 ∷ [] }
     requires first { (first.actor ≡ actor.Controller 0) × (first.board ≡ board.id) }
     requires second { (second.actor ≡ actor.Switch 0) × (second.board ≡ board.id) }
@@ -185,6 +185,11 @@ fn are_named(controller: &Place<Octets>, switch: &Place<Octets>) -> bool {
     controller.actor().is(Actor::Controller(0)) && switch.actor().is(Actor::Switch(0))
 }
 
+/// Whether a wire tells of these turns, and has no packet left.
+fn tells_of_all(wire: &Wire<Octets>) -> bool {
+    are_of_kinds(wire.entries(), b"IPDLT") && wire.first().is_none()
+}
+
 #[test]
 fn a_letter_is_read_back(rt: HostRuntime) -> Result<(), AllocError> {
     let alloc = rt.alloc();
@@ -192,9 +197,9 @@ fn a_letter_is_read_back(rt: HostRuntime) -> Result<(), AllocError> {
     let passed = letter_passes(&rt, alloc, &board, &mut controller, &mut switch);
     let named = are_named(&controller, &switch);
     let wire = close_two(board, controller, switch, alloc)?;
-    let told = are_of_kinds(wire.entries(), b"IPDLT") && wire.first().is_none();
+    let told = tells_of_all(&wire);
     drop(wire);
-    assert!(rt; passed? && named && told);
+    assert!(rt; passed == Ok(true) && named && told);
     Ok(())
 }
 
@@ -284,10 +289,10 @@ fn two_threads_meet(rt: HostRuntime) -> Result<(), AllocError> {
         || meets(&rt, alloc, &board, controller, Actor::Switch(0), &a, &b),
         || meets(&rt, alloc, &board, switch, Actor::Controller(0), &b, &a),
     );
-    assert!(rt; first.0 && second.0);
+    let met = first.0 && second.0;
     let wire = close_two(board, first.1, second.1, alloc)?;
     let entries = wire.entries().len();
     drop(wire);
-    assert!(rt; entries == 8 * TURNS);
+    assert!(rt; met && entries == 8 * TURNS);
     Ok(())
 }

@@ -122,18 +122,14 @@ fn leave_at_the_third<R: Rows + Drop>(rows: &mut TimedRows<R>) -> Result<bool, A
     Ok(takes_out(rows, &[])? && takes_out(rows, LEFT)? && has(rows, 1)?)
 }
 
-/// Whether they do.
-fn leave<R: Rows + Drop>(alloc: Global, rows: TimedRows<R>) -> Result<bool, AllocError> {
-    let mut rows = rows;
-    let told = leave_by_the_clock(alloc, &mut rows);
-    drop(rows);
-    told
-}
-
 #[test]
 fn rows_leave_by_the_clock(rt: HostRuntime) -> Result<(), AllocError> {
-    let alloc = rt.alloc();
-    assert!(rt; leave(alloc, TimedRows::new(alloc, FlowTable::new(alloc)?))?);
-    assert!(rt; leave(alloc, TimedRows::new(alloc, FlowIndex::new(alloc)?))?);
+    let mut table = TimedRows::new(rt.alloc(), FlowTable::new(rt.alloc())?);
+    let by_table = leave_by_the_clock(rt.alloc(), &mut table);
+    drop(table);
+    let mut index = TimedRows::new(rt.alloc(), FlowIndex::new(rt.alloc())?);
+    let by_index = leave_by_the_clock(rt.alloc(), &mut index);
+    drop(index);
+    assert!(rt; by_table == Ok(true) && by_index == Ok(true));
     Ok(())
 }

@@ -195,15 +195,19 @@ fn first_unlike(alloc: Global, table: &mut impl Rows) -> Result<Option<usize>, A
 }
 
 /// A table has 2,048 rows at most.
-fn refuses(alloc: Global, table: impl Rows + Drop) -> Result<bool, AllocError> {
-    let mut table = table;
-    Ok(fills(alloc, &mut table)? && first_unlike(alloc, &mut table)?.is_none())
+fn refuses(alloc: Global, table: &mut impl Rows) -> Result<bool, AllocError> {
+    Ok(fills(alloc, table)? && first_unlike(alloc, table)?.is_none())
 }
 
 #[test]
 fn tables_refuse_in_order(rt: HostRuntime) -> Result<(), AllocError> {
-    assert!(rt; refuses(rt.alloc(), FlowTable::new(rt.alloc())?)?);
-    assert!(rt; refuses(rt.alloc(), FlowIndex::new(rt.alloc())?)?);
+    let mut table = FlowTable::new(rt.alloc())?;
+    let by_table = refuses(rt.alloc(), &mut table);
+    drop(table);
+    let mut index = FlowIndex::new(rt.alloc())?;
+    let by_index = refuses(rt.alloc(), &mut index);
+    drop(index);
+    assert!(rt; by_table == Ok(true) && by_index == Ok(true));
     Ok(())
 }
 
@@ -315,15 +319,19 @@ const TIES: &[Met] = &[
     (BY_PORT, 2, 2),
 ];
 
-fn chooses(alloc: Global, table: impl Rows + Drop) -> Result<bool, AllocError> {
-    let mut table = table;
-    plays(alloc, &mut table, TIES, &[0, 2, 1])
+fn chooses(alloc: Global, table: &mut impl Rows) -> Result<bool, AllocError> {
+    plays(alloc, table, TIES, &[0, 2, 1])
 }
 
 #[test]
 fn tables_choose_the_first_of_equals(rt: HostRuntime) -> Result<(), AllocError> {
-    assert!(rt; chooses(rt.alloc(), FlowTable::new(rt.alloc())?)?);
-    assert!(rt; chooses(rt.alloc(), FlowIndex::new(rt.alloc())?)?);
+    let mut table = FlowTable::new(rt.alloc())?;
+    let by_table = chooses(rt.alloc(), &mut table);
+    drop(table);
+    let mut index = FlowIndex::new(rt.alloc())?;
+    let by_index = chooses(rt.alloc(), &mut index);
+    drop(index);
+    assert!(rt; by_table == Ok(true) && by_index == Ok(true));
     Ok(())
 }
 
@@ -389,14 +397,18 @@ const NAMED: &[Met] = &[
 ];
 
 /// Behind them the row of port 2 has its new output.
-fn names(alloc: Global, table: impl Rows + Drop) -> Result<bool, AllocError> {
-    let mut table = table;
-    Ok(plays(alloc, &mut table, NAMED, &[0, 0x11, 0x22])? && meets(&table, 2, 0x22, 2))
+fn names(alloc: Global, table: &mut impl Rows) -> Result<bool, AllocError> {
+    Ok(plays(alloc, table, NAMED, &[0, 0x11, 0x22])? && meets(table, 2, 0x22, 2))
 }
 
 #[test]
 fn tables_name_rows(rt: HostRuntime) -> Result<(), AllocError> {
-    assert!(rt; names(rt.alloc(), FlowTable::new(rt.alloc())?)?);
-    assert!(rt; names(rt.alloc(), FlowIndex::new(rt.alloc())?)?);
+    let mut table = FlowTable::new(rt.alloc())?;
+    let by_table = names(rt.alloc(), &mut table);
+    drop(table);
+    let mut index = FlowIndex::new(rt.alloc())?;
+    let by_index = names(rt.alloc(), &mut index);
+    drop(index);
+    assert!(rt; by_table == Ok(true) && by_index == Ok(true));
     Ok(())
 }

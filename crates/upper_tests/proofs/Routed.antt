@@ -13,7 +13,7 @@ use Rattle.app_core.specs.Chain.{chain_after, firewall, part_next, reactions, ro
 use Rattle.app_core.specs.Commands.{flow_mod, packet_out}
 use Rattle.app_core.specs.Routes.{levels, over_known_link, route, walks}
 use Rattle.app_core.specs.Routing.{frame_out}
-use Rattle.upgrade_tests.proofs.Computed.{Turn, asking, at, comes, frame, goes_down, to_host}
+use Rattle.upper_tests.proofs.Computed.{Turn, asking, at, comes, frame, goes_down, to_host}
 
 -- ---- three switches of four ports, of which the last two are in links
 

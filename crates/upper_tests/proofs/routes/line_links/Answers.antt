@@ -1,7 +1,7 @@
 use Rattle.std.proofs.Common.{sym, ap, ◌∙◌, arith}
-use Rattle.upgrade_tests.specs.Lines.{line_links}
-use Rattle.upgrade_tests.proofs.Line.{more_links, no_links}
-use Rattle.upgrade_tests.proofs.routes.line_links.Goals as goal
+use Rattle.upper_tests.specs.Lines.{line_links}
+use Rattle.upper_tests.proofs.Line.{more_links, no_links}
+use Rattle.upper_tests.proofs.routes.line_links.Goals as goal
 
 pub loop-switch-init : goal.loop-switch-init
 loop-switch-init c = c.new-links.ensures ∙ no_links

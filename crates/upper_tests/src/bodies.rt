@@ -113,7 +113,7 @@ fn first_unlike(alloc: Global) -> Result<Option<usize>, AllocError> {
 
 #[test]
 fn bodies_say_what_the_rules_say(rt: HostRuntime) {
-    assert_eq!(rt; first_unlike(rt.alloc()), Ok(None));
+    assert!(rt; first_unlike(rt.alloc()) == Ok(None));
 }
 
 /// The longest body of a link, and a byte more.
@@ -148,5 +148,5 @@ fn first_miscarried(alloc: Global) -> Result<Option<usize>, AllocError> {
 
 #[test]
 fn links_carry_frames_of_their_lengths(rt: HostRuntime) {
-    assert_eq!(rt; first_miscarried(rt.alloc()), Ok(None));
+    assert!(rt; first_miscarried(rt.alloc()) == Ok(None));
 }

@@ -1,7 +1,7 @@
 //! Routes over three switches in a ring, and over 64 in a line.
 ghost use Rattle.std.specs.Prelude.{◌≡◌, length, replicate, IfOk};
 ghost use Rattle.of_types.specs.Setups.{IsSetup};
-ghost use Rattle.upgrade_tests.specs.Lines.{line_links};
+ghost use Rattle.upper_tests.specs.Lines.{line_links};
 
 use app_core::{Part, SwitchPort};
 use of_types::{
@@ -9,7 +9,6 @@ use of_types::{
 };
 use route_app::{Route, levels, route};
 use std::alloc::{AllocError, Global};
-use std::test::Fail;
 
 /// A frame from A to B.
 const A_TO_B: [u8; 14] = [2, 0, 0, 0, 0, 2, 2, 0, 0, 0, 0, 1, 0x88, 0xb5];
@@ -198,22 +197,71 @@ fn last_switch(commands: &Commands) -> Option<u8> {
     Some(commands.as_slice().last()?.switch)
 }
 
+/// Whether the walk from the first switch of a line to its last has 63 hops.
+fn has_63_hops(alloc: Global, setup: &Setup) -> Result<bool, AllocError>
+    requires setup { IsSetup setup.now }
+    requires switches { length setup.now.ports ≡ 64 }
+{
+    let found = route(alloc, setup, &[], 0, 63)?;
+    Ok(found.is_some_and(|found| found.len() == 63))
+}
+
+/// Whether these are the rows of all switches but the last, the row nearest to it first, and the frame.
+fn are_63_rows(commands: &Commands) -> bool {
+    commands.len() == 64
+        && rows(commands) == 63
+        && first_switch(commands) == Some(62)
+        && last_switch(commands) == Some(0)
+}
+
+/// Takes a frame at port 1 of a switch, and tells whether the chain stops there.
+fn takes(
+    alloc: Global,
+    part: &mut Route,
+    out: &mut Commands,
+    switch: u8,
+    bytes: &[u8],
+) -> Result<bool, AllocError> {
+    let event = frame(alloc, switch, 1, bytes)?;
+    let stops = part.react(alloc, &event, out);
+    drop(event);
+    stops
+}
+
+/// Whether a frame to a host that was not seen goes out at each switch.
+fn floods(alloc: Global, part: &mut Route) -> Result<bool, AllocError> {
+    let mut out = Items::new(alloc);
+    let stops = takes(alloc, part, &mut out, 63, &A_TO_B);
+    let count = out.len();
+    drop(out);
+    Ok(!stops? && count == 64)
+}
+
+/// Whether the frame back gives these rows.
+fn gives_63_rows(alloc: Global, part: &mut Route) -> Result<bool, AllocError> {
+    let mut out = Items::new(alloc);
+    let stops = takes(alloc, part, &mut out, 0, &B_TO_A);
+    let given = are_63_rows(&out);
+    drop(out);
+    Ok(!stops? && given)
+}
+
+/// Whether a part does both once it is started.
+fn leads(alloc: Global, setup: &Setup, part: &mut Route) -> Result<bool, AllocError>
+    requires { IsSetup setup.now }
+{
+    part.start(alloc, setup)?;
+    Ok(floods(alloc, part)? && gives_63_rows(alloc, part)?)
+}
+
 #[test]
-fn a_line_of_64_gives_63_rows(rt: HostRuntime) -> Result<(), Fail> {
-    let alloc = rt.alloc();
-    let setup = line(alloc)?;
-    let found = route(alloc, &setup, &[], 0, 63)?.ok_or("a way")?;
-    assert_eq!(rt; found.len(), 63);
-    let mut part = Route::new(alloc);
-    part.start(alloc, &setup)?;
-    let mut out = Items::new(alloc);
-    assert!(rt; !part.react(alloc, &frame(alloc, 63, 1, &A_TO_B)?, &mut out)?);
-    assert_eq!(rt; out.len(), 64);
-    let mut out = Items::new(alloc);
-    assert!(rt; !part.react(alloc, &frame(alloc, 0, 1, &B_TO_A)?, &mut out)?);
-    assert_eq!(rt; out.len(), 64);
-    assert_eq!(rt; rows(&out), 63);
-    assert_eq!(rt; first_switch(&out), Some(62));
-    assert_eq!(rt; last_switch(&out), Some(0));
+fn a_line_of_64_gives_63_rows(rt: HostRuntime) -> Result<(), AllocError> {
+    let setup = line(rt.alloc())?;
+    let mut part = Route::new(rt.alloc());
+    let hops = has_63_hops(rt.alloc(), &setup);
+    let led = leads(rt.alloc(), &setup, &mut part);
+    drop(part);
+    drop(setup);
+    assert!(rt; hops == Ok(true) && led == Ok(true));
     Ok(())
 }

@@ -1,3 +1,4 @@
 pub mod Computed
 pub mod Line
 pub mod Routed
+pub mod Turns

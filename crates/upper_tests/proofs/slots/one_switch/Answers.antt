@@ -1,7 +1,7 @@
 use Rattle.std.proofs.Common.{◌≤◌, zero, suc, [], ◌∷◌, refl, arith}
 use Rattle.std.specs.Prelude.{All}
 use Rattle.of_types.specs.Setups.{IsSetup}
-use Rattle.upgrade_tests.proofs.slots.one_switch.Goals as goal
+use Rattle.upper_tests.proofs.slots.one_switch.Goals as goal
 
 one : All (λ count. (1 ≤ count) × (count ≤ 48)) (48 ∷ [])
 one zero d less = (omega arith, omega arith)

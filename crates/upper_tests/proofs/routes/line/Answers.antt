@@ -1,7 +1,7 @@
 use Rattle.std.proofs.Common.{ℕ, List, length, ap, ◌∙◌}
 use Rattle.std.proofs.lemmas.List.{length-replicate}
-use Rattle.upgrade_tests.proofs.Line.{line_setup}
-use Rattle.upgrade_tests.proofs.routes.line.Goals as goal
+use Rattle.upper_tests.proofs.Line.{line_setup}
+use Rattle.upper_tests.proofs.routes.line.Goals as goal
 
 pub returns : goal.returns
 returns c =

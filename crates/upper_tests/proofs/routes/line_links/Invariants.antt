@@ -1,6 +1,6 @@
 use Rattle.std.proofs.Common.{◌≡◌}
-use Rattle.upgrade_tests.specs.Lines.{line_links}
-use Rattle.upgrade_tests.proofs.routes.line_links.Given as goal
+use Rattle.upper_tests.specs.Lines.{line_links}
+use Rattle.upper_tests.proofs.routes.line_links.Given as goal
 
 abbrev pub invariant-loop-switch : goal.invariant-loop-switch
 invariant-loop-switch l = l.links ≡ line_links 0 l.switch

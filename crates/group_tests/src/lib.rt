@@ -1,2 +1,0 @@
-//! Turns of a group's controllers, computed (`proofs/Computed.antt`).
-#![tactic(auto)]

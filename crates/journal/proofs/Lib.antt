@@ -5,6 +5,8 @@ pub mod Fitting
 pub mod Rows
 pub mod Placing
 pub mod Leaving
+pub mod Waiters
+pub mod Slots
 pub mod Firsts
 pub mod Kept
 pub mod Turning

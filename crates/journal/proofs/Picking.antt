@@ -1,5 +1,5 @@
 -- What an actor picks of what waits in a ledger.
-use Rattle.std.proofs.Common.{◌≡◌, ◌≤◌, ℕ, ◌-◌, Bool, true, false, Option, Some, ◌∷◌, length, get_or, sym, ap, arith, subst}
+use Rattle.std.proofs.Common.{◌≡◌, ◌≤◌, ℕ, ◌-◌, Bool, true, false, Option, Some, ◌∷◌, length, get_or, sym, ap, ◌∙◌, arith, subst}
 use Rattle.std.specs.Prelude.{IfSome, if◌then◌else◌, ◌%◌}
 use Rattle.std.proofs.lemmas.Option.{slice_get_within, get_or_from_slice_get}
 use Rattle.std.proofs.lemmas.List.Sums.{sum_by-remove}
@@ -10,6 +10,7 @@ use Rattle.journal.specs.declared.place.PacketPlace.{PacketPlace}
 use Rattle.journal.specs.declared.queues.Queues.{Queues}
 use Rattle.journal.specs.Actors.{same_actor}
 use Rattle.journal.specs.Ledger.{Waits, IsLedger}
+use Rattle.journal.specs.Order.{order_left, others}
 use Rattle.journal.specs.Places.{picked, left_in, queue_of, IsPlaceOf, IsFound}
 use Rattle.journal.specs.Pool.{past, pool, waiting, pick}
 use Rattle.journal.specs.Turns.{drawn_entry}
@@ -48,10 +49,13 @@ module _ {B : Type 0} where
 
   -- the packet leaves
   pub leaves : (size : B → ℕ) (start : Ledger B) (actor : Actor) (choice : ℕ) (keep : Bool) (place : PacketPlace) (after : Queues) (weight : ℕ) → IsLedger size start → (is : IsPicked size start actor choice place) →
-      keep ≡ false → ((a : Actor) → queue_of after a ≡ (if same_actor actor a then left_in choice keep (queue_of start.queues a) else queue_of start.queues a)) → weight ≡ size is.packet.body →
+      keep ≡ false →
+      ((a : Actor) → queue_of after a ≡ (if same_actor actor a then left_in choice keep (queue_of start.queues a) else queue_of start.queues a)) →
+      after.order ≡ order_left keep (Some place) start.queues.order → weight ≡ size is.packet.body →
       Waits size start.entries.items (pool (drawn_entry actor keep (pick actor choice (past start.entries.items)) ∷ past start.entries.items)) after (record { letters = start.waiting.letters - 1; bytes = start.waiting.bytes - weight })
-  leaves size start actor choice true place after weight kept is keeps left weight_is = cc
-  leaves size start actor choice false place after weight kept is keeps left weight_is =
+  leaves size start actor choice true place after weight kept is keeps left order weight_is = cc
+  leaves size start actor choice false place after weight kept is keeps left order weight_is =
       subst (λ o. Waits size start.entries.items (pool (drawn_entry actor false o ∷ past start.entries.items)) after (record { letters = start.waiting.letters - 1; bytes = start.waiting.bytes - weight })) (sym is.picks)
       (Waits-left size start.entries.items (pool (past start.entries.items)) start.queues after start.waiting (record { letters = start.waiting.letters - 1; bytes = start.waiting.bytes - weight }) actor choice is.packet
-      (Rising-pool size (past start.entries.items) kept.kept.orderly) kept.waits is.picks left (omega (arith, is.some)) (omega (arith, is.small, weight_is)))
+      (Rising-pool size (past start.entries.items) kept.kept.orderly) kept.waits is.picks left
+      (order ∙ ap (λ id. others id start.queues.order) is.is.id_is) (omega (arith, is.some)) (omega (arith, is.small, weight_is)))

@@ -1,7 +1,7 @@
 -- What the steps of a turn make of a ledger.
-use Rattle.std.proofs.Common.{◌≡◌, ◌≤◌, ◌<◌, subst, ℕ, ◌+◌, ◌-◌, false, Option, List, [], ◌∷◌, ◌++◌, length, take, refl, sym, ap, ◌∙◌, arith}
+use Rattle.std.proofs.Common.{◌≡◌, ◌≤◌, ◌<◌, subst, ℕ, ◌+◌, ◌-◌, false, Option, List, [], ◌∷◌, ◌++◌, length, take, map, refl, sym, ap, ◌∙◌, arith}
 use Rattle.std.specs.Prelude.{nat_eq, vec_len, vec_capacity}
-use Rattle.std.proofs.lemmas.List.{length-append, length-take-le}
+use Rattle.std.proofs.lemmas.List.{length-append, length-take-le, map-append}
 use Rattle.std.proofs.lemmas.List.Elements.{filter-append}
 use Rattle.std.proofs.lemmas.List.Sums.{sum_by-append}
 use Rattle.journal.specs.declared.journal.Actor.{Actor}
@@ -18,6 +18,7 @@ use Rattle.journal.specs.declared.queues.Queues.{Queues}
 use Rattle.journal.specs.Actors.{same_actor}
 use Rattle.journal.specs.Ledger.{found_in, entry_by, IsReady, Waits, IsLedger}
 use Rattle.journal.specs.Orderly.{lost_of, pool_bytes, fitting_count}
+use Rattle.journal.specs.Order.{waiter_of, addressed}
 use Rattle.journal.specs.Places.{IsFound, packet_as, placed, queue_of, sent_to}
 use Rattle.journal.specs.Pool.{past, pool, numbered_letters, fitting, waiting, letters_posted, letter_bytes}
 use Rattle.journal.specs.Refusals.{MayBeRefused}
@@ -25,6 +26,7 @@ use Rattle.journal.specs.Turns.{posting, entry_of}
 use Rattle.journal.proofs.Kept.{IsKept-post, IsKept-input, IsKept-refused, entry_by-entry_of}
 use Rattle.journal.proofs.Lists.{past-push, numbered-take}
 use Rattle.journal.proofs.Placing.{found_later, places_later, places_append, places_for, post_stands}
+use Rattle.journal.proofs.Waiters.{waiters-numbered}
 
 module _ {B : Type 0} where
   length-numbered : (first : ℕ) (a : Actor) (letters : List (Letter B)) → length (numbered_letters first a letters) ≡ length letters
@@ -43,9 +45,10 @@ module _ {B : Type 0} where
   Waits-more : (size : B → ℕ) (journal : List (JournalEntry B)) (packets : List (Packet B)) (queues after : Queues) (waits now : Sums) (first count lost : ℕ) (a : Actor) (letters : List (Letter B)) →
       Waits size journal packets queues waits → count ≤ length letters →
       ((receiver : Actor) → queue_of after receiver ≡ queue_of queues receiver ++ sent_to receiver (placed (length journal) 0 first a (take count letters))) →
+      after.order ≡ queues.order ++ addressed first (take count letters) →
       now.letters ≡ waits.letters + count → now.bytes ≡ waits.bytes + letter_bytes size (take count letters) →
       Waits size (journal ++ Post a first letters lost ∷ []) (packets ++ numbered_letters first a (take count letters)) after now
-  Waits-more size journal packets queues after waits now first count lost a letters is within queues_are letters_are bytes_are =
+  Waits-more size journal packets queues after waits now first count lost a letters is within queues_are order_is letters_are bytes_are =
       let more = numbered_letters first a (take count letters) in
       let long = length-numbered first a (take count letters) in
       let taken = length-take-le count letters within in
@@ -53,6 +56,11 @@ module _ {B : Type 0} where
       record {
         letters_are = omega (arith, letters_are, is.letters_are, long, taken) ∙ sym (length-append packets more);
         bytes_are = omega (arith, bytes_are, is.bytes_are, bytes) ∙ sym (sum_by-append (λ p. size p.body) packets more);
+        order_is =
+            order_is
+            ∙ ap (λ ws. ws ++ addressed first (take count letters)) is.order_is
+            ∙ ap (λ ws. map waiter_of packets ++ ws) (sym (waiters-numbered first a (take count letters)))
+            ∙ sym (map-append waiter_of packets more);
         queues_are = λ r. rw (queues_are r, filter-append (λ p. same_actor p.to r) packets more)
             (places_append (journal ++ Post a first letters lost ∷ []) (queue_of queues r) (sent_to r (placed (length journal) 0 first a (take count letters))) (waiting r packets) (waiting r more)
             (places_later journal (Post a first letters lost ∷ []) (queue_of queues r) (waiting r packets) (is.queues_are r))
@@ -64,6 +72,7 @@ module _ {B : Type 0} where
   Waits-later size journal more packets queues waits is = record {
     letters_are = is.letters_are;
     bytes_are = is.bytes_are;
+    order_is = is.order_is;
     queues_are = λ a. places_later journal more (queue_of queues a) (waiting a packets) (is.queues_are a);
   }
 
@@ -97,7 +106,9 @@ module _ {B : Type 0} where
       let fits : length letters - ready.lost ≡ is.count = omega (arith, is.lost_is, is.count_within) in
       let come : fitting start.posted.letters a letters ready.lost ≡ numbered_letters start.posted.letters a (take is.count letters) =
       ap (λ n. take n (numbered_letters start.posted.letters a letters)) fits ∙ sym (numbered-take is.count start.posted.letters a letters) in
-      let waits = Waits-more size start.entries.items (pool before) start.queues prepared.queues start.waiting ready.waiting start.posted.letters is.count ready.lost a letters kept.waits is.count_within is.queues_are is.waiting_letters is.waiting_bytes in
+      let waits =
+      Waits-more size start.entries.items (pool before) start.queues prepared.queues start.waiting ready.waiting start.posted.letters is.count ready.lost
+      a letters kept.waits is.count_within is.queues_are is.order_is is.waiting_letters is.waiting_bytes in
       record {
         kept = record {
           kept = rw (past_now, posted_are) (IsKept-post size before start.posted.letters start.posted.bytes ready.lost a letters ready.posted kept.kept lost_is is.summed);

@@ -1,5 +1,5 @@
 -- What a ledger keeps, and what a turn adds to it.
-use Rattle.std.specs.Prelude.{◌≡◌, ◌<◌, ◌≤◌, ◌⊎◌, ℕ, ◌+◌, ◌-◌, ◌^◌, min, List, ◌++◌, length, take, Option, Some, None, vec_len, vec_capacity}
+use Rattle.std.specs.Prelude.{◌≡◌, ◌<◌, ◌≤◌, ◌⊎◌, ℕ, ◌+◌, ◌-◌, ◌^◌, min, List, ◌++◌, length, take, map, Option, Some, None, vec_len, vec_capacity}
 use Rattle.journal.specs.declared.journal.Actor.{Actor}
 use Rattle.journal.specs.declared.journal.JournalEntry.{JournalEntry}
 use Rattle.journal.specs.declared.journal.JournalEntry.TheVariants.{Draw, Lose, Local, Idle}
@@ -15,6 +15,7 @@ use Rattle.journal.specs.declared.queues.Queues.{Queues}
 use Rattle.journal.specs.declared.wire.Stop.{Stop}
 use Rattle.journal.specs.declared.wire.Stop.TheVariants.{OutOfMemory, JournalFull}
 use Rattle.journal.specs.Limits.{letters_limit, bytes_limit}
+use Rattle.journal.specs.Order.{waiter_of, addressed}
 use Rattle.journal.specs.Places.{placed, queue_of, sent_to, ArePlacesOf}
 use Rattle.journal.specs.Pool.{past, pool, waiting, chosen, letter_bytes}
 use Rattle.journal.specs.Orderly.{pool_bytes, fitting_count}
@@ -57,6 +58,7 @@ IsRefusal size next total post (JournalFull bytes count) = IsPast size next tota
 pub record IsUnchanged {B : Type 0} (before after : Ledger B) : Type 0 where
   pub entries_same : after.entries.items ≡ before.entries.items
   pub queues_same : (a : Actor) → queue_of after.queues a ≡ queue_of before.queues a
+  pub order_same : after.queues.order ≡ before.queues.order
   pub posted_same : after.posted ≡ before.posted
   pub waiting_same : after.waiting ≡ before.waiting
 
@@ -69,15 +71,17 @@ pub record IsReady {B : Type 0} (size : B → ℕ) (a : Actor) (letters : List (
   pub count_within : count ≤ length letters
   pub lost_is : ready.lost ≡ length letters - count
   pub queues_are : (receiver : Actor) → queue_of after.queues receiver ≡ queue_of before.queues receiver ++ sent_to receiver (placed (length before.entries.items) 0 before.posted.letters a (take count letters))
+  pub order_is : after.queues.order ≡ before.queues.order ++ addressed before.posted.letters (take count letters)
   pub waiting_letters : ready.waiting.letters ≡ before.waiting.letters + count
   pub waiting_bytes : ready.waiting.bytes ≡ before.waiting.bytes + letter_bytes size (take count letters)
   pub summed : IsSummed size before.posted.letters before.posted.bytes letters ready.posted
 
--- what is kept of packets that wait, in the order of their numbers: for each actor the places of those for it, how many
--- there are, and the bytes of their bodies
+-- what is kept of packets that wait, in the order of their numbers: the numbers and receivers of all, for each actor the
+-- places of those for it, how many there are, and the bytes of their bodies
 pub record Waits {B : Type 0} (size : B → ℕ) (journal : List (JournalEntry B)) (packets : List (Packet B)) (queues : Queues) (waits : Sums) : Type 0 where
   pub letters_are : waits.letters ≡ length packets
   pub bytes_are : waits.bytes ≡ pool_bytes size packets
+  pub order_is : queues.order ≡ map waiter_of packets
   pub queues_are : (a : Actor) → ArePlacesOf journal (queue_of queues a) (waiting a packets)
 
 -- what a ledger keeps beside its entries: behind an input that may want memory there is room for the entry that says so

@@ -2,6 +2,7 @@ pub mod Actors
 pub mod Causes
 pub mod Limits
 pub mod Pool
+pub mod Order
 pub mod Places
 pub mod Stables
 pub mod Part

@@ -1,5 +1,5 @@
 -- Where the letters of packets stand in a journal, and queues of such places.
-use Rattle.std.specs.Prelude.{◌≡◌, ℕ, ◌+◌, ◌%◌, nat_le, Bool, List, [], ◌∷◌, length, get_or, filter, slice_get, option_map, Option, Some, None, if◌then◌else◌}
+use Rattle.std.specs.Prelude.{◌≡◌, ℕ, ◌+◌, ◌%◌, Bool, List, [], ◌∷◌, length, get_or, filter, slice_get, option_map, Option, Some, None, if◌then◌else◌}
 use Rattle.std.specs.List.{remove}
 use Rattle.journal.specs.declared.journal.Actor.{Actor}
 use Rattle.journal.specs.declared.journal.Actor.TheVariants.{Controller, Switch}
@@ -76,17 +76,11 @@ picked choice places = slice_get places (choice % length places)
 abbrev pub left_in : ℕ → Bool → List PacketPlace → List PacketPlace
 left_in choice keep places = if keep then places else remove places (choice % length places)
 
--- the one of the lower number, the first of two with the same
-abbrev pub lower : Option PacketPlace → PacketPlace → PacketPlace
-lower None place = place
-lower (Some best) place = if nat_le best.id place.id then best else place
+-- the first place in the queue of a receiver
+abbrev pub first_for : Queues → Option Actor → Option PacketPlace
+first_for queues None = None
+first_for queues (Some to) = slice_get (queue_of queues to) 0
 
--- the one of the lowest number, of one place and the first of each list
-abbrev pub lowest : Option PacketPlace → List (List PacketPlace) → Option PacketPlace
-lowest best [] = best
-lowest best ([] ∷ lists) = lowest best lists
-lowest best ((place ∷ places) ∷ lists) = lowest (Some (lower best place)) lists
-
--- the one of the lowest number in queues, by the first of each
+-- the place of the lowest number in queues: the first in the queue of whom the order names first
 abbrev pub first_of : Queues → Option PacketPlace
-first_of queues = lowest (lowest None queues.controllers) queues.switches
+first_of queues = first_for queues (option_map (λ w. w.1) (slice_get queues.order 0))

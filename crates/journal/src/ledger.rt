@@ -104,7 +104,8 @@ impl<B: Weight> Ledger<B> {
     /// All of a post that may fail, with memory for its entry and `more` further ones. An `Err` changes
     /// nothing.
     fn prepare(&mut self, actor: Actor, letters: &[Letter<B>], more: usize) -> Result<Ready, Stop>
-        requires { more ≤ 2 }
+        requires small { more ≤ 2 }
+        requires kept { IsLedger B.size self.old }
         ensures ok { IfOk result (IsReady B.size actor letters.now self.old self.new) }
         ensures room { OnOk result (vec_len self.new.entries + (1 + more) ≤ vec_capacity self.new.entries) }
         ensures grows { (vec_len self.new.entries ≡ vec_len self.old.entries) × (vec_capacity self.old.entries ≤ vec_capacity self.new.entries) }

@@ -7,6 +7,7 @@ mod gate;
 mod journal;
 mod ledger;
 mod memory;
+mod order;
 mod outside;
 mod place;
 mod pool;

@@ -1,9 +1,11 @@
 //! The packets that wait, in a queue for each actor.
 ghost use Rattle.std.specs.Prelude.{◌≡◌, ℕ, ◌<◌, ◌+◌, ◌-◌, ◌^◌, ◌%◌, ◌++◌, [], ◌∷◌, nat_eq, length, take, drop, get_or, filter, slice_get, OnOk, OnErr, Option, if◌then◌else◌};
 ghost use Rattle.journal.specs.Actors.{same_actor};
-ghost use Rattle.journal.specs.Places.{placed, queue_of, left_in, picked, sent_to, letters_to, lowest, lower, first_of};
+ghost use Rattle.journal.specs.Order.{addressed, order_left, AreBelow};
+ghost use Rattle.journal.specs.Places.{placed, queue_of, left_in, picked, sent_to, letters_to, first_of};
 
 use crate::journal::{Actor, Letter};
+use crate::order::Order;
 use crate::place::PacketPlace;
 use std::alloc::{AllocError, Global};
 use std::collections::VecDeque;
@@ -51,16 +53,6 @@ fn look(queue: &VecDeque<PacketPlace>, choice: u64) -> Option<PacketPlace>
         return None;
     }
     queue.get((choice % count) as usize).copied()
-}
-
-/// The one of the lower number, the first of two with the same.
-fn lower(best: Option<PacketPlace>, place: PacketPlace) -> PacketPlace
-    ensures { result ≡ lower best place }
-{
-    match best {
-        Some(found) if found.id <= place.id => found,
-        _ => place,
-    }
 }
 
 impl Row {
@@ -128,19 +120,6 @@ impl Row {
         }
         look(&self.queues[index], choice)
     }
-
-    /// The one of the lowest number, of `best` and the first of each queue.
-    fn first(&self, best: Option<PacketPlace>) -> Option<PacketPlace>
-        ensures { result ≡ lowest best self.now }
-    {
-        let mut best = best;
-        for queue in &self.queues {
-            if let Some(front) = queue.front() {
-                best = Some(lower(best, *front));
-            }
-        }
-        best
-    }
 }
 
 /// The packets that wait for each actor, by number.
@@ -150,16 +129,19 @@ pub struct Queues {
     controllers: Row,
     /// A queue for each switch, by number.
     switches: Row,
+    /// All of them, whoever they are for, by number.
+    order: Order,
 }
 
 impl Queues {
     /// All queues are empty.
     pub fn new(alloc: Global) -> Queues
-        ensures { result ≡ record { controllers = []; switches = [] } }
+        ensures { result ≡ record { controllers = []; switches = []; order = [] } }
     {
         Queues {
             controllers: Row::new(alloc),
             switches: Row::new(alloc),
+            order: Order::new(alloc),
         }
     }
 
@@ -167,6 +149,7 @@ impl Queues {
     fn push(&mut self, place: PacketPlace) -> Result<(), AllocError>
         ensures ok { OnOk result ((a : Actor) → queue_of self.new a ≡ (if same_actor place.to a then queue_of self.old a ++ place ∷ [] else queue_of self.old a)) }
         ensures err { OnErr result ((a : Actor) → queue_of self.new a ≡ queue_of self.old a) }
+        ensures order { self.new.order ≡ self.old.order }
     {
         match place.to {
             Actor::Controller(number) => self.controllers.push(number, place),
@@ -176,7 +159,8 @@ impl Queues {
 
     /// Takes the last packet of a queue away, if it has one.
     fn pop(&mut self, actor: Actor)
-        ensures { (a : Actor) → queue_of self.new a ≡ (if same_actor actor a then take (length (queue_of self.old a) - 1) (queue_of self.old a) else queue_of self.old a) }
+        ensures queues { (a : Actor) → queue_of self.new a ≡ (if same_actor actor a then take (length (queue_of self.old a) - 1) (queue_of self.old a) else queue_of self.old a) }
+        ensures order { self.new.order ≡ self.old.order }
     {
         match actor {
             Actor::Controller(number) => self.controllers.pop(number),
@@ -186,15 +170,16 @@ impl Queues {
 
     /// For each letter, takes the last packet of its receiver away.
     fn pop_each<B>(&mut self, letters: &[Letter<B>])
-        ensures { (a : Actor) → queue_of self.new a ≡ take (length (queue_of self.old a) - length (letters_to a letters.now)) (queue_of self.old a) }
+        ensures queues { (a : Actor) → queue_of self.new a ≡ take (length (queue_of self.old a) - length (letters_to a letters.now)) (queue_of self.old a) }
+        ensures order { self.new.order ≡ self.old.order }
     {
         for letter in letters {
             self.pop(letter.to);
         }
     }
 
-    /// Adds the letters of the post at this entry, numbered from `first` on. An `Err` changes no queue.
-    pub fn append<B>(
+    /// Adds the letters to the queues of their receivers, as `append` does.
+    fn push_each<B>(
         &mut self,
         entry: usize,
         first: u64,
@@ -204,6 +189,7 @@ impl Queues {
         requires { first + length letters.now < 2 ^ 64 }
         ensures ok { OnOk result ((a : Actor) → queue_of self.new a ≡ queue_of self.old a ++ sent_to a (placed entry 0 first from letters.now)) }
         ensures err { OnErr result ((a : Actor) → queue_of self.new a ≡ queue_of self.old a) }
+        ensures order { self.new.order ≡ self.old.order }
     {
         for (letter, sent) in letters.iter().enumerate() {
             let place = PacketPlace {
@@ -221,15 +207,43 @@ impl Queues {
         Ok(())
     }
 
+    /// Adds the letters of the post at this entry, numbered from `first` on. An `Err` changes no queue.
+    pub fn append<B>(
+        &mut self,
+        entry: usize,
+        first: u64,
+        from: Actor,
+        letters: &[Letter<B>],
+    ) -> Result<(), AllocError>
+        requires small { first + length letters.now < 2 ^ 64 }
+        requires above { AreBelow first self.old.order }
+        ensures ok { OnOk result ((a : Actor) → queue_of self.new a ≡ queue_of self.old a ++ sent_to a (placed entry 0 first from letters.now)) }
+        ensures err { OnErr result ((a : Actor) → queue_of self.new a ≡ queue_of self.old a) }
+        ensures order_ok { OnOk result (self.new.order ≡ self.old.order ++ addressed first letters.now) }
+        ensures order_err { OnErr result (self.new.order ≡ self.old.order) }
+    {
+        self.push_each(entry, first, from, letters)?;
+        if let Err(error) = self.order.append(first, letters) {
+            self.pop_each(letters);
+            return Err(error);
+        }
+        Ok(())
+    }
+
     /// The packet of a choice, counted round. It leaves the actor's queue, unless it is kept.
     pub fn pick(&mut self, actor: Actor, choice: u64, keep: bool) -> Option<PacketPlace>
         ensures found { result ≡ picked choice (queue_of self.old actor) }
         ensures left { (a : Actor) → queue_of self.new a ≡ (if same_actor actor a then left_in choice keep (queue_of self.old a) else queue_of self.old a) }
+        ensures order { self.new.order ≡ order_left keep result self.old.order }
     {
-        match actor {
+        let found = match actor {
             Actor::Controller(number) => self.controllers.pick(number, choice, keep),
             Actor::Switch(number) => self.switches.pick(number, choice, keep),
+        };
+        if !keep {
+            self.order.remove(found?.id);
         }
+        found
     }
 
     /// The packet of a choice, counted round. It stays in the actor's queue.
@@ -242,10 +256,10 @@ impl Queues {
         }
     }
 
-    /// The packet of the lowest number, by the first of each queue.
+    /// The packet of the lowest number: the first in the queue of whom the order names first.
     pub fn first(&self) -> Option<PacketPlace>
         ensures { result ≡ first_of self.now }
     {
-        self.switches.first(self.controllers.first(None))
+        self.look(self.order.first()?, 0)
     }
 }

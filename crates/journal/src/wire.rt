@@ -96,7 +96,7 @@ impl<B: Weight> Wire<B> {
         self.ledger.entries.as_slice()
     }
 
-    /// The packet of the lowest number that waits, by the first of each queue.
+    /// The packet of the lowest number that waits.
     pub fn first(&self) -> Option<PacketPlace>
         ensures { IsFound self.now result (slice_get (pool (past self.now)) 0) }
     {

@@ -24,7 +24,8 @@ pub returns-then-not-keep-clause-left : goal.returns-then-not-keep-clause-left
 returns-then-not-keep-clause-left g c =
     let is = picked_is g.B.Weight.size c.args.self.now c.args.actor c.args.choice c.in_ok-found.found c.requires c.in_ok-found.ensures.found in
     let body = body_is (packet_at c.in_ok-found.found c.as_slice.result.now) is.packet c.body_at.result.now c.body_at.ensures (rw c.as_slice.ensures.value is.is.stands) in
-    leaves g.B.Weight.size c.args.self.now c.args.actor c.args.choice c.args.keep c.in_ok-found.found c.pick.new.self c.size.result c.requires is c.if-not-keep.true c.pick.ensures.left (c.size.ensures ∙ ap g.B.Weight.size body)
+    leaves g.B.Weight.size c.args.self.now c.args.actor c.args.choice c.args.keep c.in_ok-found.found c.pick.new.self c.size.result c.requires is
+    c.if-not-keep.true c.pick.ensures.left c.in_ok-found.ensures.order (c.size.ensures ∙ ap g.B.Weight.size body)
 
 pub returns-else-not-keep-clause-found : goal.returns-else-not-keep-clause-found
 returns-else-not-keep-clause-found g c =

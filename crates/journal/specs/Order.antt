@@ -1,0 +1,46 @@
+-- The order in which packets wait: the number and the receiver of each, the lowest number first.
+use Rattle.std.specs.Prelude.{◌<◌, ℕ, ◌+◌, ◌^◌, not, nat_eq, Bool, List, [], ◌∷◌, length, filter, Option, Some, None, if◌then◌else◌}
+use Rattle.std.specs.List.{AllByRecursion}
+use Rattle.journal.specs.declared.journal.Actor.{Actor}
+use Rattle.journal.specs.declared.journal.Letter.{Letter}
+use Rattle.journal.specs.declared.journal.Packet.{Packet}
+use Rattle.journal.specs.declared.place.PacketPlace.{PacketPlace}
+
+-- the number and the receiver of a packet
+abbrev pub waiter_of : {B : Type 0} → Packet B → ℕ × Actor
+waiter_of p = (p.id, p.to)
+
+-- those of letters, numbered from there on
+abbrev pub addressed : {B : Type 0} → ℕ → List (Letter B) → List (ℕ × Actor)
+addressed first [] = []
+addressed first (letter ∷ letters) = (first, letter.to) ∷ addressed (first + 1) letters
+
+-- all have numbers below this one
+abbrev pub AreBelow : ℕ → List (ℕ × Actor) → Type 0
+AreBelow number order = AllByRecursion (λ w. w.0 < number) order
+
+-- those of other numbers
+abbrev pub others : ℕ → List (ℕ × Actor) → List (ℕ × Actor)
+others number order = filter (λ w. not (nat_eq w.0 number)) order
+
+-- an order once a packet was picked, which goes on waiting where it is kept
+abbrev pub order_left : Bool → Option PacketPlace → List (ℕ × Actor) → List (ℕ × Actor)
+order_left keep None order = order
+order_left keep (Some place) order = if keep then order else others place.id order
+
+-- a slot for each number from there on: those that have a receiver
+abbrev pub awaited : ℕ → List (Option Actor) → List (ℕ × Actor)
+awaited first [] = []
+awaited first (None ∷ slots) = awaited (first + 1) slots
+awaited first (Some to ∷ slots) = (first, to) ∷ awaited (first + 1) slots
+
+-- the first of the slots has a receiver
+abbrev pub IsTrimmed : List (Option Actor) → Type 0
+IsTrimmed [] = Unit {0}
+IsTrimmed (None ∷ slots) = ⊥
+IsTrimmed (Some to ∷ slots) = Unit {0}
+
+-- slots for numbers of 64 bits, the first of which waits
+pub record AreSlots (first : ℕ) (slots : List (Option Actor)) : Type 0 where
+  pub trimmed : IsTrimmed slots
+  pub bound : first + length slots < 2 ^ 64

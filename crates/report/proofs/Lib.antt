@@ -16,6 +16,7 @@ pub mod SetupAgain
 pub mod SetupTaken
 pub mod SetupTests
 pub mod Writable
+pub mod Spaces
 pub mod Steps
 pub mod Takers
 pub mod Texts

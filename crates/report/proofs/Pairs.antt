@@ -1,6 +1,6 @@
 -- Bytes are spelled by two digits each.
 use Rattle.std.proofs.Common.{◌≡◌, ◌<◌, ◌≤◌, ℕ, suc, ◌+◌, ◌*◌, ◌/◌, ◌%◌, List, [], ◌∷◌, ◌++◌, length, take, drop, get_or, set, refl, sym, ap, subst, ◌∙◌, arith}
-use Rattle.std.proofs.Math.Seq.{drop-cons, take-append_seam, take-suc}
+use Rattle.std.proofs.Math.Seq.{drop-cons, take-suc}
 use Rattle.std.proofs.lemmas.List.{append-nil, append_assoc, length-take-le, take-append-drop}
 use Rattle.report.specs.Report.{hex_digit, hex_of}
 
@@ -44,11 +44,10 @@ pub rejoined : (n : ℕ) (whole front behind : List ℕ) → front ≡ take n wh
 rejoined n whole front behind is rest = sym (ap (λ l. l ++ behind) is ∙ ap (λ l. take n whole ++ l) rest ∙ take-append-drop n whole)
 
 -- what is written of a piece, and the bytes behind it
-pub piece_spelled : (out all rest piece behind room old now : List ℕ) → out ++ hex_of rest ≡ all → rest ≡ piece ++ behind → room ≡ hex_of piece ++ old → now ≡ out ++ take (2 * length piece) room → now ++ hex_of behind ≡ all
-piece_spelled out all rest piece behind room old now stood parts spelled wrote =
-    let front : take (2 * length piece) room ≡ hex_of piece =
-    ap (λ n. take n room) (sym (hex_long piece)) ∙ ap (λ l. take (length (hex_of piece)) l) spelled ∙ take-append_seam (hex_of piece) old in
-    ap (λ l. l ++ hex_of behind) (wrote ∙ ap (λ l. out ++ l) front) ∙ append_assoc out (hex_of piece) (hex_of behind)
+pub piece_spelled : (out all rest piece behind now : List ℕ) → out ++ hex_of rest ≡ all → rest ≡ piece ++ behind →
+    now ≡ out ++ hex_of piece → now ++ hex_of behind ≡ all
+piece_spelled out all rest piece behind now stood parts wrote =
+    ap (λ l. l ++ hex_of behind) wrote ∙ append_assoc out (hex_of piece) (hex_of behind)
     ∙ ap (λ l. out ++ l) (sym (hex_append piece behind) ∙ ap hex_of (sym parts)) ∙ stood
 
 -- where nothing is left

@@ -3,6 +3,7 @@ ghost use Rattle.std.specs.Prelude.{◌≡◌, ◌++◌, ◌∷◌, [], ℕ, Lis
 ghost use Rattle.journal.specs.declared.journal.JournalEntry.TheVariants as entry;
 ghost use Rattle.report.specs.Report.{lines_of, line, actor_word, entry_lines, event_words};
 
+use crate::sheet::Sheet;
 use crate::word::{Word, write_line};
 use journal::{Actor, JournalEntry, Letter, Local};
 use of_ravana::canonical_happening;
@@ -15,13 +16,13 @@ pub trait Lines {
     ghost lines: { Self → List ℕ };
 
     /// Writes the lines.
-    fn write_lines(&self, alloc: Global, out: &mut Octets) -> Result<(), AllocError>
+    fn write_lines(&self, alloc: Global, out: &mut Sheet) -> Result<(), AllocError>
         ensures { OnOk result (out.new ≡ out.old ++ lines self.now) };
 }
 
 /// Writes the lines of each, one after another.
 #[tactic(auto, unfolding(crate::specs::Report::lines_of))]
-pub fn write_each<L: Lines>(alloc: Global, out: &mut Octets, items: &[L]) -> Result<(), AllocError>
+pub fn write_each<L: Lines>(alloc: Global, out: &mut Sheet, items: &[L]) -> Result<(), AllocError>
     ensures { OnOk result (out.new ≡ out.old ++ lines_of L.lines items.now) }
 {
     for item in items {
@@ -35,7 +36,7 @@ impl Lines for Link {
 
     ghost lines = { link_line };
 
-    fn write_lines(&self, _: Global, out: &mut Octets) -> Result<(), AllocError> {
+    fn write_lines(&self, _: Global, out: &mut Sheet) -> Result<(), AllocError> {
         let words = [
             Word::Number(u64::from(self.switch)),
             Word::Number(u64::from(self.port)),
@@ -51,7 +52,7 @@ impl Lines for Rule {
 
     ghost lines = { deny_line };
 
-    fn write_lines(&self, _: Global, out: &mut Octets) -> Result<(), AllocError> {
+    fn write_lines(&self, _: Global, out: &mut Sheet) -> Result<(), AllocError> {
         let words = [
             Word::Number(u64::from(self.proto)),
             Word::Address(self.src.address),
@@ -69,7 +70,7 @@ impl Lines for Letter<Octets> {
 
     ghost lines = { letter_line };
 
-    fn write_lines(&self, _: Global, out: &mut Octets) -> Result<(), AllocError> {
+    fn write_lines(&self, _: Global, out: &mut Sheet) -> Result<(), AllocError> {
         let words = [Word::Actor(self.to), Word::Hex(self.body.as_slice())];
         write_line(out, b"letter", &words)
     }
@@ -78,7 +79,7 @@ impl Lines for Letter<Octets> {
 /// Writes a post, and its letters.
 fn write_post(
     alloc: Global,
-    out: &mut Octets,
+    out: &mut Sheet,
     actor: Actor,
     first: u64,
     letters: &[Letter<Octets>],
@@ -97,13 +98,13 @@ fn write_post(
 }
 
 /// Writes the line of an input of one word.
-fn write_bare(out: &mut Octets, actor: Actor, name: &[u8]) -> Result<(), AllocError>
+fn write_bare(out: &mut Sheet, actor: Actor, name: &[u8]) -> Result<(), AllocError>
     ensures { OnOk result (out.new ≡ out.old ++ line (codes "local") (actor_word actor ∷ name.now ∷ [])) }
 {
     write_line(out, b"local", &[Word::Actor(actor), Word::Text(name)])
 }
 
-fn write_local(out: &mut Octets, actor: Actor, input: &Local) -> Result<(), AllocError>
+fn write_local(out: &mut Sheet, actor: Actor, input: &Local) -> Result<(), AllocError>
     ensures { OnOk result (out.new ≡ out.old ++ entry_lines (entry.Local actor input.now)) }
 {
     match input {
@@ -142,7 +143,7 @@ fn write_local(out: &mut Octets, actor: Actor, input: &Local) -> Result<(), Allo
 impl Lines for JournalEntry<Octets> {
     ghost lines = { entry_lines };
 
-    fn write_lines(&self, alloc: Global, out: &mut Octets) -> Result<(), AllocError> {
+    fn write_lines(&self, alloc: Global, out: &mut Sheet) -> Result<(), AllocError> {
         match self {
             JournalEntry::Post {
                 actor,
@@ -167,7 +168,7 @@ impl Lines for JournalEntry<Octets> {
 /// Writes a line that tells an event.
 fn write_event(
     alloc: Global,
-    out: &mut Octets,
+    out: &mut Sheet,
     first: &[u8],
     event: &Event,
 ) -> Result<(), AllocError>
@@ -188,7 +189,7 @@ impl Lines for Entry {
 
     ghost lines = { log_line };
 
-    fn write_lines(&self, alloc: Global, out: &mut Octets) -> Result<(), AllocError> {
+    fn write_lines(&self, alloc: Global, out: &mut Sheet) -> Result<(), AllocError> {
         match self {
             Entry::Received(event) => write_event(alloc, out, b"received", event),
             Entry::Processed(place) => write_line(out, b"processed", &[Word::Number(*place)]),
@@ -201,7 +202,7 @@ impl Lines for Event {
 
     ghost lines = { event_line };
 
-    fn write_lines(&self, alloc: Global, out: &mut Octets) -> Result<(), AllocError> {
+    fn write_lines(&self, alloc: Global, out: &mut Sheet) -> Result<(), AllocError> {
         write_event(alloc, out, b"event", self)
     }
 }

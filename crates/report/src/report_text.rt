@@ -5,6 +5,7 @@ ghost use Rattle.report.specs.Report.{port_line, port_lines, setup_line, setup_l
 
 use crate::lines::write_each;
 use crate::record::Record;
+use crate::sheet::Sheet;
 use crate::sums::write_end;
 use crate::switches::write_switches;
 use crate::word::{Word, write_line};
@@ -28,18 +29,18 @@ pub fn size_of_log(log: &[Entry]) -> u128
 pub fn text(alloc: Global, told: &Record) -> Result<Octets, AllocError>
     ensures { IfOk result (λ bytes. bytes ≡ text told.now) }
 {
-    let mut out = Octets::new(alloc);
+    let mut out = Sheet::new(alloc);
     write_line(&mut out, b"ravana report 1", &[])?;
     write_setup(alloc, &mut out, &told.setup)?;
     write_each(alloc, &mut out, told.journal.as_slice())?;
     write_log(alloc, &mut out, told.log.as_slice())?;
     write_switches(alloc, &mut out, told.switches.as_slice())?;
     write_end(&mut out, told)?;
-    Ok(out)
+    out.into_octets()
 }
 
 #[tactic(auto, unfolding(crate::specs::Report::port_line))]
-fn write_port_line(out: &mut Octets, switch: usize, count: u32) -> Result<(), AllocError>
+fn write_port_line(out: &mut Sheet, switch: usize, count: u32) -> Result<(), AllocError>
     ensures { OnOk result (out.new ≡ out.old ++ port_line switch count) }
 {
     let words = [Word::Number(switch as u64), Word::Number(u64::from(count))];
@@ -48,7 +49,7 @@ fn write_port_line(out: &mut Octets, switch: usize, count: u32) -> Result<(), Al
 
 /// Writes how many ports each switch has.
 #[tactic(auto, unfolding(crate::specs::Report::port_lines))]
-fn write_ports(out: &mut Octets, counts: &[u32]) -> Result<(), AllocError>
+fn write_ports(out: &mut Sheet, counts: &[u32]) -> Result<(), AllocError>
     ensures { OnOk result (out.new ≡ out.old ++ port_lines 0 counts.now) }
 {
     for (switch, count) in counts.iter().enumerate() {
@@ -58,7 +59,7 @@ fn write_ports(out: &mut Octets, counts: &[u32]) -> Result<(), AllocError>
 }
 
 #[tactic(auto, unfolding(crate::specs::Report::setup_line))]
-fn write_setup_line(out: &mut Octets, setup: &Setup) -> Result<(), AllocError>
+fn write_setup_line(out: &mut Sheet, setup: &Setup) -> Result<(), AllocError>
     ensures { OnOk result (out.new ≡ out.old ++ setup_line setup.now) }
 {
     let words = [
@@ -69,7 +70,7 @@ fn write_setup_line(out: &mut Octets, setup: &Setup) -> Result<(), AllocError>
 }
 
 #[tactic(auto, unfolding(crate::specs::Report::setup_lines))]
-fn write_setup(alloc: Global, out: &mut Octets, setup: &Setup) -> Result<(), AllocError>
+fn write_setup(alloc: Global, out: &mut Sheet, setup: &Setup) -> Result<(), AllocError>
     ensures { OnOk result (out.new ≡ out.old ++ setup_lines setup.now) }
 {
     write_setup_line(out, setup)?;
@@ -94,7 +95,7 @@ fn size_of_entry(entry: &Entry) -> u128
 }
 
 #[tactic(auto, unfolding(crate::specs::Report::log_lines))]
-fn write_log(alloc: Global, out: &mut Octets, log: &[Entry]) -> Result<(), AllocError>
+fn write_log(alloc: Global, out: &mut Sheet, log: &[Entry]) -> Result<(), AllocError>
     ensures { OnOk result (out.new ≡ out.old ++ log_lines log.now) }
 {
     let words = [Word::Number(log.len() as u64), Word::Sum(size_of_log(log))];

@@ -4,6 +4,7 @@ ghost use Rattle.report.specs.Report.{end_line, sum_words, sums_words};
 ghost use Rattle.report.specs.Sums.{sums_in, sums_line};
 
 use crate::record::{Record, SwitchRecord};
+use crate::sheet::Sheet;
 use crate::word::{Word, write_words};
 use crate::words::write_newline;
 use of_types::Octets;
@@ -38,7 +39,7 @@ fn counts(switches: &[SwitchRecord]) -> (u128, u128, u128)
 
 #[tactic(auto, unfolding(crate::specs::Report::labelled))]
 fn write_counts(
-    out: &mut Octets,
+    out: &mut Sheet,
     events: u128,
     entries: u64,
     executed: u128,
@@ -61,7 +62,7 @@ fn write_counts(
 
 #[tactic(auto, unfolding(crate::specs::Report::sum_words))]
 pub fn write_sum_words(
-    out: &mut Octets,
+    out: &mut Sheet,
     entries: usize,
     switches: &[SwitchRecord],
 ) -> Result<(), AllocError>
@@ -87,7 +88,7 @@ fn sums_in(told: &Record) -> Sums
 }
 
 #[tactic(auto, unfolding(crate::specs::Report::labelled, crate::specs::Sums::sums_line))]
-fn write_sums(out: &mut Octets, sums: &Sums) -> Result<(), AllocError>
+fn write_sums(out: &mut Sheet, sums: &Sums) -> Result<(), AllocError>
     ensures { OnOk result (out.new ≡ out.old ++ sums_line sums.now) }
 {
     out.append(b"end")?;
@@ -104,7 +105,7 @@ fn write_sums(out: &mut Octets, sums: &Sums) -> Result<(), AllocError>
 
 /// Writes the last line of a report.
 #[tactic(auto, unfolding(crate::specs::Report::end_line, crate::specs::Report::sum_words, crate::specs::Sums::sums_line))]
-pub fn write_end(out: &mut Octets, told: &Record) -> Result<(), AllocError>
+pub fn write_end(out: &mut Sheet, told: &Record) -> Result<(), AllocError>
     ensures { OnOk result (out.new ≡ out.old ++ end_line told.now) }
 {
     write_sums(out, &sums_in(told))
@@ -114,7 +115,7 @@ pub fn write_end(out: &mut Octets, told: &Record) -> Result<(), AllocError>
 pub fn last_line(alloc: Global, sums: &Sums) -> Result<Octets, AllocError>
     ensures { IfOk result (λ line. line ≡ sums_line sums.now) }
 {
-    let mut out = Octets::new(alloc);
+    let mut out = Sheet::new(alloc);
     write_sums(&mut out, sums)?;
-    Ok(out)
+    out.into_octets()
 }

@@ -4,19 +4,20 @@ ghost use Rattle.report.specs.Report.{lines_of, executed_line, row_line, role_wo
 
 use crate::lines::write_each;
 use crate::record::{RowRecord, SwitchRecord};
+use crate::sheet::Sheet;
 use crate::word::{Word, write_line, write_words};
 use crate::words::{write_newline, write_number};
 use journal::Actor;
 use of_match::bare_match;
 use of_messages::actions_of;
 use of_ravana::canonical_order;
-use of_types::{Executed, Octets};
+use of_types::Executed;
 use std::alloc::{AllocError, Global};
 
 #[tactic(auto, unfolding(crate::specs::Report::switch_lines))]
 pub fn write_switches(
     alloc: Global,
-    out: &mut Octets,
+    out: &mut Sheet,
     switches: &[SwitchRecord],
 ) -> Result<(), AllocError>
     ensures { OnOk result (out.new ≡ out.old ++ switch_lines 0 switches.now) }
@@ -29,7 +30,7 @@ pub fn write_switches(
 
 fn write_executed(
     alloc: Global,
-    out: &mut Octets,
+    out: &mut Sheet,
     switch: usize,
     command: &Executed,
 ) -> Result<(), AllocError>
@@ -50,7 +51,7 @@ fn write_executed(
 #[tactic(auto, unfolding(crate::specs::Report::lines_of))]
 fn write_executed_all(
     alloc: Global,
-    out: &mut Octets,
+    out: &mut Sheet,
     switch: usize,
     commands: &[Executed],
 ) -> Result<(), AllocError>
@@ -64,7 +65,7 @@ fn write_executed_all(
 
 fn write_row(
     alloc: Global,
-    out: &mut Octets,
+    out: &mut Sheet,
     switch: usize,
     row: &RowRecord,
 ) -> Result<(), AllocError>
@@ -84,7 +85,7 @@ fn write_row(
 #[tactic(auto, unfolding(crate::specs::Report::lines_of))]
 fn write_rows(
     alloc: Global,
-    out: &mut Octets,
+    out: &mut Sheet,
     switch: usize,
     rows: &[RowRecord],
 ) -> Result<(), AllocError>
@@ -97,7 +98,7 @@ fn write_rows(
 }
 
 #[tactic(auto, unfolding(crate::specs::Report::labelled, crate::specs::Report::role_words))]
-fn write_role_words(out: &mut Octets, told: &SwitchRecord) -> Result<(), AllocError>
+fn write_role_words(out: &mut Sheet, told: &SwitchRecord) -> Result<(), AllocError>
     ensures { OnOk result (out.new ≡ out.old ++ role_words told.now) }
 {
     let words = [
@@ -112,7 +113,7 @@ fn write_role_words(out: &mut Octets, told: &SwitchRecord) -> Result<(), AllocEr
 }
 
 #[tactic(auto, unfolding(crate::specs::Report::labelled, crate::specs::Report::count_words))]
-fn write_count_words(out: &mut Octets, told: &SwitchRecord) -> Result<(), AllocError>
+fn write_count_words(out: &mut Sheet, told: &SwitchRecord) -> Result<(), AllocError>
     ensures { OnOk result (out.new ≡ out.old ++ count_words told.now) }
 {
     let words = [
@@ -131,7 +132,7 @@ fn write_count_words(out: &mut Octets, told: &SwitchRecord) -> Result<(), AllocE
 }
 
 #[tactic(auto, unfolding(crate::specs::Report::number_text, crate::specs::Report::switch_line))]
-fn write_switch_line(out: &mut Octets, switch: usize, told: &SwitchRecord) -> Result<(), AllocError>
+fn write_switch_line(out: &mut Sheet, switch: usize, told: &SwitchRecord) -> Result<(), AllocError>
     ensures { OnOk result (out.new ≡ out.old ++ switch_line switch told.now) }
 {
     out.append(b"switch")?;
@@ -144,7 +145,7 @@ fn write_switch_line(out: &mut Octets, switch: usize, told: &SwitchRecord) -> Re
 #[tactic(auto, unfolding(crate::specs::Report::told_lines))]
 fn write_told(
     alloc: Global,
-    out: &mut Octets,
+    out: &mut Sheet,
     switch: usize,
     told: &SwitchRecord,
 ) -> Result<(), AllocError>

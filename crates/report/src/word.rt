@@ -3,12 +3,12 @@ ghost use Rattle.std.specs.Prelude.{◌≡◌, ◌++◌, map, OnOk};
 ghost use Rattle.report.specs.Report as report;
 ghost use Rattle.report.specs.Words.{word_text, spaced};
 
+use crate::sheet::Sheet;
 use crate::words::{
     write_actor, write_address, write_flag, write_hex, write_master, write_newline, write_number,
-    write_number_or_dash, write_word,
+    write_number_or_dash, write_small, write_word,
 };
 use journal::Actor;
-use of_types::Octets;
 use std::alloc::AllocError;
 
 /// A word of a line.
@@ -31,13 +31,14 @@ pub enum Word<'a> {
 }
 
 /// Writes a space and a word.
+#[inline(always)]
 #[tactic(auto, unfolding(crate::specs::Report::number_text))]
-fn write_one(out: &mut Octets, word: &Word<'_>) -> Result<(), AllocError>
+fn write_one(out: &mut Sheet, word: &Word<'_>) -> Result<(), AllocError>
     ensures { OnOk result (out.new ≡ out.old ++ report.word (word_text word.now)) }
 {
     match word {
         Word::Text(text) => write_word(out, text),
-        Word::Number(n) => write_number(out, *n),
+        Word::Number(n) => write_small(out, *n),
         Word::Sum(n) => write_number(out, *n),
         Word::NumberOrDash(n) => write_number_or_dash(out, *n),
         Word::Actor(actor) => write_actor(out, *actor),
@@ -49,7 +50,7 @@ fn write_one(out: &mut Octets, word: &Word<'_>) -> Result<(), AllocError>
 }
 
 /// Writes words.
-pub fn write_words(out: &mut Octets, words: &[Word<'_>]) -> Result<(), AllocError>
+pub fn write_words(out: &mut Sheet, words: &[Word<'_>]) -> Result<(), AllocError>
     ensures { OnOk result (out.new ≡ out.old ++ spaced (map word_text words.now)) }
 {
     for word in words {
@@ -59,13 +60,10 @@ pub fn write_words(out: &mut Octets, words: &[Word<'_>]) -> Result<(), AllocErro
 }
 
 /// Writes a line: its first word, and further ones.
-#[tactic(auto, unfolding(crate::specs::Report::line))]
-pub fn write_line(out: &mut Octets, first: &[u8], words: &[Word<'_>]) -> Result<(), AllocError>
+pub fn write_line(out: &mut Sheet, first: &[u8], words: &[Word<'_>]) -> Result<(), AllocError>
     ensures { OnOk result (out.new ≡ out.old ++ report.line first.now (map word_text words.now)) }
 {
     out.append(first)?;
-    for word in words {
-        write_one(out, word)?;
-    }
+    write_words(out, words)?;
     write_newline(out)
 }

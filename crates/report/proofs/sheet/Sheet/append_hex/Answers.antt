@@ -1,6 +1,6 @@
 use Rattle.std.proofs.Common.{rules, ◌≡◌, ◌<◌, length, refl, arith}
 use Rattle.report.proofs.Pairs.{all_spelled, piece_spelled, rejoined}
-use Rattle.report.proofs.words.write_digit_pairs.Goals as goal
+use Rattle.report.proofs.sheet.Sheet.append_hex.Goals as goal
 
 pub pieces-init : goal.pieces-init
 pieces-init c = refl
@@ -17,9 +17,10 @@ pub pieces-preserved : goal.pieces-preserved
 pieces-preserved c =
     let split = c.split_at.ensures in
     let parts = rejoined c.min.result c.pieces.rest.now c.split_at.result.0.now c.split_at.result.1.now split.front split.back in
-    piece_spelled c.pieces.out _ c.pieces.rest.now c.split_at.result.0.now c.split_at.result.1.now c.spell_pairs.new.room _ c.append.new.self c.pieces.invariant parts c.spell_pairs.ensures c.in_ok-append.ensures.ok
+    let cut = c.split_at.result in
+    piece_spelled c.pieces.self _ c.pieces.rest.now cut.0.now cut.1.now c.append_pairs.new.self c.pieces.invariant parts c.in_ok-append_pairs.ensures
 
 pub returns : goal.returns
 returns c =
     let none : length c.pieces.rest.now ≡ 0 = search rules in
-    all_spelled c.pieces.out _ c.pieces.rest.now none c.pieces.invariant
+    all_spelled c.pieces.self _ c.pieces.rest.now none c.pieces.invariant

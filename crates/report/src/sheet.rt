@@ -1,0 +1,141 @@
+//! What a text is written to.
+ghost use Rattle.std.specs.Prelude.{◌≡◌, ◌≤◌, ◌*◌, ◌++◌, ℕ, List, [], length, IfOk, OnOk};
+ghost use Rattle.report.specs.Report.{hex_of};
+
+use crate::room::{ROOM, Room};
+use of_types::Octets;
+use std::alloc::{AllocError, Global};
+use std::marker::Model;
+
+/// What grows at its end as a text is written.
+pub trait Growing {
+    ghost bytes: { Self → List ℕ };
+
+    /// Appends bytes.
+    fn put(&mut self, more: &[u8]) -> Result<(), AllocError>
+        ensures { OnOk result (bytes self.new ≡ bytes self.old ++ more.now) };
+}
+
+impl Growing for Octets {
+    ghost bytes = { λ list. list };
+
+    fn put(&mut self, more: &[u8]) -> Result<(), AllocError> {
+        self.append(more)
+    }
+}
+
+/// The bytes of a text so far. Words are small: the last bytes wait in the value itself and are moved to the list many at a time.
+/// Contracts see it as all of its bytes.
+#[derive(Drop)]
+pub struct Sheet {
+    written: Octets,
+    waiting: Room,
+}
+
+impl Model for Sheet {
+    ghost use Rattle.std.specs.Prelude.{List, ℕ, ◌++◌};
+
+    ghost Value = { List ℕ };
+
+    ghost view = { λ sheet. sheet.written ++ sheet.waiting };
+}
+
+impl Sheet {
+    /// An empty sheet, which takes no memory.
+    pub fn new(alloc: Global) -> Sheet
+        ensures { result ≡ [] }
+    {
+        Sheet {
+            written: Octets::new(alloc),
+            waiting: Room::new(),
+        }
+    }
+
+    /// Appends bytes.
+    #[inline(always)]
+    pub fn append(&mut self, bytes: &[u8]) -> Result<(), AllocError>
+        ensures { OnOk result (self.new ≡ self.old ++ bytes.now) }
+    {
+        if bytes.len() <= self.waiting.free() {
+            self.waiting.put(bytes);
+            Ok(())
+        } else {
+            self.append_behind(bytes)
+        }
+    }
+
+    /// Appends the digits of bytes in base sixteen, two for each. Inlined, its loops would take the registers of those who write
+    /// other words.
+    #[inline(never)]
+    pub fn append_hex(&mut self, bytes: &[u8]) -> Result<(), AllocError>
+        ensures { OnOk result (self.new ≡ self.old ++ hex_of bytes.now) }
+    {
+        let mut rest = bytes;
+        'pieces: while !rest.is_empty() {
+            let (piece, behind) = rest.split_at(rest.len().min(ROOM / 2));
+            self.append_pairs(piece)?;
+            rest = behind;
+        }
+        Ok(())
+    }
+
+    /// The bytes as a list.
+    pub fn into_octets(self) -> Result<Octets, AllocError>
+        ensures { IfOk result (λ bytes. bytes ≡ self) }
+    {
+        let Sheet {
+            mut written,
+            waiting,
+        } = self;
+        written.append(waiting.as_slice())?;
+        Ok(written)
+    }
+
+    /// Appends bytes for which there is no room among those that wait.
+    #[cold]
+    #[inline(never)]
+    fn append_behind(&mut self, bytes: &[u8]) -> Result<(), AllocError>
+        ensures { OnOk result (self.new ≡ self.old ++ bytes.now) }
+    {
+        move_on(&mut self.written, &mut self.waiting)?;
+        if bytes.len() <= ROOM {
+            self.waiting.put(bytes);
+            Ok(())
+        } else {
+            self.written.append(bytes)
+        }
+    }
+
+    /// Appends the digits of so many bytes as there is room for once no others wait.
+    fn append_pairs(&mut self, bytes: &[u8]) -> Result<(), AllocError>
+        requires { 2 * length bytes.now ≤ ROOM }
+        ensures { OnOk result (self.new ≡ self.old ++ hex_of bytes.now) }
+    {
+        if 2 * bytes.len() > self.waiting.free() {
+            move_on(&mut self.written, &mut self.waiting)?;
+        }
+        self.waiting.spell(bytes);
+        Ok(())
+    }
+}
+
+impl Growing for Sheet {
+    ghost bytes = { λ sheet. sheet };
+
+    #[inline(always)]
+    fn put(&mut self, more: &[u8]) -> Result<(), AllocError> {
+        self.append(more)
+    }
+}
+
+/// Moves what waits to the list.
+#[cold]
+#[inline(never)]
+fn move_on(written: &mut Octets, waiting: &mut Room) -> Result<(), AllocError>
+    ensures moved { OnOk result (written.new ≡ written.old ++ waiting.old) }
+    ensures left { OnOk result (waiting.new ≡ []) }
+{
+    written.append(waiting.as_slice())?;
+    waiting.clear();
+    Ok(())
+}

@@ -1,7 +1,11 @@
 -- The switches that are told of settled commands, one switch after another.
-use Rattle.std.proofs.Common.{◌≡◌, ℕ, ◌+◌, Bool, true, false, List, [], ◌∷◌, ◌++◌, map, filter, refl, sym, ap, ◌∙◌, arith, append-nil}
-use Rattle.std.specs.Prelude.{if◌then◌else◌}
+use Rattle.std.proofs.Common.{◌≡◌, ◌<◌, ℕ, ◌+◌, Bool, true, false, List, [], ◌∷◌, ◌++◌, length, take, set, get_or, map, filter, refl, sym, ap, ◌∙◌, arith, append-nil, inl, inr}
+use Rattle.std.specs.Prelude.{nat_eq, nat_lt, not, ◌&&◌, ◌||◌, if◌then◌else◌}
 use Rattle.std.specs.List.{range_with_len}
+use Rattle.std.proofs.Math.Bool.{or-true, or-false, and-false}
+use Rattle.std.proofs.lemmas.Bool.{cases_eq, eq-eqb, ne_eqb}
+use Rattle.std.proofs.lemmas.List.{get_or-set_other, get_or-set_same}
+use Rattle.std.proofs.lemmas.List.Folds.{list_any_more}
 use Rattle.std.proofs.lemmas.List.{map-append}
 use Rattle.std.proofs.lemmas.List.FromFn.{map-range_with_len_more}
 use Rattle.app_core.specs.declared.issued.Issued.{Issued}
@@ -39,3 +43,29 @@ module _ (ledger : Ledger) (commands : List Issued) (n : ℕ) where
   told_no e =
       ap (λ (l : List ℕ). map (cleared_of_life ledger) l)
       (grown ∙ ap (λ (b : Bool). filter (has_told ledger commands) (range_with_len 0 n) ++ (if b then n ∷ [] else [])) e ∙ append-nil (filter (has_told ledger commands) (range_with_len 0 n)))
+
+-- which switches have a command of their present life, one command more
+module _ (ledger : Ledger) (commands : List Issued) (i : ℕ) (x : Issued) (within : i < length commands) (is : x ≡ get_or commands i x) where
+  abbrev lives_on : Bool
+  lives_on = not (nat_lt x.life (get_or ledger.lives x.switch 0))
+
+  one_more : (n : ℕ) → has_told ledger (take (i + 1) commands) n ≡ (has_told ledger (take i commands) n || (nat_eq x.switch n && lives_on))
+  one_more n =
+      let p : Issued → Bool = λ y. nat_eq y.switch n && not (nat_lt y.life (get_or ledger.lives y.switch 0)) in
+      list_any_more p commands i x within ∙ ap (λ (y : Issued). has_told ledger (take i commands) n || p y) (sym is)
+
+  pub told_more_yes : (told : List Bool) (n : ℕ) → x.switch < length told → lives_on ≡ true → get_or told n false ≡ has_told ledger (take i commands) n →
+      get_or (set told x.switch true) n false ≡ has_told ledger (take (i + 1) commands) n
+  told_more_yes told n there lives before = elim (cases_eq x.switch n) [
+    | inl same ↦
+        ap (λ (m : ℕ). get_or (set told x.switch true) m false) (sym same) ∙ get_or-set_same told x.switch true false there
+        ∙ sym (one_more n ∙ rw (eq-eqb x.switch n same, lives) (or-true (has_told ledger (take i commands) n)))
+    | inr other ↦
+        get_or-set_other told x.switch n true false (λ e. other (sym e)) ∙ before
+        ∙ sym (one_more n ∙ rw (ne_eqb x.switch n other) (or-false (has_told ledger (take i commands) n)))
+  ]
+
+  pub told_more_no : (told : List Bool) (n : ℕ) → lives_on ≡ false → get_or told n false ≡ has_told ledger (take i commands) n →
+      get_or told n false ≡ has_told ledger (take (i + 1) commands) n
+  told_more_no told n ended before =
+      before ∙ sym (one_more n ∙ rw ended (ap (λ (b : Bool). has_told ledger (take i commands) n || b) (and-false (nat_eq x.switch n)) ∙ or-false (has_told ledger (take i commands) n)))

@@ -1,5 +1,5 @@
 //! The commands of the first event that is not processed.
-ghost use Rattle.std.specs.Prelude.{◌≡◌, ◌&&◌, map, filter, count_by, nat_eq, nat_lt, get_or, length, IfOk};
+ghost use Rattle.std.specs.Prelude.{◌≡◌, ◌<◌, ℕ, false, ◌&&◌, map, filter, count_by, nat_eq, nat_lt, get_or, length, IfOk};
 ghost use Rattle.std.specs.List.{range_with_len};
 ghost use Rattle.dispatcher.specs.Ledger.{as_numbered, cleared_of_life, first_commands, has_told, is_outstanding, wants};
 
@@ -66,9 +66,10 @@ pub(crate) fn clears(
 ) -> Result<Vec<AckThrough>, AllocError>
     ensures { IfOk result (λ list. list.items ≡ map (cleared_of_life ledger.now) (filter (has_told ledger.now commands.now) (range_with_len 0 switches))) }
 {
+    let told = told_switches(ledger, commands);
     let mut list = Vec::new(alloc);
     for switch in 0..switches {
-        if has_told(ledger, switch, commands) {
+        if told[usize::from(switch)] {
             list.push(cleared(ledger, switch))?;
         }
     }
@@ -104,11 +105,17 @@ fn number(ledger: &Ledger, command: &Issued) -> Result<NumberedOrder, AllocError
     })
 }
 
-/// Whether the present life of a switch has one of these commands.
-fn has_told(ledger: &Ledger, switch: u8, commands: &[Issued]) -> bool
-    ensures { result ≡ has_told ledger.now commands.now switch }
+/// Of each switch, whether its present life has one of these commands.
+fn told_switches(ledger: &Ledger, commands: &[Issued]) -> [bool; 256]
+    ensures { (switch : ℕ) → switch < 256 → get_or result switch false ≡ has_told ledger.now commands.now switch }
 {
-    commands.iter().any(|x| x.switch == switch && !ledger.has_ended(x.switch, x.life))
+    let mut told = [false; 256];
+    for command in commands {
+        if !ledger.has_ended(command.switch, command.life) {
+            told[usize::from(command.switch)] = true;
+        }
+    }
+    told
 }
 
 /// How many commands of the present life of a switch are settled.

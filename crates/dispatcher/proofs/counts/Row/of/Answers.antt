@@ -1,4 +1,4 @@
-use Rattle.std.proofs.Common.{length, ap, ◌∙◌, arith}
+use Rattle.std.proofs.Common.{length, ap, arith}
 use Rattle.dispatcher.proofs.Counting.{counts_found, counts_nowhere}
 use Rattle.dispatcher.proofs.counts.Row.of.Goals as goal
 

@@ -1,6 +1,4 @@
-use Rattle.std.proofs.Common.{length, ap, ◌∙◌, arith, get_or, List, ◌++◌, ◌∷◌, []}
-use Rattle.dispatcher.specs.Counted.{counts_in}
-use Rattle.dispatcher.specs.declared.counts.LifeCount.{LifeCount}
+use Rattle.std.proofs.Common.{arith}
 use Rattle.dispatcher.proofs.Counting.{counts_put, counts_pushed}
 use Rattle.dispatcher.proofs.counts.Row.put.Goals as goal
 

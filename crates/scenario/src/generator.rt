@@ -12,6 +12,9 @@ use std::alloc::{AllocError, Global};
 /// How many ports each switch of a generated scenario has.
 const PORTS: u32 = 4;
 
+/// How many bytes each frame has.
+const FRAME: usize = 64;
+
 /// The type of a frame of a local experiment (IEEE 802).
 const LOCAL_TYPE: u16 = 0x88b5;
 
@@ -82,7 +85,7 @@ fn frame_between(
     requires to { to < 4 }
     ensures { IfOk result (λ frame. frame ≡ generator.frame_between switch from to number) }
 {
-    let mut frame = Octets::new(alloc);
+    let mut frame = Octets::from_vec(Vec::with_capacity(alloc, FRAME)?);
     frame.append(&host_address(switch, to))?;
     frame.append(&host_address(switch, from))?;
     frame.append(&two(LOCAL_TYPE))?;
@@ -122,7 +125,7 @@ fn script(
     requires group { 0 < controllers }
     ensures { IfOk result (λ steps. steps ≡ generator.script number controllers switches frames) }
 {
-    let mut steps = Steps::new(alloc);
+    let mut steps = Steps::from_vec(Vec::with_capacity(alloc, frames as usize + 1)?);
     'frames: for frame in 0..frames {
         steps.push(frame_turn(alloc, number, switches, frame)?)?;
     }

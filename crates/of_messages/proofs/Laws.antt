@@ -1,9 +1,11 @@
 -- The laws of reading, as the clauses cite them.
-use Rattle.std.proofs.Common.{◌≡◌, ℕ, ◌≤◌, List, length, Result, Ok, Err, refl, sym, subst, ◌∙◌}
+use Rattle.std.proofs.Common.{◌≡◌, ℕ, ◌≤◌, List, length, drop, Result, Ok, Err, refl, sym, subst, ◌∙◌}
 use Rattle.std.specs.Prelude.{IfOk}
+use Rattle.of_bytes.specs.Numbers.{number}
 use Rattle.of_bytes.proofs.Bytes.{IsBytes}
 use Rattle.of_bytes.proofs.Steps.{ok_is}
 use Rattle.of_types.specs.declared.message.OfMessage.{OfMessage}
+use Rattle.of_types.specs.declared.message.OfMessage.TheVariants as plain
 use Rattle.of_messages.specs.declared.fault.OfFault.{OfFault}
 use Rattle.of_messages.specs.declared.fault.OfFault.TheVariants as fault
 use Rattle.of_types.specs.declared.refusal.Refusal.{Refusal}
@@ -50,3 +52,17 @@ is_read bytes xid m (Err fault.OutOfMemory) s e = tt
 pub one_message : (bytes : List ℕ) (xid other : ℕ) (m n : OfMessage) → Spells bytes xid m → Spells bytes other n → (xid ≡ other) × (m ≡ n)
 one_message bytes xid other m n s t =
     (sym (xid_again bytes xid m s) ∙ xid_again bytes other n t, ok_is Refusal m n (sym (message_again bytes xid m s) ∙ message_again bytes other n t))
+
+-- the frame of an EXPERIMENTER, whatever the number of its request
+pub experimenter_spelled : (bytes body : List ℕ) → IsBytes bytes → message_at bytes ≡ Ok (plain.Experimenter body) →
+    Spells bytes (number 4 4 bytes) (plain.Experimenter (drop 8 bytes))
+experimenter_spelled bytes body fits e =
+    let s = message_takes bytes (plain.Experimenter body) fits e in
+    record {
+      there = s.there;
+      version_is = s.version_is;
+      kind_is = s.kind_is;
+      length_is = s.length_is;
+      xid_is = refl;
+      body = record { there = s.body.there; said_is = refl };
+    }

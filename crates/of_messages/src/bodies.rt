@@ -1,5 +1,7 @@
 //! Reading what stands behind the header of a message.
 ghost use Rattle.std.specs.Prelude.{◌≡◌, ◌≤◌, length};
+ghost use Rattle.of_types.specs.declared.message.OfMessage.{OfMessage};
+ghost use Rattle.of_bytes.specs.Reading.{Gives};
 ghost use Rattle.of_messages.specs.Answers.{GivesBody};
 ghost use Rattle.of_messages.specs.Reading.{error_at, experimenter_at, empty_at, features_at, port_in, port_and_frame_at, packet_in_at, only_match_at, flow_removed_of, flow_removed_at, port_status_at, packet_out_at, flow_command_of, command_at, match_and_actions_at, flow_mod_of, flow_mod_behind, flow_mod_at};
 
@@ -39,15 +41,15 @@ pub fn read_experimenter(alloc: Global, body: &[u8]) -> Result<OfMessage, BodyFa
     })
 }
 
-/// A message without a body.
+/// Refuses what stands behind the header of a message without a body.
 #[tactic(auto, unfolding(crate::specs::Reading::empty_at))]
-pub fn read_empty(message: OfMessage, body: &[u8]) -> Result<OfMessage, BodyFault>
-    ensures { GivesBody (λ m. m) result (empty_at message body.now) }
+pub fn refuse_body(body: &[u8]) -> Result<(), Refusal>
+    ensures { (message : OfMessage) → Gives (λ _. message) result (empty_at message body.now) }
 {
     if !body.is_empty() {
-        return Err(BodyFault::Wire(BAD_LENGTH));
+        return Err(BAD_LENGTH);
     }
-    Ok(message)
+    Ok(())
 }
 
 #[tactic(auto, unfolding(crate::specs::Reading::features_at))]

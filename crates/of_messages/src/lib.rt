@@ -14,7 +14,7 @@ pub use fitting::{
     flow_mod_fits, flow_removed_fits, message_fits, packet_in_fits, packet_out_fits,
     port_status_fits,
 };
-pub use reading::{decode, message_law, read_message, xid_of};
+pub use reading::{decode, experimenter_body, message_law, read_message, xid_of};
 pub use writing::{
     actions_of, encode, encode_flow_mod, encode_flow_removed, encode_packet_in, encode_packet_out,
     encode_port_status, exact_len, put_flow_mod, put_flow_removed, put_header, put_packet_in,

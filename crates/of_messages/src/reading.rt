@@ -1,6 +1,8 @@
 //! Reading a message from left to right.
-ghost use Rattle.std.specs.Prelude.{◌≡◌, ◌≤◌, ◌<◌, ◌^◌, ℕ, List, Ok, length, IfOk};
+ghost use Rattle.std.specs.Prelude.{◌≡◌, ◌≤◌, ◌<◌, ◌^◌, ◌↔◌, ℕ, List, Ok, length, drop, IfOk, IfSome, IsSome, IsTrue};
 ghost use Rattle.of_types.specs.declared.message.OfMessage.{OfMessage};
+ghost use Rattle.of_types.specs.declared.message.OfMessage.TheVariants as plain;
+ghost use Rattle.of_bytes.specs.Numbers.{number};
 ghost use Rattle.of_bytes.specs.Reading.{Gives};
 ghost use Rattle.of_messages.specs.Answers.{GivesBody, IsFirstMessage, IsRead};
 ghost use Rattle.of_types.specs.Sizes.{plain_size};
@@ -11,8 +13,8 @@ ghost use Rattle.of_messages.specs.Grammar.{Spells};
 ghost use Rattle.of_messages.specs.Reading.{role_at, body_at, message_at, xid_of};
 
 use crate::bodies::{
-    read_empty, read_error, read_experimenter, read_features, read_flow_mod, read_flow_removed,
-    read_packet_in, read_packet_out, read_port_status,
+    read_error, read_experimenter, read_features, read_flow_mod, read_flow_removed, read_packet_in,
+    read_packet_out, read_port_status, refuse_body,
 };
 use crate::fault::{BodyFault, OfFault};
 use of_bytes::{u8_at, u16_at, u32_at, u64_at};
@@ -23,6 +25,9 @@ use std::alloc::Global;
 
 /// The length of a header.
 const HEADER: usize = 8;
+
+/// How many bytes of the body of an EXPERIMENTER are always there.
+const EXPERIMENTER_FRONT: usize = 8;
 
 /// Reads a message without the number of its request, with the errors of `decode`.
 #[tactic(auto, unfolding(crate::specs::Reading::message_at))]
@@ -68,6 +73,20 @@ pub fn decode(alloc: Global, frame: &[u8]) -> Result<(u32, OfMessage), OfFault>
     first_answer(alloc, frame)
 }
 
+/// The body of an EXPERIMENTER as it stands in the frame, where the frame is such a message: what `decode` would copy.
+pub fn experimenter_body(frame: &[u8]) -> Option<&[u8]>
+    // What is lent is the body of the message that the frame is.
+    ensures found { IfSome result (λ body. message_at frame.now ≡ Ok (plain.Experimenter body.now)) }
+    // One is lent wherever the frame is such a message.
+    ensures only { (body : List ℕ) → message_at frame.now ≡ Ok (plain.Experimenter body) → IsSome result }
+{
+    if is_experimenter(frame) {
+        Some(&frame[HEADER..])
+    } else {
+        None
+    }
+}
+
 /// Laws of messages as bytes.
 pub fn message_law()
     // What is written is read again.
@@ -79,6 +98,16 @@ pub fn message_law()
     // A message is written in as many bytes as its size tells.
     ensures size { (xid : ℕ) (m : OfMessage) → length (canonical xid m) ≡ plain_size m }
 {}
+
+/// Whether the frame is one EXPERIMENTER, with the number of any request.
+fn is_experimenter(frame: &[u8]) -> bool
+    ensures { IsTrue result ↔ Spells frame.now (number 4 4 frame.now) (plain.Experimenter (drop 8 frame.now)) }
+{
+    frame.len() >= HEADER + EXPERIMENTER_FRONT
+        && u8_at(frame, 0) == VERSION
+        && u8_at(frame, 1) == message_type::EXPERIMENTER
+        && usize::from(u16_at(frame, 2)) == frame.len()
+}
 
 /// A role and a generation.
 #[tactic(auto, unfolding(crate::specs::Reading::role_at))]
@@ -106,15 +135,24 @@ fn read_body(alloc: Global, kind: u8, body: &[u8]) -> Result<OfMessage, BodyFaul
             body: Octets::from_slice(alloc, body)?,
         }),
         message_type::EXPERIMENTER => read_experimenter(alloc, body),
-        message_type::FEATURES_REQUEST => read_empty(OfMessage::FeaturesRequest, body),
+        message_type::FEATURES_REQUEST => {
+            refuse_body(body)?;
+            Ok(OfMessage::FeaturesRequest)
+        }
         message_type::FEATURES_REPLY => read_features(body),
         message_type::PACKET_IN => Ok(OfMessage::PacketIn(read_packet_in(alloc, body)?)),
         message_type::FLOW_REMOVED => Ok(OfMessage::FlowRemoved(read_flow_removed(alloc, body)?)),
         message_type::PORT_STATUS => Ok(OfMessage::PortStatus(read_port_status(body)?)),
         message_type::PACKET_OUT => Ok(OfMessage::PacketOut(read_packet_out(alloc, body)?)),
         message_type::FLOW_MOD => Ok(OfMessage::FlowMod(read_flow_mod(alloc, body)?)),
-        message_type::BARRIER_REQUEST => read_empty(OfMessage::BarrierRequest, body),
-        message_type::BARRIER_REPLY => read_empty(OfMessage::BarrierReply, body),
+        message_type::BARRIER_REQUEST => {
+            refuse_body(body)?;
+            Ok(OfMessage::BarrierRequest)
+        }
+        message_type::BARRIER_REPLY => {
+            refuse_body(body)?;
+            Ok(OfMessage::BarrierReply)
+        }
         message_type::ROLE_REQUEST => {
             let (role, generation) = read_role(body)?;
             Ok(OfMessage::RoleRequest { role, generation })

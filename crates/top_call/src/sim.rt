@@ -12,10 +12,10 @@ ghost use Rattle.top_call.specs.Runs.{StablesTell};
 
 use crate::ending::Ending;
 use app_core::App;
-use byte_bodies::Bytes;
 use closing::ClosingOutcome;
 use journal::{Gate, Stable, Stop};
 use of_types::Octets;
+use players::Bytes;
 use playing::{play, play_apart};
 use report::{last_line, record_fits, text};
 use scenario::Scenario;

@@ -1,8 +1,7 @@
 //! Bodies on their ways. The answers follow from the rules of reading, by hand; the good ones are vectors.
 
-use byte_bodies::Bytes;
 use of_types::Octets;
-use players::{Body, seal};
+use players::{Body, Bytes, seal};
 use run_spec::{Message, Unsealed, Way};
 use std::alloc::{AllocError, Global};
 
@@ -83,7 +82,7 @@ fn text_of(alloc: Global, unsealed: &Unsealed) -> Result<String, AllocError> {
 
 /// What bytes say on a way.
 fn answer(alloc: Global, way: Way, bytes: &[u8]) -> Result<String, AllocError> {
-    let body = Bytes::raw(Octets::from_slice(alloc, bytes)?);
+    let body = Octets::from_slice(alloc, bytes)?;
     let unsealed = body.unseal(alloc, way);
     drop(body);
     let unsealed = unsealed?;

@@ -1,5 +1,5 @@
 //! The tests of the crates from the applications up, apart from them, so that each is proved once: `route_app` and `app_upgrade`,
-//! the bodies of `byte_bodies`, and `write_report`. Of bodies only what a way adds stands here, which is the head of what is refused
+//! bodies of bytes, and `write_report`. Of bodies only what a way adds stands here, which is the head of what is refused
 //! and the lengths of a link: what bytes say stands in the lines of `run_codecs`, and what an audit finds in the cases that
 //! `run_cases` plays. Events of a slot and turns of a group's controllers are computed as theorems (`proofs/Computed.antt`,
 //! `Routed.antt` and `Turns.antt`).

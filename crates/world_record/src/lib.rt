@@ -12,9 +12,9 @@ mod told;
 use crate::committed::{committed_log, count_committed};
 use crate::told::{told_all, told_counts};
 use app_core::App;
-use byte_bodies::{Bytes, bare};
 use journal::JournalEntry;
 use of_types::Items;
+use players::Bytes;
 use report::{Record, Sums};
 use std::alloc::{AllocError, Global};
 use world::World;
@@ -92,6 +92,6 @@ pub fn record_of<A: App>(
     ensures { IfOk result (λ told. told ≡ told_by world primary steps script) }
 {
     let mut told = bare_record(alloc, &world, primary, steps, script)?;
-    told.journal = bare(alloc, world.into_journal())?;
+    told.journal = world.into_journal();
     Ok(told)
 }

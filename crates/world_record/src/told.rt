@@ -3,9 +3,9 @@ ghost use Rattle.std.specs.Prelude.{◌≡◌, length, map, sum_by, IfOk};
 ghost use Rattle.world_record.specs.Shows as shows;
 
 use app_core::App;
-use byte_bodies::Bytes;
 use of_switch::Switch;
 use of_types::{Items, Row};
+use players::Bytes;
 use report::{RowRecord, SwitchRecord};
 use std::alloc::{AllocError, Global};
 use world::World;

@@ -8,9 +8,9 @@ ghost use Rattle.run_spec.specs.Messages.{nothing_said};
 ghost use Rattle.run_spec.specs.declared.messages.Unsealed.TheVariants as unsealed;
 
 use of_bytes::u32_at;
-use of_messages::{OfFault, decode};
+use of_messages::{OfFault, decode, experimenter_body, xid_of};
 use of_ravana::decode_extension;
-use of_types::{LONGEST_FRAME, Octets, OfMessage, SHORTEST_FRAME, Spoken};
+use of_types::{LONGEST_FRAME, Octets, SHORTEST_FRAME, Spoken};
 use run_spec::{Message, Unsealed};
 use std::alloc::{AllocError, Global};
 use vr_codec::{VrFault, decode_vr};
@@ -25,10 +25,11 @@ const PORT: usize = 4;
 pub fn read_spoken(alloc: Global, bytes: &[u8]) -> Result<Unsealed, AllocError>
     ensures { IfOk result (λ said. said ≡ spoken_said bytes.now (message_at bytes.now)) }
 {
+    // Most messages are of the extension. They are read where they stand, without a copy of the body.
+    if let Some(body) = experimenter_body(bytes) {
+        return read_extension(alloc, xid_of(bytes), bytes, body);
+    }
     match decode(alloc, bytes) {
-        Ok((xid, OfMessage::Experimenter { body })) => {
-            read_extension(alloc, xid, bytes, body.as_slice())
-        }
         Ok((xid, message)) => Ok(Unsealed::Message(Message::Of {
             xid,
             message: Spoken::Plain(message),

@@ -2,7 +2,7 @@ use Rattle.std.proofs.Common.{◌≡◌, ℕ, List, length, take, ap, ◌∙◌,
 use Rattle.std.specs.Prelude.{min}
 use Rattle.std.proofs.lemmas.List.{take_min}
 use Rattle.run_spec.specs.declared.messages.Unsealed.TheVariants as unsealed
-use Rattle.byte_bodies.proofs.reading.malformed.Goals as goal
+use Rattle.players.proofs.reading.malformed.Goals as goal
 
 -- the beginning of bytes that may be few
 front : (bytes : List ℕ) → take (min (length bytes) 64) bytes ≡ take 64 bytes

@@ -11,7 +11,7 @@ use std::io::ErrorKind;
 use std::process::ExitCode;
 use std::sync::Wait;
 use std::thread::Threads;
-use top_call::{CONTROLLERS, LIVES, push_life, ravana, stables};
+use top_call::{CONTROLLERS, LIVES, Remains, push_life, ravana, stables};
 
 /// Serves the words, with these ends. Each life of each controller runs a firewall before a slot of all versions: a learning, a
 /// hub, a learning that pins, one whose rows age, and shortest paths.
@@ -39,6 +39,7 @@ fn serve<S: Source, K: Sink, R: Threads + Wait + Sync>(
         sink,
         &mut stables,
         chains,
+        Remains::Left,
     ))
 }
 

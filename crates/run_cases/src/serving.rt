@@ -12,7 +12,7 @@ use of_types::Octets;
 use std::alloc::{AllocError, Global};
 use std::sync::Wait;
 use std::thread::Threads;
-use top_call::{CONTROLLERS, LIVES, push_life, ravana};
+use top_call::{CONTROLLERS, LIVES, Remains, push_life, ravana};
 
 /// How a call is played.
 #[derive(Clone, Copy)]
@@ -111,6 +111,7 @@ fn serve_chains<A: App + Send, W: Stable + Drop + Send, G: Gate + Sync, R: Threa
         &mut sink,
         stables,
         chains,
+        Remains::Freed,
     );
     Ok(Served {
         status,

@@ -4,11 +4,13 @@
 mod auditing;
 mod ending;
 mod group;
+mod remains;
 mod service;
 mod shelves;
 mod sim;
 mod top;
 
 pub use group::stables;
+pub use remains::Remains;
 pub use shelves::{CONTROLLERS, LIVES, push_life};
 pub use top::ravana;

@@ -11,6 +11,7 @@ ghost use Rattle.top_call.specs.Play.{AreFresh, IfDone, IfReport, StopsAs, endin
 ghost use Rattle.top_call.specs.Runs.{StablesTell};
 
 use crate::ending::Ending;
+use crate::remains::Remains;
 use app_core::App;
 use closing::ClosingOutcome;
 use journal::{Gate, Stable, Stop};
@@ -42,6 +43,7 @@ impl Output {
         primary: u8,
         steps: usize,
         script: usize,
+        remains: Remains,
     ) -> Result<Octets, AllocError>
         requires led { primary < length world.controllers }
         requires script { script ≤ length world.journal }
@@ -53,12 +55,12 @@ impl Output {
                 let told = record_of(alloc, world, primary, steps, script)?;
                 record_fits(&told);
                 let bytes = text(alloc, &told);
-                drop(told);
+                remains.let_go(told);
                 bytes
             }
             Output::LastLine => {
                 let sums = sums_of(&world, primary, steps, script);
-                drop(world);
+                remains.let_go(world);
                 let sums = sums?;
                 last_line(alloc, &sums)
             }
@@ -74,6 +76,7 @@ fn rested<A: App>(
     ended: ClosingOutcome,
     steps: usize,
     script: usize,
+    remains: Remains,
 ) -> Result<Ending, AllocError>
     requires led { IfDone ended (λ primary. primary < length world.controllers) }
     requires script { script ≤ length world.journal }
@@ -82,15 +85,15 @@ fn rested<A: App>(
 {
     match ended {
         ClosingOutcome::Done { primary } => {
-            let words = output.text_of(alloc, world, primary, steps, script)?;
+            let words = output.text_of(alloc, world, primary, steps, script, remains)?;
             Ok(Ending::Report(words))
         }
         ClosingOutcome::NoQuorum { up, needed } => {
-            drop(world);
+            remains.let_go(world);
             Ok(Ending::NoQuorum { up, needed })
         }
         ClosingOutcome::Overfull(limit) => {
-            drop(world);
+            remains.let_go(world);
             Ok(Ending::Overfull(limit))
         }
     }
@@ -113,6 +116,7 @@ pub fn simulate<A: App, W: Stable>(
     output: Output,
     stables: &mut [W],
     shelves: Vec<Vec<A>>,
+    remains: Remains,
 ) -> Result<Ending, AllocError>
     requires is { IsScenario scenario.now }
     requires each { length shelves.items ≡ scenario.now.setup.controllers }
@@ -125,9 +129,12 @@ pub fn simulate<A: App, W: Stable>(
     let ended = play(alloc, &mut world, stables, scenario.steps.as_slice());
     world.lawful();
     match ended {
-        Ok((closed, script)) => rested(alloc, world, output, closed, scenario.steps.len(), script),
+        Ok((closed, script)) => {
+            let steps = scenario.steps.len();
+            rested(alloc, world, output, closed, steps, script, remains)
+        }
         Err(stop) => {
-            drop(world);
+            remains.let_go(world);
             stopped(stop)
         }
     }
@@ -146,6 +153,7 @@ pub fn simulate_apart<
     scenario: &Scenario,
     stables: &mut Vec<W>,
     shelves: Vec<Vec<A>>,
+    remains: Remains,
 ) -> Result<Ending, AllocError>
     requires is { IsScenario scenario.now }
     requires each { length shelves.items ≡ scenario.now.setup.controllers }
@@ -165,6 +173,7 @@ pub fn simulate_apart<
                 rest.closed,
                 steps,
                 rest.script,
+                remains,
             )
         }
         Err(halt) => {

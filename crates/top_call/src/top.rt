@@ -15,6 +15,7 @@ ghost use Rattle.top_call.specs.Runs.{AreCalm, StablesTell};
 
 use crate::auditing::audited;
 use crate::ending::Ending;
+use crate::remains::Remains;
 use crate::service::{Reader, Service};
 use crate::shelves::shelves_of;
 use crate::sim::{Output, simulate, simulate_apart};
@@ -34,7 +35,7 @@ use streams::{StreamFault, read_input, write_all};
 ///
 /// The words are those behind the program's name. There are seven stable pairs, and the applications of the sixteen lives
 /// of seven controllers, in order and all of the same kinds: a group of fewer leaves the rest alone. Only at the word `run` does
-/// it start threads or wait.
+/// it start threads or wait. What it played is let go as the caller says.
 pub fn ravana<
     A: App + Send,
     S: Source,
@@ -51,6 +52,7 @@ pub fn ravana<
     sink: &mut K,
     stables: &mut Vec<W>,
     chains: Vec<A>,
+    remains: Remains,
 ) -> u8
     requires chains { (kinds : List ℕ) × AreChains A.law kinds chains.items }
     requires fresh { AreFresh W.saving stables.old.items }
@@ -82,7 +84,7 @@ pub fn ravana<
     ensures numbers { ForChains A.law chains.items (λ kinds. IsMadeOfNumbers kinds (StablesTell W.saving stables.old.items stables.new.items)
         (map string_bytes words.now) (stream S.left S.faults source.old source.new) (stream K.taken K.faults sink.old sink.new) result) }
 {
-    let Ok(ending) = outcome(rt, alloc, gate, words, source, stables, chains) else {
+    let Ok(ending) = outcome(rt, alloc, gate, words, source, stables, chains, remains) else {
         return NO_MEMORY;
     };
     let status = ending.status();
@@ -112,6 +114,7 @@ fn end_of_scenario<A: App, W: Stable>(
     output: Output,
     stables: &mut Vec<W>,
     chains: Vec<A>,
+    remains: Remains,
 ) -> Result<Ending, AllocError>
     requires is { IsScenario scenario.now }
     requires chains { (kinds : List ℕ) × AreChains A.law kinds chains.items }
@@ -121,7 +124,7 @@ fn end_of_scenario<A: App, W: Stable>(
     ensures unplayed { IfOk result (λ ending. IsUnplayed (ending_status ending) → stables.new.items ≡ stables.old.items) }
 {
     let shelves = shelves_of(alloc, chains, scenario.setup.controllers)?;
-    simulate(alloc, scenario, output, stables, shelves)
+    simulate(alloc, scenario, output, stables, shelves, remains)
 }
 
 /// How the bytes of a scenario end, played turn by turn.
@@ -130,6 +133,7 @@ fn simulated<A: App, W: Stable>(
     bytes: &[u8],
     stables: &mut Vec<W>,
     chains: Vec<A>,
+    remains: Remains,
 ) -> Result<Ending, AllocError>
     requires chains { (kinds : List ℕ) × AreChains A.law kinds chains.items }
     requires fresh { AreFresh W.saving stables.old.items }
@@ -139,8 +143,15 @@ fn simulated<A: App, W: Stable>(
 {
     match read_scenario(alloc, bytes) {
         Ok(scenario) => {
-            let ending = end_of_scenario(alloc, &scenario, Output::Report, stables, chains);
-            drop(scenario);
+            let ending = end_of_scenario(
+                alloc,
+                &scenario,
+                Output::Report,
+                stables,
+                chains,
+                remains,
+            );
+            remains.let_go(scenario);
             ending
         }
         Err(ScenarioFault::Refused(fault)) => Ok(Ending::Refused(fault)),
@@ -156,6 +167,7 @@ fn end_of_threads<A: App + Send, W: Stable + Drop + Send, G: Gate + Sync, R: Thr
     scenario: &Scenario,
     stables: &mut Vec<W>,
     chains: Vec<A>,
+    remains: Remains,
 ) -> Result<Ending, AllocError>
     requires is { IsScenario scenario.now }
     requires chains { (kinds : List ℕ) × AreChains A.law kinds chains.items }
@@ -165,7 +177,7 @@ fn end_of_threads<A: App + Send, W: Stable + Drop + Send, G: Gate + Sync, R: Thr
     ensures unplayed { IfOk result (λ ending. IsUnplayed (ending_status ending) → stables.new.items ≡ stables.old.items) }
 {
     let shelves = shelves_of(alloc, chains, scenario.setup.controllers)?;
-    simulate_apart(rt, alloc, gate, scenario, stables, shelves)
+    simulate_apart(rt, alloc, gate, scenario, stables, shelves, remains)
 }
 
 /// How the bytes of a scenario end, played with a thread for each actor.
@@ -181,6 +193,7 @@ fn simulated_apart<
     bytes: &[u8],
     stables: &mut Vec<W>,
     chains: Vec<A>,
+    remains: Remains,
 ) -> Result<Ending, AllocError>
     requires chains { (kinds : List ℕ) × AreChains A.law kinds chains.items }
     requires fresh { AreFresh W.saving stables.old.items }
@@ -190,8 +203,8 @@ fn simulated_apart<
 {
     match read_scenario(alloc, bytes) {
         Ok(scenario) => {
-            let ending = end_of_threads(rt, alloc, gate, &scenario, stables, chains);
-            drop(scenario);
+            let ending = end_of_threads(rt, alloc, gate, &scenario, stables, chains, remains);
+            remains.let_go(scenario);
             ending
         }
         Err(ScenarioFault::Refused(fault)) => Ok(Ending::Refused(fault)),
@@ -208,6 +221,7 @@ fn end_of_reading<A: App + Send, W: Stable + Drop + Send, G: Gate + Sync, R: Thr
     bytes: &[u8],
     stables: &mut Vec<W>,
     chains: Vec<A>,
+    remains: Remains,
 ) -> Result<Ending, AllocError>
     requires chains { (kinds : List ℕ) × AreChains A.law kinds chains.items }
     requires fresh { AreFresh W.saving stables.old.items }
@@ -217,8 +231,8 @@ fn end_of_reading<A: App + Send, W: Stable + Drop + Send, G: Gate + Sync, R: Thr
     ensures audited { reader ≡ readers.Audit → stables.new.items ≡ stables.old.items }
 {
     match reader {
-        Reader::Sim => simulated(alloc, bytes, stables, chains),
-        Reader::Run => simulated_apart(rt, alloc, gate, bytes, stables, chains),
+        Reader::Sim => simulated(alloc, bytes, stables, chains, remains),
+        Reader::Run => simulated_apart(rt, alloc, gate, bytes, stables, chains, remains),
         Reader::Audit => audited(alloc, bytes, chains),
     }
 }
@@ -238,6 +252,7 @@ fn outcome<
     source: &mut S,
     stables: &mut Vec<W>,
     chains: Vec<A>,
+    remains: Remains,
 ) -> Result<Ending, AllocError>
     requires chains { (kinds : List ℕ) × AreChains A.law kinds chains.items }
     requires fresh { AreFresh W.saving stables.old.items }
@@ -265,12 +280,22 @@ fn outcome<
             },
         ) => {
             let scenario = generate(alloc, number, controllers, switches, frames)?;
-            let ending = end_of_scenario(alloc, &scenario, Output::LastLine, stables, chains);
-            drop(scenario);
+            let ending = end_of_scenario(
+                alloc,
+                &scenario,
+                Output::LastLine,
+                stables,
+                chains,
+                remains,
+            );
+            remains.let_go(scenario);
             ending
         }
         Some(Service::Reads(reader)) => match read_input(alloc, source, reader.limit()) {
-            Ok(bytes) => end_of_reading(rt, alloc, gate, reader, bytes.as_slice(), stables, chains),
+            Ok(bytes) => {
+                let bytes = bytes.as_slice();
+                end_of_reading(rt, alloc, gate, reader, bytes, stables, chains, remains)
+            }
             Err(StreamFault::Failed) => Ok(Ending::Unread),
             Err(StreamFault::OutOfMemory) => Err(AllocError),
         },

@@ -53,7 +53,7 @@ returns-in-Ok g c =
     let holds = c.in_ok-world.ensures.holds kinds stocked in
     ends_closed law g.W.Stable.saving scenario kinds start c.args.stables.now c.play-ended.new.world c.play-ended.new.stables starts holds
     (fresh_pairs law g.W.Stable.saving c.args.stables.now scenario.setup start kinds c.requires.fresh starts holds) c.lawful.ensures.within c.as_slice.result.now c.as_slice.ensures
-    c.play-ended.result c.in-Ok.closed c.in-Ok.script c.args.output c.len.result c.rested.result c.in-Ok.is c.len.ensures
+    c.play-ended.result c.in-Ok.closed c.in-Ok.script c.args.output c.len-steps.result c.rested.result c.in-Ok.is c.len-steps.ensures
     c.play-ended.ensures.keeps (c.play-ended.ensures.played kinds holds) c.play-ended.ensures.up c.rested.ensures.ending c.rested.ensures.fits
 
 pub returns-in-Err : goal.returns-in-Err

@@ -45,7 +45,7 @@ pub returns-in-Ok-clause-cause : goal.returns-in-Ok-clause-cause
 returns-in-Ok-clause-cause g c = λ kinds chains.
     let saves = StablesTell g.W.Stable.saving c.args.stables.now.items c.end_of_reading.new.stables.items in
     read_caused kinds saves (map string_bytes c.args.words.now) _ c.in-Some-Reads.reader _ _ _ _ _ (sym c.in-Some-Reads.ensures ∙ ap (λ s. some_of s) c.in-Some-Reads.field-0-is) c.limit.ensures c.in-Ok.ensures.consumed c.in-Ok.ensures.whole c.in-Ok.ensures.most
-    (subst (λ b. IfOk c.end_of_reading.result (λ e. EndsRead kinds saves c.in-Some-Reads.reader b e)) c.as_slice.ensures (c.end_of_reading.ensures.ends kinds chains))
+    (subst (λ b. IfOk c.end_of_reading.result (λ e. EndsRead kinds saves c.in-Some-Reads.reader b e)) c.as_slice-bytes.ensures (c.end_of_reading.ensures.ends kinds chains))
 
 pub returns-in-Ok-clause-told : goal.returns-in-Ok-clause-told
 returns-in-Ok-clause-told g c =

@@ -15,7 +15,7 @@ use Rattle.journal.specs.declared.queues.Queues.{Queues}
 use Rattle.journal.specs.Actors.{same_actor}
 use Rattle.journal.specs.Ledger.{Waits}
 use Rattle.journal.specs.Orderly.{pool_bytes}
-use Rattle.journal.specs.Order.{others}
+use Rattle.journal.specs.Order.{without_packet}
 use Rattle.journal.specs.Places.{queue_of, left_in, ArePlacesOf}
 use Rattle.journal.specs.Pool.{waiting, without, chosen}
 use Rattle.journal.proofs.Placing.{places_length, places_remove}
@@ -65,7 +65,7 @@ module _ {B : Type 0} where
   pub Waits-left : {high low : ℕ} (size : B → ℕ) (journal : List (JournalEntry B)) (packets : List (Packet B)) (queues after : Queues) (waits now : Sums) (actor : Actor) (choice : ℕ) (p : Packet B) →
       Rising high low packets → Waits size journal packets queues waits → chosen choice (waiting actor packets) ≡ Some p →
       ((a : Actor) → queue_of after a ≡ (if same_actor actor a then left_in choice false (queue_of queues a) else queue_of queues a)) →
-      after.order ≡ others p.id queues.order →
+      after.order ≡ without_packet p.id queues.order →
       now.letters + 1 ≡ waits.letters → now.bytes + size p.body ≡ waits.bytes → Waits size journal (without p.id packets) after now
   Waits-left size journal packets queues after waits now actor choice p rising is found left order letters bytes =
       let at = waiting-at actor packets (choice % length (waiting actor packets)) p found in
@@ -77,7 +77,7 @@ module _ {B : Type 0} where
       record {
         letters_are = omega (arith, letters, is.letters_are, shorter) ∙ ap length (sym removed);
         bytes_are = omega (arith, bytes, is.bytes_are, smaller, body) ∙ ap (pool_bytes size) (sym removed);
-        order_is = order ∙ ap (others p.id) is.order_is ∙ sym (waiters-without p.id packets);
+        order_is = order ∙ ap (without_packet p.id) is.order_is ∙ sym (waiters-without p.id packets);
         queues_are = λ a. by_actor a at.0 at.1 at.2 (same_actor actor a) refl;
       }
     where

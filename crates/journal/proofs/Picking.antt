@@ -10,7 +10,7 @@ use Rattle.journal.specs.declared.place.PacketPlace.{PacketPlace}
 use Rattle.journal.specs.declared.queues.Queues.{Queues}
 use Rattle.journal.specs.Actors.{same_actor}
 use Rattle.journal.specs.Ledger.{Waits, IsLedger}
-use Rattle.journal.specs.Order.{order_left, others}
+use Rattle.journal.specs.Order.{order_left, without_packet}
 use Rattle.journal.specs.Places.{picked, left_in, queue_of, IsPlaceOf, IsFound}
 use Rattle.journal.specs.Pool.{past, pool, waiting, pick}
 use Rattle.journal.specs.Turns.{drawn_entry}
@@ -58,4 +58,4 @@ module _ {B : Type 0} where
       subst (λ o. Waits size start.entries.items (pool (drawn_entry actor false o ∷ past start.entries.items)) after (record { letters = start.waiting.letters - 1; bytes = start.waiting.bytes - weight })) (sym is.picks)
       (Waits-left size start.entries.items (pool (past start.entries.items)) start.queues after start.waiting (record { letters = start.waiting.letters - 1; bytes = start.waiting.bytes - weight }) actor choice is.packet
       (Rising-pool size (past start.entries.items) kept.kept.orderly) kept.waits is.picks left
-      (order ∙ ap (λ id. others id start.queues.order) is.is.id_is) (omega (arith, is.some)) (omega (arith, is.small, weight_is)))
+      (order ∙ ap (λ id. without_packet id start.queues.order) is.is.id_is) (omega (arith, is.some)) (omega (arith, is.small, weight_is)))

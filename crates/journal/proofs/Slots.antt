@@ -6,7 +6,7 @@ use Rattle.std.proofs.lemmas.Bool.{eqb-true, eq-eqb}
 use Rattle.std.proofs.lemmas.List.{append-nil, length-append, length-map, length-set, length-take, length-replicate}
 use Rattle.journal.specs.declared.journal.Actor.{Actor}
 use Rattle.journal.specs.declared.journal.Letter.{Letter}
-use Rattle.journal.specs.Order.{addressed, others, awaited, AreBelow, IsTrimmed, AreSlots}
+use Rattle.journal.specs.Order.{addressed, without_packet, awaited, HaveNumbersBelow, IsTrimmed, AreSlots}
 
 -- slots after others
 awaited-append : (first : ℕ) (xs ys : List (Option Actor)) → awaited first (xs ++ ys) ≡ awaited first xs ++ awaited (first + length xs) ys
@@ -35,13 +35,13 @@ awaited-letters first [] = refl
 awaited-letters first (l ∷ letters) = ap (λ ws. (first, l.to) ∷ ws) (awaited-letters (first + 1) letters)
 
 -- none that has a slot waits below the first
-none_below : (number first : ℕ) (xs : List (Option Actor)) → number ≤ first → AreBelow number (awaited first xs) → awaited first xs ≡ []
+none_below : (number first : ℕ) (xs : List (Option Actor)) → number ≤ first → HaveNumbersBelow number (awaited first xs) → awaited first xs ≡ []
 none_below number first [] low below = refl
 none_below number first (None ∷ xs) low below = none_below number (first + 1) xs (omega arith) below
 none_below number first (Some a ∷ xs) low below = absurd (omega (arith, below.0))
 
 -- the slots in front of a number that is above all
-awaited-take : (number first n : ℕ) (xs : List (Option Actor)) → number ≡ first + n → AreBelow number (awaited first xs) →
+awaited-take : (number first n : ℕ) (xs : List (Option Actor)) → number ≡ first + n → HaveNumbersBelow number (awaited first xs) →
     awaited first (take n xs) ≡ awaited first xs
 awaited-take number first zero xs is below = sym (none_below number first xs (omega arith) below)
 awaited-take number first (suc n) [] is below = refl
@@ -57,26 +57,26 @@ same_choice w ws vs true e same = same
 same_choice w ws vs false e same = cc
 
 -- a number without a slot
-pub others-outside : (first number : ℕ) (xs : List (Option Actor)) → ((k : ℕ) → k < length xs → first + k ≡ number → ⊥) →
-    others number (awaited first xs) ≡ awaited first xs
-others-outside first number [] outside = refl
-others-outside first number (None ∷ xs) outside = others-outside (first + 1) number xs (λ k within is. outside (suc k) (omega arith) (omega arith))
-others-outside first number (Some a ∷ xs) outside =
-    other_choice (first, a) (awaited (first + 1) xs) (others number (awaited (first + 1) xs)) (nat_eq first number)
+pub without_packet-outside : (first number : ℕ) (xs : List (Option Actor)) → ((k : ℕ) → k < length xs → first + k ≡ number → ⊥) →
+    without_packet number (awaited first xs) ≡ awaited first xs
+without_packet-outside first number [] outside = refl
+without_packet-outside first number (None ∷ xs) outside = without_packet-outside (first + 1) number xs (λ k within is. outside (suc k) (omega arith) (omega arith))
+without_packet-outside first number (Some a ∷ xs) outside =
+    other_choice (first, a) (awaited (first + 1) xs) (without_packet number (awaited (first + 1) xs)) (nat_eq first number)
     (λ t. let same = eqb-true first number t in outside 0 (omega arith) (omega arith))
-    (others-outside (first + 1) number xs (λ k within is. outside (suc k) (omega arith) (omega arith)))
+    (without_packet-outside (first + 1) number xs (λ k within is. outside (suc k) (omega arith) (omega arith)))
 
 -- a number whose slot has no receiver any more
 awaited-set : (first number i : ℕ) (xs : List (Option Actor)) → first + i ≡ number → i < length xs →
-    awaited first (set xs i None) ≡ others number (awaited first xs)
+    awaited first (set xs i None) ≡ without_packet number (awaited first xs)
 awaited-set first number i [] is within = absurd (omega arith)
-awaited-set first number zero (None ∷ xs) is within = sym (others-outside (first + 1) number xs (λ k _ e. omega arith))
+awaited-set first number zero (None ∷ xs) is within = sym (without_packet-outside (first + 1) number xs (λ k _ e. omega arith))
 awaited-set first number zero (Some a ∷ xs) is within =
-    sym (same_choice (first, a) (awaited (first + 1) xs) (others number (awaited (first + 1) xs)) (nat_eq first number) (eq-eqb first number (omega arith))
-    (others-outside (first + 1) number xs (λ k _ e. omega arith)))
+    sym (same_choice (first, a) (awaited (first + 1) xs) (without_packet number (awaited (first + 1) xs)) (nat_eq first number) (eq-eqb first number (omega arith))
+    (without_packet-outside (first + 1) number xs (λ k _ e. omega arith)))
 awaited-set first number (suc i) (None ∷ xs) is within = awaited-set (first + 1) number i xs (omega arith) (omega arith)
 awaited-set first number (suc i) (Some a ∷ xs) is within =
-    sym (other_choice (first, a) (awaited (first + 1) (set xs i None)) (others number (awaited (first + 1) xs)) (nat_eq first number)
+    sym (other_choice (first, a) (awaited (first + 1) (set xs i None)) (without_packet number (awaited (first + 1) xs)) (nat_eq first number)
     (λ t. let same = eqb-true first number t in omega arith)
     (sym (awaited-set (first + 1) number i xs (omega arith) (omega arith))))
 
@@ -87,7 +87,7 @@ pub record Hold (first : ℕ) (waits : List (ℕ × Actor)) (slots : List (Optio
 
 -- a packet waits no more
 pub removes : (first number gone : ℕ) (slots after : List (Option Actor)) → AreSlots first slots → first ≤ number → number - first < length slots →
-    set slots (number - first) None ≡ replicate gone None ++ after → IsTrimmed after → Hold (first + gone) (others number (awaited first slots)) after
+    set slots (number - first) None ≡ replicate gone None ++ after → IsTrimmed after → Hold (first + gone) (without_packet number (awaited first slots)) after
 removes first number gone slots after are above within gone_is trimmed =
     let emptied = set slots (number - first) None in
     let long : length emptied ≡ length slots = length-set slots (number - first) None in
@@ -109,7 +109,7 @@ record IsStarted (start number : ℕ) (waits : List (ℕ × Actor)) (slots : Lis
   pub front : 0 < length slots → start < number
 
 starts : (first start number : ℕ) (waits : List (ℕ × Actor)) (slots : List (Option Actor)) →
-    Hold first waits slots → AreBelow number waits → number < 2 ^ 64 → (0 < length slots → start ≡ first) → (length slots ≡ 0 → start ≡ number) →
+    Hold first waits slots → HaveNumbersBelow number waits → number < 2 ^ 64 → (0 < length slots → start ≡ first) → (length slots ≡ 0 → start ≡ number) →
     IsStarted start number waits slots
 starts first start number waits [] is below small some none =
     let here = none refl in
@@ -122,7 +122,7 @@ starts first start number waits [] is below small some none =
 starts first start number waits (None ∷ slots) is below small some none = absurd is.slots_are.trimmed
 starts first start number waits (Some a ∷ slots) is below small some none =
     let here = some (omega arith) in
-    let lower = subst (AreBelow number) (sym is.same) below in
+    let lower = subst (HaveNumbersBelow number) (sym is.same) below in
     record {
       holds = record {
         slots_are = record { trimmed = tt; bound = omega (arith, here, is.slots_are.bound) };
@@ -145,13 +145,13 @@ pub record IsReached (start number : ℕ) (waits : List (ℕ × Actor)) (slots :
   pub holds : Hold start waits slots
   pub ends : start + length slots ≡ number
 
-ends_at : (start number : ℕ) (waits : List (ℕ × Actor)) (slots after : List (Option Actor)) → IsStarted start number waits slots → AreBelow number waits →
+ends_at : (start number : ℕ) (waits : List (ℕ × Actor)) (slots after : List (Option Actor)) → IsStarted start number waits slots → HaveNumbersBelow number waits →
     number < 2 ^ 64 → after ≡ take (number - start) slots ++ replicate (number - start - length slots) None → IsReached start number waits after
 ends_at start number waits slots after is below small after_is =
     let front = take (number - start) slots in
     let count = number - start - length slots in
     let nones : List (Option Actor) = replicate count None in
-    let under = subst (AreBelow number) (sym is.holds.same) below in
+    let under = subst (HaveNumbersBelow number) (sym is.holds.same) below in
     let end : start + length (front ++ nones) ≡ number =
     omega (arith, is.under, length-append front nones, length-take (number - start) slots, length-replicate {A = Option Actor} count None) in
     let no_nones : length slots ≡ 0 → nones ≡ [] = λ empty.
@@ -168,7 +168,7 @@ ends_at start number waits slots after is below small after_is =
 
 -- the slots of an order, once they end before a number that is above all
 pub reaches : (first start number count : ℕ) (waits : List (ℕ × Actor)) (slots after : List (Option Actor)) →
-    Hold first waits slots → AreBelow number waits → number < 2 ^ 64 → (0 < length slots → start ≡ first) → (length slots ≡ 0 → start ≡ number) →
+    Hold first waits slots → HaveNumbersBelow number waits → number < 2 ^ 64 → (0 < length slots → start ≡ first) → (length slots ≡ 0 → start ≡ number) →
     count ≡ length slots → after ≡ take (number - start) slots ++ replicate (number - start - count) None → IsReached start number waits after
 reaches first start number count waits slots after is below small some none count_is after_is =
     ends_at start number waits slots after (starts first start number waits slots is below small some none) below small

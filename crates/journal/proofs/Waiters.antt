@@ -4,7 +4,7 @@ use Rattle.std.specs.Prelude.{not, nat_eq, if◌then◌else◌}
 use Rattle.journal.specs.declared.journal.Actor.{Actor}
 use Rattle.journal.specs.declared.journal.Letter.{Letter}
 use Rattle.journal.specs.declared.journal.Packet.{Packet}
-use Rattle.journal.specs.Order.{waiter_of, addressed, others, AreBelow}
+use Rattle.journal.specs.Order.{waiter_of, addressed, without_packet, HaveNumbersBelow}
 use Rattle.journal.specs.Pool.{numbered_letters, without}
 use Rattle.journal.proofs.Pools.{Rising, next, Rising-bound}
 
@@ -18,12 +18,12 @@ module _ {B : Type 0} where
   kept_or_not p ps ws true same = same
   kept_or_not p ps ws false same = ap (λ vs. waiter_of p ∷ vs) same
 
-  pub waiters-without : (id : ℕ) (packets : List (Packet B)) → map waiter_of (without id packets) ≡ others id (map waiter_of packets)
+  pub waiters-without : (id : ℕ) (packets : List (Packet B)) → map waiter_of (without id packets) ≡ without_packet id (map waiter_of packets)
   waiters-without id [] = refl
   waiters-without id (p ∷ packets) =
-      kept_or_not p (without id packets) (others id (map waiter_of packets)) (nat_eq p.id id) (waiters-without id packets)
+      kept_or_not p (without id packets) (without_packet id (map waiter_of packets)) (nat_eq p.id id) (waiters-without id packets)
 
   -- packets of numbers that rise
-  pub waiters-below : {high : ℕ} (packets : List (Packet B)) {low : ℕ} → Rising high low packets → AreBelow high (map waiter_of packets)
+  pub waiters-below : {high : ℕ} (packets : List (Packet B)) {low : ℕ} → Rising high low packets → HaveNumbersBelow high (map waiter_of packets)
   waiters-below [] rising = tt
   waiters-below (p ∷ packets) (next above rising) = let under = Rising-bound rising in (omega arith, waiters-below packets rising)

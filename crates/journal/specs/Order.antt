@@ -16,17 +16,17 @@ addressed first [] = []
 addressed first (letter ∷ letters) = (first, letter.to) ∷ addressed (first + 1) letters
 
 -- all have numbers below this one
-abbrev pub AreBelow : ℕ → List (ℕ × Actor) → Type 0
-AreBelow number order = AllByRecursion (λ w. w.0 < number) order
+abbrev pub HaveNumbersBelow : ℕ → List (ℕ × Actor) → Type 0
+HaveNumbersBelow number order = AllByRecursion (λ w. w.0 < number) order
 
 -- those of other numbers
-abbrev pub others : ℕ → List (ℕ × Actor) → List (ℕ × Actor)
-others number order = filter (λ w. not (nat_eq w.0 number)) order
+abbrev pub without_packet : ℕ → List (ℕ × Actor) → List (ℕ × Actor)
+without_packet number order = filter (λ w. not (nat_eq w.0 number)) order
 
 -- an order once a packet was picked, which goes on waiting where it is kept
 abbrev pub order_left : Bool → Option PacketPlace → List (ℕ × Actor) → List (ℕ × Actor)
 order_left keep None order = order
-order_left keep (Some place) order = if keep then order else others place.id order
+order_left keep (Some place) order = if keep then order else without_packet place.id order
 
 -- a slot for each number from there on: those that have a receiver
 abbrev pub awaited : ℕ → List (Option Actor) → List (ℕ × Actor)

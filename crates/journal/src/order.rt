@@ -1,7 +1,7 @@
 //! The order in which packets wait.
 ghost use Rattle.std.specs.Prelude.{◌≡◌, ◌<◌, ◌≤◌, ◌+◌, ◌^◌, ◌++◌, [], length, map, replicate, slice_get, option_map, Some, None, OnOk, OnErr};
 ghost use Rattle.std.specs.VecDeque.{deque_len, deque_capacity};
-ghost use Rattle.journal.specs.Order.{addressed, others, AreBelow, IsTrimmed};
+ghost use Rattle.journal.specs.Order.{addressed, without_packet, HaveNumbersBelow, IsTrimmed};
 
 use crate::journal::{Actor, Letter};
 use std::alloc::{AllocError, Global};
@@ -75,7 +75,7 @@ impl Order {
     /// Adds letters, numbered from there on, above all that wait. An `Err` changes nothing.
     pub fn append<B>(&mut self, number: u64, letters: &[Letter<B>]) -> Result<(), AllocError>
         requires small { number + length letters.now < 2 ^ 64 }
-        requires above { AreBelow number self.old }
+        requires above { HaveNumbersBelow number self.old }
         ensures ok { OnOk result (self.new ≡ self.old ++ addressed number letters.now) }
         ensures err { OnErr result (self.new ≡ self.old) }
     {
@@ -89,7 +89,7 @@ impl Order {
 
     /// The packet of this number waits no more.
     pub fn remove(&mut self, number: u64)
-        ensures { self.new ≡ others number self.old }
+        ensures { self.new ≡ without_packet number self.old }
     {
         if number < self.first {
             return;

@@ -1,7 +1,7 @@
 //! The packets that wait, in a queue for each actor.
 ghost use Rattle.std.specs.Prelude.{◌≡◌, ℕ, ◌<◌, ◌+◌, ◌-◌, ◌^◌, ◌%◌, ◌++◌, [], ◌∷◌, nat_eq, length, take, drop, get_or, filter, slice_get, OnOk, OnErr, Option, if◌then◌else◌};
 ghost use Rattle.journal.specs.Actors.{same_actor};
-ghost use Rattle.journal.specs.Order.{addressed, order_left, AreBelow};
+ghost use Rattle.journal.specs.Order.{addressed, order_left, HaveNumbersBelow};
 ghost use Rattle.journal.specs.Places.{placed, queue_of, left_in, picked, sent_to, letters_to, first_of};
 
 use crate::journal::{Actor, Letter};
@@ -216,7 +216,7 @@ impl Queues {
         letters: &[Letter<B>],
     ) -> Result<(), AllocError>
         requires small { first + length letters.now < 2 ^ 64 }
-        requires above { AreBelow first self.old.order }
+        requires above { HaveNumbersBelow first self.old.order }
         ensures ok { OnOk result ((a : Actor) → queue_of self.new a ≡ queue_of self.old a ++ sent_to a (placed entry 0 first from letters.now)) }
         ensures err { OnErr result ((a : Actor) → queue_of self.new a ≡ queue_of self.old a) }
         ensures order_ok { OnOk result (self.new.order ≡ self.old.order ++ addressed first letters.now) }

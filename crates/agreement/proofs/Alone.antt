@@ -3,8 +3,8 @@ use Rattle.std.proofs.Common.{◌≡◌, ℕ, ◌<◌, ◌⊎◌, inl, inr, true
 use Rattle.std.proofs.lemmas.Bool.{cases_Bool, false≢true, cond-true, cond-false}
 use Rattle.list_facts.proofs.Prefixes.{comparable, front_prefix, prefix_nil, prefix_refl, prefix_trans}
 use Rattle.list_facts.specs.Lists.{IsPrefix}
-use Rattle.actor_fold.specs.Fold as step
-use Rattle.actor_fold.specs.Fold.{Step, ActorStanding, standing_on, actor_standing}
+use Rattle.list_facts.specs.Fold as step
+use Rattle.list_facts.specs.Fold.{Step, ActorStanding, standing_on, actor_standing}
 use Rattle.agreement.specs.History.{Group, size, Letter, State}
 use Rattle.agreement.specs.Invariant.{is_up_status}
 use Rattle.agreement.specs.Laws.{committed_log}

@@ -4,7 +4,7 @@ use mathlib.Core.Path.{subst₃}
 use Rattle.std.proofs.lemmas.Bool.{cases_eq, cases_Bool, and_parts, false≢true, eqb-true, cond-true, cond-false}
 use Rattle.list_facts.proofs.Elements.{in_append, in_left, in_right}
 use Rattle.list_facts.specs.Lists.{IsIn}
-use Rattle.actor_fold.specs.Fold.{ActorStanding, standing_on}
+use Rattle.list_facts.specs.Fold.{ActorStanding, standing_on}
 use Rattle.agreement.specs.History.{Group, size, primary_in, Status, Normal, ViewChange, Recovering, Down, Letter, State, History}
 use Rattle.agreement.specs.Invariant.{is_up_status, Invariant}
 use Rattle.agreement.specs.Moves.{Moved, LogsStay, fallen, Falls, StandsAt}

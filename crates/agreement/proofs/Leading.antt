@@ -4,7 +4,7 @@ use Rattle.std.proofs.lemmas.Bool.{cases_lt, leb-true, ltb-true, cond-true, cond
 use Rattle.agreement.specs.Lists.{IsAtMost, count_below}
 use Rattle.list_facts.proofs.Prefixes.{front_prefix, prefix_both, prefix_nil, prefix_trans, take_within}
 use Rattle.list_facts.specs.Lists.{IsPrefix}
-use Rattle.actor_fold.specs.Fold.{ActorStanding}
+use Rattle.list_facts.specs.Fold.{ActorStanding}
 use Rattle.agreement.specs.History.{Group, size, primary_in, Normal, Letter, State, History}
 use Rattle.agreement.specs.Quorums.{has_accepted, HasQuorum, IsSafe, IsCertified, empty, shown}
 use Rattle.agreement.specs.Invariant.{is_up_status, Invariant, IsGroup}

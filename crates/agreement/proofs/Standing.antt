@@ -4,8 +4,8 @@ use Rattle.std.proofs.lemmas.Bool.{cases_eq, eq-eqb, ne_eqb, cond-true, cond-fal
 use Rattle.std.proofs.lemmas.List.{map-append}
 use Rattle.std.proofs.lemmas.List.Elements.{filter-append}
 use Rattle.list_facts.proofs.Elements.{in_right}
-use Rattle.actor_fold.specs.Fold as step
-use Rattle.actor_fold.specs.Fold.{Step, ActorStanding, actor_standing, standing_on}
+use Rattle.list_facts.specs.Fold as step
+use Rattle.list_facts.specs.Fold.{Step, ActorStanding, actor_standing, standing_on}
 use Rattle.agreement.specs.History.{Group, size, Letter}
 use Rattle.agreement.specs.Journals.{Input, Local, Heard, Rules, Entry, Takes, Posts, Refused, controller_of, own_step, own_steps, actor_rules, stands, rest_left_by, posted_in_history, Comes, MayStand, IsAllowed, Follows}
 

@@ -1,8 +1,8 @@
 -- Histories of journals, for any rules of a controller. A journal lists what controllers take and post. Its past stands
 -- newest first.
 use Rattle.std.specs.Prelude.{◌≡◌, ◌≢◌, ℕ, ◌<◌, ◌≤◌, ◌⊎◌, Bool, true, false, ◌&&◌, nat_eq, List, [], ◌∷◌, ◌++◌, map, filter, if◌then◌else◌, ⊤}
-use Rattle.actor_fold.specs.Fold as step
-use Rattle.actor_fold.specs.Fold.{Step, ActorStanding, ActorRules, actor_standing}
+use Rattle.list_facts.specs.Fold as step
+use Rattle.list_facts.specs.Fold.{Step, ActorStanding, ActorRules, actor_standing}
 use Rattle.list_facts.specs.Lists.{IsIn, IsPrefix}
 use Rattle.agreement.specs.History.{Group, size, primary_in, Status, Normal, ViewChange, Recovering, Down, Letter, State, History}
 use Rattle.agreement.specs.Invariant.{is_up_status, Invariant, IsGroup}

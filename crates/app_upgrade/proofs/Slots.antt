@@ -19,7 +19,8 @@ use Rattle.app_core.specs.Slot.{at_version, version_of}
 use Rattle.app_core.proofs.Rows.{aging_row, hub_row, learning_row, pinned_row, routing_row, slot_row}
 use Rattle.app_upgrade.specs.declared.version.Version.{Version}
 use Rattle.app_upgrade.specs.declared.version.Version.TheVariants as version
-use Rattle.app_upgrade.specs.Versions.{AreLast, active_of, kind_in, left_after}
+use Rattle.app_upgrade.specs.Versions.{AreLast, kind_in}
+use Rattle.version_line.specs.Line.{active_of, left_after}
 
 -- no version gives more than 64 commands
 few_in : (v : Version) → most_given (kind_in v) ≤ 64

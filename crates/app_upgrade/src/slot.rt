@@ -4,7 +4,8 @@ ghost use Rattle.of_types.specs.declared.setup.Setup.{Setup};
 ghost use Rattle.app_core.specs.Chain.{slot, learning, versions, most_given, part_next, starting_chain};
 ghost use Rattle.app_core.specs.Parts.{PartSteps, AllFit};
 ghost use Rattle.app_core.specs.Slot.{at_version};
-ghost use Rattle.app_upgrade.specs.Versions.{AreLast, active_of, left_after, kind_in};
+ghost use Rattle.app_upgrade.specs.Versions.{AreLast, kind_in};
+ghost use Rattle.version_line.specs.Line.{active_of};
 
 use crate::hub::Hub;
 use crate::version::Version;
@@ -13,9 +14,7 @@ use learning_app::{Aging, Learning, Pinned};
 use of_types::{Commands, Event, Setup};
 use route_app::Route;
 use std::alloc::{AllocError, Global};
-
-/// How many versions a slot has.
-const VERSIONS: usize = 5;
+use version_line::{VERSIONS, active_of, upgrade};
 
 /// A part that is one version of an application, the active one, until an operator asks for a later one. It holds the active
 /// version and those after it.
@@ -44,18 +43,6 @@ pub fn all_versions(alloc: Global) -> Result<Vec<Version>, AllocError>
     ensures { IfOk result (λ parts. map kind_in parts.items ≡ versions) }
 {
     versions_from(alloc, Version::Learning(Learning::new(alloc)))
-}
-
-/// Drops the parts before the version that is asked for, where that is one and above the active one.
-fn upgrade(parts: &mut Vec<Version>, asked: u8)
-    requires { AreLast parts.old.items }
-    ensures { parts.new.items ≡ left_after asked parts.old.items }
-{
-    let asked = usize::from(asked);
-    let active = VERSIONS - parts.len();
-    if active < asked && asked < VERSIONS {
-        parts.drain(..asked - active);
-    }
 }
 
 /// The first of some parts takes an event.
@@ -112,7 +99,7 @@ impl Slot {
     pub fn active(&self) -> u8
         ensures { result ≡ slice_index_or (⟦<Slot as Part>⟧.numbers self.now) 0 0 }
     {
-        (VERSIONS - self.parts.len()) as u8
+        active_of(self.parts.as_slice()) as u8
     }
 
     /// How many parts it holds: those of the versions from the active one on.

@@ -40,9 +40,9 @@ use Rattle.run_spec.specs.States.{ControllerAt, IsFaithful, Scene, Sealing, Swit
 use Rattle.run_spec.proofs.Entries.{Another, Mine, Other, Own, controller_after, switch_after}
 use Rattle.run_spec.proofs.Pasts.{from_some, possible_after, possible_before, self_controller, self_switch}
 use Rattle.run_spec.proofs.Pools.{New, Was, drawn_found, one_actor, pool_after}
-use Rattle.exactly_once.specs.Facts.{PastFacts, facts_of}
-use Rattle.exactly_once.specs.Invariant.{Forwarded, HoldsOfRun, IsOrder, IsReport, Reported, ToMember, ToSwitch}
-use Rattle.exactly_once.proofs.Packets.{reported_valid, told_valid}
+use Rattle.run_laws.specs.OnceLaws.Facts.{PastFacts, facts_of}
+use Rattle.run_laws.specs.OnceLaws.Invariant.{Forwarded, HoldsOfRun, IsOrder, IsReport, Reported, ToMember, ToSwitch}
+use Rattle.run_laws.proofs.OnceLaws.Packets.{reported_valid, told_valid}
 use Rattle.run_laws.proofs.Laws.{always}
 use Rattle.byte_bodies.proofs.Carrying.{carried, carried_entry, carried_found, carried_letters, carried_packet, carried_part, any_carried, input_carried, map_same, part_carried, pool_carried, posted_carried, same_actors, waiting_carried}
 

@@ -34,7 +34,7 @@ use Rattle.group_controller.specs.Settling.{is_settled, is_untold}
 use Rattle.run_spec.specs.declared.messages.Message.{Message}
 use Rattle.run_spec.specs.declared.messages.Message.TheVariants as message
 use Rattle.run_spec.specs.States.{controller_message}
-use Rattle.exactly_once.specs.Truths.{IsMade}
+use Rattle.run_laws.specs.OnceLaws.Truths.{IsMade}
 use Rattle.closing_laws.specs.Following.{ArePrepares}
 use Rattle.closing_laws.specs.Ways.{told_to}
 

@@ -25,20 +25,20 @@ use Rattle.vr_log.specs.Members as member
 use Rattle.vr_log.specs.Steps.{VrStep}
 use Rattle.vr_log.specs.Valid.{starting_state, down_state}
 use Rattle.vr_core.specs.Step.{vr_step}
-use Rattle.member_moves.specs.Laws.{IsMemberAt}
-use Rattle.member_moves.specs.Projection.{group_of, message_of, answer_of, member_state_of, member_status_of, is_member}
-use Rattle.member_moves.proofs.Alone.{step_on}
-use Rattle.member_moves.proofs.Changing.{fallen_like}
-use Rattle.member_moves.proofs.Checking.{zeros}
-use Rattle.member_moves.proofs.Keeping.{PromiseRises, step_keeps}
-use Rattle.member_moves.proofs.Logs.{logs_law}
-use Rattle.member_moves.proofs.Members.{IsMemberOf, member_of, up_of}
-use Rattle.member_moves.proofs.Turns.{falls_law}
+use Rattle.controller_moves.specs.MemberMoves.Laws.{IsMemberAt}
+use Rattle.controller_moves.specs.MemberMoves.Projection.{group_of, message_of, answer_of, member_state_of, member_status_of, is_member}
+use Rattle.controller_moves.proofs.MemberMoves.Alone.{step_on}
+use Rattle.controller_moves.proofs.MemberMoves.Changing.{fallen_like}
+use Rattle.controller_moves.proofs.MemberMoves.Checking.{zeros}
+use Rattle.controller_moves.proofs.MemberMoves.Keeping.{PromiseRises, step_keeps}
+use Rattle.controller_moves.proofs.MemberMoves.Logs.{logs_law}
+use Rattle.controller_moves.proofs.MemberMoves.Members.{IsMemberOf, member_of, up_of}
+use Rattle.controller_moves.proofs.MemberMoves.Turns.{falls_law}
 use Rattle.group_controller.specs.declared.messages.ControllerInput.{ControllerInput}
 use Rattle.group_controller.specs.declared.messages.ControllerInput.TheVariants as controller_input
 use Rattle.group_controller.specs.State.{Work, resting, stepped}
 use Rattle.group_controller.specs.Rules.{controller_work}
-use Rattle.controller_laws.specs.Moves.{member_input}
+use Rattle.controller_moves.specs.ControllerLaws.Moves.{member_input}
 use Rattle.controller_moves.specs.Projection.{OwnInput, Happens, FromSwitch, Unread, filled_of, vr_message_of, input_of, letters_to_members}
 use Rattle.controller_moves.specs.Rules.{SavingController, saved, done}
 use Rattle.controller_moves.specs.Works.{Continues, IsWorkOf, Rests, Steps, Crashes, Restarts}

@@ -12,7 +12,7 @@ use Rattle.agreement.specs.History as core
 use Rattle.agreement.specs.History.{abstract_letter}
 use Rattle.vr_log.specs.declared.entry.Entry.{Entry}
 use Rattle.vr_log.specs.declared.message.VrLetter.{VrLetter}
-use Rattle.member_moves.specs.Projection.{message_of, letters_of}
+use Rattle.controller_moves.specs.MemberMoves.Projection.{message_of, letters_of}
 use Rattle.group_controller.specs.declared.messages.ControllerSays.{ControllerSays}
 use Rattle.group_controller.specs.State.{Work, to_member, to_members}
 use Rattle.controller_moves.specs.Projection.{projected_letters_to, letters_to_members}

@@ -3,3 +3,5 @@ pub mod Works
 pub mod Turns
 pub mod Following
 pub mod Spelling
+pub mod MemberMoves
+pub mod ControllerLaws

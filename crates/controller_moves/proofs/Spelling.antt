@@ -13,13 +13,13 @@ use Rattle.vr_log.specs.Steps.{VrStep}
 use Rattle.vr_normal.specs.Proposing.{proposed}
 use Rattle.vr_recovery.specs.Recovering.{restarted}
 use Rattle.vr_core.specs.Step.{vr_step}
-use Rattle.member_moves.specs.Spelling.{CanBeSpelled, AreValidLetters, IsValidStep}
-use Rattle.member_moves.proofs.Spelling as member
+use Rattle.controller_moves.specs.MemberMoves.Spelling.{CanBeSpelled, AreValidLetters, IsValidStep}
+use Rattle.controller_moves.proofs.MemberMoves.Spelling as member
 use Rattle.group_controller.specs.declared.messages.ControllerInput.{ControllerInput}
 use Rattle.group_controller.specs.declared.messages.ControllerSays.{ControllerSays}
 use Rattle.group_controller.specs.State.{ControllerState, Work, fresh, resting, stepped, to_members}
 use Rattle.group_controller.specs.Rules.{controller_work}
-use Rattle.controller_laws.specs.Moves.{member_input, IsProposed, Receives, Processes}
+use Rattle.controller_moves.specs.ControllerLaws.Moves.{member_input, IsProposed, Receives, Processes}
 use Rattle.controller_moves.specs.Spelling.{IsValidTo, AreValidToMembers, HasValidEvent, CanBeHeard, IsValidWork, TurnsCanBeSpelled}
 use Rattle.controller_moves.specs.Works.{IsToSwitch, AreToSwitches, Continues, Begins, Tells, Proposes, IsWorkOf, Rests, Steps, Crashes, Restarts}
 use Rattle.controller_moves.proofs.Works.{works_law}

@@ -30,19 +30,19 @@ use Rattle.vr_log.specs.Steps.{VrStep, to_others}
 use Rattle.vr_normal.specs.Proposing.{proposed}
 use Rattle.vr_recovery.specs.Recovering.{restarted}
 use Rattle.vr_core.specs.Step.{vr_step}
-use Rattle.member_moves.specs.Laws.{IsMemberAt, IsMemberTurn}
-use Rattle.member_moves.specs.Projection.{group_of, message_of, member_state_of}
-use Rattle.member_moves.proofs.Members.{member_of, normal_of, same_primary, same_half, normal_like, goes_quiet}
-use Rattle.member_moves.proofs.Checking.{each_same, swapped}
-use Rattle.member_moves.proofs.Logs.{log_next, logs_law}
-use Rattle.member_moves.proofs.Keeping.{step_keeps}
-use Rattle.member_moves.proofs.Turns.{messages_law, suspicions_law, ticks_law, falls_law, restarts_law}
+use Rattle.controller_moves.specs.MemberMoves.Laws.{IsMemberAt, IsMemberTurn}
+use Rattle.controller_moves.specs.MemberMoves.Projection.{group_of, message_of, member_state_of}
+use Rattle.controller_moves.proofs.MemberMoves.Members.{member_of, normal_of, same_primary, same_half, normal_like, goes_quiet}
+use Rattle.controller_moves.proofs.MemberMoves.Checking.{each_same, swapped}
+use Rattle.controller_moves.proofs.MemberMoves.Logs.{log_next, logs_law}
+use Rattle.controller_moves.proofs.MemberMoves.Keeping.{step_keeps}
+use Rattle.controller_moves.proofs.MemberMoves.Turns.{messages_law, suspicions_law, ticks_law, falls_law, restarts_law}
 use Rattle.group_controller.specs.declared.messages.ControllerInput.{ControllerInput}
 use Rattle.group_controller.specs.declared.messages.ControllerInput.TheVariants as controller_input
 use Rattle.group_controller.specs.State.{ControllerState, Work, fresh, resting, stepped, to_members}
 use Rattle.group_controller.specs.Settling.{with_proposal}
-use Rattle.controller_laws.specs.Moves.{member_input, IsProposed}
-use Rattle.controller_laws.proofs.Finished.{proposal_follows}
+use Rattle.controller_moves.specs.ControllerLaws.Moves.{member_input, IsProposed}
+use Rattle.controller_moves.proofs.ControllerLaws.Finished.{proposal_follows}
 use Rattle.controller_moves.specs.Projection.{letters_to_members}
 use Rattle.controller_moves.specs.Works.{Continues, Begins, Tells, Proposes, IsWorkOf, Rests, Steps, Crashes, Restarts}
 use Rattle.controller_moves.proofs.Letters.{letters_append, letters_members, same_letters}

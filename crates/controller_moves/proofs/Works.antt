@@ -36,7 +36,7 @@ use Rattle.group_controller.specs.declared.messages.ControllerSays.{ControllerSa
 use Rattle.group_controller.specs.State.{ControllerState, Work, committed, with_no_met_limit, met_limit, resting, posting_work, leaving, stepped}
 use Rattle.group_controller.specs.Settling.{role_letter, command_letter, command_letters, ack_letter, clear_letter, answers_at, with_answers, is_untold, with_commands, with_proposal, is_settled, is_alone, after_proposal, goes_on, processing, finishing, settling, proposing}
 use Rattle.group_controller.specs.Rules.{switches, has_started, after_step, unconfirmed, tick_letters, on_tick, on_wish, on_event, on_result, on_role_reply, commands_for, on_plain, on_extension, on_spoken, on_switch, on_local, on_input, when_down, is_down, controller_work}
-use Rattle.controller_laws.specs.Moves.{IsProposed, Receives, Processes}
+use Rattle.controller_moves.specs.ControllerLaws.Moves.{IsProposed, Receives, Processes}
 use Rattle.controller_moves.specs.Works.{IsToSwitch, AreToSwitches, TellsSwitches, Continues, Begins, Tells, Proposes, IsWorkOf, Rests, Steps, Crashes, Restarts}
 use Rattle.controller_moves.specs.Laws.{WorksStandOnSteps}
 use Rattle.controller_moves.proofs.Letters.{to_switches_flat}

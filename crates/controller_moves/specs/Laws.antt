@@ -3,7 +3,7 @@ use Rattle.std.specs.Prelude.{ℕ, List}
 use Rattle.of_types.specs.declared.setup.Setup.{Setup}
 use Rattle.journal.specs.declared.journal.SaveResult.{SaveResult}
 use Rattle.agreement.specs.Journals.{Follows}
-use Rattle.member_moves.specs.Projection.{group_of}
+use Rattle.controller_moves.specs.MemberMoves.Projection.{group_of}
 use Rattle.group_controller.specs.declared.messages.ControllerInput.{ControllerInput}
 use Rattle.group_controller.specs.Rules.{controller_work}
 use Rattle.group_controller.specs.State.{ControllerState}

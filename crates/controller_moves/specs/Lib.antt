@@ -3,3 +3,5 @@ pub mod Rules
 pub mod Works
 pub mod Laws
 pub mod Spelling
+pub mod MemberMoves
+pub mod ControllerLaws

@@ -14,7 +14,7 @@ use Rattle.vr_log.specs.declared.entry.Entry.{Entry}
 use Rattle.vr_log.specs.declared.message.Filled.{Filled}
 use Rattle.vr_log.specs.declared.message.VrMessage.{VrMessage}
 use Rattle.vr_log.specs.declared.message.VrMessage.TheVariants as message
-use Rattle.member_moves.specs.Projection.{message_of}
+use Rattle.controller_moves.specs.MemberMoves.Projection.{message_of}
 use Rattle.group_controller.specs.declared.messages.ControllerInput.{ControllerInput}
 use Rattle.group_controller.specs.declared.messages.ControllerInput.TheVariants as controller_input
 use Rattle.group_controller.specs.declared.messages.ControllerSays.{ControllerSays}

@@ -8,7 +8,7 @@ use Rattle.agreement.specs.History as core
 use Rattle.agreement.specs.History.{size}
 use Rattle.agreement.specs.Journals.{Input, Rules}
 use Rattle.vr_log.specs.declared.entry.Entry.{Entry}
-use Rattle.member_moves.specs.Projection.{group_of, member_state_of, is_member}
+use Rattle.controller_moves.specs.MemberMoves.Projection.{group_of, member_state_of, is_member}
 use Rattle.group_controller.specs.declared.messages.ControllerSays.{ControllerSays}
 use Rattle.group_controller.specs.State.{ControllerState, Work, starting_controller, down}
 use Rattle.group_controller.specs.Rules.{controller_work}

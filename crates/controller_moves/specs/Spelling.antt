@@ -9,14 +9,14 @@ use Rattle.journal.specs.declared.journal.Actor.TheVariants.{Controller, Switch}
 use Rattle.journal.specs.declared.journal.Letter.{Letter}
 use Rattle.vr_log.specs.declared.entry.Entry.TheVariants.{Received}
 use Rattle.vr_log.specs.Sizes.{IsValidEntry, IsValidVr}
-use Rattle.member_moves.specs.Spelling.{CanBeSpelled, IsValidInput}
+use Rattle.controller_moves.specs.MemberMoves.Spelling.{CanBeSpelled, IsValidInput}
 use Rattle.group_controller.specs.declared.messages.ControllerInput.{ControllerInput}
 use Rattle.group_controller.specs.declared.messages.ControllerInput.TheVariants as controller_input
 use Rattle.group_controller.specs.declared.messages.ControllerSays.{ControllerSays}
 use Rattle.group_controller.specs.declared.messages.ControllerSays.TheVariants as controller_says
 use Rattle.group_controller.specs.Rules.{controller_work}
 use Rattle.group_controller.specs.State.{ControllerState, Work}
-use Rattle.controller_laws.specs.Moves.{member_input}
+use Rattle.controller_moves.specs.ControllerLaws.Moves.{member_input}
 
 -- a letter to a member is a message of members, and can be spelled
 abbrev pub IsValidTo : Actor → ControllerSays → Type 0

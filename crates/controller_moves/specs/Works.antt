@@ -20,7 +20,7 @@ use Rattle.group_controller.specs.declared.messages.ControllerInput.TheVariants 
 use Rattle.group_controller.specs.declared.messages.ControllerSays.{ControllerSays}
 use Rattle.group_controller.specs.Settling.{with_proposal}
 use Rattle.group_controller.specs.State.{ControllerState, Work, fresh, resting, stepped}
-use Rattle.controller_laws.specs.Moves.{member_input, IsProposed}
+use Rattle.controller_moves.specs.ControllerLaws.Moves.{member_input, IsProposed}
 
 -- a letter goes to a switch
 abbrev pub IsToSwitch : Actor → Type 0

@@ -2,6 +2,9 @@
 //! Each law is a function that does nothing, and whose clause says it.
 #![tactic(auto)]
 
+pub mod controller_laws;
+pub mod member_moves;
+
 ghost use Rattle.controller_moves.specs.Laws.{ControllersFollow, WorksStandOnSteps};
 ghost use Rattle.controller_moves.specs.Spelling.{TurnsCanBeSpelled};
 

@@ -12,7 +12,8 @@ use Rattle.app_core.specs.Routing.{is_port_before, with_known_port, without_port
 use Rattle.app_core.proofs.Linked.{same_tells, other_back, are_ports, port_bounds}
 use Rattle.route_app.specs.declared.wires.Wires.{Wires}
 use Rattle.route_app.specs.Search.{row}
-use Rattle.route_app.specs.Tables.{place, led, IsEnds, IsUpTable}
+use Rattle.port_table.specs.Places.{place}
+use Rattle.route_app.specs.Tables.{led, IsEnds, IsUpTable}
 use Rattle.route_app.specs.UpLinks.{with_link, relinked, relinked_ports}
 use Rattle.route_app.specs.Wired.{IsWires, end_over}
 use Rattle.route_app.proofs.Tables.{row-at, row-past, one_place, lt_tells}

@@ -14,7 +14,8 @@ use Rattle.of_types.specs.Setups.{IsPort, IsSetup}
 use Rattle.app_core.specs.declared.switch_port.SwitchPort.{SwitchPort}
 use Rattle.app_core.specs.Routes.{is_same_port, near_end, far_end, other_end, is_link_down, if_up, over_known_link}
 use Rattle.route_app.specs.Search.{row, IsTable}
-use Rattle.route_app.specs.Tables.{place, joined_ends, marked, kept_up, all_kept_up, IsEnds, IsDownTable, IsUpTable}
+use Rattle.port_table.specs.Places.{place, marked}
+use Rattle.route_app.specs.Tables.{joined_ends, kept_up, all_kept_up, IsEnds, IsDownTable, IsUpTable}
 use Rattle.app_core.proofs.Linked.{one_port, same_tells, are_ports, port_bounds, over_ports, over_back}
 
 module _ (table : List (Option SwitchPort)) where

@@ -10,9 +10,10 @@ use Rattle.of_types.specs.declared.setup.Setup.{Setup}
 use Rattle.of_types.specs.Setups.{IsSetup}
 use Rattle.app_core.specs.declared.switch_port.SwitchPort.{SwitchPort}
 use Rattle.app_core.specs.Routes.{over_known_link, walks, route, unreached, hops_of, levels, IsWalk, FallsAlong, ShowRoutes}
-use Rattle.route_app.specs.Search.{row, level, FindsLevels, FindsUpTo}
+use Rattle.port_table.specs.Hops.{level, HasNone, IsFirstPort}
+use Rattle.route_app.specs.Search.{row, FindsLevels, FindsUpTo}
 use Rattle.route_app.specs.Tables.{IsUpTable}
-use Rattle.route_app.specs.Hops.{HasNone, IsFirstPort, AnswersRoute}
+use Rattle.route_app.specs.Hops.{AnswersRoute}
 use Rattle.app_core.proofs.Linked.{over_other, over_ports, port_bounds}
 use Rattle.route_app.proofs.Walks.{first_hop, last_hop, route_found, no_route}
 use Rattle.app_core.proofs.Routes.{In, in_first, walks_sound, walks_all, route_means}

@@ -6,13 +6,14 @@ ghost use Rattle.app_core.specs.Routing.{frame_out, frame_out_if, port_of_end, p
 ghost use Rattle.route_app.specs.Wired.{IsWires, end_over, open_over, all_open, flooded_over, legs_over, rows_back, installed_over};
 
 use crate::places::is_same;
-use crate::table::{down_table, is_marked, place};
+use crate::table::down_table;
 use crate::wires::{Wires, count, edge_over, end_over};
 use app_core::{Leg, SwitchPort, flow_mod, forgetting_rows, frames_to, packet_out};
 use of_types::{
     ANY_PORT, Actions, Command, Commands, FlowCommand, Items, NO_BUFFER, Octets, Order, PacketOut,
     TO_CONTROLLER, fields,
 };
+use port_table::{is_marked, place};
 use std::alloc::{AllocError, Global};
 
 /// Of so many switches of a path, numbered from the first, rows are installed at once.

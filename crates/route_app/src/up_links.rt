@@ -8,10 +8,9 @@ ghost use Rattle.route_app.specs.Wired.{IsWires};
 ghost use Rattle.route_app.specs.UpLinks.{AreUp, relinked, relinked_ports};
 
 use crate::places::{bring_up, bring_up_switch, is_same, take_down};
-use crate::search::WIDTH;
-use crate::table::place;
 use crate::wires::{Wires, end_over};
 use app_core::SwitchPort;
+use port_table::{WIDTH, place};
 use std::alloc::{AllocError, Global};
 
 /// The links of a setup, of which those are up whose ports both are.

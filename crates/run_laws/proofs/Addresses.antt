@@ -9,10 +9,10 @@ use Rattle.vr_log.specs.declared.entry.Entry.{Entry}
 use Rattle.vr_log.specs.declared.entry.Entry.TheVariants.{Received, Processed}
 use Rattle.run_spec.specs.States.{Scene}
 use Rattle.run_spec.specs.Committed.{controller_state}
-use Rattle.address_laws.specs.Addresses.{IsOfSwitch, AreOfSwitches}
-use Rattle.exactly_once.specs.Facts.{PastFacts}
-use Rattle.exactly_once.specs.Truths.{IsTrueEntry}
-use Rattle.exactly_once.specs.Invariant.{Logged, HoldsOfRun}
+use Rattle.run_laws.specs.AddressLaws.Addresses.{IsOfSwitch, AreOfSwitches}
+use Rattle.run_laws.specs.OnceLaws.Facts.{PastFacts}
+use Rattle.run_laws.specs.OnceLaws.Truths.{IsTrueEntry}
+use Rattle.run_laws.specs.OnceLaws.Invariant.{Logged, HoldsOfRun}
 
 of_switch : (kinds : List ℕ) (setup : Setup) (f : PastFacts) (i : ℕ) (e : Entry) → IsTrueEntry kinds setup f i e → IsOfSwitch setup e
 of_switch kinds setup f i (Received event) h = h.there

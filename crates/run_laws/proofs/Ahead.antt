@@ -15,20 +15,20 @@ use Rattle.vr_core.specs.declared.input.VrInput.TheVariants as vr_input
 use Rattle.group_controller.specs.declared.messages.ControllerInput.{ControllerInput}
 use Rattle.group_controller.specs.declared.messages.ControllerInput.TheVariants as controller_input
 use Rattle.list_facts.specs.Lists.{IsIn}
-use Rattle.controller_laws.specs.CommitNumbers.{commit_of, IsKnownCommit, Below, OfCollected, OfResponse, OfInput}
-use Rattle.controller_laws.specs.Entries.{IsGoodBeside}
-use Rattle.controller_laws.specs.Moves.{Chain, Start, Then, ControllerMove, Steps, Says, Saves, Begins, Proposes, Results, Notes, member_input}
+use Rattle.controller_moves.specs.ControllerLaws.CommitNumbers.{commit_of, IsKnownCommit, Below, OfCollected, OfResponse, OfInput}
+use Rattle.controller_moves.specs.ControllerLaws.Entries.{IsGoodBeside}
+use Rattle.controller_moves.specs.ControllerLaws.Moves.{Chain, Start, Then, ControllerMove, Steps, Says, Saves, Begins, Proposes, Results, Notes, member_input}
 use Rattle.group_controller.specs.Rules.{controller_work}
 use Rattle.group_controller.specs.State.{ControllerState, Work, committed}
-use Rattle.controller_laws.specs.Turns.{beginning, IsReached}
-use Rattle.controller_laws.specs.MemberMoves.{MemberMove, Enters, Tallies, Collects as Collecting, Stocks, Starts, Adopts, Recovers, Appends, Commits, Keeps}
-use Rattle.controller_laws.proofs.CommitNumbers.{commits_from}
-use Rattle.controller_laws.proofs.MemberEntries.{response_among}
+use Rattle.controller_moves.specs.ControllerLaws.Turns.{beginning, IsReached}
+use Rattle.controller_moves.specs.ControllerLaws.MemberMoves.{MemberMove, Enters, Tallies, Collects as Collecting, Stocks, Starts, Adopts, Recovers, Appends, Commits, Keeps}
+use Rattle.controller_moves.proofs.ControllerLaws.CommitNumbers.{commits_from}
+use Rattle.controller_moves.proofs.ControllerLaws.MemberEntries.{response_among}
 use Rattle.list_facts.proofs.Prefixes.{prefix_refl}
-use Rattle.controller_laws.proofs.Places.{stands_get}
-use Rattle.controller_laws.proofs.Reached.{chain_reaches}
-use Rattle.exactly_once.specs.Invariant.{HasAhead, HoldsAhead, Own, Collects, Answers, Supplies}
-use Rattle.exactly_once.specs.Premises.{BoundBy, By_held, By_told, One_held, One_told, IsAheadBy}
+use Rattle.controller_moves.proofs.ControllerLaws.Places.{stands_get}
+use Rattle.controller_moves.proofs.ControllerLaws.Reached.{chain_reaches}
+use Rattle.run_laws.specs.OnceLaws.Invariant.{HasAhead, HoldsAhead, Own, Collects, Answers, Supplies}
+use Rattle.run_laws.specs.OnceLaws.Premises.{BoundBy, By_held, By_told, One_held, One_told, IsAheadBy}
 use Rattle.list_facts.proofs.Places.{in_get}
 use Rattle.run_laws.proofs.Members.{IsOwned}
 use Rattle.run_laws.proofs.Sources.{on_way, low_bound, one_of_stood, own_one, From, By}

@@ -15,12 +15,12 @@ use Rattle.group_controller.specs.declared.messages.ControllerInput.TheVariants 
 use Rattle.controller_moves.specs.Spelling.{HasValidEvent}
 use Rattle.run_spec.specs.States.{Scene, content, controller_hears}
 use Rattle.run_spec.specs.Legal.{IsPossible}
-use Rattle.run_agreement.specs.Reading.{DrawsValidEvent, DrawsValidEvents}
-use Rattle.exactly_once.specs.Facts.{PastFacts, facts_of}
-use Rattle.exactly_once.specs.Invariant.{HoldsOfRun, IsHeardByController}
+use Rattle.run_laws.specs.RunAgreement.Reading.{DrawsValidEvent, DrawsValidEvents}
+use Rattle.run_laws.specs.OnceLaws.Facts.{PastFacts, facts_of}
+use Rattle.run_laws.specs.OnceLaws.Invariant.{HoldsOfRun, IsHeardByController}
 use Rattle.run_spec.proofs.Pasts.{possible_before}
 use Rattle.run_spec.proofs.Pools.{drawn_found}
-use Rattle.exactly_once.proofs.Packets.{heard_by_controller, happening_short, happening_valid}
+use Rattle.run_laws.proofs.OnceLaws.Packets.{heard_by_controller, happening_short, happening_valid}
 
 heard_valid : (kinds : List ℕ) (setup : Setup) (f : PastFacts) (x : ControllerInput) → IsHeardByController kinds setup f x → HasValidEvent x
 heard_valid kinds setup f (controller_input.Local input) h = tt

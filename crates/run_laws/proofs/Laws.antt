@@ -11,24 +11,24 @@ use Rattle.vr_log.specs.declared.entry.Entry.{Entry}
 use Rattle.vr_log.specs.Log.{is_log}
 use Rattle.vr_log.specs.Members.{is_up}
 use Rattle.group_controller.specs.State.{ControllerState, committed}
-use Rattle.controller_laws.proofs.Logs.{may_follow_at}
+use Rattle.controller_moves.proofs.ControllerLaws.Logs.{may_follow_at}
 use Rattle.run_spec.specs.States.{Scene, IsFaithful}
 use Rattle.run_spec.specs.Legal.{IsPossible, results_of}
 use Rattle.run_spec.specs.Committed.{controller_state}
 use Rattle.run_spec.specs.Laws.{IsLasting, IsFenced, IsExactlyOnce}
-use Rattle.exactly_once.specs.Facts.{facts_of}
-use Rattle.exactly_once.specs.Invariant.{HoldsOfRun}
-use Rattle.exactly_once.specs.Premises.{IsProperLog, AreControllers}
-use Rattle.exactly_once.proofs.Executed.{holds_always}
+use Rattle.run_laws.specs.OnceLaws.Facts.{facts_of}
+use Rattle.run_laws.specs.OnceLaws.Invariant.{HoldsOfRun}
+use Rattle.run_laws.specs.OnceLaws.Premises.{IsProperLog, AreControllers}
+use Rattle.run_laws.proofs.OnceLaws.Executed.{holds_always}
 use Rattle.run_spec.proofs.Pasts.{possible_drop}
-use Rattle.exactly_once.proofs.Laws.{is_lasting, is_once, is_fenced}
-use Rattle.exactly_once.proofs.Views.{heard_view, known_view}
-use Rattle.run_agreement.specs.Reading.{AreReadAsSealed, WhereValid}
-use Rattle.run_agreement.proofs.Agreeing.{kept_law}
-use Rattle.run_agreement.proofs.Groups.{odd_law}
-use Rattle.run_agreement.proofs.Leading.{decided_law}
-use Rattle.address_laws.specs.Laws.{WaitsForActors}
-use Rattle.address_laws.proofs.Journals.{journals_addressed}
+use Rattle.run_laws.proofs.OnceLaws.Laws.{is_lasting, is_once, is_fenced}
+use Rattle.run_laws.proofs.OnceLaws.Views.{heard_view, known_view}
+use Rattle.run_laws.specs.RunAgreement.Reading.{AreReadAsSealed, WhereValid}
+use Rattle.run_laws.proofs.RunAgreement.Agreeing.{kept_law}
+use Rattle.run_laws.proofs.RunAgreement.Groups.{odd_law}
+use Rattle.run_laws.proofs.RunAgreement.Leading.{decided_law}
+use Rattle.run_laws.specs.AddressLaws.Laws.{WaitsForActors}
+use Rattle.run_laws.proofs.AddressLaws.Journals.{journals_addressed}
 use Rattle.run_laws.specs.Laws.{InEveryRun, AreAgreed, AreValidLogs, IsLed, ControllersKeepTheirSide}
 use Rattle.run_laws.proofs.Addresses.{logs_named}
 use Rattle.run_laws.proofs.Events.{events_valid}

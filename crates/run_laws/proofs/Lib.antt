@@ -11,3 +11,7 @@ pub mod Told
 pub mod StepViews
 pub mod WorkViews
 pub mod Views
+pub mod AddressLaws
+pub mod SwitchTables
+pub mod OnceLaws
+pub mod RunAgreement

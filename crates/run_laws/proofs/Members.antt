@@ -15,16 +15,16 @@ use Rattle.vr_log.specs.Members.{is_up, is_normal, is_primary, leads}
 use Rattle.vr_core.specs.declared.input.VrInput.{VrInput}
 use Rattle.group_controller.specs.declared.messages.ControllerInput.{ControllerInput}
 use Rattle.group_controller.specs.declared.messages.ControllerInput.TheVariants as controller_input
-use Rattle.controller_laws.specs.Entries.{IsConsistent}
-use Rattle.controller_laws.specs.Moves.{Chain, Start, Then, ControllerMove, Steps, Says, Saves, Begins, Proposes, Results, Notes, member_input}
+use Rattle.controller_moves.specs.ControllerLaws.Entries.{IsConsistent}
+use Rattle.controller_moves.specs.ControllerLaws.Moves.{Chain, Start, Then, ControllerMove, Steps, Says, Saves, Begins, Proposes, Results, Notes, member_input}
 use Rattle.group_controller.specs.Rules.{is_down, controller_work}
 use Rattle.group_controller.specs.State.{ControllerState, Work}
-use Rattle.controller_laws.specs.Turns.{beginning}
-use Rattle.controller_laws.specs.MemberMoves.{MemberMove, Enters, Tallies, Collects, Stocks, Starts, Adopts, Recovers, Appends, Commits, Keeps}
+use Rattle.controller_moves.specs.ControllerLaws.Turns.{beginning}
+use Rattle.controller_moves.specs.ControllerLaws.MemberMoves.{MemberMove, Enters, Tallies, Collects, Stocks, Starts, Adopts, Recovers, Appends, Commits, Keeps}
 use Rattle.vr_log.specs.Valid.{starting_state, down_state}
 use Rattle.vr_recovery.specs.Recovering.{recovering_state}
-use Rattle.controller_laws.proofs.Restarts.{down_rests}
-use Rattle.controller_laws.proofs.Reached.{turn_chain, chain_reaches}
+use Rattle.controller_moves.proofs.ControllerLaws.Restarts.{down_rests}
+use Rattle.controller_moves.proofs.ControllerLaws.Reached.{turn_chain, chain_reaches}
 use Rattle.run_spec.specs.States.{Scene, ControllerAt, controller_at, controller_took, controller_saved, controller_hears, content}
 
 -- one that takes no part has nothing committed

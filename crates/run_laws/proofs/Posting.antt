@@ -23,29 +23,29 @@ use Rattle.vr_log.specs.Members.{is_up, is_primary, leads}
 use Rattle.vr_log.specs.Sizes.{IsValidEntry, IsValidLog, IsValidVr}
 use Rattle.vr_log.specs.Steps.{letter}
 use Rattle.vr_recovery.specs.Recovering.{filled}
-use Rattle.member_moves.proofs.Spelling.{IsShort, log_short}
+use Rattle.controller_moves.proofs.MemberMoves.Spelling.{IsShort, log_short}
 use Rattle.app_core.specs.Issued.{commands_of}
 use Rattle.dispatcher.specs.Marks.{is_wanted}
 use Rattle.group_controller.specs.declared.messages.ControllerInput.{ControllerInput}
 use Rattle.group_controller.specs.declared.messages.ControllerInput.TheVariants as controller_input
 use Rattle.group_controller.specs.declared.messages.ControllerSays.{ControllerSays}
-use Rattle.controller_laws.specs.Entries.{MessageHolds, SaysHold}
-use Rattle.controller_laws.specs.Moves as move
-use Rattle.controller_laws.specs.Moves.{Chain, Start, Then, ControllerMove, Steps, Says, Saves, Begins, Proposes, Results, Notes, member_input, IsSaid, IsProposed, Receives, Processes}
+use Rattle.controller_moves.specs.ControllerLaws.Entries.{MessageHolds, SaysHold}
+use Rattle.controller_moves.specs.ControllerLaws.Moves as move
+use Rattle.controller_moves.specs.ControllerLaws.Moves.{Chain, Start, Then, ControllerMove, Steps, Says, Saves, Begins, Proposes, Results, Notes, member_input, IsSaid, IsProposed, Receives, Processes}
 use Rattle.group_controller.specs.Rules.{controller_work}
-use Rattle.controller_laws.specs.Views.{IsKnownView}
+use Rattle.controller_moves.specs.ControllerLaws.Views.{IsKnownView}
 use Rattle.group_controller.specs.State.{ControllerState, Work, committed, to_switch, to_member}
-use Rattle.controller_laws.specs.Turns.{beginning, IsReached}
-use Rattle.controller_laws.specs.MemberMoves as said
-use Rattle.controller_laws.specs.MemberMoves.{IsSaidByMember}
-use Rattle.controller_laws.proofs.Views.{views_from}
+use Rattle.controller_moves.specs.ControllerLaws.Turns.{beginning, IsReached}
+use Rattle.controller_moves.specs.ControllerLaws.MemberMoves as said
+use Rattle.controller_moves.specs.ControllerLaws.MemberMoves.{IsSaidByMember}
+use Rattle.controller_moves.proofs.ControllerLaws.Views.{views_from}
 use Rattle.list_facts.proofs.Prefixes.{prefix_refl}
-use Rattle.controller_laws.proofs.Reached.{chain_reaches}
-use Rattle.controller_laws.proofs.Letters.{leads_is}
-use Rattle.controller_laws.proofs.Finished.{settled_finished}
-use Rattle.exactly_once.specs.Invariant.{StandsFrom, HasEntry, HasAhead}
-use Rattle.exactly_once.specs.Premises as premise
-use Rattle.exactly_once.specs.Premises.{IsMoment, OneBy, One_proposed, IsAheadBy, IsPosting, Switches, Members}
+use Rattle.controller_moves.proofs.ControllerLaws.Reached.{chain_reaches}
+use Rattle.controller_moves.proofs.ControllerLaws.Letters.{leads_is}
+use Rattle.controller_moves.proofs.ControllerLaws.Finished.{settled_finished}
+use Rattle.run_laws.specs.OnceLaws.Invariant.{StandsFrom, HasEntry, HasAhead}
+use Rattle.run_laws.specs.OnceLaws.Premises as premise
+use Rattle.run_laws.specs.OnceLaws.Premises.{IsMoment, OneBy, One_proposed, IsAheadBy, IsPosting, Switches, Members}
 use Rattle.run_laws.proofs.Members.{IsOwned, up_leads, move_up}
 use Rattle.run_laws.proofs.Sources.{on_way, says_come, low_bound, own_one, moment_of, some_of, short_front, From, By}
 use Rattle.run_laws.proofs.Ahead.{both, reached}

@@ -26,7 +26,7 @@ use Rattle.flow_table.specs.Table.{opening_rows, chosen_row, table_step}
 use Rattle.flow_clock.specs.Clocked.{Clocked, rows_in, clock_tick}
 use Rattle.flow_clock.proofs.Remaining.{changed_rows, hit_rows}
 use Rattle.flow_clock.specs.Holding.{clocked_of}
-use Rattle.switch_tables.proofs.Tables.{row_keeps, outputs_keep, port_change_keeps, remembers_keeps, ports_keep, plain_keeps}
+use Rattle.run_laws.proofs.SwitchTables.Tables.{row_keeps, outputs_keep, port_change_keeps, remembers_keeps, ports_keep, plain_keeps}
 use Rattle.of_switch.specs.declared.says.SwitchInput.{SwitchInput}
 use Rattle.of_switch.specs.declared.says.SwitchInput.TheVariants as switch_input
 use Rattle.of_switch.specs.State.{SwitchState, SwitchTurn, quiet_switch, posts, then_turn, rows_of, life_of}

@@ -13,22 +13,22 @@ use Rattle.vr_log.specs.Log.{received, processed, is_log}
 use Rattle.app_core.specs.declared.issued.Issued.{Issued}
 use Rattle.app_core.specs.Issued.{commands_of}
 use Rattle.group_controller.specs.declared.messages.ControllerInput.{ControllerInput}
-use Rattle.controller_laws.specs.Entries.{IsGoodBeside, MessageHolds, IsConsistent, WorkHolds}
-use Rattle.controller_laws.specs.Moves.{Chain, IsProposed, Receives, Processes}
+use Rattle.controller_moves.specs.ControllerLaws.Entries.{IsGoodBeside, MessageHolds, IsConsistent, WorkHolds}
+use Rattle.controller_moves.specs.ControllerLaws.Moves.{Chain, IsProposed, Receives, Processes}
 use Rattle.group_controller.specs.Rules.{controller_work}
-use Rattle.controller_laws.specs.Sources as from
-use Rattle.controller_laws.specs.Sources.{IsHeld, InLog, InCollected, InResponse, IsSupplied, InSupply, IsTold, InPrepare, InLogOf, InStart, InAnswer, InState, IsToldSupply, InSupplying, FromState, FromSupply, FromInput, FromSupplying, FromProposal, StoodBeside, ByState, ByInput, ByProposal}
+use Rattle.controller_moves.specs.ControllerLaws.Sources as from
+use Rattle.controller_moves.specs.ControllerLaws.Sources.{IsHeld, InLog, InCollected, InResponse, IsSupplied, InSupply, IsTold, InPrepare, InLogOf, InStart, InAnswer, InState, IsToldSupply, InSupplying, FromState, FromSupply, FromInput, FromSupplying, FromProposal, StoodBeside, ByState, ByInput, ByProposal}
 use Rattle.group_controller.specs.State.{ControllerState, Work, committed}
 use Rattle.group_controller.specs.Settling.{is_settled}
-use Rattle.controller_laws.specs.Turns as told
-use Rattle.controller_laws.specs.Turns.{beginning, IsReached, Stood, Came as CameMark}
+use Rattle.controller_moves.specs.ControllerLaws.Turns as told
+use Rattle.controller_moves.specs.ControllerLaws.Turns.{beginning, IsReached, Stood, Came as CameMark}
 use Rattle.list_facts.proofs.Prefixes.{prefix_length, prefix_refl, prefix_trans, take_prefix}
-use Rattle.controller_laws.proofs.Logs.{processed_at}
-use Rattle.controller_laws.proofs.Places.{stands_get}
-use Rattle.controller_laws.proofs.Sources.{come_from}
-use Rattle.controller_laws.proofs.Finished.{settled_finished, finished_marks}
-use Rattle.exactly_once.specs.Invariant.{HasEntry, HoldsEntry, Logged, Gathered, Answered, Fetched, HasAhead, Own, Collects, Answers}
-use Rattle.exactly_once.specs.Premises.{IsMarked, IsMoment, HasSource, Was, Came, Logs, Finishes, BoundBy, By_held, By_moment, OneBy, One_held, One_told, One_proposed}
+use Rattle.controller_moves.proofs.ControllerLaws.Logs.{processed_at}
+use Rattle.controller_moves.proofs.ControllerLaws.Places.{stands_get}
+use Rattle.controller_moves.proofs.ControllerLaws.Sources.{come_from}
+use Rattle.controller_moves.proofs.ControllerLaws.Finished.{settled_finished, finished_marks}
+use Rattle.run_laws.specs.OnceLaws.Invariant.{HasEntry, HoldsEntry, Logged, Gathered, Answered, Fetched, HasAhead, Own, Collects, Answers}
+use Rattle.run_laws.specs.OnceLaws.Premises.{IsMarked, IsMoment, HasSource, Was, Came, Logs, Finishes, BoundBy, By_held, By_moment, OneBy, One_held, One_told, One_proposed}
 use Rattle.list_facts.proofs.Places.{in_get, get_in}
 use Rattle.run_laws.proofs.Members.{IsOwned, chain_blank}
 

@@ -30,7 +30,7 @@ use Rattle.vr_recovery.specs.Recovering as recovering
 use Rattle.vr_core.specs.declared.input.VrInput.{VrInput}
 use Rattle.vr_core.specs.declared.input.VrInput.TheVariants as vr_input
 use Rattle.vr_core.specs.Step.{on_vr, vr_step}
-use Rattle.controller_laws.specs.Views.{view_of, MemberInputViews}
+use Rattle.controller_moves.specs.ControllerLaws.Views.{view_of, MemberInputViews}
 
 module _ (limit : ℕ) where
   -- no view that a member has, has promised or was told in a response is above the limit

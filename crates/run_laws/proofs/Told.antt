@@ -43,20 +43,20 @@ use Rattle.run_spec.specs.Legal.{IsPossible}
 use Rattle.run_spec.specs.Committed.{switch_state, decided}
 use Rattle.run_spec.proofs.Entries.{Mine, Another, switch_after}
 use Rattle.run_spec.proofs.Pasts.{possible_before}
-use Rattle.exactly_once.specs.Facts.{PastFacts, facts_of, executed_of}
-use Rattle.exactly_once.specs.Truths.{IsGoodHappening, IsTrueEntry}
-use Rattle.exactly_once.specs.Invariant.{SwitchIsSound}
-use Rattle.exactly_once.specs.Premises.{AreControllers}
-use Rattle.exactly_once.proofs.ControllerTurns.{received_at}
-use Rattle.exactly_once.proofs.Executed.{holds_always, decided_true}
-use Rattle.exactly_once.proofs.Packets.{happening_short}
+use Rattle.run_laws.specs.OnceLaws.Facts.{PastFacts, facts_of, executed_of}
+use Rattle.run_laws.specs.OnceLaws.Truths.{IsGoodHappening, IsTrueEntry}
+use Rattle.run_laws.specs.OnceLaws.Invariant.{SwitchIsSound}
+use Rattle.run_laws.specs.OnceLaws.Premises.{AreControllers}
+use Rattle.run_laws.proofs.OnceLaws.ControllerTurns.{received_at}
+use Rattle.run_laws.proofs.OnceLaws.Executed.{holds_always, decided_true}
+use Rattle.run_laws.proofs.OnceLaws.Packets.{happening_short}
 use Rattle.app_core.specs.Orders.{IsSendable}
-use Rattle.exactly_once.proofs.Spelling.{commands_of_sendable}
-use Rattle.exactly_once.proofs.Switches.{event_at}
+use Rattle.run_laws.proofs.OnceLaws.Spelling.{commands_of_sendable}
+use Rattle.run_laws.proofs.OnceLaws.Switches.{event_at}
 use Rattle.run_laws.specs.Laws.{InEveryRun}
 use Rattle.run_laws.specs.Told.{IsSpellable, IsSpellableEvent, IsSpellableOrder, IsSpellableRow, IsSpellableEntry, IsSpellableRun}
 use Rattle.run_laws.proofs.Laws.{sides_law}
-use Rattle.exactly_once.proofs.TableRows.{all_changed}
+use Rattle.run_laws.proofs.OnceLaws.TableRows.{all_changed}
 use Rattle.run_laws.proofs.Rows.{Same, Aged, Opening, Changed, rows_after}
 
 -- what happened with a good frame, and an order that fits a command

@@ -14,17 +14,17 @@ use Rattle.vr_log.specs.Valid.{down_state}
 use Rattle.vr_recovery.specs.Recovering.{recovering_state}
 use Rattle.group_controller.specs.declared.messages.ControllerInput.{ControllerInput}
 use Rattle.group_controller.specs.declared.messages.ControllerSays.{ControllerSays}
-use Rattle.controller_laws.specs.Laws.{IsRestarted}
-use Rattle.controller_laws.specs.Moves.{Chain}
+use Rattle.controller_moves.specs.ControllerLaws.Laws.{IsRestarted}
+use Rattle.controller_moves.specs.ControllerLaws.Moves.{Chain}
 use Rattle.group_controller.specs.Rules.{controller_work, is_down}
-use Rattle.controller_laws.specs.Views.{IsKnownView}
+use Rattle.controller_moves.specs.ControllerLaws.Views.{IsKnownView}
 use Rattle.group_controller.specs.State.{ControllerState, Work, committed, down, resting}
-use Rattle.controller_laws.specs.Turns.{beginning}
-use Rattle.controller_laws.proofs.Restarts.{down_rests}
+use Rattle.controller_moves.specs.ControllerLaws.Turns.{beginning}
+use Rattle.controller_moves.proofs.ControllerLaws.Restarts.{down_rests}
 use Rattle.list_facts.proofs.Prefixes.{prefix_refl}
-use Rattle.controller_laws.proofs.Reached.{turn_chain}
-use Rattle.exactly_once.specs.Invariant.{HoldsEntry, Logged, Gathered, Answered, Fetched, HoldsAhead, Own, Collects, Answers, Supplies}
-use Rattle.exactly_once.specs.Premises.{HasSource, Was, By_held, IsAheadBy, IsPosting, Members, IsGoodTurn}
+use Rattle.controller_moves.proofs.ControllerLaws.Reached.{turn_chain}
+use Rattle.run_laws.specs.OnceLaws.Invariant.{HoldsEntry, Logged, Gathered, Answered, Fetched, HoldsAhead, Own, Collects, Answers, Supplies}
+use Rattle.run_laws.specs.OnceLaws.Premises.{HasSource, Was, By_held, IsAheadBy, IsPosting, Members, IsGoodTurn}
 use Rattle.list_facts.proofs.Places.{none_at}
 use Rattle.run_laws.proofs.Members.{IsOwned}
 use Rattle.run_laws.proofs.Sources.{on_way, holds_come}

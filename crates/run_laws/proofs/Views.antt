@@ -16,16 +16,16 @@ use Rattle.group_controller.specs.declared.messages.ControllerSays.{ControllerSa
 use Rattle.group_controller.specs.declared.messages.ControllerSays.TheVariants as controller_says
 use Rattle.group_controller.specs.State.{ControllerState}
 use Rattle.group_controller.specs.Rules.{controller_work}
-use Rattle.controller_laws.specs.Moves.{member_input}
+use Rattle.controller_moves.specs.ControllerLaws.Moves.{member_input}
 use Rattle.controller_moves.specs.Spelling.{IsValidTo, CanBeHeard}
 use Rattle.run_spec.specs.declared.messages.Message.TheVariants as message
 use Rattle.run_spec.specs.declared.messages.Unsealed.{Unsealed}
 use Rattle.run_spec.specs.declared.messages.Unsealed.TheVariants as unsealed
 use Rattle.run_spec.specs.States.{Scene, IsFaithful, controller_hears}
 use Rattle.run_spec.specs.Legal.{EntryFits, IsPossible}
-use Rattle.run_agreement.specs.Reading.{DrawsValidEvents}
-use Rattle.run_agreement.proofs.Invariants.{IsInvariant, invariant_holds}
-use Rattle.run_agreement.proofs.Spelling.{IsSpelled, spelled_invariant}
+use Rattle.run_laws.specs.RunAgreement.Reading.{DrawsValidEvents}
+use Rattle.run_laws.proofs.RunAgreement.Invariants.{IsInvariant, invariant_holds}
+use Rattle.run_laws.proofs.RunAgreement.Spelling.{IsSpelled, spelled_invariant}
 use Rattle.run_laws.specs.Laws.{InEveryRun, SuspectsUpTo, EntrySuspectsUpTo, IsSuspectedUpTo, AreViewsUpTo, AreViewsSuspected}
 use Rattle.run_laws.proofs.Events.{events_valid}
 use Rattle.run_laws.proofs.Laws.{always}

@@ -19,8 +19,8 @@ use Rattle.group_controller.specs.declared.messages.ControllerSays.{ControllerSa
 use Rattle.group_controller.specs.declared.messages.ControllerSays.TheVariants as controller_says
 use Rattle.group_controller.specs.State.{ControllerState, Work, resting, stepped, to_members}
 use Rattle.group_controller.specs.Rules.{controller_work}
-use Rattle.controller_laws.specs.Moves.{member_input}
-use Rattle.controller_laws.specs.Views.{view_of}
+use Rattle.controller_moves.specs.ControllerLaws.Moves.{member_input}
+use Rattle.controller_moves.specs.ControllerLaws.Views.{view_of}
 use Rattle.controller_moves.specs.Works.{IsToSwitch, AreToSwitches, Continues, Begins, Tells, Proposes, IsWorkOf, Rests, Steps, Crashes, Restarts}
 use Rattle.controller_moves.proofs.Works.{works_law}
 use Rattle.run_laws.proofs.StepViews.{IsStateUpTo, IsPromiseUpTo, AreLettersUpTo, IsStepUpTo, IsInputUpTo, step_up, proposed_up, restarted_up}

@@ -14,8 +14,8 @@ use Rattle.run_spec.specs.States.{Scene, IsFaithful}
 use Rattle.run_spec.specs.Legal.{IsPossible}
 use Rattle.run_spec.specs.Committed.{controller_state, kept, decided}
 use Rattle.list_facts.specs.Lists.{AreOne}
-use Rattle.exactly_once.specs.Premises.{IsProperLog, AreControllers}
-use Rattle.run_agreement.specs.Laws.{MostOfRunPromiseUpTo}
+use Rattle.run_laws.specs.OnceLaws.Premises.{IsProperLog, AreControllers}
+use Rattle.run_laws.specs.RunAgreement.Laws.{MostOfRunPromiseUpTo}
 
 -- this holds of every past of every run, where bodies say what was sealed in them
 abbrev pub InEveryRun : (B : Type 0) → (Scene B → List (List SaveResult) → List (JournalEntry B) → Type 0) → Type 0

@@ -3,10 +3,15 @@
 //! says it.
 //!
 //! Here the proofs meet: agreement (`run_agreement`), the laws of a controller's turn (`controller_laws`), and exactly once
-//! (`exactly_once`), whose premises on controllers are proved here of every run.
+//! (`once_laws`), whose premises on controllers are proved here of every run.
 #![tactic(auto)]
 
-ghost use Rattle.address_laws.specs.Laws.{WaitsForActors};
+pub mod address_laws;
+pub mod once_laws;
+pub mod run_agreement;
+pub mod switch_tables;
+
+ghost use Rattle.run_laws.specs.AddressLaws.Laws.{WaitsForActors};
 ghost use Rattle.run_laws.specs.Laws.{InEveryRun, AreAgreed, AreValidLogs, IsLed, AreViewsSuspected, ControllersKeepTheirSide};
 ghost use Rattle.run_laws.specs.Told.{IsSpellableRun};
 ghost use Rattle.run_spec.specs.Laws.{IsLasting, IsExactlyOnce, IsFenced};

@@ -1,7 +1,7 @@
 -- Which journals are those of a run.
 use Rattle.std.specs.Prelude.{◌≡◌, ◌≢◌, ◌<◌, ◌^◌, ℕ, List, [], ◌∷◌, length, slice_index_or, Option, None}
 use Rattle.std.specs.List.{AllByRecursion}
-use Rattle.actor_fold.specs.Fold.{ActorRules}
+use Rattle.list_facts.specs.Fold.{ActorRules}
 use Rattle.journal.specs.declared.journal.Actor.TheVariants as actor
 use Rattle.journal.specs.declared.journal.JournalEntry.{JournalEntry}
 use Rattle.journal.specs.declared.journal.JournalEntry.TheVariants.{Post, Draw, Lose, Local, Idle, Refused}

@@ -1,7 +1,7 @@
 -- An actor goes on behind its own entries: it posts what it owes, rests, takes what it hears, or is refused that.
 use Rattle.std.proofs.Common.{◌≡◌, ℕ, List, [], ◌∷◌, refl, sym, ◌∙◌, ap, subst}
 use Rattle.std.specs.Prelude.{Option}
-use Rattle.actor_fold.specs.Fold.{ActorRules, ActorStanding, standing_on}
+use Rattle.list_facts.specs.Fold.{ActorRules, ActorStanding, standing_on}
 use Rattle.journal.specs.declared.journal.Actor.{Actor}
 use Rattle.journal.specs.declared.journal.JournalEntry.{JournalEntry}
 use Rattle.journal.specs.declared.journal.JournalEntry.TheVariants.{Post, Draw, Lose, Local, Idle, Refused}

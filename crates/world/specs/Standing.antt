@@ -1,7 +1,7 @@
 -- What an actor is behind its own entries, and what it owes there: for a world of actors, and for actors that play apart.
 use Rattle.std.specs.Prelude.{◌≡◌, ◌<◌, ℕ, List, length, slice_get, Option, Some}
 use Rattle.std.specs.List.{AllByRecursion}
-use Rattle.actor_fold.specs.Fold.{ActorRules}
+use Rattle.list_facts.specs.Fold.{ActorRules}
 use Rattle.journal.specs.declared.journal.Actor.{Actor}
 use Rattle.journal.specs.declared.journal.Actor.TheVariants as actor
 use Rattle.journal.specs.declared.journal.JournalEntry.{JournalEntry}

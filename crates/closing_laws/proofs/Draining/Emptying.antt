@@ -22,7 +22,7 @@ use Rattle.run_spec.specs.Script.{IsInputOf, IsPosted, owed_of}
 use Rattle.run_spec.specs.Closing.{Done, IsEnd, Phase, Draining, Met, ClosingMove, Ends, ClosesTo, IsMove, after_move, drained, is_drawn, met_by, next_drained, next_move, is_turn, count_turns}
 use Rattle.run_spec.proofs.Pasts.{possible_before, self_controller}
 use Rattle.run_spec.proofs.Pools.{one_actor}
-use Rattle.run_agreement.proofs.Pasts.{fits}
+use Rattle.run_laws.proofs.RunAgreement.Pasts.{fits}
 use Rattle.closing_laws.specs.Quorum.{has}
 use Rattle.closing_laws.specs.Ways.{Sent}
 use Rattle.closing_laws.specs.Following.{Start}

@@ -16,7 +16,7 @@ use Rattle.vr_log.specs.Members.{is_normal}
 use Rattle.vr_log.specs.Steps.{VrStep, letter, appended, acknowledges}
 use Rattle.vr_core.specs.declared.input.VrInput.TheVariants as vr_input
 use Rattle.vr_core.specs.Step.{vr_step, on_vr}
-use Rattle.controller_laws.proofs.Logs.{fits_at}
+use Rattle.controller_moves.proofs.ControllerLaws.Logs.{fits_at}
 use Rattle.group_controller.specs.State.{to_members}
 use Rattle.run_spec.specs.declared.messages.Message.{Message}
 use Rattle.run_spec.specs.declared.messages.Message.TheVariants as message

@@ -11,7 +11,7 @@ use Rattle.vr_log.specs.declared.state.VrState.{VrState}
 use Rattle.vr_log.specs.Choosing.{least_commit, greatest_commit}
 use Rattle.vr_log.specs.Steps.{to_others}
 use Rattle.view_change.specs.Entering.{view_start}
-use Rattle.member_moves.proofs.Checking.{zeros}
+use Rattle.controller_moves.proofs.MemberMoves.Checking.{zeros}
 use Rattle.group_controller.specs.State.{to_members}
 use Rattle.group_controller.specs.Settling.{role_letter}
 use Rattle.run_spec.specs.declared.messages.Message.{Message}

@@ -19,7 +19,7 @@ use Rattle.vr_log.specs.Members.{leads, most_failures}
 use Rattle.vr_log.specs.Steps.{to_others}
 use Rattle.view_change.specs.Entering.{tells_start, view_start}
 use Rattle.two_stage_log.specs.Counts.{has_unprocessed}
-use Rattle.controller_laws.proofs.Logs.{processed_prefix}
+use Rattle.controller_moves.proofs.ControllerLaws.Logs.{processed_prefix}
 use Rattle.of_switch.specs.State.{SwitchState}
 use Rattle.group_controller.specs.declared.messages.ControllerSays.{ControllerSays}
 use Rattle.group_controller.specs.State.{ControllerState, Work, committed, fresh, leaving, met_limit, stepped, to_members}

@@ -16,8 +16,8 @@ use Rattle.two_stage_log.specs.Counts.{has_unprocessed}
 use Rattle.app_core.specs.declared.issued.Issued.{Issued}
 use Rattle.app_core.specs.Chain.{concat}
 use Rattle.app_core.specs.Issued.{commands_of, count_issued, issued, issues}
-use Rattle.controller_laws.proofs.Issued.{command_between, count-orders, issued-take}
-use Rattle.controller_laws.proofs.Logs.{ended_by}
+use Rattle.controller_moves.proofs.ControllerLaws.Issued.{command_between, count-orders, issued-take}
+use Rattle.controller_moves.proofs.ControllerLaws.Logs.{ended_by}
 use Rattle.event_buffer.specs.Buffer.{next_number}
 use Rattle.of_switch.specs.State.{SwitchState, events_in, life_of}
 use Rattle.dispatcher.specs.Marks.{has_result, is_confirmed, is_finished, is_wanted, settled_commands, wanted}

@@ -33,7 +33,7 @@ use Rattle.run_spec.specs.Legal.{IsPossible}
 use Rattle.run_spec.specs.Script.{IsInputOf, IsPosted, owed_of}
 use Rattle.run_spec.proofs.Pasts.{possible_before, self_controller, self_switch}
 use Rattle.run_spec.proofs.Pools.{one_actor}
-use Rattle.run_agreement.proofs.Pasts.{fits}
+use Rattle.run_laws.proofs.RunAgreement.Pasts.{fits}
 use Rattle.run_laws.proofs.Laws.{always}
 use Rattle.closing_laws.specs.Measure.{commands_from, left_to_do}
 use Rattle.closing_laws.specs.Quorum.{has}

@@ -53,7 +53,7 @@ use Rattle.dispatcher.specs.Marks.{is_finished, is_pending}
 use Rattle.group_controller.specs.State.{committed, ControllerState, Work, resting, stepped, with_no_met_limit}
 use Rattle.group_controller.specs.Settling.{after_proposal, finishing, goes_on, is_alone, is_settled, is_untold, processing, proposing, settling, with_answers, with_commands, with_proposal}
 use Rattle.of_switch.specs.State.{SwitchState}
-use Rattle.controller_laws.proofs.Logs.{received_prefix}
+use Rattle.controller_moves.proofs.ControllerLaws.Logs.{received_prefix}
 use Rattle.run_spec.specs.States.{Scene, IsFaithful, ControllerAt, SwitchAt, content, controller_hears, controller_saved, controller_step, controller_took, switch_at}
 use Rattle.group_controller.specs.Rules.{after_step, controller_work, has_started, is_down, on_extension, on_input, on_hello, on_local, on_master, on_tick, on_plain, on_result, on_switch, on_wish, when_down}
 use Rattle.run_spec.specs.Legal.{IsPossible, results_of}
@@ -61,12 +61,12 @@ use Rattle.run_spec.specs.Committed.{controller_state, members_up, states_of, sw
 use Rattle.run_spec.specs.Closing.{ClosingAnswer, Overfull, IsEnd, Phase, Losing, Suspecting, Draining, Met, ClosingMove, Takes, Ends, ClosesTo, IsMove, after_member, after_move, after_turn, majority, met_by, next_drained, next_lost, next_move, next_suspicion}
 use Rattle.run_spec.proofs.Pasts.{possible_before, self_controller}
 use Rattle.run_spec.proofs.Pools.{drawn_found}
-use Rattle.exactly_once.specs.Facts.{facts_of}
-use Rattle.exactly_once.specs.Invariant.{IsHeardByController, Logged}
-use Rattle.exactly_once.specs.Truths.{IsGenuine}
-use Rattle.exactly_once.proofs.ControllerTurns.{received_at}
-use Rattle.exactly_once.proofs.Journals.{firm_events}
-use Rattle.exactly_once.proofs.Packets.{heard_by_controller}
+use Rattle.run_laws.specs.OnceLaws.Facts.{facts_of}
+use Rattle.run_laws.specs.OnceLaws.Invariant.{IsHeardByController, Logged}
+use Rattle.run_laws.specs.OnceLaws.Truths.{IsGenuine}
+use Rattle.run_laws.proofs.OnceLaws.ControllerTurns.{received_at}
+use Rattle.run_laws.proofs.OnceLaws.Journals.{firm_events}
+use Rattle.run_laws.proofs.OnceLaws.Packets.{heard_by_controller}
 use Rattle.run_laws.proofs.Laws.{always}
 use Rattle.run_laws.proofs.Members.{owned_at}
 use Rattle.closing_laws.specs.Stops.{ClosingsMeetLimits, FitALog, IsAtLimit}

@@ -24,9 +24,9 @@ use Rattle.group_controller.specs.declared.messages.ControllerInput.{ControllerI
 use Rattle.group_controller.specs.declared.messages.ControllerInput.TheVariants as controller_input
 use Rattle.group_controller.specs.State.{ControllerState, Work}
 use Rattle.group_controller.specs.Rules.{controller_work, is_down}
-use Rattle.controller_laws.proofs.Reached.{turn_chain}
-use Rattle.controller_laws.specs.Moves.{Chain, Start, Then}
-use Rattle.controller_laws.specs.Turns.{beginning}
+use Rattle.controller_moves.proofs.ControllerLaws.Reached.{turn_chain}
+use Rattle.controller_moves.specs.ControllerLaws.Moves.{Chain, Start, Then}
+use Rattle.controller_moves.specs.ControllerLaws.Turns.{beginning}
 use Rattle.run_spec.specs.declared.messages.Message.TheVariants as message
 use Rattle.run_spec.specs.declared.messages.Unsealed.{Unsealed}
 use Rattle.run_spec.specs.declared.messages.Unsealed.TheVariants as unsealed

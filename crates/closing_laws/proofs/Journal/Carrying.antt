@@ -32,9 +32,9 @@ use Rattle.run_spec.specs.Messages.{FitsMessage, IsValidMessage, way_of, way_of_
 use Rattle.run_spec.specs.States.{Scene, Sealing, IsFaithful, ControllerAt, SwitchAt, content, controller_at, controller_hears, controller_message, controller_saved, controller_took, controller_step, sealed_letters, switch_at, switch_hears, switch_message, switch_step, switch_took}
 use Rattle.run_spec.specs.Legal.{results_of}
 use Rattle.run_spec.proofs.Pasts.{self_switch}
-use Rattle.exactly_once.specs.Facts.{PastFacts}
-use Rattle.exactly_once.specs.Invariant.{IsOrder, IsReport, Reported, Forwarded, ToMember, ToSwitch}
-use Rattle.exactly_once.proofs.Packets.{reported_valid, told_valid}
+use Rattle.run_laws.specs.OnceLaws.Facts.{PastFacts}
+use Rattle.run_laws.specs.OnceLaws.Invariant.{IsOrder, IsReport, Reported, Forwarded, ToMember, ToSwitch}
+use Rattle.run_laws.proofs.OnceLaws.Packets.{reported_valid, told_valid}
 use Rattle.closing_laws.specs.Ways.{Sent, sent_by}
 use Rattle.closing_laws.proofs.Journal.Taking.{at, own_steps}
 use Rattle.closing_laws.proofs.Lists.Paired.{ArePaired, paired_append, paired_none}

@@ -26,7 +26,7 @@ use Rattle.run_spec.specs.Closing.{Phase, ClosesTo}
 use Rattle.run_spec.proofs.Entries.{Mine, Another, switch_after}
 use Rattle.run_spec.proofs.Pasts.{possible_before, self_controller, self_switch}
 use Rattle.run_spec.proofs.Pools.{one_actor}
-use Rattle.run_agreement.proofs.Pasts.{fits}
+use Rattle.run_laws.proofs.RunAgreement.Pasts.{fits}
 use Rattle.run_laws.proofs.Laws.{always}
 use Rattle.closing_laws.proofs.Journal.Carrying.{letters_read, ordered_may}
 use Rattle.closing_laws.proofs.Journal.Taking.{all_fit, at, others_stay, own_steps}

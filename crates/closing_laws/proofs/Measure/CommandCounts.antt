@@ -12,8 +12,8 @@ use Rattle.two_stage_log.specs.Counts.{has_unprocessed}
 use Rattle.app_core.specs.declared.issued.Issued.{Issued}
 use Rattle.app_core.specs.Chain.{concat}
 use Rattle.app_core.specs.Issued.{commands_of, issues}
-use Rattle.controller_laws.proofs.Issued.{issues-take, issues_prefix}
-use Rattle.controller_laws.proofs.Logs.{received_prefix}
+use Rattle.controller_moves.proofs.ControllerLaws.Issued.{issues-take, issues_prefix}
+use Rattle.controller_moves.proofs.ControllerLaws.Logs.{received_prefix}
 use Rattle.dispatcher.specs.Marks.{Marks, is_confirmed}
 use Rattle.group_controller.specs.State.{ControllerState, committed}
 use Rattle.group_controller.specs.Settling.{is_some_of, is_untold}

@@ -13,8 +13,8 @@ use Rattle.vr_log.specs.Log.{received}
 use Rattle.app_core.specs.Chain.{concat}
 use Rattle.app_core.specs.declared.issued.Issued.{Issued}
 use Rattle.app_core.specs.Issued.{issues}
-use Rattle.controller_laws.proofs.Issued.{issues_prefix}
-use Rattle.controller_laws.proofs.Logs.{received_prefix}
+use Rattle.controller_moves.proofs.ControllerLaws.Issued.{issues_prefix}
+use Rattle.controller_moves.proofs.ControllerLaws.Logs.{received_prefix}
 use Rattle.group_controller.specs.State.{ControllerState, committed}
 use Rattle.run_spec.specs.Bound.{closing_members, greatest_of, place_known}
 use Rattle.run_spec.specs.Committed.{controller_state, members_up, states_of}

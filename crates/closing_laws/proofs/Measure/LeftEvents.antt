@@ -12,7 +12,7 @@ use Rattle.of_types.specs.Lives.{count_in}
 use Rattle.vr_log.specs.declared.entry.Entry.{Entry}
 use Rattle.vr_log.specs.Log.{processed, received}
 use Rattle.vr_log.proofs.Logs.{received-append}
-use Rattle.controller_laws.proofs.Logs.{count_prefix, received_prefix}
+use Rattle.controller_moves.proofs.ControllerLaws.Logs.{count_prefix, received_prefix}
 use Rattle.of_switch.specs.State.{SwitchState, life_of}
 use Rattle.two_stage_log.specs.Counts.{processed_of}
 use Rattle.closing_laws.specs.Measure.{logged_held}

@@ -15,7 +15,7 @@ use Rattle.vr_log.specs.Log.{is_processed, processed, received}
 use Rattle.vr_log.specs.Members.{others_below}
 use Rattle.vr_log.proofs.Logs.{received-append}
 use Rattle.two_stage_log.specs.Counts.{has_unprocessed}
-use Rattle.controller_laws.proofs.Logs.{processed_prefix, received_prefix}
+use Rattle.controller_moves.proofs.ControllerLaws.Logs.{processed_prefix, received_prefix}
 use Rattle.dispatcher.specs.Marks.{is_confirmed, is_wanted, outstanding}
 use Rattle.group_controller.specs.declared.messages.ControllerSays.{ControllerSays}
 use Rattle.group_controller.specs.State.{ControllerState, committed}

@@ -11,7 +11,7 @@ use Rattle.vr_log.specs.Steps.{quiet}
 use Rattle.vr_log.specs.declared.state.VrState.{VrState}
 use Rattle.vr_log.specs.Log.{processed}
 use Rattle.vr_log.specs.Members.{others_below, most_failures}
-use Rattle.controller_laws.proofs.Logs.{processed_prefix}
+use Rattle.controller_moves.proofs.ControllerLaws.Logs.{processed_prefix}
 use Rattle.dispatcher.specs.Folding.{wish}
 use Rattle.of_switch.specs.State.{SwitchState, life_of}
 use Rattle.group_controller.specs.Settling.{settling}

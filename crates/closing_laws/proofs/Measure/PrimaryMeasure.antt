@@ -16,7 +16,7 @@ use Rattle.vr_log.specs.Members.{most_failures, others_below}
 use Rattle.vr_log.specs.Steps.{quiet}
 use Rattle.two_stage_log.specs.Counts.{has_unprocessed}
 use Rattle.app_core.specs.declared.issued.Issued.{Issued}
-use Rattle.controller_laws.proofs.Logs.{processed_prefix}
+use Rattle.controller_moves.proofs.ControllerLaws.Logs.{processed_prefix}
 use Rattle.dispatcher.specs.declared.answers.EventAction.{EventAction}
 use Rattle.dispatcher.specs.declared.answers.EventAction.TheVariants.{Propose, Acknowledge, Nothing}
 use Rattle.dispatcher.specs.Marks.{Marks, confirmed_by, has_result, is_confirmed, is_pending, is_wanted, outstanding, with_mark, with_marked_result}

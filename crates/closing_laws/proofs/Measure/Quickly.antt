@@ -17,10 +17,10 @@ use Rattle.vr_log.specs.declared.entry.Entry.{Entry}
 use Rattle.vr_log.specs.declared.entry.LogFull.{LogFull}
 use Rattle.vr_log.specs.declared.state.VrState.{VrState}
 use Rattle.vr_log.specs.Log.{processed, received}
-use Rattle.controller_laws.proofs.Logs.{processed_prefix}
+use Rattle.controller_moves.proofs.ControllerLaws.Logs.{processed_prefix}
 use Rattle.event_buffer.specs.Buffer.{next_number}
 use Rattle.two_stage_log.specs.Counts.{processed_of}
-use Rattle.exactly_once.proofs.Growing.{take_prefix, take_same}
+use Rattle.run_laws.proofs.OnceLaws.Growing.{take_prefix, take_same}
 use Rattle.of_switch.specs.State.{SwitchState, life_of}
 use Rattle.group_controller.specs.State.{ControllerState, committed}
 use Rattle.run_spec.specs.Bound.{closing_members, commands_left, entries_left, greatest_of, place_known, sharp_bound, waiting_at}
@@ -28,7 +28,7 @@ use Rattle.run_spec.specs.States.{Scene, IsFaithful}
 use Rattle.run_spec.specs.Legal.{IsPossible}
 use Rattle.run_spec.specs.Committed.{controller_state, decided, switch_state}
 use Rattle.run_spec.specs.Closing.{Phase, ClosesTo, count_turns, met_by}
-use Rattle.run_agreement.proofs.Groups.{odd_law}
+use Rattle.run_laws.proofs.RunAgreement.Groups.{odd_law}
 use Rattle.run_laws.proofs.Laws.{lasting_law}
 use Rattle.closing_laws.specs.Following.{LeadsFrom, Start}
 use Rattle.closing_laws.specs.Measure.{commands_from, logged_held}

@@ -23,7 +23,7 @@ use Rattle.vr_core.specs.Step.{vr_step}
 use Rattle.two_stage_log.specs.Counts.{processed_of}
 use Rattle.app_core.specs.Chain.{concat}
 use Rattle.app_core.specs.Issued.{count_issued, issues}
-use Rattle.controller_laws.proofs.Logs.{processed-append, processed_prefix}
+use Rattle.controller_moves.proofs.ControllerLaws.Logs.{processed-append, processed_prefix}
 use Rattle.dispatcher.specs.declared.answers.AckThrough.{AckThrough}
 use Rattle.dispatcher.specs.declared.answers.EventAction.TheVariants.{Propose, Acknowledge, Nothing}
 use Rattle.dispatcher.specs.Folding.{is_done, places_processed}

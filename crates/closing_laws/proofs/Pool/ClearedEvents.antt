@@ -21,7 +21,7 @@ use Rattle.vr_log.specs.Members.{others_below}
 use Rattle.vr_core.specs.declared.input.VrInput.TheVariants as vr_input
 use Rattle.vr_core.specs.Step.{vr_step}
 use Rattle.two_stage_log.specs.Counts.{processed_of}
-use Rattle.controller_laws.proofs.Logs.{count_prefix, processed_count, received_prefix}
+use Rattle.controller_moves.proofs.ControllerLaws.Logs.{count_prefix, processed_count, received_prefix}
 use Rattle.of_switch.specs.State.{SwitchState, SwitchTurn, life_of}
 use Rattle.group_controller.specs.declared.messages.ControllerSays.{ControllerSays}
 use Rattle.group_controller.specs.State.{ControllerState, Work, committed, to_member, to_members}

@@ -22,8 +22,8 @@ use Rattle.app_core.specs.Issued.{commands_of, count_issued}
 use Rattle.dispatcher.specs.declared.answers.AckThrough.{AckThrough}
 use Rattle.dispatcher.specs.Folding.{acknowledges_at, clears_at, is_told}
 use Rattle.dispatcher.specs.Marks.{Marks, has_result, is_wanted, settled_commands, wanted}
-use Rattle.controller_laws.proofs.Issued.{issues-take}
-use Rattle.controller_laws.proofs.Logs.{processed_prefix, received_prefix}
+use Rattle.controller_moves.proofs.ControllerLaws.Issued.{issues-take}
+use Rattle.controller_moves.proofs.ControllerLaws.Logs.{processed_prefix, received_prefix}
 use Rattle.group_controller.specs.declared.messages.ControllerSays.{ControllerSays}
 use Rattle.group_controller.specs.State.{ControllerState, committed}
 use Rattle.group_controller.specs.Settling.{ack_letter, answers_at, clear_letter}

@@ -17,7 +17,7 @@ use Rattle.vr_log.specs.Steps.{to_others}
 use Rattle.vr_log.proofs.Logs.{received-append}
 use Rattle.two_stage_log.specs.Counts.{has_unprocessed}
 use Rattle.app_core.specs.declared.issued.Issued.{Issued}
-use Rattle.controller_laws.proofs.Logs.{processed-append}
+use Rattle.controller_moves.proofs.ControllerLaws.Logs.{processed-append}
 use Rattle.dispatcher.specs.Folding.{numbered, places_processed}
 use Rattle.dispatcher.specs.Marks.{Marks, is_finished, outstanding, wanted}
 use Rattle.group_controller.specs.declared.messages.ControllerSays.{ControllerSays}

@@ -31,7 +31,7 @@ use Rattle.vr_log.proofs.Logs.{received-append}
 use Rattle.vr_core.specs.declared.input.VrInput.TheVariants as vr_input
 use Rattle.vr_core.specs.Step.{vr_step}
 use Rattle.app_core.specs.declared.issued.Issued.{Issued}
-use Rattle.controller_laws.proofs.Logs.{processed-append, processed_prefix}
+use Rattle.controller_moves.proofs.ControllerLaws.Logs.{processed-append, processed_prefix}
 use Rattle.dispatcher.specs.declared.answers.EventAction.{EventAction}
 use Rattle.dispatcher.specs.declared.answers.EventAction.TheVariants.{Propose, Acknowledge, Nothing}
 use Rattle.dispatcher.specs.Marks.{Marks, is_pending, with_mark, with_marked_result}

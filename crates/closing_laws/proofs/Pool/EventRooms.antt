@@ -16,7 +16,7 @@ use Rattle.vr_log.specs.Log.{processed, received}
 use Rattle.vr_log.proofs.Logs.{IsLog_is, length_is}
 use Rattle.vr_core.specs.declared.input.VrInput.TheVariants as vr_input
 use Rattle.vr_core.specs.Step.{vr_step}
-use Rattle.controller_laws.proofs.Logs.{processed_prefix}
+use Rattle.controller_moves.proofs.ControllerLaws.Logs.{processed_prefix}
 use Rattle.of_switch.specs.State.{SwitchState, life_of}
 use Rattle.group_controller.specs.State.{ControllerState, Work, committed, to_members}
 use Rattle.group_controller.specs.Rules.{controller_work, switches}

@@ -18,7 +18,7 @@ use Rattle.vr_log.specs.Log.{is_log, is_past_limits, is_processed, processed, re
 use Rattle.vr_log.specs.Members.{most_failures}
 use Rattle.vr_log.specs.Steps.{quiet}
 use Rattle.vr_log.proofs.Logs.{received-append}
-use Rattle.controller_laws.proofs.Logs.{processed-append, processed_prefix}
+use Rattle.controller_moves.proofs.ControllerLaws.Logs.{processed-append, processed_prefix}
 use Rattle.dispatcher.specs.declared.answers.EventAction.{EventAction}
 use Rattle.dispatcher.specs.declared.answers.EventAction.TheVariants.{Propose, Acknowledge, Nothing}
 use Rattle.dispatcher.specs.Marks.{Marks, confirmed_by, has_result, is_finished, is_pending, no_marks, outstanding, wanted, with_mark, with_marked_result}

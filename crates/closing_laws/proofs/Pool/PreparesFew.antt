@@ -22,7 +22,7 @@ use Rattle.vr_log.specs.declared.state.VrState.{VrState}
 use Rattle.vr_log.specs.Log.{processed, received}
 use Rattle.vr_log.specs.Members.{others_below}
 use Rattle.vr_log.proofs.Logs.{length_is, received-append}
-use Rattle.controller_laws.proofs.Logs.{count_prefix, processed-append, processed_prefix, received_prefix}
+use Rattle.controller_moves.proofs.ControllerLaws.Logs.{count_prefix, processed-append, processed_prefix, received_prefix}
 use Rattle.of_switch.specs.State.{SwitchState, life_of}
 use Rattle.group_controller.specs.State.{ControllerState}
 use Rattle.run_spec.specs.declared.messages.Message.{Message}

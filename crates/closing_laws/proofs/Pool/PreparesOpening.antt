@@ -13,7 +13,7 @@ use Rattle.vr_log.specs.Log.{received}
 use Rattle.vr_log.specs.Members.{others_below}
 use Rattle.vr_log.specs.Steps.{letter, to_others}
 use Rattle.view_change.specs.Entering.{tells_start, view_start}
-use Rattle.member_moves.proofs.Checking.{zeros}
+use Rattle.controller_moves.proofs.MemberMoves.Checking.{zeros}
 use Rattle.of_switch.specs.State.{SwitchState, life_of}
 use Rattle.group_controller.specs.declared.messages.ControllerSays.{ControllerSays}
 use Rattle.group_controller.specs.State.{Work, fresh, stepped, to_member, to_members}

@@ -25,7 +25,7 @@ use Rattle.two_stage_log.specs.Counts.{processed_of}
 use Rattle.app_core.specs.declared.issued.Issued.{Issued}
 use Rattle.app_core.specs.Issued.{commands_of}
 use Rattle.app_core.specs.Orders.{HasFewOutputs}
-use Rattle.controller_laws.proofs.Logs.{processed-append, processed_count, processed_prefix}
+use Rattle.controller_moves.proofs.ControllerLaws.Logs.{processed-append, processed_count, processed_prefix}
 use Rattle.dispatcher.specs.declared.answers.AckThrough.{AckThrough}
 use Rattle.dispatcher.specs.declared.answers.EventAction.TheVariants.{Propose, Acknowledge, Nothing}
 use Rattle.dispatcher.specs.declared.numbered.NumberedOrder.{NumberedOrder}

@@ -14,7 +14,7 @@ use Rattle.vr_log.specs.Log.{processed, received}
 use Rattle.two_stage_log.specs.Counts.{has_unprocessed}
 use Rattle.app_core.specs.declared.issued.Issued.{Issued}
 use Rattle.app_core.specs.Issued.{commands_of, count_issued}
-use Rattle.controller_laws.proofs.Logs.{processed_prefix}
+use Rattle.controller_moves.proofs.ControllerLaws.Logs.{processed_prefix}
 use Rattle.dispatcher.specs.Ledger.{most_commands}
 use Rattle.dispatcher.specs.Marks.{Marks, has_result, is_confirmed, is_wanted, outstanding, wanted, with_mark}
 use Rattle.group_controller.specs.State.{ControllerState, committed}

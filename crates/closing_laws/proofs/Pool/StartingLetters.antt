@@ -16,7 +16,7 @@ use Rattle.vr_log.specs.Log.{is_log, is_past_limits, processed, received}
 use Rattle.vr_log.specs.Members.{most_failures}
 use Rattle.vr_log.specs.Steps.{to_others}
 use Rattle.view_change.specs.Entering.{tells_start, view_start}
-use Rattle.member_moves.proofs.Spelling.{log_short}
+use Rattle.controller_moves.proofs.MemberMoves.Spelling.{log_short}
 use Rattle.vr_log.proofs.Logs.{length_is, received-append}
 use Rattle.app_core.specs.declared.issued.Issued.{Issued}
 use Rattle.app_core.specs.Issued.{commands_of}

@@ -16,7 +16,7 @@ use Rattle.vr_normal.proofs.Agreed.{greatest_least, greatest_most}
 use Rattle.vr_core.specs.declared.input.VrInput.TheVariants as vr_input
 use Rattle.vr_core.specs.Step.{on_vr, vr_step}
 use Rattle.of_switch.specs.State.{SwitchState}
-use Rattle.controller_laws.proofs.Logs.{processed_prefix, received_prefix}
+use Rattle.controller_moves.proofs.ControllerLaws.Logs.{processed_prefix, received_prefix}
 use Rattle.group_controller.specs.declared.messages.ControllerInput.TheVariants as controller_input
 use Rattle.group_controller.specs.State.{ControllerState, Work, committed, stepped, with_no_met_limit}
 use Rattle.group_controller.specs.Rules.{after_step, controller_work, starting_view}

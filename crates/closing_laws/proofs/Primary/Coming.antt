@@ -10,7 +10,7 @@ use Rattle.of_types.specs.Lives.{count_in, is_switch_up, life_in}
 use Rattle.vr_log.specs.Log.{may_be_received, received}
 use Rattle.of_switch.specs.State.{SwitchState, events_in, life_of}
 use Rattle.group_controller.specs.State.{ControllerState}
-use Rattle.exactly_once.specs.Truths.{IsMade}
+use Rattle.run_laws.specs.OnceLaws.Truths.{IsMade}
 use Rattle.closing_laws.specs.Serving.{IsTrueOf, logged_of, sent_of}
 
 -- two tests that keep the same

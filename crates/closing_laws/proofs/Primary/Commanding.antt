@@ -15,7 +15,7 @@ use Rattle.app_core.specs.Issued.{commands_of, count_issued}
 use Rattle.dispatcher.specs.Ledger.{most_commands}
 use Rattle.dispatcher.specs.Marks.{has_result, is_confirmed, is_wanted, outstanding, settled_commands, wanted}
 use Rattle.of_switch.specs.State.{SwitchState, life_of}
-use Rattle.controller_laws.proofs.Issued.{issues-take}
+use Rattle.controller_moves.proofs.ControllerLaws.Issued.{issues-take}
 use Rattle.group_controller.specs.declared.messages.ControllerSays.{ControllerSays}
 use Rattle.group_controller.specs.State.{ControllerState, committed}
 use Rattle.group_controller.specs.Settling.{command_letters, is_some_of, is_untold}

@@ -21,8 +21,8 @@ use Rattle.app_core.specs.Issued.{count_issued}
 use Rattle.dispatcher.specs.Folding.{acknowledgement, acknowledges_event, acknowledges_at, clears_at, places_processed}
 use Rattle.dispatcher.specs.Marks.{Marks, has_result, is_confirmed}
 use Rattle.of_switch.specs.State.{SwitchState, life_of}
-use Rattle.controller_laws.proofs.Issued.{issues-take}
-use Rattle.controller_laws.proofs.Logs.{processed_prefix, received_prefix, take_next}
+use Rattle.controller_moves.proofs.ControllerLaws.Issued.{issues-take}
+use Rattle.controller_moves.proofs.ControllerLaws.Logs.{processed_prefix, received_prefix, take_next}
 use Rattle.group_controller.specs.declared.messages.ControllerSays.{ControllerSays}
 use Rattle.group_controller.specs.State.{ControllerState, committed}
 use Rattle.group_controller.specs.Settling.{ack_letter, answers_at, clear_letter, is_some_of, is_untold}

@@ -15,7 +15,7 @@ use Rattle.vr_log.proofs.Logs.{received-append}
 use Rattle.two_stage_log.specs.Counts.{has_unprocessed}
 use Rattle.dispatcher.specs.Marks.{is_finished, wanted}
 use Rattle.of_switch.specs.State.{SwitchState, life_of}
-use Rattle.controller_laws.proofs.Logs.{processed_prefix, received_prefix}
+use Rattle.controller_moves.proofs.ControllerLaws.Logs.{processed_prefix, received_prefix}
 use Rattle.group_controller.specs.State.{ControllerState, Work, committed, leaving, met_limit}
 use Rattle.group_controller.specs.Settling.{after_proposal, finishing, is_alone, is_settled, processing, with_answers, with_commands}
 use Rattle.run_spec.specs.declared.messages.Message.{Message}

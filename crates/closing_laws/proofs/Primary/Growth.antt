@@ -16,8 +16,8 @@ use Rattle.vr_log.specs.declared.entry.Entry.TheVariants.{Received, Processed}
 use Rattle.vr_log.specs.Log.{follows, is_log, is_past_limits, is_processed, may_follow, processed, received}
 use Rattle.vr_log.proofs.Logs.{follows-append, follows_front, follows_one, length_is, no_earlier, received-append}
 use Rattle.dispatcher.specs.Folding.{places_processed}
-use Rattle.controller_laws.proofs.Issued.{count-orders, issued_prefix}
-use Rattle.controller_laws.proofs.Logs.{may_follow_at, processed_at, processed-append}
+use Rattle.controller_moves.proofs.ControllerLaws.Issued.{count-orders, issued_prefix}
+use Rattle.controller_moves.proofs.ControllerLaws.Logs.{may_follow_at, processed_at, processed-append}
 use Rattle.app_core.specs.Chain.{concat}
 use Rattle.app_core.specs.Issued.{issues}
 use Rattle.group_controller.specs.Settling.{is_some_of}

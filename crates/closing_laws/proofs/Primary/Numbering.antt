@@ -12,7 +12,7 @@ use Rattle.app_core.specs.Chain.{concat, reactions}
 use Rattle.app_core.specs.declared.issued.Issued.{Issued}
 use Rattle.app_core.specs.Issued.{count_issued, commands_of, issue, issue_all, issue_each, issues}
 use Rattle.app_core.proofs.Issuing.{length-issues}
-use Rattle.controller_laws.proofs.Issued.{command_between, count-orders, is_of, issues-take, next_list}
+use Rattle.controller_moves.proofs.ControllerLaws.Issued.{command_between, count-orders, is_of, issues-take, next_list}
 use Rattle.closing_laws.proofs.Primary.Telling.{numbers_in}
 
 -- ranges

@@ -17,8 +17,8 @@ use Rattle.dispatcher.specs.declared.answers.AckThrough.{AckThrough}
 use Rattle.dispatcher.specs.Folding.{acknowledges_at, clears_at, places_processed}
 use Rattle.dispatcher.specs.Marks.{outstanding, settled_commands}
 use Rattle.of_switch.specs.State.{SwitchState, life_of}
-use Rattle.controller_laws.proofs.Issued.{issues-take}
-use Rattle.controller_laws.proofs.Logs.{processed_prefix, received_prefix}
+use Rattle.controller_moves.proofs.ControllerLaws.Issued.{issues-take}
+use Rattle.controller_moves.proofs.ControllerLaws.Logs.{processed_prefix, received_prefix}
 use Rattle.group_controller.specs.declared.messages.ControllerSays.{ControllerSays}
 use Rattle.group_controller.specs.State.{ControllerState, Work, committed}
 use Rattle.group_controller.specs.Settling.{ack_letter, answers_at, clear_letter, command_letters, is_untold, with_answers, with_commands}

@@ -14,8 +14,8 @@ use Rattle.two_stage_log.specs.Counts.{has_unprocessed}
 use Rattle.app_core.specs.declared.issued.Issued.{Issued}
 use Rattle.app_core.specs.Issued.{commands_of, issues}
 use Rattle.app_core.proofs.Issuing.{length-issues}
-use Rattle.controller_laws.proofs.Issued.{issues_prefix, none_past}
-use Rattle.controller_laws.proofs.Logs.{received_prefix}
+use Rattle.controller_moves.proofs.ControllerLaws.Issued.{issues_prefix, none_past}
+use Rattle.controller_moves.proofs.ControllerLaws.Logs.{received_prefix}
 use Rattle.dispatcher.specs.Marks.{Marks, has_result, is_wanted, wanted}
 use Rattle.closing_laws.proofs.Primary.Growth.{life_grows}
 use Rattle.list_facts.proofs.Elements.{filter_has, filter_passes, in_filter}

@@ -28,7 +28,7 @@ use Rattle.run_spec.specs.States.{Scene, IsFaithful, content, controller_message
 use Rattle.run_spec.specs.Legal.{IsPossible}
 use Rattle.run_spec.specs.Committed.{controller_state, states_of, members_up}
 use Rattle.run_spec.proofs.Pasts.{self_controller}
-use Rattle.run_agreement.proofs.Pasts.{fits}
+use Rattle.run_laws.proofs.RunAgreement.Pasts.{fits}
 use Rattle.run_spec.specs.Script.{IsPosted}
 use Rattle.run_spec.specs.Closing.{Phase, Losing, Suspecting, ClosingMove, Takes, ClosesTo, IsEnd, IsMove, after_member, after_move, count_turns, majority, next_move, next_suspicion}
 use Rattle.closing_laws.specs.Quorum.{has}

@@ -15,7 +15,7 @@ use Rattle.vr_log.specs.declared.entry.Entry.{Entry}
 use Rattle.vr_log.specs.declared.state.Status.{Status}
 use Rattle.vr_log.specs.declared.state.Status.TheVariants.{Normal, ViewChange, Recovering, Down}
 use Rattle.vr_log.specs.Members.{is_up}
-use Rattle.member_moves.specs.Projection.{group_of, member_state_of, member_status_of}
+use Rattle.controller_moves.specs.MemberMoves.Projection.{group_of, member_state_of, member_status_of}
 use Rattle.controller_moves.specs.Projection.{OwnInput}
 use Rattle.controller_moves.specs.Rules.{SavingController}
 use Rattle.controller_moves.proofs.Following.{follow_law}
@@ -23,13 +23,13 @@ use Rattle.group_controller.specs.State.{committed}
 use Rattle.run_spec.specs.States.{Scene, IsFaithful}
 use Rattle.run_spec.specs.Legal.{IsPossible, results_of}
 use Rattle.run_spec.specs.Committed.{controller_state, decided, kept}
-use Rattle.run_agreement.specs.Projection.{past_of, rules_of}
-use Rattle.run_agreement.specs.Reading.{WhereValid}
-use Rattle.run_agreement.proofs.Agreeing.{past_on}
-use Rattle.run_agreement.proofs.Journals.{in_group}
-use Rattle.run_agreement.proofs.Lasting.{decided_kept}
-use Rattle.run_agreement.proofs.Reading.{IsReadPast, read_drop, read_past}
-use Rattle.run_agreement.proofs.Standing.{stands_alike}
+use Rattle.run_laws.specs.RunAgreement.Projection.{past_of, rules_of}
+use Rattle.run_laws.specs.RunAgreement.Reading.{WhereValid}
+use Rattle.run_laws.proofs.RunAgreement.Agreeing.{past_on}
+use Rattle.run_laws.proofs.RunAgreement.Journals.{in_group}
+use Rattle.run_laws.proofs.RunAgreement.Lasting.{decided_kept}
+use Rattle.run_laws.proofs.RunAgreement.Reading.{IsReadPast, read_drop, read_past}
+use Rattle.run_laws.proofs.RunAgreement.Standing.{stands_alike}
 use Rattle.run_laws.proofs.Events.{events_valid}
 use Rattle.run_laws.proofs.Laws.{always}
 

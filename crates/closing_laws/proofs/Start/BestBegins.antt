@@ -15,12 +15,12 @@ use Rattle.agreement.proofs.Leading.{best_begins, decided_certified}
 use Rattle.vr_log.specs.declared.entry.Entry.{Entry}
 use Rattle.vr_log.specs.declared.state.VrState.{VrState}
 use Rattle.vr_log.specs.Choosing.{length_of}
-use Rattle.member_moves.specs.Projection.{member_state_of}
+use Rattle.controller_moves.specs.MemberMoves.Projection.{member_state_of}
 use Rattle.controller_moves.proofs.Following.{follow_law}
 use Rattle.run_spec.specs.States.{Scene, IsFaithful}
 use Rattle.run_spec.specs.Legal.{IsPossible, results_of}
 use Rattle.run_spec.specs.Committed.{decided}
-use Rattle.run_agreement.proofs.Leading.{decided_begins}
+use Rattle.run_laws.proofs.RunAgreement.Leading.{decided_begins}
 use Rattle.closing_laws.specs.Quorum.{has}
 use Rattle.closing_laws.specs.Starts.{members_at}
 use Rattle.closing_laws.specs.Views.{HasBest, IsReadyMember, log_of}

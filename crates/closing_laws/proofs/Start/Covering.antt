@@ -19,7 +19,7 @@ use Rattle.vr_log.specs.declared.entry.Entry.{Entry}
 use Rattle.vr_log.specs.declared.state.Collected.{Collected}
 use Rattle.vr_log.specs.declared.state.VrState.{VrState}
 use Rattle.vr_log.specs.Choosing.{is_better, length_of}
-use Rattle.member_moves.specs.Projection.{member_state_of, vote_of}
+use Rattle.controller_moves.specs.MemberMoves.Projection.{member_state_of, vote_of}
 use Rattle.run_spec.specs.States.{Scene, IsFaithful}
 use Rattle.run_spec.specs.Legal.{IsPossible}
 use Rattle.run_spec.specs.Committed.{controller_state}

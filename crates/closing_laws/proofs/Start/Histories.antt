@@ -3,27 +3,27 @@ use Rattle.std.proofs.Common.{◌≡◌, ◌≤◌, ◌<◌, ℕ, suc, ◌+◌, 
 use Rattle.of_types.specs.Setups.{IsSetup}
 use Rattle.journal.specs.declared.journal.JournalEntry.{JournalEntry}
 use Rattle.journal.specs.declared.journal.SaveResult.{SaveResult}
-use Rattle.actor_fold.specs.Fold.{ActorStanding}
+use Rattle.list_facts.specs.Fold.{ActorStanding}
 use Rattle.agreement.specs.History.{Group, History, Letter, size}
 use Rattle.agreement.specs.Invariant.{Invariant}
 use Rattle.agreement.specs.Journals as journal
 use Rattle.agreement.specs.Journals.{Rules, firm}
 use Rattle.agreement.proofs.Agreeing.{journal_good}
 use Rattle.vr_log.specs.declared.entry.Entry.{Entry}
-use Rattle.member_moves.specs.Projection.{group_of, member_state_of}
+use Rattle.controller_moves.specs.MemberMoves.Projection.{group_of, member_state_of}
 use Rattle.controller_moves.specs.Projection.{OwnInput}
 use Rattle.controller_moves.specs.Rules.{SavingController}
 use Rattle.controller_moves.proofs.Following.{follow_law}
 use Rattle.run_spec.specs.States.{Scene, IsFaithful}
 use Rattle.run_spec.specs.Legal.{IsPossible, results_of}
 use Rattle.run_spec.specs.Committed.{controller_state}
-use Rattle.run_agreement.specs.Projection.{past_of, rules_of}
-use Rattle.run_agreement.specs.Reading.{WhereValid}
-use Rattle.run_agreement.proofs.Groups.{odd_law}
-use Rattle.run_agreement.proofs.Journals.{in_group, past_legal}
-use Rattle.run_agreement.proofs.Leading.{posting, posting_legal, posting_stands}
-use Rattle.run_agreement.proofs.Reading.{IsReadPast, read_past}
-use Rattle.run_agreement.proofs.Standing.{stands_alike}
+use Rattle.run_laws.specs.RunAgreement.Projection.{past_of, rules_of}
+use Rattle.run_laws.specs.RunAgreement.Reading.{WhereValid}
+use Rattle.run_laws.proofs.RunAgreement.Groups.{odd_law}
+use Rattle.run_laws.proofs.RunAgreement.Journals.{in_group, past_legal}
+use Rattle.run_laws.proofs.RunAgreement.Leading.{posting, posting_legal, posting_stands}
+use Rattle.run_laws.proofs.RunAgreement.Reading.{IsReadPast, read_past}
+use Rattle.run_laws.proofs.RunAgreement.Standing.{stands_alike}
 use Rattle.run_laws.proofs.Events.{events_valid}
 use Rattle.run_laws.proofs.Laws.{always}
 

@@ -1,7 +1,7 @@
 -- The view of a closing starts in time, in each group.
 use Rattle.std.proofs.Common.{◌<◌, inl, inr, ℕ, ◌/◌, arith}
 use Rattle.std.proofs.lemmas.Bool.{cases_lt}
-use Rattle.run_agreement.proofs.Groups.{odd_law}
+use Rattle.run_laws.proofs.RunAgreement.Groups.{odd_law}
 use Rattle.closing_laws.specs.Starts.{ViewsStartInTime}
 use Rattle.closing_laws.proofs.Start.Alone as alone
 use Rattle.closing_laws.proofs.Start.Begun as begun

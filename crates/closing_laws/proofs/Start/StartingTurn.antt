@@ -27,7 +27,7 @@ use Rattle.run_spec.specs.Legal.{IsPossible}
 use Rattle.run_spec.specs.Script.{IsPosted}
 use Rattle.run_spec.specs.Closing.{ClosingAnswer, IsEnd, Phase, Draining, ClosingMove, ClosesTo, IsMove, after_member, count_turns, drained, next_move}
 use Rattle.run_spec.proofs.Pasts.{possible_before, self_controller}
-use Rattle.run_agreement.proofs.Pasts.{fits}
+use Rattle.run_laws.proofs.RunAgreement.Pasts.{fits}
 use Rattle.closing_laws.specs.Quorum.{has}
 use Rattle.closing_laws.specs.Draining.{Flight, GroupState}
 use Rattle.closing_laws.specs.Views.{IsReadyMember, log_of, started_with, tellers}

@@ -42,8 +42,8 @@ use Rattle.run_spec.specs.Legal.{IsPossible, results_of}
 use Rattle.run_spec.specs.Script.{IsInputOf, IsPosted}
 use Rattle.run_spec.specs.Closing.{ClosingAnswer, IsEnd, Phase, Suspecting, Draining, Losing, ClosingMove, Takes, ClosesTo, IsMove, after_member, after_move, count_turns, drained, is_drawn, is_turn, met_by, next_drained, next_move}
 use Rattle.run_spec.proofs.Pasts.{possible_before, self_controller}
-use Rattle.run_agreement.proofs.Pasts.{fits}
-use Rattle.run_agreement.proofs.Spelling.{all_spelled}
+use Rattle.run_laws.proofs.RunAgreement.Pasts.{fits}
+use Rattle.run_laws.proofs.RunAgreement.Spelling.{all_spelled}
 use Rattle.run_laws.proofs.Events.{events_valid}
 use Rattle.run_laws.proofs.Laws.{always}
 use Rattle.run_laws.proofs.Members.{owned_at}

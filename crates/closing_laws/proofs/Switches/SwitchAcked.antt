@@ -12,7 +12,7 @@ use Rattle.list_facts.specs.Lists.{IsIn}
 use Rattle.list_facts.proofs.Elements.{all_in, in_append, in_left}
 use Rattle.list_facts.proofs.Places.{get_front}
 use Rattle.vr_log.specs.Log.{received}
-use Rattle.exactly_once.specs.Truths.{IsMade}
+use Rattle.run_laws.specs.OnceLaws.Truths.{IsMade}
 use Rattle.event_buffer.specs.Buffer.{cleared_to}
 use Rattle.command_buffer.specs.Results.{Results}
 use Rattle.role_fence.specs.Fence.{Fence}

@@ -13,7 +13,7 @@ use Rattle.journal.specs.declared.journal.Actor.TheVariants as actor
 use Rattle.journal.specs.declared.journal.Letter.{Letter}
 use Rattle.list_facts.specs.Lists.{IsIn}
 use Rattle.list_facts.proofs.Elements.{all_in}
-use Rattle.exactly_once.specs.Truths.{IsMade}
+use Rattle.run_laws.specs.OnceLaws.Truths.{IsMade}
 use Rattle.role_fence.specs.Fence.{as_master, is_stale}
 use Rattle.dispatcher.specs.Marks.{is_confirmed}
 use Rattle.group_controller.specs.State.{ControllerState}

@@ -47,11 +47,11 @@ use Rattle.run_spec.specs.Inputs.{IsHeardAt, By_draw, By_local}
 use Rattle.run_spec.proofs.Entries.{Mine, Another, switch_after, SwitchGoes, Takes, Rests, Posts, Refuses, switch_goes}
 use Rattle.run_spec.proofs.Pasts.{possible_before, from_some, self_controller}
 use Rattle.run_spec.proofs.Pools.{one_actor, drawn_found, IsPosted, Was, New, pool_after}
-use Rattle.exactly_once.specs.Facts.{facts_of}
-use Rattle.exactly_once.specs.Invariant.{HoldsOfRun, ToSwitch, ToMember, IsHeardBySwitch}
-use Rattle.exactly_once.proofs.Packets.{heard_by_switch, told_valid}
-use Rattle.exactly_once.proofs.SwitchMoves.{Move, Raises, Says, Notes, Changes, Ages, Clears, Executes, Masters, Fences, Restarts, turn_keeps}
-use Rattle.run_agreement.proofs.Pasts.{named, was_owed}
+use Rattle.run_laws.specs.OnceLaws.Facts.{facts_of}
+use Rattle.run_laws.specs.OnceLaws.Invariant.{HoldsOfRun, ToSwitch, ToMember, IsHeardBySwitch}
+use Rattle.run_laws.proofs.OnceLaws.Packets.{heard_by_switch, told_valid}
+use Rattle.run_laws.proofs.OnceLaws.SwitchMoves.{Move, Raises, Says, Notes, Changes, Ages, Clears, Executes, Masters, Fences, Restarts, turn_keeps}
+use Rattle.run_laws.proofs.RunAgreement.Pasts.{named, was_owed}
 use Rattle.run_laws.proofs.Laws.{always}
 use Rattle.closing_laws.proofs.Truths.Asking.{AsksBy, AskBy, turn_asks}
 

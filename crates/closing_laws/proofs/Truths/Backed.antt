@@ -7,7 +7,7 @@ use Rattle.journal.specs.declared.journal.JournalEntry.TheVariants.{Post}
 use Rattle.journal.specs.declared.journal.Letter.{Letter}
 use Rattle.journal.specs.declared.journal.SaveResult.{SaveResult}
 use Rattle.journal.specs.Part.{part}
-use Rattle.actor_fold.specs.Fold.{ActorStanding}
+use Rattle.list_facts.specs.Fold.{ActorStanding}
 use Rattle.agreement.specs.Lists.{count_below}
 use Rattle.agreement.specs.History as core
 use Rattle.agreement.specs.History.{Group, History, size, primary_in}
@@ -26,19 +26,19 @@ use Rattle.agreement.proofs.Standing.{stands_own, stands_valid}
 use Rattle.vr_log.specs.declared.entry.Entry.{Entry}
 use Rattle.vr_log.specs.declared.state.VrState.{VrState}
 use Rattle.vr_log.specs.Members as member
-use Rattle.member_moves.specs.Projection.{group_of, member_state_of, is_member}
-use Rattle.member_moves.proofs.Members.{IsMemberOf, member_of, normal_of, same_primary}
+use Rattle.controller_moves.specs.MemberMoves.Projection.{group_of, member_state_of, is_member}
+use Rattle.controller_moves.proofs.MemberMoves.Members.{IsMemberOf, member_of, normal_of, same_primary}
 use Rattle.controller_moves.specs.Projection.{OwnInput}
 use Rattle.controller_moves.specs.Rules.{SavingController}
 use Rattle.controller_moves.proofs.Following.{follow_law}
 use Rattle.run_spec.specs.States.{Scene, controller_at}
 use Rattle.run_spec.specs.Legal.{results_of}
 use Rattle.run_spec.specs.Committed.{controller_state}
-use Rattle.run_agreement.specs.Projection.{past_of, rules_of}
-use Rattle.run_agreement.proofs.Agreeing.{past_on}
-use Rattle.run_agreement.proofs.Journals.{in_group, past_legal}
-use Rattle.run_agreement.proofs.Reading.{IsReadPast, read_before}
-use Rattle.run_agreement.proofs.Standing.{saving, stands_alike}
+use Rattle.run_laws.specs.RunAgreement.Projection.{past_of, rules_of}
+use Rattle.run_laws.proofs.RunAgreement.Agreeing.{past_on}
+use Rattle.run_laws.proofs.RunAgreement.Journals.{in_group, past_legal}
+use Rattle.run_laws.proofs.RunAgreement.Reading.{IsReadPast, read_before}
+use Rattle.run_laws.proofs.RunAgreement.Standing.{saving, stands_alike}
 
 -- no promise falls
 run_promises : {E : Type 0} {g : Group E} {h0 h : History E} → IsGroup g → Invariant g h0 → Run g h0 h → (j : ℕ) → h0.promise j ≤ h.promise j

@@ -9,7 +9,7 @@ use Rattle.list_facts.specs.Lists.{IsIn}
 use Rattle.app_core.specs.declared.issued.Issued.{Issued}
 use Rattle.app_core.specs.Chain.{reactions, reactions_from, starting_chain}
 use Rattle.app_core.specs.Issued.{commands_of, issue, issue_all, issue_each, issues}
-use Rattle.controller_laws.proofs.Issued.{none_past}
+use Rattle.controller_moves.proofs.ControllerLaws.Issued.{none_past}
 use Rattle.closing_laws.specs.Serving.{AreFew}
 
 -- a command as it is issued

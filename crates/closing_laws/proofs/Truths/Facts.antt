@@ -24,18 +24,18 @@ use Rattle.two_stage_log.specs.Counts.{processed_of}
 use Rattle.vr_log.specs.Members.{leads}
 use Rattle.of_switch.specs.State.{SwitchState, events_in, life_of}
 use Rattle.group_controller.specs.State.{ControllerState}
-use Rattle.controller_laws.proofs.Logs.{processed_count}
+use Rattle.controller_moves.proofs.ControllerLaws.Logs.{processed_count}
 use Rattle.run_spec.specs.States.{Scene, SwitchAt, IsFaithful, switch_at}
 use Rattle.run_spec.specs.Legal.{IsPossible, results_of}
 use Rattle.run_spec.specs.Committed.{decided, controller_state, switch_state}
 use Rattle.run_spec.proofs.Pasts.{possible_before}
 use Rattle.run_spec.proofs.Pools.{Was, New, pool_after}
-use Rattle.exactly_once.specs.Facts.{PastFacts, facts_of, events_of, executed_of}
-use Rattle.exactly_once.specs.Truths.{IsTrueEntry}
-use Rattle.exactly_once.specs.Invariant.{HoldsOfRun, IsHonest, SwitchIsSound, IsSoundAt, Logged, Own}
-use Rattle.exactly_once.proofs.ControllerTurns.{received_at}
-use Rattle.exactly_once.proofs.Journals.{firm_events, firm_executed}
-use Rattle.run_agreement.proofs.Groups.{odd_law}
+use Rattle.run_laws.specs.OnceLaws.Facts.{PastFacts, facts_of, events_of, executed_of}
+use Rattle.run_laws.specs.OnceLaws.Truths.{IsTrueEntry}
+use Rattle.run_laws.specs.OnceLaws.Invariant.{HoldsOfRun, IsHonest, SwitchIsSound, IsSoundAt, Logged, Own}
+use Rattle.run_laws.proofs.OnceLaws.ControllerTurns.{received_at}
+use Rattle.run_laws.proofs.OnceLaws.Journals.{firm_events, firm_executed}
+use Rattle.run_laws.proofs.RunAgreement.Groups.{odd_law}
 use Rattle.run_laws.proofs.Laws.{always, led_law, waits_law}
 use Rattle.run_laws.proofs.Members.{IsOwned, owned_at}
 use Rattle.closing_laws.specs.Quorum.{has}

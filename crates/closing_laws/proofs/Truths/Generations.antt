@@ -15,9 +15,9 @@ use Rattle.run_spec.specs.States.{Scene, IsFaithful}
 use Rattle.run_spec.specs.Legal.{IsPossible}
 use Rattle.run_spec.specs.Committed.{controller_state, switch_state, states_of, count_up}
 use Rattle.run_spec.specs.Closing.{closing_view, majority}
-use Rattle.run_agreement.specs.Reading.{WhereValid}
-use Rattle.run_agreement.proofs.Groups.{odd_law}
-use Rattle.run_agreement.proofs.Reading.{IsReadPast, read_past}
+use Rattle.run_laws.specs.RunAgreement.Reading.{WhereValid}
+use Rattle.run_laws.proofs.RunAgreement.Groups.{odd_law}
+use Rattle.run_laws.proofs.RunAgreement.Reading.{IsReadPast, read_past}
 use Rattle.run_laws.proofs.Events.{events_valid}
 use Rattle.run_laws.proofs.Laws.{always}
 use Rattle.closing_laws.specs.Serving.{IsOlder}

@@ -16,15 +16,15 @@ use Rattle.vr_log.specs.declared.state.Status.TheVariants as status
 use Rattle.vr_log.specs.declared.state.VrState.{VrState}
 use Rattle.vr_log.specs.Members.{is_up}
 use Rattle.vr_core.specs.declared.input.VrInput.{VrInput}
-use Rattle.member_moves.specs.Projection.{group_of, member_status_of, is_member}
-use Rattle.member_moves.proofs.Members.{up_of, newer_of}
+use Rattle.controller_moves.specs.MemberMoves.Projection.{group_of, member_status_of, is_member}
+use Rattle.controller_moves.proofs.MemberMoves.Members.{up_of, newer_of}
 use Rattle.group_controller.specs.declared.messages.ControllerInput.{ControllerInput}
 use Rattle.group_controller.specs.State.{ControllerState, Work}
 use Rattle.group_controller.specs.Rules.{is_down, controller_work}
-use Rattle.controller_laws.specs.Moves.{Chain, Start, Then, ControllerMove, Steps, Says, Saves, Begins, Proposes, Results, Notes, member_input}
-use Rattle.controller_laws.specs.MemberMoves.{MemberMove, Enters, Tallies, Collects, Stocks, Starts, Adopts, Recovers, Appends, Commits, Keeps}
-use Rattle.controller_laws.specs.Turns.{beginning}
-use Rattle.controller_laws.proofs.Reached.{turn_chain}
+use Rattle.controller_moves.specs.ControllerLaws.Moves.{Chain, Start, Then, ControllerMove, Steps, Says, Saves, Begins, Proposes, Results, Notes, member_input}
+use Rattle.controller_moves.specs.ControllerLaws.MemberMoves.{MemberMove, Enters, Tallies, Collects, Stocks, Starts, Adopts, Recovers, Appends, Commits, Keeps}
+use Rattle.controller_moves.specs.ControllerLaws.Turns.{beginning}
+use Rattle.controller_moves.proofs.ControllerLaws.Reached.{turn_chain}
 use Rattle.controller_moves.specs.Projection.{input_of}
 use Rattle.controller_moves.specs.Rules.{SavingController, done}
 use Rattle.controller_moves.proofs.Following.{follow_law}
@@ -32,9 +32,9 @@ use Rattle.run_spec.specs.States.{Scene, controller_at}
 use Rattle.run_spec.specs.Legal.{results_of}
 use Rattle.run_spec.specs.Committed.{controller_state}
 use Rattle.run_spec.proofs.Entries.{ControllerGoes, Turns, Falls, Stays, Own, Other, controller_after}
-use Rattle.run_agreement.specs.Projection.{taken_by}
-use Rattle.run_agreement.proofs.Inputs.{same_input}
-use Rattle.run_agreement.proofs.Reading.{IsReadPast, read_before}
+use Rattle.run_laws.specs.RunAgreement.Projection.{taken_by}
+use Rattle.run_laws.proofs.RunAgreement.Inputs.{same_input}
+use Rattle.run_laws.proofs.RunAgreement.Reading.{IsReadPast, read_before}
 use Rattle.run_laws.proofs.Members.{move_up}
 use Rattle.closing_laws.proofs.Truths.Backed.{member_at}
 

@@ -8,9 +8,9 @@ use Rattle.vr_log.specs.declared.entry.Entry.{Entry}
 use Rattle.vr_log.specs.declared.entry.Entry.TheVariants.{Processed}
 use Rattle.vr_log.specs.Log.{received, processed, is_log}
 use Rattle.two_stage_log.specs.Counts.{has_unprocessed}
-use Rattle.controller_laws.proofs.Logs.{processed_stands}
-use Rattle.exactly_once.specs.Facts.{PastFacts}
-use Rattle.exactly_once.specs.Truths.{IsAhead}
+use Rattle.controller_moves.proofs.ControllerLaws.Logs.{processed_stands}
+use Rattle.run_laws.specs.OnceLaws.Facts.{PastFacts}
+use Rattle.run_laws.specs.OnceLaws.Truths.{IsAhead}
 
 -- an event that a log has as processed stands there
 stands_in : (log : List Entry) (j : ℕ) → is_log log ≡ true → j < processed log → IsIn (Processed j) log

@@ -11,7 +11,7 @@ use Rattle.list_facts.specs.Lists.{IsIn}
 use Rattle.list_facts.proofs.Elements.{filter_passes, in_filter}
 use Rattle.list_facts.proofs.Prefixes.{filter_more, filter_same}
 use Rattle.event_buffer.specs.Buffer.{Buffer, is_full, most_held}
-use Rattle.exactly_once.specs.Facts.{events_of}
+use Rattle.run_laws.specs.OnceLaws.Facts.{events_of}
 
 -- the first of these events tells that the switch is up
 abbrev pub StartUp : List Event → Type 0

@@ -21,15 +21,15 @@ use Rattle.app_core.specs.Issued.{issues, issued}
 use Rattle.event_buffer.specs.Buffer.{next_number}
 use Rattle.of_switch.specs.State.{SwitchState, events_in, life_of}
 use Rattle.dispatcher.specs.Marks.{settled_commands}
-use Rattle.controller_laws.specs.Events.{is_event_of}
-use Rattle.controller_laws.proofs.Issued.{count-orders, issued-take, issued_none}
-use Rattle.controller_laws.proofs.Logs.{count_prefix, processed_at, processed_count, processed_stands, received_in_order, received_prefix}
-use Rattle.exactly_once.specs.Facts.{PastFacts, events_of, executed_of}
-use Rattle.exactly_once.specs.Truths.{IsDoneThrough, IsGenuine, IsTrueEntry}
-use Rattle.exactly_once.specs.Invariant.{SwitchIsSound}
-use Rattle.exactly_once.proofs.ControllerTurns.{life_comes, received_at}
-use Rattle.exactly_once.proofs.Growing.{take_same}
-use Rattle.exactly_once.proofs.Executed.{seam_at}
+use Rattle.controller_moves.specs.ControllerLaws.Events.{is_event_of}
+use Rattle.controller_moves.proofs.ControllerLaws.Issued.{count-orders, issued-take, issued_none}
+use Rattle.controller_moves.proofs.ControllerLaws.Logs.{count_prefix, processed_at, processed_count, processed_stands, received_in_order, received_prefix}
+use Rattle.run_laws.specs.OnceLaws.Facts.{PastFacts, events_of, executed_of}
+use Rattle.run_laws.specs.OnceLaws.Truths.{IsDoneThrough, IsGenuine, IsTrueEntry}
+use Rattle.run_laws.specs.OnceLaws.Invariant.{SwitchIsSound}
+use Rattle.run_laws.proofs.OnceLaws.ControllerTurns.{life_comes, received_at}
+use Rattle.run_laws.proofs.OnceLaws.Growing.{take_same}
+use Rattle.run_laws.proofs.OnceLaws.Executed.{seam_at}
 
 -- no more are processed of a life than are received
 pub processed_received : (log : List Entry) (s l : ℕ) → processed_of log s l ≤ count_in s l (received log)

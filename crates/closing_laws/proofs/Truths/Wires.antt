@@ -16,7 +16,7 @@ use Rattle.of_switch.specs.State.{SwitchState, SwitchTurn, is_at, starting_switc
 use Rattle.of_switch.specs.Rules.{switch_turn}
 use Rattle.run_spec.specs.Committed.{switch_state}
 use Rattle.run_spec.specs.States.{Scene, SwitchAt, content, switch_at, switch_hears, switch_step}
-use Rattle.exactly_once.proofs.SwitchMoves.{Move, Raises, Says, Notes, Changes, Ages, Clears, Executes, Masters, Fences, Restarts, turn_keeps}
+use Rattle.run_laws.proofs.OnceLaws.SwitchMoves.{Move, Raises, Says, Notes, Changes, Ages, Clears, Executes, Masters, Fences, Restarts, turn_keeps}
 
 -- a switch has its wires of the setup, those at its number, and no more ports than a switch may have
 pub record IsWired (setup : Setup) (sw : SwitchState) : Type 0 where

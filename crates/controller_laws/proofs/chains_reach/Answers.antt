@@ -1,5 +1,0 @@
-use Rattle.controller_laws.proofs.chains_reach.Goals as goal
-use Rattle.controller_laws.proofs.Reached.{chain_reaches}
-
-pub returns : goal.returns
-returns c = λ kinds setup x s w kept chain. chain_reaches kinds setup x s kept w chain

@@ -1,5 +1,0 @@
-use Rattle.controller_laws.proofs.commits_come_from.Goals as goal
-use Rattle.controller_laws.proofs.CommitNumbers.{commits_from}
-
-pub returns : goal.returns
-returns c = λ kinds setup x s w kept chain. commits_from kinds setup x s w kept chain

@@ -1,5 +1,0 @@
-use Rattle.controller_laws.proofs.views_come_from.Goals as goal
-use Rattle.controller_laws.proofs.Views.{views_from}
-
-pub returns : goal.returns
-returns c = λ kinds setup x s w chain. views_from kinds setup x s w chain

@@ -1,5 +1,0 @@
-use Rattle.shared_wire.specs.Places.{IsSamePlace}
-use Rattle.parts_tests.proofs.boards.draws.Given as goal
-
-abbrev pub invariant-loop : goal.invariant-loop
-invariant-loop g l = IsSamePlace l.initial.place l.place

@@ -1,2 +1,0 @@
-pub mod Tables
-mod Parts

@@ -1,0 +1,6 @@
+pub mod Computed
+pub mod ControllerTurns
+pub mod Line
+pub mod RareTurns
+pub mod Routed
+pub mod SwitchTurns

@@ -1,4 +1,0 @@
-pub mod Computed
-pub mod Line
-pub mod Routed
-pub mod Turns

@@ -129,13 +129,16 @@ fn verdict_of(first: Option<u64>) -> Verdict
 }
 
 /// Audits a report: tells whether no line fails, or the first that does. The application is started for the report's setup.
-/// At want of memory it is to be dropped.
+/// At want of memory it is to be dropped. The bytes are let go once they are read: the lines are judged without them.
 #[tactic(auto, unfolding(crate::specs::Audit::differs))]
-pub fn check<A: App>(alloc: Global, bytes: &[u8], app: &mut A) -> Result<Verdict, AllocError>
-    ensures { IfOk result (λ verdict. verdict ≡ verdict_of (differs (A.law.kinds app.old) bytes.now)) }
+pub fn check<A: App>(alloc: Global, bytes: Octets, app: &mut A) -> Result<Verdict, AllocError>
+    ensures { IfOk result (λ verdict. verdict ≡ verdict_of (differs (A.law.kinds app.old) bytes)) }
 {
-    match read_report(alloc, bytes) {
-        Ok(record) => Ok(verdict_of(first_of_record(alloc, &record, app)?)),
+    match read_report(alloc, bytes.as_slice()) {
+        Ok(record) => {
+            drop(bytes);
+            Ok(verdict_of(first_of_record(alloc, &record, app)?))
+        }
         Err(ReportFault::NotText { line }) => Ok(Verdict::Differs { line }),
         Err(ReportFault::OutOfMemory) => Err(AllocError),
     }

@@ -95,7 +95,7 @@ fn is_sound(alloc: Global, world: &World<Bytes, Wanting>, primary: u8) -> Result
 {
     let told = bare_record(alloc, world, primary, 0, 0)?;
     let report = text(alloc, &told)?;
-    let verdict = check(alloc, report.as_slice(), &mut app_of(alloc, None)?)?;
+    let verdict = check(alloc, report, &mut app_of(alloc, None)?)?;
     Ok(verdict == Verdict::Same)
 }
 

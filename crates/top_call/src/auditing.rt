@@ -7,6 +7,7 @@ ghost use Rattle.top_call.specs.Play.{AreChains};
 use crate::ending::Ending;
 use app_core::App;
 use audit::{Verdict, check};
+use of_types::Octets;
 use report::REPORT_LIMIT;
 use scenario::{Fault, FaultKind, FaultPlace};
 use std::alloc::{AllocError, Global};
@@ -18,10 +19,10 @@ const TOO_LARGE: Fault = Fault {
 };
 
 /// How the bytes of a report end.
-pub fn audited<A: App>(alloc: Global, bytes: &[u8], chains: Vec<A>) -> Result<Ending, AllocError>
+pub fn audited<A: App>(alloc: Global, bytes: Octets, chains: Vec<A>) -> Result<Ending, AllocError>
     requires chains { (kinds : List ℕ) × AreChains A.law kinds chains.items }
     ensures { (kinds : List ℕ) → AreChains A.law kinds chains.items →
-        IfOk result (EndsReport kinds bytes.now) }
+        IfOk result (EndsReport kinds bytes) }
 {
     if bytes.len() > REPORT_LIMIT {
         return Ok(Ending::Refused(TOO_LARGE));
@@ -33,10 +34,10 @@ pub fn audited<A: App>(alloc: Global, bytes: &[u8], chains: Vec<A>) -> Result<En
 }
 
 /// What the audit of a report finds, by the applications of the first life of the first controller.
-fn verdict_on<A: App>(alloc: Global, bytes: &[u8], chains: Vec<A>) -> Result<Verdict, AllocError>
+fn verdict_on<A: App>(alloc: Global, bytes: Octets, chains: Vec<A>) -> Result<Verdict, AllocError>
     requires chains { (kinds : List ℕ) × AreChains A.law kinds chains.items }
     ensures { (kinds : List ℕ) → AreChains A.law kinds chains.items →
-        IfOk result (λ verdict. verdict ≡ verdict_of (differs kinds bytes.now)) }
+        IfOk result (λ verdict. verdict ≡ verdict_of (differs kinds bytes)) }
 {
     let mut chains = chains;
     check(alloc, bytes, &mut chains[0])

@@ -22,6 +22,7 @@ use crate::sim::{Output, simulate, simulate_apart};
 use app_core::App;
 use command_line::{NO_MEMORY, WRITE_FAILED, read_words};
 use journal::{Gate, Sink, Source, Stable};
+use of_types::Octets;
 use scenario::{Scenario, ScenarioFault, generate, read_scenario};
 use std::alloc::{AllocError, Global};
 use std::sync::Wait;
@@ -130,7 +131,7 @@ fn end_of_scenario<A: App, W: Stable>(
 /// How the bytes of a scenario end, played turn by turn.
 fn simulated<A: App, W: Stable>(
     alloc: Global,
-    bytes: &[u8],
+    bytes: Octets,
     stables: &mut Vec<W>,
     chains: Vec<A>,
     remains: Remains,
@@ -138,11 +139,12 @@ fn simulated<A: App, W: Stable>(
     requires chains { (kinds : List ℕ) × AreChains A.law kinds chains.items }
     requires fresh { AreFresh W.saving stables.old.items }
     ensures ends { (kinds : List ℕ) → AreChains A.law kinds chains.items →
-        IfOk result (EndsScenario In_order kinds (StablesTell W.saving stables.old.items stables.new.items) bytes.now) }
+        IfOk result (EndsScenario In_order kinds (StablesTell W.saving stables.old.items stables.new.items) bytes) }
     ensures unplayed { IfOk result (λ ending. IsUnplayed (ending_status ending) → stables.new.items ≡ stables.old.items) }
 {
-    match read_scenario(alloc, bytes) {
+    match read_scenario(alloc, bytes.as_slice()) {
         Ok(scenario) => {
+            drop(bytes);
             let ending = end_of_scenario(
                 alloc,
                 &scenario,
@@ -190,7 +192,7 @@ fn simulated_apart<
     rt: &R,
     alloc: Global,
     gate: &G,
-    bytes: &[u8],
+    bytes: Octets,
     stables: &mut Vec<W>,
     chains: Vec<A>,
     remains: Remains,
@@ -198,11 +200,12 @@ fn simulated_apart<
     requires chains { (kinds : List ℕ) × AreChains A.law kinds chains.items }
     requires fresh { AreFresh W.saving stables.old.items }
     ensures ends { (kinds : List ℕ) → AreChains A.law kinds chains.items →
-        IfOk result (EndsScenario Apart kinds (StablesTell W.saving stables.old.items stables.new.items) bytes.now) }
+        IfOk result (EndsScenario Apart kinds (StablesTell W.saving stables.old.items stables.new.items) bytes) }
     ensures unplayed { IfOk result (λ ending. IsUnplayed (ending_status ending) → stables.new.items ≡ stables.old.items) }
 {
-    match read_scenario(alloc, bytes) {
+    match read_scenario(alloc, bytes.as_slice()) {
         Ok(scenario) => {
+            drop(bytes);
             let ending = end_of_threads(rt, alloc, gate, &scenario, stables, chains, remains);
             remains.let_go(scenario);
             ending
@@ -218,7 +221,7 @@ fn end_of_reading<A: App + Send, W: Stable + Drop + Send, G: Gate + Sync, R: Thr
     alloc: Global,
     gate: &G,
     reader: Reader,
-    bytes: &[u8],
+    bytes: Octets,
     stables: &mut Vec<W>,
     chains: Vec<A>,
     remains: Remains,
@@ -226,7 +229,7 @@ fn end_of_reading<A: App + Send, W: Stable + Drop + Send, G: Gate + Sync, R: Thr
     requires chains { (kinds : List ℕ) × AreChains A.law kinds chains.items }
     requires fresh { AreFresh W.saving stables.old.items }
     ensures ends { (kinds : List ℕ) → AreChains A.law kinds chains.items →
-        IfOk result (EndsRead kinds (StablesTell W.saving stables.old.items stables.new.items) reader bytes.now) }
+        IfOk result (EndsRead kinds (StablesTell W.saving stables.old.items stables.new.items) reader bytes) }
     ensures unplayed { IfOk result (λ ending. IsUnplayed (ending_status ending) → stables.new.items ≡ stables.old.items) }
     ensures audited { reader ≡ readers.Audit → stables.new.items ≡ stables.old.items }
 {
@@ -293,7 +296,6 @@ fn outcome<
         }
         Some(Service::Reads(reader)) => match read_input(alloc, source, reader.limit()) {
             Ok(bytes) => {
-                let bytes = bytes.as_slice();
                 end_of_reading(rt, alloc, gate, reader, bytes, stables, chains, remains)
             }
             Err(StreamFault::Failed) => Ok(Ending::Unread),

@@ -1,9 +1,8 @@
-use Rattle.std.proofs.Common.{Some, map, refl, ap, subst, sym, ◌∙◌, Err, IfOk}
+use Rattle.std.proofs.Common.{Some, map, refl, ap, sym, ◌∙◌, Err}
 use Rattle.std.specs.Prelude.{Option, string_bytes}
 use Rattle.top_call.specs.declared.sim.Output.TheVariants.{LastLine}
 use Rattle.top_call.specs.declared.service.Service.{Service}
 use Rattle.top_call.specs.declared.service.Service.TheVariants as service
-use Rattle.top_call.specs.Ending.{EndsRead}
 use Rattle.top_call.specs.Runs.{StablesTell}
 use Rattle.top_call.proofs.Endings.{job_served, made_caused, made_tells, read_caused, read_tells, unread_caused, unread_tells, usage_caused, usage_of_numbers, usage_tells, made_of_numbers, made_plays, read_no_made, read_of_numbers, reads_plays, reads_some}
 use Rattle.top_call.proofs.Made.{made}
@@ -45,7 +44,7 @@ pub returns-in-Ok-clause-cause : goal.returns-in-Ok-clause-cause
 returns-in-Ok-clause-cause g c = λ kinds chains.
     let saves = StablesTell g.W.Stable.saving c.args.stables.now.items c.end_of_reading.new.stables.items in
     read_caused kinds saves (map string_bytes c.args.words.now) _ c.in-Some-Reads.reader _ _ _ _ _ (sym c.in-Some-Reads.ensures ∙ ap (λ s. some_of s) c.in-Some-Reads.field-0-is) c.limit.ensures c.in-Ok.ensures.consumed c.in-Ok.ensures.whole c.in-Ok.ensures.most
-    (subst (λ b. IfOk c.end_of_reading.result (λ e. EndsRead kinds saves c.in-Some-Reads.reader b e)) c.as_slice-bytes.ensures (c.end_of_reading.ensures.ends kinds chains))
+    (c.end_of_reading.ensures.ends kinds chains)
 
 pub returns-in-Ok-clause-told : goal.returns-in-Ok-clause-told
 returns-in-Ok-clause-told g c =

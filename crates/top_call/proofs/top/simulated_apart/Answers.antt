@@ -1,3 +1,5 @@
+use Rattle.std.proofs.Common.{subst, ◌≡◌, Ok}
+use Rattle.scenario.specs.Scenario.{scenario_of}
 use Rattle.playing.specs.Manners.{Apart}
 use Rattle.top_call.specs.Runs.{StablesTell}
 use Rattle.top_call.proofs.Endings.{scenario_ends}
@@ -5,5 +7,6 @@ use Rattle.top_call.proofs.top.simulated_apart.Goals as goal
 
 pub returns-in-Ok-clause-ends : goal.returns-in-Ok-clause-ends
 returns-in-Ok-clause-ends g c = λ kinds chains.
-    scenario_ends Apart kinds (StablesTell g.W.Stable.saving c.args.stables.now.items c.end_of_threads-ending.new.stables.items) c.args.bytes.now c.in-Ok.scenario c.end_of_threads-ending.result c.in-Ok.ensures.exact
+    scenario_ends Apart kinds (StablesTell g.W.Stable.saving c.args.stables.now.items c.end_of_threads-ending.new.stables.items) c.args.bytes c.in-Ok.scenario c.end_of_threads-ending.result
+    (subst (λ b. scenario_of b ≡ Ok c.in-Ok.scenario) c.as_slice.ensures c.in-Ok.ensures.exact)
     (c.end_of_threads-ending.ensures.ends kinds chains)

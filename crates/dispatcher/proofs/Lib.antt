@@ -1,7 +1,6 @@
 pub mod Counting
 pub mod Handling
 pub mod Ledgers
-pub mod Numbering
-pub mod Rooms
+pub mod Marking
 pub mod Standing
 pub mod Telling

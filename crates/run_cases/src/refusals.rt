@@ -13,6 +13,7 @@ use audit::{Verdict, check};
 use cases::Difference;
 use closing::{ClosingOutcome, may_close};
 use journal::{JournalEntry, MemoryStable, Stable, Stop, Turn};
+use of_types::Octets;
 use players::{Body, Bytes};
 use report::text;
 use scenario::{Scenario, read_scenario};
@@ -89,14 +90,50 @@ fn count_refused<B>(entries: &[JournalEntry<B>]) -> u64 {
     refused.count() as u64
 }
 
+/// The report of a world without its journal.
+fn bare_report(
+    alloc: Global,
+    world: &World<Bytes, Wanting>,
+    primary: u8,
+) -> Result<Octets, AllocError>
+    requires { primary < length world.now.controllers }
+{
+    let told = bare_record(alloc, world, primary, 0, 0)?;
+    text(alloc, &told)
+}
+
 /// Whether the audit finds nothing in the report of a world, by its committed log and its switches.
 fn is_sound(alloc: Global, world: &World<Bytes, Wanting>, primary: u8) -> Result<bool, AllocError>
     requires { primary < length world.now.controllers }
 {
-    let told = bare_record(alloc, world, primary, 0, 0)?;
-    let report = text(alloc, &told)?;
+    let report = bare_report(alloc, world, primary)?;
     let verdict = check(alloc, report, &mut app_of(alloc, None)?)?;
     Ok(verdict == Verdict::Same)
+}
+
+/// Plays these steps in a world, and brings it to rest.
+fn play_in<W: Stable>(
+    alloc: Global,
+    world: &mut World<Bytes, Wanting>,
+    stables: &mut [W],
+    steps: &[Turn],
+) -> Result<Outcome, AllocError>
+    requires holds { (kinds : List ℕ) × Holds ⟦<Wanting as App>⟧.law ⟦<Bytes as Body>⟧.sealing world.old kinds }
+    requires pairs { PairsStand W.saving stables.old world.old.controllers }
+    requires named { AllByRecursion (λ t. IsActor world.old.setup (turn_actor t)) steps.now }
+{
+    if take_steps(world, stables, steps).is_err() {
+        return Ok(Outcome::Differs);
+    }
+    let refused = count_refused(world.journal());
+    let Some(primary) = come_to_rest(alloc, world, stables) else {
+        return Ok(Outcome::Differs);
+    };
+    if is_sound(alloc, world, primary)? {
+        Ok(Outcome::Same { refused })
+    } else {
+        Ok(Outcome::Differs)
+    }
 }
 
 /// Plays a scenario whose controller of a number finds no memory once it has taken so many events.
@@ -109,21 +146,10 @@ fn play(
     requires { IsScenario scenario.now }
 {
     let shelves = shelves_of(alloc, scenario.setup.controllers, controller, events)?;
+    let mut stables: Vec<MemoryStable> = stables(alloc)?;
     let mut world = World::<Bytes, Wanting>::new(alloc, &scenario.setup, shelves)?;
-    let mut kept: Vec<MemoryStable> = stables(alloc)?;
-    let stables = kept.as_mut_slice();
-    if take_steps(&mut world, stables, scenario.steps.as_slice()).is_err() {
-        return Ok(Outcome::Differs);
-    }
-    let refused = count_refused(world.journal());
-    let Some(primary) = come_to_rest(alloc, &mut world, stables) else {
-        return Ok(Outcome::Differs);
-    };
-    if is_sound(alloc, &world, primary)? {
-        Ok(Outcome::Same { refused })
-    } else {
-        Ok(Outcome::Differs)
-    }
+    let steps = scenario.steps.as_slice();
+    play_in(alloc, &mut world, stables.as_mut_slice(), steps)
 }
 
 /// Plays the scenario of these bytes so, and tells what it lacks. One that takes no event finds no memory for the first that it

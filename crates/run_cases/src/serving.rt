@@ -1,13 +1,15 @@
 //! Calls of the program, whose ends are in memory.
 ghost use Rattle.std.specs.Prelude.{◌≡◌, ℕ, List, IfOk};
+ghost use Rattle.app_core.specs.Chain.{learning};
+ghost use Rattle.app_upgrade.specs.Versions.{kind_in};
 ghost use Rattle.top_call.specs.Play.{AreChains, AreFresh};
 
 use app_core::{App, Part};
-use app_upgrade::{Slot, Version, all_versions, versions_from};
+use app_upgrade::{Slot, Version, versions_from};
 use cases::{Answer, Call, ControllerSave};
 use firewall_app::Firewall;
 use journal::{FailingSave, FreeGate, Gate, MemorySink, MemorySource, MemoryStable, Stable};
-use learning_app::PlainLearning;
+use learning_app::{Learning, PlainLearning};
 use of_types::Octets;
 use std::alloc::{AllocError, Global};
 use std::sync::Wait;
@@ -73,16 +75,22 @@ pub fn serve_by<W: Stable + Drop + Send, G: Gate + Sync, R: Threads + Wait + Syn
     'making: for number in 0..(CONTROLLERS * LIVES) as u8 {
         let mut parts: Vec<Box<dyn Part + Send>> = Vec::new(alloc);
         parts.push(Box::new(alloc, Firewall::new(alloc))?)?;
-        if usize::from(number) / LIVES < way.lists {
-            parts.push(Box::new(alloc, Slot::new(all_versions(alloc)?))?)?;
-            push_life(&mut chains, number, parts)?;
-        } else {
-            let first = Version::PlainLearning(PlainLearning::new(alloc));
-            parts.push(Box::new(alloc, Slot::new(versions_from(alloc, first)?))?)?;
-            push_life(&mut chains, number, parts)?;
-        }
+        let first = first_version(alloc, usize::from(number) / LIVES >= way.lists);
+        parts.push(Box::new(alloc, Slot::new(versions_from(alloc, first)?))?)?;
+        push_life(&mut chains, number, parts)?;
     }
     serve_chains(rt, alloc, gate, call, way, stables, chains)
+}
+
+/// The version that a controller runs first: it learns in a list, or in a map.
+fn first_version(alloc: Global, in_list: bool) -> Version
+    ensures { kind_in result ≡ learning }
+{
+    if in_list {
+        Version::PlainLearning(PlainLearning::new(alloc))
+    } else {
+        Version::Learning(Learning::new(alloc))
+    }
 }
 
 /// Serves a call in a way, by these applications.
@@ -98,10 +106,8 @@ fn serve_chains<A: App + Send, W: Stable + Drop + Send, G: Gate + Sync, R: Threa
     requires chains { (kinds : List ℕ) × AreChains A.law kinds chains.items }
     requires fresh { AreFresh W.saving stables.old.items }
 {
-    let bytes = Octets::from_slice(alloc, call.input.as_slice())?;
-    let most = way.most.max(1);
-    let mut source = MemorySource::new(bytes, most, listed(alloc, way.failing_read)?);
-    let mut sink = MemorySink::new(alloc, most, listed(alloc, way.failing_write)?);
+    let mut source = source_of(alloc, call, way)?;
+    let mut sink = sink_of(alloc, way)?;
     let status = ravana(
         rt,
         alloc,
@@ -117,6 +123,19 @@ fn serve_chains<A: App + Send, W: Stable + Drop + Send, G: Gate + Sync, R: Threa
         status,
         written: Octets::from_slice(alloc, sink.taken())?,
     })
+}
+
+/// What a call reads, in a way.
+fn source_of(alloc: Global, call: &Call, way: Way) -> Result<MemorySource, AllocError> {
+    let failing = listed(alloc, way.failing_read)?;
+    let bytes = Octets::from_slice(alloc, call.input.as_slice())?;
+    Ok(MemorySource::new(bytes, way.most.max(1), failing))
+}
+
+/// Where it writes.
+fn sink_of(alloc: Global, way: Way) -> Result<MemorySink, AllocError> {
+    let failing = listed(alloc, way.failing_write)?;
+    Ok(MemorySink::new(alloc, way.most.max(1), failing))
 }
 
 /// The one number, if any.

@@ -11,20 +11,16 @@ use Rattle.top_call.proofs.Ran.{fresh_pairs}
 use Rattle.run_cases.specs.contracts.wanting.WantingApp.TheImpl.{ghosts}
 use Rattle.run_cases.proofs.refusals.play.Goals as goal
 
-pub take_steps-requires-clause-holds : goal.take_steps-requires-clause-holds
-take_steps-requires-clause-holds c = (learning ∷ [], c.in_ok-world.ensures.holds (learning ∷ []) c.in_ok-shelves.ensures.stocked)
+pub play_in-requires-clause-holds : goal.play_in-requires-clause-holds
+play_in-requires-clause-holds c = (learning ∷ [], c.in_ok-world.ensures.holds (learning ∷ []) c.in_ok-shelves.ensures.stocked)
 
-pub take_steps-requires-clause-pairs : goal.take_steps-requires-clause-pairs
-take_steps-requires-clause-pairs c =
-    subst (λ l. PairsStand stable.ghosts.saving l c.in_ok-world.world.controllers) (sym c.as_mut_slice-stables.ensures.value)
-    (fresh_pairs ghosts.law stable.ghosts.saving c.in_ok-kept.kept.items c.args.scenario.now.setup c.in_ok-world.world (learning ∷ []) c.in_ok-kept.ensures c.in_ok-world.ensures.starts
+pub play_in-requires-clause-pairs : goal.play_in-requires-clause-pairs
+play_in-requires-clause-pairs c =
+    subst (λ l. PairsStand stable.ghosts.saving l c.in_ok-world.world.controllers) (sym c.as_mut_slice.ensures.value)
+    (fresh_pairs ghosts.law stable.ghosts.saving c.in_ok-stables.stables.items c.args.scenario.now.setup c.in_ok-world.world (learning ∷ []) c.in_ok-stables.ensures c.in_ok-world.ensures.starts
     (c.in_ok-world.ensures.holds (learning ∷ []) c.in_ok-shelves.ensures.stocked))
 
-pub take_steps-requires-clause-named : goal.take_steps-requires-clause-named
-take_steps-requires-clause-named c =
-    subst (λ (l : List Turn). AllByRecursion (λ t. IsActor c.in_ok-world.world.setup (turn_actor t)) l) (sym c.as_slice.ensures)
+pub play_in-requires-clause-named : goal.play_in-requires-clause-named
+play_in-requires-clause-named c =
+    subst (λ (l : List Turn). AllByRecursion (λ t. IsActor c.in_ok-world.world.setup (turn_actor t)) l) (sym c.as_slice-steps.ensures)
     (subst (λ (s : Setup). AllByRecursion (λ t. IsActor s (turn_actor t)) c.args.scenario.now.steps) (sym c.in_ok-world.ensures.starts.setup_is) c.requires.actors)
-
-pub come_to_rest-requires-clause-holds : goal.come_to_rest-requires-clause-holds
-come_to_rest-requires-clause-holds c =
-    (learning ∷ [], c.take_steps.ensures.holds (learning ∷ []) (c.in_ok-world.ensures.holds (learning ∷ []) c.in_ok-shelves.ensures.stocked))

@@ -166,14 +166,15 @@ settling_goes_on start now new commands i x lt at so counted same =
 
 module _ (kinds : List ℕ) (setup : Setup) where
   -- the ledger of the empty log
-  pub none_is : (ledger : Ledger) → ledger.lives ≡ replicate 256 0 → ledger.counts ≡ [] → ledger.pending.items ≡ [] → ledger.processed ≡ 0 → IsLedgerOfLog kinds setup [] ledger
+  pub none_is : (ledger : Ledger) → ledger.lives ≡ replicate 256 0 → ledger.counts ≡ [] → ledger.pending.items ≡ [] → ledger.processed ≡ 0 → ledger.unsettled ≡ 0 → IsLedgerOfLog kinds setup [] ledger
   unfolding issues reactions
-  none_is ledger lives counts pending done =
+  none_is ledger lives counts pending done none =
       record {
         lives = λ s. ap (λ (l : List ℕ). get_or l s 0) lives ∙ first s;
         counts = λ s l. ap (λ (z : Counted). counts_of z s l) counts;
         pending = pending;
         processed_is = done;
+        unsettled_are = none;
         ordered = omega arith;
         few = omega arith;
       }
@@ -201,6 +202,11 @@ module _ (kinds : List ℕ) (setup : Setup) where
   length-issue_each events before [] = refl
   length-issue_each events before (c ∷ commands) = ap suc (length-issue_each events (before ++ issue events before c ∷ []) commands)
 
+  concat_behind : (n : ℕ) (xs : List (List Issued)) → length (concat (drop n xs)) ≤ length (concat xs)
+  concat_behind zero xs = omega arith
+  concat_behind (suc n) [] = omega arith
+  concat_behind (suc n) (x ∷ xs) = let h = concat_behind n xs in let a = length-append x (concat xs) in omega (arith, h, a)
+
   -- one event more is received
   pub one_received : (es : List Event) (done : ℕ) (e : Event) (old new : Ledger) (commands : List Command) (given : List Issued) → IsLedgerOf kinds setup es done old →
       commands ≡ (chain_next kinds setup (chain_after kinds setup (starting_chain kinds) es) e).commands → length commands ≤ most_commands →
@@ -208,8 +214,8 @@ module _ (kinds : List ℕ) (setup : Setup) where
       given ≡ issue_each (es ++ e ∷ []) (concat (issues kinds setup es)) commands →
       AreCounts (take done es) (concat (issues kinds setup es) ++ given) (concat (take done (issues kinds setup es))) new.counts →
       new.pending.items ≡ old.pending.items ++ record { switch = e.switch; life = e.life; commands = given } ∷ [] → new.processed ≡ old.processed →
-      IsLedgerOf kinds setup (es ++ e ∷ []) done new
-  one_received es done e old new commands given kept reacts small lives is counts pending same =
+      length es ≤ 4096 → new.unsettled ≡ min (old.unsettled + length given) most_count → IsLedgerOf kinds setup (es ++ e ∷ []) done new
+  one_received es done e old new commands given kept reacts small lives is counts pending same short count =
       let all = issues kinds setup es in
       let long : length all ≡ length es = length-issues kinds setup es in
       let grown : issues kinds setup (es ++ e ∷ []) ≡ all ++ given ∷ [] =
@@ -231,6 +237,11 @@ module _ (kinds : List ℕ) (setup : Setup) where
             ∙ ap (λ (l : List HandledEvent). drop done l) (sym (handled_push es all e given long))
             ∙ ap (λ (z : List (List Issued)). drop done (handled_of (es ++ e ∷ []) z)) (sym grown);
         processed_is = same ∙ kept.processed_is;
+        unsettled_are = let a = kept.unsettled_are in let b = concat_behind done all in let few = kept.few in let c = length-append (concat (drop done all)) given in
+            let behind : drop done (all ++ given ∷ []) ≡ drop done all ++ given ∷ [] = drop-append-le done all (given ∷ []) (omega (arith, ordered, long)) in
+            let d : length (concat (drop done (issues kinds setup (es ++ e ∷ [])))) ≡ length (concat (drop done all) ++ given) =
+            ap (λ (z : List (List Issued)). length (concat (drop done z))) grown ∙ ap (λ (z : List (List Issued)). length (concat z)) behind ∙ ap (λ (l : List Issued). length l) (concat_push (drop done all) given) in
+            count ∙ min-eq_left (omega (arith, a, b, few, size, small, short)) ∙ omega (arith, a, c, d);
         ordered = let l = length-append es (e ∷ []) in omega (arith, ordered, l);
         few = let a = ap (λ (z : List (List Issued)). length (concat z)) grown in let b = ap (λ (l : List Issued). length l) joined in let c = length-append (concat all) given in let d = length-append es (e ∷ []) in
             let few = kept.few in omega (arith, a, b, c, d, few, size, small);
@@ -285,9 +296,9 @@ module _ (kinds : List ℕ) (setup : Setup) where
   pub one_done : (es : List Event) (done : ℕ) (h : HandledEvent) (rest : List HandledEvent) (old new : Ledger) (counted : Counted) → IsLedgerOf kinds setup es done old → length es ≤ 4096 →
       old.pending.items ≡ h ∷ rest → IsCountedAs old.counts h.switch h.life (one_processed (counts_of old.counts h.switch h.life)) counted →
       ((events : List Event) (issued settled : List Issued) → AreCounts events issued settled counted → length settled + length h.commands < 2 ^ 64 → AreCounts events issued (settled ++ h.commands) new.counts) →
-      new.pending.items ≡ rest → new.processed ≡ min (old.processed + 1) most_count → new.lives ≡ old.lives →
+      new.pending.items ≡ rest → new.processed ≡ min (old.processed + 1) most_count → new.lives ≡ old.lives → new.unsettled ≡ old.unsettled - length h.commands →
       (slice_get (handled_of es (issues kinds setup es)) done ≡ Some h) × IsLedgerOf kinds setup es (done + 1) new
-  one_done es done h rest old new counted kept short front here settles left count lives =
+  one_done es done h rest old new counted kept short front here settles left count lives fewer =
       let all = issues kinds setup es in
       let at = drop_front done (handled_of es all) h rest (sym kept.pending ∙ front) in
       let r = is_handled es all done h at.0 in
@@ -310,6 +321,8 @@ module _ (kinds : List ℕ) (setup : Setup) where
               (subst (λ (z : List Issued). AreCounts (take done es ++ r.event ∷ []) (concat all) z new.counts) (sym joined) then');
           pending = left ∙ sym at.1;
           processed_is = count ∙ ap (λ (n : ℕ). min (n + 1) most_count) kept.processed_is ∙ min-eq_left (omega (arith, there, short));
+          unsettled_are = let a = kept.unsettled_are in let b = ap (λ (z : List (List Issued)). length (concat z)) (drop_there done all h.commands r.commands) in
+              let c = length-append h.commands (concat (drop (done + 1) all)) in omega (arith, fewer, a, b, c);
           ordered = omega (arith, there);
           few = kept.few;
         },
@@ -331,8 +344,8 @@ module _ (kinds : List ℕ) (setup : Setup) where
       ((events done : List Event) (before settled : List Issued) → AreLives events middle.lives → AreCounts done before settled middle.counts → length before + length commands < 2 ^ 64 →
       (given ≡ issue_each events before commands) × AreCounts done (before ++ given) settled new.counts) →
       new.lives ≡ middle.lives → new.pending.items ≡ old.pending.items ++ record { switch = e.switch; life = e.life; commands = given } ∷ [] → new.processed ≡ old.processed →
-      IsLedgerOfLog kinds setup (log ++ Received e ∷ []) new
-  received_is log e old middle new commands given kept fit reacts small lives same each lived pending count =
+      new.unsettled ≡ min (old.unsettled + length given) most_count → IsLedgerOfLog kinds setup (log ++ Received e ∷ []) new
+  received_is log e old middle new commands given kept fit reacts small lives same each lived pending count more =
       let es = received log in
       let f = fits_is log (Received e) fit in
       let short = f.short in
@@ -343,7 +356,7 @@ module _ (kinds : List ℕ) (setup : Setup) where
       (subst (λ (z : Counted). AreCounts (take (processed log) es) (concat (issues kinds setup es)) (concat (take (processed log) (issues kinds setup es))) z) (sym same) kept.counts) (omega (arith, short, l, few, small)) in
       let events : received (log ++ Received e ∷ []) ≡ es ++ e ∷ [] = received-append log (Received e ∷ []) in
       let done : processed (log ++ Received e ∷ []) ≡ processed log = processed_push log (Received e) ∙ none (processed log) in
-      let made = one_received es (processed log) e old new commands given kept reacts small (λ s. ap (λ (z : List ℕ). get_or z s 0) lived ∙ lives s) r.0 r.1 pending count in
+      let made = one_received es (processed log) e old new commands given kept reacts small (λ s. ap (λ (z : List ℕ). get_or z s 0) lived ∙ lives s) r.0 r.1 pending count (omega (arith, short, l)) more in
       subst (λ (z : List Event). IsLedgerOf kinds setup z (processed (log ++ Received e ∷ [])) new) (sym events) (subst (λ (n : ℕ). IsLedgerOf kinds setup (es ++ e ∷ []) n new) (sym done) made)
     where
       none : (n : ℕ) → n + 0 ≡ n
@@ -377,11 +390,11 @@ module _ (kinds : List ℕ) (setup : Setup) where
   pub processed_is : (log : List Entry) (j : ℕ) (h : HandledEvent) (rest : List HandledEvent) (old new : Ledger) (counted : Counted) → IsLedgerOfLog kinds setup log old → fits log (Processed j) ≡ true →
       old.pending.items ≡ h ∷ rest → IsCountedAs old.counts h.switch h.life (one_processed (counts_of old.counts h.switch h.life)) counted →
       ((events : List Event) (issued settled : List Issued) → AreCounts events issued settled counted → length settled + length h.commands < 2 ^ 64 → AreCounts events issued (settled ++ h.commands) new.counts) →
-      new.pending.items ≡ rest → new.processed ≡ min (old.processed + 1) most_count → new.lives ≡ old.lives →
+      new.pending.items ≡ rest → new.processed ≡ min (old.processed + 1) most_count → new.lives ≡ old.lives → new.unsettled ≡ old.unsettled - length h.commands →
       (Some h ≡ handled_by kinds setup log (Processed j)) × IsLedgerOfLog kinds setup (log ++ Processed j ∷ []) new
-  processed_is log j h rest old new counted kept fit front here settles left count lives =
+  processed_is log j h rest old new counted kept fit front here settles left count lives fewer =
       let n = next_done log j fit in
-      let r = one_done (received log) (processed log) h rest old new counted kept n.short front here settles left count lives in
+      let r = one_done (received log) (processed log) h rest old new counted kept n.short front here settles left count lives fewer in
       let events : received (log ++ Processed j ∷ []) ≡ received log = received-append log (Processed j ∷ []) ∙ append-nil (received log) in
       let done : processed (log ++ Processed j ∷ []) ≡ processed log + 1 = processed_push log (Processed j) in (
         sym (ap (λ (k : ℕ). slice_get (handled_of (received log) (issues kinds setup (received log))) k) n.place ∙ r.0),

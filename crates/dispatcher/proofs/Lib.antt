@@ -1,6 +1,7 @@
 pub mod Counting
 pub mod Handling
 pub mod Ledgers
-pub mod Marking
+pub mod Numbering
+pub mod Rooms
 pub mod Standing
 pub mod Telling

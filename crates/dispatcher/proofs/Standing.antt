@@ -1,10 +1,11 @@
 -- What is kept of a committed log answers as the log does.
 use Rattle.std.proofs.Common.{inl, inr, ◌≡◌, ◌≤◌, ℕ, zero, suc, ◌+◌, Bool, true, false, not, ◌&&◌, List, [], ◌∷◌, ◌++◌, length, drop, map, filter, get_or, refl, sym, ap, subst, ◌∙◌, arith, append-nil}
-use Rattle.std.specs.Prelude.{nat_eq, nat_le, nat_lt, slice_index_or, if◌then◌else◌}
+use Rattle.std.specs.Prelude.{nat_eq, nat_le, nat_lt, slice_index_or, count_by, if◌then◌else◌}
 use Rattle.std.specs.List.{list_any, range_with_len}
 use Rattle.std.proofs.Math.Seq.{drop-nil}
-use Rattle.std.proofs.lemmas.Bool.{cases_Bool, cases_lt, lt-ltb, le-ltb, ne_eqb}
+use Rattle.std.proofs.lemmas.Bool.{cases_lt, lt-ltb, le-ltb}
 use Rattle.std.proofs.lemmas.List.{length-drop}
+use Rattle.std.proofs.lemmas.List.Sums.{length-filter}
 use Rattle.of_types.specs.declared.message.Event.{Event}
 use Rattle.of_types.specs.declared.setup.Setup.{Setup}
 use Rattle.of_types.specs.Lives.{life_in, has_ended}
@@ -25,9 +26,10 @@ use Rattle.dispatcher.specs.declared.counts.Counts.{Counts}
 use Rattle.dispatcher.specs.declared.ledger.Ledger.{Ledger}
 use Rattle.dispatcher.specs.Folding.{numbered, is_told, clears}
 use Rattle.dispatcher.specs.Counted.{counts_of}
-use Rattle.dispatcher.specs.Ledger.{Dispatching, IsLedgerOfLog, StandsFor, as_numbered, cleared_of_life, first_commands, handled_of, has_pending, has_told, is_outstanding, wants, most_commands}
-use Rattle.dispatcher.specs.Marks.{Marks, is_confirmed, is_finished, is_pending, is_wanted, outstanding, settled_commands, wanted}
+use Rattle.dispatcher.specs.Ledger.{Dispatching, HasRoomForResults, IsLedgerOfLog, StandsFor, as_numbered, cleared_of_life, first_commands, handled_of, has_pending, has_told, is_outstanding, wants, most_commands}
+use Rattle.dispatcher.specs.Marks.{Marks, is_confirmed, is_finished, is_pending, is_wanted, outstanding, settled_commands, unsettled, wanted}
 use Rattle.dispatcher.proofs.Ledgers.{length-handled_of}
+use Rattle.dispatcher.proofs.Rooms.{room_received, room_processed}
 
 filter_choice : {A : Type 0} (a b : Bool) (x : A) (xs : List A) → a ≡ b → (if a then x ∷ xs else xs) ≡ (if b then x ∷ xs else xs)
 filter_choice true true x xs e = refl
@@ -129,23 +131,18 @@ module _ (kinds : List ℕ) (setup : Setup) (log : List Entry) (ledger : Ledger)
             | inr le ↦ rw (le-ltb 0 a le, le-ltb b c (omega (arith, le, e))) refl
           ]
 
-  none_passes : (p : Issued → Bool) (xs : List Issued) → not (list_any p xs) ≡ nat_eq (length (filter p xs)) 0
-  none_passes p [] = refl
-  none_passes p (x ∷ xs) = elim (cases_Bool (p x)) [
-    | inl is ↦ rw is (sym (ne_eqb (suc (length (filter p xs))) 0 (λ e. omega (arith, e))))
-    | inr other ↦ rw other (none_passes p xs)
-  ]
-
-  finished_is : (marks : Marks) → (nat_lt 0 (length ledger.pending.items) && not (list_any (wants ledger marks) (first_commands ledger.pending.items))) ≡ is_finished kinds setup log marks
+  pub finished_is : (marks : Marks) → (nat_lt 0 (length ledger.pending.items) && nat_eq (count_by (wants ledger marks) (first_commands ledger.pending.items)) 0) ≡ is_finished kinds setup log marks
   finished_is marks =
-      let same : filter (wants ledger marks) (first_commands ledger.pending.items) ≡ wanted kinds setup log marks =
-      filter_same (wants ledger marks) (is_wanted log marks) (first_commands ledger.pending.items) (wants_is marks) ∙ ap (λ (l : List Issued). filter (is_wanted log marks) l) first_is in
-      rw (unprocessed_is, none_passes (wants ledger marks) (first_commands ledger.pending.items), same) refl
+      let same : count_by (wants ledger marks) (first_commands ledger.pending.items) ≡ length (wanted kinds setup log marks) =
+      sym (length-filter (wants ledger marks) (first_commands ledger.pending.items))
+      ∙ ap (λ (l : List Issued). length l)
+      (filter_same (wants ledger marks) (is_wanted log marks) (first_commands ledger.pending.items) (wants_is marks) ∙ ap (λ (l : List Issued). filter (is_wanted log marks) l) first_is) in
+      rw (unprocessed_is, same) refl
 
-  pub finished_as : (marks : Marks) (has wanted : Bool) → has ≡ nat_lt 0 (length ledger.pending.items) → wanted ≡ list_any (wants ledger marks) (first_commands ledger.pending.items) →
-      (has && not wanted) ≡ is_finished kinds setup log marks
-  finished_as marks has wanted h n =
-      ap (λ (b : Bool). b && not wanted) h ∙ ap (λ (b : Bool). nat_lt 0 (length ledger.pending.items) && not b) n ∙ finished_is marks
+  pub finished_as : (marks : Marks) (has : Bool) (count : ℕ) → has ≡ nat_lt 0 (length ledger.pending.items) → count ≡ count_by (wants ledger marks) (first_commands ledger.pending.items) →
+      (has && nat_eq count 0) ≡ is_finished kinds setup log marks
+  finished_as marks has count h n =
+      ap (λ (b : Bool). b && nat_eq count 0) h ∙ ap (λ (k : ℕ). nat_lt 0 (length ledger.pending.items) && nat_eq k 0) n ∙ finished_is marks
 
   told_is : (commands : List Issued) (switch : ℕ) → has_told ledger commands switch ≡ is_told log commands switch
   told_is commands switch = any_same _ _ commands (λ x. ap (λ (b : Bool). nat_eq x.switch switch && not b) (ended_is x.switch x.life))
@@ -171,11 +168,12 @@ module _ {A : Type 0} (law : AppLaw A) (kinds : List ℕ) (setup : Setup) (log :
   reacts_is d e states commands stands steps =
       steps.commands_are ∙ ap (λ (ks : List ℕ). (chain_next ks setup (law.states d.app) e).commands) stands.kind ∙ ap (λ (s : List (List ℕ)). (chain_next kinds setup s e).commands) stands.states
 
-  pub with_received : (d : Dispatching A) (app : A) (ledger : Ledger) (entry : Entry) (e : Event) (commands : List Command) → entry ≡ Received e → StandsFor law d kinds setup log →
+  pub with_received : (d : Dispatching A) (app : A) (ledger : Ledger) (marks : Marks) (room : ℕ) (entry : Entry) (e : Event) (commands : List Command) → entry ≡ Received e → StandsFor law d kinds setup log →
       law.kinds app ≡ law.kinds d.app → law.suits app setup → ChainSteps (chain_next (law.kinds d.app) setup (law.states d.app) e) (law.states app) [] commands →
-      IsLedgerOfLog kinds setup (log ++ Received e ∷ []) ledger → StandsFor law (record d { app = app; ledger = ledger }) kinds setup (log ++ entry ∷ [])
-  with_received d app ledger entry e commands is stands same fit steps kept =
-      subst (λ (x : Entry). StandsFor law (record d { app = app; ledger = ledger }) kinds setup (log ++ x ∷ [])) (sym is)
+      IsLedgerOfLog kinds setup (log ++ Received e ∷ []) ledger → length marks.acked + ledger.unsettled ≤ room →
+      StandsFor law (record d { app = app; ledger = ledger; marks = marks; room = room }) kinds setup (log ++ entry ∷ [])
+  with_received d app ledger marks room entry e commands is stands same fit steps kept made =
+      subst (λ (x : Entry). StandsFor law (record d { app = app; ledger = ledger; marks = marks; room = room }) kinds setup (log ++ x ∷ [])) (sym is)
       (record {
         kind = same ∙ stands.kind;
         few = subst (λ (ks : List ℕ). given_by ks ≤ most_commands) (sym same) stands.few;
@@ -187,6 +185,7 @@ module _ {A : Type 0} (law : AppLaw A) (kinds : List ℕ) (setup : Setup) (log :
             ∙ ap (λ (es : List Event). chain_after kinds setup (starting_chain kinds) es) (sym (received-append log (Received e ∷ [])));
         size = stands.size;
         ledger = kept;
+        room = room_received kinds setup (log ++ Received e ∷ []) ledger marks room kept made;
       })
 
   pub with_processed : (d : Dispatching A) (ledger : Ledger) (entry : Entry) (j : ℕ) → entry ≡ Processed j → StandsFor law d kinds setup log →
@@ -200,8 +199,9 @@ module _ {A : Type 0} (law : AppLaw A) (kinds : List ℕ) (setup : Setup) (log :
         states = stands.states ∙ ap (λ (es : List Event). chain_after kinds setup (starting_chain kinds) es) (sym (received-append log (Processed j ∷ []) ∙ append-nil (received log)));
         size = stands.size;
         ledger = kept;
+        room = room_processed kinds setup log j d.marks d.room stands.room;
       })
 
-  -- marks change nothing of what it stands for
-  pub with_marks : (d : Dispatching A) (marks : Marks) → StandsFor law d kinds setup log → StandsFor law (record d { marks = marks }) kinds setup log
-  with_marks d marks stands = record { kind = stands.kind; few = stands.few; suited = stands.suited; states = stands.states; size = stands.size; ledger = stands.ledger }
+  -- marks change nothing of what it stands for, where there is still room
+  pub with_marks : (d : Dispatching A) (marks : Marks) (room : ℕ) → StandsFor law d kinds setup log → HasRoomForResults (unsettled kinds setup log) marks room → StandsFor law (record d { marks = marks; room = room }) kinds setup log
+  with_marks d marks room stands has = record { kind = stands.kind; few = stands.few; suited = stands.suited; states = stands.states; size = stands.size; ledger = stands.ledger; room = has }

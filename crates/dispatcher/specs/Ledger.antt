@@ -1,5 +1,5 @@
 -- What is kept of a committed log, so that no question asks for the whole of it again.
-use Rattle.std.specs.Prelude.{◌≡◌, ◌≤◌, ℕ, ◌+◌, ◌-◌, ◌*◌, ◌^◌, min, Bool, not, nat_eq, nat_le, nat_lt, ◌&&◌, List, [], ◌∷◌, length, take, drop, get_or, map, slice_get, Option, Some, None, if◌then◌else◌}
+use Rattle.std.specs.Prelude.{◌≡◌, ◌≤◌, ℕ, ◌+◌, ◌-◌, ◌*◌, ◌^◌, min, Bool, not, nat_eq, nat_le, nat_lt, ◌&&◌, List, [], ◌∷◌, count_by, length, take, drop, get_or, map, slice_get, Option, Some, None, if◌then◌else◌}
 use Rattle.std.specs.List.{list_any}
 use Rattle.of_types.specs.declared.message.Event.{Event}
 use Rattle.of_types.specs.declared.setup.Setup.{Setup}
@@ -17,7 +17,7 @@ use Rattle.dispatcher.specs.declared.answers.AckThrough.{AckThrough}
 use Rattle.dispatcher.specs.declared.counts.Counts.{Counts}
 use Rattle.dispatcher.specs.declared.ledger.Ledger.{Ledger}
 use Rattle.dispatcher.specs.declared.numbered.NumberedOrder.{NumberedOrder}
-use Rattle.dispatcher.specs.Marks.{Marks, has_result, is_confirmed}
+use Rattle.dispatcher.specs.Marks.{Marks, has_result, is_confirmed, unsettled}
 
 -- one life has these counts from now on
 abbrev pub IsCountedAs : Counted → ℕ → ℕ → Counts → Counted → Type 0
@@ -69,6 +69,7 @@ pub record IsLedgerOf (kinds : List ℕ) (setup : Setup) (events : List Event) (
   pub counts : AreCounts (take done events) (concat (issues kinds setup events)) (concat (take done (issues kinds setup events))) ledger.counts
   pub pending : ledger.pending.items ≡ drop done (handled_of events (issues kinds setup events))
   pub processed_is : ledger.processed ≡ done
+  pub unsettled_are : ledger.unsettled ≡ length (concat (drop done (issues kinds setup events)))
   pub ordered : done ≤ length events
   pub few : length (concat (issues kinds setup events)) ≤ most_commands * length events
 
@@ -81,14 +82,25 @@ first_commands [] = []
 first_commands (h ∷ pending) = h.commands
 
 -- what contracts see of a dispatcher: its application, how many switches there are, what it keeps of the committed log,
--- and the marks of its view
+-- the marks of its view, and for how many results there is room
 pub record Dispatching (A : Type 0) : Type 0 where
   pub app : A
   pub switches : ℕ
   pub ledger : Ledger
   pub marks : Marks
+  pub room : ℕ
 
--- it stands for a committed log: its application has taken the events of that log, and no others
+-- no result of a command came
+abbrev pub lacks_result : Marks → Issued → Bool
+lacks_result marks x = not (has_result marks x.switch x.life x.number)
+
+-- there is room for the results of these commands
+pub record HasRoomForResults (commands : List Issued) (marks : Marks) (room : ℕ) : Type 0 where
+  pub in_view : length marks.acked + count_by (lacks_result marks) commands ≤ room  -- beside those that came in this view
+  pub in_next : length commands ≤ room  -- of each of them, in the next view
+
+-- it stands for a committed log: its application has taken the events of that log, and no others, and there is room for
+-- the results that may still come
 pub record StandsFor {A : Type 0} (law : AppLaw A)
     (d : Dispatching A) (kinds : List ℕ) (setup : Setup) (log : List Entry) : Type 0 where
   pub kind : law.kinds d.app ≡ kinds
@@ -97,6 +109,7 @@ pub record StandsFor {A : Type 0} (law : AppLaw A)
   pub states : law.states d.app ≡ chain_after kinds setup (starting_chain kinds) (received log)
   pub size : d.switches ≡ length setup.ports
   pub ledger : IsLedgerOfLog kinds setup log d.ledger
+  pub room : HasRoomForResults (unsettled kinds setup log) d.marks d.room
 
 -- a command of the log wants a result, by what is kept: none came, and its life goes on
 abbrev pub wants : Ledger → Marks → Issued → Bool

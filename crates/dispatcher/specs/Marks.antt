@@ -1,10 +1,7 @@
 -- The commands of committed events: which are settled, acknowledged and outstanding (Ravana, 4.2). Each of these
 -- speaks of a committed log, and of the marks of a view.
-use Rattle.std.specs.Prelude.{ℕ, Bool, not, nat_eq, nat_le, nat_lt, ◌&&◌, List, [], length, take, filter, if◌then◌else◌}
+use Rattle.std.specs.Prelude.{ℕ, Bool, not, nat_eq, nat_le, nat_lt, ◌&&◌, List, [], ◌∷◌, ◌++◌, length, take, drop, filter, if◌then◌else◌}
 use Rattle.std.specs.List.{list_any}
-use Rattle.std.specs.Ordering.{nat_cmp, ordering_then}
-use Rattle.std.specs.BTreeSet.{insert_key}
-use Rattle.std.specs.declared.cmp.Ordering.{Ordering}
 use Rattle.of_types.specs.declared.setup.Setup.{Setup}
 use Rattle.of_types.specs.Lives.{has_ended}
 use Rattle.of_types.specs.SmallSets.{with_number, without_number}
@@ -18,10 +15,15 @@ use Rattle.app_core.specs.declared.issued.Issued.{Issued}
 -- what came from switches in a view
 pub record Marks : Type 0 where
   pub confirmed : List ℕ  -- the switches that took this controller as master, ascending
-  pub acked : List (ℕ × ℕ × ℕ)  -- switch, life and number of the commands whose results came, ascending
+  pub acked : List (ℕ × ℕ × ℕ)  -- switch, life and number of the commands whose results came, in the order in which they first did
 
 abbrev pub no_marks : Marks
 no_marks = record { confirmed = []; acked = [] }
+
+-- marks as they are kept
+pub record KeptMarks : Type 0 where
+  pub marks : Marks
+  pub room : ℕ  -- for so many results there is room, with those that came
 
 abbrev pub is_confirmed : Marks → ℕ → Bool
 is_confirmed marks switch = list_any (λ s. nat_eq s switch) marks.confirmed
@@ -42,19 +44,20 @@ abbrev pub settled_commands : List ℕ → Setup → List Entry → ℕ → ℕ 
 settled_commands kinds setup log switch life =
     count_issued switch life (concat (take (processed log) (issues kinds setup (received log))))
 
+-- the commands of events that are not processed
+abbrev pub unsettled : List ℕ → Setup → List Entry → List Issued
+unsettled kinds setup log = concat (drop (processed log) (issues kinds setup (received log)))
+
 -- a number is that of a command of an event that is not processed
 abbrev pub is_pending : List ℕ → Setup → List Entry → ℕ → ℕ → ℕ → Bool
 is_pending kinds setup log switch life number =
     nat_le (settled_commands kinds setup log switch life) number
     && nat_lt number (count_issued switch life (concat (issues kinds setup (received log))))
 
--- commands ascend by switch, then by life, then by number
-abbrev pub command_order : ℕ × ℕ × ℕ → ℕ × ℕ × ℕ → Ordering
-command_order a b = ordering_then (ordering_then (nat_cmp a.0 b.0) (nat_cmp a.1 b.1)) (nat_cmp a.2 b.2)
-
 -- a result counts once
 abbrev pub with_mark : Marks → ℕ → ℕ → ℕ → Marks
-with_mark marks switch life number = record marks { acked = insert_key command_order marks.acked (switch, life, number) }
+with_mark marks switch life number =
+    if has_result marks switch life number then marks else record marks { acked = marks.acked ++ (switch, life, number) ∷ [] }
 
 -- the result of such a command counts
 abbrev pub with_marked_result : List ℕ → Setup → List Entry → Marks → ℕ → ℕ → ℕ → Marks

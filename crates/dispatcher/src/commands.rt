@@ -1,6 +1,6 @@
 //! The commands of the first event that is not processed.
-ghost use Rattle.std.specs.Prelude.{◌≡◌, ◌<◌, ℕ, false, ◌&&◌, map, filter, nat_eq, nat_lt, get_or, length, IfOk};
-ghost use Rattle.std.specs.List.{list_any, range_with_len};
+ghost use Rattle.std.specs.Prelude.{◌≡◌, ◌<◌, ℕ, false, ◌&&◌, map, filter, count_by, nat_eq, nat_lt, get_or, length, IfOk};
+ghost use Rattle.std.specs.List.{range_with_len};
 ghost use Rattle.dispatcher.specs.Ledger.{as_numbered, cleared_of_life, first_commands, has_told, is_outstanding, wants};
 
 use crate::answers::AckThrough;
@@ -10,20 +10,15 @@ use crate::numbered::NumberedOrder;
 use app_core::Issued;
 use std::alloc::{AllocError, Global};
 
-/// Whether a command of the first event that is not processed wants a result. Results mostly come in the order of the
-/// commands, so it looks at the last command first.
-pub(crate) fn has_wanted(ledger: &Ledger, marks: &ViewMarks) -> bool
-    ensures { result ≡ list_any (wants ledger.now marks.now) (first_commands ledger.now.pending.items) }
+/// How many commands of the first event that is not processed want a result.
+pub(crate) fn count_wanted(ledger: &Ledger, marks: &ViewMarks) -> usize
+    ensures { result ≡ count_by (wants ledger.now marks.now.marks) (first_commands ledger.now.pending.items) }
 {
-    let commands = ledger.first();
-    let mut left = commands.len();
-    'looking: while left > 0 {
-        left -= 1;
-        if wants(ledger, marks, &commands[left]) {
-            return true;
-        }
-    }
-    false
+    ledger
+        .first()
+        .iter()
+        .filter(|command| wants(ledger, marks, command))
+        .count()
 }
 
 /// The commands of the first event that is not processed that want a result, on switches that took this controller
@@ -33,7 +28,7 @@ pub(crate) fn outstanding(
     ledger: &Ledger,
     marks: &ViewMarks,
 ) -> Result<Vec<NumberedOrder>, AllocError>
-    ensures { IfOk result (λ list. list.items ≡ map (as_numbered ledger.now) (filter (is_outstanding ledger.now marks.now) (first_commands ledger.now.pending.items))) }
+    ensures { IfOk result (λ list. list.items ≡ map (as_numbered ledger.now) (filter (is_outstanding ledger.now marks.now.marks) (first_commands ledger.now.pending.items))) }
 {
     let mut list = Vec::new(alloc);
     for command in ledger.first() {
@@ -51,7 +46,7 @@ pub(crate) fn outstanding_on(
     ledger: &Ledger,
     marks: &ViewMarks,
 ) -> Result<Vec<NumberedOrder>, AllocError>
-    ensures { IfOk result (λ list. list.items ≡ map (as_numbered ledger.now) (filter (λ x. is_outstanding ledger.now marks.now x && nat_eq x.switch switch) (first_commands ledger.now.pending.items))) }
+    ensures { IfOk result (λ list. list.items ≡ map (as_numbered ledger.now) (filter (λ x. is_outstanding ledger.now marks.now.marks x && nat_eq x.switch switch) (first_commands ledger.now.pending.items))) }
 {
     let mut list = Vec::new(alloc);
     for command in ledger.first() {
@@ -83,7 +78,7 @@ pub(crate) fn clears(
 
 /// Whether a command still wants a result: none came, and its life goes on.
 fn wants(ledger: &Ledger, marks: &ViewMarks, command: &Issued) -> bool
-    ensures { result ≡ wants ledger.now marks.now command.now }
+    ensures { result ≡ wants ledger.now marks.now.marks command.now }
 {
     !marks.has_result(command.switch, command.life, command.number)
         && !ledger.has_ended(command.switch, command.life)
@@ -91,7 +86,7 @@ fn wants(ledger: &Ledger, marks: &ViewMarks, command: &Issued) -> bool
 
 /// Whether a command wants a result, and its switch took this controller as master.
 fn is_outstanding(ledger: &Ledger, marks: &ViewMarks, command: &Issued) -> bool
-    ensures { result ≡ is_outstanding ledger.now marks.now command.now }
+    ensures { result ≡ is_outstanding ledger.now marks.now.marks command.now }
 {
     wants(ledger, marks, command) && marks.is_confirmed(command.switch)
 }

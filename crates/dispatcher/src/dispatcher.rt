@@ -1,5 +1,5 @@
 //! The dispatcher of a primary.
-ghost use Rattle.std.specs.Prelude.{◌≡◌, ◌≤◌, ◌∷◌, ◌++◌, [], Option, Some, None, map, filter, nat_eq, true, IfOk, OnOk, if◌then◌else◌};
+ghost use Rattle.std.specs.Prelude.{◌≡◌, ◌≤◌, ◌∷◌, ◌++◌, [], Option, Some, None, map, filter, nat_eq, true, IfOk, if◌then◌else◌};
 ghost use Rattle.of_types.specs.declared.setup.Setup.{Setup};
 ghost use Rattle.of_types.specs.Setups.{IsSetup};
 ghost use Rattle.of_types.specs.Lives.{has_ended};
@@ -46,7 +46,7 @@ impl<A> Model for Dispatcher<A> {
 
     ghost Value = { Dispatching A };
 
-    ghost view = { λ d. record { app = d.app; switches = d.switches; ledger = d.ledger; marks = d.marks } };
+    ghost view = { λ d. record { app = d.app; switches = d.switches; ledger = d.ledger; marks = d.marks.marks; room = d.marks.room } };
 }
 
 impl<A: App> Dispatcher<A> {
@@ -75,7 +75,8 @@ impl<A: App> Dispatcher<A> {
         self.switches
     }
 
-    /// One entry more is committed: the application reacts to an event that is received. What is processed comes back.
+    /// One entry more is committed: the application reacts to an event that is received, and room is made for the
+    /// results of its commands. What is processed comes back.
     pub fn fold(&mut self, entry: &Entry) -> Result<Option<HandledEvent>, AllocError>
         ensures folds { ForEachLog (StandsFor A.law self.old) (λ kinds setup log. fits log entry.now ≡ true →
             IfOk result (λ handled. (handled ≡ handled_by kinds setup log entry.now) × StandsFor A.law self.new kinds setup (log ++ entry.now ∷ []))) }
@@ -85,6 +86,7 @@ impl<A: App> Dispatcher<A> {
             Entry::Received(event) => {
                 let commands = self.app.react(self.alloc, event)?;
                 self.ledger.receive(event, commands)?;
+                self.marks.reserve(self.ledger.unsettled())?;
                 Ok(None)
             }
             Entry::Processed(_) => self.ledger.process(),
@@ -130,18 +132,18 @@ impl<A: App> Dispatcher<A> {
     }
 
     /// A result of a command came: it counts where the command is of an event that is not processed, and tells
-    /// whether it is.
-    pub fn on_result(&mut self, switch: u8, life: u32, number: u64) -> Result<bool, AllocError>
-        ensures pending { ForEachLog (StandsFor A.law self.old) (λ kinds setup log. IfOk result (λ pending. pending ≡ is_pending kinds setup log switch life number)) }
-        ensures marks { ForEachLog (StandsFor A.law self.old) (λ kinds setup log. OnOk result (self.new.marks ≡ with_marked_result kinds setup log self.old.marks switch life number)) }
+    /// whether it is. It takes no memory: `fold` made the room.
+    pub fn on_result(&mut self, switch: u8, life: u32, number: u64) -> bool
+        ensures pending { ForEachLog (StandsFor A.law self.old) (λ kinds setup log. result ≡ is_pending kinds setup log switch life number) }
+        ensures marks { ForEachLog (StandsFor A.law self.old) (λ kinds setup log. self.new.marks ≡ with_marked_result kinds setup log self.old.marks switch life number) }
         ensures stands { ForEachLog (StandsFor A.law self.old) (StandsFor A.law self.new) }
-        ensures same { self.new ≡ record self.old { marks = self.new.marks } }
+        ensures same { self.new ≡ record self.old { marks = self.new.marks; room = self.new.room } }
     {
         let pending = self.ledger.has_pending(switch, life, number);
         if pending {
-            self.marks.note_result(switch, life, number)?;
+            self.marks.note_result(switch, life, number);
         }
-        Ok(pending)
+        pending
     }
 
     /// A switch took this controller as master. It takes no memory.
@@ -162,7 +164,7 @@ impl<A: App> Dispatcher<A> {
 
     /// A view begins: what came in earlier ones is forgotten. It takes no memory.
     pub fn begin_view(&mut self)
-        ensures marks { self.new ≡ record self.old { marks = no_marks } }
+        ensures marks { self.new ≡ record self.old { marks = no_marks; room = self.new.room } }
         ensures stands { ForEachLog (StandsFor A.law self.old) (StandsFor A.law self.new) }
     {
         self.marks.clear();
@@ -209,7 +211,7 @@ impl<A: App> Dispatcher<A> {
     pub fn finished(&self) -> bool
         ensures { ForEachLog (StandsFor A.law self.now) (λ kinds setup log. result ≡ is_finished kinds setup log self.now.marks) }
     {
-        let wanted = commands::has_wanted(&self.ledger, &self.marks);
+        let wanted = commands::count_wanted(&self.ledger, &self.marks);
         may_process(self.ledger.has_unprocessed(), wanted)
     }
 

@@ -20,7 +20,7 @@ use std::alloc::{AllocError, Global};
 use std::collections::VecDeque;
 
 /// What is kept of a committed log: the present life of each switch, what is counted of each life, and the events that
-/// are received and not processed, with their commands.
+/// are received and not processed, with their commands. How many these are is kept beside them.
 #[derive(Drop)]
 pub(crate) struct Ledger {
     alloc: Global,
@@ -32,6 +32,8 @@ pub(crate) struct Ledger {
     pending: VecDeque<HandledEvent>,
     /// How many events are processed.
     processed: u64,
+    /// How many commands of pending events are not settled.
+    unsettled: usize,
 }
 
 impl Ledger {
@@ -45,6 +47,7 @@ impl Ledger {
             counts: LifeCounts::new(alloc),
             pending: VecDeque::new(alloc),
             processed: 0,
+            unsettled: 0,
         }
     }
 
@@ -53,6 +56,13 @@ impl Ledger {
         ensures { result ≡ self.now.processed }
     {
         self.processed
+    }
+
+    /// How many commands are issued and not settled.
+    pub(crate) fn unsettled(&self) -> usize
+        ensures { result ≡ self.now.unsettled }
+    {
+        self.unsettled
     }
 
     /// Whether an event is received and not processed.
@@ -141,6 +151,7 @@ impl Ledger {
     {
         self.lives.begin(event.switch, event.life);
         let commands = self.issue_each(commands)?;
+        self.unsettled = self.unsettled.saturating_add(commands.len());
         self.pending.push_back(HandledEvent {
             switch: event.switch,
             life: event.life,
@@ -189,6 +200,7 @@ impl Ledger {
         self.processed = self.processed.saturating_add(1);
         self.count_processed(handled.switch, handled.life)?;
         self.settle_each(handled.commands.as_slice())?;
+        self.unsettled = self.unsettled.saturating_sub(handled.commands.len());
         Ok(Some(handled))
     }
 }

@@ -1,11 +1,11 @@
 //! The marks of a view.
-ghost use Rattle.std.specs.Prelude.{◌≡◌, OnOk};
+ghost use Rattle.std.specs.Prelude.{◌≡◌, ◌+◌, ◌<◌, ◌≤◌, false, length, true, OnOk};
 ghost use Rattle.dispatcher.specs.Marks as marks;
 ghost use Rattle.dispatcher.specs.Marks.{confirmed_by, has_result, is_confirmed, no_marks, with_mark};
 
+use indexmap::IndexSet;
 use of_types::SmallSet;
 use std::alloc::{AllocError, Global};
-use std::collections::BTreeSet;
 use std::marker::Model;
 
 /// What came from switches in a view: which of them took this controller as master, and of which commands results
@@ -15,31 +15,37 @@ pub(crate) struct ViewMarks {
     /// The switches that took this controller as master.
     confirmed: SmallSet,
     /// The commands of which results came, by switch, life and number.
-    acked: BTreeSet<(u8, u32, u64)>,
+    acked: IndexSet<(u8, u32, u64)>,
 }
 
 impl Model for ViewMarks {
-    ghost use Rattle.dispatcher.specs.Marks.{Marks};
+    ghost use Rattle.std.specs.Prelude.{◌+◌, length};
+    ghost use Rattle.indexmap.specs.IndexSet.{spare};
+    ghost use Rattle.dispatcher.specs.Marks.{KeptMarks};
 
-    ghost Value = { Marks };
+    ghost Value = { KeptMarks };
 
-    ghost view = { λ m. record { confirmed = m.confirmed; acked = m.acked.keys } };
+    ghost view = { λ m. record {
+      marks = record { confirmed = m.confirmed; acked = m.acked.keys };
+      room = length m.acked.keys + spare m.acked;
+    } };
 }
 
 impl ViewMarks {
     /// Nothing came yet. It takes no memory.
     pub(crate) fn new(alloc: Global) -> ViewMarks
-        ensures { result ≡ no_marks }
+        ensures { result.marks ≡ no_marks }
     {
         ViewMarks {
             confirmed: SmallSet::new(),
-            acked: BTreeSet::new(alloc),
+            acked: IndexSet::new(alloc),
         }
     }
 
-    /// What came is forgotten.
+    /// What came is forgotten, and the room stays.
     pub(crate) fn clear(&mut self)
-        ensures { self.new ≡ no_marks }
+        ensures marks { self.new.marks ≡ no_marks }
+        ensures room { self.old.room ≤ self.new.room }
     {
         self.confirmed = SmallSet::new();
         self.acked.clear();
@@ -47,41 +53,48 @@ impl ViewMarks {
 
     /// A switch took this controller as master.
     pub(crate) fn confirm(&mut self, switch: u8)
-        ensures { self.new ≡ confirmed_by self.old switch }
+        ensures { self.new ≡ record self.old { marks = confirmed_by self.old.marks switch } }
     {
         self.confirmed.insert(switch);
     }
 
     /// A switch no longer has this controller as master.
     pub(crate) fn unconfirm(&mut self, switch: u8)
-        ensures { self.new ≡ marks.off_role self.old switch }
+        ensures { self.new ≡ record self.old { marks = marks.off_role self.old.marks switch } }
     {
         self.confirmed.remove(switch);
     }
 
     pub(crate) fn is_confirmed(&self, switch: u8) -> bool
-        ensures { result ≡ is_confirmed self.now switch }
+        ensures { result ≡ is_confirmed self.now.marks switch }
     {
         self.confirmed.contains(switch)
     }
 
     /// Whether a result of a command came.
     pub(crate) fn has_result(&self, switch: u8, life: u32, number: u64) -> bool
-        ensures { result ≡ has_result self.now switch life number }
+        ensures { result ≡ has_result self.now.marks switch life number }
     {
         self.acked.contains(&(switch, life, number))
     }
 
-    /// A result of a command came.
-    pub(crate) fn note_result(
-        &mut self,
-        switch: u8,
-        life: u32,
-        number: u64,
-    ) -> Result<(), AllocError>
-        ensures { OnOk result (self.new ≡ with_mark self.old switch life number) }
+    /// Makes room for so many results more.
+    pub(crate) fn reserve(&mut self, results: usize) -> Result<(), AllocError>
+        ensures marks { self.new.marks ≡ self.old.marks }
+        ensures room { OnOk result (length self.new.marks.acked + results ≤ self.new.room) }
     {
-        self.acked.insert((switch, life, number))?;
-        Ok(())
+        self.acked.reserve(results)
+    }
+
+    /// A result of a command came. Where there is room for it, it is noted.
+    pub(crate) fn note_result(&mut self, switch: u8, life: u32, number: u64)
+        ensures first { has_result self.old.marks switch life number ≡ false → length self.old.marks.acked < self.old.room → self.new.marks ≡ with_mark self.old.marks switch life number }
+        ensures again { has_result self.old.marks switch life number ≡ true → self.new.marks ≡ self.old.marks }
+        ensures room { self.old.room ≤ self.new.room }
+    {
+        if !self.has_result(switch, life, number) {
+            // (It fails only where there is no room, and `fold` makes room for each result that counts.)
+            let _ = self.acked.insert((switch, life, number));
+        }
     }
 }

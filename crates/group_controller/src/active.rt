@@ -374,7 +374,7 @@ impl<A: App> Active<A> {
         requires leads { members.leads self.old.work.state.vr ≡ true }
         ensures { ForEachGroup (BeginsTurn A.law self.old) (λ kinds setup. OnOk result (Works A.law kinds setup self.old (rules.on_result kinds setup self.old.work.state switch life number) self.new)) }
     {
-        if self.dispatcher.on_result(switch, life, number)? {
+        if self.dispatcher.on_result(switch, life, number) {
             self.finish_all()
         } else {
             Ok(())

@@ -19,7 +19,7 @@ use Rattle.app_core.specs.declared.issued.Issued.{Issued}
 use Rattle.controller_moves.proofs.ControllerLaws.Logs.{processed_prefix}
 use Rattle.dispatcher.specs.declared.answers.EventAction.{EventAction}
 use Rattle.dispatcher.specs.declared.answers.EventAction.TheVariants.{Propose, Acknowledge, Nothing}
-use Rattle.dispatcher.specs.Marks.{Marks, confirmed_by, is_confirmed, is_pending, is_wanted, outstanding, with_mark, with_marked_result}
+use Rattle.dispatcher.specs.Marks.{Marks, confirmed_by, has_result, is_confirmed, is_pending, is_wanted, outstanding, with_mark, with_marked_result}
 use Rattle.of_switch.specs.State.{SwitchState, life_of}
 use Rattle.event_buffer.specs.Buffer.{next_number}
 use Rattle.group_controller.specs.declared.messages.ControllerSays.{ControllerSays}
@@ -159,7 +159,7 @@ module _ (kinds : List ℕ) (setup : Setup) (quorum : List ℕ) (f : ℕ) (sw : 
   marked_confirmed : (s life number : ℕ) → (with_marked_result kinds setup (committed c) c.marks s life number).confirmed ≡ c.marks.confirmed
   marked_confirmed s life number =
       cond_both (is_pending kinds setup (committed c) s life number) (with_mark c.marks s life number) c.marks (λ (m : Marks). m.confirmed ≡ c.marks.confirmed)
-      (λ _. refl) (λ _. refl)
+      (λ _. cond_both (has_result c.marks s life number) c.marks _ (λ (m : Marks). m.confirmed ≡ c.marks.confirmed) (λ _. refl) (λ _. refl)) (λ _. refl)
 
   pub result_lowers : (s life number : ℕ) → Lowers (on_result kinds setup d s life number) 1
   result_lowers s life number =

@@ -2,6 +2,7 @@
 use Rattle.std.proofs.Common.{◌≡◌, ◌≤◌, ◌<◌, ◌⊎◌, inl, inr, ℕ, ◌+◌, Bool, true, false, List, [], ◌∷◌, ◌++◌, length, refl, sym, ◌∙◌, ap, subst, arith, append-nil}
 use Rattle.std.specs.Prelude.{nat_eq, nat_lt, nat_le, ◌&&◌, ◌||◌, count_by, None, if◌then◌else◌}
 use Rattle.std.proofs.lemmas.Bool.{and_from, and_parts, cases_eq, eq-eqb, eqb-true, le-leb, lt-ltb, or_cases, or_left, or_right, true≢false}
+use Rattle.std.proofs.lemmas.List.Folds.{list_any-append}
 use Rattle.std.proofs.lemmas.List.Sums.{sum_by-cons}
 use Rattle.list_facts.proofs.Prefixes.{front_prefix}
 use Rattle.of_types.specs.declared.message.Extension.TheVariants as extension
@@ -21,7 +22,6 @@ use Rattle.group_controller.specs.Settling.{after_finishing}
 use Rattle.run_spec.specs.declared.messages.Message.{Message}
 use Rattle.run_spec.specs.declared.messages.Message.TheVariants as message
 use Rattle.closing_laws.specs.Serving.{AreCommanded, AreFew, AreEventsTold, IsMastered, IsAttended, IsSettled, IsTrueOf, IsTruePrimary, events_told, is_reply, results_said, settled_by}
-use Rattle.dispatcher.proofs.Marking.{has_noted}
 use Rattle.closing_laws.proofs.Primary.Committing.{told_is}
 use Rattle.closing_laws.proofs.Primary.Extending.{extends_none}
 use Rattle.closing_laws.proofs.Primary.Finishing.{AreBoundedTo}
@@ -36,21 +36,32 @@ use Rattle.closing_laws.proofs.Primary.Turned.{HasTurned, after_finished, bounde
 -- a mark more
 module _ (marks : Marks) (s life number : ℕ) where
   pub mark_there : has_result (with_mark marks s life number) s life number ≡ true
-  mark_there =
-      let a : nat_eq s s ≡ true = eq-eqb s s refl in
-      let b : nat_eq life life ≡ true = eq-eqb life life refl in
-      let d : nat_eq number number ≡ true = eq-eqb number number refl in
-      has_noted (λ x. nat_eq x.0 s && nat_eq x.1 life && nat_eq x.2 number) marks.acked (s, life, number)
-      ∙ or_right (has_result marks s life number) ((nat_eq s s && nat_eq life life && nat_eq number number) || false) (rw (a, b, d) refl)
+  mark_there = by_old (has_result marks s life number) refl
+    where
+      by_old : (b : Bool) → has_result marks s life number ≡ b → has_result (if b then marks else record marks { acked = marks.acked ++ (s, life, number) ∷ [] }) s life number ≡ true
+      by_old true is = is
+      by_old false is =
+          let a : nat_eq s s ≡ true = eq-eqb s s refl in
+          let b : nat_eq life life ≡ true = eq-eqb life life refl in
+          let d : nat_eq number number ≡ true = eq-eqb number number refl in
+          list_any-append (λ x. nat_eq x.0 s && nat_eq x.1 life && nat_eq x.2 number) marks.acked ((s, life, number) ∷ [])
+          ∙ or_right (has_result marks s life number) ((nat_eq s s && nat_eq life life && nat_eq number number) || false) (rw (a, b, d) refl)
 
   pub mark_kept : (t l i : ℕ) → has_result marks t l i ≡ true → has_result (with_mark marks s life number) t l i ≡ true
-  mark_kept t l i h =
-      has_noted (λ x. nat_eq x.0 t && nat_eq x.1 l && nat_eq x.2 i) marks.acked (s, life, number)
-      ∙ or_left (has_result marks t l i) ((nat_eq s t && nat_eq life l && nat_eq number i) || false) h
+  mark_kept t l i h = by_old (has_result marks s life number)
+    where
+      by_old : (b : Bool) → has_result (if b then marks else record marks { acked = marks.acked ++ (s, life, number) ∷ [] }) t l i ≡ true
+      by_old true = h
+      by_old false =
+          list_any-append (λ x. nat_eq x.0 t && nat_eq x.1 l && nat_eq x.2 i) marks.acked ((s, life, number) ∷ [])
+          ∙ or_left (has_result marks t l i) ((nat_eq s t && nat_eq life l && nat_eq number i) || false) h
 
   pub mark_new : (t l i : ℕ) → has_result (with_mark marks s life number) t l i ≡ true → (has_result marks t l i ≡ true) ⊎ ((s ≡ t) × (life ≡ l) × (number ≡ i))
-  mark_new t l i h =
-      elim (or_cases (has_result marks t l i) ((nat_eq s t && nat_eq life l && nat_eq number i) || false) (sym (has_noted (λ x. nat_eq x.0 t && nat_eq x.1 l && nat_eq x.2 i) marks.acked (s, life, number)) ∙ h)) [
+  mark_new t l i h = by_old (has_result marks s life number) h
+    where
+      by_old : (b : Bool) → has_result (if b then marks else record marks { acked = marks.acked ++ (s, life, number) ∷ [] }) t l i ≡ true → (has_result marks t l i ≡ true) ⊎ ((s ≡ t) × (life ≡ l) × (number ≡ i))
+      by_old true k = inl k
+      by_old false k = elim (or_cases (has_result marks t l i) ((nat_eq s t && nat_eq life l && nat_eq number i) || false) (sym (list_any-append (λ x. nat_eq x.0 t && nat_eq x.1 l && nat_eq x.2 i) marks.acked ((s, life, number) ∷ [])) ∙ k)) [
         | inl old ↦ inl old
         | inr new ↦ elim (or_cases (nat_eq s t && nat_eq life l && nat_eq number i) false new) [
           | inl is ↦
@@ -62,7 +73,11 @@ module _ (marks : Marks) (s life number : ℕ) where
       ]
 
   pub mark_confirmed : (t : ℕ) → is_confirmed (with_mark marks s life number) t ≡ is_confirmed marks t
-  mark_confirmed t = refl
+  mark_confirmed t = by_old (has_result marks s life number)
+    where
+      by_old : (b : Bool) → is_confirmed (if b then marks else record marks { acked = marks.acked ++ (s, life, number) ∷ [] }) t ≡ is_confirmed marks t
+      by_old true = refl
+      by_old false = refl
 
   -- those of other switches are as they were
   pub mark_others : (t l i : ℕ) → (t ≡ s → ⊥) → has_result (with_mark marks s life number) t l i ≡ has_result marks t l i

@@ -12,8 +12,7 @@ use Rattle.vr_log.specs.declared.state.VrState.{VrState}
 use Rattle.vr_log.specs.Log.{is_past_limits}
 use Rattle.vr_log.specs.Members.{is_normal, is_primary, leads, most_failures, others}
 use Rattle.vr_log.specs.Steps.{letter, to_others}
-use Rattle.dispatcher.specs.Marks.{Marks, is_pending, with_mark, with_marked_result}
-use Rattle.dispatcher.proofs.Marking.{in_noted}
+use Rattle.dispatcher.specs.Marks.{Marks, has_result, is_pending, with_mark, with_marked_result}
 use Rattle.group_controller.specs.declared.messages.ControllerInput.{ControllerInput}
 use Rattle.group_controller.specs.declared.messages.ControllerInput.TheVariants as controller_input
 use Rattle.group_controller.specs.declared.messages.ControllerSays.{ControllerSays}
@@ -79,10 +78,15 @@ module _ (kinds : List ℕ) (setup : Setup) (x : ControllerInput) (c : Controlle
       IsIn (s', l', i') (with_marked_result kinds setup log m s l i).acked → HoldsMark x c s' l' i'
   result_marked log m s l i s' l' i' old new =
       cond_both (is_pending kinds setup log s l i) (with_mark m s l i) m (λ (n : Marks). IsIn (s', l', i') n.acked → HoldsMark x c s' l' i')
-      (λ _ k. elim (in_noted (s', l', i') m.acked (s, l, i) k) [
+      (λ _. cond_both (has_result m s l i) m (record m { acked = m.acked ++ (s, l, i) ∷ [] }) (λ (n : Marks). IsIn (s', l', i') n.acked → HoldsMark x c s' l' i')
+      (λ _. old)
+      (λ _ k. elim (in_append (s', l', i') m.acked ((s, l, i) ∷ []) k) [
         | inl a ↦ old a
-        | inr e ↦ subst (λ (t : ℕ × ℕ × ℕ). HoldsMark x c t.0 t.1 t.2) (sym e) new
-      ])
+        | inr b ↦ elim b [
+          | inl e ↦ subst (λ (t : ℕ × ℕ × ℕ). HoldsMark x c t.0 t.1 t.2) (sym e) new
+          | inr none ↦ absurd none
+        ]
+      ]))
       (λ _. old)
 
   -- an entry that is proposed

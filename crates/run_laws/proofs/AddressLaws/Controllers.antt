@@ -25,7 +25,7 @@ use Rattle.vr_core.specs.Step.{vr_step}
 use Rattle.app_core.specs.declared.issued.Issued.{Issued}
 use Rattle.dispatcher.specs.declared.answers.EventAction.{EventAction}
 use Rattle.dispatcher.specs.declared.answers.EventAction.TheVariants.{Propose, Acknowledge, Nothing}
-use Rattle.dispatcher.specs.Marks.{Marks, no_marks, is_confirmed, confirmed_by, is_pending, with_mark, with_marked_result, outstanding}
+use Rattle.dispatcher.specs.Marks.{Marks, no_marks, is_confirmed, confirmed_by, is_pending, has_result, with_mark, with_marked_result, outstanding}
 use Rattle.dispatcher.specs.Folding.{wish}
 use Rattle.group_controller.specs.declared.messages.ControllerInput.{ControllerInput}
 use Rattle.group_controller.specs.declared.messages.ControllerInput.TheVariants as controller_input
@@ -92,7 +92,7 @@ module _ (kinds : List ℕ) (setup : Setup) where
   marked : (log : _) (marks : Marks) (switch life number : ℕ) → AreSwitches setup marks.confirmed → AreSwitches setup (with_marked_result kinds setup log marks switch life number).confirmed
   marked log marks switch life number h =
       cond_both (is_pending kinds setup log switch life number) (with_mark marks switch life number) marks (λ (m : Marks). AreSwitches setup m.confirmed)
-      (λ _. h) (λ _. h)
+      (λ _. cond_both (has_result marks switch life number) marks _ (λ (m : Marks). AreSwitches setup m.confirmed) (λ _. h) (λ _. h)) (λ _. h)
 
   results : (c : ControllerState) (switch life number : ℕ) → KnowsSwitches setup c → Ends (on_result kinds setup c switch life number)
   results c switch life number k =

@@ -15,7 +15,7 @@ use Rattle.of_types.specs.declared.setup.Setup.{Setup}
 use Rattle.of_types.specs.Lives.{last_life}
 use Rattle.journal.specs.declared.journal.Local.{Local}
 use Rattle.journal.specs.declared.journal.Local.TheVariants as local
-use Rattle.dispatcher.proofs.Marking.{in_noted}
+use Rattle.list_facts.proofs.Elements.{in_append}
 use Rattle.list_facts.specs.Lists.{IsIn}
 use Rattle.vr_log.specs.declared.entry.Entry.{Entry}
 use Rattle.vr_log.specs.declared.entry.Entry.TheVariants.{Received}
@@ -26,7 +26,7 @@ use Rattle.vr_recovery.specs.Recovering.{restarted}
 use Rattle.dispatcher.specs.declared.answers.EventAction.{EventAction}
 use Rattle.dispatcher.specs.declared.answers.EventAction.TheVariants.{Propose, Acknowledge, Nothing}
 use Rattle.dispatcher.specs.Folding.{wish}
-use Rattle.dispatcher.specs.Marks.{Marks, no_marks, outstanding, is_pending, with_mark, with_marked_result}
+use Rattle.dispatcher.specs.Marks.{Marks, no_marks, outstanding, has_result, is_pending, with_mark, with_marked_result}
 use Rattle.group_controller.specs.declared.messages.ControllerInput.{ControllerInput}
 use Rattle.group_controller.specs.declared.messages.ControllerInput.TheVariants as controller_input
 use Rattle.group_controller.specs.State.{ControllerState, Work, committed, fresh, met_limit, with_no_met_limit, resting, posting_work, leaving, to_switch, stepped}
@@ -112,25 +112,29 @@ module _ (kinds : List ℕ) (setup : Setup) where
         (subst (λ (m : Marks). IsIn (s, l, i) m.acked) (finish_marks (length (received c.vr.log)) (resting (record c { marks = with_marked_result kinds setup (committed c) c.marks switch life number }))) h))
         (λ _. (λ s l i h. inl h))
       where
-        by_new : (s l i : ℕ) → IsIn (s, l, i) (with_mark c.marks switch life number).acked → IsMarked c x s l i
-        by_new s l i h =
-            elim (in_noted (s, l, i) c.marks.acked (switch, life, number) h) [
+        by_new : (b : Bool) (s l i : ℕ) → IsIn (s, l, i) (if b then c.marks else record c.marks { acked = c.marks.acked ++ (switch, life, number) ∷ [] }).acked → IsMarked c x s l i
+        by_new true s l i h = inl h
+        by_new false s l i h =
+            elim (in_append (s, l, i) c.marks.acked ((switch, life, number) ∷ []) h) [
               | inl k ↦ inl k
-              | inr e ↦
-                  let p = pair_is (s, l, i) (switch, life, number) e in
-                  inr (
-                    xid,
-                    outcome,
-                    is
-                        ∙ ap (λ (n : ℕ). controller_input.Of n xid (spoken.Ravana (extension.CmdAck life number outcome))) (sym p.0)
-                        ∙ ap (λ (n : ℕ). controller_input.Of s xid (spoken.Ravana (extension.CmdAck n number outcome))) (sym p.1)
-                        ∙ ap (λ (n : ℕ). controller_input.Of s xid (spoken.Ravana (extension.CmdAck l n outcome))) (sym p.2),
-                  )
+              | inr k ↦ elim k [
+                | inl e ↦
+                    let p = pair_is (s, l, i) (switch, life, number) e in
+                    inr (
+                      xid,
+                      outcome,
+                      is
+                          ∙ ap (λ (n : ℕ). controller_input.Of n xid (spoken.Ravana (extension.CmdAck life number outcome))) (sym p.0)
+                          ∙ ap (λ (n : ℕ). controller_input.Of s xid (spoken.Ravana (extension.CmdAck n number outcome))) (sym p.1)
+                          ∙ ap (λ (n : ℕ). controller_input.Of s xid (spoken.Ravana (extension.CmdAck l n outcome))) (sym p.2),
+                    )
+                | inr none ↦ absurd none
+              ]
             ]
 
         by_pending : (b : Bool) (s l i : ℕ) → IsIn (s, l, i) (if b then with_mark c.marks switch life number else c.marks).acked → IsMarked c x s l i
         by_pending false s l i h = inl h
-        by_pending true s l i h = by_new s l i h
+        by_pending true s l i h = by_new (has_result c.marks switch life number) s l i h
 
     extension_marks : (switch xid : ℕ) (m : Extension) → x ≡ controller_input.Of switch xid (spoken.Ravana m) → Comes (on_extension kinds setup c switch m)
     extension_marks switch xid (extension.Event life number what) is =

@@ -3,4 +3,4 @@ use Rattle.dispatcher.specs.Ledger.{as_numbered, is_outstanding}
 use Rattle.dispatcher.proofs.commands.outstanding.Given as goal
 
 abbrev pub invariant-loop-command : goal.invariant-loop-command
-invariant-loop-command l = l.list.items ≡ map (as_numbered l.ledger) (filter (is_outstanding l.ledger l.marks) (take l.command-index l.command-items))
+invariant-loop-command l = l.list.items ≡ map (as_numbered l.ledger) (filter (is_outstanding l.ledger l.marks.marks) (take l.command-index l.command-items))

@@ -5,4 +5,4 @@ use Rattle.dispatcher.proofs.commands.outstanding_on.Given as goal
 
 abbrev pub invariant-loop-command : goal.invariant-loop-command
 invariant-loop-command l =
-    l.list.items ≡ map (as_numbered l.ledger) (filter (λ x. is_outstanding l.ledger l.marks x && nat_eq x.switch l.switch) (take l.command-index l.command-items))
+    l.list.items ≡ map (as_numbered l.ledger) (filter (λ x. is_outstanding l.ledger l.marks.marks x && nat_eq x.switch l.switch) (take l.command-index l.command-items))

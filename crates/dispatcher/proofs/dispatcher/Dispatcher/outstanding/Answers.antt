@@ -11,5 +11,5 @@ pub returns : goal.returns
 returns g c = λ kinds setup log stands.
     let inside : StandsFor g.A.App.law _ kinds setup log =
     subst (λ d. StandsFor g.A.App.law d kinds setup log) (sym c.self.view_is) stands in
-    let is = outstanding_is kinds setup log c.self.inside.ledger inside.ledger c.self.inside.marks ∙ ap (λ (d : Dispatching _). map (numbered kinds setup log) (outstanding kinds setup log d.marks)) c.self.view_is in
+    let is = outstanding_is kinds setup log c.self.inside.ledger inside.ledger c.self.inside.marks.marks ∙ ap (λ (d : Dispatching _). map (numbered kinds setup log) (outstanding kinds setup log d.marks)) c.self.view_is in
     subst (λ (l : List NumberedOrder). IfOk c.outstanding.result (λ list. list.items ≡ l)) is c.outstanding.ensures

@@ -11,6 +11,6 @@ pub returns : goal.returns
 returns g c = λ kinds setup log stands.
     let inside : StandsFor g.A.App.law _ kinds setup log =
     subst (λ d. StandsFor g.A.App.law d kinds setup log) (sym c.self.view_is) stands in
-    let is = outstanding_on_is kinds setup log c.self.inside.ledger inside.ledger c.self.inside.marks c.args.switch
+    let is = outstanding_on_is kinds setup log c.self.inside.ledger inside.ledger c.self.inside.marks.marks c.args.switch
     ∙ ap (λ (d : Dispatching _). map (numbered kinds setup log) (filter (λ x. nat_eq x.switch c.args.switch) (outstanding kinds setup log d.marks))) c.self.view_is in
     subst (λ (l : List NumberedOrder). IfOk c.outstanding_on.result (λ list. list.items ≡ l)) is c.outstanding_on.ensures

@@ -1,4 +1,5 @@
 pub mod Counting
+pub mod Finding
 pub mod Handling
 pub mod Ledgers
 pub mod Numbering

@@ -62,7 +62,7 @@ map_same : {A B : Type 0} (f g : A → B) (xs : List A) → ((x : A) → f x ≡
 map_same f g [] e = refl
 map_same f g (x ∷ xs) e = ap (λ y. y ∷ map f xs) (e x) ∙ ap (λ l. g x ∷ l) (map_same f g xs e)
 
-any_same : {A : Type 0} (p q : A → Bool) (xs : List A) → ((x : A) → p x ≡ q x) → list_any p xs ≡ list_any q xs
+pub any_same : {A : Type 0} (p q : A → Bool) (xs : List A) → ((x : A) → p x ≡ q x) → list_any p xs ≡ list_any q xs
 any_same p q [] e = refl
 any_same p q (x ∷ xs) e = rw (e x, any_same p q xs e) refl
 

@@ -3,9 +3,9 @@ ghost use Rattle.std.specs.Prelude.{◌≡◌, ◌+◌, ◌<◌, ◌≤◌, fals
 ghost use Rattle.dispatcher.specs.Marks as marks;
 ghost use Rattle.dispatcher.specs.Marks.{confirmed_by, has_result, is_confirmed, no_marks, with_mark};
 
-use indexmap::IndexSet;
 use of_types::SmallSet;
 use std::alloc::{AllocError, Global};
+use std::collections::HashSet;
 use std::marker::Model;
 
 /// What came from switches in a view: which of them took this controller as master, and of which commands results
@@ -14,21 +14,27 @@ use std::marker::Model;
 pub(crate) struct ViewMarks {
     /// The switches that took this controller as master.
     confirmed: SmallSet,
-    /// The commands of which results came, by switch, life and number.
-    acked: IndexSet<(u8, u32, u64)>,
+    /// The commands of which results came, in the order in which they first did.
+    acked: Vec<(u8, u32, u64)>,
+    /// The same commands, as they are found.
+    found: HashSet<(u8, u32, u64)>,
 }
 
 impl Model for ViewMarks {
-    ghost use Rattle.std.specs.Prelude.{◌+◌, length};
-    ghost use Rattle.indexmap.specs.IndexSet.{spare};
+    ghost use Rattle.std.specs.Prelude.{◌+◌, length, min};
+    ghost use Rattle.std.specs.List.Sorted.{IsPermutation};
+    ghost use Rattle.std.specs.HashSet.{spare};
+    ghost use Rattle.std.specs.Vec.{vec_capacity};
     ghost use Rattle.dispatcher.specs.Marks.{KeptMarks};
 
     ghost Value = { KeptMarks };
 
     ghost view = { λ m. record {
-      marks = record { confirmed = m.confirmed; acked = m.acked.keys };
-      room = length m.acked.keys + spare m.acked;
+      marks = record { confirmed = m.confirmed; acked = m.acked.items };
+      room = min (vec_capacity m.acked) (length m.found.keys + spare m.found);
     } };
+
+    ghost invariant = { λ m. IsPermutation m.acked.items m.found.keys };
 }
 
 impl ViewMarks {
@@ -38,7 +44,8 @@ impl ViewMarks {
     {
         ViewMarks {
             confirmed: SmallSet::new(),
-            acked: IndexSet::new(alloc),
+            acked: Vec::new(alloc),
+            found: HashSet::new(alloc),
         }
     }
 
@@ -49,6 +56,7 @@ impl ViewMarks {
     {
         self.confirmed = SmallSet::new();
         self.acked.clear();
+        self.found.clear();
     }
 
     /// A switch took this controller as master.
@@ -75,7 +83,7 @@ impl ViewMarks {
     pub(crate) fn has_result(&self, switch: u8, life: u32, number: u64) -> bool
         ensures { result ≡ has_result self.now.marks switch life number }
     {
-        self.acked.contains(&(switch, life, number))
+        self.found.contains(&(switch, life, number))
     }
 
     /// Makes room for so many results more.
@@ -83,7 +91,8 @@ impl ViewMarks {
         ensures marks { self.new.marks ≡ self.old.marks }
         ensures room { OnOk result (length self.new.marks.acked + results ≤ self.new.room) }
     {
-        self.acked.reserve(results)
+        self.acked.reserve(results)?;
+        self.found.reserve(results)
     }
 
     /// A result of a command came. Where there is room for it, it is noted.
@@ -92,9 +101,13 @@ impl ViewMarks {
         ensures again { has_result self.old.marks switch life number ≡ true → self.new.marks ≡ self.old.marks }
         ensures room { self.old.room ≤ self.new.room }
     {
-        if !self.has_result(switch, life, number) {
-            // (It fails only where there is no room, and `fold` makes room for each result that counts.)
-            let _ = self.acked.insert((switch, life, number));
+        if self.has_result(switch, life, number) || self.acked.len() == self.acked.capacity() {
+            return;
+        }
+        // (They fail only where there is no room, and `fold` makes room for each result that counts.)
+        let command = (switch, life, number);
+        if self.found.insert(command).is_ok() {
+            let _ = self.acked.push(command);
         }
     }
 }

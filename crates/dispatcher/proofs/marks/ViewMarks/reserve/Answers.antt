@@ -1,0 +1,17 @@
+use Rattle.std.proofs.Common.{ap, arith, length, sym, subst, IsPermutation}
+use Rattle.std.proofs.lemmas.List.Sorted.{IsPermutation-trans, length_permutation}
+use Rattle.std.proofs.lemmas.Result.{on_ok_weaker}
+use Rattle.dispatcher.proofs.marks.ViewMarks.reserve.Goals as goal
+
+pub invariant_of-self-2 : goal.invariant_of-self-2
+invariant_of-self-2 c =
+    subst (λ l. IsPermutation l c.reserve-2.new.self.keys) (sym c.reserve.ensures.items)
+    (IsPermutation-trans c.self.inside.acked.items c.self.inside.found.keys c.reserve-2.new.self.keys c.self.invariant c.reserve-2.ensures.keys.0)
+
+pub returns-clause-room : goal.returns-clause-room
+returns-clause-room c =
+    let reserved = c.in_ok-reserve.ensures.ok in
+    let same = c.reserve.ensures.items in
+    let long = c.reserve-2.ensures.keys.1 in
+    let both = length_permutation c.self.inside.acked.items c.self.inside.found.keys c.self.invariant in
+    on_ok_weaker c.reserve-2.result (λ spare. omega (arith, reserved, ap length same, long, both, spare)) c.reserve-2.ensures.ok

@@ -14,7 +14,7 @@ use crate::place::{PacketPlace, body_at};
 use crate::pool::{self, Sums};
 use crate::queues::Queues;
 use crate::wire::{BYTES_LIMIT, LETTERS_LIMIT, Refused, Stop};
-use std::alloc::Global;
+use std::alloc::{AllocError, Global};
 
 /// What is to be written of a post: how many letters are lost, and the sums with it.
 #[derive(Clone, Copy)]
@@ -122,6 +122,16 @@ impl<B: Weight> Ledger<B> {
             posted,
             waiting,
         })
+    }
+
+    /// Makes memory for the entry of a step, and for that of a refusal.
+    pub fn reserve(&mut self) -> Result<(), AllocError>
+        requires kept { IsLedger B.size self.old }
+        ensures kept { IsLedger B.size self.new }
+        ensures entries { self.new.entries.items ≡ self.old.entries.items }
+        ensures room { OnOk result (vec_len self.new.entries + 2 ≤ vec_capacity self.new.entries) }
+    {
+        self.entries.reserve(2)
     }
 
     /// Posts an outbox, with memory for `more` further entries. An `Err` changes nothing, and gives the

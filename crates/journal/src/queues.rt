@@ -39,6 +39,9 @@ fn pick(queue: &mut VecDeque<PacketPlace>, choice: u64, keep: bool) -> Option<Pa
     let index = (choice % count) as usize;
     if keep {
         queue.get(index).copied()
+    } else if index == 0 {
+        // Most packets are drawn so, and this takes less than to close a gap.
+        queue.pop_front()
     } else {
         queue.remove(index)
     }

@@ -1,9 +1,9 @@
 //! The journal beside the queues of what waits: what one turn of an actor adds to it.
-ghost use Rattle.std.specs.Prelude.{◌≡◌, [], ◌∷◌, ◌++◌, slice_get, OnOk, IfOk, IfErr, IfSome, IsSome};
+ghost use Rattle.std.specs.Prelude.{◌≡◌, [], ◌∷◌, ◌++◌, slice_get, OnOk, IfOk, IfErr, OnErr, IfSome, IsSome};
 ghost use Rattle.journal.specs.Pool.{past, pool, pick};
 ghost use Rattle.journal.specs.Orderly.{IsOrderly};
 ghost use Rattle.journal.specs.Refusals.{MayBeRefused};
-ghost use Rattle.journal.specs.Turns.{posting, posted, turn_actor, turn_entries, IsWithinLimits};
+ghost use Rattle.journal.specs.Turns.{entry_of, posting, posted, turn_actor, turn_entries, IsWithinLimits};
 ghost use Rattle.journal.specs.Answers.{RefusedBy};
 ghost use Rattle.journal.specs.Places.{packet_at, IsFound};
 ghost use Rattle.journal.specs.Ledger.{found_in};
@@ -131,6 +131,16 @@ impl<B: Weight> Wire<B> {
         ensures err { IfErr result (λ r. (self.new ≡ self.old) × (r.post ≡ post) × RefusedBy B.size r.cause post (past self.old)) }
     {
         self.ledger.post(actor, post, 0)
+    }
+
+    /// Takes a step, behind all that was posted. An `Err` changes nothing.
+    pub fn take(&mut self, step: Turn) -> Result<(), AllocError>
+        ensures ok { OnOk result (self.new ≡ self.old ++ entry_of step (past self.old) ∷ []) }
+        ensures err { OnErr result (self.new ≡ self.old) }
+    {
+        self.ledger.reserve()?;
+        let _ = self.ledger.take(step);
+        Ok(())
     }
 
     /// Posts, and then draws the packet of a choice, if one waits for the actor. Where `keep`, it goes on

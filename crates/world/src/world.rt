@@ -25,7 +25,7 @@ use app_core::App;
 use group_controller::{Controller, ControllerInput};
 use journal::{Actor, Journal, JournalEntry, Local, PacketPlace, Stable, Stop, Turn, Wire};
 use of_switch::{Switch, SwitchInput};
-use of_types::{Items, Setup};
+use of_types::Setup;
 use players::{Body, Player, heard};
 use std::alloc::{AllocError, Global};
 use std::marker::Model;
@@ -234,25 +234,15 @@ impl<B: Body, A: App> World<B, A> {
         heard::<P, B>(self.alloc, place.from, place.to, self.wire.body(place))
     }
 
-    /// The entry of a step is written, with room for that of a refusal. (An empty outbox fits every journal: it fails for want of
-    /// memory alone.)
+    /// The entry of a step is written, with room for that of a refusal.
     fn enter(&mut self, turn: Turn) -> Result<(), AllocError>
         ensures enters { OnOk result (self.new ≡ record self.old { journal = taken turn self.old.journal }) }
         ensures orderly { IsOrderly B.sealing.size (past self.new.journal) }
         ensures wants { OnErr result (self.new ≡ self.old) }
     {
-        let none = Items::new(self.alloc);
-        let entered = match turn {
-            Turn::Draw {
-                actor,
-                choice,
-                keep,
-            } => self.wire.draw(actor, none, choice, keep).is_ok(),
-            Turn::Lose { actor, choice } => self.wire.lose(actor, none, choice).is_ok(),
-            Turn::Local { actor, input } => self.wire.local(actor, none, input).is_ok(),
-        };
+        let entered = self.wire.take(turn);
         self.wire.lawful();
-        if entered { Ok(()) } else { Err(AllocError) }
+        entered
     }
 
     /// A controller takes the input of the newest entry. What it says is owed from then on. Where it finds no memory it is down,

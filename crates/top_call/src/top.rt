@@ -57,13 +57,11 @@ pub fn ravana<
 ) -> u8
     requires chains { (kinds : List ℕ) × AreChains A.law kinds chains.items }
     requires fresh { AreFresh W.saving stables.old.items }
-    ensures answer { ForChains A.law chains.items (λ kinds. IsAnswered kinds (StablesTell W.saving stables.old.items stables.new.items)
-        (map string_bytes words.now) (stream S.left S.faults source.old source.new) (stream K.taken K.faults sink.old sink.new) result) }
+    ensures answer { ForChains A.law chains.items (λ kinds. IsAnswered kinds (StablesTell W.saving stables.old.items stables.new.items) (map string_bytes words.now) (stream S.left S.faults source.old source.new) (stream K.taken K.faults sink.old sink.new) result) }
     ensures usage { result ≡ 2 → IsUnserved (map string_bytes words.now) }
     ensures words { IsUnserved (map string_bytes words.now) → Contains statuses_of_usage result }
     ensures audit { IsAudit (map string_bytes words.now) → Contains statuses_of_audit result }
-    ensures complete { ForChains A.law chains.items (λ kinds. IsCompleted kinds (map string_bytes words.now)
-        (stream S.left S.faults source.old source.new) (stream K.taken K.faults sink.old sink.new) (AreCalm W.saving stables.old.items stables.new.items) result) }
+    ensures complete { ForChains A.law chains.items (λ kinds. IsCompleted kinds (map string_bytes words.now) (stream S.left S.faults source.old source.new) (stream K.taken K.faults sink.old sink.new) (AreCalm W.saving stables.old.items stables.new.items) result) }
     ensures made { IsOfFourNumbers (map string_bytes words.now) → Contains statuses_of_made result }
     ensures unread { result ≡ 4 → Rose (S.faults source.old) (S.faults source.new) }
     ensures unwritten { result ≡ 5 → Rose (K.faults sink.old) (K.faults sink.new) }
@@ -82,8 +80,7 @@ pub fn ravana<
 
     // What needs no source is told by the sink alone.
     ensures lines { IsWritten (K.taken sink.old) (K.taken sink.new) (IsOneLine result) }
-    ensures numbers { ForChains A.law chains.items (λ kinds. IsMadeOfNumbers kinds (StablesTell W.saving stables.old.items stables.new.items)
-        (map string_bytes words.now) (stream S.left S.faults source.old source.new) (stream K.taken K.faults sink.old sink.new) result) }
+    ensures numbers { ForChains A.law chains.items (λ kinds. IsMadeOfNumbers kinds (StablesTell W.saving stables.old.items stables.new.items) (map string_bytes words.now) (stream S.left S.faults source.old source.new) (stream K.taken K.faults sink.old sink.new) result) }
 {
     let Ok(ending) = outcome(rt, alloc, gate, words, source, stables, chains, remains) else {
         return NO_MEMORY;

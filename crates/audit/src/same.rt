@@ -10,7 +10,7 @@ pub fn same_order(a: &Order, b: &Order) -> bool
     ensures { result ≡ orders.same_order a.now b.now }
 {
     match (a, b) {
-        (Order::FlowMod(a), Order::FlowMod(b)) => same_flow_mod(a, b),
+        (Order::FlowMod(a), Order::FlowMod(b)) => same_flow_mod(a.get(), b.get()),
         (Order::PacketOut(a), Order::PacketOut(b)) => same_packet_out(a, b),
         _ => false,
     }

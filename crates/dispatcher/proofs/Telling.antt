@@ -1,5 +1,5 @@
 -- The switches that are told of settled commands, one switch after another.
-use Rattle.std.proofs.Common.{◌≡◌, ◌<◌, ℕ, ◌+◌, Bool, true, false, List, [], ◌∷◌, ◌++◌, length, take, set, get_or, map, filter, refl, sym, ap, ◌∙◌, arith, append-nil, inl, inr}
+use Rattle.std.proofs.Common.{◌≡◌, ◌<◌, ◌≤◌, ℕ, zero, suc, ◌+◌, Bool, true, false, List, [], ◌∷◌, ◌++◌, length, take, set, get_or, map, filter, refl, sym, ap, ◌∙◌, arith, append-nil, inl, inr}
 use Rattle.std.specs.Prelude.{nat_eq, nat_lt, not, ◌&&◌, ◌||◌, if◌then◌else◌}
 use Rattle.std.specs.List.{range_with_len}
 use Rattle.std.proofs.Math.Bool.{or-true, or-false, and-false}
@@ -10,7 +10,7 @@ use Rattle.std.proofs.lemmas.List.{map-append}
 use Rattle.std.proofs.lemmas.List.FromFn.{map-range_with_len_more}
 use Rattle.app_core.specs.declared.issued.Issued.{Issued}
 use Rattle.dispatcher.specs.declared.ledger.Ledger.{Ledger}
-use Rattle.dispatcher.specs.Ledger.{cleared_of_life, has_told}
+use Rattle.dispatcher.specs.Ledger.{cleared_of_life, has_told, is_named}
 
 -- one number more of those from 0 on
 pub range_more : (n : ℕ) → range_with_len 0 (n + 1) ≡ range_with_len 0 n ++ n ∷ []
@@ -43,6 +43,28 @@ module _ (ledger : Ledger) (commands : List Issued) (n : ℕ) where
   told_no e =
       ap (λ (l : List ℕ). map (cleared_of_life ledger) l)
       (grown ∙ ap (λ (b : Bool). filter (has_told ledger commands) (range_with_len 0 n) ++ (if b then n ∷ [] else [])) e ∙ append-nil (filter (has_told ledger commands) (range_with_len 0 n)))
+
+-- a switch that has no command is not told
+pub unnamed : (ledger : Ledger) (commands : List Issued) (n : ℕ) → is_named commands n ≡ false → has_told ledger commands n ≡ false
+unnamed ledger [] n e = refl
+unnamed ledger (x ∷ xs) n e =
+    let none = neither (nat_eq x.switch n) (is_named xs n) e in
+    ap (λ (b : Bool). (b && not (nat_lt x.life (get_or ledger.lives x.switch 0))) || has_told ledger xs n) none.0 ∙ unnamed ledger xs n none.1
+  where
+    neither : (a b : Bool) → (a || b) ≡ false → (a ≡ false) × (b ≡ false)
+    neither false b e = (refl, e)
+    neither true false e = (e, refl)
+    neither true true e = (e, e)
+
+-- nor are so many switches more, of which none has a command
+pub none_told : (ledger : Ledger) (commands : List Issued) (n more : ℕ) → ((k : ℕ) → n ≤ k → k < n + more → is_named commands k ≡ false) →
+    map (cleared_of_life ledger) (filter (has_told ledger commands) (range_with_len 0 (n + more))) ≡ map (cleared_of_life ledger) (filter (has_told ledger commands) (range_with_len 0 n))
+none_told ledger commands n zero none = ap (λ (k : ℕ). map (cleared_of_life ledger) (filter (has_told ledger commands) (range_with_len 0 k))) (omega arith)
+none_told ledger commands n (suc more) none =
+    let before : n + suc more ≡ n + more + 1 = omega arith in
+    ap (λ (k : ℕ). map (cleared_of_life ledger) (filter (has_told ledger commands) (range_with_len 0 k))) before
+    ∙ told_no ledger commands (n + more) (unnamed ledger commands (n + more) (none (n + more) (omega arith) (omega arith)))
+    ∙ none_told ledger commands n more (λ k from below. none k from (omega arith))
 
 -- which switches have a command of their present life, one command more
 module _ (ledger : Ledger) (commands : List Issued) (i : ℕ) (x : Issued) (within : i < length commands) (is : x ≡ get_or commands i x) where

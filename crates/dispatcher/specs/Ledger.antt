@@ -123,6 +123,10 @@ abbrev pub as_numbered : Ledger → Issued → NumberedOrder
 as_numbered ledger x =
     record { switch = x.switch; life = x.life; number = x.number; settled = (counts_of ledger.counts x.switch x.life).settled; order = x.order }
 
+-- a switch has one of these commands
+abbrev pub is_named : List Issued → ℕ → Bool
+is_named commands switch = list_any (λ x. nat_eq x.switch switch) commands
+
 -- the present life of a switch has one of these commands
 abbrev pub has_told : Ledger → List Issued → ℕ → Bool
 has_told ledger commands switch = list_any (λ x. nat_eq x.switch switch && not (nat_lt x.life (get_or ledger.lives x.switch 0))) commands

@@ -1,7 +1,7 @@
 //! The commands of the first event that is not processed.
-ghost use Rattle.std.specs.Prelude.{◌≡◌, ◌<◌, ℕ, false, ◌&&◌, map, filter, count_by, nat_eq, nat_lt, get_or, length, IfOk};
+ghost use Rattle.std.specs.Prelude.{◌≡◌, ◌<◌, ◌≤◌, ℕ, false, ◌&&◌, map, filter, count_by, nat_eq, nat_lt, get_or, length, IfOk};
 ghost use Rattle.std.specs.List.{range_with_len};
-ghost use Rattle.dispatcher.specs.Ledger.{as_numbered, cleared_of_life, first_commands, has_told, is_outstanding, wants};
+ghost use Rattle.dispatcher.specs.Ledger.{as_numbered, cleared_of_life, first_commands, has_told, is_named, is_outstanding, wants};
 
 use crate::answers::AckThrough;
 use crate::ledger::Ledger;
@@ -67,8 +67,9 @@ pub(crate) fn clears(
     ensures { IfOk result (λ list. list.items ≡ map (cleared_of_life ledger.now) (filter (has_told ledger.now commands.now) (range_with_len 0 switches))) }
 {
     let told = told_switches(ledger, commands);
+    let (first, end) = span_of(switches, commands);
     let mut list = Vec::new(alloc);
-    for switch in 0..switches {
+    for switch in first..end {
         if told[usize::from(switch)] {
             list.push(cleared(ledger, switch))?;
         }
@@ -116,6 +117,20 @@ fn told_switches(ledger: &Ledger, commands: &[Issued]) -> [bool; 256]
         }
     }
     told
+}
+
+/// Between which numbers the switches of commands lie, of so many: from the first one on, and below the second.
+fn span_of(switches: u8, commands: &[Issued]) -> (u8, u8)
+    ensures within { (result.0 ≤ switches) × (result.1 ≤ switches) }
+    ensures below { (switch : ℕ) → switch < result.0 → is_named commands.now switch ≡ false }
+    ensures above { (switch : ℕ) → result.1 ≤ switch → switch < switches → is_named commands.now switch ≡ false }
+{
+    let (mut first, mut end) = (switches, 0);
+    for command in commands {
+        first = first.min(command.switch);
+        end = end.max(command.switch.saturating_add(1).min(switches));
+    }
+    (first, end)
 }
 
 /// How many commands of the present life of a switch are settled.

@@ -1,5 +1,5 @@
 //! The dispatcher of a primary.
-ghost use Rattle.std.specs.Prelude.{◌≡◌, ◌≤◌, ◌∷◌, ◌++◌, [], Option, Some, None, map, filter, nat_eq, true, IfOk, if◌then◌else◌};
+ghost use Rattle.std.specs.Prelude.{◌≡◌, ◌≤◌, ◌∷◌, ◌++◌, [], Option, Some, None, map, filter, nat_eq, true, IfOk, if◌then◌else◌, OnOk};
 ghost use Rattle.of_types.specs.declared.setup.Setup.{Setup};
 ghost use Rattle.of_types.specs.Setups.{IsSetup};
 ghost use Rattle.of_types.specs.Lives.{has_ended};
@@ -106,6 +106,18 @@ impl<A: App> Dispatcher<A> {
             }
         }
         Ok(processed)
+    }
+
+    /// These entries more are committed, and nobody is to be answered.
+    pub fn fold_all(&mut self, entries: &[Entry]) -> Result<(), AllocError>
+        ensures folds { ForEachLog (StandsFor A.law self.old) (λ kinds setup log. follows log entries.now ≡ true →
+            OnOk result (StandsFor A.law self.new kinds setup (log ++ entries.now))) }
+        ensures marks { self.new.marks ≡ self.old.marks }
+    {
+        'entries: for entry in entries {
+            drop(self.fold(entry)?);
+        }
+        Ok(())
     }
 
     /// The application, for another dispatcher that starts it.

@@ -1,5 +1,5 @@
 //! Which frames a rule denies, and the rows that drop them.
-ghost use Rattle.std.specs.Prelude.{◌≡◌, ◌++◌, ℕ, List, Some, position, slice_get, option_map, option_to_list, OnOk};
+ghost use Rattle.std.specs.Prelude.{◌≡◌, ◌++◌, ℕ, List, Some, position, slice_get, option_map, option_to_list, OnOk, IfOk};
 ghost use Rattle.of_types.specs.Header.{fields_of};
 ghost use Rattle.of_types.specs.Matching.{has_value, matches};
 ghost use Rattle.of_types.specs.Setups.{IsRule};
@@ -10,7 +10,7 @@ ghost use Rattle.of_types.specs.declared.setup.Setup.{Setup};
 use crate::prefix::{is_within, matched_prefix};
 use app_core::flow_mod;
 use of_types::{
-    ANY_PORT, Command, Commands, Fields, FlowCommand, Happening, IPV4, Items, Match, Rule, TCP,
+    ANY_PORT, Actions, Command, Commands, Fields, FlowCommand, Happening, IPV4, Match, Rule, TCP,
     UDP, any_match, fields,
 };
 use std::alloc::{AllocError, Global};
@@ -137,17 +137,18 @@ fn denied_match(rule: &Rule) -> Match
 }
 
 /// The row of a switch that drops what a rule denies.
-fn dropping_row(alloc: Global, rule: &Rule, switch: u8) -> Command
-    ensures { result ≡ dropping_row rule.now switch }
+fn dropping_row(alloc: Global, rule: &Rule, switch: u8) -> Result<Command, AllocError>
+    ensures { IfOk result (λ row. row ≡ dropping_row rule.now switch) }
 {
     flow_mod(
+        alloc,
         switch,
         1,
         FlowCommand::Add,
         100,
         ANY_PORT,
         denied_match(rule),
-        Items::new(alloc),
+        Actions::new(alloc),
     )
 }
 
@@ -162,7 +163,7 @@ fn drop_denied(
     ensures { OnOk result (out.new ≡ out.old ++ dropping_rows switches (Some rule.now)) }
 {
     for switch in 0..switches {
-        out.push(dropping_row(alloc, rule, switch))?;
+        out.push(dropping_row(alloc, rule, switch)?)?;
     }
     Ok(())
 }
@@ -179,7 +180,7 @@ fn drop_at(
 {
     match rules.get(place) {
         Some(rule) => {
-            out.push(dropping_row(alloc, rule, switch))?;
+            out.push(dropping_row(alloc, rule, switch)?)?;
             Ok(())
         }
         None => Ok(()),

@@ -5,7 +5,7 @@ ghost use Rattle.flow_table.specs.Table.{table_miss, table_step, table_after, is
 use crate::changes::{add_row, delete_rows, modify_rows};
 use crate::faults::table_fault;
 use crate::rows::{Rows, TableFault};
-use of_types::{Fields, FlowCommand, FlowMod, Items, Row, TO_CONTROLLER, any_match, matches};
+use of_types::{Actions, Fields, FlowCommand, FlowMod, Row, TO_CONTROLLER, any_match, matches};
 use std::alloc::{AllocError, Global};
 use std::marker::Model;
 
@@ -16,7 +16,7 @@ pub const MOST_ROWS: usize = 2048;
 pub fn table_miss(alloc: Global) -> Result<Row, AllocError>
     ensures { IfOk result (λ row. row ≡ table_miss) }
 {
-    let mut actions = Items::new(alloc);
+    let mut actions = Actions::new(alloc);
     actions.push(TO_CONTROLLER)?;
     Ok(Row {
         priority: 0,

@@ -68,6 +68,9 @@ leads_started s s' h = (and_parts (leads s') (not (leads s && nat_eq s.view s'.v
 pub not_settled : (s s' : VrState) → leads s' ≡ false → (leads s' && nat_lt s.commit s'.commit) ≡ false
 not_settled s s' off = ap (λ (b : Bool). b && nat_lt s.commit s'.commit) off
 
+pub not_started : (s s' : VrState) → leads s' ≡ false → has_started s s' ≡ false
+not_started s s' off = ap (λ (b : Bool). b && not (leads s && nat_eq s.view s'.view)) off
+
 pub is_settling : (s s' : VrState) (before now : ℕ) (b : Bool) → leads s' ≡ true → before ≡ s.commit → now ≡ s'.commit → nat_lt before now ≡ b → (leads s' && nat_lt s.commit s'.commit) ≡ b
 is_settling s s' before now b on low high is =
     ap (λ (x : Bool). x && nat_lt s.commit s'.commit) on ∙ ap (λ (n : ℕ). nat_lt n s'.commit) (sym low) ∙ ap (λ (n : ℕ). nat_lt before n) (sym high) ∙ is

@@ -145,6 +145,19 @@ impl<A: App> Active<A> {
         self.dispatcher.fold_each(entries)
     }
 
+    /// The same at a backup, which answers nobody.
+    fn fold_unanswered(&mut self, before: u64) -> Result<(), AllocError>
+        requires valid { IsValidState self.old.work.state.vr }
+        requires reach { before ≤ self.old.work.state.vr.commit }
+        ensures folds { ForEachGroup (ActsUpTo A.law before self.old) (λ kinds setup. OnOk result (Acts A.law self.new kinds setup)) }
+        ensures work { self.new.work ≡ self.old.work }
+        ensures promise { self.new.promise ≡ self.old.promise }
+    {
+        let committed = self.replica.committed();
+        let behind = committed_behind(self.replica.log(), before, committed);
+        self.dispatcher.fold_all(behind)
+    }
+
     /// An event that is processed is answered.
     fn answer(&mut self, handled: &HandledEvent) -> Result<(), AllocError>
         ensures { ForEachGroup (Acts A.law self.old) (λ kinds setup. OnOk result (self.new ≡ posts_letters self.old (answers_to kinds setup self.old.work.state handled.now))) }
@@ -314,14 +327,12 @@ impl<A: App> Active<A> {
         let before = self.replica.committed();
         let out = self.replica.step(input)?;
         self.take(out)?;
-        let processed = self.fold_behind(before)?;
-        let leads = self.replica.leads();
-        let now = self.replica.view();
-        if has_started(led, view, leads, now) {
-            return self.start_view();
+        if !self.replica.leads() {
+            return self.fold_unanswered(before);
         }
-        if !leads {
-            return Ok(());
+        let processed = self.fold_behind(before)?;
+        if has_started(led, view, true, self.replica.view()) {
+            return self.start_view();
         }
         if before < self.replica.committed() {
             self.settle(&processed)

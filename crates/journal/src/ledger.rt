@@ -2,6 +2,7 @@
 ghost use Rattle.std.specs.Prelude.{◌≡◌, ◌<◌, ◌≤◌, ◌⊎◌, ◌+◌, ◌-◌, ◌++◌, [], ◌∷◌, length, vec_len, vec_capacity, true, false, IfOk, IfErr, OnOk};
 ghost use Rattle.journal.specs.Answers.{RefusedBy};
 ghost use Rattle.journal.specs.declared.journal.JournalEntry.TheVariants as entries;
+ghost use Rattle.journal.specs.declared.journal.Turn.TheVariants as turn;
 ghost use Rattle.journal.specs.Limits.{letters_limit, bytes_limit};
 ghost use Rattle.journal.specs.Ledger.{entry_by, found_in, IsSummed, IsRefusal, IsUnchanged, IsReady, Waits, IsLedger};
 ghost use Rattle.journal.specs.Places.{IsFound};
@@ -239,6 +240,22 @@ impl<B: Weight> Ledger<B> {
         let found = self.find(&step);
         self.entries.push_reserved(entry_by(step, found));
         found
+    }
+
+    /// Takes a draw, as `take` does.
+    pub fn draw(&mut self, actor: Actor, choice: u64, keep: bool)
+        requires room { vec_len self.old.entries + 2 ≤ vec_capacity self.old.entries }
+        requires kept { IsLedger B.size self.old }
+        ensures kept { IsLedger B.size self.new }
+        ensures entries { self.new.entries.items ≡ self.old.entries.items ++ entry_of (turn.Draw actor choice keep) (past self.old.entries.items) ∷ [] }
+    {
+        let found = self.pick(actor, choice, keep);
+        let step = Turn::Draw {
+            actor,
+            choice,
+            keep,
+        };
+        self.entries.push_reserved(entry_by(step, found));
     }
 
     /// The input of the newest entry found no memory. There is memory for this entry.

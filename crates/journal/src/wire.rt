@@ -143,6 +143,16 @@ impl<B: Weight> Wire<B> {
         Ok(())
     }
 
+    /// Draws the packet of a choice behind all that was posted, if one waits for the actor. An `Err` changes nothing.
+    pub fn take_draw(&mut self, actor: Actor, choice: u64, keep: bool) -> Result<(), AllocError>
+        ensures ok { OnOk result (self.new ≡ self.old ++ entry_of (turn.Draw actor choice keep) (past self.old) ∷ []) }
+        ensures err { OnErr result (self.new ≡ self.old) }
+    {
+        self.ledger.reserve()?;
+        self.ledger.draw(actor, choice, keep);
+        Ok(())
+    }
+
     /// Posts, and then draws the packet of a choice, if one waits for the actor. Where `keep`, it goes on
     /// waiting.
     pub fn draw(

@@ -113,7 +113,7 @@ fn on_port_status<H: Hosts>(
 {
     if !status.up {
         hosts.forget(switch, status.port);
-        out.push(forgetting_rows(alloc, switch, status.port))?;
+        out.push(forgetting_rows(alloc, switch, status.port)?)?;
     }
     Ok(())
 }

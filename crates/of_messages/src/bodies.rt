@@ -251,12 +251,13 @@ fn flow_mod_behind(alloc: Global, body: &[u8], command: FlowCommand) -> Result<F
 }
 
 #[tactic(auto, unfolding(crate::specs::Reading::flow_mod_at))]
-pub fn read_flow_mod(alloc: Global, body: &[u8]) -> Result<FlowMod, BodyFault>
+pub fn read_flow_mod(alloc: Global, body: &[u8]) -> Result<Boxed<FlowMod>, BodyFault>
     ensures { GivesBody (λ c. c) result (flow_mod_at body.now) }
 {
     if body.len() < 40 {
         return Err(BodyFault::Wire(BAD_LENGTH));
     }
     let command = command_at(body)?;
-    flow_mod_behind(alloc, body, command)
+    let change = flow_mod_behind(alloc, body, command)?;
+    Ok(Boxed::new(alloc, change)?)
 }

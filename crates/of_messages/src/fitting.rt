@@ -76,7 +76,7 @@ pub fn message_fits(message: &OfMessage)
         OfMessage::FlowRemoved(removed) => flow_removed_fits(removed.get()),
         OfMessage::PortStatus(status) => port_status_fits(*status),
         OfMessage::PacketOut(packet) => packet_out_fits(packet),
-        OfMessage::FlowMod(change) => flow_mod_fits(change),
+        OfMessage::FlowMod(change) => flow_mod_fits(change.get()),
         OfMessage::RoleRequest { role, generation } | OfMessage::RoleReply { role, generation } => {
             u32_fits(*role);
             u64_fits(*generation);

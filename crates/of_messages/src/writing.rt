@@ -535,7 +535,7 @@ fn put_message(out: &mut Octets, xid: u32, message: &OfMessage) -> Result<(), Al
         OfMessage::FlowRemoved(removed) => put_flow_removed(out, xid, removed.get()),
         OfMessage::PortStatus(status) => put_port_status(out, xid, status),
         OfMessage::PacketOut(packet) => put_packet_out(out, xid, packet),
-        OfMessage::FlowMod(change) => put_flow_mod(out, xid, change),
+        OfMessage::FlowMod(change) => put_flow_mod(out, xid, change.get()),
     }
 }
 

@@ -63,7 +63,7 @@ fn put_order(out: &mut Octets, what: &Order) -> Result<(), AllocError>
     ensures { OnOk result (out.new ≡ out.old ++ canonical_order what.now) }
 {
     match what {
-        Order::FlowMod(change) => put_flow_mod(out, 0, change),
+        Order::FlowMod(change) => put_flow_mod(out, 0, change.get()),
         Order::PacketOut(packet) => put_packet_out(out, 0, packet),
     }
 }
@@ -74,7 +74,7 @@ pub fn canonical_order(alloc: Global, what: &Order) -> Result<Octets, AllocError
     ensures { IfOk result (λ bytes. bytes ≡ canonical_order what.now) }
 {
     match what {
-        Order::FlowMod(change) => encode_flow_mod(alloc, 0, change),
+        Order::FlowMod(change) => encode_flow_mod(alloc, 0, change.get()),
         Order::PacketOut(packet) => encode_packet_out(alloc, 0, packet),
     }
 }

@@ -1,3 +1,4 @@
+mod Actions
 pub mod Header
 pub mod Lives
 pub mod Matching

@@ -34,6 +34,17 @@ impl<T: Drop> Boxed<T> {
     }
 }
 
+impl<T: Clone> Boxed<T> {
+    /// A clone of it.
+    pub fn cloned(&self) -> Result<Boxed<T>, AllocError>
+        ensures { IfOk result (λ boxed. T.is_clone self.now boxed) }
+    {
+        Ok(Boxed {
+            held: self.held.clone()?,
+        })
+    }
+}
+
 impl<T: Copy> Boxed<T> {
     /// A copy of it.
     pub fn copied(&self) -> Result<Boxed<T>, AllocError>

@@ -15,9 +15,6 @@ pub struct Items<T> {
 /// A list of bytes.
 pub type Octets = Items<u8>;
 
-/// Output ports, in the order in which they are done.
-pub type Actions = Items<u32>;
-
 /// What an application asks of switches, in order.
 pub type Commands = Items<Command>;
 

@@ -2,6 +2,7 @@
 //! messages, the extension messages of Ravana, matches, rows and header fields.
 #![tactic(auto)]
 
+mod actions;
 mod boxed;
 pub mod command_status;
 mod covering;
@@ -20,10 +21,10 @@ mod setup;
 mod sizes;
 mod small_set;
 
+pub use actions::Actions;
 pub use boxed::Boxed;
 pub use covering::covers;
 pub use header::fields;
-pub use items::Actions;
 pub use items::Commands;
 pub use items::Items;
 pub use items::Links;

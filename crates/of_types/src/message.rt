@@ -1,8 +1,9 @@
 //! The messages of OpenFlow 1.3 and of Ravana's extension, and the parts of messages.
 ghost use Rattle.std.specs.Prelude.{◌≡◌, IfOk};
 
+use crate::actions::Actions;
 use crate::boxed::Boxed;
-use crate::items::{Actions, Octets};
+use crate::items::Octets;
 use std::alloc::AllocError;
 
 /// An Ethernet address of 48 bits, and which of its bits count. Without a mask all 48 do.
@@ -65,7 +66,7 @@ impl Clone for Row {
 
     fn clone(&self) -> Result<Row, AllocError> {
         Ok(Row {
-            actions: self.actions.copied()?,
+            actions: self.actions.clone()?,
             ..*self
         })
     }
@@ -104,7 +105,7 @@ impl Clone for FlowMod {
 
     fn clone(&self) -> Result<FlowMod, AllocError> {
         Ok(FlowMod {
-            actions: self.actions.copied()?,
+            actions: self.actions.clone()?,
             ..*self
         })
     }
@@ -124,7 +125,7 @@ impl Clone for PacketOut {
 
     fn clone(&self) -> Result<PacketOut, AllocError> {
         Ok(PacketOut {
-            actions: self.actions.copied()?,
+            actions: self.actions.clone()?,
             payload: self.payload.copy()?,
             ..*self
         })
@@ -135,8 +136,8 @@ impl Clone for PacketOut {
 #[derive(Drop)]
 pub struct PacketIn {
     pub reason: u8,
-    pub cookie: u64,
     pub in_port: u32,
+    pub cookie: u64,
     pub payload: Octets,
 }
 
@@ -217,7 +218,7 @@ impl Clone for Event {
 /// What a command has a switch do.
 #[derive(Drop)]
 pub enum Order {
-    FlowMod(FlowMod),
+    FlowMod(Boxed<FlowMod>),
     PacketOut(PacketOut),
 }
 
@@ -226,7 +227,7 @@ impl Clone for Order {
 
     fn clone(&self) -> Result<Order, AllocError> {
         Ok(match self {
-            Order::FlowMod(change) => Order::FlowMod(change.clone()?),
+            Order::FlowMod(change) => Order::FlowMod(change.cloned()?),
             Order::PacketOut(out) => Order::PacketOut(out.clone()?),
         })
     }
@@ -273,7 +274,7 @@ pub enum OfMessage {
     FlowRemoved(Boxed<FlowRemoved>),
     PortStatus(PortStatus),
     PacketOut(PacketOut),
-    FlowMod(FlowMod),
+    FlowMod(Boxed<FlowMod>),
     BarrierRequest,
     BarrierReply,
     RoleRequest { role: u32, generation: u64 },
@@ -302,7 +303,7 @@ impl Clone for OfMessage {
             OfMessage::FlowRemoved(removed) => OfMessage::FlowRemoved(removed.copied()?),
             OfMessage::PortStatus(status) => OfMessage::PortStatus(*status),
             OfMessage::PacketOut(out) => OfMessage::PacketOut(out.clone()?),
-            OfMessage::FlowMod(change) => OfMessage::FlowMod(change.clone()?),
+            OfMessage::FlowMod(change) => OfMessage::FlowMod(change.cloned()?),
             OfMessage::BarrierRequest => OfMessage::BarrierRequest,
             OfMessage::BarrierReply => OfMessage::BarrierReply,
             OfMessage::RoleRequest { role, generation } => OfMessage::RoleRequest {

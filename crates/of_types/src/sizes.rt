@@ -41,7 +41,7 @@ pub fn size_of_plain(message: &OfMessage) -> u64
         OfMessage::PortStatus(_) => 80,
         OfMessage::FlowRemoved(removed) => size_of_match(&removed.get().matching) as u64 + 48,
         OfMessage::PacketOut(out) => size_of_packet_out(out),
-        OfMessage::FlowMod(change) => size_of_flow_mod(change),
+        OfMessage::FlowMod(change) => size_of_flow_mod(change.get()),
         OfMessage::RoleRequest { .. } => 24,
         OfMessage::RoleReply { .. } => 24,
         OfMessage::Hello => 8,
@@ -175,6 +175,6 @@ fn size_of_order(what: &Order) -> u64
 {
     match what {
         Order::PacketOut(out) => size_of_packet_out(out),
-        Order::FlowMod(change) => size_of_flow_mod(change),
+        Order::FlowMod(change) => size_of_flow_mod(change.get()),
     }
 }

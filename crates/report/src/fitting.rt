@@ -148,7 +148,7 @@ fn order_fits(what: &Order)
     ensures { FitsOfMessage (order_message what.now) }
 {
     match what {
-        Order::FlowMod(change) => flow_mod_fits(change),
+        Order::FlowMod(change) => flow_mod_fits(change.get()),
         Order::PacketOut(packet) => {
             packet_out_fits(packet);
             bytes_fit(packet.payload.as_slice());

@@ -15,25 +15,6 @@ pub fn write_digits<G: Growing, N: Integer>(out: &mut G, n: N) -> Result<(), All
     out.put(Buffer::new().format(n).as_bytes())
 }
 
-/// Writes the digits of a number that mostly has one.
-fn write_few_digits<G: Growing>(out: &mut G, n: u64) -> Result<(), AllocError>
-    ensures { OnOk result (G.bytes out.new ≡ G.bytes out.old ++ decimal n) }
-{
-    if n < 10 {
-        write_digit(out, n as u8)
-    } else {
-        write_digits(out, n)
-    }
-}
-
-/// Writes the digit of a number.
-fn write_digit<G: Growing>(out: &mut G, n: u8) -> Result<(), AllocError>
-    requires { n < 10 }
-    ensures { OnOk result (G.bytes out.new ≡ G.bytes out.old ++ decimal n) }
-{
-    out.put(&[b'0' + n])
-}
-
 /// Writes a space and a word.
 #[tactic(auto, unfolding(crate::specs::Report::word))]
 pub fn write_word<G: Growing>(out: &mut G, text: &[u8]) -> Result<(), AllocError>
@@ -58,8 +39,11 @@ pub fn write_number<G: Growing, N: Integer>(out: &mut G, n: N) -> Result<(), All
 pub fn write_small(out: &mut Sheet, n: u64) -> Result<(), AllocError>
     ensures { OnOk result (out.new ≡ out.old ++ word (decimal n)) }
 {
+    if n < 10 {
+        return out.append(&[b' ', b'0' + n as u8]);
+    }
     out.append(b" ")?;
-    write_few_digits(out, n)
+    write_digits(out, n)
 }
 
 /// Writes the end of a line.
@@ -75,15 +59,20 @@ pub fn write_actor<G: Growing>(out: &mut G, actor: Actor) -> Result<(), AllocErr
     ensures { OnOk result (G.bytes out.new ≡ G.bytes out.old ++ word (actor_word actor)) }
 {
     match actor {
-        Actor::Controller(c) => {
-            out.put(b" c")?;
-            write_few_digits(out, u64::from(c))
-        }
-        Actor::Switch(s) => {
-            out.put(b" s")?;
-            write_few_digits(out, u64::from(s))
-        }
+        Actor::Controller(c) => write_named(out, b'c', c),
+        Actor::Switch(s) => write_named(out, b's', s),
     }
+}
+
+/// Writes a space, a letter and the digits of a number that mostly has one.
+fn write_named<G: Growing>(out: &mut G, letter: u8, n: u8) -> Result<(), AllocError>
+    ensures { OnOk result (G.bytes out.new ≡ G.bytes out.old ++ 32 ∷ letter ∷ decimal n) }
+{
+    if n < 10 {
+        return out.put(&[b' ', letter, b'0' + n]);
+    }
+    out.put(&[b' ', letter])?;
+    write_digits(out, n)
 }
 
 #[tactic(auto, unfolding(crate::specs::Report::flag))]

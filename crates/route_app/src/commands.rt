@@ -10,7 +10,7 @@ use crate::table::down_table;
 use crate::wires::{Wires, count, edge_over, end_over};
 use app_core::{Leg, SwitchPort, flow_mod, forgetting_rows, frames_to, packet_out};
 use of_types::{
-    ANY_PORT, Actions, Command, Commands, FlowCommand, Items, NO_BUFFER, Octets, Order, PacketOut,
+    ANY_PORT, Actions, Command, Commands, FlowCommand, NO_BUFFER, Octets, Order, PacketOut,
     TO_CONTROLLER, fields,
 };
 use port_table::{is_marked, place};
@@ -66,9 +66,9 @@ pub fn forget_ends(
 ) -> Result<(), AllocError>
     ensures { OnOk result (out.new ≡ out.old ++ forgetting_ends switch port end) }
 {
-    out.push(forgetting_rows(alloc, switch, port))?;
+    out.push(forgetting_rows(alloc, switch, port)?)?;
     if let Some(end) = end {
-        out.push(forgetting_rows(alloc, end.switch, end.port))?;
+        out.push(forgetting_rows(alloc, end.switch, end.port)?)?;
     }
     Ok(())
 }
@@ -124,7 +124,7 @@ fn open_ports(
 ) -> Result<Actions, AllocError>
     ensures { IfOk result (λ ports. ports ≡ all_open wires.now flags.now at switch count) }
 {
-    let mut ports = Items::new(alloc);
+    let mut ports = Actions::new(alloc);
     for below in 0..count {
         let port = SwitchPort {
             switch,
@@ -194,9 +194,10 @@ fn add_legs(
 fn path_row(alloc: Global, address: u64, leg: Leg) -> Result<Command, AllocError>
     ensures { IfOk result (λ command. command ≡ path_row address leg) }
 {
-    let mut actions = Items::new(alloc);
+    let mut actions = Actions::new(alloc);
     actions.push(leg.output)?;
-    Ok(flow_mod(
+    flow_mod(
+        alloc,
         leg.switch,
         3,
         FlowCommand::Add,
@@ -204,7 +205,7 @@ fn path_row(alloc: Global, address: u64, leg: Leg) -> Result<Command, AllocError
         ANY_PORT,
         frames_to(leg.input, address),
         actions,
-    ))
+    )
 }
 
 /// The rows of these legs, from the last back to the first.

@@ -146,9 +146,10 @@ fn the_shorter_way_and_the_longer(rt: HostRuntime) -> Result<(), AllocError> {
 /// Whether a command adds a row of routing.
 fn is_row(command: &Command) -> bool {
     match &command.order {
-        Order::FlowMod(change) => change.command == FlowCommand::Add
-            && change.cookie == 3
-            && change.priority == 10,
+        Order::FlowMod(change) => {
+            let change = change.get();
+            change.command == FlowCommand::Add && change.cookie == 3 && change.priority == 10
+        }
         _ => false,
     }
 }

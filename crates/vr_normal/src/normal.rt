@@ -1,8 +1,9 @@
 //! The steps of the normal case. A message that is of another kind than its call changes nothing. After want of
 //! memory the state is to be dropped.
-ghost use Rattle.std.specs.Prelude.{◌≡◌, ◌<◌, true, IsTrue, is_ok, OnOk};
+ghost use Rattle.std.specs.Prelude.{◌≡◌, ◌<◌, ◌++◌, true, IsTrue, is_ok, OnOk};
 ghost use Rattle.vr_log.specs.Log.{fits, may_follow};
-ghost use Rattle.vr_log.specs.Steps.{Did};
+ghost use Rattle.vr_log.specs.Steps.{Did, to_others};
+ghost use Rattle.vr_log.specs.declared.message.VrMessage.TheVariants as message;
 ghost use Rattle.vr_log.specs.Valid.{IsValidState};
 ghost use Rattle.vr_normal.specs.Cases.{asks_later, prepares, prepare, commits, commit_told, prepare_ok};
 ghost use Rattle.vr_normal.specs.Proposing.{proposed, Proposes};
@@ -151,6 +152,30 @@ pub fn on_prepare_ok(
     Ok(())
 }
 
+/// A PREPARE of an entry to each other member. Each has a copy of its own.
+fn prepare_others(
+    state: &VrState,
+    op: u64,
+    entry: &Entry,
+    out: &mut VrOut,
+) -> Result<(), AllocError>
+    ensures promise { out.new.promise ≡ out.old.promise }
+    ensures letters { OnOk result (out.new.letters ≡ out.old.letters ++ to_others state.now (message.Prepare state.now.view op state.now.commit entry.now)) }
+{
+    for to in 0..state.controllers {
+        if to != state.me {
+            let message = VrMessage::Prepare {
+                view: state.view,
+                op,
+                commit: state.commit,
+                entry: entry.copy()?,
+            };
+            out.tell(to, message)?;
+        }
+    }
+    Ok(())
+}
+
 /// Appends an entry that fits, and sends it to the others.
 fn append_proposed(state: &mut VrState, entry: Entry, out: &mut VrOut) -> Result<(), AllocError>
     requires valid { IsValidState state.old }
@@ -158,15 +183,10 @@ fn append_proposed(state: &mut VrState, entry: Entry, out: &mut VrOut) -> Result
     ensures { OnOk result (Did (proposed state.old entry) state.new out.old out.new) }
 {
     let op = state.log.len() as u64 + 1;
-    let message = VrMessage::Prepare {
-        view: state.view,
-        op,
-        commit: state.commit,
-        entry: entry.copy()?,
-    };
+    prepare_others(state, op, &entry, out)?;
     state.log.append(entry)?;
     state.commit = own_commit(state, op);
-    out.tell_others(state.me, state.controllers, &message)
+    Ok(())
 }
 
 /// The primary proposes an entry. The first refusal that holds is the answer: the member is not normal or

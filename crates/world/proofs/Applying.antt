@@ -1,6 +1,6 @@
 -- What a turn of a world comes to where its post, its step or the post of its outbox stopped.
-use Rattle.std.proofs.Common.{◌≡◌, List, refl, sym, ◌∙◌, ap, subst, ◌⊎◌, inl, inr}
-use Rattle.std.specs.Prelude.{Some, IfSome, IfErr, OnErr, Result, Ok, Err, ℕ}
+use Rattle.std.proofs.Common.{◌≡◌, List, sym, ◌∙◌, ap, subst, inl, inr}
+use Rattle.std.specs.Prelude.{Some, IfSome, IfErr, Result, Ok, Err, ℕ}
 use Rattle.journal.specs.declared.journal.Turn.{Turn}
 use Rattle.journal.specs.declared.wire.Stop.{Stop}
 use Rattle.journal.specs.declared.wire.Stop.TheVariants.{OutOfMemory, JournalFull}

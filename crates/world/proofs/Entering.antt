@@ -23,7 +23,7 @@ use Rattle.group_controller.specs.declared.messages.ControllerInput.{ControllerI
 use Rattle.group_controller.specs.declared.messages.ControllerSays.{ControllerSays}
 use Rattle.group_controller.specs.Turns.{Controlling}
 use Rattle.run_spec.specs.Inputs.{IsHeard, IsHeardAt, IsInput, By_draw, By_local}
-use Rattle.run_spec.specs.Legal.{EntryFits, IsSoundController, results_of}
+use Rattle.run_spec.specs.Legal.{EntryFits, IsSoundController}
 use Rattle.run_spec.specs.States.{Scene, Speech, Sealing, controller_at, controller_message, switch_message, switch_rules, switch_speech}
 use Rattle.run_spec.proofs.Pasts.{from_some, self_controller, self_switch}
 use Rattle.world.specs.Actors.{ControllerTakes, ControllerWants, SwitchTakes}

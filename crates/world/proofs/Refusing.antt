@@ -1,5 +1,5 @@
 -- A world keeps its invariant through an input that found no memory, and the entry that refuses it.
-use Rattle.std.proofs.Common.{◌≡◌, ◌<◌, ◌≤◌, ℕ, List, [], ◌∷◌, ◌++◌, length, refl, sym, ◌∙◌, ap, subst, arith}
+use Rattle.std.proofs.Common.{◌≡◌, ◌<◌, ℕ, List, [], ◌∷◌, ◌++◌, length, refl, sym, ◌∙◌, ap, subst, arith}
 use Rattle.std.specs.Prelude.{slice_get, None}
 use Rattle.journal.specs.declared.journal.Actor.{Actor}
 use Rattle.journal.specs.declared.journal.Actor.TheVariants as actor
@@ -17,12 +17,11 @@ use Rattle.journal.proofs.Lists.{past-push}
 use Rattle.of_switch.specs.declared.says.SwitchInput.{SwitchInput}
 use Rattle.app_core.specs.Law.{AppLaw}
 use Rattle.group_controller.specs.declared.messages.ControllerInput.{ControllerInput}
-use Rattle.group_controller.specs.Turns.{Controlling}
 use Rattle.run_spec.specs.Inputs.{IsHeard, IsHeardAt}
 use Rattle.run_spec.specs.Legal.{EntryFits}
 use Rattle.run_spec.specs.States.{Sealing}
 use Rattle.world.specs.Actors.{ControllerRefused, SwitchRefused}
-use Rattle.world.specs.Refusals.{IsLeftOut, IsRefused, StepStops, Turned_down}
+use Rattle.world.specs.Refusals.{IsLeftOut, StepStops, Turned_down}
 use Rattle.world.specs.World.{Holds, HoldsAt, Keeps, PairsStand, Worlding, results_in, scene_in, taken}
 use Rattle.world.proofs.Entering.{controller_left_out, switch_left_out}
 use Rattle.world.proofs.Places.{got_other}

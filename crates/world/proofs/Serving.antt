@@ -1,5 +1,5 @@
 -- What a turn of a controller asks of a world that holds.
-use Rattle.std.proofs.Common.{◌<◌, ℕ, List, length, sym, ◌∙◌, ap, subst, arith}
+use Rattle.std.proofs.Common.{◌<◌, ℕ, List, length, sym, ◌∙◌, ap, subst}
 use Rattle.std.proofs.lemmas.Option.{slice_get_within}
 use Rattle.journal.specs.Stables.{Saving}
 use Rattle.app_core.specs.Law.{AppLaw}

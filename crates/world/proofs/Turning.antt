@@ -7,9 +7,8 @@ use Rattle.of_types.specs.declared.setup.Setup.{Setup}
 use Rattle.journal.specs.declared.journal.Actor.{Actor}
 use Rattle.journal.specs.declared.journal.Actor.TheVariants as actor
 use Rattle.journal.specs.declared.journal.JournalEntry.{JournalEntry}
-use Rattle.journal.specs.declared.journal.JournalEntry.TheVariants.{Post, Draw, Lose, Local, Idle, Refused}
+use Rattle.journal.specs.declared.journal.JournalEntry.TheVariants.{Post}
 use Rattle.journal.specs.declared.journal.Letter.{Letter}
-use Rattle.journal.specs.declared.journal.Packet.{Packet}
 use Rattle.journal.specs.Actors.{actor_of, same_actor, IsActor}
 use Rattle.journal.specs.Orderly.{IsOrderly, lost_of}
 use Rattle.journal.specs.Part.{part, drawn}
@@ -24,9 +23,8 @@ use Rattle.app_core.specs.Law.{AppLaw}
 use Rattle.group_controller.specs.declared.messages.ControllerInput.{ControllerInput}
 use Rattle.group_controller.specs.declared.messages.ControllerSays.{ControllerSays}
 use Rattle.group_controller.specs.Turns.{Controlling, Controls}
-use Rattle.run_spec.specs.declared.messages.Message.{Message}
 use Rattle.run_spec.specs.Inputs.{IsHeard, IsHeardAt}
-use Rattle.run_spec.specs.Legal.{EntryFits, FitsDebt, results_of}
+use Rattle.run_spec.specs.Legal.{EntryFits, results_of}
 use Rattle.run_spec.specs.Script.{IsInputOf}
 use Rattle.run_spec.specs.States.{IsFaithful, Scene, Sealing, controller_at, switch_at, controller_message, switch_message}
 use Rattle.run_spec.proofs.Pasts.{from_some}

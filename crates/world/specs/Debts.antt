@@ -1,5 +1,5 @@
 -- What an actor has still to post, as its letters are to stand in the journal.
-use Rattle.std.specs.Prelude.{ℕ, List, Option, Some, None}
+use Rattle.std.specs.Prelude.{Bool, List, Option, Some, None, length, ◌==◌}
 use Rattle.journal.specs.declared.journal.Actor.{Actor}
 use Rattle.journal.specs.declared.journal.Actor.TheVariants as actor
 use Rattle.journal.specs.declared.journal.Letter.{Letter}
@@ -21,3 +21,8 @@ sealed_outbox sealing (outbox.Switch number letters) = record { actor = actor.Sw
 abbrev pub owing : {B : Type 0} → Sealing B → Option Outbox → Option (Debt B)
 owing sealing None = None
 owing sealing (Some said) = Some (sealed_outbox sealing said)
+
+-- an outbox has no letter
+abbrev pub has_none : Outbox → Bool
+has_none (outbox.Controller number letters) = length letters == 0
+has_none (outbox.Switch number letters) = length letters == 0

@@ -1,6 +1,6 @@
 //! What an actor has still to post.
 ghost use Rattle.std.specs.Prelude.{◌≡◌, IfOk};
-ghost use Rattle.world.specs.Debts.{sealed_outbox};
+ghost use Rattle.world.specs.Debts.{has_none, sealed_outbox};
 
 use app_core::App;
 use group_controller::{Controller, ControllerSays};
@@ -21,6 +21,18 @@ pub enum Outbox {
         number: u8,
         letters: Letters<SwitchSays>,
     },
+}
+
+impl Outbox {
+    /// Whether it has no letter.
+    pub fn is_empty(&self) -> bool
+        ensures { result ≡ has_none self.now }
+    {
+        match self {
+            Outbox::Controller { letters, .. } => letters.is_empty(),
+            Outbox::Switch { letters, .. } => letters.is_empty(),
+        }
+    }
 }
 
 /// Whose an outbox is, and its letters sealed.

@@ -207,11 +207,16 @@ impl<B: Body, A: App> World<B, A> {
         let Some(outbox) = &self.outbox else {
             return Ok(());
         };
+        if outbox.is_empty() {
+            self.wire.lawful();
+            self.outbox = None;
+            return Ok(());
+        }
         let (actor, letters) = sealed_outbox::<A, B>(self.alloc, outbox)?;
         match self.wire.post(actor, letters) {
             Ok(()) => {
                 self.wire.lawful();
-                drop(self.outbox.take());
+                self.outbox = None;
                 Ok(())
             }
             Err(refused) => Err(refused.cause),
@@ -265,7 +270,7 @@ impl<B: Body, A: App> World<B, A> {
     {
         match controller_takes(&mut self.controllers, stables, number, input) {
             Ok(letters) => {
-                drop(self.outbox.replace(Outbox::Controller { number, letters }));
+                self.outbox = Some(Outbox::Controller { number, letters });
                 Ok(())
             }
             Err(error) => {
@@ -287,7 +292,7 @@ impl<B: Body, A: App> World<B, A> {
     {
         match switch_takes(&mut self.switches, number, input) {
             Ok(letters) => {
-                drop(self.outbox.replace(Outbox::Switch { number, letters }));
+                self.outbox = Some(Outbox::Switch { number, letters });
                 Ok(())
             }
             Err(error) => {
@@ -315,11 +320,9 @@ impl<B: Body, A: App> World<B, A> {
         ensures wants { OnErr result (self.new ≡ self.old) }
     {
         let input = self.hear::<P>(place)?;
-        self.enter(Turn::Draw {
-            actor,
-            choice,
-            keep,
-        })?;
+        let entered = self.wire.take_draw(actor, choice, keep);
+        self.wire.lawful();
+        entered?;
         Ok(input)
     }
 

@@ -19,9 +19,9 @@ use command_buffer::{CommandBuffer, MOST_KEPT, Offer};
 use flow_table::TableFault;
 use journal::{Letter, Letters};
 use of_types::{
-    ALL_PORTS, BAD_FLAGS, BAD_OUT_PORT, BAD_PACKET, BAD_TABLE, Executed, Extension, FLOOD, FlowMod,
-    IN_PORT, Items, NO_BUFFER, NOT_MASTER, Order, Outcome, PacketOut, Refusal, Spoken, TABLE_FULL,
-    UNKNOWN_BUFFER,
+    ALL_PORTS, BAD_FLAGS, BAD_OUT_PORT, BAD_PACKET, BAD_TABLE, Boxed, Executed, Extension, FLOOD,
+    FlowMod, IN_PORT, Items, NO_BUFFER, NOT_MASTER, Order, Outcome, PacketOut, Refusal, Spoken,
+    TABLE_FULL, UNKNOWN_BUFFER,
 };
 use std::alloc::AllocError;
 
@@ -94,7 +94,7 @@ impl Switch {
     fn change_table(
         &mut self,
         command: Issue,
-        change: FlowMod,
+        change: Boxed<FlowMod>,
     ) -> Result<Letters<SwitchSays>, AllocError>
         requires { is_execute (offer_of (without_results_below self.old.results command.settled) command.number) ≡ true }
         ensures ok { IfOk result (λ letters. Turned (executes (settled_below self.old command.settled) command.from command.generation command.number (orders.FlowMod change)) self.new letters) }
@@ -104,7 +104,7 @@ impl Switch {
         let ports = self.ports();
         let mut letters = Vec::with_capacity(self.alloc, 1)?;
         self.executed.reserve(1)?;
-        let outcome = change_table(&mut self.table, &change, ports)?;
+        let outcome = change_table(&mut self.table, change.get(), ports)?;
         letters.push_reserved(cmd_ack(command, life, outcome));
         count(&mut self.results, command.settled, outcome);
         self.executed

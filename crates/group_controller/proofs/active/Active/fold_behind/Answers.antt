@@ -1,11 +1,11 @@
-use Rattle.std.proofs.Common.{◌≡◌, ◌-◌, ◌++◌, ◌∙◌, ℕ, List, true, subst, sym, ap, arith, take, drop, refl}
+use Rattle.std.proofs.Common.{◌≡◌, ◌++◌, ◌∙◌, ℕ, List, true, subst, sym, ap, arith, take, drop, refl}
 use Rattle.std.proofs.lemmas.Result.{IfOk-weaker}
 use Rattle.vr_log.specs.declared.entry.Entry.{Entry}
 use Rattle.vr_log.specs.Log.{follows}
 use Rattle.dispatcher.specs.Ledger.{AreHandledAt, StandsFor}
 use Rattle.dispatcher.specs.Folding.{places_processed}
 use Rattle.group_controller.specs.Acting.{ActsUpTo}
-use Rattle.group_controller.proofs.Answering.{part_follows, part_is, parts_join}
+use Rattle.group_controller.proofs.Answering.{part_follows, parts_join}
 use Rattle.group_controller.proofs.active.Active.fold_behind.Goals as goal
 
 pub returns-clause-folds : goal.returns-clause-folds

@@ -1,4 +1,4 @@
-use Rattle.std.proofs.Common.{◌≡◌, ◌∙◌, ◌≤◌, ℕ, ap, subst, sym}
+use Rattle.std.proofs.Common.{◌≡◌, ◌∙◌, ◌≤◌, ℕ, false, true, ap, subst, sym}
 use Rattle.std.specs.Prelude.{OnOk}
 use Rattle.std.proofs.lemmas.Bool.{lt-ltb, le-ltb}
 use Rattle.std.proofs.lemmas.Result.{on_ok_weaker}
@@ -10,11 +10,19 @@ use Rattle.group_controller.specs.Rules.{after_step}
 use Rattle.group_controller.specs.State.{Work}
 use Rattle.group_controller.proofs.Acting.{folded_does, steps}
 use Rattle.group_controller.proofs.Events.{step_rests, step_settles, step_starts}
-use Rattle.group_controller.proofs.Finishing.{is_settling, leads_started, not_settled, started_is}
+use Rattle.group_controller.proofs.Finishing.{is_settling, leads_started, not_settled, not_started, started_is}
 use Rattle.group_controller.proofs.active.Active.step.Goals as goal
 
 pub fold_behind-requires-clause-reach : goal.fold_behind-requires-clause-reach
 fold_behind-requires-clause-reach g c =
+    let kinds = c.requires.begins.0 in
+    let setup = c.requires.begins.1 in
+    let inside = subst (λ (a : Acting _). BeginsTurn g.A.App.law a kinds setup) (sym c.self.view_is) c.requires.begins.2 in
+    let s = steps g.A.App.law kinds setup _ c.take.new.self c.args.input.now c.step.new.self c.in_ok-out.out inside c.in_ok-out.ensures.valid c.in_ok-out.ensures.step c.in_ok-take.ensures in
+    subst (λ (n : ℕ). n ≤ c.take.new.self.work.state.vr.commit) (sym c.committed-before.ensures) s.acts.reach
+
+pub fold_unanswered-requires-clause-reach : goal.fold_unanswered-requires-clause-reach
+fold_unanswered-requires-clause-reach g c =
     let kinds = c.requires.begins.0 in
     let setup = c.requires.begins.1 in
     let inside = subst (λ (a : Acting _). BeginsTurn g.A.App.law a kinds setup) (sym c.self.view_is) c.requires.begins.2 in
@@ -49,11 +57,11 @@ start_view-requires-clause-leads g c =
     let folded = c.in_ok-processed.ensures.folds kinds setup upto in
     let d = c.fold_behind.new.self in
     let first = folded_does g.A.App.law kinds setup _ c.take.new.self d step s folded.1 c.in_ok-processed.ensures.work c.in_ok-processed.ensures.promise in
-    let known = c.self-2.view_is in
+    let known = c.self-3.view_is in
     let is = ap (λ (w : Work). w.state.vr) first.work_is in
-    let leading : c.leads-leads.result ≡ leads step.state = c.leads-leads.ensures ∙ ap (λ (a : Acting _). leads a.work.state.vr) known ∙ ap (λ (v : VrState). leads v) is in
-    let started = started_is old step.state c.has_started.result c.leads-leads.result c.leads-led.result c.view-view.result c.view-now.result c.has_started.ensures leading c.leads-led.ensures c.view-view.ensures
-    (c.view-now.ensures ∙ ap (λ (a : Acting _). a.work.state.vr.view) known ∙ ap (λ (v : VrState). v.view) is) in
+    let leading : true ≡ leads step.state = sym c.if-not-leads.false ∙ c.leads.ensures ∙ ap (λ (a : Acting _). leads a.work.state.vr) c.self-2.view_is ∙ ap (λ (w : Work). leads w.state.vr) s.work_is in
+    let started = started_is old step.state c.has_started.result true c.leads-led.result c.view-view.result c.view.result c.has_started.ensures leading c.leads-led.ensures c.view-view.ensures
+    (c.view.ensures ∙ ap (λ (a : Acting _). a.work.state.vr.view) known ∙ ap (λ (v : VrState). v.view) is) in
     ap (λ (v : VrState). leads v) is ∙ leads_started old step.state (started ∙ c.if-has_started.true)
 
 pub returns-then-has_started : goal.returns-then-has_started
@@ -66,11 +74,11 @@ returns-then-has_started g c = λ kinds setup begins.
     let folded = c.in_ok-processed.ensures.folds kinds setup upto in
     let d = c.fold_behind.new.self in
     let first = folded_does g.A.App.law kinds setup _ c.take.new.self d step s folded.1 c.in_ok-processed.ensures.work c.in_ok-processed.ensures.promise in
-    let known = c.self-2.view_is in
+    let known = c.self-3.view_is in
     let is = ap (λ (w : Work). w.state.vr) first.work_is in
-    let leading : c.leads-leads.result ≡ leads step.state = c.leads-leads.ensures ∙ ap (λ (a : Acting _). leads a.work.state.vr) known ∙ ap (λ (v : VrState). leads v) is in
-    let started = started_is old step.state c.has_started.result c.leads-leads.result c.leads-led.result c.view-view.result c.view-now.result c.has_started.ensures leading c.leads-led.ensures c.view-view.ensures
-    (c.view-now.ensures ∙ ap (λ (a : Acting _). a.work.state.vr.view) known ∙ ap (λ (v : VrState). v.view) is) in
+    let leading : true ≡ leads step.state = sym c.if-not-leads.false ∙ c.leads.ensures ∙ ap (λ (a : Acting _). leads a.work.state.vr) c.self-2.view_is ∙ ap (λ (w : Work). leads w.state.vr) s.work_is in
+    let started = started_is old step.state c.has_started.result true c.leads-led.result c.view-view.result c.view.result c.has_started.ensures leading c.leads-led.ensures c.view-view.ensures
+    (c.view.ensures ∙ ap (λ (a : Acting _). a.work.state.vr.view) known ∙ ap (λ (v : VrState). v.view) is) in
     subst (λ (a : Acting _). OnOk c.start_view.result (Works g.A.App.law kinds setup a (after_step kinds setup a.work.state (vr_step a.work.state.vr c.args.input.now)) c.start_view.new.self)) c.self.view_is
     (on_ok_weaker c.start_view.result (λ rest. step_starts g.A.App.law kinds setup _ d c.start_view.new.self step first (started ∙ c.if-has_started.true) rest) (c.start_view.ensures kinds setup folded.1))
 
@@ -81,16 +89,14 @@ returns-then-not-leads g c = λ kinds setup begins.
     let step = vr_step old c.args.input.now in
     let s = steps g.A.App.law kinds setup _ c.take.new.self c.args.input.now c.step.new.self c.in_ok-out.out inside c.in_ok-out.ensures.valid c.in_ok-out.ensures.step c.in_ok-take.ensures in
     let upto = subst (λ (n : ℕ). ActsUpTo g.A.App.law n c.take.new.self kinds setup) (sym c.committed-before.ensures) s.acts in
-    let folded = c.in_ok-processed.ensures.folds kinds setup upto in
-    let d = c.fold_behind.new.self in
-    let first = folded_does g.A.App.law kinds setup _ c.take.new.self d step s folded.1 c.in_ok-processed.ensures.work c.in_ok-processed.ensures.promise in
-    let known = c.self-2.view_is in
-    let is = ap (λ (w : Work). w.state.vr) first.work_is in
-    let leading : c.leads-leads.result ≡ leads step.state = c.leads-leads.ensures ∙ ap (λ (a : Acting _). leads a.work.state.vr) known ∙ ap (λ (v : VrState). leads v) is in
-    let started = started_is old step.state c.has_started.result c.leads-leads.result c.leads-led.result c.view-view.result c.view-now.result c.has_started.ensures leading c.leads-led.ensures c.view-view.ensures
-    (c.view-now.ensures ∙ ap (λ (a : Acting _). a.work.state.vr.view) known ∙ ap (λ (v : VrState). v.view) is) in
-    subst (λ (a : Acting _). (Works g.A.App.law kinds setup a (after_step kinds setup a.work.state (vr_step a.work.state.vr c.args.input.now)) d)) c.self.view_is
-    (step_rests g.A.App.law kinds setup _ d step first (started ∙ c.if-has_started.false) (not_settled old step.state (sym leading ∙ c.if-not-leads.true)))
+    let d = c.fold_unanswered.new.self in
+    let off : leads step.state ≡ false = sym (c.leads.ensures ∙ ap (λ (a : Acting _). leads a.work.state.vr) c.self-2.view_is ∙ ap (λ (w : Work). leads w.state.vr) s.work_is) ∙ c.if-not-leads.true in
+    subst (λ (a : Acting _). OnOk c.fold_unanswered.result (Works g.A.App.law kinds setup a (after_step kinds setup a.work.state (vr_step a.work.state.vr c.args.input.now)) d)) c.self.view_is
+    (on_ok_weaker c.fold_unanswered.result
+    (λ acts. step_rests g.A.App.law kinds setup _ d step
+    (folded_does g.A.App.law kinds setup _ c.take.new.self d step s acts c.fold_unanswered.ensures.work c.fold_unanswered.ensures.promise)
+    (not_started old step.state off) (not_settled old step.state off))
+    (c.fold_unanswered.ensures.folds kinds setup upto))
 
 pub settle-requires-clause-acts : goal.settle-requires-clause-acts
 settle-requires-clause-acts g c =
@@ -108,7 +114,8 @@ settle-requires-clause-acts g c =
     (kinds, setup, folded.1)
 
 pub settle-requires-clause-leads : goal.settle-requires-clause-leads
-settle-requires-clause-leads g c = sym (c.leads-leads.ensures ∙ ap (λ (a : Acting _). leads a.work.state.vr) c.self-2.view_is) ∙ c.if-not-leads.false
+settle-requires-clause-leads g c =
+    ap (λ (w : Work). leads w.state.vr) c.fold_behind.ensures.work ∙ sym (c.leads.ensures ∙ ap (λ (a : Acting _). leads a.work.state.vr) c.self-2.view_is) ∙ c.if-not-leads.false
 
 pub returns-then-before-committed : goal.returns-then-before-committed
 returns-then-before-committed g c = λ kinds setup begins.
@@ -120,12 +127,12 @@ returns-then-before-committed g c = λ kinds setup begins.
     let folded = c.in_ok-processed.ensures.folds kinds setup upto in
     let d = c.fold_behind.new.self in
     let first = folded_does g.A.App.law kinds setup _ c.take.new.self d step s folded.1 c.in_ok-processed.ensures.work c.in_ok-processed.ensures.promise in
-    let known = c.self-2.view_is in
+    let known = c.self-3.view_is in
     let is = ap (λ (w : Work). w.state.vr) first.work_is in
-    let leading : c.leads-leads.result ≡ leads step.state = c.leads-leads.ensures ∙ ap (λ (a : Acting _). leads a.work.state.vr) known ∙ ap (λ (v : VrState). leads v) is in
-    let started = started_is old step.state c.has_started.result c.leads-leads.result c.leads-led.result c.view-view.result c.view-now.result c.has_started.ensures leading c.leads-led.ensures c.view-view.ensures
-    (c.view-now.ensures ∙ ap (λ (a : Acting _). a.work.state.vr.view) known ∙ ap (λ (v : VrState). v.view) is) in
-    let more = is_settling old step.state c.committed-before.result c.committed.result _ (sym leading ∙ c.if-not-leads.false) c.committed-before.ensures
+    let leading : true ≡ leads step.state = sym c.if-not-leads.false ∙ c.leads.ensures ∙ ap (λ (a : Acting _). leads a.work.state.vr) c.self-2.view_is ∙ ap (λ (w : Work). leads w.state.vr) s.work_is in
+    let started = started_is old step.state c.has_started.result true c.leads-led.result c.view-view.result c.view.result c.has_started.ensures leading c.leads-led.ensures c.view-view.ensures
+    (c.view.ensures ∙ ap (λ (a : Acting _). a.work.state.vr.view) known ∙ ap (λ (v : VrState). v.view) is) in
+    let more = is_settling old step.state c.committed-before.result c.committed.result _ (sym leading) c.committed-before.ensures
     (c.committed.ensures ∙ ap (λ (a : Acting _). a.work.state.vr.commit) known ∙ ap (λ (v : VrState). v.commit) is) (lt-ltb c.committed-before.result c.committed.result c.if-before-committed.true) in
     let new = subst (λ (n : ℕ). AreNewlyHandled kinds setup d.work.state n c.deref.result.now) c.committed-before.ensures (subst (λ l. AreNewlyHandled kinds setup d.work.state c.committed-before.result l) (sym c.deref.ensures.value) folded.0) in
     subst (λ (a : Acting _). OnOk c.settle.result (Works g.A.App.law kinds setup a (after_step kinds setup a.work.state (vr_step a.work.state.vr c.args.input.now)) c.settle.new.self)) c.self.view_is
@@ -141,12 +148,12 @@ returns g c = λ kinds setup begins.
     let folded = c.in_ok-processed.ensures.folds kinds setup upto in
     let d = c.fold_behind.new.self in
     let first = folded_does g.A.App.law kinds setup _ c.take.new.self d step s folded.1 c.in_ok-processed.ensures.work c.in_ok-processed.ensures.promise in
-    let known = c.self-2.view_is in
+    let known = c.self-3.view_is in
     let is = ap (λ (w : Work). w.state.vr) first.work_is in
-    let leading : c.leads-leads.result ≡ leads step.state = c.leads-leads.ensures ∙ ap (λ (a : Acting _). leads a.work.state.vr) known ∙ ap (λ (v : VrState). leads v) is in
-    let started = started_is old step.state c.has_started.result c.leads-leads.result c.leads-led.result c.view-view.result c.view-now.result c.has_started.ensures leading c.leads-led.ensures c.view-view.ensures
-    (c.view-now.ensures ∙ ap (λ (a : Acting _). a.work.state.vr.view) known ∙ ap (λ (v : VrState). v.view) is) in
-    let none = is_settling old step.state c.committed-before.result c.committed.result _ (sym leading ∙ c.if-not-leads.false) c.committed-before.ensures
+    let leading : true ≡ leads step.state = sym c.if-not-leads.false ∙ c.leads.ensures ∙ ap (λ (a : Acting _). leads a.work.state.vr) c.self-2.view_is ∙ ap (λ (w : Work). leads w.state.vr) s.work_is in
+    let started = started_is old step.state c.has_started.result true c.leads-led.result c.view-view.result c.view.result c.has_started.ensures leading c.leads-led.ensures c.view-view.ensures
+    (c.view.ensures ∙ ap (λ (a : Acting _). a.work.state.vr.view) known ∙ ap (λ (v : VrState). v.view) is) in
+    let none = is_settling old step.state c.committed-before.result c.committed.result _ (sym leading) c.committed-before.ensures
     (c.committed.ensures ∙ ap (λ (a : Acting _). a.work.state.vr.commit) known ∙ ap (λ (v : VrState). v.commit) is) (le-ltb c.committed-before.result c.committed.result c.if-before-committed.false) in
     subst (λ (a : Acting _). (Works g.A.App.law kinds setup a (after_step kinds setup a.work.state (vr_step a.work.state.vr c.args.input.now)) d)) c.self.view_is
     (step_rests g.A.App.law kinds setup _ d step first (started ∙ c.if-has_started.false) none)

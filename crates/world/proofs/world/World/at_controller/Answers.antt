@@ -13,7 +13,7 @@ returns-in-Ok-clause-owes g c =
     let said = c.in-Ok.ensures.takes in
     let t = subst (λ (l : List _). ControllerTakes law g.W.Stable.saving c.args.input l c.args.stables.now c.args.number c.controller_takes.new.controllers c.controller_takes.new.stables c.in-Ok.letters) c.deref_mut.ensures.value said.1 in
     let back = written_back c.self.inside.controllers.len c.self.inside.controllers.items c.controller_takes.new.controllers c.self.inside.controllers.ok.0 (ap length t.state ∙ set_length c.self.inside.controllers.items c.args.number t.new) in
-    rw (← c.self.view_is, back, c.replace.ensures.after) (record {
+    rw (← c.self.view_is, back) (record {
       letters = c.in-Ok.letters;
       sealed = sealed_letters controller_message g.B.Body.sealing c.in-Ok.letters;
       takes = t;

@@ -12,7 +12,7 @@ returns-in-Ok-clause-owes g c =
     let said = c.in-Ok.ensures.takes in
     let t = subst (λ (l : List _). SwitchTakes c.args.input l c.args.number c.switch_takes.new.switches c.in-Ok.letters) c.deref_mut.ensures.value said.0 in
     let back = written_back c.self.inside.switches.len c.self.inside.switches.items c.switch_takes.new.switches c.self.inside.switches.ok.0 (ap length t.state ∙ set_length c.self.inside.switches.items c.args.number t.new) in
-    rw (← c.self.view_is, back, c.replace.ensures.after) (record {
+    rw (← c.self.view_is, back) (record {
       letters = c.in-Ok.letters;
       sealed = sealed_letters switch_message g.B.Body.sealing c.in-Ok.letters;
       takes = t;

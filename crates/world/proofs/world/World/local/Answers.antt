@@ -1,4 +1,4 @@
-use Rattle.std.proofs.Common.{◌≡◌, refl, sym, ◌∙◌, ap, subst}
+use Rattle.std.proofs.Common.{sym, ◌∙◌, ap, subst}
 use Rattle.journal.specs.declared.journal.Turn.TheVariants as turn
 use Rattle.journal.specs.Actors.{IsActor}
 use Rattle.journal.specs.Pool.{past}

@@ -16,13 +16,12 @@ returns-in-Ok-clause-holds g c = λ kinds h.
     let d = sealed_outbox sealing c.in-Some.outbox in
     let weighed = g.met.B.Body.weighed in
     let before = c.self.inside.wire in
-    rw c.take.ensures.after
-    (post_holds law sealing g.met.B.Body.faithful _ d (ap (λ o. owing sealing o) c.in-Some.is) c.post.new.self
+    post_holds law sealing g.met.B.Body.faithful _ d (ap (λ o. owing sealing o) c.in-Some.is) c.post.new.self
     (subst (λ z. c.post.new.self ≡ before ++ posting z d.actor d.letters (past before)) weighed
     (subst (λ a. c.post.new.self ≡ before ++ posting g.B.Weight.size a d.letters (past before)) c.in_ok-actor.ensures.actor
     (subst (λ l. c.post.new.self ≡ before ++ posting g.B.Weight.size c.in_ok-actor.actor l (past before)) c.in_ok-actor.ensures.letters c.in-Ok.ensures.ok)))
-    (subst (λ z. IsOrderly z (past c.post.new.self)) weighed c.lawful.ensures.orderly) _ refl kinds
-    (subst (λ w. Holds law sealing w kinds) (sym c.self.view_is) h))
+    (subst (λ z. IsOrderly z (past c.post.new.self)) weighed c.lawful-in-Ok.ensures.orderly) _ refl kinds
+    (subst (λ w. Holds law sealing w kinds) (sym c.self.view_is) h)
 
 pub returns-in-Err-clause-stops : goal.returns-in-Err-clause-stops
 returns-in-Err-clause-stops g c =

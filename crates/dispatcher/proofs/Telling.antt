@@ -10,7 +10,7 @@ use Rattle.std.proofs.lemmas.List.{map-append}
 use Rattle.std.proofs.lemmas.List.FromFn.{map-range_with_len_more}
 use Rattle.app_core.specs.declared.issued.Issued.{Issued}
 use Rattle.dispatcher.specs.declared.ledger.Ledger.{Ledger}
-use Rattle.dispatcher.specs.Ledger.{cleared_of_life, has_told, is_named}
+use Rattle.dispatcher.specs.Ledger.{cleared_of_life, has_told, is_addressed}
 
 -- one number more of those from 0 on
 pub range_more : (n : ℕ) → range_with_len 0 (n + 1) ≡ range_with_len 0 n ++ n ∷ []
@@ -45,10 +45,10 @@ module _ (ledger : Ledger) (commands : List Issued) (n : ℕ) where
       (grown ∙ ap (λ (b : Bool). filter (has_told ledger commands) (range_with_len 0 n) ++ (if b then n ∷ [] else [])) e ∙ append-nil (filter (has_told ledger commands) (range_with_len 0 n)))
 
 -- a switch that has no command is not told
-pub unnamed : (ledger : Ledger) (commands : List Issued) (n : ℕ) → is_named commands n ≡ false → has_told ledger commands n ≡ false
+pub unnamed : (ledger : Ledger) (commands : List Issued) (n : ℕ) → is_addressed commands n ≡ false → has_told ledger commands n ≡ false
 unnamed ledger [] n e = refl
 unnamed ledger (x ∷ xs) n e =
-    let none = neither (nat_eq x.switch n) (is_named xs n) e in
+    let none = neither (nat_eq x.switch n) (is_addressed xs n) e in
     ap (λ (b : Bool). (b && not (nat_lt x.life (get_or ledger.lives x.switch 0))) || has_told ledger xs n) none.0 ∙ unnamed ledger xs n none.1
   where
     neither : (a b : Bool) → (a || b) ≡ false → (a ≡ false) × (b ≡ false)
@@ -57,7 +57,7 @@ unnamed ledger (x ∷ xs) n e =
     neither true true e = (e, e)
 
 -- nor are so many switches more, of which none has a command
-pub none_told : (ledger : Ledger) (commands : List Issued) (n more : ℕ) → ((k : ℕ) → n ≤ k → k < n + more → is_named commands k ≡ false) →
+pub none_told : (ledger : Ledger) (commands : List Issued) (n more : ℕ) → ((k : ℕ) → n ≤ k → k < n + more → is_addressed commands k ≡ false) →
     map (cleared_of_life ledger) (filter (has_told ledger commands) (range_with_len 0 (n + more))) ≡ map (cleared_of_life ledger) (filter (has_told ledger commands) (range_with_len 0 n))
 none_told ledger commands n zero none = ap (λ (k : ℕ). map (cleared_of_life ledger) (filter (has_told ledger commands) (range_with_len 0 k))) (omega arith)
 none_told ledger commands n (suc more) none =

@@ -124,8 +124,8 @@ as_numbered ledger x =
     record { switch = x.switch; life = x.life; number = x.number; settled = (counts_of ledger.counts x.switch x.life).settled; order = x.order }
 
 -- a switch has one of these commands
-abbrev pub is_named : List Issued → ℕ → Bool
-is_named commands switch = list_any (λ x. nat_eq x.switch switch) commands
+abbrev pub is_addressed : List Issued → ℕ → Bool
+is_addressed commands switch = list_any (λ x. nat_eq x.switch switch) commands
 
 -- the present life of a switch has one of these commands
 abbrev pub has_told : Ledger → List Issued → ℕ → Bool

@@ -1,7 +1,7 @@
 //! The commands of the first event that is not processed.
 ghost use Rattle.std.specs.Prelude.{◌≡◌, ◌<◌, ◌≤◌, ℕ, false, ◌&&◌, map, filter, count_by, nat_eq, nat_lt, get_or, length, IfOk};
 ghost use Rattle.std.specs.List.{range_with_len};
-ghost use Rattle.dispatcher.specs.Ledger.{as_numbered, cleared_of_life, first_commands, has_told, is_named, is_outstanding, wants};
+ghost use Rattle.dispatcher.specs.Ledger.{as_numbered, cleared_of_life, first_commands, has_told, is_addressed, is_outstanding, wants};
 
 use crate::answers::AckThrough;
 use crate::ledger::Ledger;
@@ -122,8 +122,8 @@ fn told_switches(ledger: &Ledger, commands: &[Issued]) -> [bool; 256]
 /// Between which numbers the switches of commands lie, of so many: from the first one on, and below the second.
 fn span_of(switches: u8, commands: &[Issued]) -> (u8, u8)
     ensures within { (result.0 ≤ switches) × (result.1 ≤ switches) }
-    ensures below { (switch : ℕ) → switch < result.0 → is_named commands.now switch ≡ false }
-    ensures above { (switch : ℕ) → result.1 ≤ switch → switch < switches → is_named commands.now switch ≡ false }
+    ensures below { (switch : ℕ) → switch < result.0 → is_addressed commands.now switch ≡ false }
+    ensures above { (switch : ℕ) → result.1 ≤ switch → switch < switches → is_addressed commands.now switch ≡ false }
 {
     let (mut first, mut end) = (switches, 0);
     for command in commands {

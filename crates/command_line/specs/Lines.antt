@@ -2,7 +2,7 @@
 use Rattle.std.specs.Prelude.{ℕ, List, [], ◌∷◌, ◌++◌, codes}
 use Rattle.report.specs.Report.{line, number_text, newline}
 use Rattle.command_line.specs.declared.text.Text.{Text}
-use Rattle.command_line.specs.declared.text.Text.TheVariants.{Fixed, Own}
+use Rattle.command_line.specs.declared.text.Text.TheVariants.{Fixed, Own, Report}
 
 -- a source failed
 unfoldable pub unread_line : List ℕ
@@ -16,3 +16,4 @@ differs_line n = line (codes "differs") (codes "line" ∷ number_text n ∷ [])
 abbrev pub text_bytes : Text → List ℕ
 text_bytes (Fixed line) = line.now
 text_bytes (Own bytes) = bytes
+text_bytes (Report text) = text

@@ -11,7 +11,7 @@ use journal::{Sink, Source};
 use of_types::Octets;
 use report::{REPORT_LIMIT, Record, ReportFault, read_report};
 use std::alloc::{AllocError, Global};
-use streams::{StreamFault, read_input, write_all};
+use streams::{StreamFault, read_input};
 
 /// How a call ended, before anything is written.
 #[derive(Drop)]
@@ -57,7 +57,7 @@ pub fn end_call<K: Sink>(alloc: Global, ending: Ending, usage: &'static [u8], si
     let Ok(text) = ending.into_text(alloc, usage) else {
         return NO_MEMORY;
     };
-    match write_all(sink, text.as_slice()) {
+    match text.write_to(sink) {
         Ok(()) => status,
         Err(_) => WRITE_FAILED,
     }

@@ -1,29 +1,39 @@
 //! What a program writes at its end.
-ghost use Rattle.std.specs.Prelude.{◌≡◌, IfOk};
+ghost use Rattle.std.specs.Prelude.{◌≡◌, IfOk, OnOk, OnErr};
+ghost use Rattle.std.specs.Io.KnownBytes.{Appends};
+ghost use Rattle.journal.specs.Causes.{HasCause};
+ghost use Rattle.streams.specs.Fronts.{AppendsFront};
 ghost use Rattle.command_line.specs.Lines as lines;
 ghost use Rattle.command_line.specs.Lines.{text_bytes};
 
+use journal::{Failed, Sink};
 use of_types::Octets;
-use report::{write_newline, write_number, write_word};
+use report::{ReportText, write_newline, write_number, write_word};
 use std::alloc::{AllocError, Global};
+use streams::write_all;
 
-/// What is written: a line that is always the same, or bytes of its own.
+/// What is written: a line that is always the same, bytes of its own, or what is told of a run.
 #[derive(Drop)]
 pub enum Text {
     /// A line that takes no memory.
     Fixed(&'static [u8]),
     /// Bytes of their own.
     Own(Octets),
+    /// A report, or its last line.
+    Report(ReportText),
 }
 
 impl Text {
-    /// The bytes.
-    pub fn as_slice(&self) -> &[u8]
-        ensures { result.now ≡ text_bytes self.now }
+    /// Writes the text to a sink until it has taken it all, and takes no memory. No refused write is tried again.
+    pub fn write_to<K: Sink>(&self, sink: &mut K) -> Result<(), Failed>
+        ensures ok { OnOk result (Appends (K.taken sink.old) (K.taken sink.new) (text_bytes self.now)) }
+        ensures err { OnErr result (AppendsFront (K.taken sink.old) (K.taken sink.new) (text_bytes self.now)) }
+        ensures cause { HasCause (K.faults sink.old) (K.faults sink.new) result }
     {
         match self {
-            Text::Fixed(line) => line,
-            Text::Own(bytes) => bytes.as_slice(),
+            Text::Fixed(line) => write_all(sink, line),
+            Text::Own(bytes) => write_all(sink, bytes.as_slice()),
+            Text::Report(text) => text.write_to(sink),
         }
     }
 }

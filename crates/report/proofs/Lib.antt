@@ -8,6 +8,7 @@ pub mod LogAgain
 pub mod MessagesAgain
 pub mod MessagesTaken
 pub mod Outputs
+pub mod Pieces
 pub mod Readers
 pub mod RecordAgain
 pub mod RecordTaken
@@ -16,7 +17,7 @@ pub mod SetupAgain
 pub mod SetupTaken
 pub mod SetupTests
 pub mod Writable
-pub mod Spaces
+pub mod Written
 pub mod Steps
 pub mod Takers
 pub mod Texts

@@ -2,10 +2,10 @@ pub mod Canonical
 pub mod Fits
 pub mod Lines
 pub mod OneLine
+pub mod Parts
 pub mod Reading
 pub mod Records
 pub mod Report
 pub mod Writable
 pub mod Spelled
 pub mod Sums
-pub mod Words

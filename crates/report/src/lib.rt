@@ -7,8 +7,10 @@ mod fault;
 mod fitting;
 mod journal_lines;
 mod laws;
+mod line;
 mod lines;
 mod log_lines;
+mod parts;
 mod reading;
 mod record;
 mod report_text;
@@ -19,17 +21,19 @@ mod spelled;
 mod sums;
 mod switch_lines;
 mod switches;
-mod word;
 mod words;
 mod writing;
 
 pub use fault::ReportFault;
 pub use fitting::record_fits;
 pub use laws::{record_law, report_law};
+pub use parts::ReportText;
 pub use reading::{REPORT_LIMIT, read_report};
 pub use record::{Record, RowRecord, SwitchRecord};
 pub use report_text::text;
 pub use sheet::Growing;
 pub use sums::{Sums, last_line};
-pub use words::{write_actor, write_digits, write_newline, write_number, write_word};
+pub use words::{
+    write_actor, write_digits, write_labelled, write_newline, write_number, write_word,
+};
 pub use writing::write_report;

@@ -1,14 +1,15 @@
 //! The lines of a report.
-ghost use Rattle.std.specs.Prelude.{◌≡◌, ◌++◌, ◌∷◌, [], ℕ, List, OnOk, codes};
+ghost use Rattle.std.specs.Prelude.{◌≡◌, ◌≤◌, ◌++◌, ℕ, List, length, OnOk};
 ghost use Rattle.journal.specs.declared.journal.JournalEntry.TheVariants as entry;
-ghost use Rattle.report.specs.Report.{lines_of, line, actor_word, entry_lines, event_words};
+ghost use Rattle.report.specs.Report.{lines_of, line, entry_lines, event_words, letter_line};
 
+use crate::line::Line;
 use crate::sheet::Sheet;
-use crate::word::{Word, write_line};
-use journal::{Actor, JournalEntry, Letter, Local};
+use journal::{Actor, Journal, JournalEntry, Letter, Letters, Local};
 use of_ravana::canonical_happening;
-use of_types::{Event, Link, Octets, Rule};
+use of_types::{Event, Items, Link, Octets, Rule};
 use std::alloc::{AllocError, Global};
+use std::mem::replace;
 use vr_log::Entry;
 
 /// What stands in a report as a line or as several.
@@ -36,14 +37,15 @@ impl Lines for Link {
 
     ghost lines = { link_line };
 
+    #[tactic(auto, unfolding(crate::specs::Report::line))]
     fn write_lines(&self, _: Global, out: &mut Sheet) -> Result<(), AllocError> {
-        let words = [
-            Word::Number(u64::from(self.switch)),
-            Word::Number(u64::from(self.port)),
-            Word::Number(u64::from(self.peer)),
-            Word::Number(u64::from(self.peer_port)),
-        ];
-        write_line(out, b"link", &words)
+        let mut line = Line::new();
+        line.begin(b"link");
+        line.number(u64::from(self.switch));
+        line.number(u64::from(self.port));
+        line.number(u64::from(self.peer));
+        line.number(u64::from(self.peer_port));
+        line.end(out)
     }
 }
 
@@ -52,136 +54,193 @@ impl Lines for Rule {
 
     ghost lines = { deny_line };
 
+    #[tactic(auto, unfolding(crate::specs::Report::line))]
     fn write_lines(&self, _: Global, out: &mut Sheet) -> Result<(), AllocError> {
-        let words = [
-            Word::Number(u64::from(self.proto)),
-            Word::Address(self.src.address),
-            Word::Number(u64::from(self.src.length)),
-            Word::Address(self.dst.address),
-            Word::Number(u64::from(self.dst.length)),
-            Word::NumberOrDash(self.port.map(u64::from)),
-        ];
-        write_line(out, b"deny", &words)
+        let mut line = Line::new();
+        line.begin(b"deny");
+        line.number(u64::from(self.proto));
+        line.address(self.src.address);
+        line.number(u64::from(self.src.length));
+        line.address(self.dst.address);
+        line.number(u64::from(self.dst.length));
+        line.number_or_dash(self.port.map(u64::from));
+        line.end(out)
     }
 }
 
-impl Lines for Letter<Octets> {
-    ghost use Rattle.report.specs.Report.{letter_line};
+/// Writes a letter. A long body is kept, and another is left in its place.
+#[tactic(auto, unfolding(crate::specs::Report::line))]
+fn write_letter(
+    alloc: Global,
+    out: &mut Sheet,
+    letter: &mut Letter<Octets>,
+) -> Result<(), AllocError>
+    ensures { OnOk result (out.new ≡ out.old ++ letter_line letter.old) }
+{
+    let mut line = Line::new();
+    line.begin(b"letter");
+    line.actor(letter.to);
+    line.end_with(alloc, out, &mut letter.body)
+}
 
-    ghost lines = { letter_line };
-
-    fn write_lines(&self, _: Global, out: &mut Sheet) -> Result<(), AllocError> {
-        let words = [Word::Actor(self.to), Word::Hex(self.body.as_slice())];
-        write_line(out, b"letter", &words)
+fn write_letters(
+    alloc: Global,
+    out: &mut Sheet,
+    letters: &mut [Letter<Octets>],
+) -> Result<(), AllocError>
+    ensures { OnOk result (out.new ≡ out.old ++ lines_of letter_line letters.old) }
+{
+    for letter in letters.iter_mut() {
+        write_letter(alloc, out, letter)?;
     }
+    Ok(())
 }
 
 /// Writes a post, and its letters.
+#[tactic(auto, unfolding(crate::specs::Report::line))]
 fn write_post(
     alloc: Global,
     out: &mut Sheet,
     actor: Actor,
     first: u64,
-    letters: &[Letter<Octets>],
+    letters: &mut Letters<Octets>,
     lost: u64,
 ) -> Result<(), AllocError>
-    ensures { OnOk result (out.new ≡ out.old ++ entry_lines (entry.Post actor first letters.now lost)) }
+    ensures { OnOk result (out.new ≡ out.old ++ entry_lines (entry.Post actor first letters.old lost)) }
 {
-    let words = [
-        Word::Actor(actor),
-        Word::Number(first),
-        Word::Number(letters.len() as u64),
-        Word::Number(lost),
-    ];
-    write_line(out, b"post", &words)?;
-    write_each(alloc, out, letters)
+    let mut line = Line::new();
+    line.begin(b"post");
+    line.actor(actor);
+    line.number(first);
+    line.number(letters.len() as u64);
+    line.number(lost);
+    line.end(out)?;
+    let mut each = replace(letters, Items::new(alloc)).into_vec();
+    let written = write_letters(alloc, out, &mut each);
+    *letters = Items::from_vec(each);
+    written
 }
 
-/// Writes the line of an input of one word.
-fn write_bare(out: &mut Sheet, actor: Actor, name: &[u8]) -> Result<(), AllocError>
-    ensures { OnOk result (out.new ≡ out.old ++ line (codes "local") (actor_word actor ∷ name.now ∷ [])) }
+#[tactic(auto, unfolding(crate::specs::Report::line))]
+fn write_local(
+    alloc: Global,
+    out: &mut Sheet,
+    actor: Actor,
+    input: &mut Local,
+) -> Result<(), AllocError>
+    ensures { OnOk result (out.new ≡ out.old ++ entry_lines (entry.Local actor input.old)) }
 {
-    write_line(out, b"local", &[Word::Actor(actor), Word::Text(name)])
-}
-
-fn write_local(out: &mut Sheet, actor: Actor, input: &Local) -> Result<(), AllocError>
-    ensures { OnOk result (out.new ≡ out.old ++ entry_lines (entry.Local actor input.now)) }
-{
+    let mut line = Line::new();
+    line.begin(b"local");
+    line.actor(actor);
     match input {
         Local::Frame { port, bytes } => {
-            let words = [
-                Word::Actor(actor),
-                Word::Text(b"frame"),
-                Word::Number(u64::from(*port)),
-                Word::Hex(bytes.as_slice()),
-            ];
-            write_line(out, b"local", &words)
+            line.text(b"frame");
+            line.number(u64::from(*port));
+            return line.end_with(alloc, out, bytes);
         }
         Local::Port { port, up } => {
-            let words = [
-                Word::Actor(actor),
-                Word::Text(b"port"),
-                Word::Number(u64::from(*port)),
-                Word::Flag(*up),
-            ];
-            write_line(out, b"local", &words)
+            line.text(b"port");
+            line.number(u64::from(*port));
+            line.flag(*up);
         }
         Local::Suspect { view } => {
-            let words = [
-                Word::Actor(actor),
-                Word::Text(b"suspect"),
-                Word::Number(u64::from(*view)),
-            ];
-            write_line(out, b"local", &words)
+            line.text(b"suspect");
+            line.number(u64::from(*view));
         }
-        Local::Tick => write_bare(out, actor, b"tick"),
-        Local::Crash => write_bare(out, actor, b"crash"),
-        Local::Restart => write_bare(out, actor, b"restart"),
+        Local::Tick => line.text(b"tick"),
+        Local::Crash => line.text(b"crash"),
+        Local::Restart => line.text(b"restart"),
+    }
+    line.end(out)
+}
+
+#[tactic(auto, unfolding(crate::specs::Report::line))]
+fn write_entry(
+    alloc: Global,
+    out: &mut Sheet,
+    told: &mut JournalEntry<Octets>,
+) -> Result<(), AllocError>
+    ensures { OnOk result (out.new ≡ out.old ++ entry_lines told.old) }
+{
+    match told {
+        JournalEntry::Post {
+            actor,
+            first,
+            letters,
+            lost,
+        } => write_post(alloc, out, *actor, *first, letters, *lost),
+        JournalEntry::Draw { actor, id, keep } => {
+            let mut line = Line::new();
+            line.begin(b"draw");
+            line.actor(*actor);
+            line.number(*id);
+            line.flag(*keep);
+            line.end(out)
+        }
+        JournalEntry::Lose { actor, id } => {
+            let mut line = Line::new();
+            line.begin(b"lose");
+            line.actor(*actor);
+            line.number(*id);
+            line.end(out)
+        }
+        JournalEntry::Local { actor, input } => write_local(alloc, out, *actor, input),
+        JournalEntry::Idle { actor } => {
+            let mut line = Line::new();
+            line.begin(b"idle");
+            line.actor(*actor);
+            line.end(out)
+        }
+        JournalEntry::Refused { .. } => Ok(()),
     }
 }
 
-impl Lines for JournalEntry<Octets> {
-    ghost lines = { entry_lines };
-
-    fn write_lines(&self, alloc: Global, out: &mut Sheet) -> Result<(), AllocError> {
-        match self {
-            JournalEntry::Post {
-                actor,
-                first,
-                letters,
-                lost,
-            } => write_post(alloc, out, *actor, *first, letters.as_slice(), *lost),
-            JournalEntry::Draw { actor, id, keep } => {
-                let words = [Word::Actor(*actor), Word::Number(*id), Word::Flag(*keep)];
-                write_line(out, b"draw", &words)
-            }
-            JournalEntry::Lose { actor, id } => {
-                write_line(out, b"lose", &[Word::Actor(*actor), Word::Number(*id)])
-            }
-            JournalEntry::Local { actor, input } => write_local(out, *actor, input),
-            JournalEntry::Idle { actor } => write_line(out, b"idle", &[Word::Actor(*actor)]),
-            JournalEntry::Refused { .. } => Ok(()),
-        }
+fn write_entries(
+    alloc: Global,
+    out: &mut Sheet,
+    entries: &mut [JournalEntry<Octets>],
+) -> Result<(), AllocError>
+    ensures { OnOk result (out.new ≡ out.old ++ lines_of entry_lines entries.old) }
+{
+    for told in entries.iter_mut() {
+        write_entry(alloc, out, told)?;
     }
+    Ok(())
+}
+
+/// Writes a journal. Its long bodies are kept, and others are left in their places.
+pub fn write_journal(
+    alloc: Global,
+    out: &mut Sheet,
+    journal: &mut Journal<Octets>,
+) -> Result<(), AllocError>
+    ensures { OnOk result (out.new ≡ out.old ++ lines_of entry_lines journal.old) }
+{
+    let mut entries = replace(journal, Items::new(alloc)).into_vec();
+    let written = write_entries(alloc, out, &mut entries);
+    *journal = Items::from_vec(entries);
+    written
 }
 
 /// Writes a line that tells an event.
+#[tactic(auto, unfolding(crate::specs::Report::line))]
 fn write_event(
     alloc: Global,
     out: &mut Sheet,
     first: &[u8],
     event: &Event,
 ) -> Result<(), AllocError>
+    requires { length first.now ≤ 16 }
     ensures { OnOk result (out.new ≡ out.old ++ line first.now (event_words event.now)) }
 {
-    let told = canonical_happening(alloc, &event.what)?;
-    let words = [
-        Word::Number(u64::from(event.switch)),
-        Word::Number(u64::from(event.life)),
-        Word::Number(event.number),
-        Word::Hex(told.as_slice()),
-    ];
-    write_line(out, first, &words)
+    let mut told = canonical_happening(alloc, &event.what)?;
+    let mut line = Line::new();
+    line.begin(first);
+    line.number(u64::from(event.switch));
+    line.number(u64::from(event.life));
+    line.number(event.number);
+    line.end_with(alloc, out, &mut told)
 }
 
 impl Lines for Entry {
@@ -189,10 +248,16 @@ impl Lines for Entry {
 
     ghost lines = { log_line };
 
+    #[tactic(auto, unfolding(crate::specs::Report::line))]
     fn write_lines(&self, alloc: Global, out: &mut Sheet) -> Result<(), AllocError> {
         match self {
             Entry::Received(event) => write_event(alloc, out, b"received", event),
-            Entry::Processed(place) => write_line(out, b"processed", &[Word::Number(*place)]),
+            Entry::Processed(place) => {
+                let mut line = Line::new();
+                line.begin(b"processed");
+                line.number(*place);
+                line.end(out)
+            }
         }
     }
 }

@@ -13,7 +13,6 @@ use crate::journal_lines::journal;
 use crate::log_lines::log;
 use crate::record::{Record, SwitchRecord};
 use crate::setup_lines::setup;
-use crate::sheet::Sheet;
 use crate::spelled::{after, end_of_line, ended, labelled};
 use crate::sums::write_sum_words;
 use crate::switch_lines::switches;
@@ -59,9 +58,9 @@ fn last_line<'a>(sums: &[u8], bytes: &'a [u8]) -> Result<((u64, u64), &'a [u8]),
 fn sum_words(alloc: Global, entries: usize, switches: &[SwitchRecord]) -> Result<Octets, AllocError>
     ensures { IfOk result (λ words. words ≡ report.sum_words entries switches.now) }
 {
-    let mut words = Sheet::new(alloc);
+    let mut words = Octets::new(alloc);
     write_sum_words(&mut words, entries, switches)?;
-    words.into_octets()
+    Ok(words)
 }
 
 /// The turns of the script and of the closing, behind the lines of these switches.

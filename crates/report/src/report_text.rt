@@ -3,13 +3,14 @@ ghost use Rattle.std.specs.Prelude.{◌≡◌, ◌≤◌, ◌^◌, ◌++◌, IfO
 ghost use Rattle.vr_log.specs.Log.{entry_size, log_size};
 ghost use Rattle.report.specs.Report.{port_line, port_lines, setup_line, setup_lines, log_lines, text};
 
-use crate::lines::write_each;
+use crate::line::Line;
+use crate::lines::{write_each, write_journal};
+use crate::parts::ReportText;
 use crate::record::Record;
 use crate::sheet::Sheet;
 use crate::sums::write_end;
 use crate::switches::write_switches;
-use crate::word::{Word, write_line};
-use of_types::{Happening, Octets, Setup, size_of_match};
+use of_types::{Happening, Setup, size_of_match};
 use std::alloc::{AllocError, Global};
 use vr_log::Entry;
 
@@ -24,27 +25,30 @@ pub fn size_of_log(log: &[Entry]) -> u128
     size
 }
 
-/// The text of a report. It is made in a fixed number of passes over the record.
-#[tactic(auto, unfolding(crate::specs::Report::line, crate::specs::Report::text))]
-pub fn text(alloc: Global, told: &Record) -> Result<Octets, AllocError>
-    ensures { IfOk result (λ bytes. bytes ≡ text told.now) }
+/// The text of a report. It is made in a fixed number of passes over the record, whose long bodies go to the text.
+#[tactic(auto, unfolding(crate::specs::Report::end_line, crate::specs::Report::line, crate::specs::Report::text))]
+pub fn text(alloc: Global, told: &mut Record) -> Result<ReportText, AllocError>
+    ensures { IfOk result (λ made. made ≡ text told.old) }
 {
     let mut out = Sheet::new(alloc);
-    write_line(&mut out, b"ravana report 1", &[])?;
+    out.append(b"ravana report 1\n")?;
     write_setup(alloc, &mut out, &told.setup)?;
-    write_each(alloc, &mut out, told.journal.as_slice())?;
+    write_journal(alloc, &mut out, &mut told.journal)?;
     write_log(alloc, &mut out, told.log.as_slice())?;
     write_switches(alloc, &mut out, told.switches.as_slice())?;
     write_end(&mut out, told)?;
-    out.into_octets()
+    out.into_text()
 }
 
-#[tactic(auto, unfolding(crate::specs::Report::port_line))]
+#[tactic(auto, unfolding(crate::specs::Report::line, crate::specs::Report::port_line))]
 fn write_port_line(out: &mut Sheet, switch: usize, count: u32) -> Result<(), AllocError>
     ensures { OnOk result (out.new ≡ out.old ++ port_line switch count) }
 {
-    let words = [Word::Number(switch as u64), Word::Number(u64::from(count))];
-    write_line(out, b"ports", &words)
+    let mut line = Line::new();
+    line.begin(b"ports");
+    line.number(switch as u64);
+    line.number(u64::from(count));
+    line.end(out)
 }
 
 /// Writes how many ports each switch has.
@@ -58,15 +62,15 @@ fn write_ports(out: &mut Sheet, counts: &[u32]) -> Result<(), AllocError>
     Ok(())
 }
 
-#[tactic(auto, unfolding(crate::specs::Report::setup_line))]
+#[tactic(auto, unfolding(crate::specs::Report::line, crate::specs::Report::setup_line))]
 fn write_setup_line(out: &mut Sheet, setup: &Setup) -> Result<(), AllocError>
     ensures { OnOk result (out.new ≡ out.old ++ setup_line setup.now) }
 {
-    let words = [
-        Word::Number(u64::from(setup.controllers)),
-        Word::Number(setup.ports.len() as u64),
-    ];
-    write_line(out, b"setup", &words)
+    let mut line = Line::new();
+    line.begin(b"setup");
+    line.number(u64::from(setup.controllers));
+    line.number(setup.ports.len() as u64);
+    line.end(out)
 }
 
 #[tactic(auto, unfolding(crate::specs::Report::setup_lines))]
@@ -94,11 +98,14 @@ fn size_of_entry(entry: &Entry) -> u128
     }
 }
 
-#[tactic(auto, unfolding(crate::specs::Report::log_lines))]
+#[tactic(auto, unfolding(crate::specs::Report::line, crate::specs::Report::log_lines))]
 fn write_log(alloc: Global, out: &mut Sheet, log: &[Entry]) -> Result<(), AllocError>
     ensures { OnOk result (out.new ≡ out.old ++ log_lines log.now) }
 {
-    let words = [Word::Number(log.len() as u64), Word::Sum(size_of_log(log))];
-    write_line(out, b"log", &words)?;
+    let mut line = Line::new();
+    line.begin(b"log");
+    line.number(log.len() as u64);
+    line.sum(size_of_log(log));
+    line.end(out)?;
     write_each(alloc, out, log)
 }

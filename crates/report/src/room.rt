@@ -82,7 +82,7 @@ fn hex_digit(n: u8) -> u8
     requires { n < 16 }
     ensures { result ≡ hex_digit n }
 {
-    if n >= 10 { n + 87 } else { n + 48 }
+    n + b'0' + if n >= 10 { b'a' - b'0' - 10 } else { 0 }
 }
 
 /// Spells bytes by two digits each in the front of a place.

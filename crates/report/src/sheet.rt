@@ -2,10 +2,15 @@
 ghost use Rattle.std.specs.Prelude.{◌≡◌, ◌≤◌, ◌*◌, ◌++◌, ℕ, List, [], length, IfOk, OnOk};
 ghost use Rattle.report.specs.Report.{hex_of};
 
+use crate::parts::{Part, ReportText};
 use crate::room::{ROOM, Room};
-use of_types::Octets;
+use of_types::{Items, Octets};
 use std::alloc::{AllocError, Global};
 use std::marker::Model;
+use std::mem::replace;
+
+/// How many bytes a body has at least that is kept as it is.
+const LONG: usize = 512;
 
 /// What grows at its end as a text is written.
 pub trait Growing {
@@ -24,20 +29,22 @@ impl Growing for Octets {
     }
 }
 
-/// The bytes of a text so far. Words are small: the last bytes wait in the value itself and are moved to the list many at a time.
-/// Contracts see it as all of its bytes.
+/// The bytes of a text so far: parts with long bodies, which are kept as they are, and the words behind them. Words are small: the
+/// last bytes wait in the value itself and are moved to the list many at a time. Contracts see it as all of its bytes.
 #[derive(Drop)]
 pub struct Sheet {
+    parts: Items<Part>,
     written: Octets,
     waiting: Room,
 }
 
 impl Model for Sheet {
     ghost use Rattle.std.specs.Prelude.{List, ℕ, ◌++◌};
+    ghost use Rattle.report.specs.Parts.{parts_text};
 
     ghost Value = { List ℕ };
 
-    ghost view = { λ sheet. sheet.written ++ sheet.waiting };
+    ghost view = { λ sheet. parts_text sheet.parts ++ (sheet.written ++ sheet.waiting) };
 }
 
 impl Sheet {
@@ -46,6 +53,7 @@ impl Sheet {
         ensures { result ≡ [] }
     {
         Sheet {
+            parts: Items::new(alloc),
             written: Octets::new(alloc),
             waiting: Room::new(),
         }
@@ -79,16 +87,39 @@ impl Sheet {
         Ok(())
     }
 
-    /// The bytes as a list.
-    pub fn into_octets(self) -> Result<Octets, AllocError>
-        ensures { IfOk result (λ bytes. bytes ≡ self) }
+    /// Appends the digits of bytes. A long list of them is kept, and another is left in its place.
+    pub fn append_hex_of(&mut self, alloc: Global, bytes: &mut Octets) -> Result<(), AllocError>
+        ensures { OnOk result (self.new ≡ self.old ++ hex_of bytes.old) }
+    {
+        if bytes.len() < LONG {
+            return self.append_hex(bytes.as_slice());
+        }
+        let body = replace(bytes, Octets::new(alloc));
+        self.keep(alloc, body)
+    }
+
+    /// The text.
+    pub fn into_text(self) -> Result<ReportText, AllocError>
+        ensures { IfOk result (λ text. text ≡ self) }
     {
         let Sheet {
+            parts,
             mut written,
             waiting,
         } = self;
         written.append(waiting.as_slice())?;
-        Ok(written)
+        Ok(ReportText::new(parts, written))
+    }
+
+    /// Ends a part with a body.
+    #[inline(never)]
+    fn keep(&mut self, alloc: Global, body: Octets) -> Result<(), AllocError>
+        ensures { OnOk result (self.new ≡ self.old ++ hex_of body) }
+    {
+        move_on(&mut self.written, &mut self.waiting)?;
+        let words = replace(&mut self.written, Octets::new(alloc));
+        self.parts.push(Part { words, body })?;
+        Ok(())
     }
 
     /// Appends bytes for which there is no room among those that wait.

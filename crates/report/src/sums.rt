@@ -3,11 +3,10 @@ ghost use Rattle.std.specs.Prelude.{◌≡◌, ◌++◌, length, sum_by, IfOk, O
 ghost use Rattle.report.specs.Report.{end_line, sum_words, sums_words};
 ghost use Rattle.report.specs.Sums.{sums_in, sums_line};
 
+use crate::parts::ReportText;
 use crate::record::{Record, SwitchRecord};
-use crate::sheet::Sheet;
-use crate::word::{Word, write_words};
-use crate::words::write_newline;
-use of_types::Octets;
+use crate::sheet::{Growing, Sheet};
+use crate::words::{write_labelled, write_newline};
 use std::alloc::{AllocError, Global};
 
 /// How many turns the script and the closing of a run were, and how many events, entries of the log, executed commands and rows
@@ -37,36 +36,29 @@ fn counts(switches: &[SwitchRecord]) -> (u128, u128, u128)
     (events, executed, rows)
 }
 
-#[tactic(auto, unfolding(crate::specs::Report::labelled))]
-fn write_counts(
-    out: &mut Sheet,
+#[tactic(auto, unfolding(crate::specs::Report::number_text))]
+fn write_counts<G: Growing>(
+    out: &mut G,
     events: u128,
     entries: u64,
     executed: u128,
     rows: u128,
 ) -> Result<(), AllocError>
-    ensures { OnOk result (out.new ≡ out.old ++ sums_words events entries executed rows) }
+    ensures { OnOk result (G.bytes out.new ≡ G.bytes out.old ++ sums_words events entries executed rows) }
 {
-    let words = [
-        Word::Text(b"events"),
-        Word::Sum(events),
-        Word::Text(b"log"),
-        Word::Number(entries),
-        Word::Text(b"commands"),
-        Word::Sum(executed),
-        Word::Text(b"rows"),
-        Word::Sum(rows),
-    ];
-    write_words(out, &words)
+    write_labelled(out, b"events", events)?;
+    write_labelled(out, b"log", entries)?;
+    write_labelled(out, b"commands", executed)?;
+    write_labelled(out, b"rows", rows)
 }
 
 #[tactic(auto, unfolding(crate::specs::Report::sum_words))]
-pub fn write_sum_words(
-    out: &mut Sheet,
+pub fn write_sum_words<G: Growing>(
+    out: &mut G,
     entries: usize,
     switches: &[SwitchRecord],
 ) -> Result<(), AllocError>
-    ensures { OnOk result (out.new ≡ out.old ++ sum_words entries switches.now) }
+    ensures { OnOk result (G.bytes out.new ≡ G.bytes out.old ++ sum_words entries switches.now) }
 {
     let (events, executed, rows) = counts(switches);
     write_counts(out, events, entries as u64, executed, rows)
@@ -87,18 +79,13 @@ fn sums_in(told: &Record) -> Sums
     }
 }
 
-#[tactic(auto, unfolding(crate::specs::Report::labelled, crate::specs::Sums::sums_line))]
+#[tactic(auto, unfolding(crate::specs::Report::number_text, crate::specs::Sums::sums_line))]
 fn write_sums(out: &mut Sheet, sums: &Sums) -> Result<(), AllocError>
     ensures { OnOk result (out.new ≡ out.old ++ sums_line sums.now) }
 {
     out.append(b"end")?;
-    let turns = [
-        Word::Text(b"script"),
-        Word::Number(sums.script),
-        Word::Text(b"closing"),
-        Word::Number(sums.closing),
-    ];
-    write_words(out, &turns)?;
+    write_labelled(out, b"script", sums.script)?;
+    write_labelled(out, b"closing", sums.closing)?;
     write_counts(out, sums.events, sums.entries, sums.executed, sums.rows)?;
     write_newline(out)
 }
@@ -112,10 +99,10 @@ pub fn write_end(out: &mut Sheet, told: &Record) -> Result<(), AllocError>
 }
 
 /// The last line of each report with these sums, alone.
-pub fn last_line(alloc: Global, sums: &Sums) -> Result<Octets, AllocError>
+pub fn last_line(alloc: Global, sums: &Sums) -> Result<ReportText, AllocError>
     ensures { IfOk result (λ line. line ≡ sums_line sums.now) }
 {
     let mut out = Sheet::new(alloc);
     write_sums(&mut out, sums)?;
-    out.into_octets()
+    out.into_text()
 }

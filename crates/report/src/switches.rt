@@ -2,11 +2,11 @@
 ghost use Rattle.std.specs.Prelude.{◌≡◌, ◌++◌, OnOk};
 ghost use Rattle.report.specs.Report.{lines_of, executed_line, row_line, role_words, count_words, switch_line, told_lines, switch_lines};
 
+use crate::line::Line;
 use crate::lines::write_each;
 use crate::record::{RowRecord, SwitchRecord};
 use crate::sheet::Sheet;
-use crate::word::{Word, write_line, write_words};
-use crate::words::{write_newline, write_number};
+use crate::words::{write_hex, write_labelled, write_newline, write_number};
 use journal::Actor;
 use of_match::bare_match;
 use of_messages::actions_of;
@@ -28,6 +28,7 @@ pub fn write_switches(
     Ok(())
 }
 
+#[tactic(auto, unfolding(crate::specs::Report::line))]
 fn write_executed(
     alloc: Global,
     out: &mut Sheet,
@@ -36,16 +37,15 @@ fn write_executed(
 ) -> Result<(), AllocError>
     ensures { OnOk result (out.new ≡ out.old ++ executed_line switch command.now) }
 {
-    let held = canonical_order(alloc, &command.order)?;
-    let words = [
-        Word::Number(switch as u64),
-        Word::Number(u64::from(command.life)),
-        Word::Number(command.number),
-        Word::Number(command.generation),
-        Word::Actor(Actor::Controller(command.from)),
-        Word::Hex(held.as_slice()),
-    ];
-    write_line(out, b"executed", &words)
+    let mut held = canonical_order(alloc, &command.order)?;
+    let mut line = Line::new();
+    line.begin(b"executed");
+    line.number(switch as u64);
+    line.number(u64::from(command.life));
+    line.number(command.number);
+    line.number(command.generation);
+    line.actor(Actor::Controller(command.from));
+    line.end_with(alloc, out, &mut held)
 }
 
 #[tactic(auto, unfolding(crate::specs::Report::lines_of))]
@@ -63,6 +63,7 @@ fn write_executed_all(
     Ok(())
 }
 
+#[tactic(auto, unfolding(crate::specs::Report::line))]
 fn write_row(
     alloc: Global,
     out: &mut Sheet,
@@ -73,13 +74,14 @@ fn write_row(
 {
     let matching = bare_match(alloc, &row.matching)?;
     let actions = actions_of(alloc, row.actions.as_slice())?;
-    let words = [
-        Word::Number(switch as u64),
-        Word::Number(u64::from(row.priority)),
-        Word::Hex(matching.as_slice()),
-        Word::Hex(actions.as_slice()),
-    ];
-    write_line(out, b"row", &words)
+    let mut line = Line::new();
+    line.begin(b"row");
+    line.number(switch as u64);
+    line.number(u64::from(row.priority));
+    line.write(out)?;
+    write_hex(out, matching.as_slice())?;
+    write_hex(out, actions.as_slice())?;
+    write_newline(out)
 }
 
 #[tactic(auto, unfolding(crate::specs::Report::lines_of))]
@@ -101,34 +103,25 @@ fn write_rows(
 fn write_role_words(out: &mut Sheet, told: &SwitchRecord) -> Result<(), AllocError>
     ensures { OnOk result (out.new ≡ out.old ++ role_words told.now) }
 {
-    let words = [
-        Word::Text(b"generation"),
-        Word::NumberOrDash(told.generation),
-        Word::Text(b"master"),
-        Word::Master(told.master),
-        Word::Text(b"life"),
-        Word::Number(u64::from(told.life)),
-    ];
-    write_words(out, &words)
+    let mut line = Line::new();
+    line.text(b"generation");
+    line.number_or_dash(told.generation);
+    line.text(b"master");
+    line.master(told.master);
+    line.text(b"life");
+    line.number(u64::from(told.life));
+    line.write(out)
 }
 
-#[tactic(auto, unfolding(crate::specs::Report::labelled, crate::specs::Report::count_words))]
+#[tactic(auto, unfolding(crate::specs::Report::number_text, crate::specs::Report::count_words))]
 fn write_count_words(out: &mut Sheet, told: &SwitchRecord) -> Result<(), AllocError>
     ensures { OnOk result (out.new ≡ out.old ++ count_words told.now) }
 {
-    let words = [
-        Word::Text(b"events"),
-        Word::Number(told.events.len() as u64),
-        Word::Text(b"held"),
-        Word::Number(told.held),
-        Word::Text(b"executed"),
-        Word::Number(told.executed.len() as u64),
-        Word::Text(b"rows"),
-        Word::Number(told.rows.len() as u64),
-        Word::Text(b"sent"),
-        Word::Number(told.sent),
-    ];
-    write_words(out, &words)
+    write_labelled(out, b"events", told.events.len())?;
+    write_labelled(out, b"held", told.held)?;
+    write_labelled(out, b"executed", told.executed.len())?;
+    write_labelled(out, b"rows", told.rows.len())?;
+    write_labelled(out, b"sent", told.sent)
 }
 
 #[tactic(auto, unfolding(crate::specs::Report::number_text, crate::specs::Report::switch_line))]

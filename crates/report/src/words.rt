@@ -1,12 +1,13 @@
 //! The words of a line, each behind a space.
 ghost use Rattle.std.specs.Prelude.{◌≡◌, ◌<◌, ◌∷◌, ◌++◌, OnOk};
 ghost use Rattle.std.specs.Fmt.{decimal};
-ghost use Rattle.report.specs.Report.{hex, word, newline, actor_word, flag, number_or_dash, master_word, address_word};
+ghost use Rattle.report.specs.Report.{hex, word, newline, actor_word, flag, number_or_dash, master_word, address_word, labelled};
 
 use crate::sheet::{Growing, Sheet};
 use itoa::{Buffer, Integer};
 use journal::Actor;
-use std::alloc::AllocError;
+use of_types::Octets;
+use std::alloc::{AllocError, Global};
 
 /// Writes the digits of a number.
 pub fn write_digits<G: Growing, N: Integer>(out: &mut G, n: N) -> Result<(), AllocError>
@@ -33,17 +34,17 @@ pub fn write_number<G: Growing, N: Integer>(out: &mut G, n: N) -> Result<(), All
     write_digits(out, n)
 }
 
-/// Writes a space and the digits of a number that mostly has one.
-#[inline(always)]
-#[tactic(auto, unfolding(crate::specs::Report::word))]
-pub fn write_small(out: &mut Sheet, n: u64) -> Result<(), AllocError>
-    ensures { OnOk result (out.new ≡ out.old ++ word (decimal n)) }
+/// Writes a name and a number, each behind a space.
+#[tactic(auto, unfolding(crate::specs::Report::labelled))]
+pub fn write_labelled<G: Growing, N: Integer>(
+    out: &mut G,
+    name: &[u8],
+    n: N,
+) -> Result<(), AllocError>
+    ensures { OnOk result (G.bytes out.new ≡ G.bytes out.old ++ labelled name.now (N.text n)) }
 {
-    if n < 10 {
-        return out.append(&[b' ', b'0' + n as u8]);
-    }
-    out.append(b" ")?;
-    write_digits(out, n)
+    write_word(out, name)?;
+    write_number(out, n)
 }
 
 /// Writes the end of a line.
@@ -64,68 +65,12 @@ pub fn write_actor<G: Growing>(out: &mut G, actor: Actor) -> Result<(), AllocErr
     }
 }
 
-/// Writes a space, a letter and the digits of a number that mostly has one.
+/// Writes a space, a letter and the digits of a number.
 fn write_named<G: Growing>(out: &mut G, letter: u8, n: u8) -> Result<(), AllocError>
     ensures { OnOk result (G.bytes out.new ≡ G.bytes out.old ++ 32 ∷ letter ∷ decimal n) }
 {
-    if n < 10 {
-        return out.put(&[b' ', letter, b'0' + n]);
-    }
     out.put(&[b' ', letter])?;
     write_digits(out, n)
-}
-
-#[tactic(auto, unfolding(crate::specs::Report::flag))]
-pub fn write_flag(out: &mut Sheet, is_set: bool) -> Result<(), AllocError>
-    ensures { OnOk result (out.new ≡ out.old ++ word (flag is_set)) }
-{
-    if is_set {
-        write_word(out, b"1")
-    } else {
-        write_word(out, b"0")
-    }
-}
-
-/// Writes a number, or a dash for none.
-#[tactic(auto, unfolding(crate::specs::Report::number_or_dash))]
-pub fn write_number_or_dash(out: &mut Sheet, n: Option<u64>) -> Result<(), AllocError>
-    ensures { OnOk result (out.new ≡ out.old ++ word (number_or_dash n)) }
-{
-    match n {
-        None => write_word(out, b"-"),
-        Some(n) => write_small(out, n),
-    }
-}
-
-/// Writes a controller, or a dash for none.
-#[tactic(auto, unfolding(crate::specs::Report::master_word))]
-pub fn write_master(out: &mut Sheet, master: Option<u8>) -> Result<(), AllocError>
-    ensures { OnOk result (out.new ≡ out.old ++ word (master_word master)) }
-{
-    match master {
-        None => write_word(out, b"-"),
-        Some(c) => write_actor(out, Actor::Controller(c)),
-    }
-}
-
-/// Writes a byte of an address, behind a dot.
-fn write_dotted(out: &mut Sheet, byte: u8) -> Result<(), AllocError>
-    ensures { OnOk result (out.new ≡ out.old ++ 46 ∷ decimal byte) }
-{
-    out.append(b".")?;
-    write_digits(out, byte)
-}
-
-/// Writes an IPv4 address as its four bytes.
-#[tactic(auto, unfolding(crate::specs::Report::word, crate::specs::Report::address_word))]
-pub fn write_address(out: &mut Sheet, address: u32) -> Result<(), AllocError>
-    ensures { OnOk result (out.new ≡ out.old ++ word (address_word address)) }
-{
-    let [a, b, c, d] = address.to_be_bytes();
-    write_number(out, a)?;
-    write_dotted(out, b)?;
-    write_dotted(out, c)?;
-    write_dotted(out, d)
 }
 
 /// Writes bytes as digits of base sixteen in lower case, or a dash for none.
@@ -138,4 +83,16 @@ pub fn write_hex(out: &mut Sheet, bytes: &[u8]) -> Result<(), AllocError>
     }
     out.append(b" ")?;
     out.append_hex(bytes)
+}
+
+/// Writes the same of a list of bytes. A long one is kept, and another is left in its place.
+#[tactic(auto, unfolding(crate::specs::Report::word, crate::specs::Report::hex))]
+pub fn write_hex_of(alloc: Global, out: &mut Sheet, bytes: &mut Octets) -> Result<(), AllocError>
+    ensures { OnOk result (out.new ≡ out.old ++ word (hex bytes.old)) }
+{
+    if bytes.is_empty() {
+        return write_word(out, b"-");
+    }
+    out.append(b" ")?;
+    out.append_hex_of(alloc, bytes)
 }

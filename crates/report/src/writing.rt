@@ -10,18 +10,22 @@ use crate::record::Record;
 use crate::report_text::text;
 use journal::Sink;
 use std::alloc::Global;
-use streams::{StreamFault, write_all};
+use streams::StreamFault;
 
 /// Writes the text of a report to a sink, once the whole text stands. No refused write is tried again.
-pub fn write_report<K: Sink>(alloc: Global, told: &Record, sink: &mut K) -> Result<(), StreamFault>
-    ensures ok { OnOk result (Appends (K.taken sink.old) (K.taken sink.new) (text told.now)) }
-    ensures front { result ≡ Err faults.Failed → AppendsFront (K.taken sink.old) (K.taken sink.new) (text told.now) }
+pub fn write_report<K: Sink>(
+    alloc: Global,
+    told: &mut Record,
+    sink: &mut K,
+) -> Result<(), StreamFault>
+    ensures ok { OnOk result (Appends (K.taken sink.old) (K.taken sink.new) (text told.old)) }
+    ensures front { result ≡ Err faults.Failed → AppendsFront (K.taken sink.old) (K.taken sink.new) (text told.old) }
     ensures cause { result ≡ Err faults.Failed → Rose (K.faults sink.old) (K.faults sink.new) }
     ensures later { K.faults sink.old ≤ K.faults sink.new }
     ensures served { OnOk result (K.faults sink.new ≡ K.faults sink.old) }
     ensures unchanged { result ≡ Err faults.OutOfMemory → sink.new ≡ sink.old }
 {
     let text = text(alloc, told)?;
-    write_all(sink, text.as_slice())?;
+    text.write_to(sink)?;
     Ok(())
 }

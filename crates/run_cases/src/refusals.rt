@@ -12,10 +12,10 @@ use app_core::App;
 use audit::{Verdict, check};
 use cases::Difference;
 use closing::{ClosingOutcome, may_close};
-use journal::{JournalEntry, MemoryStable, Stable, Stop, Turn};
+use journal::{JournalEntry, MemorySink, MemoryStable, Stable, Stop, Turn};
 use of_types::Octets;
 use players::{Body, Bytes};
-use report::text;
+use report::write_report;
 use scenario::{Scenario, read_scenario};
 use std::alloc::{AllocError, Global};
 use top_call::stables;
@@ -98,8 +98,12 @@ fn bare_report(
 ) -> Result<Octets, AllocError>
     requires { primary < length world.now.controllers }
 {
-    let told = bare_record(alloc, world, primary, 0, 0)?;
-    text(alloc, &told)
+    let mut told = bare_record(alloc, world, primary, 0, 0)?;
+    let mut sink = MemorySink::new(alloc, usize::MAX, Vec::new(alloc));
+    match write_report(alloc, &mut told, &mut sink) {
+        Ok(()) => Octets::from_slice(alloc, sink.taken()),
+        Err(_) => Err(AllocError),
+    }
 }
 
 /// Whether the audit finds nothing in the report of a world, by its committed log and its switches.

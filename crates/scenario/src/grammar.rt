@@ -118,10 +118,15 @@ fn hex_bytes(alloc: Global, text: &str) -> Result<Option<Octets>, AllocError>
     }
 }
 
+/// Whether a letter is a capital one. It looks at each, since many are looked at at once where none ends the search.
 fn has_capital(text: &[u8]) -> bool
     ensures { result ≡ list_any grammar.is_capital text.now }
 {
-    text.iter().any(|digit| digit.is_ascii_uppercase())
+    let mut found = false;
+    for digit in text {
+        found |= digit.is_ascii_uppercase();
+    }
+    found
 }
 
 /// The same of digits among which there is no capital letter.

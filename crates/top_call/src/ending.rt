@@ -7,7 +7,7 @@ ghost use Rattle.top_call.specs.Ending.{outcome_text, ending_status};
 
 use command_line::{Text, differs_line, unread_line};
 use of_types::Octets;
-use report::{write_newline, write_number, write_word};
+use report::{ReportText, write_labelled, write_newline, write_word};
 use scenario::{Fault, FaultKind, FaultPlace};
 use std::alloc::{AllocError, Global};
 use vr_log::LogFull;
@@ -16,7 +16,7 @@ use vr_log::LogFull;
 #[derive(Drop)]
 pub enum Ending {
     /// The run came to rest. What is told of it.
-    Report(Octets),
+    Report(ReportText),
     /// The words are not accepted.
     Usage,
     /// The bytes are no scenario, or more than a report has.
@@ -69,20 +69,12 @@ fn fault(alloc: Global, status: &[u8]) -> Result<Octets, AllocError>
     Ok(line)
 }
 
-/// Writes a name and its number.
-#[tactic(auto, unfolding(report::specs::Report::number_text))]
-fn write_named(line: &mut Octets, name: &[u8], value: u64) -> Result<(), AllocError>
-    ensures { OnOk result (line.new ≡ line.old ++ (word name.now ++ word (number_text value))) }
-{
-    write_word(line, name)?;
-    write_number(line, value)
-}
-
 /// Writes a word and its number, and ends the line.
+#[tactic(auto, unfolding(report::specs::Report::labelled, report::specs::Report::number_text))]
 fn end_with(line: &mut Octets, name: &[u8], value: u64) -> Result<(), AllocError>
     ensures { OnOk result (line.new ≡ line.old ++ further (name.now ∷ number_text value ∷ [])) }
 {
-    write_named(line, name, value)?;
+    write_labelled(line, name, value)?;
     write_newline(line)?;
     Ok(())
 }
@@ -114,36 +106,36 @@ fn fault_line(alloc: Global, refused: Fault) -> Result<Octets, AllocError>
     Ok(line)
 }
 
-#[tactic(auto, unfolding(crate::specs::Lines::no_quorum_line, report::specs::Report::line))]
+#[tactic(auto, unfolding(crate::specs::Lines::no_quorum_line, report::specs::Report::labelled, report::specs::Report::line, report::specs::Report::number_text))]
 fn no_quorum_line(alloc: Global, up: u64, needed: u64) -> Result<Octets, AllocError>
     ensures { IfOk result (λ line. line ≡ lines.no_quorum_line up needed) }
 {
     let mut line = fault(alloc, b"7")?;
-    write_named(&mut line, b"up", up)?;
-    write_named(&mut line, b"needed", needed)?;
+    write_labelled(&mut line, b"up", up)?;
+    write_labelled(&mut line, b"needed", needed)?;
     write_newline(&mut line)?;
     Ok(line)
 }
 
-#[tactic(auto, unfolding(crate::specs::Lines::overfull_line, report::specs::Report::line))]
+#[tactic(auto, unfolding(crate::specs::Lines::overfull_line, report::specs::Report::labelled, report::specs::Report::line, report::specs::Report::number_text))]
 fn overfull_line(alloc: Global, limit: LogFull) -> Result<Octets, AllocError>
     ensures { IfOk result (λ line. line ≡ lines.overfull_line limit) }
 {
     let mut line = fault(alloc, b"9")?;
-    write_named(&mut line, b"length", limit.length)?;
-    write_named(&mut line, b"bytes", limit.bytes)?;
-    write_named(&mut line, b"next", limit.next)?;
+    write_labelled(&mut line, b"length", limit.length)?;
+    write_labelled(&mut line, b"bytes", limit.bytes)?;
+    write_labelled(&mut line, b"next", limit.next)?;
     write_newline(&mut line)?;
     Ok(line)
 }
 
-#[tactic(auto, unfolding(crate::specs::Lines::unposted_line, report::specs::Report::line))]
+#[tactic(auto, unfolding(crate::specs::Lines::unposted_line, report::specs::Report::labelled, report::specs::Report::line, report::specs::Report::number_text))]
 fn unposted_line(alloc: Global, bytes: u64, letters: u64) -> Result<Octets, AllocError>
     ensures { IfOk result (λ line. line ≡ lines.unposted_line bytes letters) }
 {
     let mut line = fault(alloc, b"10")?;
-    write_named(&mut line, b"bytes", bytes)?;
-    write_named(&mut line, b"letters", letters)?;
+    write_labelled(&mut line, b"bytes", bytes)?;
+    write_labelled(&mut line, b"letters", letters)?;
     write_newline(&mut line)?;
     Ok(line)
 }
@@ -171,7 +163,7 @@ impl Ending {
         ensures err { OnErr result (ending_status self ≢ 4) }
     {
         match self {
-            Ending::Report(text) => Ok(Text::Own(text)),
+            Ending::Report(text) => Ok(Text::Report(text)),
             Ending::Usage => Ok(Text::Fixed(usage_line())),
             Ending::Unread => Ok(Text::Fixed(unread_line())),
             Ending::Same => Ok(Text::Fixed(same_line())),

@@ -15,10 +15,9 @@ use crate::remains::Remains;
 use app_core::App;
 use closing::ClosingOutcome;
 use journal::{Gate, Stable, Stop};
-use of_types::Octets;
 use players::Bytes;
 use playing::{play, play_apart};
-use report::{last_line, record_fits, text};
+use report::{ReportText, last_line, record_fits, text};
 use scenario::Scenario;
 use std::alloc::{AllocError, Global};
 use std::sync::Wait;
@@ -34,7 +33,7 @@ pub enum Output {
 }
 
 impl Output {
-    /// What is told of a world, in bytes, with the log of a primary, and with so many steps of a script, which made so many of
+    /// What is told of a world, with the log of a primary, and with so many steps of a script, which made so many of
     /// its entries.
     fn text_of<A: App>(
         self,
@@ -44,19 +43,20 @@ impl Output {
         steps: usize,
         script: usize,
         remains: Remains,
-    ) -> Result<Octets, AllocError>
+    ) -> Result<ReportText, AllocError>
         requires led { primary < length world.controllers }
         requires script { script ≤ length world.journal }
-        ensures text { IfOk result (λ bytes. bytes ≡ told_text self (told_by world primary steps script)) }
+        ensures text { IfOk result (λ made. made ≡ told_text self (told_by world primary steps script)) }
         ensures fits { IfOk result (λ _. IfReport self (FitsRecord (told_by world primary steps script))) }
     {
         match self {
             Output::Report => {
-                let told = record_of(alloc, world, primary, steps, script)?;
+                let (mut told, actors) = record_of(alloc, world, primary, steps, script)?;
+                remains.let_go(actors);
                 record_fits(&told);
-                let bytes = text(alloc, &told);
+                let made = text(alloc, &mut told);
                 remains.let_go(told);
-                bytes
+                made
             }
             Output::LastLine => {
                 let sums = sums_of(&world, primary, steps, script);

@@ -27,7 +27,7 @@ use scenario::{Scenario, ScenarioFault, generate, read_scenario};
 use std::alloc::{AllocError, Global};
 use std::sync::Wait;
 use std::thread::Threads;
-use streams::{StreamFault, read_input, write_all};
+use streams::{StreamFault, read_input};
 
 /// Serves one call. `sim` reads a scenario from the source, plays it turn by turn, brings it to rest and writes its report;
 /// `run` does the same with a thread for each actor, which passes the gate before each of its turns; `gen` does it with the
@@ -89,7 +89,7 @@ pub fn ravana<
     let Ok(text) = ending.into_text(alloc) else {
         return NO_MEMORY;
     };
-    match write_all(sink, text.as_slice()) {
+    match text.write_to(sink) {
         Ok(()) => status,
         Err(_) => WRITE_FAILED,
     }

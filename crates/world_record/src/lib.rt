@@ -12,7 +12,9 @@ mod told;
 use crate::committed::{committed_log, count_committed};
 use crate::told::{told_all, told_counts};
 use app_core::App;
+use group_controller::Controller;
 use journal::JournalEntry;
+use of_switch::Switch;
 use of_types::Items;
 use players::Bytes;
 use report::{Record, Sums};
@@ -79,19 +81,33 @@ pub fn bare_record<A: App>(
     })
 }
 
-/// The record of a world, with the log of a primary, and with so many steps of a script, which made so many of its entries.
+/// The actors of a world of which all is told.
+#[derive(Drop)]
+pub struct Actors<A> {
+    controllers: Vec<Controller<A>>,
+    switches: Vec<Switch>,
+}
+
+/// The record of a world, with the log of a primary, and with so many steps of a script, which made so many of its entries; and
+/// what the record has no use for.
 pub fn record_of<A: App>(
     alloc: Global,
     world: World<Bytes, A>,
     primary: u8,
     steps: usize,
     script: usize,
-) -> Result<Record, AllocError>
+) -> Result<(Record, Actors<A>), AllocError>
     requires led { primary < length world.controllers }
     requires script { script ≤ length world.journal }
-    ensures { IfOk result (λ told. told ≡ told_by world primary steps script) }
+    ensures { IfOk result (λ told. told.0 ≡ told_by world primary steps script) }
 {
     let mut told = bare_record(alloc, &world, primary, steps, script)?;
-    told.journal = world.into_journal();
-    Ok(told)
+    let (setup, wire, controllers, switches) = world.into_parts();
+    drop(setup);
+    told.journal = wire.into_journal();
+    let actors = Actors {
+        controllers,
+        switches,
+    };
+    Ok((told, actors))
 }

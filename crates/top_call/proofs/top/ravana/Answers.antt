@@ -36,42 +36,42 @@ returns-in_default-into_text-clause-complete g c =
 pub returns-in_default-into_text-clause-range : goal.returns-in_default-into_text-clause-range
 returns-in_default-into_text-clause-range g c = (5, omega arith, refl)
 
-pub returns-in-Ok-write_all-clause-answer : goal.returns-in-Ok-write_all-clause-answer
-returns-in-Ok-write_all-clause-answer g c =
+pub returns-in-Ok-write_to-clause-answer : goal.returns-in-Ok-write_to-clause-answer
+returns-in-Ok-write_to-clause-answer g c =
     let saves = StablesTell g.W.Stable.saving c.args.stables.now.items c.outcome.new.stables.items in
-    λ kinds chains. rw c.status-status.ensures (served kinds saves _ _ _ _ _ _ _ c.in-Ok.ending _ (c.in-Ok.ensures.cause kinds chains) (c.as_slice.ensures ∙ c.in-Ok-into_text.ensures.ok) c.in-Ok-write_all.ensures.ok)
+    λ kinds chains. rw c.status-status.ensures (served kinds saves _ _ _ _ _ _ _ c.in-Ok.ending _ (c.in-Ok.ensures.cause kinds chains) c.in-Ok-into_text.ensures.ok c.in-Ok-write_to.ensures.ok)
 
-pub returns-in-Ok-write_all-clause-complete : goal.returns-in-Ok-write_all-clause-complete
-returns-in-Ok-write_all-clause-complete g c =
+pub returns-in-Ok-write_to-clause-complete : goal.returns-in-Ok-write_to-clause-complete
+returns-in-Ok-write_to-clause-complete g c =
     λ kinds chains.
     let saves = StablesTell g.W.Stable.saving c.args.stables.now.items c.outcome.new.stables.items in
-    rw c.status-status.ensures (complete kinds saves _ _ _ _ (calm_saves g.W.Stable.saving c.args.stables.now.items c.outcome.new.stables.items) _ _ _ _ _ (served kinds saves _ _ _ _ _ _ _ c.in-Ok.ending _ (c.in-Ok.ensures.cause kinds chains) (c.as_slice.ensures ∙ c.in-Ok-into_text.ensures.ok) c.in-Ok-write_all.ensures.ok))
+    rw c.status-status.ensures (complete kinds saves _ _ _ _ (calm_saves g.W.Stable.saving c.args.stables.now.items c.outcome.new.stables.items) _ _ _ _ _ (served kinds saves _ _ _ _ _ _ _ c.in-Ok.ending _ (c.in-Ok.ensures.cause kinds chains) c.in-Ok-into_text.ensures.ok c.in-Ok-write_to.ensures.ok))
 
-pub returns-in-Ok-write_all-clause-audit : goal.returns-in-Ok-write_all-clause-audit
-returns-in-Ok-write_all-clause-audit g c = λ is. rw c.status-status.ensures (c.in-Ok.ensures.told.audit is)
+pub returns-in-Ok-write_to-clause-audit : goal.returns-in-Ok-write_to-clause-audit
+returns-in-Ok-write_to-clause-audit g c = λ is. rw c.status-status.ensures (c.in-Ok.ensures.told.audit is)
 
-pub returns-in-Ok-write_all-clause-usage : goal.returns-in-Ok-write_all-clause-usage
-returns-in-Ok-write_all-clause-usage g c = λ is. c.in-Ok.ensures.told.usage (sym c.status-status.ensures ∙ is)
+pub returns-in-Ok-write_to-clause-usage : goal.returns-in-Ok-write_to-clause-usage
+returns-in-Ok-write_to-clause-usage g c = λ is. c.in-Ok.ensures.told.usage (sym c.status-status.ensures ∙ is)
 
-pub returns-in-Ok-write_all-clause-words : goal.returns-in-Ok-write_all-clause-words
-returns-in-Ok-write_all-clause-words g c = λ other. rw (c.status-status.ensures, c.in-Ok.ensures.told.others other) (0, omega arith, refl)
+pub returns-in-Ok-write_to-clause-words : goal.returns-in-Ok-write_to-clause-words
+returns-in-Ok-write_to-clause-words g c = λ other. rw (c.status-status.ensures, c.in-Ok.ensures.told.others other) (0, omega arith, refl)
 
-pub returns-in-Ok-write_all-clause-unread : goal.returns-in-Ok-write_all-clause-unread
-returns-in-Ok-write_all-clause-unread g c = λ is. c.in-Ok.ensures.told.failed (sym c.status-status.ensures ∙ is)
+pub returns-in-Ok-write_to-clause-unread : goal.returns-in-Ok-write_to-clause-unread
+returns-in-Ok-write_to-clause-unread g c = λ is. c.in-Ok.ensures.told.failed (sym c.status-status.ensures ∙ is)
 
-pub returns-in-Ok-write_all-clause-range : goal.returns-in-Ok-write_all-clause-range
-returns-in-Ok-write_all-clause-range g c = rw c.status-status.ensures (in_range c.in-Ok.ending)
+pub returns-in-Ok-write_to-clause-range : goal.returns-in-Ok-write_to-clause-range
+returns-in-Ok-write_to-clause-range g c = rw c.status-status.ensures (in_range c.in-Ok.ending)
 
 pub returns-clause-answer : goal.returns-clause-answer
 returns-clause-answer g c =
     let saves = StablesTell g.W.Stable.saving c.args.stables.now.items c.outcome.new.stables.items in
-    λ kinds chains. cut kinds saves _ _ _ _ _ _ _ c.in-Ok.ending _ (c.in-Ok.ensures.cause kinds chains) (c.as_slice.ensures ∙ c.in-Ok-into_text.ensures.ok) c.in-Err.ensures.cause.failed c.in-Err.ensures.err
+    λ kinds chains. cut kinds saves _ _ _ _ _ _ _ c.in-Ok.ending _ (c.in-Ok.ensures.cause kinds chains) c.in-Ok-into_text.ensures.ok c.in-Err.ensures.cause.failed c.in-Err.ensures.err
 
 pub returns-clause-complete : goal.returns-clause-complete
 returns-clause-complete g c =
     λ kinds chains.
     let saves = StablesTell g.W.Stable.saving c.args.stables.now.items c.outcome.new.stables.items in
-    complete kinds saves _ _ _ _ (calm_saves g.W.Stable.saving c.args.stables.now.items c.outcome.new.stables.items) _ _ _ _ _ (cut kinds saves _ _ _ _ _ _ _ c.in-Ok.ending _ (c.in-Ok.ensures.cause kinds chains) (c.as_slice.ensures ∙ c.in-Ok-into_text.ensures.ok) c.in-Err.ensures.cause.failed c.in-Err.ensures.err)
+    complete kinds saves _ _ _ _ (calm_saves g.W.Stable.saving c.args.stables.now.items c.outcome.new.stables.items) _ _ _ _ _ (cut kinds saves _ _ _ _ _ _ _ c.in-Ok.ending _ (c.in-Ok.ensures.cause kinds chains) c.in-Ok-into_text.ensures.ok c.in-Err.ensures.cause.failed c.in-Err.ensures.err)
 
 pub returns-clause-audit : goal.returns-clause-audit
 returns-clause-audit g c = λ _. (3, omega arith, refl)
@@ -106,18 +106,18 @@ returns-in_default-into_text-clause-lines g c = line_nothing _
 pub returns-in_default-into_text-clause-numbers : goal.returns-in_default-into_text-clause-numbers
 returns-in_default-into_text-clause-numbers g c = λ kinds chains. numbers_nothing kinds (StablesTell g.W.Stable.saving c.args.stables.now.items c.outcome.new.stables.items) _ _ _ _
 
-pub returns-in-Ok-write_all-clause-made : goal.returns-in-Ok-write_all-clause-made
-returns-in-Ok-write_all-clause-made g c = λ is. rw c.status-status.ensures (c.in-Ok.ensures.told.made is)
+pub returns-in-Ok-write_to-clause-made : goal.returns-in-Ok-write_to-clause-made
+returns-in-Ok-write_to-clause-made g c = λ is. rw c.status-status.ensures (c.in-Ok.ensures.told.made is)
 
-pub returns-in-Ok-write_all-clause-untouched : goal.returns-in-Ok-write_all-clause-untouched
-returns-in-Ok-write_all-clause-untouched g c = λ unplayed. c.in-Ok.ensures.untouched (subst (λ s. IsUnplayed s) c.status-status.ensures unplayed)
+pub returns-in-Ok-write_to-clause-untouched : goal.returns-in-Ok-write_to-clause-untouched
+returns-in-Ok-write_to-clause-untouched g c = λ unplayed. c.in-Ok.ensures.untouched (subst (λ s. IsUnplayed s) c.status-status.ensures unplayed)
 
-pub returns-in-Ok-write_all-clause-lines : goal.returns-in-Ok-write_all-clause-lines
-returns-in-Ok-write_all-clause-lines g c = rw c.status-status.ensures (line_served _ _ c.in-Ok.ending _ (c.as_slice.ensures ∙ c.in-Ok-into_text.ensures.ok) c.in-Ok-write_all.ensures.ok)
+pub returns-in-Ok-write_to-clause-lines : goal.returns-in-Ok-write_to-clause-lines
+returns-in-Ok-write_to-clause-lines g c = rw c.status-status.ensures (line_served _ _ c.in-Ok.ending _ c.in-Ok-into_text.ensures.ok c.in-Ok-write_to.ensures.ok)
 
-pub returns-in-Ok-write_all-clause-numbers : goal.returns-in-Ok-write_all-clause-numbers
-returns-in-Ok-write_all-clause-numbers g c = λ kinds chains.
-    rw c.status-status.ensures (numbers_served kinds (StablesTell g.W.Stable.saving c.args.stables.now.items c.outcome.new.stables.items) _ _ _ _ _ c.in-Ok.ending _ (c.in-Ok.ensures.numbers kinds chains) (c.as_slice.ensures ∙ c.in-Ok-into_text.ensures.ok) c.in-Ok-write_all.ensures.ok)
+pub returns-in-Ok-write_to-clause-numbers : goal.returns-in-Ok-write_to-clause-numbers
+returns-in-Ok-write_to-clause-numbers g c = λ kinds chains.
+    rw c.status-status.ensures (numbers_served kinds (StablesTell g.W.Stable.saving c.args.stables.now.items c.outcome.new.stables.items) _ _ _ _ _ c.in-Ok.ending _ (c.in-Ok.ensures.numbers kinds chains) c.in-Ok-into_text.ensures.ok c.in-Ok-write_to.ensures.ok)
 
 pub returns-clause-made : goal.returns-clause-made
 returns-clause-made g c = λ _. (1, omega arith, refl)
@@ -130,4 +130,4 @@ returns-clause-lines g c = line_cut _ _ _ c.in-Err.ensures.err
 
 pub returns-clause-numbers : goal.returns-clause-numbers
 returns-clause-numbers g c = λ kinds chains.
-    numbers_cut kinds (StablesTell g.W.Stable.saving c.args.stables.now.items c.outcome.new.stables.items) _ _ _ _ _ c.in-Ok.ending _ (c.in-Ok.ensures.numbers kinds chains) (c.as_slice.ensures ∙ c.in-Ok-into_text.ensures.ok) c.in-Err.ensures.cause.failed c.in-Err.ensures.err
+    numbers_cut kinds (StablesTell g.W.Stable.saving c.args.stables.now.items c.outcome.new.stables.items) _ _ _ _ _ c.in-Ok.ending _ (c.in-Ok.ensures.numbers kinds chains) c.in-Ok-into_text.ensures.ok c.in-Err.ensures.cause.failed c.in-Err.ensures.err

@@ -20,7 +20,7 @@ pub fn first_hit(rules: &[Rule], what: &Happening) -> Option<usize>
     ensures { result ≡ first_hit rules.now what.now }
 {
     match what {
-        Happening::PacketIn(packet) => first_denying(&fields(packet.payload.as_slice()), rules),
+        Happening::PacketIn(packet) => first_denying(packet.payload.as_slice(), rules),
         Happening::PortStatus(_) | Happening::FlowRemoved(_) => None,
     }
 }
@@ -114,11 +114,15 @@ fn denies(found: &Fields, rule: &Rule) -> bool
         && has_port(found, rule)
 }
 
-/// The place of the first rule that denies a frame with these fields.
-fn first_denying(found: &Fields, rules: &[Rule]) -> Option<usize>
-    ensures { result ≡ position (denies found.now) rules.now }
+/// The place of the first rule that denies a frame. Without rules nobody looks at it.
+fn first_denying(frame: &[u8], rules: &[Rule]) -> Option<usize>
+    ensures { result ≡ position (denies (fields_of frame.now)) rules.now }
 {
-    rules.iter().position(|rule| denies(found, rule))
+    if rules.is_empty() {
+        return None;
+    }
+    let found = fields(frame);
+    rules.iter().position(|rule| denies(&found, rule))
 }
 
 /// What a rule denies, as a match.

@@ -8,7 +8,9 @@ use crate::commands::forward;
 use crate::hosts::{HostList, HostMap, Hosts};
 use crate::learner::{Ageing, Learner, Pinning, Plainly};
 use app_core::{Manner, Part, forgetting_rows, is_single};
-use of_types::{Commands, Event, Happening, PacketIn, PortStatus, Setup, fields, is_switch_up};
+use of_types::{
+    Commands, Event, Happening, PacketIn, PortStatus, Setup, eth_dst, eth_src, is_switch_up,
+};
 use std::alloc::{AllocError, Global};
 use std::marker::PhantomData;
 
@@ -86,9 +88,9 @@ fn on_packet_in<H: Hosts>(
     ensures known { OnOk result (H.hosts hosts.new ≡ with_source manner (H.hosts hosts.old) switch packet.now.in_port (number_at 6 6 packet.now.payload)) }
     ensures asked { OnOk result (out.new ≡ out.old ++ forwarded manner switch packet.now.in_port packet.now.payload (seen_destination (H.hosts hosts.new) switch (number_at 6 0 packet.now.payload))) }
 {
-    let found = fields(packet.payload.as_slice());
-    learn_source(manner, hosts, switch, packet.in_port, found.eth_src)?;
-    let seen = seen_destination(hosts, switch, found.eth_dst);
+    let frame = packet.payload.as_slice();
+    learn_source(manner, hosts, switch, packet.in_port, eth_src(frame))?;
+    let seen = seen_destination(hosts, switch, eth_dst(frame));
     forward(
         alloc,
         manner,

@@ -8,3 +8,4 @@ pub mod Canonical
 pub mod Sizes
 pub mod Forms
 pub mod Laws
+pub mod Alone

@@ -8,5 +8,5 @@ mod writing;
 
 pub use fault::MatchFault;
 pub use kind::{FieldHeader, FieldKind};
-pub use reading::{match_law, read_match};
+pub use reading::{PORT_ALONE, match_law, port_alone, read_match};
 pub use writing::{MatchFront, bare_match, match_front, write_match};

@@ -1,9 +1,10 @@
 //! Reading a match from left to right.
 
-ghost use Rattle.std.specs.Prelude.{◌≡◌, ◌<◌, ◌≤◌, ◌++◌, ℕ, List, Ok, length, take, IfOk, true};
+ghost use Rattle.std.specs.Prelude.{◌≡◌, ◌<◌, ◌≤◌, ◌^◌, ◌++◌, ℕ, List, Ok, Some, length, take, IfOk, IfSome, true};
 ghost use Rattle.of_types.specs.declared.message.Match.{Match};
 ghost use Rattle.of_match.specs.Writing.{canonical_match};
 ghost use Rattle.of_match.specs.Spelling.{IsSpelled, Fits};
+ghost use Rattle.of_types.specs.Matching.{any_match};
 ghost use Rattle.of_types.specs.Valid.{IsValidMatch};
 ghost use Rattle.of_types.specs.Sizes.{match_size};
 ghost use Rattle.of_bytes.specs.Reading.{Gives};
@@ -33,6 +34,28 @@ pub fn read_match(bytes: &[u8]) -> Result<(Match, usize), MatchFault>
     ensures short { IfOk result (λ x. match_size x.0 ≤ x.1) }
 {
     first_match(bytes)
+}
+
+/// The bytes of a match that asks for a port alone.
+pub const PORT_ALONE: usize = 16;
+
+/// Its first bytes: its type and its length, and the class, the number and the length of its field.
+const PORT_FRONT: [u8; 8] = [0, 1, 0, 12, 0x80, 0, 0, 4];
+
+/// The port of a match that asks for a port alone. None where it may ask for more, which `read_match` tells.
+pub fn port_alone(bytes: &[u8]) -> Option<u32>
+    // The match is that of the port.
+    ensures alone { IfSome result (λ port. match_at bytes.now ≡ Ok (record any_match { in_port = Some port }, 16)) }
+    // All its bytes are there.
+    ensures there { IfSome result (λ _. 16 ≤ length bytes.now) }
+    // The one written form of such a match is met, whatever follows.
+    ensures met { (port : ℕ) (rest : List ℕ) → port < 2 ^ 32 → bytes.now ≡ canonical_match (record any_match { in_port = Some port }) ++ rest → result ≡ Some port }
+{
+    if bytes.len() >= PORT_ALONE && bytes.starts_with(&PORT_FRONT) {
+        Some(u32_at(bytes, 8))
+    } else {
+        None
+    }
 }
 
 /// Laws of the one written form of a match.

@@ -8,7 +8,7 @@ ghost use Rattle.of_messages.specs.Reading.{error_at, experimenter_at, empty_at,
 use crate::actions::{read_actions, read_instructions};
 use crate::fault::BodyFault;
 use of_bytes::{u8_at, u16_at, u32_at, u64_at};
-use of_match::read_match;
+use of_match::{PORT_ALONE, port_alone, read_match};
 use of_types::{
     Actions, BAD_COMMAND, BAD_FIELD, BAD_LENGTH, Boxed, FlowCommand, FlowMod, FlowRemoved, Match,
     Octets, OfMessage, PacketIn, PacketOut, PortStatus, Refusal, flow_command,
@@ -78,6 +78,13 @@ fn port_in(matching: Match) -> Result<u32, Refusal>
 fn port_and_frame(bytes: &[u8]) -> Result<(u32, &[u8]), BodyFault>
     ensures { GivesBody (λ x. (x.0, x.1.now)) result (port_and_frame_at bytes.now) }
 {
+    // Most such matches have their port alone, which is read at one look.
+    if let Some(port) = port_alone(bytes) {
+        let after = &bytes[PORT_ALONE..];
+        if after.len() >= 2 {
+            return Ok((port, &after[2..]));
+        }
+    }
     let (matching, taken) = read_match(bytes)?;
     let after = &bytes[taken..];
     if after.len() < 2 {

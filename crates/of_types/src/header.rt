@@ -17,8 +17,8 @@ pub fn fields(frame: &[u8]) -> Fields
     let (udp_src, udp_dst) = ports(UDP, frame);
     Fields {
         in_port: None,
-        eth_dst: u48_at(frame, 0),
-        eth_src: u48_at(frame, 6),
+        eth_dst: eth_dst(frame),
+        eth_src: eth_src(frame),
         eth_type: u16_at(frame, 12),
         ip_proto,
         ipv4_src,
@@ -28,6 +28,20 @@ pub fn fields(frame: &[u8]) -> Fields
         udp_src,
         udp_dst,
     }
+}
+
+/// The Ethernet address that a frame goes to.
+pub fn eth_dst(frame: &[u8]) -> Option<u64>
+    ensures { result ≡ number_at 6 0 frame.now }
+{
+    u48_at(frame, 0)
+}
+
+/// The Ethernet address that a frame comes from.
+pub fn eth_src(frame: &[u8]) -> Option<u64>
+    ensures { result ≡ number_at 6 6 frame.now }
+{
+    u48_at(frame, 6)
 }
 
 fn u8_at(frame: &[u8], place: usize) -> Option<u8>

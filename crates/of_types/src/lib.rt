@@ -24,6 +24,8 @@ mod small_set;
 pub use actions::Actions;
 pub use boxed::Boxed;
 pub use covering::covers;
+pub use header::eth_dst;
+pub use header::eth_src;
 pub use header::fields;
 pub use items::Commands;
 pub use items::Items;

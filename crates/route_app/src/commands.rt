@@ -11,7 +11,7 @@ use crate::wires::{Wires, count, edge_over, end_over};
 use app_core::{Leg, SwitchPort, flow_mod, forgetting_rows, frames_to, packet_out};
 use of_types::{
     ANY_PORT, Actions, Command, Commands, FlowCommand, NO_BUFFER, Octets, Order, PacketOut,
-    TO_CONTROLLER, fields,
+    TO_CONTROLLER, eth_dst,
 };
 use port_table::{is_marked, place};
 use std::alloc::{AllocError, Global};
@@ -242,5 +242,5 @@ fn first_legs(legs: &[Leg]) -> &[Leg]
 fn destination(frame: &Octets) -> u64
     ensures { result ≡ unwrap_or (number_at 6 0 frame.now) 0 }
 {
-    fields(frame.as_slice()).eth_dst.unwrap_or(0)
+    eth_dst(frame.as_slice()).unwrap_or(0)
 }

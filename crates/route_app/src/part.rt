@@ -19,7 +19,7 @@ use crate::wires::{Wires, edge_over, end_over, no_wires, wires_of};
 use app_core::{Part, SwitchPort, is_single};
 use indexmap::IndexMap;
 use of_types::{
-    Commands, Event, Happening, Octets, PacketIn, PortStatus, Setup, fields, is_switch_up,
+    Commands, Event, Happening, Octets, PacketIn, PortStatus, Setup, eth_dst, eth_src, is_switch_up,
 };
 use std::alloc::{AllocError, Global};
 
@@ -127,9 +127,9 @@ fn on_packet_in(
         switch,
         port: packet.in_port,
     };
-    let found = fields(packet.payload.as_slice());
-    learn_source(wires, &mut known.places, at, found.eth_src)?;
-    let seen = place_of_destination(&known.places, found.eth_dst);
+    let frame = packet.payload.as_slice();
+    learn_source(wires, &mut known.places, at, eth_src(frame))?;
+    let seen = place_of_destination(&known.places, eth_dst(frame));
     answer(alloc, wires, &known.links, at, &packet.payload, seen, out)
 }
 

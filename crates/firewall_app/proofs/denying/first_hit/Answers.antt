@@ -6,4 +6,4 @@ use Rattle.firewall_app.proofs.denying.first_hit.Goals as goal
 pub returns-in-PacketIn : goal.returns-in-PacketIn
 returns-in-PacketIn c =
     c.first_denying.ensures
-    ∙ (ap (λ f. position (denies f) c.args.rules.now) (c.fields.ensures ∙ ap (λ frame. fields_of frame) c.as_slice.ensures) ∙ sym (ap (λ what. first_hit c.args.rules.now what) c.in-PacketIn.is))
+    ∙ (ap (λ frame. position (denies (fields_of frame)) c.args.rules.now) c.as_slice.ensures ∙ sym (ap (λ what. first_hit c.args.rules.now what) c.in-PacketIn.is))

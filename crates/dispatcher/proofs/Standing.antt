@@ -1,11 +1,11 @@
 -- What is kept of a committed log answers as the log does.
-use Rattle.std.proofs.Common.{inl, inr, ◌≡◌, ◌≤◌, ℕ, zero, suc, ◌+◌, Bool, true, false, not, ◌&&◌, List, [], ◌∷◌, ◌++◌, length, drop, map, filter, get_or, refl, sym, ap, subst, ◌∙◌, arith, append-nil}
-use Rattle.std.specs.Prelude.{nat_eq, nat_le, nat_lt, slice_index_or, count_by, if◌then◌else◌}
+use Rattle.std.proofs.Common.{inl, inr, ◌≡◌, ◌≤◌, ℕ, zero, suc, ◌+◌, Bool, true, false, not, ◌&&◌, ◌||◌, List, [], ◌∷◌, ◌++◌, length, drop, map, filter, get_or, refl, sym, ap, subst, ◌∙◌, arith, append-nil}
+use Rattle.std.specs.Prelude.{nat_eq, nat_le, nat_lt, slice_index_or, if◌then◌else◌}
 use Rattle.std.specs.List.{list_any, range_with_len}
+use Rattle.std.proofs.Math.Dec.{eqb-suc-zero}
 use Rattle.std.proofs.Math.Seq.{drop-nil}
 use Rattle.std.proofs.lemmas.Bool.{cases_lt, lt-ltb, le-ltb}
 use Rattle.std.proofs.lemmas.List.{length-drop}
-use Rattle.std.proofs.lemmas.List.Sums.{length-filter}
 use Rattle.of_types.specs.declared.message.Event.{Event}
 use Rattle.of_types.specs.declared.setup.Setup.{Setup}
 use Rattle.of_types.specs.Lives.{life_in, has_ended}
@@ -53,6 +53,15 @@ pass_both false b x xs ys e = e
 filter_either : {A : Type 0} (q : A → Bool) (a : Bool) (x : A) (xs : List A) → (if a then (if q x then x ∷ filter q xs else filter q xs) else filter q xs) ≡ filter q (if a then x ∷ xs else xs)
 filter_either q true x xs = refl
 filter_either q false x xs = refl
+
+any_or : {A : Type 0} (a b : Bool) (x : A) (xs : List A) → not b ≡ nat_eq (length xs) 0 → not (a || b) ≡ nat_eq (length (if a then x ∷ xs else xs)) 0
+any_or true b x xs e = sym (eqb-suc-zero (length xs))
+any_or false b x xs e = e
+
+-- none passes where none is left
+none_of : {A : Type 0} (p : A → Bool) (xs : List A) → not (list_any p xs) ≡ nat_eq (length (filter p xs)) 0
+none_of p [] = refl
+none_of p (x ∷ xs) = any_or (p x) (list_any p xs) x (filter p xs) (none_of p xs)
 
 filter_both : {A : Type 0} (p q : A → Bool) (xs : List A) → filter (λ x. p x && q x) xs ≡ filter q (filter p xs)
 filter_both p q [] = refl
@@ -131,18 +140,16 @@ module _ (kinds : List ℕ) (setup : Setup) (log : List Entry) (ledger : Ledger)
             | inr le ↦ rw (le-ltb 0 a le, le-ltb b c (omega (arith, le, e))) refl
           ]
 
-  pub finished_is : (marks : Marks) → (nat_lt 0 (length ledger.pending.items) && nat_eq (count_by (wants ledger marks) (first_commands ledger.pending.items)) 0) ≡ is_finished kinds setup log marks
+  pub finished_is : (marks : Marks) → (nat_lt 0 (length ledger.pending.items) && not (list_any (wants ledger marks) (first_commands ledger.pending.items))) ≡ is_finished kinds setup log marks
   finished_is marks =
-      let same : count_by (wants ledger marks) (first_commands ledger.pending.items) ≡ length (wanted kinds setup log marks) =
-      sym (length-filter (wants ledger marks) (first_commands ledger.pending.items))
-      ∙ ap (λ (l : List Issued). length l)
-      (filter_same (wants ledger marks) (is_wanted log marks) (first_commands ledger.pending.items) (wants_is marks) ∙ ap (λ (l : List Issued). filter (is_wanted log marks) l) first_is) in
-      rw (unprocessed_is, same) refl
+      let same : filter (wants ledger marks) (first_commands ledger.pending.items) ≡ wanted kinds setup log marks =
+      filter_same (wants ledger marks) (is_wanted log marks) (first_commands ledger.pending.items) (wants_is marks) ∙ ap (λ (l : List Issued). filter (is_wanted log marks) l) first_is in
+      rw (unprocessed_is, none_of (wants ledger marks) (first_commands ledger.pending.items), same) refl
 
-  pub finished_as : (marks : Marks) (has : Bool) (count : ℕ) → has ≡ nat_lt 0 (length ledger.pending.items) → count ≡ count_by (wants ledger marks) (first_commands ledger.pending.items) →
-      (has && nat_eq count 0) ≡ is_finished kinds setup log marks
-  finished_as marks has count h n =
-      ap (λ (b : Bool). b && nat_eq count 0) h ∙ ap (λ (k : ℕ). nat_lt 0 (length ledger.pending.items) && nat_eq k 0) n ∙ finished_is marks
+  pub finished_as : (marks : Marks) (has some : Bool) → has ≡ nat_lt 0 (length ledger.pending.items) → some ≡ list_any (wants ledger marks) (first_commands ledger.pending.items) →
+      (has && not some) ≡ is_finished kinds setup log marks
+  finished_as marks has some h s =
+      ap (λ (b : Bool). b && not some) h ∙ ap (λ (b : Bool). nat_lt 0 (length ledger.pending.items) && not b) s ∙ finished_is marks
 
   told_is : (commands : List Issued) (switch : ℕ) → has_told ledger commands switch ≡ is_told log commands switch
   told_is commands switch = any_same _ _ commands (λ x. ap (λ (b : Bool). nat_eq x.switch switch && not b) (ended_is x.switch x.life))

@@ -15,6 +15,8 @@ use Rattle.dispatcher.specs.Counted.{Counted, counts_of}
 use Rattle.dispatcher.specs.declared.answers.HandledEvent.{HandledEvent}
 use Rattle.dispatcher.specs.declared.answers.AckThrough.{AckThrough}
 use Rattle.dispatcher.specs.declared.counts.Counts.{Counts}
+use Rattle.dispatcher.specs.declared.counts.Progress.{Progress}
+use Rattle.dispatcher.specs.declared.counts.Progress.TheVariants as progress
 use Rattle.dispatcher.specs.declared.ledger.Ledger.{Ledger}
 use Rattle.dispatcher.specs.declared.numbered.NumberedOrder.{NumberedOrder}
 use Rattle.dispatcher.specs.Marks.{Marks, has_result, is_confirmed, unsettled}
@@ -46,6 +48,18 @@ one_issued c = record c { issued = min (c.issued + 1) most_count }
 
 abbrev pub one_settled : Counts → Counts
 one_settled c = record c { settled = min (c.settled + 1) most_count }
+
+-- one thing more is counted
+abbrev pub one_more : Progress → Counts → Counts
+one_more progress.Processed c = one_processed c
+one_more progress.Issued c = one_issued c
+one_more progress.Settled c = one_settled c
+
+-- how many there are of a kind
+abbrev pub tally_of : Progress → Counts → ℕ
+tally_of progress.Processed c = c.processed
+tally_of progress.Issued c = c.issued
+tally_of progress.Settled c = c.settled
 
 -- a number is that of a command of a life that is issued and not settled
 abbrev pub has_pending : Ledger → ℕ → ℕ → ℕ → Bool

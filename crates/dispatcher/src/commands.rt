@@ -1,6 +1,6 @@
 //! The commands of the first event that is not processed.
-ghost use Rattle.std.specs.Prelude.{◌≡◌, ◌<◌, ◌≤◌, ℕ, false, ◌&&◌, map, filter, count_by, nat_eq, nat_lt, get_or, length, IfOk};
-ghost use Rattle.std.specs.List.{range_with_len};
+ghost use Rattle.std.specs.Prelude.{◌≡◌, ◌<◌, ◌≤◌, ℕ, false, ◌&&◌, map, filter, nat_eq, nat_lt, get_or, length, IfOk};
+ghost use Rattle.std.specs.List.{list_any, range_with_len};
 ghost use Rattle.dispatcher.specs.Ledger.{as_numbered, cleared_of_life, first_commands, has_told, is_addressed, is_outstanding, wants};
 
 use crate::answers::AckThrough;
@@ -10,15 +10,14 @@ use crate::numbered::NumberedOrder;
 use app_core::Issued;
 use std::alloc::{AllocError, Global};
 
-/// How many commands of the first event that is not processed want a result.
-pub(crate) fn count_wanted(ledger: &Ledger, marks: &ViewMarks) -> usize
-    ensures { result ≡ count_by (wants ledger.now marks.now.marks) (first_commands ledger.now.pending.items) }
+/// Whether a command of the first event that is not processed wants a result.
+pub(crate) fn wants_one(ledger: &Ledger, marks: &ViewMarks) -> bool
+    ensures { result ≡ list_any (wants ledger.now marks.now.marks) (first_commands ledger.now.pending.items) }
 {
     ledger
         .first()
         .iter()
-        .filter(|command| wants(ledger, marks, command))
-        .count()
+        .any(|command| wants(ledger, marks, command))
 }
 
 /// The commands of the first event that is not processed that want a result, on switches that took this controller

@@ -1,7 +1,7 @@
 //! What is counted of the lives of switches.
-ghost use Rattle.std.specs.Prelude.{◌≡◌, ◌<◌, ◌&&◌, ℕ, [], nat_eq, length, get_or, OnOk, if◌then◌else◌};
+ghost use Rattle.std.specs.Prelude.{◌≡◌, ◌<◌, ◌&&◌, ℕ, [], nat_eq, length, get_or, IfOk, OnOk, if◌then◌else◌};
 ghost use Rattle.dispatcher.specs.Counted.{counts_in, counts_of, event_place_of};
-ghost use Rattle.dispatcher.specs.Ledger.{IsCountedAs};
+ghost use Rattle.dispatcher.specs.Ledger.{IsCountedAs, tally_of, one_more};
 
 use std::alloc::{AllocError, Global};
 use std::marker::Model;
@@ -21,6 +21,36 @@ const NO_COUNTS: Counts = Counts {
     issued: 0,
     settled: 0,
 };
+
+/// What is counted once more of a life: an event of it is processed, or a command is issued to it or is settled.
+#[derive(Clone, Copy)]
+pub(crate) enum Progress {
+    Processed,
+    Issued,
+    Settled,
+}
+
+/// How many there were, and what is counted with one more.
+fn count_one(counts: Counts, progress: Progress) -> (u64, Counts)
+    ensures before { result.0 ≡ tally_of progress counts }
+    ensures after { result.1 ≡ one_more progress counts }
+{
+    let mut after = counts;
+    match progress {
+        Progress::Processed => {
+            after.processed = counts.processed.saturating_add(1);
+            (counts.processed, after)
+        }
+        Progress::Issued => {
+            after.issued = counts.issued.saturating_add(1);
+            (counts.issued, after)
+        }
+        Progress::Settled => {
+            after.settled = counts.settled.saturating_add(1);
+            (counts.settled, after)
+        }
+    }
+}
 
 /// A life of a switch beside what is counted of it.
 #[derive(Clone, Copy)]
@@ -68,16 +98,21 @@ impl Row {
         }
     }
 
-    fn put(&mut self, life: u32, counts: Counts) -> Result<(), AllocError>
-        ensures { OnOk result ((l : ℕ) → counts_in self.new l ≡ (if nat_eq l life then counts else counts_in self.old l)) }
+    /// One thing more is counted of a life. It tells how many there were.
+    fn count(&mut self, life: u32, progress: Progress) -> Result<u64, AllocError>
+        ensures before { IfOk result (λ before. before ≡ tally_of progress (counts_in self.old life)) }
+        ensures counted { OnOk result ((l : ℕ) → counts_in self.new l ≡ (if nat_eq l life then one_more progress (counts_in self.old life) else counts_in self.old l)) }
     {
         let place = self.place_of(life);
         if place < self.lives.len() {
+            let (before, counts) = count_one(self.lives[place].counts, progress);
             self.lives[place] = LifeCount { life, counts };
+            Ok(before)
         } else {
+            let (before, counts) = count_one(NO_COUNTS, progress);
             self.lives.push(LifeCount { life, counts })?;
+            Ok(before)
         }
-        Ok(())
     }
 }
 
@@ -131,12 +166,18 @@ impl LifeCounts {
         }
     }
 
-    /// These are the counts of a life of a switch from now on.
-    pub(crate) fn put(&mut self, switch: u8, life: u32, counts: Counts) -> Result<(), AllocError>
-        ensures { OnOk result (IsCountedAs self.old switch life counts self.new) }
+    /// One thing more is counted of a life of a switch. It tells how many there were.
+    pub(crate) fn count(
+        &mut self,
+        switch: u8,
+        life: u32,
+        progress: Progress,
+    ) -> Result<u64, AllocError>
+        ensures before { IfOk result (λ before. before ≡ tally_of progress (counts_of self.old switch life)) }
+        ensures counted { OnOk result (IsCountedAs self.old switch life (one_more progress (counts_of self.old switch life)) self.new) }
     {
         let index = usize::from(switch);
         reach(&mut self.rows, index)?;
-        self.rows[index].put(life, counts)
+        self.rows[index].count(life, progress)
     }
 }

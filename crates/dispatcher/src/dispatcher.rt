@@ -223,7 +223,7 @@ impl<A: App> Dispatcher<A> {
     pub fn finished(&self) -> bool
         ensures { ForEachLog (StandsFor A.law self.now) (λ kinds setup log. result ≡ is_finished kinds setup log self.now.marks) }
     {
-        let wanted = commands::count_wanted(&self.ledger, &self.marks);
+        let wanted = commands::wants_one(&self.ledger, &self.marks);
         may_process(self.ledger.has_unprocessed(), wanted)
     }
 

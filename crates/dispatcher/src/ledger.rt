@@ -12,7 +12,7 @@ ghost use Rattle.dispatcher.specs.Counted.{counts_of};
 ghost use Rattle.dispatcher.specs.Ledger.{AreCounts, AreLives, IsCountedAs, IsLedgerOfLog, first_commands, handled_by, has_pending, most_commands, one_issued, one_processed, one_settled};
 
 use crate::answers::HandledEvent;
-use crate::counts::{Counts, LifeCounts};
+use crate::counts::{Counts, LifeCounts, Progress};
 use crate::lives::Lives;
 use app_core::Issued;
 use of_types::{Command, Commands, Event, Items};
@@ -119,10 +119,7 @@ impl Ledger {
     {
         let switch = command.switch;
         let life = self.lives.of(switch);
-        let mut counts = self.counts.of(switch, life);
-        let number = counts.issued;
-        counts.issued = number.saturating_add(1);
-        self.counts.put(switch, life, counts)?;
+        let number = self.counts.count(switch, life, Progress::Issued)?;
         Ok(Issued {
             switch,
             life,
@@ -164,18 +161,18 @@ impl Ledger {
         ensures counted { OnOk result (IsCountedAs self.old.counts switch life (one_processed (counts_of self.old.counts switch life)) self.new.counts) }
         ensures same { self.new ≡ record self.old { counts = self.new.counts } }
     {
-        let mut counts = self.counts.of(switch, life);
-        counts.processed = counts.processed.saturating_add(1);
-        self.counts.put(switch, life, counts)
+        let _ = self.counts.count(switch, life, Progress::Processed)?;
+        Ok(())
     }
 
     fn settle(&mut self, command: &Issued) -> Result<(), AllocError>
         ensures counted { OnOk result (IsCountedAs self.old.counts command.now.switch command.now.life (one_settled (counts_of self.old.counts command.now.switch command.now.life)) self.new.counts) }
         ensures same { self.new ≡ record self.old { counts = self.new.counts } }
     {
-        let mut counts = self.counts.of(command.switch, command.life);
-        counts.settled = counts.settled.saturating_add(1);
-        self.counts.put(command.switch, command.life, counts)
+        let _ = self
+            .counts
+            .count(command.switch, command.life, Progress::Settled)?;
+        Ok(())
     }
 
     fn settle_each(&mut self, commands: &[Issued]) -> Result<(), AllocError>

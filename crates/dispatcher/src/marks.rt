@@ -80,6 +80,7 @@ impl ViewMarks {
     }
 
     /// Whether a result of a command came.
+    #[inline]
     pub(crate) fn has_result(&self, switch: u8, life: u32, number: u64) -> bool
         ensures { result ≡ has_result self.now.marks switch life number }
     {

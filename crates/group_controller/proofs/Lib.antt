@@ -3,5 +3,4 @@ pub mod Answering
 pub mod Controlling
 pub mod Events
 pub mod Finishing
-pub mod Lists
 pub mod Settling

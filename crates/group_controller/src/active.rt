@@ -46,7 +46,7 @@ pub(crate) struct Active<A> {
     /// What this turn has to save before anything is posted.
     pub(crate) promise: Option<u32>,
     /// What this turn posts.
-    letters: Letters<ControllerSays>,
+    letters: Vec<Letter<ControllerSays>>,
 }
 
 impl<A> Model for Active<A> {
@@ -58,7 +58,7 @@ impl<A> Model for Active<A> {
       work = record {
         state = record { vr = a.replica; marks = a.dispatcher.marks; last_told = a.last_told; full = a.full };
         save = pair_with a.replica.life a.promise;
-        letters = a.letters;
+        letters = a.letters.items;
       };
       promise = a.promise;
       dispatcher = a.dispatcher;
@@ -110,18 +110,29 @@ impl<A: App> Active<A> {
             last_told: None,
             full: None,
             promise: None,
-            letters: Letters::new(alloc),
+            letters: Vec::new(alloc),
         })
     }
 
     fn post(&mut self, letter: Letter<ControllerSays>) -> Result<(), AllocError>
         ensures { OnOk result (self.new ≡ posts_letters self.old (letter ∷ [])) }
     {
-        self.letters.push(letter)?;
+        self.letters.reserve(1)?;
+        self.letters.push_reserved(letter);
+        Ok(())
+    }
+
+    /// A switch is told how many of its events are done with.
+    fn acknowledge(&mut self, told: AckThrough) -> Result<(), AllocError>
+        ensures { OnOk result (self.new ≡ posts_letters self.old (settling.ack_letter told ∷ [])) }
+    {
+        self.letters.reserve(1)?;
+        self.letters.push_reserved(ack_letter(told));
         Ok(())
     }
 
     /// What a step of the member wants to be saved and sent.
+    #[inline(always)]
     pub(crate) fn take(&mut self, out: VrOut) -> Result<(), AllocError>
         ensures { OnOk result (self.new ≡ with_out self.old out) }
     {
@@ -163,7 +174,7 @@ impl<A: App> Active<A> {
         ensures { ForEachGroup (Acts A.law self.old) (λ kinds setup. OnOk result (self.new ≡ posts_letters self.old (answers_to kinds setup self.old.work.state handled.now))) }
     {
         if let Some(told) = self.dispatcher.acknowledgement(handled) {
-            self.post(ack_letter(told))?;
+            self.acknowledge(told)?;
         }
         let clears = self.dispatcher.clears(handled)?;
         add_clears(&mut self.letters, clears)
@@ -370,11 +381,11 @@ impl<A: App> Active<A> {
                     Ok(())
                 }
             }
-            EventAction::Acknowledge { through } => self.post(ack_letter(AckThrough {
+            EventAction::Acknowledge { through } => self.acknowledge(AckThrough {
                 switch: event.switch,
                 life: event.life,
                 through,
-            })),
+            }),
             EventAction::Nothing => Ok(()),
         }
     }
@@ -515,8 +526,8 @@ impl<A: App> Active<A> {
         ensures rests { self.new ≡ record self.old { work = resting self.old.work.state; promise = None } }
     {
         self.promise = None;
-        let letters = Letters::new(self.replica.log().allocator());
-        replace(&mut self.letters, letters)
+        let letters = Vec::new(self.replica.log().allocator());
+        Letters::from_vec(replace(&mut self.letters, letters))
     }
 
     /// Its application, for a later life.

@@ -6,7 +6,7 @@ ghost use Rattle.group_controller.specs.State.{to_members};
 
 use crate::messages::ControllerSays;
 use dispatcher::{AckThrough, NumberedOrder};
-use journal::{Actor, Letter, Letters};
+use journal::{Actor, Letter};
 use of_types::{Extension, Items, MASTER, OfMessage, Spoken};
 use std::alloc::AllocError;
 use vr_log::VrLetter;
@@ -80,40 +80,43 @@ fn to_member(letter: VrLetter) -> Letter<ControllerSays>
 
 /// Letters of a member go behind those that are there.
 pub(crate) fn add_members(
-    letters: &mut Letters<ControllerSays>,
+    letters: &mut Vec<Letter<ControllerSays>>,
     more: Items<VrLetter>,
 ) -> Result<(), AllocError>
-    ensures { OnOk result (letters.new ≡ letters.old ++ to_members more) }
+    ensures { OnOk result (letters.new.items ≡ letters.old.items ++ to_members more) }
 {
+    letters.reserve(more.len())?;
     'more: for letter in more.into_vec() {
-        letters.push(to_member(letter))?;
+        letters.push_reserved(to_member(letter));
     }
     Ok(())
 }
 
 /// So do commands.
 pub(crate) fn add_commands(
-    letters: &mut Letters<ControllerSays>,
+    letters: &mut Vec<Letter<ControllerSays>>,
     view: u32,
     commands: Vec<NumberedOrder>,
 ) -> Result<(), AllocError>
-    ensures { OnOk result (letters.new ≡ letters.old ++ map (settling.command_letter view) commands.items) }
+    ensures { OnOk result (letters.new.items ≡ letters.old.items ++ map (settling.command_letter view) commands.items) }
 {
+    letters.reserve(commands.len())?;
     'more: for numbered in commands {
-        letters.push(command_letter(view, numbered))?;
+        letters.push_reserved(command_letter(view, numbered));
     }
     Ok(())
 }
 
 /// And what is done with.
 pub(crate) fn add_clears(
-    letters: &mut Letters<ControllerSays>,
+    letters: &mut Vec<Letter<ControllerSays>>,
     clears: Vec<AckThrough>,
 ) -> Result<(), AllocError>
-    ensures { OnOk result (letters.new ≡ letters.old ++ map settling.clear_letter clears.items) }
+    ensures { OnOk result (letters.new.items ≡ letters.old.items ++ map settling.clear_letter clears.items) }
 {
+    letters.reserve(clears.len())?;
     'more: for told in clears {
-        letters.push(clear_letter(told))?;
+        letters.push_reserved(clear_letter(told));
     }
     Ok(())
 }

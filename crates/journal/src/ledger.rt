@@ -230,6 +230,7 @@ impl<B: Weight> Ledger<B> {
     }
 
     /// Takes a step, and gives what it finds. There is memory for the entry, and for that of a refusal.
+    #[inline(always)]
     pub fn take(&mut self, step: Turn) -> Option<PacketPlace>
         requires room { vec_len self.old.entries + 2 ≤ vec_capacity self.old.entries }
         requires kept { IsLedger B.size self.old }

@@ -144,6 +144,7 @@ impl<B: Weight> Wire<B> {
     }
 
     /// Draws the packet of a choice behind all that was posted, if one waits for the actor. An `Err` changes nothing.
+    #[inline]
     pub fn take_draw(&mut self, actor: Actor, choice: u64, keep: bool) -> Result<(), AllocError>
         ensures ok { OnOk result (self.new ≡ self.old ++ entry_of (turn.Draw actor choice keep) (past self.old) ∷ []) }
         ensures err { OnErr result (self.new ≡ self.old) }

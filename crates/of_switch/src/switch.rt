@@ -172,6 +172,7 @@ impl Switch {
 
     /// One turn: the rule of its input. Where memory is wanted, nothing has changed. An acknowledgement that brings no
     /// event among the first of the buffer takes none, nor does a clear.
+    #[inline(always)]
     #[tactic(auto, unfolding(crate::specs::Rules::switch_turn))]
     pub fn turn(&mut self, input: SwitchInput) -> Result<Letters<SwitchSays>, AllocError>
         ensures ok { IfOk result (λ letters. Turned (switch_turn self.old input) self.new letters) }

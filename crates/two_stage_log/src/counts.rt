@@ -1,5 +1,5 @@
 //! What is counted in a log. None of these calls takes memory.
-ghost use Rattle.std.specs.Prelude.{◌≡◌, ◌↔◌, ◌≤◌, nat_eq, ◌&&◌, true, length, take, drop, None};
+ghost use Rattle.std.specs.Prelude.{◌≡◌, ◌↔◌, ◌≤◌, nat_eq, ◌&&◌, not, true, length, take, drop, None};
 ghost use Rattle.of_types.specs.Lives.{count_in};
 ghost use Rattle.vr_log.specs.Log as logs;
 ghost use Rattle.vr_log.specs.Log.{is_log, received, processed, may_follow as may_stand};
@@ -37,10 +37,10 @@ pub fn is_processed_by(event: &Event, life: u32, through: u64) -> bool
 
 /// Whether the first event that is not processed may be proposed as processed: there is one, and none of its commands wants a
 /// result.
-pub fn may_process(unprocessed: bool, wanted: usize) -> bool
-    ensures { result ≡ (unprocessed && nat_eq wanted 0) }
+pub fn may_process(unprocessed: bool, wanted: bool) -> bool
+    ensures { result ≡ (unprocessed && not wanted) }
 {
-    unprocessed && wanted == 0
+    unprocessed && !wanted
 }
 
 /// The life that a switch has in the log, and the number that its next event of that life has.

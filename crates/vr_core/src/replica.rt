@@ -62,6 +62,7 @@ impl Replica {
     }
 
     /// The step of an input: what is to be saved and then sent.
+    #[inline(always)]
     pub fn step(&mut self, input: &VrInput) -> Result<VrOut, AllocError>
         requires { IsValidState self.old }
         ensures step { IfOk result (λ out. Stepped (vr_step self.old input.now) self.new out) }

@@ -20,6 +20,7 @@ impl VrOut {
     }
 
     /// One letter.
+    #[inline(always)]
     pub fn tell(&mut self, to: u8, message: VrMessage) -> Result<(), AllocError>
         ensures promise { self.new.promise ≡ self.old.promise }
         ensures letters { OnOk result (self.new.letters ≡ self.old.letters ++ letter message to ∷ []) }

@@ -1,5 +1,5 @@
 //! A world: its journal, its actors, and turns.
-ghost use Rattle.std.specs.Prelude.{◌≡◌, ◌<◌, ◌++◌, ◌∷◌, [], ℕ, List, Some, None, length, map, slice_get, OnOk, OnErr, IfOk, IfErr, IfSome, IsSome};
+ghost use Rattle.std.specs.Prelude.{◌≡◌, ◌<◌, ◌++◌, ◌∷◌, [], ℕ, List, Some, None, false, length, map, slice_get, OnOk, OnErr, IfOk, IfErr, IfSome, IsSome};
 ghost use Rattle.of_types.specs.Setups.{IsSetup};
 ghost use Rattle.journal.specs.Actors.{IsActor};
 ghost use Rattle.journal.specs.Orderly.{IsOrderly};
@@ -116,17 +116,6 @@ impl<B: Body, A: App> World<B, A> {
         self.wire.entries()
     }
 
-    /// Gives the journal. It takes no memory.
-    pub fn into_journal(self) -> Journal<B>
-        ensures { result ≡ self.journal }
-    {
-        let (setup, wire, controllers, switches) = self.into_parts();
-        drop(setup);
-        drop(controllers);
-        drop(switches);
-        wire.into_journal()
-    }
-
     /// Its setup, its journal, and its actors by number. What is owed is let go. It takes no memory.
     pub fn into_parts(self) -> (Setup, Wire<B>, Vec<Controller<A>>, Vec<Switch>)
         ensures setup { result.0 ≡ self.setup }
@@ -204,6 +193,27 @@ impl<B: Body, A: App> World<B, A> {
         ensures stops { IfErr result
             (λ stop. (self.new ≡ self.old) × PostStops B.sealing.size self.old stop) }
     {
+        if self.owes() {
+            self.post_outbox()
+        } else {
+            Ok(())
+        }
+    }
+
+    /// Whether something may be owed.
+    fn owes(&self) -> bool
+        ensures { result ≡ false → self.now.owed ≡ None }
+    {
+        self.outbox.is_some()
+    }
+
+    /// Posts the outbox, as `post_owed` does.
+    fn post_outbox(&mut self) -> Result<(), Stop>
+        ensures posts { OnOk result (self.new ≡ with_posts B.sealing.size self.old) }
+        ensures holds { ForEachKinds (Holds A.law B.sealing self.old) (Holds A.law B.sealing self.new) }
+        ensures stops { IfErr result
+            (λ stop. (self.new ≡ self.old) × PostStops B.sealing.size self.old stop) }
+    {
         let Some(outbox) = &self.outbox else {
             return Ok(());
         };
@@ -240,6 +250,7 @@ impl<B: Body, A: App> World<B, A> {
     }
 
     /// The entry of a step is written, with room for that of a refusal.
+    #[inline(always)]
     fn enter(&mut self, turn: Turn) -> Result<(), AllocError>
         ensures enters { OnOk result (self.new ≡ record self.old { journal = taken turn self.old.journal }) }
         ensures orderly { IsOrderly B.sealing.size (past self.new.journal) }
@@ -252,6 +263,7 @@ impl<B: Body, A: App> World<B, A> {
 
     /// A controller takes the input of the newest entry. What it says is owed from then on. Where it finds no memory it is down,
     /// and the entry is refused.
+    #[inline(always)]
     fn at_controller<W: Stable>(
         &mut self,
         stables: &mut [W],
@@ -283,6 +295,7 @@ impl<B: Body, A: App> World<B, A> {
 
     /// A switch takes the input of the newest entry. What it says is owed from then on. Where it finds no memory it is as it was,
     /// and the entry is refused.
+    #[inline(always)]
     fn at_switch(&mut self, number: u8, input: SwitchInput) -> Result<(), AllocError>
         requires there { number < length self.old.switches }
         requires input { MayBeRefused (past self.old.journal) }
@@ -427,7 +440,10 @@ impl<B: Body, A: App> World<B, A> {
         ensures keeps { Keeps A.law W.saving B.sealing self.old stables.old self.new stables.new }
         ensures stops { IfErr result (TurnStops B.sealing.size turn.now self.old self.new) }
     {
-        self.post_owed()?;
+        // (Only a turn that found no memory left something owed.)
+        if self.owes() {
+            self.post_outbox()?;
+        }
         self.step(stables, turn)?;
         self.post_owed()
     }

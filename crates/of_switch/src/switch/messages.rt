@@ -59,6 +59,7 @@ impl Switch {
     }
 
     /// A message of the extension. One of another life is dropped.
+    #[inline(always)]
     pub(super) fn on_extension(
         &mut self,
         from: u8,

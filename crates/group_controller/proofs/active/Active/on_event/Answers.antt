@@ -1,10 +1,10 @@
-use Rattle.std.proofs.Common.{◌∙◌, ◌∷◌, [], ap, subst, sym}
+use Rattle.std.proofs.Common.{◌∙◌, ap, subst, sym}
 use Rattle.std.proofs.lemmas.Result.{on_ok_weaker}
 use Rattle.vr_log.specs.declared.entry.Entry.TheVariants.{Received}
 use Rattle.vr_log.specs.Members.{leads}
 use Rattle.dispatcher.specs.Folding.{wish}
 use Rattle.dispatcher.specs.Ledger.{StandsFor}
-use Rattle.group_controller.specs.Acting.{Acting, posts_letters}
+use Rattle.group_controller.specs.Acting.{Acting}
 use Rattle.group_controller.specs.State.{committed, Work}
 use Rattle.group_controller.proofs.Events.{event_acknowledged, event_last, event_more, event_nothing}
 use Rattle.group_controller.proofs.Finishing.{leads_after_proposal}
@@ -41,7 +41,7 @@ returns-in-Acknowledge g c = λ kinds setup begins.
     let log = committed now.work.state in
     let stands = subst (λ (a : Acting _). StandsFor g.A.App.law a.dispatcher kinds setup log) (sym c.self.view_is) begins.acts.stands in
     let is = ap (λ l. wish l log c.args.event) (sym (c.log.ensures ∙ ap (λ (a : Acting _). a.work.state.vr.log) c.self.view_is)) ∙ sym (c.on_event.ensures kinds setup log stands) ∙ c.in-Acknowledge.is in
-    on_ok_weaker c.post.result (λ sent. event_acknowledged g.A.App.law kinds setup now c.post.new.self c.args.event c.in-Acknowledge.through begins is (sent ∙ ap (λ l. posts_letters now (l ∷ [])) c.ack_letter.ensures)) c.post.ensures
+    on_ok_weaker c.acknowledge.result (event_acknowledged g.A.App.law kinds setup now c.acknowledge.new.self c.args.event c.in-Acknowledge.through begins is) c.acknowledge.ensures
 
 pub returns-in-Nothing : goal.returns-in-Nothing
 returns-in-Nothing g c = λ kinds setup begins.

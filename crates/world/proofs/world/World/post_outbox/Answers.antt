@@ -7,7 +7,7 @@ use Rattle.world.specs.Debts.{owing, sealed_outbox}
 use Rattle.world.specs.World.{Holds}
 use Rattle.world.proofs.Applying.{post_refused}
 use Rattle.world.proofs.Turning.{post_holds}
-use Rattle.world.proofs.world.World.post_owed.Goals as goal
+use Rattle.world.proofs.world.World.post_outbox.Goals as goal
 
 pub returns-in-Ok-clause-holds : goal.returns-in-Ok-clause-holds
 returns-in-Ok-clause-holds g c = λ kinds h.

@@ -11,10 +11,11 @@ use Rattle.app_core.specs.declared.issued.Issued.{Issued}
 use Rattle.app_core.specs.Chain.{concat, chain_after, starting_chain, given_by}
 use Rattle.app_core.specs.Issued.{count_issued, issues}
 use Rattle.app_core.specs.Law.{AppLaw}
-use Rattle.dispatcher.specs.Counted.{Counted, counts_of}
+use Rattle.dispatcher.specs.Counted.{Counted, counts_in, counts_of}
 use Rattle.dispatcher.specs.declared.answers.HandledEvent.{HandledEvent}
 use Rattle.dispatcher.specs.declared.answers.AckThrough.{AckThrough}
 use Rattle.dispatcher.specs.declared.counts.Counts.{Counts}
+use Rattle.dispatcher.specs.declared.counts.LifeCount.{LifeCount}
 use Rattle.dispatcher.specs.declared.counts.Progress.{Progress}
 use Rattle.dispatcher.specs.declared.counts.Progress.TheVariants as progress
 use Rattle.dispatcher.specs.declared.ledger.Ledger.{Ledger}
@@ -25,6 +26,10 @@ use Rattle.dispatcher.specs.Marks.{Marks, has_result, is_confirmed, unsettled}
 abbrev pub IsCountedAs : Counted → ℕ → ℕ → Counts → Counted → Type 0
 IsCountedAs old switch life counts new =
     (s l : ℕ) → counts_of new s l ≡ (if nat_eq s switch && nat_eq l life then counts else counts_of old s l)
+
+-- the same in the row of a switch
+abbrev pub IsRowCountedAs : List LifeCount → ℕ → Counts → List LifeCount → Type 0
+IsRowCountedAs old life counts new = (l : ℕ) → counts_in new l ≡ (if nat_eq l life then counts else counts_in old l)
 
 -- the counts are those of the events that are processed, and of the commands that are issued and settled
 abbrev pub AreCounts : List Event → List Issued → List Issued → Counted → Type 0

@@ -1,6 +1,6 @@
 -- The commands of committed events: which are settled, acknowledged and outstanding (Ravana, 4.2). Each of these
 -- speaks of a committed log, and of the marks of a view.
-use Rattle.std.specs.Prelude.{ℕ, Bool, not, nat_eq, nat_le, nat_lt, ◌&&◌, List, [], ◌∷◌, ◌++◌, length, take, drop, filter, if◌then◌else◌}
+use Rattle.std.specs.Prelude.{◌≡◌, ◌≤◌, ℕ, Bool, true, not, nat_eq, nat_le, nat_lt, ◌&&◌, List, [], ◌∷◌, ◌++◌, length, take, drop, filter, get_or, if◌then◌else◌}
 use Rattle.std.specs.List.{list_any}
 use Rattle.of_types.specs.declared.setup.Setup.{Setup}
 use Rattle.of_types.specs.Lives.{has_ended}
@@ -31,6 +31,10 @@ is_confirmed marks switch = list_any (λ s. nat_eq s switch) marks.confirmed
 -- the result of a command came
 abbrev pub has_result : Marks → ℕ → ℕ → ℕ → Bool
 has_result marks switch life number = list_any (λ a. nat_eq a.0 switch && nat_eq a.1 life && nat_eq a.2 number) marks.acked
+
+-- no result came of a command whose number is above the highest one of its switch
+abbrev pub AreWithin : Marks → List ℕ → Type 0
+AreWithin marks highest = (switch life number : ℕ) → has_result marks switch life number ≡ true → number ≤ get_or highest switch 0
 
 -- a switch takes this controller as master, or does no more
 abbrev pub confirmed_by : Marks → ℕ → Marks

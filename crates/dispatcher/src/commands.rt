@@ -10,14 +10,19 @@ use crate::numbered::NumberedOrder;
 use app_core::Issued;
 use std::alloc::{AllocError, Global};
 
-/// Whether a command of the first event that is not processed wants a result.
+/// Whether a command of the first event that is not processed wants a result. The last is asked first, since results
+/// mostly come in the order of the commands.
 pub(crate) fn wants_one(ledger: &Ledger, marks: &ViewMarks) -> bool
     ensures { result ≡ list_any (wants ledger.now marks.now.marks) (first_commands ledger.now.pending.items) }
 {
-    ledger
-        .first()
-        .iter()
-        .any(|command| wants(ledger, marks, command))
+    let mut commands = ledger.first();
+    'commands: while let Some((last, earlier)) = commands.split_last() {
+        if wants(ledger, marks, last) {
+            return true;
+        }
+        commands = earlier;
+    }
+    false
 }
 
 /// The commands of the first event that is not processed that want a result, on switches that took this controller

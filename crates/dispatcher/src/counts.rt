@@ -1,7 +1,7 @@
 //! What is counted of the lives of switches.
-ghost use Rattle.std.specs.Prelude.{◌≡◌, ◌<◌, ◌&&◌, ℕ, [], nat_eq, length, get_or, IfOk, OnOk, if◌then◌else◌};
+ghost use Rattle.std.specs.Prelude.{◌≡◌, ◌<◌, ◌&&◌, ◌∷◌, ◌++◌, ℕ, [], nat_eq, length, get_or, IfOk, OnOk, if◌then◌else◌};
 ghost use Rattle.dispatcher.specs.Counted.{counts_in, counts_of, event_place_of};
-ghost use Rattle.dispatcher.specs.Ledger.{IsCountedAs, tally_of, one_more};
+ghost use Rattle.dispatcher.specs.Ledger.{IsCountedAs, IsRowCountedAs, tally_of, one_more};
 
 use std::alloc::{AllocError, Global};
 use std::marker::Model;
@@ -101,7 +101,7 @@ impl Row {
     /// One thing more is counted of a life. It tells how many there were.
     fn count(&mut self, life: u32, progress: Progress) -> Result<u64, AllocError>
         ensures before { IfOk result (λ before. before ≡ tally_of progress (counts_in self.old life)) }
-        ensures counted { OnOk result ((l : ℕ) → counts_in self.new l ≡ (if nat_eq l life then one_more progress (counts_in self.old life) else counts_in self.old l)) }
+        ensures counted { OnOk result (IsRowCountedAs self.old life (one_more progress (counts_in self.old life)) self.new) }
     {
         let place = self.place_of(life);
         if place < self.lives.len() {
@@ -110,13 +110,23 @@ impl Row {
             Ok(before)
         } else {
             let (before, counts) = count_one(NO_COUNTS, progress);
-            self.lives.push(LifeCount { life, counts })?;
+            add(&mut self.lives, LifeCount { life, counts })?;
             Ok(before)
         }
     }
 }
 
-/// Makes the rows reach this number.
+/// Appends what is counted of a life. This is rare, and stands apart from counting on.
+#[inline(never)]
+fn add(lives: &mut Vec<LifeCount>, counted: LifeCount) -> Result<(), AllocError>
+    ensures { OnOk result (lives.new.items ≡ lives.old.items ++ counted ∷ []) }
+{
+    lives.push(counted)?;
+    Ok(())
+}
+
+/// Makes the rows reach this number. This is rare too.
+#[inline(never)]
 fn reach(rows: &mut Vec<Row>, number: usize) -> Result<(), AllocError>
     ensures same { (n : ℕ) → get_or rows.new.items n [] ≡ get_or rows.old.items n [] }
     ensures ok { OnOk result (number < length rows.new.items) }
@@ -167,6 +177,7 @@ impl LifeCounts {
     }
 
     /// One thing more is counted of a life of a switch. It tells how many there were.
+    #[inline]
     pub(crate) fn count(
         &mut self,
         switch: u8,
@@ -177,7 +188,9 @@ impl LifeCounts {
         ensures counted { OnOk result (IsCountedAs self.old switch life (one_more progress (counts_of self.old switch life)) self.new) }
     {
         let index = usize::from(switch);
-        reach(&mut self.rows, index)?;
+        if index >= self.rows.len() {
+            reach(&mut self.rows, index)?;
+        }
         self.rows[index].count(life, progress)
     }
 }

@@ -6,6 +6,7 @@ mod answers;
 mod commands;
 mod counts;
 mod dispatcher;
+mod highest;
 mod ledger;
 mod lives;
 mod marks;

@@ -3,6 +3,7 @@ ghost use Rattle.std.specs.Prelude.{◌≡◌, ◌+◌, ◌<◌, ◌≤◌, fals
 ghost use Rattle.dispatcher.specs.Marks as marks;
 ghost use Rattle.dispatcher.specs.Marks.{confirmed_by, has_result, is_confirmed, no_marks, with_mark};
 
+use crate::highest::Highest;
 use of_types::SmallSet;
 use std::alloc::{AllocError, Global};
 use std::collections::HashSet;
@@ -18,6 +19,8 @@ pub(crate) struct ViewMarks {
     acked: Vec<(u8, u32, u64)>,
     /// The same commands, as they are found.
     found: HashSet<(u8, u32, u64)>,
+    /// Of each switch, the highest number among them: a higher one is looked for no further.
+    highest: Highest,
 }
 
 impl Model for ViewMarks {
@@ -25,7 +28,7 @@ impl Model for ViewMarks {
     ghost use Rattle.std.specs.List.Sorted.{IsPermutation};
     ghost use Rattle.std.specs.HashSet.{spare};
     ghost use Rattle.std.specs.Vec.{vec_capacity};
-    ghost use Rattle.dispatcher.specs.Marks.{KeptMarks};
+    ghost use Rattle.dispatcher.specs.Marks.{KeptMarks, AreWithin};
 
     ghost Value = { KeptMarks };
 
@@ -34,7 +37,7 @@ impl Model for ViewMarks {
       room = min (vec_capacity m.acked) (length m.found.keys + spare m.found);
     } };
 
-    ghost invariant = { λ m. IsPermutation m.acked.items m.found.keys };
+    ghost invariant = { λ m. IsPermutation m.acked.items m.found.keys × AreWithin (record { confirmed = m.confirmed; acked = m.acked.items }) m.highest };
 }
 
 impl ViewMarks {
@@ -46,6 +49,7 @@ impl ViewMarks {
             confirmed: SmallSet::new(),
             acked: Vec::new(alloc),
             found: HashSet::new(alloc),
+            highest: Highest::new(),
         }
     }
 
@@ -57,6 +61,7 @@ impl ViewMarks {
         self.confirmed = SmallSet::new();
         self.acked.clear();
         self.found.clear();
+        self.highest = Highest::new();
     }
 
     /// A switch took this controller as master.
@@ -80,8 +85,16 @@ impl ViewMarks {
     }
 
     /// Whether a result of a command came.
-    #[inline]
+    #[inline(always)]
     pub(crate) fn has_result(&self, switch: u8, life: u32, number: u64) -> bool
+        ensures { result ≡ has_result self.now.marks switch life number }
+    {
+        number <= self.highest.of(switch) && self.finds_result(switch, life, number)
+    }
+
+    /// Whether a command is found among those of which results came.
+    #[inline(never)]
+    fn finds_result(&self, switch: u8, life: u32, number: u64) -> bool
         ensures { result ≡ has_result self.now.marks switch life number }
     {
         self.found.contains(&(switch, life, number))
@@ -109,6 +122,7 @@ impl ViewMarks {
         let command = (switch, life, number);
         if self.found.insert(command).is_ok() {
             let _ = self.acked.push(command);
+            self.highest.raise(switch, number);
         }
     }
 }

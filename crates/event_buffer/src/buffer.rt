@@ -10,6 +10,10 @@ use std::marker::Model;
 /// The most events that are held.
 pub const MOST_HELD: usize = 256;
 
+/// The most events that have left and still stand at the front of the buffer. They are dropped together, since each
+/// drop there moves all events that are held.
+const MOST_GONE: usize = 32;
+
 /// The buffer has no room for an event.
 #[derive(Clone, Copy, PartialEq, Eq, Debug)]
 pub struct Full;
@@ -23,23 +27,26 @@ pub struct EventBuffer {
     life: u32,
     /// How many events of this life have left the buffer. The first that it holds has this number.
     cleared: u64,
-    /// The events that wait, without a gap in their numbers.
-    held: Vec<Event>,
+    /// Events that have left, and behind them those that wait, without a gap in their numbers.
+    events: Vec<Event>,
+    /// How many of these events have left.
+    gone: usize,
     /// The ports whose change found no room.
     dirty: SmallSet,
 }
 
 impl Model for EventBuffer {
-    ghost use Rattle.std.specs.Prelude.{◌≤◌, ◌+◌, ◌<◌, ◌^◌, length, vec_capacity};
+    ghost use Rattle.std.specs.Prelude.{◌≤◌, ◌+◌, ◌<◌, ◌^◌, drop, length, vec_capacity};
     ghost use Rattle.event_buffer.specs.Buffer.{Buffer, IsBuffer};
 
     ghost Value = { Buffer };
 
-    ghost view = { λ a. record { switch = a.switch; life = a.life; cleared = a.cleared; held = a.held.items; dirty = a.dirty } };
+    ghost view = { λ a. record { switch = a.switch; life = a.life; cleared = a.cleared; held = drop a.gone a.events.items; dirty = a.dirty } };
 
     ghost invariant = { λ a.
-        IsBuffer (record { switch = a.switch; life = a.life; cleared = a.cleared; held = a.held.items; dirty = a.dirty })
-        × (256 ≤ vec_capacity a.held) × (a.cleared + length a.held.items < 2 ^ 64) };
+        IsBuffer (record { switch = a.switch; life = a.life; cleared = a.cleared; held = drop a.gone a.events.items; dirty = a.dirty })
+        × (256 + 32 ≤ vec_capacity a.events) × (a.gone ≤ length a.events.items) × (a.gone < 32)
+        × (a.cleared + length (drop a.gone a.events.items) < 2 ^ 64) };
 }
 
 impl EventBuffer {
@@ -51,7 +58,8 @@ impl EventBuffer {
             switch,
             life,
             cleared: 0,
-            held: Vec::with_capacity(alloc, MOST_HELD)?,
+            events: Vec::with_capacity(alloc, MOST_HELD + MOST_GONE)?,
+            gone: 0,
             dirty: SmallSet::new(),
         })
     }
@@ -72,7 +80,7 @@ impl EventBuffer {
             number,
             what,
         };
-        push_within(&mut self.held, event);
+        push_within(&mut self.events, event);
         Ok(number)
     }
 
@@ -80,7 +88,7 @@ impl EventBuffer {
     pub fn is_full(&self) -> bool
         ensures { result ≡ is_full self.now }
     {
-        self.held.len() >= MOST_HELD
+        self.held().len() >= MOST_HELD
     }
 
     /// Remembers a port.
@@ -106,8 +114,12 @@ impl EventBuffer {
     {
         let cleared = self.cleared.max(through.min(self.next_number()));
         let count = cleared - self.cleared;
-        drop_front(&mut self.held, count as usize);
+        self.gone += count as usize;
         self.cleared = cleared;
+        if self.gone >= MOST_GONE {
+            drop_front(&mut self.events, self.gone);
+            self.gone = 0;
+        }
         count
     }
 
@@ -115,7 +127,7 @@ impl EventBuffer {
     pub fn front(&self) -> Option<&Event>
         ensures { option_copied result ≡ slice_get self.now.held 0 }
     {
-        self.held.first()
+        self.held().first()
     }
 
     /// The held events, the lowest number first: at most `MOST_HELD`, numbered on from those that left.
@@ -123,15 +135,16 @@ impl EventBuffer {
         ensures events { result.now ≡ self.now.held }
         ensures lawful { IsBuffer self.now }
     {
-        &self.held
+        &self.events[self.gone..]
     }
 
     /// Copies of the held events, the lowest number first.
     pub fn items(&self) -> Result<Vec<Event>, AllocError>
         ensures { IfOk result (λ events. events.items ≡ self.now.held) }
     {
-        let mut events = Vec::with_capacity(*self.held.allocator(), self.held.len())?;
-        for event in &self.held {
+        let held = self.held();
+        let mut events = Vec::with_capacity(*self.events.allocator(), held.len())?;
+        for event in held {
             events.push(event.copy()?)?;
         }
         Ok(events)
@@ -141,7 +154,7 @@ impl EventBuffer {
     pub fn next_number(&self) -> u64
         ensures { result ≡ next_number self.now }
     {
-        self.cleared + self.held.len() as u64
+        self.cleared + self.held().len() as u64
     }
 
     /// The switch whose events it holds.
@@ -185,7 +198,7 @@ impl EventBuffer {
         ensures ports { IfOk result (λ ports. ports.items ≡ self.now.dirty) }
         ensures lawful { IsBuffer self.now }
     {
-        let alloc = *self.held.allocator();
+        let alloc = *self.events.allocator();
         let ports = self.dirty.to_vec(alloc)?;
         let mut wide = Vec::with_capacity(alloc, ports.len())?;
         for port in &ports {

@@ -1,6 +1,6 @@
 -- The row that a frame meets: the first of two destinations' first rows.
 use Rattle.std.proofs.Common.{◌≡◌, ℕ, zero, suc, ◌-◌, ◌^◌, ◌<◌, ◌≤◌, ◌⊎◌, inl, inr, Bool, true, false, List, [], ◌∷◌, ◌++◌, refl, sym, ◌∙◌, ap, arith, subst}
-use Rattle.std.specs.Prelude.{Option, Some, None, nat_eq, nat_lt, ◌&&◌, ◌||◌, find, bit_and, if◌then◌else◌}
+use Rattle.std.specs.Prelude.{Option, Some, None, is_none, nat_eq, nat_lt, ◌&&◌, ◌||◌, find, bit_and, if◌then◌else◌}
 use Rattle.std.specs.List.Sorted.{IsStrictlySortedBy}
 use Rattle.std.specs.Map.{keys_of}
 use Rattle.std.specs.Option.{option_to_list}
@@ -17,10 +17,11 @@ use Rattle.of_types.specs.Matching.{matches, has_value, has_address48, has_addre
 use Rattle.flow_table.specs.Table.{better, chosen_row}
 use Rattle.flow_index.specs.declared.place.Place.{Place}
 use Rattle.flow_index.specs.Places.{place_of, exact_destination, whole_address}
-use Rattle.flow_index.specs.Entries.{by_place, place_at, entries_of, exact_match, is_before, preferred}
+use Rattle.flow_index.specs.Entries.{by_place, place_at, entries_of, exact_match, is_before, open_entries, preferred}
 use Rattle.flow_index.specs.Index.{numbered_rows, rows_below, AreIndexed}
 use Rattle.flow_table.proofs.Keys.{same_some, unlike}
 use Rattle.flow_index.proofs.Order.{in_range, range_destination, place_before}
+use Rattle.flow_index.proofs.Open.{filter_alike}
 use Rattle.flow_index.proofs.Indexed.{Entry, IsIn, placed, numbered_in, in_numbered, find_in, find_none, find_least}
 
 -- ---- one more row
@@ -302,5 +303,17 @@ best_of next es fields exact any a firsts = by_found exact any refl refl
             (λ v e seen before. of_found exact x e is v seen before)
             (λ v e seen before. not_after x.0 y.0 e.0 (not_before_is y.0 x.0 first) (of_found any y e is' v seen before))
 
-pub found_is_chosen : (next : ℕ) (es : List Entry) (fields : Fields) → next < 2 ^ 64 → AreIndexed next es → IsStrictlySortedBy by_place (keys_of es) → preferred (exact_match fields.eth_dst fields es) (find (λ e. matches e.1.matching fields) (entries_of None es)) ≡ chosen_row (rows_below (numbered_rows es) next) fields
-found_is_chosen next es fields small a sorted = best_of next es fields _ _ a (found_first next es fields small a sorted)
+-- the rows of no destination are those between its places
+open_is : (next : ℕ) (es : List Entry) → next < 2 ^ 64 → AreIndexed next es → open_entries es ≡ entries_of None es
+open_is next es small a = filter_alike (λ e. is_none e.0.destination) (in_destination None) es (λ e i. by_place_of e i e.0.destination refl)
+  where
+    by_range : (e : Entry) (d : ℕ) → e.0.destination ≡ Some d → (b : Bool) → in_destination None e ≡ b → false ≡ b
+    by_range e d is true inside = absurd cc (range_destination None 0 0 65535 (2 ^ 64 - 1) e.0 inside, is)
+    by_range e d is false outside = refl
+
+    by_place_of : (e : Entry) → IsIn e es → (o : Option ℕ) → e.0.destination ≡ o → is_none o ≡ in_destination None e
+    by_place_of e i None is = sym (entry_in_destination next es None e small a i (sym (ap (λ (p : Place). p.destination) (placed next es e a i).place) ∙ is))
+    by_place_of e i (Some d) is = by_range e d is (in_destination None e) refl
+
+pub found_is_chosen : (next : ℕ) (es : List Entry) (fields : Fields) → next < 2 ^ 64 → AreIndexed next es → IsStrictlySortedBy by_place (keys_of es) → preferred (exact_match fields.eth_dst fields es) (find (λ e. matches e.1.matching fields) (open_entries es)) ≡ chosen_row (rows_below (numbered_rows es) next) fields
+found_is_chosen next es fields small a sorted = rw (open_is next es small a) (best_of next es fields _ _ a (found_first next es fields small a sorted))

@@ -1,5 +1,6 @@
 pub mod Chosen
 pub mod Indexed
+pub mod Open
 pub mod Listed
 pub mod Order
 pub mod Ordered

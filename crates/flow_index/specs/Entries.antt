@@ -1,5 +1,5 @@
 -- Rows by their places.
-use Rattle.std.specs.Prelude.{find, bit_and, ℕ, ◌-◌, ◌^◌, Bool, nat_eq, nat_lt, ◌&&◌, ◌||◌, List, Option, Some, None, if◌then◌else◌}
+use Rattle.std.specs.Prelude.{filter, find, bit_and, is_none, ℕ, ◌-◌, ◌^◌, Bool, nat_eq, nat_lt, ◌&&◌, ◌||◌, List, Option, Some, None, if◌then◌else◌}
 use Rattle.std.specs.Ordering.{nat_cmp, ordering_then}
 use Rattle.std.specs.Option.{option_cmp}
 use Rattle.std.specs.BTreeMap.Range.{entries_between}
@@ -26,6 +26,10 @@ entries_of destination entries = entries_between by_place (Included (place_at de
 abbrev pub exact_match : Option ℕ → Fields → List (Place × Row) → Option (Place × Row)
 exact_match None fields entries = None
 exact_match (Some destination) fields entries = find (λ e. matches e.1.matching fields) (entries_of (Some (bit_and destination ONES48)) entries)
+
+-- the rows of no destination
+abbrev pub open_entries : List (Place × Row) → List (Place × Row)
+open_entries entries = filter (λ e. is_none e.0.destination) entries
 
 -- the rows of a destination and a rank
 abbrev pub entries_ranked : Option ℕ → ℕ → List (Place × Row) → List (Place × Row)

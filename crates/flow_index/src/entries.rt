@@ -6,7 +6,7 @@ ghost use Rattle.std.specs.Option.{option_map};
 ghost use Rattle.of_types.specs.Matching.{matches as is_match};
 ghost use Rattle.flow_table.specs.Table.{row_of, same_key};
 ghost use Rattle.flow_index.specs.Places.{exact_destination};
-ghost use Rattle.flow_index.specs.Entries.{by_place, entries_of, entries_ranked, exact_match, preferred};
+ghost use Rattle.flow_index.specs.Entries.{by_place, entries_of, entries_ranked, exact_match, open_entries, preferred};
 
 use crate::place::{Place, exact_destination};
 use flow_table::has_key;
@@ -19,8 +19,7 @@ pub fn first_match<'a>(
     destination: Option<u64>,
     fields: &Fields,
 ) -> Option<(&'a Place, &'a Row)>
-    ensures first { option_map (λ e. (e.0.now, e.1.now)) result ≡ find (λ e. is_match e.1.matching fields.now) (entries_of destination rows.now.entries) }
-    ensures ordered { IsStrictlySortedBy by_place (keys_of rows.now.entries) }
+    ensures { option_map (λ e. (e.0.now, e.1.now)) result ≡ find (λ e. is_match e.1.matching fields.now) (entries_of destination rows.now.entries) }
 {
     let first = Place {
         destination,
@@ -51,6 +50,25 @@ pub fn first_exact<'a>(
         Some(destination) => first_match(rows, Some(destination & ONES48), fields),
         None => None,
     }
+}
+
+/// The first row of no destination that a frame with these fields matches. Such rows stand before all others.
+pub fn first_open<'a>(
+    rows: &'a BTreeMap<Place, Row>,
+    fields: &Fields,
+) -> Option<(&'a Place, &'a Row)>
+    ensures first { option_map (λ e. (e.0.now, e.1.now)) result ≡ find (λ e. is_match e.1.matching fields.now) (open_entries rows.now.entries) }
+    ensures ordered { IsStrictlySortedBy by_place (keys_of rows.now.entries) }
+{
+    for (place, row) in rows {
+        if place.destination.is_some() {
+            return None;
+        }
+        if matches(&row.matching, fields) {
+            return Some((place, row));
+        }
+    }
+    None
 }
 
 /// The row with a change's match and priority, and its place, if there is one.

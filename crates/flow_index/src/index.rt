@@ -3,7 +3,7 @@ ghost use Rattle.std.specs.Prelude.{◌≡◌, [], false, IfOk, OnOk, OnErr};
 ghost use Rattle.flow_table.specs.Table.{is_delete, lacks_room, row_of as row_told, table_after, table_step, with_row};
 
 use crate::changes::{delete, delete_strict, modify, modify_strict, replace};
-use crate::entries::{first_exact, first_match, preferred, with_key};
+use crate::entries::{first_exact, first_open, preferred, with_key};
 use crate::place::{Place, place_of};
 use flow_table::{MOST_ROWS, Rows, TableFault, first_fault, row_of, table_miss};
 use of_types::{Fields, FlowCommand, FlowMod, Row};
@@ -125,7 +125,7 @@ impl Rows for FlowIndex {
     fn look_up(&self, fields: &Fields) -> Option<&Row> {
         preferred(
             first_exact(&self.rows, fields),
-            first_match(&self.rows, None, fields),
+            first_open(&self.rows, fields),
         )
     }
 

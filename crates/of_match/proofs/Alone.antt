@@ -3,24 +3,18 @@ use Rattle.std.proofs.Common.{◌≡◌, ℕ, ◌-◌, ◌^◌, ◌<◌, ◌≤�
 use Rattle.std.proofs.lemmas.List.{length-drop, length-take, take-append-drop}
 use Rattle.of_bytes.specs.Numbers.{big_number, big_bytes}
 use Rattle.of_bytes.proofs.Bytes.{big_from-lt, IsBytes, IsBytes-drop, bytes_number, number_bytes}
-use Rattle.of_types.specs.Matching.{any_match}
-use Rattle.of_types.specs.declared.message.Match.{Match}
 use Rattle.of_match.specs.declared.kind.FieldKind.TheVariants.{InPort}
 use Rattle.of_match.specs.Field.{Field}
-use Rattle.of_match.specs.Reading.{match_at, match_of}
+use Rattle.of_match.specs.Reading.{match_at, match_of, match_of_port}
 use Rattle.of_match.specs.Spelling.{IsSpelled}
 use Rattle.of_match.specs.Writing.{exact, address48, address32, link_fields, network_fields, transport_fields, written_of, spelled, canonical_bare_match, canonical_match}
 use Rattle.of_match.proofs.Laws.{spelled_read}
-
--- the match of a port alone
-abbrev pub alone : ℕ → Match
-alone port = record any_match { in_port = Some port }
 
 -- the type and the length of a match of one port, and the class, the number and the length of its field
 abbrev pub front : List ℕ
 front = 0 ∷ 1 ∷ 0 ∷ 12 ∷ 128 ∷ 0 ∷ 0 ∷ 4 ∷ []
 
-alone_spelled : (port : ℕ) (padding : List ℕ) → port < 256 ^ 4 → length padding ≡ 4 → IsSpelled (front ++ (big_bytes 4 port ++ padding)) (alone port)
+alone_spelled : (port : ℕ) (padding : List ℕ) → port < 256 ^ 4 → length padding ≡ 4 → IsSpelled (front ++ (big_bytes 4 port ++ padding)) (match_of_port port)
 unfolding spelled match_of
 alone_spelled port padding fits four =
     let field : Field = record { kind = InPort; value = port; mask = None } in (
@@ -37,7 +31,7 @@ alone_spelled port padding fits four =
       },
     )
 
-pub is_alone : (bytes : List ℕ) → IsBytes bytes → 16 ≤ length bytes → bytes ≡ front ++ drop 8 bytes → match_at bytes ≡ Ok (alone (big_number 4 (drop 8 bytes)), 16)
+pub is_alone : (bytes : List ℕ) → IsBytes bytes → 16 ≤ length bytes → bytes ≡ front ++ drop 8 bytes → match_at bytes ≡ Ok (match_of_port (big_number 4 (drop 8 bytes)), 16)
 is_alone bytes fits there begins =
     let behind = drop 8 bytes in
     let port = big_number 4 behind in
@@ -49,15 +43,15 @@ is_alone bytes fits there begins =
     let parts : behind ≡ take 4 behind ++ (padding ++ rest) = sym (take-append-drop 4 behind) ∙ ap (λ (t : List ℕ). take 4 behind ++ t) (sym (take-append-drop 4 (drop 4 behind))) in
     let number : take 4 behind ≡ big_bytes 4 port = sym (bytes_number 4 behind (IsBytes-drop 8 bytes fits) (omega (arith, size))) in
     let whole : bytes ≡ (front ++ (big_bytes 4 port ++ padding)) ++ rest = begins ∙ ap (λ (t : List ℕ). front ++ t) (parts ∙ ap (λ (t : List ℕ). t ++ (padding ++ rest)) number) in
-    spelled_read bytes (front ++ (big_bytes 4 port ++ padding)) rest (alone port) whole (alone_spelled port padding (omega (arith, lt)) four) ∙ ap (λ n. Ok (alone port, n)) (omega (arith, four))
+    spelled_read bytes (front ++ (big_bytes 4 port ++ padding)) rest (match_of_port port) whole (alone_spelled port padding (omega (arith, lt)) four) ∙ ap (λ n. Ok (match_of_port port, n)) (omega (arith, four))
 
 -- ---- its one written form
 
-alone_written : (port : ℕ) → canonical_match (alone port) ≡ front ++ (big_bytes 4 port ++ (0 ∷ 0 ∷ 0 ∷ 0 ∷ []))
+alone_written : (port : ℕ) → canonical_match (match_of_port port) ≡ front ++ (big_bytes 4 port ++ (0 ∷ 0 ∷ 0 ∷ 0 ∷ []))
 unfolding canonical_match canonical_bare_match written_of link_fields network_fields transport_fields exact address48 address32 spelled
 alone_written port = refl
 
-pub is_met : (bytes rest : List ℕ) (port : ℕ) → port < 2 ^ 32 → bytes ≡ canonical_match (alone port) ++ rest → (16 ≤ length bytes) × (bytes ≡ front ++ drop 8 bytes) × (big_number 4 (drop 8 bytes) ≡ port)
+pub is_met : (bytes rest : List ℕ) (port : ℕ) → port < 2 ^ 32 → bytes ≡ canonical_match (match_of_port port) ++ rest → (16 ≤ length bytes) × (bytes ≡ front ++ drop 8 bytes) × (big_number 4 (drop 8 bytes) ≡ port)
 is_met bytes rest port fits written =
     let behind : List ℕ = big_bytes 4 port ++ (0 ∷ 0 ∷ 0 ∷ 0 ∷ rest) in
     let whole : bytes ≡ front ++ behind = written ∙ ap (λ (t : List ℕ). t ++ rest) (alone_written port) in

@@ -9,3 +9,4 @@ pub mod Sizes
 pub mod Forms
 pub mod Laws
 pub mod Alone
+pub mod Pair

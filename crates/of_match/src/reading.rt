@@ -4,12 +4,11 @@ ghost use Rattle.std.specs.Prelude.{◌≡◌, ◌<◌, ◌≤◌, ◌^◌, ◌+
 ghost use Rattle.of_types.specs.declared.message.Match.{Match};
 ghost use Rattle.of_match.specs.Writing.{canonical_match};
 ghost use Rattle.of_match.specs.Spelling.{IsSpelled, Fits};
-ghost use Rattle.of_types.specs.Matching.{any_match};
 ghost use Rattle.of_types.specs.Valid.{IsValidMatch};
 ghost use Rattle.of_types.specs.Sizes.{match_size};
 ghost use Rattle.of_bytes.specs.Reading.{Gives};
 ghost use Rattle.of_match.specs.Field.{width_of, can_mask};
-ghost use Rattle.of_match.specs.Reading.{header_at, payload_length, masked48_at, masked32_at, put_at, said_at, match_body_at, match_at, needs, is_ipv4, has_protocol, has_prerequisites};
+ghost use Rattle.of_match.specs.Reading.{header_at, payload_length, masked48_at, masked32_at, put_at, said_at, match_body_at, match_of_port, match_at, needs, is_ipv4, has_protocol, has_prerequisites};
 
 use crate::fault::MatchFault;
 use crate::kind::{FieldHeader, FieldKind};
@@ -45,14 +44,43 @@ const PORT_FRONT: [u8; 8] = [0, 1, 0, 12, 0x80, 0, 0, 4];
 /// The port of a match that asks for a port alone. None where it may ask for more, which `read_match` tells.
 pub fn port_alone(bytes: &[u8]) -> Option<u32>
     // The match is that of the port.
-    ensures alone { IfSome result (λ port. match_at bytes.now ≡ Ok (record any_match { in_port = Some port }, 16)) }
+    ensures alone { IfSome result (λ port. match_at bytes.now ≡ Ok (match_of_port port, 16)) }
     // All its bytes are there.
     ensures there { IfSome result (λ _. 16 ≤ length bytes.now) }
     // The one written form of such a match is met, whatever follows.
-    ensures met { (port : ℕ) (rest : List ℕ) → port < 2 ^ 32 → bytes.now ≡ canonical_match (record any_match { in_port = Some port }) ++ rest → result ≡ Some port }
+    ensures met { (port : ℕ) (rest : List ℕ) → port < 2 ^ 32 → bytes.now ≡ canonical_match (match_of_port port) ++ rest → result ≡ Some port }
 {
     if bytes.len() >= PORT_ALONE && bytes.starts_with(&PORT_FRONT) {
         Some(u32_at(bytes, 8))
+    } else {
+        None
+    }
+}
+
+/// The bytes of a match that asks for a port and a whole destination alone.
+const PORT_AND_DESTINATION: usize = 24;
+
+/// Its first bytes: its type and its length, and the class, the number and the length of its first field.
+const PORT_THEN_MORE: [u8; 8] = [0, 1, 0, 22, 0x80, 0, 0, 4];
+
+/// The class, the number and the length of its second field.
+const DESTINATION_FRONT: [u8; 4] = [0x80, 0, 6, 6];
+
+/// A match that asks for a port and a whole destination alone. None where it may ask for others.
+fn port_and_destination(bytes: &[u8]) -> Option<Match>
+    ensures { IfSome result (λ m. match_at bytes.now ≡ Ok (m, 24)) }
+{
+    if bytes.len() >= PORT_AND_DESTINATION
+        && bytes.starts_with(&PORT_THEN_MORE)
+        && bytes[12..].starts_with(&DESTINATION_FRONT)
+    {
+        let mut matching = any_match();
+        matching.in_port = Some(u32_at(bytes, 8));
+        matching.eth_dst = Some(Masked48 {
+            value: u48_at(bytes, 16),
+            mask: ONES48,
+        });
+        Some(matching)
     } else {
         None
     }
@@ -243,6 +271,9 @@ fn has_prerequisites(matching: &Match) -> bool
 fn first_match(bytes: &[u8]) -> Result<(Match, usize), MatchFault>
     ensures { result ≡ match_at bytes.now }
 {
+    if let Some(matching) = port_and_destination(bytes) {
+        return Ok((matching, PORT_AND_DESTINATION));
+    }
     let (body, taken) = body_of(bytes)?;
     let matching = read_fields(body)?;
     if !has_prerequisites(&matching) {

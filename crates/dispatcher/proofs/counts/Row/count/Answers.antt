@@ -20,13 +20,13 @@ returns-then-place-len-clause-counted c = λ l.
     rw (← is, ← c.count_one-before.ensures.after, ← c.self.view_is)
     (counts_put c.self.inside.lives.items c.args.life c.place_of-place.result c.count_one-before.result.1 (rw c.self.view_is c.place_of-place.ensures) (omega arith) l)
 
-pub returns-in_ok-push-clause-before : goal.returns-in_ok-push-clause-before
-returns-in_ok-push-clause-before c =
+pub returns-in_ok-add-clause-before : goal.returns-in_ok-add-clause-before
+returns-in_ok-add-clause-before c =
     c.count_one-before-else-place-len.ensures.before
     ∙ ap (λ (x : Counts). tally_of c.args.progress x) (counts_nowhere c.args.self.now c.args.life (omega (arith, c.place_of-place.ensures, ap length c.self.view_is)))
 
-pub returns-in_ok-push-clause-counted : goal.returns-in_ok-push-clause-counted
-returns-in_ok-push-clause-counted c = λ l.
+pub returns-in_ok-add-clause-counted : goal.returns-in_ok-add-clause-counted
+returns-in_ok-add-clause-counted c = λ l.
     let is = counts_nowhere c.args.self.now c.args.life (omega (arith, c.place_of-place.ensures, ap length c.self.view_is)) in
-    rw (← is, ← c.count_one-before-else-place-len.ensures.after, c.in_ok-push.ensures.items, ← c.self.view_is)
+    rw (← is, ← c.count_one-before-else-place-len.ensures.after, c.in_ok-add.ensures, ← c.self.view_is)
     (counts_pushed c.self.inside.lives.items c.args.life c.place_of-place.result c.count_one-before-else-place-len.result.1 (rw c.self.view_is c.place_of-place.ensures) (omega arith) l)

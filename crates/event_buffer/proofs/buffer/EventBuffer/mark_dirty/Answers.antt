@@ -7,4 +7,6 @@ invariant_of-self c =
       record { room = c.self.invariant.0.room; numbered = c.self.invariant.0.numbered; ports = ascend-with _ _ _ _ c.requires.0 c.requires.1 c.self.invariant.0.ports },
       c.self.invariant.1,
       c.self.invariant.2,
+      c.self.invariant.3,
+      c.self.invariant.4,
     )

@@ -1,4 +1,5 @@
 pub mod State
+pub mod Mails
 pub mod Settling
 pub mod Rules
 pub mod Acting

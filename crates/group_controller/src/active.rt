@@ -9,6 +9,7 @@ ghost use Rattle.vr_core.specs.Lasting.{CollectsItsOwn};
 ghost use Rattle.vr_core.specs.Step.{vr_step};
 ghost use Rattle.dispatcher.specs.Ledger.{most_commands};
 ghost use Rattle.group_controller.specs.Acting.{Acts, ActsUpTo, answers_to, AreNewlyHandled, BeginsTurn, ForEachGroup, InSomeGroup, posts_letters, with_out, with_state, Works};
+ghost use Rattle.group_controller.specs.Mails.{letters_of};
 ghost use Rattle.group_controller.specs.Rules as rules;
 ghost use Rattle.group_controller.specs.Rules.{after_step, starting_view, unconfirmed};
 ghost use Rattle.group_controller.specs.Settling as settling;
@@ -18,10 +19,11 @@ ghost use Rattle.app_core.specs.Chain.{given_by};
 ghost use Rattle.group_controller.specs.declared.messages.ControllerInput.TheVariants as controller_input;
 
 use crate::letters::{ack_letter, add_clears, add_commands, add_members, role_letter, to_switch};
-use crate::messages::{ControllerInput, ControllerSays};
+use crate::mails::{Mail, Mails};
+use crate::messages::ControllerInput;
 use app_core::App;
 use dispatcher::{AckThrough, Dispatcher, EventAction, HandledEvent, NumberedOrder};
-use journal::{Letter, Letters, Local};
+use journal::Local;
 use of_types::{Event, Extension, MASTER, Octets, OfMessage, Setup, Spoken};
 use std::alloc::{AllocError, Global};
 use std::marker::Model;
@@ -46,11 +48,12 @@ pub(crate) struct Active<A> {
     /// What this turn has to save before anything is posted.
     pub(crate) promise: Option<u32>,
     /// What this turn posts.
-    letters: Vec<Letter<ControllerSays>>,
+    mails: Vec<Mail>,
 }
 
 impl<A> Model for Active<A> {
     ghost use Rattle.group_controller.specs.Acting.{Acting, pair_with};
+    ghost use Rattle.group_controller.specs.Mails.{mailed};
 
     ghost Value = { Acting A };
 
@@ -58,7 +61,7 @@ impl<A> Model for Active<A> {
       work = record {
         state = record { vr = a.replica; marks = a.dispatcher.marks; last_told = a.last_told; full = a.full };
         save = pair_with a.replica.life a.promise;
-        letters = a.letters.items;
+        letters = mailed a.mails.items;
       };
       promise = a.promise;
       dispatcher = a.dispatcher;
@@ -74,7 +77,7 @@ impl<A: Drop> Drop for Active<A> {
             last_told: _,
             full: _,
             promise: _,
-            letters: _letters,
+            mails: _mails,
         } = self;
     }
 }
@@ -110,15 +113,15 @@ impl<A: App> Active<A> {
             last_told: None,
             full: None,
             promise: None,
-            letters: Vec::new(alloc),
+            mails: Vec::new(alloc),
         })
     }
 
-    fn post(&mut self, letter: Letter<ControllerSays>) -> Result<(), AllocError>
-        ensures { OnOk result (self.new ≡ posts_letters self.old (letter ∷ [])) }
+    fn post(&mut self, mail: Mail) -> Result<(), AllocError>
+        ensures { OnOk result (self.new ≡ posts_letters self.old (letters_of mail)) }
     {
-        self.letters.reserve(1)?;
-        self.letters.push_reserved(letter);
+        self.mails.reserve(1)?;
+        self.mails.push_reserved(mail);
         Ok(())
     }
 
@@ -126,8 +129,8 @@ impl<A: App> Active<A> {
     fn acknowledge(&mut self, told: AckThrough) -> Result<(), AllocError>
         ensures { OnOk result (self.new ≡ posts_letters self.old (settling.ack_letter told ∷ [])) }
     {
-        self.letters.reserve(1)?;
-        self.letters.push_reserved(ack_letter(told));
+        self.mails.reserve(1)?;
+        self.mails.push_reserved(ack_letter(told));
         Ok(())
     }
 
@@ -139,7 +142,7 @@ impl<A: App> Active<A> {
         if let Some(view) = out.promise {
             self.promise = Some(view);
         }
-        add_members(&mut self.letters, out.letters)
+        add_members(&mut self.mails, out.letters)
     }
 
     /// The application takes what was committed behind so many entries. What is processed of it comes back.
@@ -177,7 +180,7 @@ impl<A: App> Active<A> {
             self.acknowledge(told)?;
         }
         let clears = self.dispatcher.clears(handled)?;
-        add_clears(&mut self.letters, clears)
+        add_clears(&mut self.mails, clears)
     }
 
     /// Settle, first step: events that are processed are answered.
@@ -193,7 +196,7 @@ impl<A: App> Active<A> {
     fn send(&mut self, commands: Vec<NumberedOrder>) -> Result<(), AllocError>
         ensures { OnOk result (self.new ≡ posts_letters self.old (map (command_letter self.old.work.state.vr.view) commands.items)) }
     {
-        add_commands(&mut self.letters, self.replica.view(), commands)
+        add_commands(&mut self.mails, self.replica.view(), commands)
     }
 
     /// The commands of this event were the last that went out in this view.
@@ -521,13 +524,13 @@ impl<A: App> Active<A> {
     }
 
     /// What the turn posts. Nothing is left to be saved or posted.
-    pub(crate) fn release(&mut self) -> Letters<ControllerSays>
+    pub(crate) fn release(&mut self) -> Mails
         ensures letters { result ≡ self.old.work.letters }
         ensures rests { self.new ≡ record self.old { work = resting self.old.work.state; promise = None } }
     {
         self.promise = None;
-        let letters = Vec::new(self.replica.log().allocator());
-        Letters::from_vec(replace(&mut self.letters, letters))
+        let none = Vec::new(self.replica.log().allocator());
+        Mails::from_vec(replace(&mut self.mails, none))
     }
 
     /// Its application, for a later life.
@@ -540,7 +543,7 @@ impl<A: App> Active<A> {
             last_told: _,
             full: _,
             promise: _,
-            letters: _letters,
+            mails: _mails,
         } = self;
         dispatcher.into_app()
     }

@@ -11,9 +11,10 @@ ghost use Rattle.group_controller.specs.Turns.{AreAlike, begins_life, Born, Cont
 ghost use Rattle.app_core.specs.Chain.{given_by};
 
 use crate::active::Active;
-use crate::messages::{ControllerInput, ControllerSays};
+use crate::mails::Mails;
+use crate::messages::ControllerInput;
 use app_core::App;
-use journal::{Failed, Letters, SaveResult, Stable};
+use journal::{Failed, SaveResult, Stable};
 use of_types::{LAST_LIFE, Setup};
 use std::alloc::{AllocError, Global};
 use std::marker::Model;
@@ -218,7 +219,7 @@ impl<A: App> Controller<A> {
     }
 
     /// What a turn left is kept, and what it posts is given.
-    fn keep(&mut self, active: Box<Active<A>>) -> Letters<ControllerSays>
+    fn keep(&mut self, active: Box<Active<A>>) -> Mails
         ensures letters { result ≡ active.value.work.letters }
         ensures kept { self.new ≡ record self.old { acting = Some (record active.value { work = resting active.value.work.state; promise = None }) } }
     {
@@ -234,15 +235,15 @@ impl<A: App> Controller<A> {
         active: Box<Active<A>>,
         promise: u32,
         stable: &mut W,
-    ) -> Result<Letters<ControllerSays>, AllocError>
+    ) -> Result<Mails, AllocError>
         requires down { self.old.acting ≡ None }
         ensures saves { IfOk result (λ letters. SavesAndKeeps active.value (promise, self.old.life) letters self.old self.new (W.saving.pair stable.old) (W.saving.pair stable.new) (W.saving.faults stable.old) (W.saving.faults stable.new)) }
         ensures wants { OnErr result ((self.new ≡ self.old) × (W.saving.pair stable.new ≡ W.saving.pair stable.old) × (W.saving.faults stable.new ≡ W.saving.faults stable.old)) }
     {
         match self.save(promise, self.life, stable)? {
             SaveResult::Saved => Ok(self.keep(active)),
-            SaveResult::KeptOld => Ok(Letters::new(self.alloc)),
-            SaveResult::KeptNew => Ok(Letters::new(self.alloc)),
+            SaveResult::KeptOld => Ok(Mails::new(self.alloc)),
+            SaveResult::KeptNew => Ok(Mails::new(self.alloc)),
         }
     }
 
@@ -252,7 +253,7 @@ impl<A: App> Controller<A> {
         active: Box<Active<A>>,
         input: ControllerInput,
         stable: &mut W,
-    ) -> Result<Letters<ControllerSays>, AllocError>
+    ) -> Result<Mails, AllocError>
         requires down { self.old.acting ≡ None }
         requires stands { (kinds : List ℕ) × Stands A.law self.old kinds active.value }
         ensures turn { ForEachKinds (λ kinds. Stands A.law self.old kinds active.value) (λ kinds.
@@ -270,7 +271,7 @@ impl<A: App> Controller<A> {
         active.forget_limit();
         active.on_input(input)?;
         if crashes {
-            return Ok(Letters::new(self.alloc));
+            return Ok(Mails::new(self.alloc));
         }
         match active.promise {
             Some(promise) => self.keep_saved(active, promise, stable),
@@ -305,7 +306,7 @@ impl<A: App> Controller<A> {
 
     /// One that is down begins its next life, which it saves first. An application whose life did not begin is for the
     /// next try.
-    fn restart<W: Stable>(&mut self, stable: &mut W) -> Result<Letters<ControllerSays>, AllocError>
+    fn restart<W: Stable>(&mut self, stable: &mut W) -> Result<Mails, AllocError>
         requires down { self.old.acting ≡ None }
         requires controls { (kinds : List ℕ) × Controls A.law self.old kinds }
         ensures turn { ForEachKinds (Controls A.law self.old) (λ kinds.
@@ -318,17 +319,17 @@ impl<A: App> Controller<A> {
         ensures lost { OnErr result (MayTake (nat_lt self.old.life last_life) self.old self.new) }
     {
         if self.life >= u64::from(LAST_LIFE) {
-            return Ok(Letters::new(self.alloc));
+            return Ok(Mails::new(self.alloc));
         }
         let life = self.life + 1;
         let active = self.born(life)?;
         match self.save(self.promise, life, stable)? {
             SaveResult::Saved => Ok(self.keep(active)),
-            SaveResult::KeptNew => Ok(Letters::new(self.alloc)),
+            SaveResult::KeptNew => Ok(Mails::new(self.alloc)),
             SaveResult::KeptOld => {
                 // (There is room where it was taken from.)
                 let _ = self.shelf.push(Box::into_inner(active).into_app());
-                Ok(Letters::new(self.alloc))
+                Ok(Mails::new(self.alloc))
             }
         }
     }
@@ -339,7 +340,7 @@ impl<A: App> Controller<A> {
         &mut self,
         input: ControllerInput,
         stable: &mut W,
-    ) -> Result<Letters<ControllerSays>, AllocError>
+    ) -> Result<Mails, AllocError>
         requires controls { (kinds : List ℕ) × Controls A.law self.old kinds }
         requires pair { W.saving.pair stable.old ≡ pair_in (state_of self.old) }
         ensures turn { ForEachKinds (Controls A.law self.old) (λ kinds.
@@ -364,7 +365,7 @@ impl<A: App> Controller<A> {
                 if restarts {
                     self.restart(stable)
                 } else {
-                    Ok(Letters::new(self.alloc))
+                    Ok(Mails::new(self.alloc))
                 }
             }
         }

@@ -1,29 +1,30 @@
 //! Letters of a controller.
-ghost use Rattle.std.specs.Prelude.{◌≡◌, ◌++◌, map, OnOk};
+ghost use Rattle.std.specs.Prelude.{◌≡◌, ◌++◌, ◌∷◌, [], map, OnOk};
+ghost use Rattle.group_controller.specs.Mails.{letters_of, mailed};
 ghost use Rattle.group_controller.specs.Settling as settling;
 ghost use Rattle.group_controller.specs.State as state;
 ghost use Rattle.group_controller.specs.State.{to_members};
 
-use crate::messages::ControllerSays;
+use crate::mails::Mail;
 use dispatcher::{AckThrough, NumberedOrder};
-use journal::{Actor, Letter};
-use of_types::{Extension, Items, MASTER, OfMessage, Spoken};
+use of_types::{Extension, MASTER, OfMessage, Spoken};
 use std::alloc::AllocError;
-use vr_log::VrLetter;
+use vr_log::VrLetters;
 
 /// A message to a switch. One that is no answer has number 0.
-pub(crate) fn to_switch(switch: u8, xid: u32, message: Spoken) -> Letter<ControllerSays>
-    ensures { result ≡ state.to_switch switch xid message }
+pub(crate) fn to_switch(switch: u8, xid: u32, message: Spoken) -> Mail
+    ensures { letters_of result ≡ state.to_switch switch xid message ∷ [] }
 {
-    Letter {
-        to: Actor::Switch(switch),
-        body: ControllerSays::Of { xid, message },
+    Mail::Switch {
+        switch,
+        xid,
+        message,
     }
 }
 
 /// A switch is asked to take this controller as master.
-pub(crate) fn role_letter(view: u32, switch: u8) -> Letter<ControllerSays>
-    ensures { result ≡ settling.role_letter view switch }
+pub(crate) fn role_letter(view: u32, switch: u8) -> Mail
+    ensures { letters_of result ≡ settling.role_letter view switch ∷ [] }
 {
     let request = OfMessage::RoleRequest {
         role: MASTER,
@@ -33,8 +34,8 @@ pub(crate) fn role_letter(view: u32, switch: u8) -> Letter<ControllerSays>
 }
 
 /// A command to its switch, with the view as its generation.
-pub(crate) fn command_letter(view: u32, numbered: NumberedOrder) -> Letter<ControllerSays>
-    ensures { result ≡ settling.command_letter view numbered }
+pub(crate) fn command_letter(view: u32, numbered: NumberedOrder) -> Mail
+    ensures { letters_of result ≡ settling.command_letter view numbered ∷ [] }
 {
     let command = Extension::Command {
         life: numbered.life,
@@ -47,8 +48,8 @@ pub(crate) fn command_letter(view: u32, numbered: NumberedOrder) -> Letter<Contr
 }
 
 /// A switch is told how many events of a life are done with.
-pub(crate) fn ack_letter(told: AckThrough) -> Letter<ControllerSays>
-    ensures { result ≡ settling.ack_letter told }
+pub(crate) fn ack_letter(told: AckThrough) -> Mail
+    ensures { letters_of result ≡ settling.ack_letter told ∷ [] }
 {
     let ack = Extension::EventAck {
         life: told.life,
@@ -58,8 +59,8 @@ pub(crate) fn ack_letter(told: AckThrough) -> Letter<ControllerSays>
 }
 
 /// A switch is told how many commands of a life are done with.
-pub(crate) fn clear_letter(told: AckThrough) -> Letter<ControllerSays>
-    ensures { result ≡ settling.clear_letter told }
+pub(crate) fn clear_letter(told: AckThrough) -> Mail
+    ensures { letters_of result ≡ settling.clear_letter told ∷ [] }
 {
     let clear = Extension::Clear {
         life: told.life,
@@ -68,55 +69,41 @@ pub(crate) fn clear_letter(told: AckThrough) -> Letter<ControllerSays>
     to_switch(told.switch, 0, Spoken::Ravana(clear))
 }
 
-/// A letter of a member of the group.
-fn to_member(letter: VrLetter) -> Letter<ControllerSays>
-    ensures { result ≡ state.to_member letter }
-{
-    Letter {
-        to: Actor::Controller(letter.to),
-        body: ControllerSays::Vr(letter.message),
-    }
-}
-
 /// Letters of a member go behind those that are there.
-pub(crate) fn add_members(
-    letters: &mut Vec<Letter<ControllerSays>>,
-    more: Items<VrLetter>,
-) -> Result<(), AllocError>
-    ensures { OnOk result (letters.new.items ≡ letters.old.items ++ to_members more) }
+pub(crate) fn add_members(mails: &mut Vec<Mail>, letters: VrLetters) -> Result<(), AllocError>
+    ensures { OnOk result (mailed mails.new.items ≡ mailed mails.old.items ++ to_members letters) }
 {
-    letters.reserve(more.len())?;
-    'more: for letter in more.into_vec() {
-        letters.push_reserved(to_member(letter));
+    if letters.is_empty() {
+        drop(letters);
+        return Ok(());
     }
+    mails.reserve(1)?;
+    mails.push_reserved(Mail::Members(letters));
     Ok(())
 }
 
 /// So do commands.
 pub(crate) fn add_commands(
-    letters: &mut Vec<Letter<ControllerSays>>,
+    mails: &mut Vec<Mail>,
     view: u32,
     commands: Vec<NumberedOrder>,
 ) -> Result<(), AllocError>
-    ensures { OnOk result (letters.new.items ≡ letters.old.items ++ map (settling.command_letter view) commands.items) }
+    ensures { OnOk result (mailed mails.new.items ≡ mailed mails.old.items ++ map (settling.command_letter view) commands.items) }
 {
-    letters.reserve(commands.len())?;
+    mails.reserve(commands.len())?;
     'more: for numbered in commands {
-        letters.push_reserved(command_letter(view, numbered));
+        mails.push_reserved(command_letter(view, numbered));
     }
     Ok(())
 }
 
 /// And what is done with.
-pub(crate) fn add_clears(
-    letters: &mut Vec<Letter<ControllerSays>>,
-    clears: Vec<AckThrough>,
-) -> Result<(), AllocError>
-    ensures { OnOk result (letters.new.items ≡ letters.old.items ++ map settling.clear_letter clears.items) }
+pub(crate) fn add_clears(mails: &mut Vec<Mail>, clears: Vec<AckThrough>) -> Result<(), AllocError>
+    ensures { OnOk result (mailed mails.new.items ≡ mailed mails.old.items ++ map settling.clear_letter clears.items) }
 {
-    letters.reserve(clears.len())?;
+    mails.reserve(clears.len())?;
     'more: for told in clears {
-        letters.push_reserved(clear_letter(told));
+        mails.push_reserved(clear_letter(told));
     }
     Ok(())
 }

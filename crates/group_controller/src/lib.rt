@@ -4,7 +4,9 @@
 mod active;
 mod controller;
 mod letters;
+mod mails;
 mod messages;
 
 pub use controller::Controller;
+pub use mails::{Mail, Mails};
 pub use messages::{ControllerInput, ControllerSays};

@@ -10,5 +10,6 @@ pub mod Orderly
 pub mod Refusals
 pub mod Turns
 pub mod Answers
+pub mod Letters
 pub mod Ledger
 pub mod Memory

@@ -1,10 +1,12 @@
 //! The journal of a run, and what its entries hold.
-ghost use Rattle.std.specs.Prelude.{◌≡◌, ℕ, IfOk, length};
+ghost use Rattle.std.specs.Prelude.{◌≡◌, ℕ, [], ◌∷◌, IfOk, length};
 ghost use Rattle.journal.specs.Actors.{same_actor};
 ghost use Rattle.journal.specs.Turns.{turn_actor};
 
+use crate::letters::Letters;
 use of_types::{Items, Octets};
 use std::alloc::AllocError;
+use std::slice;
 
 /// A controller or a switch, by its number.
 #[derive(Clone, Copy, PartialEq, Eq, Debug)]
@@ -67,8 +69,8 @@ pub struct Letter<B> {
     pub body: B,
 }
 
-/// The letters of one outbox, in order.
-pub type Letters<B> = Items<Letter<B>>;
+/// What an actor says in one turn, in order.
+pub type Said<S> = Items<Letter<S>>;
 
 /// A posted letter. Packets are numbered from 0 over the whole run, in the order of posting.
 #[derive(Drop)]
@@ -190,6 +192,10 @@ pub trait Weight: Drop {
     /// An equal body.
     fn copy(&self) -> Result<Self, AllocError>
         ensures { IfOk result (λ copied. copied ≡ self.now) };
+
+    /// A letter as a list of one. Only where the body is known, its size is known to fit.
+    fn alone(letter: &Letter<Self>) -> &[Letter<Self>]
+        ensures { result.now ≡ letter.now ∷ [] };
 }
 
 impl Weight for Octets {
@@ -201,6 +207,10 @@ impl Weight for Octets {
 
     fn copy(&self) -> Result<Octets, AllocError> {
         self.clone()
+    }
+
+    fn alone(letter: &Letter<Octets>) -> &[Letter<Octets>] {
+        slice::from_ref(letter)
     }
 }
 

@@ -10,7 +10,8 @@ ghost use Rattle.journal.specs.Pool.{past, pool, pick};
 ghost use Rattle.journal.specs.Refusals.{MayBeRefused};
 ghost use Rattle.journal.specs.Turns.{posting, drawn_entry, entry_of};
 
-use crate::journal::{Actor, JournalEntry, Letter, Letters, Turn, Weight};
+use crate::journal::{Actor, JournalEntry, Letter, Turn, Weight};
+use crate::letters::Letters;
 use crate::place::{PacketPlace, body_at};
 use crate::pool::{self, Sums};
 use crate::queues::Queues;

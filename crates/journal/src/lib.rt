@@ -6,6 +6,7 @@
 mod gate;
 mod journal;
 mod ledger;
+mod letters;
 mod memory;
 mod order;
 mod outside;
@@ -18,8 +19,9 @@ mod wire;
 
 pub use gate::{FreeGate, Gate};
 pub use journal::{
-    Actor, Journal, JournalEntry, Letter, Letters, Local, Packet, SaveResult, Turn, Weight,
+    Actor, Journal, JournalEntry, Letter, Local, Packet, Said, SaveResult, Turn, Weight,
 };
+pub use letters::{Letters, OneOrMany};
 pub use memory::{MemorySink, MemorySource};
 pub use outside::{Failed, Sink, Source, Stable};
 pub use place::PacketPlace;

@@ -2,7 +2,7 @@
 ghost use Rattle.std.specs.Prelude.{◌≡◌, IsSome, IfSome};
 ghost use Rattle.journal.specs.Places.{packet_at};
 
-use crate::journal::{Actor, JournalEntry};
+use crate::journal::{Actor, JournalEntry, Weight};
 
 /// A packet by its number, its sender and its receiver, and by the place of its letter: the entry of
 /// its post in the journal, and the letter in that post, both counted from 0.
@@ -16,7 +16,7 @@ pub struct PacketPlace {
 }
 
 /// The body of the letter at a place.
-pub fn body_at<B>(entries: &[JournalEntry<B>], place: PacketPlace) -> &B
+pub fn body_at<B: Weight>(entries: &[JournalEntry<B>], place: PacketPlace) -> &B
     requires { IsSome (packet_at place entries.now) }
     ensures { IfSome (packet_at place entries.now) (λ packet. result.now ≡ packet.body) }
 {

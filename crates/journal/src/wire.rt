@@ -11,8 +11,9 @@ ghost use Rattle.journal.specs.declared.journal.JournalEntry.TheVariants as entr
 ghost use Rattle.journal.specs.declared.journal.Turn.TheVariants as turn;
 ghost use Rattle.journal.specs.declared.wire.Stop.TheVariants as refusals;
 
-use crate::journal::{Actor, Journal, JournalEntry, Letters, Local, Turn, Weight};
+use crate::journal::{Actor, Journal, JournalEntry, Local, Turn, Weight};
 use crate::ledger::Ledger;
+use crate::letters::Letters;
 use crate::place::{PacketPlace, body_at};
 use of_types::Items;
 use std::alloc::{AllocError, Global};

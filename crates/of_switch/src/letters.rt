@@ -8,7 +8,7 @@ ghost use Rattle.of_switch.specs.Events.{event_letter as letter_of_event, event_
 ghost use Rattle.of_switch.specs.Forwarding.{frame_letter as letter_of_frame};
 
 use crate::says::SwitchSays;
-use journal::{Actor, Letter, Letters};
+use journal::{Actor, Letter, Said};
 use of_types::{Event, Extension, Items, Octets, OfMessage, Refusal, Spoken};
 use std::alloc::{AllocError, Global};
 
@@ -35,10 +35,7 @@ pub fn error_letter(controller: u8, xid: u32, why: Refusal, head: Octets) -> Let
 }
 
 /// One letter.
-pub fn one_letter(
-    alloc: Global,
-    letter: Letter<SwitchSays>,
-) -> Result<Letters<SwitchSays>, AllocError>
+pub fn one_letter(alloc: Global, letter: Letter<SwitchSays>) -> Result<Said<SwitchSays>, AllocError>
     ensures { IfOk result (λ letters. letters ≡ letter ∷ []) }
 {
     let mut letters = Items::new(alloc);

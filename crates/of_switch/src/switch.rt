@@ -17,7 +17,7 @@ use command_buffer::CommandBuffer;
 use event_buffer::EventBuffer;
 use flow_clock::TimedRows;
 use flow_index::FlowIndex;
-use journal::{Letters, Local};
+use journal::{Local, Said};
 use of_types::{Event, Executed, Items, Link, Refusal, Row, Setup, Spoken};
 use role_fence::RoleFence;
 use std::alloc::{AllocError, Global};
@@ -174,7 +174,7 @@ impl Switch {
     /// event among the first of the buffer takes none, nor does a clear.
     #[inline(always)]
     #[tactic(auto, unfolding(crate::specs::Rules::switch_turn))]
-    pub fn turn(&mut self, input: SwitchInput) -> Result<Letters<SwitchSays>, AllocError>
+    pub fn turn(&mut self, input: SwitchInput) -> Result<Said<SwitchSays>, AllocError>
         ensures ok { IfOk result (λ letters. Turned (switch_turn self.old input) self.new letters) }
         ensures err { OnErr result (self.new ≡ self.old) }
         ensures memory { OnErr result (takes_memory self.old input ≡ true) }
@@ -192,17 +192,17 @@ impl Switch {
                 xid,
                 head,
             } => self.on_malformed(from, Refusal { kind, code }, xid, head),
-            SwitchInput::Frame { port, bytes, .. } => self.on_frame(port, &bytes),
+            SwitchInput::Frame { port, bytes, .. } => self.on_frame(port, bytes),
         }
     }
 
     /// What comes from outside. A switch neither suspects nor stops.
-    fn on_local(&mut self, input: Local) -> Result<Letters<SwitchSays>, AllocError>
+    fn on_local(&mut self, input: Local) -> Result<Said<SwitchSays>, AllocError>
         ensures ok { IfOk result (λ letters. Turned (switch_on_local self.old input) self.new letters) }
         ensures err { OnErr result (self.new ≡ self.old) }
     {
         match input {
-            Local::Frame { port, bytes } => self.on_frame(port, &bytes),
+            Local::Frame { port, bytes } => self.on_frame(port, bytes),
             Local::Port { port, up } => self.on_port(port, up),
             Local::Tick => self.on_tick(),
             Local::Restart => self.on_restart(),

@@ -17,6 +17,5 @@ pub use bytes::Bytes;
 pub use fitting::spoken_fits;
 pub use hearing::heard;
 pub use player::Player;
-pub use sealing::sealed;
 pub use turns::{TakesTurns, sealed_turn, typed_turn};
 pub use typed::Typed;

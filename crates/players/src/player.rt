@@ -1,25 +1,24 @@
 //! What an actor is to those who carry its letters.
-ghost use Rattle.std.specs.Prelude.{◌≡◌, [], IfOk};
+ghost use Rattle.std.specs.Prelude.{◌≡◌, [], List, IfOk};
 ghost use Rattle.journal.specs.declared.journal.Actor.{Actor};
+ghost use Rattle.journal.specs.declared.journal.Letter.{Letter};
 ghost use Rattle.journal.specs.declared.journal.Local.{Local};
 ghost use Rattle.group_controller.specs.declared.messages.ControllerInput.TheVariants as controller_input;
 ghost use Rattle.of_switch.specs.declared.says.SwitchInput.TheVariants as switch_input;
 ghost use Rattle.run_spec.specs.declared.messages.Message.{Message};
 ghost use Rattle.run_spec.specs.declared.messages.Unsealed.{Unsealed};
-ghost use Rattle.run_spec.specs.Messages.{FitsMessage};
-ghost use Rattle.run_spec.specs.States.{switch_hears, controller_hears, switch_message, controller_message};
+ghost use Rattle.run_spec.specs.Legal.{AreTyped};
+ghost use Rattle.run_spec.specs.States.{switch_hears, controller_hears, switch_message, controller_message, sealed_letters};
 
 use crate::body::Body;
-use crate::fitting::spoken_fits;
+use crate::sealing::{letters_fit, mails_fit, sealed_letters, sealed_mails};
 use app_core::App;
-use group_controller::{Controller, ControllerInput, ControllerSays};
-use journal::{Actor, Local};
-use of_bytes::u32_fits;
+use group_controller::{Controller, ControllerInput, ControllerSays, Mails};
+use journal::{Actor, Letters, Local, Said};
 use of_switch::{Switch, SwitchInput, SwitchSays};
 use of_types::Items;
 use run_spec::{Message, Unsealed};
 use std::alloc::{AllocError, Global};
-use vr_codec::vr_fits;
 
 /// A switch, or a controller.
 pub trait Player {
@@ -27,6 +26,8 @@ pub trait Player {
     type Input: Drop;
     /// What it says in a letter.
     type Says: Drop;
+    /// What it posts in one turn.
+    type Post: Drop;
 
     /// A local input, as it takes it.
     ghost locally: { Local → Self.Input };
@@ -34,6 +35,8 @@ pub trait Player {
     ghost hears: { Actor → Unsealed → Self.Input };
     /// The message of what it says.
     ghost said: { Self.Says → Message };
+    /// The letters that it posts.
+    ghost letters: { Self.Post → List (Letter Self.Says) };
 
     /// A local input, as it takes it.
     fn take_local(input: Local) -> Self::Input
@@ -43,13 +46,13 @@ pub trait Player {
     fn hear(alloc: Global, from: Actor, unsealed: Unsealed) -> Self::Input
         ensures { result ≡ hears from unsealed };
 
-    /// Each number of what it says fits its field. This call does nothing when it runs.
-    fn fits(says: &Self::Says)
-        ensures { FitsMessage (said says.now) };
+    /// Each number of what it posts fits its field. This call does nothing when it runs.
+    fn fits(post: &Self::Post)
+        ensures { AreTyped said (letters post.now) };
 
-    /// The body of what it says.
-    fn seal<B: Body>(alloc: Global, says: &Self::Says) -> Result<B, AllocError>
-        ensures { IfOk result (λ body. body ≡ B.sealing.sealed (said says.now)) };
+    /// What it posts, sealed letter by letter.
+    fn seal<B: Body>(alloc: Global, post: &Self::Post) -> Result<Letters<B>, AllocError>
+        ensures { IfOk result (λ sealed. sealed ≡ sealed_letters said B.sealing (letters post.now)) };
 }
 
 /// A message that no such sender sends to a switch.
@@ -70,11 +73,15 @@ impl Player for Switch {
 
     type Says = SwitchSays;
 
+    type Post = Said<SwitchSays>;
+
     ghost locally = { λ input. switch_input.Local input };
 
     ghost hears = { switch_hears };
 
     ghost said = { switch_message };
+
+    ghost letters = { λ letters. letters };
 
     fn take_local(input: Local) -> SwitchInput {
         SwitchInput::Local(input)
@@ -110,24 +117,13 @@ impl Player for Switch {
         }
     }
 
-    fn fits(says: &SwitchSays) {
-        match says {
-            SwitchSays::Of { xid, message } => {
-                u32_fits(*xid);
-                spoken_fits(message);
-            }
-            SwitchSays::Frame { port, bytes } => {
-                u32_fits(*port);
-                let _ = bytes;
-            }
-        }
+    fn fits(post: &Said<SwitchSays>) {
+        letters_fit(post.as_slice());
     }
 
-    fn seal<B: Body>(alloc: Global, says: &SwitchSays) -> Result<B, AllocError> {
-        match says {
-            SwitchSays::Of { xid, message } => B::seal_spoken(alloc, *xid, message),
-            SwitchSays::Frame { port, bytes } => B::seal_frame(alloc, *port, bytes),
-        }
+    #[inline(always)]
+    fn seal<B: Body>(alloc: Global, post: &Said<SwitchSays>) -> Result<Letters<B>, AllocError> {
+        sealed_letters(alloc, post.as_slice())
     }
 }
 
@@ -136,11 +132,15 @@ impl<A: App> Player for Controller<A> {
 
     type Says = ControllerSays;
 
+    type Post = Mails;
+
     ghost locally = { λ input. controller_input.Local input };
 
     ghost hears = { controller_hears };
 
     ghost said = { controller_message };
+
+    ghost letters = { λ letters. letters };
 
     fn take_local(input: Local) -> ControllerInput {
         ControllerInput::Local(input)
@@ -165,20 +165,12 @@ impl<A: App> Player for Controller<A> {
         }
     }
 
-    fn fits(says: &ControllerSays) {
-        match says {
-            ControllerSays::Of { xid, message } => {
-                u32_fits(*xid);
-                spoken_fits(message);
-            }
-            ControllerSays::Vr(message) => vr_fits(message),
-        }
+    fn fits(post: &Mails) {
+        mails_fit(post.as_slice());
     }
 
-    fn seal<B: Body>(alloc: Global, says: &ControllerSays) -> Result<B, AllocError> {
-        match says {
-            ControllerSays::Of { xid, message } => B::seal_spoken(alloc, *xid, message),
-            ControllerSays::Vr(message) => B::seal_vr(alloc, message),
-        }
+    #[inline(always)]
+    fn seal<B: Body>(alloc: Global, post: &Mails) -> Result<Letters<B>, AllocError> {
+        sealed_mails(alloc, post.as_slice())
     }
 }

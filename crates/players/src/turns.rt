@@ -7,10 +7,9 @@ ghost use Rattle.players.specs.Turns.{ControllerTurned, ControllerWanted, IsRead
 
 use crate::body::Body;
 use crate::player::Player;
-use crate::sealing::{letters_fit, sealed};
 use app_core::App;
-use group_controller::{Controller, ControllerInput, ControllerSays};
-use journal::{Letters, Stable};
+use group_controller::{Controller, ControllerInput, Mails};
+use journal::{Letters, Said, Stable};
 use of_switch::{Switch, SwitchInput, SwitchSays};
 use std::alloc::{AllocError, Global};
 
@@ -24,13 +23,9 @@ pub trait TakesTurns<W>: Player {
     ghost wanted: { Self → W → Self → W → Type 0 };
 
     /// Takes an input, and gives what it says.
-    fn take_turn(
-        &mut self,
-        beside: &mut W,
-        input: Self::Input,
-    ) -> Result<Letters<Self::Says>, AllocError>
+    fn take_turn(&mut self, beside: &mut W, input: Self::Input) -> Result<Self::Post, AllocError>
         requires { ready self.old beside.old }
-        ensures turned { IfOk result (λ letters. turned self.old beside.old input self.new beside.new letters) }
+        ensures turned { IfOk result (λ post. turned self.old beside.old input self.new beside.new (Self.Player.letters post)) }
         ensures wanted { OnErr result (wanted self.old beside.old self.new beside.new) };
 }
 
@@ -45,7 +40,7 @@ impl TakesTurns<()> for Switch {
         &mut self,
         _beside: &mut (),
         input: SwitchInput,
-    ) -> Result<Letters<SwitchSays>, AllocError> {
+    ) -> Result<Said<SwitchSays>, AllocError> {
         self.turn(input)
     }
 }
@@ -57,11 +52,7 @@ impl<A: App, W: Stable> TakesTurns<W> for Controller<A> {
 
     ghost wanted = { ControllerWanted A.law W.saving };
 
-    fn take_turn(
-        &mut self,
-        beside: &mut W,
-        input: ControllerInput,
-    ) -> Result<Letters<ControllerSays>, AllocError> {
+    fn take_turn(&mut self, beside: &mut W, input: ControllerInput) -> Result<Mails, AllocError> {
         self.turn(input, beside)
     }
 }
@@ -71,14 +62,14 @@ pub fn typed_turn<P: TakesTurns<W>, W>(
     player: &mut P,
     beside: &mut W,
     input: P::Input,
-) -> Result<Letters<P::Says>, AllocError>
+) -> Result<P::Post, AllocError>
     requires { P.ready player.old beside.old }
-    ensures turned { IfOk result (λ letters. P.turned player.old beside.old input player.new beside.new letters × AreTyped P.said letters) }
+    ensures turned { IfOk result (λ post. P.turned player.old beside.old input player.new beside.new (P.letters post) × AreTyped P.said (P.letters post)) }
     ensures wanted { OnErr result (P.wanted player.old beside.old player.new beside.new) }
 {
-    let letters = player.take_turn(beside, input)?;
-    letters_fit::<P>(letters.as_slice());
-    Ok(letters)
+    let post = player.take_turn(beside, input)?;
+    P::fits(&post);
+    Ok(post)
 }
 
 /// An actor takes an input, and gives what it says, sealed. Each number of it fits its field. Where there is no memory to seal it, it
@@ -95,6 +86,6 @@ pub fn sealed_turn<P: TakesTurns<W>, W, B: Body>(
     ensures wanted { OnErr result (P.wanted player.old beside.old player.new beside.new
         ⊎ ((letters : List (Letter P.Says)) × P.turned player.old beside.old input player.new beside.new letters × AreTyped P.said letters)) }
 {
-    let letters = typed_turn(player, beside, input)?;
-    sealed::<P, B>(alloc, letters.as_slice())
+    let post = typed_turn(player, beside, input)?;
+    P::seal::<B>(alloc, &post)
 }

@@ -6,10 +6,11 @@ ghost use Rattle.run_spec.specs.Messages.{message_size, said_on};
 ghost use Rattle.run_spec.proofs.Bodies.{own_again};
 
 use crate::body::Body;
-use journal::Weight;
+use journal::{Letter, Weight};
 use of_types::{Items, Octets, Spoken, size_of_extension, size_of_plain};
 use run_spec::{Message, Unsealed, Way};
 use std::alloc::{AllocError, Global};
+use std::slice;
 use vr_log::{Entry, Filled, VrMessage, size_of_entry, sizes};
 
 /// A message as a body. Its size is that of the message's bytes.
@@ -100,6 +101,10 @@ impl Weight for Typed {
         Ok(Typed {
             message: copy_of(&self.message)?,
         })
+    }
+
+    fn alone(letter: &Letter<Typed>) -> &[Letter<Typed>] {
+        slice::from_ref(letter)
     }
 }
 

@@ -1,20 +1,18 @@
 //! The lines of a journal as they are read.
 ghost use Rattle.std.specs.Prelude.{◌≡◌};
-ghost use Rattle.report.specs.Lines.{GivesLines};
-ghost use Rattle.report.specs.OneLine.{post_line_at, draw_at, lose_at, idle_at, frame_in_text, port_at, suspect_at, bare_at, input_at, local_at, short_entry_at};
+ghost use Rattle.report.specs.Lines.{GivesLines, each_at};
+ghost use Rattle.report.specs.OneLine.{post_line_at, draw_at, lose_at, idle_at, frame_in_text, port_at, suspect_at, bare_at, input_at, letter_at, local_at, short_entry_at};
 ghost use Rattle.report.specs.Reading.{post_at, journal_entry_at, journal_at};
 ghost use Rattle.report.specs.Spelled.{GivesText};
 
 use crate::counted::{CountedLine, read_each};
 use crate::fault::{Broken, Misfit, on_line};
 use crate::spelled::{actor, after, ended, flag, hex, known, number32, number64};
-use journal::{Actor, Journal, JournalEntry, Letter, Local};
+use journal::{Actor, Journal, JournalEntry, Letter, Letters, Local};
 use of_types::{Items, Octets};
 use std::alloc::Global;
 
 impl CountedLine for Letter<Octets> {
-    ghost use Rattle.report.specs.OneLine.{letter_at};
-
     ghost line_at = { λ switch bytes. letter_at bytes };
 
     #[tactic(auto, unfolding(crate::specs::OneLine::letter_at))]
@@ -59,6 +57,19 @@ fn post_line(bytes: &[u8]) -> Result<(PostLine, &[u8]), Misfit>
     )
 }
 
+/// The letters of a post.
+#[tactic(auto, unfolding(crate::specs::Lines::each_at))]
+fn letters(alloc: Global, count: u64, bytes: &[u8]) -> Result<(Letters<Octets>, &[u8]), Broken>
+    ensures { GivesLines (λ x. (x.0, x.1.now)) result (each_at letter_at count bytes.now) }
+{
+    if count == 1 {
+        let (letter, rest) = on_line(bytes, Letter::read_line(alloc, 0, bytes))?;
+        return Ok((Letters::one(letter), rest));
+    }
+    let (each, rest) = read_each(alloc, 0, count, bytes)?;
+    Ok((Letters::from_vec(each.into_vec()), rest))
+}
+
 #[tactic(auto, unfolding(crate::specs::Reading::post_at))]
 fn post(alloc: Global, bytes: &[u8]) -> Result<(JournalEntry<Octets>, &[u8]), Broken>
     ensures { GivesLines (λ x. (x.0, x.1.now)) result (post_at bytes.now) }
@@ -70,7 +81,7 @@ fn post(alloc: Global, bytes: &[u8]) -> Result<(JournalEntry<Octets>, &[u8]), Br
         count,
         lost,
     } = line;
-    let (letters, rest) = read_each(alloc, 0, count, rest)?;
+    let (letters, rest) = letters(alloc, count, rest)?;
     Ok((
         JournalEntry::Post {
             actor,

@@ -1,11 +1,12 @@
 //! The lines of a report.
 ghost use Rattle.std.specs.Prelude.{◌≡◌, ◌≤◌, ◌++◌, ℕ, List, length, OnOk};
 ghost use Rattle.journal.specs.declared.journal.JournalEntry.TheVariants as entry;
+ghost use Rattle.journal.specs.Letters.{letters_in};
 ghost use Rattle.report.specs.Report.{lines_of, line, entry_lines, event_words, letter_line};
 
 use crate::line::Line;
 use crate::sheet::Sheet;
-use journal::{Actor, Journal, JournalEntry, Letter, Letters, Local};
+use journal::{Actor, Journal, JournalEntry, Letter, Letters, Local, OneOrMany};
 use of_ravana::canonical_happening;
 use of_types::{Event, Items, Link, Octets, Rule};
 use std::alloc::{AllocError, Global};
@@ -96,6 +97,20 @@ fn write_letters(
     Ok(())
 }
 
+#[tactic(auto, unfolding(crate::specs::Report::lines_of))]
+fn write_one_or_many(
+    alloc: Global,
+    out: &mut Sheet,
+    letters: &mut OneOrMany<Octets>,
+) -> Result<(), AllocError>
+    ensures { OnOk result (out.new ≡ out.old ++ lines_of letter_line (letters_in letters.old)) }
+{
+    match letters {
+        OneOrMany::One(letter) => write_letter(alloc, out, letter),
+        OneOrMany::Many(letters) => write_letters(alloc, out, letters),
+    }
+}
+
 /// Writes a post, and its letters.
 #[tactic(auto, unfolding(crate::specs::Report::line))]
 fn write_post(
@@ -115,9 +130,9 @@ fn write_post(
     line.number(letters.len() as u64);
     line.number(lost);
     line.end(out)?;
-    let mut each = replace(letters, Items::new(alloc)).into_vec();
-    let written = write_letters(alloc, out, &mut each);
-    *letters = Items::from_vec(each);
+    let mut each = replace(letters, Letters::new(alloc)).into_inner();
+    let written = write_one_or_many(alloc, out, &mut each);
+    *letters = Letters::from_inner(each);
     written
 }
 

@@ -15,7 +15,9 @@ use streams::write_all;
 /// Words of a text, and a body behind them, whose digits in base sixteen come next.
 #[derive(Drop)]
 pub struct Part {
+    /// The words, as they stand in the text.
     pub words: Octets,
+    /// The bytes whose digits stand behind the words.
     pub body: Octets,
 }
 
@@ -23,7 +25,9 @@ pub struct Part {
 /// all of its bytes.
 #[derive(Drop)]
 pub struct ReportText {
+    /// The text up to the last long body, in order.
     parts: Items<Part>,
+    /// The words behind the last long body.
     last: Octets,
 }
 

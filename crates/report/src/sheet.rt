@@ -33,8 +33,11 @@ impl Growing for Octets {
 /// last bytes wait in the value itself and are moved to the list many at a time. Contracts see it as all of its bytes.
 #[derive(Drop)]
 pub struct Sheet {
+    /// The parts, each up to a long body and with it.
     parts: Items<Part>,
+    /// The words behind the last part, but for those that wait.
     written: Octets,
+    /// The last words, which are moved behind `written` many at a time.
     waiting: Room,
 }
 

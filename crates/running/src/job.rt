@@ -11,7 +11,6 @@ ghost use Rattle.running.specs.Jobs.{HasDone, PlaysOn, StopsIn};
 use crate::next::next_input;
 use crate::seated::Seated;
 use journal::{Gate, Letters, Stop, Turn};
-use of_types::Items;
 use players::Body;
 use shared_wire::{Board, Place};
 use std::alloc::Global;
@@ -79,7 +78,7 @@ fn post_last<P: Seated<B> + Drop, B: Body, R: Wait>(
 {
     job.place.lawful();
     job.player.rests();
-    let post = mem::replace(&mut job.owed, Items::new(alloc));
+    let post = mem::replace(&mut job.owed, Letters::new(alloc));
     let answer = board.post(rt, &mut job.place, post);
     job.place.lawful();
     match answer {

@@ -9,7 +9,6 @@ ghost use Rattle.shared_wire.specs.Places.{IsSamePlace};
 ghost use Rattle.running.specs.Hearing.{Advances, StopsAt};
 
 use journal::{Letters, Local, PacketPlace, Stop, Turn};
-use of_types::Items;
 use players::{Body, Player, heard};
 use shared_wire::{Board, Place};
 use std::alloc::Global;
@@ -60,7 +59,7 @@ fn draw_next<B: Body, R: Wait>(
     ensures found { IfOk result (λ found. IsFound place.new.seen found (pick place.old.actor choice (drop 1 (past place.new.seen)))) }
     ensures err { IfErr result (StopsAt B.sealing.size place.old place.new owed.old owed.new) }
 {
-    let post = mem::replace(owed, Items::new(alloc));
+    let post = mem::replace(owed, Letters::new(alloc));
     match board.draw(rt, place, post, choice, keep) {
         Ok(found) => Ok(found),
         Err(refused) => {
@@ -110,7 +109,7 @@ fn loses<P: Player, B: Body, R: Wait>(
     ensures ok { IfOk result (Advances B.sealing P.hears P.locally place.old place.new owed.old (turn.Lose place.old.actor choice)) }
     ensures err { IfErr result (StopsAt B.sealing.size place.old place.new owed.old owed.new) }
 {
-    let post = mem::replace(owed, Items::new(alloc));
+    let post = mem::replace(owed, Letters::new(alloc));
     match board.lose(rt, place, post, choice) {
         Ok(_) => Ok(None),
         Err(refused) => {
@@ -138,7 +137,7 @@ fn takes_local<P: Player, B: Body, R: Wait>(
     fits_types(input);
     let mine = P::take_local(input.copy()?);
     let its = input.copy()?;
-    let post = mem::replace(owed, Items::new(alloc));
+    let post = mem::replace(owed, Letters::new(alloc));
     match board.local(rt, place, post, its) {
         Ok(()) => Ok(Some(mine)),
         Err(refused) => {

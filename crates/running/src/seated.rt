@@ -13,7 +13,7 @@ ghost use Rattle.running.specs.Jobs.{HasPlayedSome};
 ghost use Rattle.running.specs.Playing.{ServedPlays, SwitchPlays};
 
 use app_core::App;
-use group_controller::{Controller, ControllerInput, ControllerSays};
+use group_controller::{Controller, ControllerInput, ControllerSays, Mails};
 use journal::{Letters, Local, Stable};
 use of_switch::{Switch, SwitchInput, SwitchSays};
 use players::{Body, Player, sealed_turn};
@@ -72,11 +72,15 @@ impl<A: App, W: Stable> Player for Served<A, W> {
 
     type Says = ControllerSays;
 
+    type Post = Mails;
+
     ghost locally = { λ input. ⟦<Controller<A> as Player>⟧.locally input };
 
     ghost hears = { ⟦<Controller<A> as Player>⟧.hears };
 
     ghost said = { ⟦<Controller<A> as Player>⟧.said };
+
+    ghost letters = { ⟦<Controller<A> as Player>⟧.letters };
 
     fn take_local(input: Local) -> ControllerInput {
         Controller::<A>::take_local(input)
@@ -86,12 +90,12 @@ impl<A: App, W: Stable> Player for Served<A, W> {
         Controller::<A>::hear(alloc, from, unsealed)
     }
 
-    fn fits(says: &ControllerSays) {
-        Controller::<A>::fits(says)
+    fn fits(post: &Mails) {
+        Controller::<A>::fits(post)
     }
 
-    fn seal<C: Body>(alloc: Global, says: &ControllerSays) -> Result<C, AllocError> {
-        Controller::<A>::seal::<C>(alloc, says)
+    fn seal<C: Body>(alloc: Global, post: &Mails) -> Result<Letters<C>, AllocError> {
+        Controller::<A>::seal::<C>(alloc, post)
     }
 }
 

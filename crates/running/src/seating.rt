@@ -8,8 +8,7 @@ use crate::seated::Served;
 use crate::task::Task;
 use app_core::App;
 use group_controller::Controller;
-use journal::Stable;
-use of_types::Items;
+use journal::{Letters, Stable};
 use players::Body;
 use shared_wire::Place;
 use std::alloc::Global;
@@ -66,7 +65,7 @@ fn task_at<B: Body, P: Drop>(alloc: Global, place: Place<B>, player: P) -> Task<
         job: Job {
             place,
             player,
-            owed: Items::new(alloc),
+            owed: Letters::new(alloc),
         },
         stop: None,
     }

@@ -51,6 +51,7 @@ fn run_tasks<P: Seated<B> + Drop + Send, B: Body + Send, G: Gate + Sync, R: Thre
 where
     P::Input: Send,
     P::Says: Send,
+    P::Post: Send,
     requires { All (MayBegin P.plays board.now.id steps.now) tasks.old }
     ensures { AllRan P.plays B.sealing.size steps.now tasks.old tasks.new }
 {
@@ -84,6 +85,7 @@ pub fn run_all<
 where
     P::Input: Send,
     P::Says: Send,
+    P::Post: Send,
     requires { All (MayBegin P.plays board.now.id steps.now) tasks.items }
     ensures { AllRan P.plays B.sealing.size steps.now tasks.items result.items }
 {

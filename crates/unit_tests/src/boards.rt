@@ -4,7 +4,7 @@ ghost use Rattle.shared_wire.specs.Places.{fresh, IsSamePlace};
 
 use crate::journals::kind_of;
 use journal::{Actor, JournalEntry, Letter, Letters, Local, Wire};
-use of_types::{Items, Octets};
+use of_types::Octets;
 use shared_wire::{Board, Place};
 use std::alloc::{AllocError, Global};
 use std::sync::Wait;
@@ -48,9 +48,7 @@ const HELLO: &[u8] = b"hello";
 /// A letter that says so.
 fn hello(alloc: Global, to: Actor) -> Result<Letters<Octets>, AllocError> {
     let body = Octets::from_slice(alloc, HELLO)?;
-    let mut letters = Items::new(alloc);
-    letters.push(Letter { to, body })?;
-    Ok(letters)
+    Ok(Letters::one(Letter { to, body }))
 }
 
 /// Posts an outbox and draws, and tells whether the packet that was found, if one was, is from an actor and says hello.
@@ -85,7 +83,7 @@ fn loses_first<R: Wait>(
     requires { place.old.board ≡ board.now.id }
     ensures { IsSamePlace place.old place.new }
 {
-    match board.lose(rt, place, Items::new(alloc), 3) {
+    match board.lose(rt, place, Letters::new(alloc), 3) {
         Ok(Some(packet)) => packet.id == 0,
         _ => false,
     }
@@ -109,7 +107,7 @@ fn letter_passes<R: Wait>(
         rt,
         board,
         switch,
-        Items::new(alloc),
+        Letters::new(alloc),
         Actor::Controller(0),
         false,
     );
@@ -118,13 +116,13 @@ fn letter_passes<R: Wait>(
         rt,
         board,
         switch,
-        Items::new(alloc),
+        Letters::new(alloc),
         Actor::Controller(0),
         true,
     );
     let lost = loses_first(rt, alloc, board, switch);
     let ticked = board
-        .local(rt, controller, Items::new(alloc), Local::Tick)
+        .local(rt, controller, Letters::new(alloc), Local::Tick)
         .is_ok();
     Ok(nothing == Ok(None) && posted && read == Ok(Some(true)) && lost && ticked)
 }

@@ -1,6 +1,6 @@
 use journal::{Actor, JournalEntry, Letter, Letters, POOL_PACKETS, Stop, Weight, Wire};
-use of_types::Items;
 use std::alloc::{AllocError, Global};
+use std::slice;
 
 const CONTROLLER: Actor = Actor::Controller(0);
 
@@ -22,16 +22,20 @@ impl Weight for Stated {
     fn copy(&self) -> Result<Stated, AllocError> {
         Ok(Stated { bytes: self.bytes })
     }
+
+    fn alone(letter: &Letter<Stated>) -> &[Letter<Stated>] {
+        slice::from_ref(letter)
+    }
 }
 
 /// So many letters to a switch, of so many bytes each.
 fn letters(alloc: Global, count: usize, bytes: u64) -> Result<Letters<Stated>, AllocError> {
-    let mut letters = Items::new(alloc);
+    let mut letters = Vec::with_capacity(alloc, count)?;
     for _ in 0..count {
         let body = Stated { bytes };
         letters.push(Letter { to: SWITCH, body })?;
     }
-    Ok(letters)
+    Ok(Letters::from_vec(letters))
 }
 
 /// The kind of an entry, as one character, and how many letters are lost.
@@ -66,7 +70,7 @@ fn posts(alloc: Global, wire: &mut Wire<Stated>, count: usize) -> Result<Option<
 
 /// Draws the packet at a place, and tells its number.
 fn draws(alloc: Global, wire: &mut Wire<Stated>, choice: u64, keep: bool) -> Option<u64> {
-    match wire.draw(SWITCH, Items::new(alloc), choice, keep) {
+    match wire.draw(SWITCH, Letters::new(alloc), choice, keep) {
         Ok(Some(place)) => Some(place.id),
         _ => None,
     }

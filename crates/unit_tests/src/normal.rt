@@ -5,7 +5,7 @@ ghost use Rattle.vr_log.specs.Valid.{IsValidState};
 
 use crate::entries::{Short, append, entry_of};
 use std::alloc::{AllocError, Global};
-use vr_log::{Log, VrLetter, VrMessage, VrOut, VrState};
+use vr_log::{Log, Mail, Receivers, VrMessage, VrOut, VrState};
 use vr_normal::{ProposeFault, propose, tick};
 
 /// A log of so many entries, all of switch 0.
@@ -33,23 +33,23 @@ fn member(alloc: Global, me: u8, entries: u64) -> Result<VrState, AllocError>
     Ok(state)
 }
 
-/// Whether a letter has the entry of this number for this member, and tells that none is committed.
-fn prepares(letter: &VrLetter, member: u8, number: u64) -> bool {
-    match &letter.message {
-        VrMessage::Prepare { op, commit, .. } => letter.to == member
+/// Whether a mail has the entry of this number for this member, and tells that none is committed.
+fn prepares(mail: &Mail, member: u8, number: u64) -> bool {
+    match &mail.message {
+        VrMessage::Prepare { op, commit, .. } => mail.to == Receivers::One(member)
             && *op == number
             && *commit == 0,
         _ => false,
     }
 }
 
-/// Whether letters have the first eight entries, to one other member and then to the other.
-fn are_eight_each(letters: &[VrLetter]) -> bool {
-    letters.len() == 16
-        && prepares(&letters[0], 1, 1)
-        && prepares(&letters[7], 1, 8)
-        && prepares(&letters[8], 2, 1)
-        && prepares(&letters[15], 2, 8)
+/// Whether mails have the first eight entries, to one other member and then to the other.
+fn are_eight_each(mails: &[Mail]) -> bool {
+    mails.len() == 16
+        && prepares(&mails[0], 1, 1)
+        && prepares(&mails[7], 1, 8)
+        && prepares(&mails[8], 2, 1)
+        && prepares(&mails[15], 2, 8)
 }
 
 /// Whether a primary of ten entries that are not committed sends these letters at a tick.
@@ -79,7 +79,7 @@ fn may_not_propose(state: &mut VrState, out: &mut VrOut) -> bool
         return false;
     }
     match propose(state, entry, out) {
-        Err(ProposeFault::NotPrimary) => out.letters.is_empty() && state.log.is_empty(),
+        Err(ProposeFault::NotPrimary) => out.letters.as_slice().is_empty() && state.log.is_empty(),
         _ => false,
     }
 }

@@ -24,9 +24,7 @@ pub(crate) fn enter(state: &mut VrState, view: u32, out: &mut VrOut) -> Result<(
     state.supply = None;
     out.promise = Some(view);
     let message = VrMessage::StartViewChange { view };
-    out.tell_others(state.me, state.controllers, &message)?;
-    drop(message);
-    Ok(())
+    out.tell_others(state.me, state.controllers, message)
 }
 
 /// These votes with that of one more member, ascending.

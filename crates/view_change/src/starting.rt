@@ -128,8 +128,7 @@ fn begin(state: &mut VrState, start: Start, out: &mut VrOut) -> Result<bool, All
     state.normal = state.view;
     state.acked = Acked::new(state.log.allocator(), state.controllers)?;
     let message = view_start(state)?;
-    out.tell_others(state.me, state.controllers, &message)?;
-    drop(message);
+    out.tell_others(state.me, state.controllers, message)?;
     Ok(true)
 }
 

@@ -2,6 +2,7 @@ pub mod Log
 pub mod Tally
 pub mod Same
 pub mod Members
+pub mod Letters
 pub mod Steps
 pub mod Choosing
 pub mod Valid

@@ -2,7 +2,6 @@
 ghost use Rattle.std.specs.Prelude.{◌≡◌, IfOk};
 
 use crate::entry::{Entries, Entry};
-use of_types::Items;
 use std::alloc::AllocError;
 
 /// A log with its commit number.
@@ -177,14 +176,12 @@ impl Clone for VrMessage {
     }
 }
 
-/// A message for a member.
-#[derive(Clone, Drop)]
+/// A message for a member, as contracts see it.
+#[derive(Drop)]
 pub struct VrLetter {
     pub to: u8,
     pub message: VrMessage,
 }
-
-pub type VrLetters = Items<VrLetter>;
 
 impl VrMessage {
     /// An equal message.

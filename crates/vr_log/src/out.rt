@@ -3,7 +3,8 @@ ghost use Rattle.std.specs.Prelude.{◌≡◌, ◌++◌, ◌∷◌, [], None, ma
 ghost use Rattle.vr_log.specs.Members.{others_below};
 ghost use Rattle.vr_log.specs.Steps.{letter};
 
-use crate::message::{VrLetter, VrLetters, VrMessage};
+use crate::letters::{Mail, Receivers, VrLetters};
+use crate::message::VrMessage;
 use crate::state::VrOut;
 use std::alloc::{AllocError, Global};
 
@@ -25,25 +26,28 @@ impl VrOut {
         ensures promise { self.new.promise ≡ self.old.promise }
         ensures letters { OnOk result (self.new.letters ≡ self.old.letters ++ letter message to ∷ []) }
     {
-        self.letters.push(VrLetter { to, message })?;
+        self.letters.push(Mail {
+            to: Receivers::One(to),
+            message,
+        })?;
         Ok(())
     }
 
     /// One message to each other member of a group, ascending.
+    #[inline(always)]
     pub fn tell_others(
         &mut self,
         me: u8,
         controllers: u8,
-        message: &VrMessage,
+        message: VrMessage,
     ) -> Result<(), AllocError>
         ensures promise { self.new.promise ≡ self.old.promise }
-        ensures letters { OnOk result (self.new.letters ≡ self.old.letters ++ map (letter message.now) (others_below me controllers)) }
+        ensures letters { OnOk result (self.new.letters ≡ self.old.letters ++ map (letter message) (others_below me controllers)) }
     {
-        for to in 0..controllers {
-            if to != me {
-                self.tell(to, message.copy()?)?;
-            }
-        }
+        self.letters.push(Mail {
+            to: Receivers::Others { me, controllers },
+            message,
+        })?;
         Ok(())
     }
 }

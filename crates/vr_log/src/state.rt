@@ -4,8 +4,9 @@ ghost use Rattle.vr_log.specs.Valid.{IsValidState, starting_state};
 
 use crate::acked::Acked;
 use crate::entry::Entries;
+use crate::letters::VrLetters;
 use crate::log::Log;
-use crate::message::{Filled, VrLetters};
+use crate::message::Filled;
 use of_types::Items;
 use std::alloc::{AllocError, Global};
 

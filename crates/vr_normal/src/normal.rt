@@ -152,28 +152,27 @@ pub fn on_prepare_ok(
     Ok(())
 }
 
-/// A PREPARE of an entry to each other member. Each has a copy of its own.
+/// A PREPARE of an entry to each other member, if there is one.
 fn prepare_others(
     state: &VrState,
     op: u64,
     entry: &Entry,
     out: &mut VrOut,
 ) -> Result<(), AllocError>
+    requires { state.now.me < state.now.controllers }
     ensures promise { out.new.promise ≡ out.old.promise }
     ensures letters { OnOk result (out.new.letters ≡ out.old.letters ++ to_others state.now (message.Prepare state.now.view op state.now.commit entry.now)) }
 {
-    for to in 0..state.controllers {
-        if to != state.me {
-            let message = VrMessage::Prepare {
-                view: state.view,
-                op,
-                commit: state.commit,
-                entry: entry.copy()?,
-            };
-            out.tell(to, message)?;
-        }
+    if state.controllers == 1 {
+        return Ok(());
     }
-    Ok(())
+    let message = VrMessage::Prepare {
+        view: state.view,
+        op,
+        commit: state.commit,
+        entry: entry.copy()?,
+    };
+    out.tell_others(state.me, state.controllers, message)
 }
 
 /// Appends an entry that fits, and sends it to the others.

@@ -93,9 +93,7 @@ fn vote_again(state: &VrState, out: &mut VrOut) -> Result<(), AllocError>
     ensures letters { OnOk result (out.new.letters ≡ out.old.letters ++ to_others state.now (message.StartViewChange state.now.view)) }
 {
     let message = VrMessage::StartViewChange { view: state.view };
-    out.tell_others(state.me, state.controllers, &message)?;
-    drop(message);
-    Ok(())
+    out.tell_others(state.me, state.controllers, message)
 }
 
 /// The log again, where it was sent. No member sends its log to itself.
@@ -132,7 +130,5 @@ fn tick_as_recovering(state: &VrState, out: &mut VrOut) -> Result<(), AllocError
         nonce: state.life,
         promise: state.promise,
     };
-    out.tell_others(state.me, state.controllers, &message)?;
-    drop(message);
-    Ok(())
+    out.tell_others(state.me, state.controllers, message)
 }

@@ -35,8 +35,7 @@ pub fn restart(
         nonce: life,
         promise,
     };
-    out.tell_others(me, controllers, &message)?;
-    drop(message);
+    out.tell_others(me, controllers, message)?;
     Ok(state)
 }
 

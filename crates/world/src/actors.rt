@@ -10,8 +10,8 @@ ghost use Rattle.world.specs.World.{AreNew, AreStocked, IsNew, IsStocked, starti
 ghost use Rattle.world.specs.Actors.{SwitchTakes, ControllerTakes, ControllerWants, IsServed};
 
 use app_core::App;
-use group_controller::{Controller, ControllerInput, ControllerSays};
-use journal::{Letters, Local, Stable};
+use group_controller::{Controller, ControllerInput, Mails};
+use journal::{Local, Said, Stable};
 use of_switch::{Switch, SwitchInput, SwitchSays};
 use of_types::Setup;
 use players::typed_turn;
@@ -78,7 +78,7 @@ pub fn switch_takes(
     switches: &mut [Switch],
     number: u8,
     input: SwitchInput,
-) -> Result<Letters<SwitchSays>, AllocError>
+) -> Result<Said<SwitchSays>, AllocError>
     requires { number < length switches.old }
     ensures takes { IfOk result (λ letters. SwitchTakes input switches.old number switches.new letters × AreTyped switch_message letters) }
     ensures wants { OnErr result (switches.new ≡ switches.old) }
@@ -93,7 +93,7 @@ pub fn controller_takes<A: App, W: Stable>(
     stables: &mut [W],
     number: u8,
     input: ControllerInput,
-) -> Result<Letters<ControllerSays>, AllocError>
+) -> Result<Mails, AllocError>
     requires there { number < length controllers.old }
     requires stable { number < length stables.old }
     requires ready { IsServed A.law W.saving controllers.old stables.old number }

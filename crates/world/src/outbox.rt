@@ -1,12 +1,12 @@
 //! What an actor has still to post.
-ghost use Rattle.std.specs.Prelude.{◌≡◌, IfOk};
+ghost use Rattle.std.specs.Prelude.{◌≡◌, true, IfOk};
 ghost use Rattle.world.specs.Debts.{has_none, sealed_outbox};
 
 use app_core::App;
-use group_controller::{Controller, ControllerSays};
-use journal::{Actor, Letters};
+use group_controller::{Controller, Mails};
+use journal::{Actor, Letters, Said};
 use of_switch::{Switch, SwitchSays};
-use players::{Body, sealed};
+use players::{Body, Player};
 use std::alloc::{AllocError, Global};
 
 /// The outbox of the newest input, as its actor said it, as long as it is not posted. It is sealed as it is posted, so that want
@@ -15,18 +15,18 @@ use std::alloc::{AllocError, Global};
 pub enum Outbox {
     Controller {
         number: u8,
-        letters: Letters<ControllerSays>,
+        letters: Mails,
     },
     Switch {
         number: u8,
-        letters: Letters<SwitchSays>,
+        letters: Said<SwitchSays>,
     },
 }
 
 impl Outbox {
-    /// Whether it has no letter.
+    /// Whether it has nothing to post.
     pub fn is_empty(&self) -> bool
-        ensures { result ≡ has_none self.now }
+        ensures { result ≡ true → has_none self.now ≡ true }
     {
         match self {
             Outbox::Controller { letters, .. } => letters.is_empty(),
@@ -45,11 +45,11 @@ pub fn sealed_outbox<A: App, B: Body>(
 {
     match outbox {
         Outbox::Controller { number, letters } => {
-            let letters = sealed::<Controller<A>, B>(alloc, letters.as_slice())?;
+            let letters = Controller::<A>::seal::<B>(alloc, letters)?;
             Ok((Actor::Controller(*number), letters))
         }
         Outbox::Switch { number, letters } => {
-            let letters = sealed::<Switch, B>(alloc, letters.as_slice())?;
+            let letters = Switch::seal::<B>(alloc, letters)?;
             Ok((Actor::Switch(*number), letters))
         }
     }

@@ -229,7 +229,11 @@ impl<B: Body, A: App> World<B, A> {
                 self.outbox = None;
                 Ok(())
             }
-            Err(refused) => Err(refused.cause),
+            Err(refused) => {
+                let cause = refused.cause;
+                drop(refused);
+                Err(cause)
+            }
         }
     }
 

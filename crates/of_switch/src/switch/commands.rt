@@ -17,7 +17,7 @@ use crate::letters::to_controller;
 use crate::says::SwitchSays;
 use command_buffer::{CommandBuffer, MOST_KEPT, Offer};
 use flow_table::TableFault;
-use journal::{Letter, Letters};
+use journal::{Letter, Said};
 use of_types::{
     ALL_PORTS, BAD_FLAGS, BAD_OUT_PORT, BAD_PACKET, BAD_TABLE, Boxed, Executed, Extension, FLOOD,
     FlowMod, IN_PORT, Items, NO_BUFFER, NOT_MASTER, Order, Outcome, PacketOut, Refusal, Spoken,
@@ -42,7 +42,7 @@ impl Switch {
         command: Issue,
         xid: u32,
         order: Order,
-    ) -> Result<Letters<SwitchSays>, AllocError>
+    ) -> Result<Said<SwitchSays>, AllocError>
         ensures ok { IfOk result (λ letters. Turned (on_command self.old command.from xid command.generation command.number command.settled order) self.new letters) }
         ensures err { OnErr result (self.new ≡ self.old) }
     {
@@ -66,7 +66,7 @@ impl Switch {
     }
 
     /// A command that isn't carried out: a repeated one is told its result.
-    fn report(&mut self, command: Issue) -> Result<Letters<SwitchSays>, AllocError>
+    fn report(&mut self, command: Issue) -> Result<Said<SwitchSays>, AllocError>
         ensures ok { IfOk result (λ letters. Turned (reported (settled_below self.old command.settled) command.from command.number (offer_of (settled_below self.old command.settled).results command.number)) self.new letters) }
         ensures err { OnErr result (self.new ≡ self.old) }
     {
@@ -79,7 +79,7 @@ impl Switch {
     }
 
     /// A command is carried out.
-    fn execute(&mut self, command: Issue, order: Order) -> Result<Letters<SwitchSays>, AllocError>
+    fn execute(&mut self, command: Issue, order: Order) -> Result<Said<SwitchSays>, AllocError>
         requires { is_execute (offer_of (without_results_below self.old.results command.settled) command.number) ≡ true }
         ensures ok { IfOk result (λ letters. Turned (executes (settled_below self.old command.settled) command.from command.generation command.number order) self.new letters) }
         ensures err { OnErr result (self.new ≡ self.old) }
@@ -95,7 +95,7 @@ impl Switch {
         &mut self,
         command: Issue,
         change: Boxed<FlowMod>,
-    ) -> Result<Letters<SwitchSays>, AllocError>
+    ) -> Result<Said<SwitchSays>, AllocError>
         requires { is_execute (offer_of (without_results_below self.old.results command.settled) command.number) ≡ true }
         ensures ok { IfOk result (λ letters. Turned (executes (settled_below self.old command.settled) command.from command.generation command.number (orders.FlowMod change)) self.new letters) }
         ensures err { OnErr result (self.new ≡ self.old) }
@@ -117,7 +117,7 @@ impl Switch {
         &mut self,
         command: Issue,
         out: PacketOut,
-    ) -> Result<Letters<SwitchSays>, AllocError>
+    ) -> Result<Said<SwitchSays>, AllocError>
         requires { is_execute (offer_of (without_results_below self.old.results command.settled) command.number) ≡ true }
         ensures ok { IfOk result (λ letters. Turned (executes (settled_below self.old command.settled) command.from command.generation command.number (orders.PacketOut out)) self.new letters) }
         ensures err { OnErr result (self.new ≡ self.old) }

@@ -13,7 +13,7 @@ use crate::says::SwitchSays;
 use command_buffer::CommandBuffer;
 use event_buffer::EventBuffer;
 use flow_clock::Expired;
-use journal::Letters;
+use journal::Said;
 use of_types::{
     Boxed, Event, FlowRemoved, Happening, Items, LAST_LIFE, PortStatus, REASON_MODIFY,
     SEND_REMOVED, switch_up,
@@ -24,7 +24,7 @@ use std::collections::VecDeque;
 
 impl Switch {
     /// The switch takes what a draft adds.
-    pub(super) fn finish(&mut self, draft: Draft) -> Result<Letters<SwitchSays>, AllocError>
+    pub(super) fn finish(&mut self, draft: Draft) -> Result<Said<SwitchSays>, AllocError>
         requires { IsDraft self.old draft }
         ensures ok { IfOk result (λ letters. Turned (drafted self.old draft) self.new letters) }
         ensures err { OnErr result (self.new ≡ self.old) }
@@ -42,7 +42,7 @@ impl Switch {
     }
 
     /// One of its ports goes down, or comes up. What changes nothing tells nothing.
-    pub(super) fn on_port(&mut self, port: u32, up: bool) -> Result<Letters<SwitchSays>, AllocError>
+    pub(super) fn on_port(&mut self, port: u32, up: bool) -> Result<Said<SwitchSays>, AllocError>
         ensures ok { IfOk result (λ letters. Turned (on_port self.old port up) self.new letters) }
         ensures err { OnErr result (self.new ≡ self.old) }
     {
@@ -54,7 +54,7 @@ impl Switch {
     }
 
     /// The change of a port is told, or the port is remembered where the buffer is full.
-    fn change_port(&mut self, port: u32, up: bool) -> Result<Letters<SwitchSays>, AllocError>
+    fn change_port(&mut self, port: u32, up: bool) -> Result<Said<SwitchSays>, AllocError>
         requires { (1 ≤ port) × (port ≤ self.old.ports) }
         ensures ok { IfOk result (λ letters. Turned (port_raised port (with_port self.old port up)) self.new letters) }
         ensures err { OnErr result (self.new ≡ self.old) }
@@ -77,7 +77,7 @@ impl Switch {
     }
 
     /// A port changes, and the change is told.
-    fn tell_change(&mut self, port: u32, up: bool) -> Result<Letters<SwitchSays>, AllocError>
+    fn tell_change(&mut self, port: u32, up: bool) -> Result<Said<SwitchSays>, AllocError>
         requires port { (1 ≤ port) × (port ≤ self.old.ports) }
         requires room { is_full self.old.buffer ≡ false }
         ensures ok { IfOk result (λ letters. Turned (raised (port_status (with_port self.old port up) port) (with_port self.old port up)) self.new letters) }
@@ -117,7 +117,7 @@ impl Switch {
 
     /// What is acknowledged leaves the buffer, and what it makes room for comes. It takes memory only where events come
     /// among the first, or ports that were remembered are told.
-    pub(super) fn on_event_ack(&mut self, through: u64) -> Result<Letters<SwitchSays>, AllocError>
+    pub(super) fn on_event_ack(&mut self, through: u64) -> Result<Said<SwitchSays>, AllocError>
         ensures ok { IfOk result (λ letters. Turned (on_event_ack self.old through) self.new letters) }
         ensures err { OnErr result (self.new ≡ self.old) }
         ensures memory { OnErr result (brings self.old through ≡ true) }
@@ -179,7 +179,7 @@ impl Switch {
         through: u64,
         ports: &[u32],
         draft: Draft,
-    ) -> Result<Letters<SwitchSays>, AllocError>
+    ) -> Result<Said<SwitchSays>, AllocError>
         requires kind { IsDraft (cleared self.old through) draft }
         requires within { All (λ port. (1 ≤ port) × (port ≤ highest_port)) ports.now }
         ensures ok { IfOk result (λ letters. Turned (drafted (forgetting ports.now (cleared self.old through)) draft) self.new letters) }
@@ -201,7 +201,7 @@ impl Switch {
     }
 
     /// A restart begins the next life, where there is one.
-    pub(super) fn on_restart(&mut self) -> Result<Letters<SwitchSays>, AllocError>
+    pub(super) fn on_restart(&mut self) -> Result<Said<SwitchSays>, AllocError>
         ensures ok { IfOk result (λ letters. Turned (switch_on_restart self.old) self.new letters) }
         ensures err { OnErr result (self.new ≡ self.old) }
     {
@@ -213,7 +213,7 @@ impl Switch {
     }
 
     /// The next life begins.
-    fn restart(&mut self) -> Result<Letters<SwitchSays>, AllocError>
+    fn restart(&mut self) -> Result<Said<SwitchSays>, AllocError>
         requires { life_of self.old < last_life }
         ensures ok { IfOk result (λ letters. Turned (switch_on_restart self.old) self.new letters) }
         ensures err { OnErr result (self.new ≡ self.old) }
@@ -241,7 +241,7 @@ impl Switch {
         &mut self,
         buffer: EventBuffer,
         draft: Draft,
-    ) -> Result<Letters<SwitchSays>, AllocError>
+    ) -> Result<Said<SwitchSays>, AllocError>
         requires buffer { buffer ≡ (next_life self.old).buffer }
         requires kind { IsDraft (next_life self.old) draft }
         ensures ok { IfOk result (λ letters. Turned (drafted (next_life self.old) draft) self.new letters) }
@@ -277,7 +277,7 @@ impl Switch {
     }
 
     /// A tick: the table ages, and then the first events are sent. A later life without a master greets again.
-    pub(super) fn on_tick(&mut self) -> Result<Letters<SwitchSays>, AllocError>
+    pub(super) fn on_tick(&mut self) -> Result<Said<SwitchSays>, AllocError>
         ensures ok { IfOk result (λ letters. Turned (switch_on_tick self.old) self.new letters) }
         ensures err { OnErr result (self.new ≡ self.old) }
     {

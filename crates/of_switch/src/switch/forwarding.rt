@@ -10,7 +10,7 @@ use super::Switch;
 use crate::draft::Draft;
 use crate::letters::frame_letter;
 use crate::says::SwitchSays;
-use journal::Letters;
+use journal::Said;
 use of_types::{
     ALL_PORTS, FLOOD, Fields, Happening, IN_PORT, Items, LONGEST_FRAME, Link, Octets, PacketIn,
     REASON_ACTION, REASON_NO_MATCH, Row, SHORTEST_FRAME, TO_CONTROLLER, fields, is_any,
@@ -29,38 +29,41 @@ impl Switch {
     pub(super) fn on_frame(
         &mut self,
         port: u32,
-        frame: &Octets,
-    ) -> Result<Letters<SwitchSays>, AllocError>
-        ensures ok { IfOk result (λ letters. Turned (on_frame self.old port frame.now) self.new letters) }
+        frame: Octets,
+    ) -> Result<Said<SwitchSays>, AllocError>
+        ensures ok { IfOk result (λ letters. Turned (on_frame self.old port frame) self.new letters) }
         ensures err { OnErr result (self.new ≡ self.old) }
     {
         if self.is_up(port) && is_frame_of(frame.as_slice()) {
             self.meet_table(port, frame)
         } else {
+            drop(frame);
             Ok(Items::new(self.alloc))
         }
     }
 
     /// A frame meets the table. One that no row matches is dropped.
-    fn meet_table(&mut self, port: u32, frame: &Octets) -> Result<Letters<SwitchSays>, AllocError>
-        requires { length frame.now ≤ LONGEST_FRAME }
-        ensures ok { IfOk result (λ letters. Turned (counting_ports port frame.now (through_row self.old port frame.now (chosen_row (rows_of self.old) (frame_fields_at port frame.now)))) self.new letters) }
+    fn meet_table(&mut self, port: u32, frame: Octets) -> Result<Said<SwitchSays>, AllocError>
+        requires { length frame ≤ LONGEST_FRAME }
+        ensures ok { IfOk result (λ letters. Turned (counting_ports port frame (through_row self.old port frame (chosen_row (rows_of self.old) (frame_fields_at port frame)))) self.new letters) }
         ensures err { OnErr result (self.new ≡ self.old) }
     {
-        let draft = self.through_table(port, frame)?;
+        let fields = fields_of(port, frame.as_slice());
+        let length = frame.len() as u32;
+        let draft = self.through_table(&fields, port, frame)?;
         let letters = self.finish(draft)?;
-        self.table
-            .hit(&fields_of(port, frame.as_slice()), frame.len() as u32);
+        self.table.hit(&fields, length);
         Ok(letters)
     }
 
-    /// What becomes of a frame that meets the table.
-    fn through_table(&self, port: u32, frame: &Octets) -> Result<Draft, AllocError>
-        ensures { IfOk result (λ d. d ≡ with_draft_row self.now port frame.now (chosen_row (rows_of self.now) (frame_fields_at port frame.now)) (draft_of self.now)) }
+    /// What becomes of a frame with these fields that meets the table.
+    fn through_table(&self, fields: &Fields, port: u32, frame: Octets) -> Result<Draft, AllocError>
+        ensures { IfOk result (λ d. d ≡ with_draft_row self.now port frame (chosen_row (rows_of self.now) fields.now) (draft_of self.now)) }
     {
         let mut draft = self.draft();
-        if let Some(row) = self.table.look_up(&fields_of(port, frame.as_slice())) {
-            self.put_all(&mut draft, row, port, frame)?;
+        match self.table.look_up(fields) {
+            Some(row) => self.put_all(&mut draft, row, port, frame)?,
+            None => drop(frame),
         }
         Ok(draft)
     }
@@ -160,22 +163,6 @@ impl Switch {
         Ok(())
     }
 
-    /// A frame goes to the controller: a packet-in that finds no room is dropped.
-    fn raise_packet(
-        &self,
-        draft: &mut Draft,
-        row: &Row,
-        port: u32,
-        frame: &Octets,
-    ) -> Result<(), AllocError>
-        ensures { OnOk result (draft.new ≡ with_packet (packet_in_of row.now port frame.now) draft.old) }
-    {
-        if draft.is_full() {
-            return Ok(());
-        }
-        draft.raise(packet_in(row, port, frame)?)
-    }
-
     /// One output of a row for a frame.
     fn put_out(
         &self,
@@ -188,14 +175,14 @@ impl Switch {
         ensures { OnOk result (draft.new ≡ with_output self.now (with_packet (packet_in_of row.now port frame.now)) port frame.now output draft.old) }
     {
         if output == TO_CONTROLLER {
-            self.raise_packet(draft, row, port, frame)
+            raise_packet(draft, row, port, frame.copy()?)
         } else {
             self.send_out(draft, port, output, frame)
         }
     }
 
     /// Each output of a row for a frame, in order.
-    fn put_all(
+    fn put_each(
         &self,
         draft: &mut Draft,
         row: &Row,
@@ -208,6 +195,24 @@ impl Switch {
             self.put_out(draft, row, port, frame, *output)?;
         }
         Ok(())
+    }
+
+    /// The same. Where the controller is the only one to have the frame, it is not copied.
+    fn put_all(
+        &self,
+        draft: &mut Draft,
+        row: &Row,
+        port: u32,
+        frame: Octets,
+    ) -> Result<(), AllocError>
+        ensures { OnOk result (draft.new ≡ with_outputs self.now (with_packet (packet_in_of row.now port frame)) port frame row.now.actions draft.old) }
+    {
+        if let [TO_CONTROLLER] = row.actions.as_slice() {
+            return raise_packet(draft, row, port, frame);
+        }
+        let put = self.put_each(draft, row, port, &frame);
+        drop(frame);
+        put
     }
 
     /// Each output of a PACKET_OUT for a frame, in order. None goes to the controller.
@@ -273,10 +278,10 @@ fn is_miss(row: &Row) -> bool
 }
 
 /// A frame as a packet-in.
-fn packet_in(row: &Row, port: u32, frame: &Octets) -> Result<Happening, AllocError>
-    ensures { IfOk result (λ what. what ≡ packet_in_of row.now port frame.now) }
+fn packet_in(row: &Row, port: u32, frame: Octets) -> Happening
+    ensures { result ≡ packet_in_of row.now port frame }
 {
-    Ok(Happening::PacketIn(PacketIn {
+    Happening::PacketIn(PacketIn {
         reason: if is_miss(row) {
             REASON_NO_MATCH
         } else {
@@ -284,6 +289,17 @@ fn packet_in(row: &Row, port: u32, frame: &Octets) -> Result<Happening, AllocErr
         },
         cookie: row.cookie,
         in_port: port,
-        payload: frame.copy()?,
-    }))
+        payload: frame,
+    })
+}
+
+/// A frame goes to the controller: a packet-in that finds no room is dropped.
+fn raise_packet(draft: &mut Draft, row: &Row, port: u32, frame: Octets) -> Result<(), AllocError>
+    ensures { OnOk result (draft.new ≡ with_packet (packet_in_of row.now port frame) draft.old) }
+{
+    if draft.is_full() {
+        drop(frame);
+        return Ok(());
+    }
+    draft.raise(packet_in(row, port, frame))
 }

@@ -9,7 +9,7 @@ use super::Switch;
 use super::commands::Issue;
 use crate::letters::{error_letter, one_letter, push_events, to_controller};
 use crate::says::SwitchSays;
-use journal::{Actor, Letter, Letters};
+use journal::{Actor, Letter, Said};
 use of_types::{
     BAD_ROLE, BAD_TYPE, Extension, Items, MASTER, NOT_PERMITTED, Octets, OfMessage, Refusal,
     STALE_ROLE, Spoken,
@@ -24,7 +24,7 @@ impl Switch {
         from: u8,
         xid: u32,
         message: OfMessage,
-    ) -> Result<Letters<SwitchSays>, AllocError>
+    ) -> Result<Said<SwitchSays>, AllocError>
         ensures ok { IfOk result (λ letters. Turned (switch_on_plain self.old from xid message) self.new letters) }
         ensures err { OnErr result (self.new ≡ self.old) }
     {
@@ -65,7 +65,7 @@ impl Switch {
         from: u8,
         xid: u32,
         message: Extension,
-    ) -> Result<Letters<SwitchSays>, AllocError>
+    ) -> Result<Said<SwitchSays>, AllocError>
         ensures ok { IfOk result (λ letters. Turned (switch_on_extension self.old from xid message) self.new letters) }
         ensures err { OnErr result (self.new ≡ self.old) }
         ensures memory { OnErr result ((nat_eq (life_said message) (present_life self.old) && asks_memory self.old message) ≡ true) }
@@ -83,7 +83,7 @@ impl Switch {
         from: u8,
         xid: u32,
         message: Extension,
-    ) -> Result<Letters<SwitchSays>, AllocError>
+    ) -> Result<Said<SwitchSays>, AllocError>
         ensures ok { IfOk result (λ letters. Turned (on_own_life self.old from xid message) self.new letters) }
         ensures err { OnErr result (self.new ≡ self.old) }
         ensures memory { OnErr result (asks_memory self.old message ≡ true) }
@@ -120,7 +120,7 @@ impl Switch {
         why: Refusal,
         xid: u32,
         head: Octets,
-    ) -> Result<Letters<SwitchSays>, AllocError>
+    ) -> Result<Said<SwitchSays>, AllocError>
         ensures { IfOk result (λ letters. Turned (on_malformed self.now from why.kind why.code xid head) self.now letters) }
     {
         match from {
@@ -139,7 +139,7 @@ impl Switch {
         xid: u32,
         role: u32,
         generation: u64,
-    ) -> Result<Letters<SwitchSays>, AllocError>
+    ) -> Result<Said<SwitchSays>, AllocError>
         ensures ok { IfOk result (λ letters. Turned (on_role_request self.old from xid role generation) self.new letters) }
         ensures err { OnErr result (self.new ≡ self.old) }
     {
@@ -161,12 +161,7 @@ impl Switch {
     }
 
     /// An answer, with the number of its request.
-    fn answer(
-        &self,
-        from: u8,
-        xid: u32,
-        message: OfMessage,
-    ) -> Result<Letters<SwitchSays>, AllocError>
+    fn answer(&self, from: u8, xid: u32, message: OfMessage) -> Result<Said<SwitchSays>, AllocError>
         ensures { IfOk result (λ letters. Turned (answers self.now from xid (Plain message)) self.now letters) }
     {
         one_letter(self.alloc, to_controller(from, xid, Spoken::Plain(message)))
@@ -178,7 +173,7 @@ impl Switch {
         from: u8,
         xid: u32,
         why: Refusal,
-    ) -> Result<Letters<SwitchSays>, AllocError>
+    ) -> Result<Said<SwitchSays>, AllocError>
         ensures { IfOk result (λ letters. Turned (switch_refuses self.now from xid why) self.now letters) }
     {
         let head = Items::new(self.alloc);
@@ -194,7 +189,7 @@ fn role_answered(
     from: u8,
     xid: u32,
     answer: RoleAnswer,
-) -> Letters<SwitchSays>
+) -> Said<SwitchSays>
     requires none { letters.items ≡ [] }
     requires room { vec_len events + 1 ≤ vec_capacity letters }
     ensures { result ≡ role_letters from xid answer events.items }

@@ -16,7 +16,7 @@ switches-preserved g c =
       | then-not-confirmed+in_ok-post w ↦
           asked_yes (λ s. not (is_confirmed start.dispatcher.marks s)) start c.switches.self c.if-not-confirmed.self view c.switches.switch (ap not (sym confirmed ∙ w.if-not-confirmed.true)) c.switches.invariant
           (w.self-is ∙ w.in_ok-post.ensures
-          ∙ ap (λ l. posts_letters c.switches.self (l ∷ [])) (w.role_letter.ensures ∙ ap (λ n. role_letter n c.switches.switch) (w.view-view.ensures ∙ ap (λ (a : Acting _). a.work.state.vr.view) known)))
+          ∙ ap (λ l. posts_letters c.switches.self l) (w.role_letter.ensures ∙ ap (λ n. role_letter n c.switches.switch ∷ []) (w.view-view.ensures ∙ ap (λ (a : Acting _). a.work.state.vr.view) known)))
       | else-not-confirmed w ↦
           w.self-is ∙ asked_no (λ s. not (is_confirmed start.dispatcher.marks s)) start c.switches.self view c.switches.switch (ap not (sym confirmed ∙ w.if-not-confirmed.false)) c.switches.invariant
     ]

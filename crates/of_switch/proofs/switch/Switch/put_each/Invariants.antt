@@ -1,7 +1,7 @@
 use Rattle.std.proofs.Common.{◌≡◌, drop}
 use Rattle.of_switch.specs.Forwarding.{packet_in_of}
 use Rattle.of_switch.specs.Drafts.{with_outputs, with_packet}
-use Rattle.of_switch.proofs.switch.Switch.put_all.Given as goal
+use Rattle.of_switch.proofs.switch.Switch.put_each.Given as goal
 
 abbrev pub invariant-loop-output : goal.invariant-loop-output
 invariant-loop-output l =

@@ -1,0 +1,20 @@
+-- Mails as the letters that they are.
+use Rattle.std.specs.Prelude.{ℕ, List, [], ◌∷◌, map, flat_map}
+use Rattle.vr_log.specs.Members.{others_below}
+use Rattle.vr_log.specs.declared.letters.Mail.{Mail}
+use Rattle.vr_log.specs.declared.letters.Receivers.{Receivers}
+use Rattle.vr_log.specs.declared.letters.Receivers.TheVariants as receivers
+use Rattle.vr_log.specs.declared.message.VrLetter.{VrLetter}
+
+-- the members to whom something goes, ascending
+abbrev pub receivers_of : Receivers → List ℕ
+receivers_of (receivers.One to) = to ∷ []
+receivers_of (receivers.Others me controllers) = others_below me controllers
+
+-- a letter to each receiver of a mail
+abbrev pub letters_of : Mail → List VrLetter
+letters_of mail = map (λ to. record { to = to; message = mail.message }) (receivers_of mail.to)
+
+-- those of each, in order
+abbrev pub letters_in : List Mail → List VrLetter
+letters_in mails = flat_map letters_of mails

@@ -1,12 +1,13 @@
 -- What waits in slots, as they come and go.
 use Rattle.std.proofs.Common.{◌≡◌, ◌<◌, ◌≤◌, ℕ, ◌+◌, ◌-◌, ◌^◌, Bool, true, false, Option, Some, None, List, [], ◌∷◌, ◌++◌, length, map, take, set}
 use Rattle.std.proofs.Common.{refl, sym, ap, ◌∙◌, arith, subst, zero, suc}
-use Rattle.std.specs.Prelude.{not, nat_eq, replicate, if◌then◌else◌}
+use Rattle.std.specs.Prelude.{not, nat_eq, replicate, get_or, is_some, slice_get, option_map, if◌then◌else◌}
 use Rattle.std.proofs.lemmas.Bool.{eqb-true, eq-eqb}
+use Rattle.std.proofs.lemmas.Option.{get_or_from_slice_get, slice_get-get_or, slice_get_past}
 use Rattle.std.proofs.lemmas.List.{append-nil, length-append, length-map, length-set, length-take, length-replicate}
 use Rattle.journal.specs.declared.journal.Actor.{Actor}
 use Rattle.journal.specs.declared.journal.Letter.{Letter}
-use Rattle.journal.specs.Order.{addressed, without_packet, awaited, HaveNumbersBelow, IsTrimmed, AreSlots}
+use Rattle.journal.specs.Order.{addressed, without_packet, awaited, HaveNumbersBelow, IsClearBelow, IsLowest}
 
 -- slots after others
 awaited-append : (first : ℕ) (xs ys : List (Option Actor)) → awaited first (xs ++ ys) ≡ awaited first xs ++ awaited (first + length xs) ys
@@ -22,12 +23,6 @@ awaited-append first (Some a ∷ xs) ys =
 awaited-none : (first n : ℕ) → awaited first (replicate n None) ≡ []
 awaited-none first zero = refl
 awaited-none first (suc n) = awaited-none (first + 1) n
-
-awaited-trim : (first n : ℕ) (xs : List (Option Actor)) → awaited first (replicate n None ++ xs) ≡ awaited (first + n) xs
-awaited-trim first zero xs = let here : first ≡ first + 0 = omega arith in ap (λ m. awaited m xs) here
-awaited-trim first (suc n) xs =
-    let next : first + 1 + n ≡ first + suc n = omega arith in
-    awaited-trim (first + 1) n xs ∙ ap (λ m. awaited m xs) next
 
 -- slots of letters
 awaited-letters : {B : Type 0} (first : ℕ) (letters : List (Letter B)) → awaited first (map (λ letter. Some letter.to) letters) ≡ addressed first letters
@@ -67,7 +62,7 @@ without_packet-outside first number (Some a ∷ xs) outside =
     (without_packet-outside (first + 1) number xs (λ k within is. outside (suc k) (omega arith) (omega arith)))
 
 -- a number whose slot has no receiver any more
-awaited-set : (first number i : ℕ) (xs : List (Option Actor)) → first + i ≡ number → i < length xs →
+pub awaited-set : (first number i : ℕ) (xs : List (Option Actor)) → first + i ≡ number → i < length xs →
     awaited first (set xs i None) ≡ without_packet number (awaited first xs)
 awaited-set first number i [] is within = absurd (omega arith)
 awaited-set first number zero (None ∷ xs) is within = sym (without_packet-outside (first + 1) number xs (λ k _ e. omega arith))
@@ -80,118 +75,130 @@ awaited-set first number (suc i) (Some a ∷ xs) is within =
     (λ t. let same = eqb-true first number t in omega arith)
     (sym (awaited-set (first + 1) number i xs (omega arith) (omega arith))))
 
--- these wait in the slots
-pub record Hold (first : ℕ) (waits : List (ℕ × Actor)) (slots : List (Option Actor)) : Type 0 where
-  pub slots_are : AreSlots first slots
-  pub same : awaited first slots ≡ waits
+-- slots of which none below the lowest has a receiver
+pub clear_of : (n : ℕ) (xs : List (Option Actor)) → IsLowest n xs → IsClearBelow n xs
+clear_of zero xs is = tt
+clear_of (suc n) [] is = is
+clear_of (suc n) (None ∷ xs) is = clear_of n xs is
+clear_of (suc n) (Some a ∷ xs) is = is
 
--- a packet waits no more
-pub removes : (first number gone : ℕ) (slots after : List (Option Actor)) → AreSlots first slots → first ≤ number → number - first < length slots →
-    set slots (number - first) None ≡ replicate gone None ++ after → IsTrimmed after → Hold (first + gone) (without_packet number (awaited first slots)) after
-removes first number gone slots after are above within gone_is trimmed =
-    let emptied = set slots (number - first) None in
-    let long : length emptied ≡ length slots = length-set slots (number - first) None in
-    let count : length emptied ≡ gone + length after =
-    ap length gone_is ∙ length-append (replicate gone None) after ∙ ap (λ n. n + length after) (length-replicate {A = Option Actor} gone None) in
-    record {
-      slots_are = record { trimmed = trimmed; bound = omega (arith, long, count, are.bound) };
-      same =
-          sym (awaited-trim first gone after)
-          ∙ ap (awaited first) (sym gone_is)
-          ∙ awaited-set first number (number - first) slots (omega (arith, above)) within;
-    }
+-- one more of them is clear
+pub clear_next : (n next : ℕ) (xs : List (Option Actor)) → next ≡ suc n → IsClearBelow n xs → slice_get xs n ≡ Some None → IsClearBelow next xs
+clear_next n zero xs is clear here = tt
+clear_next zero (suc next) [] is clear here = cc
+clear_next zero (suc next) (None ∷ xs) is clear here = let none : next ≡ zero = omega (arith, is) in rw none tt
+clear_next zero (suc next) (Some a ∷ xs) is clear here = cc
+clear_next (suc n) (suc next) [] is clear here = clear
+clear_next (suc n) (suc next) (None ∷ xs) is clear here = clear_next n next xs (omega (arith, is)) clear here
+clear_next (suc n) (suc next) (Some a ∷ xs) is clear here = clear
 
--- slots whose first has this number, and behind which others are to come from a number on
-record IsStarted (start number : ℕ) (waits : List (ℕ × Actor)) (slots : List (Option Actor)) : Type 0 where
-  pub holds : Hold start waits slots
-  pub under : start ≤ number
-  pub ends : length slots ≡ 0 → start ≡ number
-  pub front : 0 < length slots → start < number
+-- what a look at a slot tells
+no_receiver : (slot : Option Actor) → is_some slot ≡ false → slot ≡ None
+no_receiver None empty = refl
+no_receiver (Some a) empty = cc
 
-starts : (first start number : ℕ) (waits : List (ℕ × Actor)) (slots : List (Option Actor)) →
-    Hold first waits slots → HaveNumbersBelow number waits → number < 2 ^ 64 → (0 < length slots → start ≡ first) → (length slots ≡ 0 → start ≡ number) →
-    IsStarted start number waits slots
-starts first start number waits [] is below small some none =
-    let here = none refl in
-    record {
-      holds = record { slots_are = record { trimmed = tt; bound = omega (arith, here) }; same = is.same };
-      under = omega (arith, here);
-      ends = none;
-      front = λ long. absurd (omega (arith, long));
-    }
-starts first start number waits (None ∷ slots) is below small some none = absurd is.slots_are.trimmed
-starts first start number waits (Some a ∷ slots) is below small some none =
-    let here = some (omega arith) in
-    let lower = subst (HaveNumbersBelow number) (sym is.same) below in
-    record {
-      holds = record {
-        slots_are = record { trimmed = tt; bound = omega (arith, here, is.slots_are.bound) };
-        same = ap (λ n. awaited n (Some a ∷ slots)) here ∙ is.same;
-      };
-      under = omega (arith, here, lower.0);
-      ends = none;
-      front = λ long. omega (arith, here, lower.0);
-    }
+pub slot_empty : (n : ℕ) (xs : List (Option Actor)) → n < length xs → is_some (get_or xs n None) ≡ false → slice_get xs n ≡ Some None
+slot_empty n xs within empty = slice_get-get_or xs n None within ∙ ap (λ slot. Some slot) (no_receiver (get_or xs n None) empty)
 
-trimmed_front : (n : ℕ) (xs ys : List (Option Actor)) → IsTrimmed xs → (length xs ≡ 0 → ys ≡ []) → (0 < length xs → 0 < n) → IsTrimmed (take n xs ++ ys)
-trimmed_front zero [] ys trimmed none some = rw (none refl) tt
-trimmed_front (suc n) [] ys trimmed none some = rw (none refl) tt
-trimmed_front n (None ∷ xs) ys trimmed none some = absurd trimmed
-trimmed_front zero (Some a ∷ xs) ys trimmed none some = let one = some (omega arith) in absurd (omega (arith, one))
-trimmed_front (suc n) (Some a ∷ xs) ys trimmed none some = tt
+pub slot_full : (n : ℕ) (xs : List (Option Actor)) → is_some (get_or xs n None) ≡ true → slice_get xs n ≡ Some None → ⊥
+slot_full n xs full here = let none = get_or_from_slice_get xs n None None here in cc
 
--- slots that end before this number
-pub record IsReached (start number : ℕ) (waits : List (ℕ × Actor)) (slots : List (Option Actor)) : Type 0 where
-  pub holds : Hold start waits slots
-  pub ends : start + length slots ≡ number
+pub slot_past : (n : ℕ) (xs : List (Option Actor)) → length xs ≤ n → slice_get xs n ≡ Some None → ⊥
+slot_past n xs past here = let none = slice_get_past xs n past in cc
 
-ends_at : (start number : ℕ) (waits : List (ℕ × Actor)) (slots after : List (Option Actor)) → IsStarted start number waits slots → HaveNumbersBelow number waits →
-    number < 2 ^ 64 → after ≡ take (number - start) slots ++ replicate (number - start - length slots) None → IsReached start number waits after
-ends_at start number waits slots after is below small after_is =
-    let front = take (number - start) slots in
-    let count = number - start - length slots in
-    let nones : List (Option Actor) = replicate count None in
-    let under = subst (HaveNumbersBelow number) (sym is.holds.same) below in
-    let end : start + length (front ++ nones) ≡ number =
-    omega (arith, is.under, length-append front nones, length-take (number - start) slots, length-replicate {A = Option Actor} count None) in
-    let no_nones : length slots ≡ 0 → nones ≡ [] = λ empty.
-    let zero_more : count ≡ 0 = omega (arith, is.ends empty) in
-    ap (λ n. replicate n None) zero_more in
-    let same : awaited start (front ++ nones) ≡ waits =
-    awaited-append start front nones
-    ∙ ap (λ ws. awaited start front ++ ws) (awaited-none (start + length front) count)
-    ∙ append-nil (awaited start front)
-    ∙ awaited-take number start (number - start) slots (omega (arith, is.under)) under
-    ∙ is.holds.same in
-    let trimmed = trimmed_front (number - start) slots nones is.holds.slots_are.trimmed no_nones (λ some. let low = is.front some in omega (arith, low)) in
-    rw after_is (record { holds = record { slots_are = record { trimmed = trimmed; bound = omega (arith, end, small) }; same = same }; ends = end })
+-- the search has ended
+pub lowest_at : (n : ℕ) (xs : List (Option Actor)) → IsClearBelow n xs → (slice_get xs n ≡ Some None → ⊥) → IsLowest n xs
+lowest_at zero [] is ends = tt
+lowest_at zero (None ∷ xs) is ends = ends refl
+lowest_at zero (Some a ∷ xs) is ends = tt
+lowest_at (suc n) [] is ends = is
+lowest_at (suc n) (None ∷ xs) is ends = lowest_at n xs is ends
+lowest_at (suc n) (Some a ∷ xs) is ends = is
 
--- the slots of an order, once they end before a number that is above all
-pub reaches : (first start number count : ℕ) (waits : List (ℕ × Actor)) (slots after : List (Option Actor)) →
-    Hold first waits slots → HaveNumbersBelow number waits → number < 2 ^ 64 → (0 < length slots → start ≡ first) → (length slots ≡ 0 → start ≡ number) →
-    count ≡ length slots → after ≡ take (number - start) slots ++ replicate (number - start - count) None → IsReached start number waits after
-reaches first start number count waits slots after is below small some none count_is after_is =
-    ends_at start number waits slots after (starts first start number waits slots is below small some none) below small
-    (after_is ∙ ap (λ n. take (number - start) slots ++ replicate (number - start - n) None) count_is)
+pub clear_set : (n i : ℕ) (xs : List (Option Actor)) → IsClearBelow n xs → IsClearBelow n (set xs i None)
+clear_set zero i xs is = tt
+clear_set (suc n) i [] is = absurd is
+clear_set (suc n) zero (None ∷ xs) is = is
+clear_set (suc n) (suc i) (None ∷ xs) is = clear_set n i xs is
+clear_set (suc n) i (Some a ∷ xs) is = absurd is
 
-trimmed_letters : {B : Type 0} (xs : List (Option Actor)) (letters : List (Letter B)) → IsTrimmed xs → IsTrimmed (xs ++ map (λ letter. Some letter.to) letters)
-trimmed_letters [] [] trimmed = tt
-trimmed_letters [] (l ∷ letters) trimmed = tt
-trimmed_letters (None ∷ xs) letters trimmed = absurd trimmed
-trimmed_letters (Some a ∷ xs) letters trimmed = tt
+-- the receiver of the lowest number
+lowest_some : (first n : ℕ) (a : Actor) (xs : List (Option Actor)) → IsLowest n xs → slice_get xs n ≡ Some (Some a) →
+    option_map (λ w. w.1) (slice_get (awaited first xs) 0) ≡ Some a
+lowest_some first zero a [] is here = cc
+lowest_some first zero a (None ∷ xs) is here = absurd is
+lowest_some first zero a (Some b ∷ xs) is here = let same : b ≡ a = cc in ap (λ c. Some c) same
+lowest_some first (suc n) a [] is here = absurd is
+lowest_some first (suc n) a (None ∷ xs) is here = lowest_some (first + 1) n a xs is here
+lowest_some first (suc n) a (Some b ∷ xs) is here = absurd is
+
+-- nothing waits
+pub lowest_none : (first n : ℕ) (xs : List (Option Actor)) → IsLowest n xs → slice_get xs n ≡ None →
+    option_map (λ w. w.1) (slice_get (awaited first xs) 0) ≡ None
+lowest_none first zero [] is here = refl
+lowest_none first zero (None ∷ xs) is here = absurd is
+lowest_none first zero (Some b ∷ xs) is here = cc
+lowest_none first (suc n) [] is here = absurd is
+lowest_none first (suc n) (None ∷ xs) is here = lowest_none (first + 1) n xs is here
+lowest_none first (suc n) (Some b ∷ xs) is here = absurd is
+
+-- at the lowest there is a receiver, or no slot
+lowest_never : (n : ℕ) (xs : List (Option Actor)) → IsLowest n xs → slice_get xs n ≡ Some None → ⊥
+lowest_never zero [] is here = cc
+lowest_never zero (None ∷ xs) is here = is
+lowest_never zero (Some b ∷ xs) is here = cc
+lowest_never (suc n) [] is here = is
+lowest_never (suc n) (None ∷ xs) is here = lowest_never n xs is here
+lowest_never (suc n) (Some b ∷ xs) is here = is
+
+pub lowest_receiver : (first n : ℕ) (receiver : Option Actor) (xs : List (Option Actor)) → IsLowest n xs → slice_get xs n ≡ Some receiver →
+    receiver ≡ option_map (λ w. w.1) (slice_get (awaited first xs) 0)
+lowest_receiver first n None xs is here = absurd (lowest_never n xs is here)
+lowest_receiver first n (Some a) xs is here = sym (lowest_some first n a xs is here)
+
+-- slots that end at a number that is above all
+pub kept_resized : (number count : ℕ) (xs : List (Option Actor)) → HaveNumbersBelow number (awaited 0 xs) →
+    awaited 0 (take number xs ++ replicate count None) ≡ awaited 0 xs
+kept_resized number count xs below =
+    awaited-append 0 (take number xs) (replicate count None)
+    ∙ ap (λ ws. awaited 0 (take number xs) ++ ws) (awaited-none (0 + length (take number xs)) count)
+    ∙ append-nil (awaited 0 (take number xs))
+    ∙ awaited-take number 0 number xs (omega arith) below
+
+pub long_resized : (number count : ℕ) (xs : List (Option Actor)) → count ≡ number - length xs → length (take number xs ++ replicate {A = Option Actor} count None) ≡ number
+long_resized number count xs is =
+    omega (arith, is, length-append (take number xs) (replicate {A = Option Actor} count None), length-take number xs, length-replicate {A = Option Actor} count None)
+
+clear_front : (n number : ℕ) (xs ys : List (Option Actor)) → n ≤ number → IsClearBelow n xs → IsClearBelow n (take number xs ++ ys)
+clear_front zero number xs ys low is = tt
+clear_front (suc n) number [] ys low is = absurd is
+clear_front (suc n) zero (None ∷ xs) ys low is = absurd (omega (arith, low))
+clear_front (suc n) (suc number) (None ∷ xs) ys low is = clear_front n number xs ys (omega (arith, low)) is
+clear_front (suc n) number (Some a ∷ xs) ys low is = absurd is
+
+clear_below : (m n : ℕ) (xs : List (Option Actor)) → m ≤ n → IsClearBelow n xs → IsClearBelow m xs
+clear_below zero n xs low is = tt
+clear_below (suc m) zero xs low is = absurd (omega (arith, low))
+clear_below (suc m) (suc n) [] low is = is
+clear_below (suc m) (suc n) (None ∷ xs) low is = clear_below m n xs (omega (arith, low)) is
+clear_below (suc m) (suc n) (Some a ∷ xs) low is = is
+
+pub clear_resized : (m n number : ℕ) (xs ys : List (Option Actor)) → m ≤ n → m ≤ number → IsLowest n xs → IsClearBelow m (take number xs ++ ys)
+clear_resized m n number xs ys low under is = clear_front m number xs ys under (clear_below m n xs low (clear_of n xs is))
 
 -- letters came to wait
-pub appends : {B : Type 0} (start number : ℕ) (waits : List (ℕ × Actor)) (slots after : List (Option Actor)) (letters : List (Letter B)) →
-    IsReached start number waits slots → number + length letters < 2 ^ 64 → after ≡ slots ++ map (λ letter. Some letter.to) letters →
-    Hold start (waits ++ addressed number letters) after
-appends start number waits slots after letters is small after_is =
-    let come : List (Option Actor) = map (λ letter. Some letter.to) letters in
-    let long : length come ≡ length letters = length-map letters (λ letter. Some letter.to) in
-    let end = length-append slots come in
-    let same : awaited start (slots ++ come) ≡ waits ++ addressed number letters =
-    awaited-append start slots come
-    ∙ ap (λ ws. ws ++ awaited (start + length slots) come) is.holds.same
-    ∙ ap (λ n. waits ++ awaited n come) is.ends
-    ∙ ap (λ ws. waits ++ ws) (awaited-letters number letters) in
-    let trimmed = trimmed_letters slots letters is.holds.slots_are.trimmed in
-    rw after_is (record { slots_are = record { trimmed = trimmed; bound = omega (arith, end, long, is.ends, small) }; same = same })
+pub lowest_letters : {B : Type 0} (n : ℕ) (xs : List (Option Actor)) (letters : List (Letter B)) → IsLowest n xs → IsLowest n (xs ++ map (λ letter. Some letter.to) letters)
+lowest_letters zero [] [] is = tt
+lowest_letters zero [] (l ∷ letters) is = tt
+lowest_letters zero (None ∷ xs) letters is = absurd is
+lowest_letters zero (Some a ∷ xs) letters is = tt
+lowest_letters (suc n) [] letters is = absurd is
+lowest_letters (suc n) (None ∷ xs) letters is = lowest_letters n xs letters is
+lowest_letters (suc n) (Some a ∷ xs) letters is = absurd is
+
+pub letters_wait : {B : Type 0} (number : ℕ) (xs : List (Option Actor)) (letters : List (Letter B)) → length xs ≡ number →
+    awaited 0 (xs ++ map (λ letter. Some letter.to) letters) ≡ awaited 0 xs ++ addressed number letters
+letters_wait number xs letters long =
+    awaited-append 0 xs (map (λ letter. Some letter.to) letters)
+    ∙ ap (λ n. awaited 0 xs ++ awaited n (map (λ letter. Some letter.to) letters)) (let here : 0 + length xs ≡ number = omega (arith, long) in here)
+    ∙ ap (λ ws. awaited 0 xs ++ ws) (awaited-letters number letters)

@@ -1,5 +1,5 @@
 -- The order in which packets wait: the number and the receiver of each, the lowest number first.
-use Rattle.std.specs.Prelude.{◌<◌, ℕ, ◌+◌, ◌^◌, not, nat_eq, Bool, List, [], ◌∷◌, length, filter, Option, Some, None, if◌then◌else◌}
+use Rattle.std.specs.Prelude.{◌<◌, ℕ, zero, suc, ◌+◌, not, nat_eq, Bool, List, [], ◌∷◌, length, filter, Option, Some, None, if◌then◌else◌}
 use Rattle.std.specs.List.{AllByRecursion}
 use Rattle.journal.specs.declared.journal.Actor.{Actor}
 use Rattle.journal.specs.declared.journal.Letter.{Letter}
@@ -34,13 +34,18 @@ awaited first [] = []
 awaited first (None ∷ slots) = awaited (first + 1) slots
 awaited first (Some to ∷ slots) = (first, to) ∷ awaited (first + 1) slots
 
--- the first of the slots has a receiver
-abbrev pub IsTrimmed : List (Option Actor) → Type 0
-IsTrimmed [] = Unit {0}
-IsTrimmed (None ∷ slots) = ⊥
-IsTrimmed (Some to ∷ slots) = Unit {0}
+-- the slots in front of this number have no receiver
+abbrev pub IsClearBelow : ℕ → List (Option Actor) → Type 0
+IsClearBelow zero slots = Unit {0}
+IsClearBelow (suc n) [] = ⊥
+IsClearBelow (suc n) (None ∷ slots) = IsClearBelow n slots
+IsClearBelow (suc n) (Some to ∷ slots) = ⊥
 
--- slots for numbers of 64 bits, the first of which waits
-pub record AreSlots (first : ℕ) (slots : List (Option Actor)) : Type 0 where
-  pub trimmed : IsTrimmed slots
-  pub bound : first + length slots < 2 ^ 64
+-- the first slot that has a receiver is that of this number: where none has, there is none of this number
+abbrev pub IsLowest : ℕ → List (Option Actor) → Type 0
+IsLowest zero [] = Unit {0}
+IsLowest zero (None ∷ slots) = ⊥
+IsLowest zero (Some to ∷ slots) = Unit {0}
+IsLowest (suc n) [] = ⊥
+IsLowest (suc n) (None ∷ slots) = IsLowest n slots
+IsLowest (suc n) (Some to ∷ slots) = ⊥

@@ -1,64 +1,52 @@
 //! The order in which packets wait.
-ghost use Rattle.std.specs.Prelude.{◌≡◌, ◌<◌, ◌≤◌, ◌+◌, ◌^◌, ◌++◌, [], length, map, replicate, slice_get, option_map, Some, None, OnOk, OnErr};
-ghost use Rattle.std.specs.VecDeque.{deque_len, deque_capacity};
-ghost use Rattle.journal.specs.Order.{addressed, without_packet, HaveNumbersBelow, IsTrimmed};
+ghost use Rattle.std.specs.Prelude.{◌≡◌, ◌<◌, ◌≤◌, ◌+◌, ◌^◌, ◌++◌, [], length, map, slice_get, option_map, vec_len, vec_capacity, Some, OnOk, OnErr};
+ghost use Rattle.journal.specs.Order.{addressed, without_packet, HaveNumbersBelow, IsClearBelow, IsLowest};
 
 use crate::journal::{Actor, Letter};
 use std::alloc::{AllocError, Global};
-use std::collections::VecDeque;
 use std::marker::Model;
 
 /// The numbers and the receivers of the packets that wait. Contracts see the list of them, the lowest number first.
 #[derive(Drop)]
 pub struct Order {
-    /// The number of the first slot.
-    first: u64,
-    /// The receiver of each number, or none where it waits no more or was lost. The memory is that of the numbers from the
-    /// lowest that waits to the newest that came.
-    slots: VecDeque<Option<Actor>>,
+    /// The lowest number that waits, or that of the next to come.
+    lowest: usize,
+    /// The receiver of each number so far, or none where it waits no more or was lost.
+    slots: Vec<Option<Actor>>,
 }
 
 impl Model for Order {
     ghost use Rattle.std.specs.Prelude.{List, ℕ};
     ghost use Rattle.journal.specs.declared.journal.Actor.{Actor};
-    ghost use Rattle.journal.specs.Order.{awaited, AreSlots};
+    ghost use Rattle.journal.specs.Order.{awaited, IsLowest};
 
     ghost Value = { List (ℕ × Actor) };
 
-    ghost view = { λ o. awaited o.first o.slots.items };
+    ghost view = { λ o. awaited 0 o.slots.items };
 
-    ghost invariant = { λ o. AreSlots o.first o.slots.items };
+    ghost invariant = { λ o. IsLowest o.lowest o.slots.items };
 }
 
-/// The number of the first slot, where the next to come has this number.
-fn first_with(slots: &VecDeque<Option<Actor>>, first: u64, number: u64) -> u64
-    ensures some { 0 < length slots.now.items → result ≡ first }
-    ensures none { length slots.now.items ≡ 0 → result ≡ number }
+/// The lowest number that waits, where none waits below this one.
+fn lowest_from(slots: &[Option<Actor>], number: usize) -> usize
+    requires { IsClearBelow number slots.now }
+    ensures { IsLowest result slots.now }
 {
-    if slots.is_empty() { number } else { first }
+    let mut lowest = number;
+    while lowest < slots.len() && slots[lowest].is_none() {
+        lowest += 1;
+    }
+    lowest
 }
 
 /// Adds a slot for each letter. There is memory for them.
-fn push_each<B>(slots: &mut VecDeque<Option<Actor>>, letters: &[Letter<B>])
-    requires { deque_len slots.old + length letters.now ≤ deque_capacity slots.old }
+fn push_each<B>(slots: &mut Vec<Option<Actor>>, letters: &[Letter<B>])
+    requires { vec_len slots.old + length letters.now ≤ vec_capacity slots.old }
     ensures { slots.new.items ≡ slots.old.items ++ map (λ letter. Some letter.to) letters.now }
 {
     for letter in letters {
-        slots.push_back_reserved(Some(letter.to));
+        slots.push_reserved(Some(letter.to));
     }
-}
-
-/// Takes the slots in front of the first receiver away, and counts them.
-fn trim(slots: &mut VecDeque<Option<Actor>>) -> u64
-    ensures gone { slots.old.items ≡ replicate result None ++ slots.new.items }
-    ensures trimmed { IsTrimmed slots.new.items }
-{
-    let mut gone = 0;
-    while let Some(None) = slots.front() {
-        let _ = slots.pop_front();
-        gone += 1;
-    }
-    gone
 }
 
 impl Order {
@@ -67,8 +55,8 @@ impl Order {
         ensures { result ≡ [] }
     {
         Order {
-            first: 0,
-            slots: VecDeque::new(alloc),
+            lowest: 0,
+            slots: Vec::new(alloc),
         }
     }
 
@@ -79,9 +67,10 @@ impl Order {
         ensures ok { OnOk result (self.new ≡ self.old ++ addressed number letters.now) }
         ensures err { OnErr result (self.new ≡ self.old) }
     {
-        self.first = first_with(&self.slots, self.first, number);
+        let number = number as usize;
         // The letters that were lost since have numbers too, and no receiver.
-        self.slots.resize((number - self.first) as usize, None)?;
+        self.slots.resize(number, None)?;
+        self.lowest = lowest_from(self.slots.as_slice(), self.lowest.min(number));
         self.slots.reserve(letters.len())?;
         push_each(&mut self.slots, letters);
         Ok(())
@@ -91,22 +80,18 @@ impl Order {
     pub fn remove(&mut self, number: u64)
         ensures { self.new ≡ without_packet number self.old }
     {
-        if number < self.first {
-            return;
+        let index = number as usize;
+        if index < self.slots.len() {
+            self.slots[index] = None;
+            self.lowest = lowest_from(self.slots.as_slice(), self.lowest);
         }
-        let index = (number - self.first) as usize;
-        if index >= self.slots.len() {
-            return;
-        }
-        self.slots[index] = None;
-        self.first += trim(&mut self.slots);
     }
 
     /// The receiver of the packet of the lowest number.
     pub fn first(&self) -> Option<Actor>
         ensures { result ≡ option_map (λ w. w.1) (slice_get self.now 0) }
     {
-        match self.slots.front() {
+        match self.slots.get(self.lowest) {
             Some(receiver) => *receiver,
             None => None,
         }

@@ -28,6 +28,7 @@ impl Model for Row {
 }
 
 /// The packet of a choice, counted round. It leaves the queue, unless it is kept.
+#[inline(always)]
 fn pick(queue: &mut VecDeque<PacketPlace>, choice: u64, keep: bool) -> Option<PacketPlace>
     ensures found { result ≡ picked choice queue.old.items }
     ensures left { queue.new.items ≡ left_in choice keep queue.old.items }
@@ -69,7 +70,20 @@ impl Row {
     }
 
     /// Makes the row long enough for this number.
+    #[inline(always)]
     fn reach(&mut self, number: usize) -> Result<(), AllocError>
+        ensures same { (n : ℕ) → get_or self.new n [] ≡ get_or self.old n [] }
+        ensures ok { OnOk result (number < length self.new) }
+    {
+        if number < self.queues.len() {
+            return Ok(());
+        }
+        self.lengthen(number)
+    }
+
+    /// Makes the row longer, up to this number.
+    #[inline(never)]
+    fn lengthen(&mut self, number: usize) -> Result<(), AllocError>
         ensures same { (n : ℕ) → get_or self.new n [] ≡ get_or self.old n [] }
         ensures ok { OnOk result (number < length self.new) }
     {
@@ -81,6 +95,7 @@ impl Row {
     }
 
     /// Adds a packet to the end of a queue. An `Err` changes none.
+    #[inline(always)]
     fn push(&mut self, number: u8, place: PacketPlace) -> Result<(), AllocError>
         ensures ok { OnOk result ((n : ℕ) → get_or self.new n [] ≡ (if nat_eq n number then get_or self.old n [] ++ place ∷ [] else get_or self.old n [])) }
         ensures err { OnErr result ((n : ℕ) → get_or self.new n [] ≡ get_or self.old n []) }
@@ -102,6 +117,7 @@ impl Row {
     }
 
     /// The packet of a choice, counted round. It leaves its queue, unless it is kept.
+    #[inline(always)]
     fn pick(&mut self, number: u8, choice: u64, keep: bool) -> Option<PacketPlace>
         ensures found { result ≡ picked choice (get_or self.old number []) }
         ensures left { (n : ℕ) → get_or self.new n [] ≡ (if nat_eq n number then left_in choice keep (get_or self.old n []) else get_or self.old n []) }

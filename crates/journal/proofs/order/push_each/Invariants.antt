@@ -1,9 +1,9 @@
 use Rattle.std.proofs.Common.{◌≡◌, ◌≤◌, ◌+◌, ◌++◌, length, map, take, Some}
-use Rattle.std.specs.VecDeque.{deque_len, deque_capacity}
+use Rattle.std.specs.Vec.{vec_len, vec_capacity}
 use Rattle.journal.proofs.order.push_each.Given as goal
 
 abbrev pub invariant-loop-letter : goal.invariant-loop-letter
 invariant-loop-letter g l = record {
   items : l.slots.items ≡ l.fn.slots.items ++ map (λ letter. Some letter.to) (take l.letter-index l.letters);
-  room : deque_len l.slots + length l.letters ≤ deque_capacity l.slots + l.letter-index;
+  room : vec_len l.slots + length l.letters ≤ vec_capacity l.slots + l.letter-index;
 }

@@ -1,5 +1,5 @@
 use Rattle.std.proofs.Common.{◌≡◌, ℕ, ◌+◌, ◌-◌, map, get_or, [], length}
-use Rattle.journal.proofs.queues.Row.reach.Given as goal
+use Rattle.journal.proofs.queues.Row.lengthen.Given as goal
 
 abbrev pub invariant-loop-alloc : goal.invariant-loop-alloc
 invariant-loop-alloc l = (n : ℕ) → get_or (map (λ q. q.items) l.self-inside.queues.items) n [] ≡ get_or l.fn.self n []

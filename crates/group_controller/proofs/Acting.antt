@@ -1,6 +1,6 @@
 -- How a turn goes on: letters, steps of the member, proposals.
 use Rattle.std.proofs.Common.{◌≡◌, ◌≤◌, ◌<◌, ℕ, ◌+◌, get_or, Bool, true, false, not, ◌&&◌, List, [], ◌∷◌, ◌++◌, length, map, take, drop, refl, sym, ap, subst, ◌∙◌, arith, append-nil, append_assoc}
-use Rattle.std.specs.Prelude.{nat_eq, Option, Some, None, filter, flat_map, if◌then◌else◌}
+use Rattle.std.specs.Prelude.{nat_eq, Option, Some, None, Result, Ok, Err, filter, flat_map, if◌then◌else◌}
 use Rattle.std.proofs.lemmas.Bool.{and_parts, eq-eqb}
 use Rattle.std.proofs.lemmas.List.{take_more}
 use Rattle.std.specs.List.{range_with_len}
@@ -13,10 +13,12 @@ use Rattle.vr_log.specs.declared.state.VrState.{VrState}
 use Rattle.vr_log.specs.declared.message.VrLetter.{VrLetter}
 use Rattle.vr_log.specs.declared.state.VrOut.{VrOut}
 use Rattle.vr_log.specs.declared.entry.LogFull.{LogFull}
-use Rattle.vr_log.specs.Log.{full_at, processed}
+use Rattle.vr_log.specs.Log.{full_at, is_past_limits, processed}
 use Rattle.vr_log.specs.Members.{is_normal, is_primary, leads}
 use Rattle.vr_log.specs.Valid.{IsValidState}
 use Rattle.vr_log.specs.Steps.{VrStep, later_of}
+use Rattle.vr_normal.specs.declared.normal.ProposeFault.{ProposeFault}
+use Rattle.vr_normal.specs.declared.normal.ProposeFault.TheVariants as fault
 use Rattle.vr_normal.specs.Proposing.{proposed}
 use Rattle.vr_core.specs.declared.input.VrInput.{VrInput}
 use Rattle.vr_core.specs.declared.input.VrInput.TheVariants as vr_input
@@ -32,24 +34,29 @@ use Rattle.dispatcher.specs.Folding.{numbered}
 use Rattle.dispatcher.specs.Ledger.{Dispatching, ForEachLog, StandsFor}
 use Rattle.dispatcher.specs.Marks.{Marks, confirmed_by, is_confirmed, outstanding}
 use Rattle.group_controller.specs.declared.messages.ControllerSays.{ControllerSays}
-use Rattle.group_controller.specs.Acting.{Acting, Acts, ActsUpTo, BeginsTurn, pair_with, posts_letters, with_out, with_state, Works}
+use Rattle.group_controller.specs.Acting.{Acting, Acts, ActsUpTo, BeginsTurn, Offers, pair_with, posts_letters, TakesStep, with_out, with_state, Works}
 use Rattle.group_controller.specs.Rules.{commands_for, on_master, on_role_reply, on_tick, tick_letters, unconfirmed}
 use Rattle.group_controller.specs.Settling.{role_letter, command_letter, command_letters, is_some_of, is_untold, with_commands, with_proposal}
-use Rattle.group_controller.specs.State.{ControllerState, Work, committed, posting_work, leaving, resting, stepped, to_members}
+use Rattle.group_controller.specs.State.{ControllerState, Work, committed, met_limit, posting_work, leaving, resting, stepped, to_members}
 use Rattle.group_controller.proofs.Answering.{asked_more, letters_are, parts_join}
 
 module _ {A : Type 0} where
   pub posts_twice : (a : Acting A) (xs ys : List (Letter ControllerSays)) → posts_letters (posts_letters a xs) ys ≡ posts_letters a (xs ++ ys)
   posts_twice a xs ys = ap (λ (l : List (Letter ControllerSays)). record a { work = record a.work { letters = l } }) (append_assoc a.work.letters xs ys)
 
-  abbrev turn_of : VrState → Marks → Option ℕ → LogFull → Option ℕ → List (Letter ControllerSays) → Dispatching A → Acting A
-  turn_of r marks told full promise letters d =
-      record { work = record { state = record { vr = r; marks = marks; last_told = told; full = Some full }; save = pair_with r.life promise; letters = letters }; promise = promise; dispatcher = d }
+  -- an offer that was taken, and one that met the limit
+  pub offer_joins : (a b : Acting A) (entry : Entry) (r : Result (Unit {0}) ProposeFault) (done : Unit {0}) → Offers a entry r b → r ≡ Ok done →
+      (is_past_limits a.work.state.vr.log entry ≡ false) × TakesStep a (proposed a.work.state.vr entry) b
+  offer_joins a b entry r done offers is = subst (λ x. Offers a entry x b) is offers
 
-  pub with_full : (marks : Marks) (told : Option ℕ) (full : LogFull) (promise : Option ℕ) (letters : List (Letter ControllerSays)) (d : Dispatching A) (r s : VrState) (entry : Entry) → full ≡ full_at s.log entry → r ≡ s →
-      turn_of r marks told full promise letters d ≡ turn_of s marks told (full_at s.log entry) promise letters d
-  with_full marks told full promise letters d r s entry full_is state_is =
-      ap (λ (v : VrState). turn_of v marks told full promise letters d) state_is ∙ ap (λ (f : LogFull). turn_of s marks told f promise letters d) full_is
+  pub offer_full : (a b : Acting A) (entry : Entry) (r : Result (Unit {0}) ProposeFault) (full : LogFull) → Offers a entry r b → r ≡ Err (fault.LogFull full) →
+      (is_past_limits a.work.state.vr.log entry ≡ true) × (full ≡ full_at a.work.state.vr.log entry) × (b ≡ a)
+  offer_full a b entry r full offers is = subst (λ x. Offers a entry x b) is offers
+
+  pub full_noted : (a b m : Acting A) (entry : Entry) (full : LogFull) → full ≡ full_at a.work.state.vr.log entry → b ≡ a →
+      m ≡ with_state b (record b.work.state { full = Some full }) → m ≡ with_state a (met_limit a.work.state entry)
+  full_noted a b m entry full at same is =
+      is ∙ ap (λ (x : Acting A). with_state x (record x.work.state { full = Some full })) same ∙ ap (λ (f : LogFull). with_state a (record a.work.state { full = Some f })) at
 
   pub asked_yes : (p : ℕ → Bool) (start now new : Acting A) (view n : ℕ) → p n ≡ true → now ≡ posts_letters start (map (role_letter view) (filter p (range_with_len 0 n))) → new ≡ posts_letters now (role_letter view n ∷ []) →
       new ≡ posts_letters start (map (role_letter view) (filter p (range_with_len 0 (n + 1))))

@@ -4,3 +4,4 @@ pub mod Controlling
 pub mod Events
 pub mod Finishing
 pub mod Settling
+pub mod CommittedAlone

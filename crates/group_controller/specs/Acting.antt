@@ -1,13 +1,20 @@
 -- A controller that is not down, as the contracts of its rules see it.
-use Rattle.std.specs.Prelude.{◌≡◌, ◌≤◌, ℕ, List, [], ◌∷◌, ◌++◌, map, take, drop, Option, None, option_map, if◌then◌else◌}
+use Rattle.std.specs.Prelude.{◌≡◌, ◌≤◌, ℕ, true, false, List, [], ◌∷◌, ◌++◌, map, take, drop, Option, None, option_map, Result, Ok, Err, if◌then◌else◌}
 use Rattle.of_types.specs.declared.setup.Setup.{Setup}
 use Rattle.of_types.specs.Lives.{has_ended}
 use Rattle.journal.specs.declared.journal.Letter.{Letter}
 use Rattle.vr_log.specs.declared.state.VrOut.{VrOut}
-use Rattle.vr_log.specs.Log.{received}
-use Rattle.vr_log.specs.Steps.{later_of}
+use Rattle.vr_log.specs.declared.entry.Entry.{Entry}
+use Rattle.vr_log.specs.declared.state.VrState.{VrState}
+use Rattle.vr_log.specs.Log.{full_at, is_past_limits, received}
+use Rattle.vr_log.specs.Members.{leads}
+use Rattle.vr_log.specs.Steps.{VrStep, later_of}
 use Rattle.vr_log.specs.Valid.{IsValidState}
+use Rattle.vr_normal.specs.declared.normal.ProposeFault.{ProposeFault}
+use Rattle.vr_normal.specs.declared.normal.ProposeFault.TheVariants as fault
+use Rattle.vr_normal.specs.Proposing.{proposed}
 use Rattle.vr_core.specs.Lasting.{CollectsItsOwn, Lasts}
+use Rattle.vr_core.specs.Step.{Stepped}
 use Rattle.app_core.specs.Law.{AppLaw}
 use Rattle.dispatcher.specs.declared.answers.HandledEvent.{HandledEvent}
 use Rattle.dispatcher.specs.declared.answers.AckThrough.{AckThrough}
@@ -89,3 +96,19 @@ pub record Works {A : Type 0} (law : AppLaw A)
   pub saved : Option ℕ
   pub lasts : Lasts old.work.state.vr saved new.work.state.vr
   pub promise_is : new.promise ≡ later_of old.promise saved
+
+-- The member took a step, and what that wants to be saved and sent was taken.
+pub record TakesStep {A : Type 0} (old : Acting A) (step : VrStep) (new : Acting A) : Type 0 where
+  pub vr : VrState
+  pub out : VrOut
+  pub valid : IsValidState vr
+  pub did : Stepped step vr out
+  pub takes : new ≡ with_out (with_state old (record old.work.state { vr = vr })) out
+
+-- The member was offered an entry, and what it wants to be sent was taken. A refusal changes nothing.
+abbrev pub Offers : {A : Type 0} → Acting A → Entry → Result (Unit {0}) ProposeFault → Acting A → Type 0
+Offers old entry (Ok done) new = (is_past_limits old.work.state.vr.log entry ≡ false) × TakesStep old (proposed old.work.state.vr entry) new
+Offers old entry (Err fault.NotPrimary) new = (leads old.work.state.vr ≡ false) × (new ≡ old)
+Offers old entry (Err (fault.LogFull full)) new =
+    (is_past_limits old.work.state.vr.log entry ≡ true) × (full ≡ full_at old.work.state.vr.log entry) × (new ≡ old)
+Offers old entry (Err fault.OutOfMemory) new = Unit {0}

@@ -4,3 +4,4 @@ pub mod Settling
 pub mod Rules
 pub mod Acting
 pub mod Turns
+pub mod Handled

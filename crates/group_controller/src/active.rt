@@ -1,5 +1,5 @@
 //! A controller that is not down: a member of its group, with the dispatcher of its life.
-ghost use Rattle.std.specs.Prelude.{◌≡◌, ◌≤◌, ◌∷◌, [], true, false, ◌&&◌, not, nat_eq, ℕ, None, map, flat_map, IfOk, OnErr, OnOk};
+ghost use Rattle.std.specs.Prelude.{◌≡◌, ◌≤◌, ◌∷◌, [], true, false, ◌&&◌, not, nat_eq, ℕ, Some, None, map, flat_map, IfOk, OnErr, OnOk};
 ghost use Rattle.of_types.specs.declared.setup.Setup.{Setup};
 ghost use Rattle.of_types.specs.Setups.{IsSetup};
 ghost use Rattle.vr_log.specs.Log.{may_follow};
@@ -8,7 +8,8 @@ ghost use Rattle.vr_log.specs.Valid.{IsValidState};
 ghost use Rattle.vr_core.specs.Lasting.{CollectsItsOwn};
 ghost use Rattle.vr_core.specs.Step.{vr_step};
 ghost use Rattle.dispatcher.specs.Ledger.{most_commands};
-ghost use Rattle.group_controller.specs.Acting.{Acts, ActsUpTo, answers_to, AreNewlyHandled, BeginsTurn, ForEachGroup, InSomeGroup, posts_letters, with_out, with_state, Works};
+ghost use Rattle.group_controller.specs.Acting.{Acts, ActsUpTo, answers_to, AreNewlyHandled, BeginsTurn, ForEachGroup, InSomeGroup, Offers, posts_letters, TakesStep, with_out, with_state, Works};
+ghost use Rattle.group_controller.specs.Handled.{events_of};
 ghost use Rattle.group_controller.specs.Mails.{letters_of};
 ghost use Rattle.group_controller.specs.Rules as rules;
 ghost use Rattle.group_controller.specs.Rules.{after_step, starting_view, unconfirmed};
@@ -18,7 +19,8 @@ ghost use Rattle.group_controller.specs.State.{fresh, resting, with_no_met_limit
 ghost use Rattle.app_core.specs.Chain.{given_by};
 ghost use Rattle.group_controller.specs.declared.messages.ControllerInput.TheVariants as controller_input;
 
-use crate::letters::{ack_letter, add_clears, add_commands, add_members, role_letter, to_switch};
+use crate::handled::{Handled, fold_new};
+use crate::letters::{ack_letter, add_clears, add_commands, add_out, role_letter, to_switch};
 use crate::mails::{Mail, Mails};
 use crate::messages::ControllerInput;
 use app_core::App;
@@ -49,6 +51,8 @@ pub(crate) struct Active<A> {
     pub(crate) promise: Option<u32>,
     /// What this turn posts.
     mails: Vec<Mail>,
+    /// What a step of the member wants to be saved and posted. It stands here so that no step makes its own.
+    out: VrOut,
 }
 
 impl<A> Model for Active<A> {
@@ -78,6 +82,7 @@ impl<A: Drop> Drop for Active<A> {
             full: _,
             promise: _,
             mails: _mails,
+            out: _out,
         } = self;
     }
 }
@@ -114,6 +119,7 @@ impl<A: App> Active<A> {
             full: None,
             promise: None,
             mails: Vec::new(alloc),
+            out: VrOut::new(alloc),
         })
     }
 
@@ -135,28 +141,50 @@ impl<A: App> Active<A> {
     }
 
     /// What a step of the member wants to be saved and sent.
-    #[inline(always)]
     pub(crate) fn take(&mut self, out: VrOut) -> Result<(), AllocError>
         ensures { OnOk result (self.new ≡ with_out self.old out) }
     {
-        if let Some(view) = out.promise {
-            self.promise = Some(view);
+        let mut out = out;
+        add_out(&mut self.promise, &mut self.mails, &mut out)
+    }
+
+    /// The member takes a step, and what it wants to be saved and sent is taken.
+    #[inline(always)]
+    fn take_step(&mut self, input: &VrInput) -> Result<(), AllocError>
+        requires { IsValidState self.old.work.state.vr }
+        ensures { OnOk result (TakesStep self.old (vr_step self.old.work.state.vr input.now) self.new) }
+    {
+        self.replica.step_into(input, &mut self.out)?;
+        add_out(&mut self.promise, &mut self.mails, &mut self.out)
+    }
+
+    /// The member proposes an entry, and what it wants to be sent is taken.
+    #[inline(always)]
+    fn offer(&mut self, entry: Entry) -> Result<(), ProposeFault>
+        requires valid { IsValidState self.old.work.state.vr }
+        requires follows { may_follow self.old.work.state.vr.log entry ≡ true }
+        ensures { Offers self.old entry result self.new }
+    {
+        self.replica.propose_into(entry, &mut self.out)?;
+        match add_out(&mut self.promise, &mut self.mails, &mut self.out) {
+            Ok(()) => Ok(()),
+            Err(AllocError) => Err(ProposeFault::OutOfMemory),
         }
-        add_members(&mut self.mails, out.letters)
     }
 
     /// The application takes what was committed behind so many entries. What is processed of it comes back.
-    fn fold_behind(&mut self, before: u64) -> Result<Vec<HandledEvent>, AllocError>
+    #[inline(always)]
+    fn fold_behind(&mut self, before: u64) -> Result<Handled, AllocError>
         requires valid { IsValidState self.old.work.state.vr }
         requires reach { before ≤ self.old.work.state.vr.commit }
         ensures folds { ForEachGroup (ActsUpTo A.law before self.old) (λ kinds setup.
-            IfOk result (λ handled. AreNewlyHandled kinds setup self.new.work.state before handled.items × Acts A.law self.new kinds setup)) }
+            IfOk result (λ handled. AreNewlyHandled kinds setup self.new.work.state before (events_of handled) × Acts A.law self.new kinds setup)) }
         ensures work { self.new.work ≡ self.old.work }
         ensures promise { self.new.promise ≡ self.old.promise }
     {
         let committed = self.replica.committed();
         let entries = committed_behind(self.replica.log(), before, committed);
-        self.dispatcher.fold_each(entries)
+        fold_new(&mut self.dispatcher, entries)
     }
 
     /// The same at a backup, which answers nobody.
@@ -238,8 +266,15 @@ impl<A: App> Active<A> {
             OnOk result (Works A.law kinds setup self.old (with_commands kinds setup (settling.with_answers kinds setup before self.old.work)) self.new)) }
     {
         let processed = self.fold_behind(before)?;
-        self.answer_each(&processed)?;
+        self.answer_each(processed.as_slice())?;
         self.send_untold()
+    }
+
+    /// A proposal of this turn met the log's limit.
+    fn note_limit(&mut self, full: LogFull)
+        ensures { self.new ≡ with_state self.old (record self.old.work.state { full = Some full }) }
+    {
+        self.full = Some(full);
     }
 
     /// Proposes an entry. A controller alone in its group commits it at once: then there may be more to settle, which
@@ -252,9 +287,9 @@ impl<A: App> Active<A> {
             (again ≡ goes_on self.old.work.state entry) × Works A.law kinds setup self.old (after_proposal kinds setup self.old.work entry) self.new)) }
     {
         let before = self.replica.committed();
-        match self.replica.propose(entry) {
-            Ok(out) => self.take(out)?,
-            Err(ProposeFault::LogFull(full)) => self.full = Some(full),
+        match self.offer(entry) {
+            Ok(()) => {}
+            Err(ProposeFault::LogFull(full)) => self.note_limit(full),
             Err(ProposeFault::NotPrimary) => return Ok(false),
             Err(ProposeFault::OutOfMemory) => return Err(AllocError),
         }
@@ -339,8 +374,7 @@ impl<A: App> Active<A> {
         let led = self.replica.leads();
         let view = self.replica.view();
         let before = self.replica.committed();
-        let out = self.replica.step(input)?;
-        self.take(out)?;
+        self.take_step(input)?;
         if !self.replica.leads() {
             return self.fold_unanswered(before);
         }
@@ -349,7 +383,7 @@ impl<A: App> Active<A> {
             return self.start_view();
         }
         if before < self.replica.committed() {
-            self.settle(&processed)
+            self.settle(processed.as_slice())
         } else {
             Ok(())
         }
@@ -360,8 +394,7 @@ impl<A: App> Active<A> {
         requires begins { InSomeGroup (BeginsTurn A.law self.old) }
         ensures { ForEachGroup (BeginsTurn A.law self.old) (λ kinds setup. OnOk result (Works A.law kinds setup self.old (rules.on_tick kinds setup self.old.work.state) self.new)) }
     {
-        let out = self.replica.step(&VrInput::Tick)?;
-        self.take(out)?;
+        self.take_step(&VrInput::Tick)?;
         if self.replica.leads() {
             self.ask_unconfirmed()?;
             let commands = self.dispatcher.outstanding()?;
@@ -544,6 +577,7 @@ impl<A: App> Active<A> {
             full: _,
             promise: _,
             mails: _mails,
+            out: _out,
         } = self;
         dispatcher.into_app()
     }

@@ -306,6 +306,7 @@ impl<A: App> Controller<A> {
 
     /// One that is down begins its next life, which it saves first. An application whose life did not begin is for the
     /// next try.
+    #[inline(never)]
     fn restart<W: Stable>(&mut self, stable: &mut W) -> Result<Mails, AllocError>
         requires down { self.old.acting ≡ None }
         requires controls { (kinds : List ℕ) × Controls A.law self.old kinds }

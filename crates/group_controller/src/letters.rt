@@ -1,5 +1,6 @@
 //! Letters of a controller.
 ghost use Rattle.std.specs.Prelude.{◌≡◌, ◌++◌, ◌∷◌, [], map, OnOk};
+ghost use Rattle.vr_log.specs.Steps.{later_of};
 ghost use Rattle.group_controller.specs.Mails.{letters_of, mailed};
 ghost use Rattle.group_controller.specs.Settling as settling;
 ghost use Rattle.group_controller.specs.State as state;
@@ -9,7 +10,7 @@ use crate::mails::Mail;
 use dispatcher::{AckThrough, NumberedOrder};
 use of_types::{Extension, MASTER, OfMessage, Spoken};
 use std::alloc::AllocError;
-use vr_log::VrLetters;
+use vr_log::{VrLetters, VrOut};
 
 /// A message to a switch. One that is no answer has number 0.
 pub(crate) fn to_switch(switch: u8, xid: u32, message: Spoken) -> Mail
@@ -69,17 +70,32 @@ pub(crate) fn clear_letter(told: AckThrough) -> Mail
     to_switch(told.switch, 0, Spoken::Ravana(clear))
 }
 
-/// Letters of a member go behind those that are there.
-pub(crate) fn add_members(mails: &mut Vec<Mail>, letters: VrLetters) -> Result<(), AllocError>
-    ensures { OnOk result (mailed mails.new.items ≡ mailed mails.old.items ++ to_members letters) }
+/// Letters of a member go behind those that are there, and none are left where they stood.
+fn add_members(mails: &mut Vec<Mail>, letters: &mut VrLetters) -> Result<(), AllocError>
+    ensures { OnOk result (mailed mails.new.items ≡ mailed mails.old.items ++ to_members letters.old) }
 {
     if letters.is_empty() {
-        drop(letters);
         return Ok(());
     }
     mails.reserve(1)?;
-    mails.push_reserved(Mail::Members(letters));
+    mails.push_reserved(Mail::Members(letters.take()));
     Ok(())
+}
+
+/// So does all that a step of a member wants to be saved and sent.
+#[inline(always)]
+pub(crate) fn add_out(
+    promise: &mut Option<u32>,
+    mails: &mut Vec<Mail>,
+    out: &mut VrOut,
+) -> Result<(), AllocError>
+    ensures promise { promise.new ≡ later_of promise.old out.old.promise }
+    ensures letters { OnOk result (mailed mails.new.items ≡ mailed mails.old.items ++ to_members out.old.letters) }
+{
+    if let Some(view) = out.promise {
+        *promise = Some(view);
+    }
+    add_members(mails, &mut out.letters)
 }
 
 /// So do commands.

@@ -3,6 +3,7 @@
 
 mod active;
 mod controller;
+mod handled;
 mod letters;
 mod mails;
 mod messages;

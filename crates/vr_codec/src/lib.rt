@@ -11,4 +11,4 @@ mod writing;
 pub use fault::{VrFault, VrRefusal};
 pub use fitting::{reads_back, vr_fits};
 pub use reading::{decode_vr, vr_law};
-pub use writing::encode_vr;
+pub use writing::{encode_vr, write_vr};

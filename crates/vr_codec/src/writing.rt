@@ -247,7 +247,8 @@ fn write_log_behind(
     Ok(())
 }
 
-fn write_vr(out: &mut Octets, message: &VrMessage) -> Result<(), AllocError>
+/// Adds the bytes of a message between members of a group, as `encode_vr` makes them.
+pub fn write_vr(out: &mut Octets, message: &VrMessage) -> Result<(), AllocError>
     ensures { OnOk result (out.new ≡ out.old ++ canonical_vr message.now) }
 {
     match message {

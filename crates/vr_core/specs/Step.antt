@@ -45,6 +45,11 @@ pub record Stepped (step : VrStep) (state : VrState) (out : VrOut) : Type 0 wher
   pub promise_is : out.promise ≡ step.promise
   pub letters_are : out.letters ≡ step.letters
 
+-- the answer of a proposal that left this to be saved and sent
+abbrev pub answered : VrOut → Result (Unit {0}) ProposeFault → Result VrOut ProposeFault
+answered out (Ok done) = Ok out
+answered out (Err fault) = Err fault
+
 -- What a proposal answers, and what it leaves. A refusal changes nothing; after want of memory the state is to be
 -- dropped.
 abbrev pub ProposesTo : VrState → Entry → Result VrOut ProposeFault → VrState → Type 0

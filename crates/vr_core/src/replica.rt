@@ -4,7 +4,7 @@ ghost use Rattle.vr_log.specs.Log.{may_follow};
 ghost use Rattle.vr_log.specs.Members as members;
 ghost use Rattle.vr_log.specs.Valid.{IsValidState, starting_state};
 ghost use Rattle.vr_recovery.specs.Recovering.{restarted};
-ghost use Rattle.vr_core.specs.Step.{vr_step, Stepped, ProposesTo};
+ghost use Rattle.vr_core.specs.Step.{answered, vr_step, Stepped, ProposesTo};
 
 use crate::input::VrInput;
 use crate::stepping::take;
@@ -69,8 +69,20 @@ impl Replica {
         ensures valid { OnOk result (IsValidState self.new) }
     {
         let mut out = VrOut::new(self.state.log.allocator());
-        take(&mut self.state, input, &mut out)?;
+        self.step_into(input, &mut out)?;
         Ok(out)
+    }
+
+    /// The same, where what is to be saved and then sent takes the place of what stood there.
+    #[inline(always)]
+    pub fn step_into(&mut self, input: &VrInput, out: &mut VrOut) -> Result<(), AllocError>
+        requires { IsValidState self.old }
+        ensures step { OnOk result (Stepped (vr_step self.old input.now) self.new out.new) }
+        ensures valid { OnOk result (IsValidState self.new) }
+    {
+        out.clear();
+        take(&mut self.state, input, out)?;
+        Ok(())
     }
 
     /// The primary proposes an entry. The first refusal that holds is the answer: the member is not normal or
@@ -82,8 +94,21 @@ impl Replica {
         ensures valid { OnOk result (IsValidState self.new) }
     {
         let mut out = VrOut::new(self.state.log.allocator());
-        propose(&mut self.state, entry, &mut out)?;
+        self.propose_into(entry, &mut out)?;
         Ok(out)
+    }
+
+    /// The same, where what is to be saved and then sent takes the place of what stood there.
+    #[inline(always)]
+    pub fn propose_into(&mut self, entry: Entry, out: &mut VrOut) -> Result<(), ProposeFault>
+        requires valid { IsValidState self.old }
+        requires follows { may_follow self.old.log entry ≡ true }
+        ensures step { ProposesTo self.old entry (answered out.new result) self.new }
+        ensures valid { OnOk result (IsValidState self.new) }
+    {
+        out.clear();
+        propose(&mut self.state, entry, out)?;
+        Ok(())
     }
 
     pub fn status(&self) -> Status

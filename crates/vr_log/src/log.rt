@@ -164,6 +164,7 @@ impl Log {
     }
 
     /// Appends an entry that the log takes. An `Err` changes nothing.
+    #[inline(always)]
     pub fn append(&mut self, entry: Entry) -> Result<(), AllocError>
         requires { fits self.old entry ≡ true }
         ensures ok { OnOk result (self.new ≡ self.old ++ entry ∷ []) }
@@ -171,7 +172,7 @@ impl Log {
     {
         self.entries.reserve(1)?;
         self.tally.add(&entry)?;
-        self.entries.push(entry)?;
+        self.entries.push_reserved(entry);
         Ok(())
     }
 

@@ -20,6 +20,16 @@ impl VrOut {
         }
     }
 
+    /// Nothing is to be saved or sent any more.
+    #[inline(always)]
+    pub fn clear(&mut self)
+        ensures promise { self.new.promise ≡ None }
+        ensures letters { self.new.letters ≡ [] }
+    {
+        self.promise = None;
+        self.letters.clear();
+    }
+
     /// One letter.
     #[inline(always)]
     pub fn tell(&mut self, to: u8, message: VrMessage) -> Result<(), AllocError>

@@ -143,6 +143,7 @@ impl Tally {
     }
 
     /// Counts one entry more. After an `Err` the counts are as they were.
+    #[inline(always)]
     pub(crate) fn add(&mut self, entry: &Entry) -> Result<(), AllocError>
         requires { joins self.old entry.now ≡ true }
         ensures ok { OnOk result (IsCounted self.old entry.now self.new) }

@@ -5,6 +5,7 @@ use Rattle.vr_log.specs.Log.{follows}
 use Rattle.dispatcher.specs.Ledger.{AreHandledAt, StandsFor}
 use Rattle.dispatcher.specs.Folding.{places_processed}
 use Rattle.group_controller.specs.Acting.{ActsUpTo}
+use Rattle.group_controller.specs.Handled.{events_of}
 use Rattle.group_controller.proofs.Answering.{part_follows, parts_join}
 use Rattle.group_controller.proofs.active.Active.fold_behind.Goals as goal
 
@@ -20,18 +21,18 @@ returns-clause-folds g c = λ kinds setup acts.
     ∙ ap (λ (n : ℕ). drop c.args.before (take n c.log.result.now)) c.committed-committed.ensures
     ∙ ap (λ (l : List Entry). drop c.args.before (take commit l)) c.log.ensures in
     let joined = parts_join c.args.before commit log inside.reach in
-    let folded = c.fold_each.ensures.folds kinds setup (take c.args.before log) inside.stands
+    let folded = c.fold_new.ensures.folds kinds setup (take c.args.before log) inside.stands
     (subst (λ (l : List Entry). follows (take c.args.before log) l ≡ true) (sym is) (part_follows c.args.before commit log inside.reach inside.valid.log.follow)) in
-    IfOk-weaker c.fold_each.result _ _
+    IfOk-weaker c.fold_new.result _ _
     (λ handled p. (
-      subst (λ (l : List Entry). AreHandledAt kinds setup l (places_processed (drop c.args.before (take commit log))) handled.items) joined
-          (subst (λ (l : List Entry). AreHandledAt kinds setup (take c.args.before log ++ l) (places_processed l) handled.items) is p.0),
+      subst (λ (l : List Entry). AreHandledAt kinds setup l (places_processed (drop c.args.before (take commit log))) (events_of handled)) joined
+          (subst (λ (l : List Entry). AreHandledAt kinds setup (take c.args.before log ++ l) (places_processed l) (events_of handled)) is p.0),
       record {
         valid = inside.valid;
         own = inside.own;
         reach = omega arith;
-        stands = subst (λ (l : List Entry). StandsFor g.A.App.law c.fold_each.new.self kinds setup l) joined
-            (subst (λ (l : List Entry). StandsFor g.A.App.law c.fold_each.new.self kinds setup (take c.args.before log ++ l)) is p.1);
+        stands = subst (λ (l : List Entry). StandsFor g.A.App.law c.fold_new.new.dispatcher kinds setup l) joined
+            (subst (λ (l : List Entry). StandsFor g.A.App.law c.fold_new.new.dispatcher kinds setup (take c.args.before log ++ l)) is p.1);
         marks = refl;
         saves = refl;
       },

@@ -133,11 +133,11 @@ impl Ledger {
             length before + length commands < 2 ^ 64 → IfOk result (λ issued. (issued ≡ issue_each events before commands) × AreCounts done (before ++ issued) settled self.new.counts) }
         ensures same { self.new ≡ record self.old { counts = self.new.counts } }
     {
-        let mut issued = Items::new(self.alloc);
+        let mut issued = Vec::with_capacity(self.alloc, commands.len())?;
         'commands: for command in commands.into_vec() {
-            issued.push(self.issue(command)?)?;
+            issued.push_reserved(self.issue(command)?);
         }
-        Ok(issued)
+        Ok(Items::from_vec(issued))
     }
 
     /// An event is committed as received, and these commands are issued for it.

@@ -84,12 +84,27 @@ impl ViewMarks {
         self.confirmed.contains(switch)
     }
 
-    /// Whether a result of a command came.
+    /// Whether a result of a command came. One that is asked for mostly is among the last ones.
     #[inline(always)]
     pub(crate) fn has_result(&self, switch: u8, life: u32, number: u64) -> bool
         ensures { result ≡ has_result self.now.marks switch life number }
     {
-        number <= self.highest.of(switch) && self.finds_result(switch, life, number)
+        number <= self.highest.of(switch)
+            && (self.came_last(switch, life, number) || self.finds_result(switch, life, number))
+    }
+
+    /// Whether a command is one of the last two of which results came, as those of one event are.
+    #[inline(always)]
+    fn came_last(&self, switch: u8, life: u32, number: u64) -> bool
+        ensures { result ≡ true → has_result self.now.marks switch life number ≡ true }
+    {
+        let command = (switch, life, number);
+        match self.acked.split_last() {
+            Some((last, earlier)) => {
+                *last == command || earlier.last().is_some_and(|before| *before == command)
+            }
+            None => false,
+        }
     }
 
     /// Whether a command is found among those of which results came.

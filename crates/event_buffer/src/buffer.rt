@@ -108,6 +108,7 @@ impl EventBuffer {
     }
 
     /// Drops the events below a number, and tells how many.
+    #[inline(always)]
     pub fn clear(&mut self, through: u64) -> u64
         ensures after { self.new ≡ without_events_below self.old through }
         ensures count { result ≡ cleared_to self.old through - self.old.cleared }

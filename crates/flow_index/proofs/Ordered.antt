@@ -1,5 +1,5 @@
 -- Rows that are put in order by their numbers.
-use Rattle.std.proofs.Common.{◌≡◌, ℕ, zero, suc, ◌+◌, ◌<◌, ◌≤◌, inl, inr, Bool, true, false, List, [], ◌∷◌, ◌++◌, refl, sym, ◌∙◌, ap, arith, subst}
+use Rattle.std.proofs.Common.{◌≡◌, ℕ, Bor, map, zero, suc, ◌+◌, ◌<◌, ◌≤◌, inl, inr, Bool, true, false, List, [], ◌∷◌, ◌++◌, refl, sym, ◌∙◌, ap, arith, subst}
 use Rattle.std.specs.Prelude.{Option, Some, None, nat_eq, fold, if◌then◌else◌}
 use Rattle.std.specs.List.{AllByRecursion}
 use Rattle.std.specs.List.Sorted.{IsStrictlySortedBy}
@@ -173,3 +173,31 @@ ordered_rows next es rows a is sorted =
     first_none : (o : Option Row) → first_of o None ≡ o
     first_none None = refl
     first_none (Some r) = refl
+
+-- ---- rows that are lent
+
+-- numbers beside rows that are lent, as numbers beside rows
+abbrev pub lent : List (ℕ × Bor Row) → List Numbered
+lent rows = map (λ (e : ℕ × Bor Row). (e.0, e.1.now)) rows
+
+abbrev pub lent_rows : List (Bor Row) → List Row
+lent_rows rows = map (λ (r : Bor Row). r.now) rows
+
+-- a row that is lent joins as the row does
+pub lent_put : (rows : List (ℕ × Bor Row)) (k : ℕ) (r : Bor Row) → lent (insert_entry nat_cmp rows k r) ≡ insert_entry nat_cmp (lent rows) k r.now
+lent_put [] k r = refl
+lent_put (x ∷ xs) k r = by_order (nat_cmp k x.0) (lent_put xs k r)
+  where
+    by_order : (o : Ordering) → lent (insert_entry nat_cmp xs k r) ≡ insert_entry nat_cmp (lent xs) k r.now
+        → lent (match_ordering o ((k, r) ∷ x ∷ xs) ((x.0, r) ∷ xs) (x ∷ insert_entry nat_cmp xs k r)) ≡ match_ordering o ((k, r.now) ∷ (x.0, x.1.now) ∷ lent xs) ((x.0, r.now) ∷ lent xs) ((x.0, x.1.now) ∷ insert_entry nat_cmp (lent xs) k r.now)
+    by_order Less rest = refl
+    by_order Equal rest = refl
+    by_order Greater rest = ap (λ (rows : List Numbered). (x.0, x.1.now) ∷ rows) rest
+
+pub lent_keys : (rows : List (ℕ × Bor Row)) → keys_of (lent rows) ≡ keys_of rows
+lent_keys [] = refl
+lent_keys (x ∷ xs) = ap (λ (ks : List ℕ). x.0 ∷ ks) (lent_keys xs)
+
+pub lent_values : (rows : List (ℕ × Bor Row)) → values_of (lent rows) ≡ lent_rows (values_of rows)
+lent_values [] = refl
+lent_values (x ∷ xs) = ap (λ (rs : List Row). x.1.now ∷ rs) (lent_values xs)

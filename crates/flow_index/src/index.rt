@@ -132,11 +132,11 @@ impl Rows for FlowIndex {
     fn rows(&self) -> Result<Vec<Row>, AllocError> {
         let mut ordered = BTreeMap::new(self.alloc);
         for (place, row) in &self.rows {
-            ordered.insert(place.number, row.copy()?)?;
+            ordered.insert(place.number, row)?;
         }
         let mut rows = Vec::with_capacity(self.alloc, self.rows.len())?;
         for row in ordered.into_values() {
-            rows.push(row)?;
+            rows.push(row.copy()?)?;
         }
         Ok(rows)
     }

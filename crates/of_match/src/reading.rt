@@ -61,10 +61,10 @@ pub fn port_alone(bytes: &[u8]) -> Option<u32>
 const PORT_AND_DESTINATION: usize = 24;
 
 /// Its first bytes: its type and its length, and the class, the number and the length of its first field.
-const PORT_THEN_MORE: [u8; 8] = [0, 1, 0, 22, 0x80, 0, 0, 4];
+pub(crate) const PORT_THEN_MORE: [u8; 8] = [0, 1, 0, 22, 0x80, 0, 0, 4];
 
 /// The class, the number and the length of its second field.
-const DESTINATION_FRONT: [u8; 4] = [0x80, 0, 6, 6];
+pub(crate) const DESTINATION_FRONT: [u8; 4] = [0x80, 0, 6, 6];
 
 /// A match that asks for a port and a whole destination alone. None where it may ask for others.
 fn port_and_destination(bytes: &[u8]) -> Option<Match>

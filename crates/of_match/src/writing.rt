@@ -1,15 +1,16 @@
 //! Writing a match in its one form.
 
-ghost use Rattle.std.specs.Prelude.{◌≡◌, ◌≤◌, ◌<◌, ◌+◌, ◌++◌, ◌∷◌, ◌-◌, ◌^◌, length, IfOk, OnOk, OnErr};
+ghost use Rattle.std.specs.Prelude.{◌≡◌, ◌≤◌, ◌<◌, ◌+◌, ◌++◌, ◌∷◌, ◌-◌, ◌^◌, length, IfOk, IfSome, OnOk, OnErr};
 ghost use Rattle.of_bytes.specs.Numbers.{big_bytes};
 ghost use Rattle.of_match.specs.Field.{field_bytes, width_of};
 ghost use Rattle.of_types.specs.Sizes.{padded};
 ghost use Rattle.of_match.specs.Spelling.{IsSpelled, Fits};
 ghost use Rattle.of_types.specs.Valid.{IsValidMatch};
-ghost use Rattle.of_match.specs.Writing.{exact, address48, address32, link_fields, network_fields, transport_fields, written_of, spelled, bare_match, padding, canonical_bare_match, canonical_match};
+ghost use Rattle.of_match.specs.Writing.{exact, address48, address32, link_fields, network_fields, transport_fields, written_of, spelled, bare_match, padding, canonical_bare_match, canonical_match, match_of_pair};
 
 use crate::kind::{FieldHeader, FieldKind};
-use of_bytes::Front;
+use crate::reading::{DESTINATION_FRONT, PORT_THEN_MORE};
+use of_bytes::{Front, four, six, zeros};
 use of_types::{
     MATCH_OF_FIELDS, Masked32, Masked48, Match, ONES32, ONES48, OPENFLOW_BASIC, Octets,
 };
@@ -27,9 +28,53 @@ pub type MatchFront = Front<ROOM>;
 pub fn match_front(matching: &Match) -> MatchFront
     ensures { result ≡ canonical_match matching.now }
 {
+    if let Some((port, destination)) = port_and_destination(matching) {
+        return port_and_destination_front(port, destination);
+    }
     let mut front = bare_front(matching);
     let len = front.as_slice().len();
     put_padding(&mut front, len);
+    front
+}
+
+/// The port and the destination that a match asks for, where it asks for these alone, and for the whole destination.
+fn port_and_destination(matching: &Match) -> Option<(u32, u64)>
+    ensures { IfSome result (λ x. matching.now ≡ match_of_pair x.0 x.1) }
+{
+    match matching {
+        Match {
+            in_port: Some(port),
+            eth_dst: Some(
+                Masked48 {
+                    value,
+                    mask: ONES48,
+                },
+            ),
+            eth_src: None,
+            eth_type: None,
+            ip_proto: None,
+            ipv4_src: None,
+            ipv4_dst: None,
+            tcp_src: None,
+            tcp_dst: None,
+            udp_src: None,
+            udp_dst: None,
+        } => Some((*port, *value)),
+        _ => None,
+    }
+}
+
+/// A match that asks for a port and a whole destination alone, in its canonical form.
+#[tactic(auto, using(crate::proofs::Pair::pair_written))]
+fn port_and_destination_front(port: u32, destination: u64) -> MatchFront
+    ensures { result ≡ canonical_match (match_of_pair port destination) }
+{
+    let mut front = Front::new();
+    front.put(PORT_THEN_MORE);
+    front.put(four(port));
+    front.put(DESTINATION_FRONT);
+    front.put(six(destination));
+    front.put(zeros::<2>());
     front
 }
 

@@ -17,6 +17,6 @@ pub use fitting::{
 pub use reading::{decode, experimenter_body, message_law, read_message, xid_of};
 pub use writing::{
     actions_of, encode, encode_flow_mod, encode_flow_removed, encode_packet_in, encode_packet_out,
-    encode_port_status, exact_len, put_flow_mod, put_flow_removed, put_header, put_packet_in,
-    put_packet_out, put_port_status, with_room,
+    encode_port_status, exact_len, put_flow_mod, put_flow_removed, put_header, put_message,
+    put_packet_in, put_packet_out, put_port_status, with_room,
 };

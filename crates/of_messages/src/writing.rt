@@ -506,9 +506,9 @@ fn plain_type(message: &OfMessage) -> u8
     }
 }
 
-/// Adds a message of OpenFlow.
+/// Adds the bytes of a message, with the number of its request.
 #[tactic(auto, unfolding(crate::specs::Canonical::canonical))]
-fn put_message(out: &mut Octets, xid: u32, message: &OfMessage) -> Result<(), AllocError>
+pub fn put_message(out: &mut Octets, xid: u32, message: &OfMessage) -> Result<(), AllocError>
     ensures { OnOk result (out.new ≡ out.old ++ canonical xid message.now) }
 {
     let kind = plain_type(message);

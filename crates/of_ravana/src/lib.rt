@@ -9,5 +9,6 @@ mod writing;
 pub use fitting::{extension_fits, happening_fits};
 pub use reading::{decode_extension, extension_law};
 pub use writing::{
-    canonical, canonical_happening, canonical_order, encode_extension, happening_len, put_happening,
+    canonical, canonical_happening, canonical_order, encode_extension, happening_len,
+    put_happening, put_spoken,
 };

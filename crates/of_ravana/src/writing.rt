@@ -5,15 +5,15 @@ ghost use Rattle.of_types.specs.Valid.{IsValidExtension};
 ghost use Rattle.of_types.specs.declared.message.OfMessage.TheVariants as plain;
 ghost use Rattle.of_types.specs.declared.message.Spoken.TheVariants as spoken;
 ghost use Rattle.of_messages.specs.Canonical as messages;
-ghost use Rattle.of_ravana.specs.Canonical.{canonical_happening, canonical_order, result_bytes, outcome_bytes, command_front, extension_type, extension_life, extension_front, extension_numbers, extension_inner, canonical_extension, canonical_spoken};
+ghost use Rattle.of_ravana.specs.Canonical.{canonical_happening, canonical_order, result_bytes, outcome_bytes, command_front, extension_type, extension_life, extension_front, extension_behind, canonical_extension, canonical_spoken};
 ghost use Rattle.of_ravana.specs.Grammar.{SpellsExtension, SpellsSpoken, IsValidSpoken, spoken_size};
 
 use crate::fitting::extension_fits;
 use of_bytes::{Front, eight, four, two, u32_fits, zeros};
 use of_messages::{
     encode, encode_flow_mod, encode_flow_removed, encode_packet_in, encode_packet_out,
-    encode_port_status, exact_len, put_flow_mod, put_flow_removed, put_header, put_packet_in,
-    put_packet_out, put_port_status, with_room,
+    encode_port_status, exact_len, put_flow_mod, put_flow_removed, put_header, put_message,
+    put_packet_in, put_packet_out, put_port_status, with_room,
 };
 use of_types::{
     Extension, Happening, Octets, Order, Outcome, RAVANA, Spoken, command_status, extension_type,
@@ -149,50 +149,44 @@ fn put_extension_front(front: &mut Front<FRONT>, kind: u32, life: u32)
     front.put(zeros::<4>());
 }
 
-/// The numbers behind the life.
-fn put_numbers(front: &mut Front<FRONT>, said: &Extension)
-    requires { length front.old + 24 ≤ FRONT }
-    ensures { front.new ≡ front.old ++ extension_numbers said.now }
+/// Adds what stands in a front, and behind it the numbers of a message and the message inside, if there is one. Each kind
+/// adds the front itself, since it knows how long that is.
+#[inline(always)]
+fn put_said(out: &mut Octets, mut front: Front<FRONT>, said: &Extension) -> Result<(), AllocError>
+    requires { length front + 40 ≤ FRONT }
+    ensures { OnOk result (out.new ≡ out.old ++ extension_behind front said.now) }
 {
+    put_extension_front(&mut front, extension_type(said), extension_life(said));
     match said {
-        Extension::Event { number, .. } => front.put(eight(*number)),
+        Extension::Event { number, what, .. } => {
+            front.put(eight(*number));
+            out.append(front.as_slice())?;
+            put_happening(out, what)
+        }
         Extension::Command {
             generation,
             number,
             settled,
+            order,
             ..
-        } => put_command_front(front, *generation, *number, *settled),
+        } => {
+            put_command_front(&mut front, *generation, *number, *settled);
+            out.append(front.as_slice())?;
+            put_order(out, order)
+        }
         Extension::CmdAck {
             number,
             outcome,
             ..
         } => {
             front.put(eight(*number));
-            put_outcome(front, *outcome);
+            put_outcome(&mut front, *outcome);
+            out.append(front.as_slice())
         }
         Extension::EventAck { through, .. } | Extension::Clear { through, .. } => {
             front.put(eight(*through));
+            out.append(front.as_slice())
         }
-    }
-}
-
-/// All that stands before the message inside, if there is one.
-fn put_front(front: &mut Front<FRONT>, said: &Extension)
-    requires { length front.old + 40 ≤ FRONT }
-    ensures { front.new ≡ front.old ++ (extension_front (extension_type said.now) (extension_life said.now) ++ extension_numbers said.now) }
-{
-    put_extension_front(front, extension_type(said), extension_life(said));
-    put_numbers(front, said);
-}
-
-/// Adds the message inside, if there is one.
-fn put_inner(out: &mut Octets, said: &Extension) -> Result<(), AllocError>
-    ensures { OnOk result (out.new ≡ out.old ++ extension_inner said.now) }
-{
-    match said {
-        Extension::Event { what, .. } => put_happening(out, what),
-        Extension::Command { order, .. } => put_order(out, order),
-        Extension::CmdAck { .. } | Extension::EventAck { .. } | Extension::Clear { .. } => Ok(()),
     }
 }
 
@@ -200,11 +194,8 @@ fn put_inner(out: &mut Octets, said: &Extension) -> Result<(), AllocError>
 fn written(alloc: Global, said: &Extension) -> Result<Octets, AllocError>
     ensures { IfOk result (λ bytes. bytes ≡ canonical_extension said.now) }
 {
-    let mut front = Front::<FRONT>::new();
-    put_front(&mut front, said);
     let mut out = with_room(alloc, size_of_extension(said) as usize)?;
-    out.append(front.as_slice())?;
-    put_inner(&mut out, said)?;
+    put_said(&mut out, Front::new(), said)?;
     Ok(out)
 }
 
@@ -229,19 +220,44 @@ fn extension_len(said: &Extension) -> Result<usize, AllocError>
     Ok(len)
 }
 
-/// The bytes of a message of the extension behind the header of an EXPERIMENTER.
+/// Adds a message of the extension, which has so many bytes, behind the header of an EXPERIMENTER.
 #[tactic(auto, using(crate::proofs::Written::experimenter_is))]
+fn put_experimenter(
+    out: &mut Octets,
+    len: usize,
+    xid: u32,
+    said: &Extension,
+) -> Result<(), AllocError>
+    requires { len ≡ extension_size said.now }
+    ensures { OnOk result (out.new ≡ out.old ++ messages.canonical xid (plain.Experimenter (canonical_extension said.now))) }
+{
+    let mut front = Front::new();
+    put_header(&mut front, message_type::EXPERIMENTER, len, xid);
+    put_said(out, front, said)
+}
+
+/// The bytes of a message of the extension behind the header of an EXPERIMENTER.
 fn framed(alloc: Global, xid: u32, said: &Extension) -> Result<Octets, AllocError>
     ensures { IfOk result (λ bytes. bytes ≡ messages.canonical xid (plain.Experimenter (canonical_extension said.now))) }
 {
     let len = extension_len(said)?;
-    let mut front = Front::<FRONT>::new();
-    put_header(&mut front, message_type::EXPERIMENTER, len, xid);
-    put_front(&mut front, said);
     let mut out = with_room(alloc, len)?;
-    out.append(front.as_slice())?;
-    put_inner(&mut out, said)?;
+    put_experimenter(&mut out, len, xid, said)?;
     Ok(out)
+}
+
+/// Adds the bytes of what a controller and a switch say to each other, with the number of the request.
+#[tactic(auto, unfolding(crate::specs::Canonical::canonical_spoken))]
+pub fn put_spoken(out: &mut Octets, xid: u32, said: &Spoken) -> Result<(), AllocError>
+    ensures { OnOk result (out.new ≡ out.old ++ canonical_spoken xid said.now) }
+{
+    match said {
+        Spoken::Plain(message) => put_message(out, xid, message),
+        Spoken::Ravana(said) => {
+            let len = extension_len(said)?;
+            put_experimenter(out, len, xid, said)
+        }
+    }
 }
 
 /// The same, which spells a valid message and is as long as its size tells.
@@ -252,7 +268,8 @@ fn experimenter(alloc: Global, xid: u32, said: &Extension) -> Result<Octets, All
 {
     extension_fits(said);
     u32_fits(xid);
-    framed(alloc, xid, said)
+    let bytes = framed(alloc, xid, said)?;
+    Ok(bytes)
 }
 
 /// The bytes of what a controller and a switch say to each other, with the number of the request.
@@ -264,8 +281,9 @@ pub fn canonical(alloc: Global, xid: u32, said: &Spoken) -> Result<Octets, Alloc
     // They are as many as its size tells.
     ensures size { IfOk result (λ bytes. length bytes ≡ spoken_size said.now) }
 {
-    match said {
-        Spoken::Plain(message) => encode(alloc, xid, message),
-        Spoken::Ravana(said) => experimenter(alloc, xid, said),
-    }
+    let bytes = match said {
+        Spoken::Plain(message) => encode(alloc, xid, message)?,
+        Spoken::Ravana(said) => experimenter(alloc, xid, said)?,
+    };
+    Ok(bytes)
 }

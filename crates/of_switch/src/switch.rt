@@ -179,11 +179,11 @@ impl Switch {
         ensures err { OnErr result (self.new ≡ self.old) }
         ensures memory { OnErr result (takes_memory self.old input ≡ true) }
     {
-        match input {
-            SwitchInput::Local(local) => self.on_local(local),
+        let letters = match input {
+            SwitchInput::Local(local) => self.on_local(local)?,
             SwitchInput::Of { from, xid, message } => match message {
-                Spoken::Plain(message) => self.on_plain(from, xid, message),
-                Spoken::Ravana(message) => self.on_extension(from, xid, message),
+                Spoken::Plain(message) => self.on_plain(from, xid, message)?,
+                Spoken::Ravana(message) => self.on_extension(from, xid, message)?,
             },
             SwitchInput::Malformed {
                 from,
@@ -191,9 +191,10 @@ impl Switch {
                 code,
                 xid,
                 head,
-            } => self.on_malformed(from, Refusal { kind, code }, xid, head),
-            SwitchInput::Frame { port, bytes, .. } => self.on_frame(port, bytes),
-        }
+            } => self.on_malformed(from, Refusal { kind, code }, xid, head)?,
+            SwitchInput::Frame { port, bytes, .. } => self.on_frame(port, bytes)?,
+        };
+        Ok(letters)
     }
 
     /// What comes from outside. A switch neither suspects nor stops.

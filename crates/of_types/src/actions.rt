@@ -40,6 +40,7 @@ impl Actions {
     }
 
     /// Appends a port. An `Err` changes nothing.
+    #[inline(always)]
     pub fn push(&mut self, port: u32) -> Result<(), AllocError>
         ensures { self.new ≡ (if is_ok result then self.old ++ port ∷ [] else self.old) }
     {

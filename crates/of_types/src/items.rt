@@ -1,5 +1,5 @@
 //! The one list of plain data, which contracts see as a list.
-ghost use Rattle.std.specs.Prelude.{◌≡◌, ◌++◌, [], ◌∷◌, length, IfOk, OnOk, OnErr, if◌then◌else◌, is_ok, ◌==◌};
+ghost use Rattle.std.specs.Prelude.{◌≡◌, ◌++◌, [], ◌∷◌, length, take, IfOk, OnOk, OnErr, if◌then◌else◌, is_ok, ◌==◌};
 
 use crate::message::Command;
 use crate::setup::{Link, Rule};
@@ -111,6 +111,20 @@ impl Items<u8> {
         ensures err { OnErr result (self.new ≡ self.old) }
     {
         self.items.extend_from_slice(bytes)
+    }
+
+    /// Takes all bytes out. The memory stays.
+    pub fn clear(&mut self)
+        ensures { self.new ≡ [] }
+    {
+        self.items.clear();
+    }
+
+    /// Takes the bytes behind so many out. The memory stays.
+    pub fn truncate(&mut self, len: usize)
+        ensures { self.new ≡ take len self.old }
+    {
+        self.items.truncate(len);
     }
 
     /// An equal list.

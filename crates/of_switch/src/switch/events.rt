@@ -122,6 +122,26 @@ impl Switch {
         ensures err { OnErr result (self.new ≡ self.old) }
         ensures memory { OnErr result (brings self.old through ≡ true) }
     {
+        if self.coming(through).is_empty() && !self.buffer.has_dirty() {
+            self.drop_events(through);
+            return Ok(Items::new(self.alloc));
+        }
+        self.tell_coming(through)
+    }
+
+    /// What is acknowledged leaves the buffer, and nothing comes.
+    fn drop_events(&mut self, through: u64)
+        ensures { self.new ≡ cleared self.old through }
+    {
+        self.buffer.clear(through);
+    }
+
+    /// What is acknowledged leaves the buffer, and what it makes room for is told.
+    fn tell_coming(&mut self, through: u64) -> Result<Said<SwitchSays>, AllocError>
+        ensures ok { IfOk result (λ letters. Turned (on_event_ack self.old through) self.new letters) }
+        ensures err { OnErr result (self.new ≡ self.old) }
+        ensures memory { OnErr result (brings self.old through ≡ true) }
+    {
         let mut draft = self.draft_past(through);
         draft.tell(self.coming(through))?;
         let ports = self.ports_to_tell(draft.room())?;

@@ -4,7 +4,7 @@ use Rattle.of_switch.specs.State.{SwitchState, SwitchTurn, Turned}
 use Rattle.of_switch.specs.Events.{cleared}
 use Rattle.of_switch.specs.Drafts.{Draft, IsDraft, drafted, forgetting, with_ports}
 use Rattle.of_switch.proofs.Turns.{ack-is, ack-drafted}
-use Rattle.of_switch.proofs.switch.Switch.on_event_ack.Goals as goal
+use Rattle.of_switch.proofs.switch.Switch.tell_coming.Goals as goal
 
 pub acknowledge-requires-clause-kind : goal.acknowledge-requires-clause-kind
 acknowledge-requires-clause-kind c =
